@@ -1,0 +1,64 @@
+-- The first of the answers at some places, and the first test of a table.
+use Rattle.std.proofs.Common.{◌≡◌, ℕ, zero, suc, ◌+◌, ◌-◌, ◌<◌, ◌≤◌, ◌⊎◌, Bool, true, false, cond, Option, None, Some, refl, subst, inl, inr, arith}
+use Rattle.std.specs.Option.{option_or}
+use Rattle.std.proofs.lemmas.Bool.Decides.{eqb_tells}
+use Rattle.pef_words.specs.Refusals.{first_among}
+
+-- a place without an answer is passed over
+pub first_among-next : {F : Type 0} (answer : ℕ → Option F) (i n : ℕ) → i < n → answer i ≡ None → first_among answer i (n - i) ≡ first_among answer (i + 1) (n - (i + 1))
+first_among-next answer i n under none =
+    let e : n - i ≡ suc (n - (i + 1)) = omega arith in
+    rw (e, none) refl
+
+-- a place with an answer ends the search
+pub first_among-here : {F : Type 0} (answer : ℕ → Option F) (i n : ℕ) (x : F) → i < n → answer i ≡ Some x → first_among answer i (n - i) ≡ Some x
+first_among-here answer i n x under some =
+    let e : n - i ≡ suc (n - (i + 1)) = omega arith in
+    rw (e, some) refl
+
+-- no place is left behind the last one
+pub first_among-end : {F : Type 0} (answer : ℕ → Option F) (i n : ℕ) → n ≤ i → first_among answer i (n - i) ≡ None
+first_among-end answer i n past =
+    let e : n - i ≡ 0 = omega arith in
+    rw e refl
+
+-- of two answers of which there is none, both are none
+pub neither : {F : Type 0} (a b : Option F) → option_or a b ≡ None → (a ≡ None) × (b ≡ None)
+neither None b none = (refl, none)
+neither (Some x) b none = (none, absurd (cc))
+
+-- where there is no first answer, no place has one
+pub none_among : {F : Type 0} (answer : ℕ → Option F) (from n k : ℕ) → first_among answer from n ≡ None → from ≤ k → k < from + n → answer k ≡ None
+none_among answer from zero k none low high = absurd (omega arith)
+none_among {F} answer from (suc n) k none low high =
+    let both = neither (answer from) (first_among answer (from + 1) n) none in
+    elim (eqb_tells from k) [
+      | inl same ↦ (let P : ℕ → Type 0 = λ j. answer j ≡ None in subst P same.1 both.0)
+      | inr other ↦ (let apart = other.1 in none_among answer (from + 1) n k both.1 (omega arith) (omega arith))
+    ]
+
+-- a place with its answer
+pub record AnswersAt {F : Type 0} (answer : ℕ → Option F) (from n : ℕ) (x : F) : Type 0 where
+  pub at : ℕ
+  pub low : from ≤ at
+  pub high : at < from + n
+  pub is : answer at ≡ Some x
+
+-- of two answers, the first is one of them
+pub either_is : {F : Type 0} (a b : Option F) (x : F) → option_or a b ≡ Some x → (a ≡ Some x) ⊎ (b ≡ Some x)
+either_is None b x some = inr some
+either_is (Some y) b x some = inl some
+
+-- a first answer is that of some place
+pub some_among : {F : Type 0} (answer : ℕ → Option F) (from n : ℕ) (x : F) → first_among answer from n ≡ Some x → AnswersAt answer from n x
+some_among answer from zero x some = absurd (cc)
+some_among answer from (suc n) x some =
+    elim (either_is (answer from) (first_among answer (from + 1) n) x some) [
+      | inl here ↦ record { at = from; low = omega arith; high = omega arith; is = here }
+      | inr later ↦ (let r = some_among answer (from + 1) n x later in record { at = r.at; low = omega arith; high = omega arith; is = r.is })
+    ]
+
+-- where no test of a table is met, its first one isn't, nor is any later one
+pub first_unmet : {F : Type 0} (b : Bool) (x : F) (others : Option F) → cond b (Some x) others ≡ None → (b ≡ false) × (others ≡ None)
+first_unmet true x others none = absurd (cc)
+first_unmet false x others none = (refl, none)

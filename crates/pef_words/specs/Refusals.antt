@@ -1,0 +1,29 @@
+-- The words in which a grammar says which of its refusals comes first, and what is read where none does.
+use Rattle.std.specs.Prelude.{ℕ, zero, suc, ◌+◌, Bool, List, [], ◌∷◌, Option, None, Some, Result, Ok, Err, if◌then◌else◌}
+use Rattle.std.specs.Option.{option_or}
+
+-- what a part that was read leads to, and nothing where it was not
+infixl 10 ◌>>=◌
+abbrev pub ◌>>=◌ : {A B : Type 0} → Option A → (A → Option B) → Option B
+(Some x) >>= f = f x
+None >>= f = None
+
+-- the fault of the first test of a table that is met
+abbrev pub first_met : {F : Type 0} → List (Bool × F) → Option F
+first_met [] = None
+first_met (test ∷ tests) = if test.0 then Some test.1 else first_met tests
+
+-- the first of the answers at the n places from a place on
+abbrev pub first_among : {F : Type 0} → (ℕ → Option F) → ℕ → ℕ → Option F
+first_among answer from zero = None
+first_among answer from (suc n) = option_or (answer from) (first_among answer (from + 1) n)
+
+-- the refusal, and where there is none what else is said
+abbrev pub unless : {A F : Type 0} → Option F → Result A F → Result A F
+unless None otherwise = otherwise
+unless (Some fault) otherwise = Err fault
+
+-- a result with its value seen in another way
+abbrev pub result_map : {A B F : Type 0} → (A → B) → Result A F → Result B F
+result_map f (Ok x) = Ok (f x)
+result_map f (Err fault) = Err fault
