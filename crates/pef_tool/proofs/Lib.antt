@@ -1,0 +1,2 @@
+pub mod SentLemmas
+pub mod TextLemmas
