@@ -1,7 +1,9 @@
 //! The commands of `pef`, over any files, input and output.
 #![tactic(auto)]
 
+mod command_line;
 mod dump;
+mod input;
 mod page;
 mod ports;
 
