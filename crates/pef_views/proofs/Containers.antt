@@ -1,0 +1,105 @@
+-- What the acceptance of a container says, and what it takes.
+use Rattle.std.proofs.Common.{◌≡◌, ℕ, ◌<◌, ◌≤◌, not, List, Option, None, Some, refl, sym, subst, ap, arith}
+use Rattle.std.specs.Prelude.{◌==◌, ◌&&◌, Result, Ok, Err, IsTrue, length, nat_lt}
+use Rattle.std.proofs.lemmas.Bool.{lt-ltb, ltb-false}
+use Rattle.std.specs.Option.{option_map_or}
+use Rattle.pef_words.specs.Refusals.{first_met, first_among, unless}
+use Rattle.pef_views.specs.declared.header.Header.{Header}
+use Rattle.pef_views.specs.declared.section.SectionHeader.{SectionHeader}
+use Rattle.pef_views.specs.declared.fault.ViewFault.{ViewFault}
+use Rattle.pef_views.specs.declared.fault.ViewFault.TheVariants.{TooShort}
+use Rattle.pef_views.specs.Header.{header_of, header_tests}
+use Rattle.pef_views.specs.Section.{section_at, section_tests, is_inside, raw_of}
+use Rattle.pef_views.specs.Container.{Contained, IsAccepted, IsContainer, IsInstantiable, Section, is_instantiated, section_in, section_of, container_of, judged, loader_of, section_refusal, with_loader}
+use Rattle.pef_views.proofs.Sections.{length-raw_of, section_unmet, unmet_inside, unmet_instantiable, unrefused}
+use Rattle.pef_words.proofs.RefusalLemmas.{first_unmet}
+
+unless_ok : {A F : Type 0} (fault : Option F) (r : Result A F) (x : A) → unless fault r ≡ Ok x → (fault ≡ None) × (r ≡ Ok x)
+unless_ok None r x ok = (refl, ok)
+unless_ok (Some fault) r x ok = absurd (cc)
+
+abbrev value_or : {A F : Type 0} → A → Result A F → A
+value_or x (Ok y) = y
+value_or x (Err fault) = x
+
+with_loader_ok : (bytes : List ℕ) (h : Header) (loader : Option (List ℕ)) (c : Contained) → with_loader bytes h loader ≡ Ok c → (loader ≡ Some c.loader) × (h ≡ c.header)
+with_loader_ok bytes h None c ok = absurd (cc)
+with_loader_ok bytes h (Some loader) c ok =
+    let same = ap (value_or c) ok in
+    (ap (λ x. Some x.loader) same, ap (λ x. x.header) same)
+
+judged_ok : (c : Contained) (h : Header) → header_of c.bytes ≡ Some h → judged c.bytes h ≡ Ok c → IsAccepted c
+judged_ok c h there ok =
+    let a = unless_ok (first_met (header_tests h (length c.bytes))) _ c ok in
+    let b = unless_ok (first_among (section_refusal c.bytes h) 0 h.section_count) _ c a.1 in
+    let d = with_loader_ok c.bytes h (loader_of c.bytes h) c b.1 in
+    let P : Header → Type 0 = λ h. IsAccepted (record c { header = h }) in
+    subst P d.1 (record { header = there; tests = a.0; sections = b.0; loader = d.0 })
+
+header_ok : (c : Contained) (h : Option Header) → header_of c.bytes ≡ h → option_map_or (judged c.bytes) h (Err TooShort) ≡ Ok c → IsAccepted c
+header_ok c None there ok = absurd (cc)
+header_ok c (Some h) there ok = judged_ok c h there ok
+
+-- a container's parts are there, and no test is met
+pub accepted : (c : Contained) → IsContainer c → IsAccepted c
+unfolding container_of
+accepted c ok = header_ok c (header_of c.bytes) refl ok
+
+-- where the parts are there and no test is met, the bytes are that container
+pub accepts : (c : Contained) → IsAccepted c → IsContainer c
+unfolding container_of
+accepts c a = rw (a.header, a.tests, a.sections, a.loader) refl
+
+module _ (c : Contained) (i : ℕ) (s : SectionHeader) (ok : IsContainer c) (under : i < c.header.section_count) (there : section_at c.bytes i ≡ Some s) where
+  unmet : first_met (section_tests (is_instantiated c.header i) s (length c.bytes)) ≡ None
+  unmet = section_unmet c.bytes c.header i s (accepted c ok).sections under there
+
+  -- the raw bytes of a section lie inside
+  pub raw_inside : IsTrue (is_inside s (length c.bytes))
+  raw_inside = unmet_inside (is_instantiated c.header i) s (length c.bytes) unmet
+
+  -- they are as many as its header says
+  pub raw_whole : length (raw_of c.bytes s) ≡ s.packed_size
+  raw_whole = length-raw_of c.bytes s raw_inside
+
+  -- an instantiated section is one that can be
+  pub instantiable : i < c.header.instantiated_section_count → IsInstantiable (section_in c.bytes s)
+  instantiable below = unmet_instantiable c.bytes s (rw (lt-ltb i c.header.instantiated_section_count below) at unmet)
+
+header_counts : (h : Header) (len : ℕ) → first_met (header_tests h len) ≡ None → h.instantiated_section_count ≤ h.section_count
+unfolding header_tests
+header_counts h len none =
+    let tag = first_unmet (not (h.tag_1 == 0x4A6F7921 && h.tag_2 == 0x70656666)) _ _ none in
+    let architecture = first_unmet (not (h.architecture == 0x70777063)) _ _ tag.1 in
+    let version = first_unmet (not (h.format_version == 1)) _ _ architecture.1 in
+    let counts = first_unmet (nat_lt h.section_count h.instantiated_section_count) _ _ version.1 in
+    ltb-false h.section_count h.instantiated_section_count counts.0
+
+-- a container has no more instantiated sections than sections
+pub counts : (c : Contained) → IsContainer c → c.header.instantiated_section_count ≤ c.header.section_count
+counts c ok = header_counts c.header (length c.bytes) (accepted c ok).tests
+
+-- the header of each section below the count is there
+pub section_header_is : (c : Contained) (i : ℕ) → IsContainer c → i < c.header.section_count → (s : SectionHeader) × (section_at c.bytes i ≡ Some s)
+section_header_is c i ok under =
+    let here = unrefused c.bytes c.header i (accepted c ok).sections under in
+    (here.header, here.at)
+
+-- section i of a container, with all of its raw bytes
+pub record SectionIs (c : Contained) (i : ℕ) : Type 0 where
+  pub section : Section
+  pub is : section_of c i ≡ Some section
+  pub raw : length section.raw ≡ section.header.packed_size
+  pub instantiated : i < c.header.instantiated_section_count → IsInstantiable section
+
+-- each section below the count is there
+pub section_is : (c : Contained) (i : ℕ) → IsContainer c → i < c.header.section_count → SectionIs c i
+unfolding section_of
+section_is c i ok under =
+    let here = section_header_is c i ok under in
+    record {
+      section = section_in c.bytes here.0;
+      is = rw (lt-ltb i c.header.section_count under, here.1) refl;
+      raw = raw_whole c i here.0 ok under here.1;
+      instantiated = instantiable c i here.0 ok under here.1;
+    }

@@ -1,0 +1,7 @@
+-- A container's counts were tested.
+use Rattle.pef_views.specs.Views.{contained}
+use Rattle.pef_views.proofs.Containers.{counts}
+use Rattle.pef_views.proofs.container.Container.header.Goals as goal
+
+pub returns-clause-counts : goal.returns-clause-counts
+returns-clause-counts c = counts (contained c.args.self.now) c.args.self.now.accepted

@@ -1,0 +1,29 @@
+-- Each section of a container is there, with its raw bytes inside.
+use Rattle.std.proofs.Common.{◌≡◌, ◌∙◌, ◌<◌, ap, subst, sym, arith, length}
+use Rattle.pef_views.specs.Container.{IsInstantiable, Section, section_in}
+use Rattle.pef_views.specs.Views.{contained, seen}
+use Rattle.pef_views.proofs.Containers.{instantiable, raw_inside, raw_whole, section_header_is}
+use Rattle.pef_views.proofs.container.Container.section.Goals as goal
+
+pub raw_bytes-requires : goal.raw_bytes-requires
+raw_bytes-requires c = raw_inside (contained c.args.self.now) c.args.i c.in_ok-header.header c.args.self.now.accepted (omega arith) (sym c.in_ok-header.ensures)
+
+pub returns-in_err-header-clause-there : goal.returns-in_err-header-clause-there
+returns-in_err-header-clause-there c =
+    let here = section_header_is (contained c.args.self.now) c.args.i c.args.self.now.accepted (omega arith) in
+    let nowhere = c.in_err-header.ensures ∙ here.1 in
+    absurd (cc)
+
+is_seen : (c : goal.After-new) → section_in c.args.self.now.cut.bytes.now c.in_ok-header.header ≡ seen c.new.result
+is_seen c = sym (c.new.ensures ∙ (ap (λ raw. record { header = c.in_ok-header.header; raw = raw }) c.raw_bytes.ensures))
+
+pub returns-clause-raw : goal.returns-clause-raw
+returns-clause-raw c =
+    let whole = raw_whole (contained c.args.self.now) c.args.i c.in_ok-header.header c.args.self.now.accepted (omega arith) (sym c.in_ok-header.ensures) in
+    let P : Section → Type 0 = λ s. length s.raw ≡ s.header.packed_size in
+    subst P (is_seen c) whole
+
+pub returns-clause-instantiated : goal.returns-clause-instantiated
+returns-clause-instantiated c =
+    let sound = instantiable (contained c.args.self.now) c.args.i c.in_ok-header.header c.args.self.now.accepted (omega arith) (sym c.in_ok-header.ensures) in
+    λ below. subst IsInstantiable (is_seen c) (sound below)

@@ -1,0 +1,10 @@
+-- A place without a loader section is passed over.
+use Rattle.std.proofs.Common.{◌∙◌, ◌<◌, sym, arith}
+use Rattle.pef_words.proofs.RefusalLemmas.{first_among-next}
+use Rattle.pef_views.specs.Container.{loader_here}
+use Rattle.pef_views.proofs.container.find_loader.Goals as goal
+
+pub loop-i-preserved : goal.loop-i-preserved
+loop-i-preserved c =
+    let under : c.loop-i.i < c.args.header.section_count = omega arith in
+    sym (first_among-next (loader_here c.args.cut.bytes.now c.args.header) _ _ under (sym c.in-None.ensures)) ∙ c.loop-i.invariant

@@ -1,0 +1,10 @@
+-- What is left decides.
+use Rattle.std.proofs.Common.{◌≡◌, ◌-◌}
+use Rattle.pef_words.specs.Refusals.{first_among}
+use Rattle.pef_views.specs.Container.{section_refusal}
+use Rattle.pef_views.proofs.container.test_sections.Given as goal
+
+abbrev pub invariant-loop-i : goal.invariant-loop-i
+invariant-loop-i l =
+    first_among (section_refusal l.cut.bytes.now l.header) l.i (l.header.section_count - l.i)
+    ≡ first_among (section_refusal l.cut.bytes.now l.header) 0 l.header.section_count

@@ -1,0 +1,5 @@
+pub mod Container
+pub mod Fault
+pub mod Header
+pub mod Section
+pub mod Views

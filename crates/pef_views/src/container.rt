@@ -1,0 +1,157 @@
+ghost use Rattle.std.specs.Prelude.{◌≡◌, ◌<◌, ◌≤◌, ◌↔◌, None, Ok, IsSome, IfSome, option_map, length};
+ghost use Rattle.std.specs.Result.{result_err};
+ghost use Rattle.std.specs.Option.{option_copied};
+ghost use Rattle.pef_words.specs.Refusals.{first_among, result_map};
+ghost use Rattle.pef_views.specs.Container.{IsInstantiable, container_of, loader_here, loader_of, section_refusal, section_name_of, section_of};
+
+use crate::fault::ViewFault;
+use crate::header::{Header, read_header, test_header};
+use crate::layout::{CONTAINER_HEADER_SIZE, LOADER_SECTION, SECTION_HEADER_SIZE};
+use crate::section::{SectionView, raw_bytes, read_section, test_section};
+use pef_words::Cut;
+
+/// A container, seen in place.
+///
+/// A value of this type is the proof that its bytes broke no rule. What it gives are slices of the
+/// bytes that it was read from, which live as long as those.
+#[derive(Clone, Copy, Debug)]
+pub struct Container<'a> {
+    cut: Cut<'a>,
+    header: Header,
+    loader: &'a [u8],
+    pub ghost accepted: { container_of cut.bytes.now ≡ Ok (record {
+      bytes = cut.bytes.now;
+      header = header;
+      loader = loader.now;
+    }) },
+}
+
+impl<'a> Container<'a> {
+    ghost use Rattle.pef_views.specs.Views.{contained, seen};
+
+    /// The container that `bytes` are.
+    ///
+    /// # Errors
+    ///
+    /// The first rule that they break: those of the header in the order of [`ViewFault`], of all
+    /// section headers' length, then of each section in turn, then of the loader section.
+    #[tactic(auto, unfolding(crate::specs::Container::container_of))]
+    pub fn read(bytes: &'a [u8]) -> Result<Container<'a>, ViewFault>
+        ensures { result_map contained result ≡ container_of bytes.entry.now }
+    {
+        let cut = Cut::new(bytes);
+        let header = read_header(cut).ok_or(ViewFault::TooShort)?;
+        test_header(header, cut.len())?;
+        test_sections(cut, header)?;
+        let loader = find_loader(cut, header).ok_or(ViewFault::NoLoader)?;
+        Ok(Container {
+            cut,
+            header,
+            loader,
+        })
+    }
+
+    /// The container header.
+    pub fn header(&self) -> Header
+        ensures value { result ≡ (contained self.now).header }
+        ensures counts { result.instantiated_section_count ≤ result.section_count }
+    {
+        self.header
+    }
+
+    /// Section `i`, or `None` past the last one.
+    #[tactic(auto, unfolding(crate::specs::Container::section_of))]
+    pub fn section(&self, i: usize) -> Option<SectionView<'a>>
+        ensures value { option_map seen result ≡ section_of (contained self.now) i }
+        ensures there { IsSome result ↔ (i < (contained self.now).header.section_count) }
+        ensures raw { IfSome result (λ s. length s.raw.now ≡ s.packed_size) }
+        ensures instantiated { i < (contained self.now).header.instantiated_section_count → IfSome result (λ s. IsInstantiable (seen s)) }
+    {
+        if i >= usize::from(self.header.section_count) {
+            return None;
+        }
+        let header = read_section(self.cut, i)?;
+        Some(SectionView::new(header, raw_bytes(self.cut, header)))
+    }
+
+    /// The raw bytes of section `i`, or `None` past the last one.
+    ///
+    /// They are the packed size's bytes, however long the section's image is.
+    pub fn raw(&self, i: usize) -> Option<&'a [u8]>
+        ensures value { option_copied result ≡ option_map (λ s. s.raw) (section_of (contained self.now) i) }
+        ensures there { IsSome result ↔ (i < (contained self.now).header.section_count) }
+    {
+        Some(self.section(i)?.raw)
+    }
+
+    /// The raw bytes of the loader section: the first that isn't instantiated and is of that kind.
+    pub fn loader(&self) -> &'a [u8]
+        ensures { result.now ≡ (contained self.now).loader }
+    {
+        self.loader
+    }
+
+    /// The name of section `i`, without the zero byte at its end.
+    ///
+    /// `None` past the last section, at a negative name offset, and where no zero byte follows in the
+    /// container: a name may end anywhere in it.
+    pub fn section_name(&self, i: usize) -> Option<&'a [u8]>
+        ensures { option_copied result ≡ section_name_of (contained self.now) i }
+    {
+        let offset = usize::try_from(self.section(i)?.name_offset).ok()?;
+        let names = CONTAINER_HEADER_SIZE
+            + SECTION_HEADER_SIZE * usize::from(self.header.section_count);
+        self.cut.name_at(names + offset)
+    }
+}
+
+/// The first refusal of a section, section by section.
+fn test_sections(cut: Cut<'_>, header: Header) -> Result<(), ViewFault>
+    ensures { result_err result ≡ first_among (section_refusal cut.entry.bytes.now header) 0 header.section_count }
+{
+    for i in 0..usize::from(header.section_count) {
+        test_section_at(cut, header, i)?;
+    }
+    Ok(())
+}
+
+/// The refusal of section `i`.
+fn test_section_at(cut: Cut<'_>, header: Header, i: usize) -> Result<(), ViewFault>
+    requires { i < header.section_count }
+    ensures { result_err result ≡ section_refusal cut.entry.bytes.now header i }
+{
+    let section = read_section(cut, i).ok_or(ViewFault::TooShort)?;
+    let instantiated = i < usize::from(header.instantiated_section_count);
+    test_section(section, instantiated, cut.len())
+}
+
+/// The raw bytes of the first loader section that isn't instantiated.
+fn find_loader<'a>(cut: Cut<'a>, header: Header) -> Option<&'a [u8]>
+    requires { first_among (section_refusal cut.bytes.now header) 0 header.section_count ≡ None }
+    ensures { option_copied result ≡ loader_of cut.entry.bytes.now header }
+{
+    for i in 0..usize::from(header.section_count) {
+        match loader_at(cut, header, i) {
+            Some(loader) => return Some(loader),
+            None => {}
+        }
+    }
+    None
+}
+
+/// The raw bytes of section `i`, if it is a loader section that isn't instantiated.
+#[tactic(auto, using(crate::proofs::Sections::section_inside))]
+fn loader_at<'a>(cut: Cut<'a>, header: Header, i: usize) -> Option<&'a [u8]>
+    requires below { i < header.section_count }
+    requires unrefused { first_among (section_refusal cut.bytes.now header) 0 header.section_count ≡ None }
+    ensures { option_copied result ≡ loader_here cut.entry.bytes.now header i }
+{
+    if i < usize::from(header.instantiated_section_count) {
+        return None;
+    }
+    let section = read_section(cut, i)?;
+    if section.section_kind != LOADER_SECTION {
+        return None;
+    }
+    Some(raw_bytes(cut, section))
+}
