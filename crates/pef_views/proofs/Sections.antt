@@ -7,7 +7,6 @@ use Rattle.pef_words.specs.Refusals.{first_met, first_among}
 use Rattle.pef_words.proofs.RefusalLemmas.{first_unmet, none_among}
 use Rattle.pef_views.specs.declared.header.Header.{Header}
 use Rattle.pef_views.specs.declared.section.SectionHeader.{SectionHeader}
-use Rattle.pef_views.specs.declared.fault.ViewFault.{ViewFault}
 use Rattle.pef_views.specs.declared.fault.ViewFault.TheVariants.{TooShort}
 use Rattle.pef_views.specs.Section.{section_at, section_tests, is_inside, is_instantiable, raw_of, sizes_fit}
 use Rattle.pef_views.specs.Container.{IsInstantiable, section_in, section_refusal, is_instantiated}

@@ -1,6 +1,6 @@
 -- Which bytes are a container and what it consists of, or the first refusal (Mac OS Runtime
 -- Architectures, "PEF Structure").
-use Rattle.std.specs.Prelude.{◌≡◌, ◌≢◌, ℕ, ℤ, pos, negsuc, ◌+◌, ◌-◌, ◌≤◌, ◌==◌, Bool, List, Option, None, Some, option_map, Result, Ok, Err, IsTrue, nat_lt, length, if◌then◌else◌}
+use Rattle.std.specs.Prelude.{◌≡◌, ◌≢◌, ℕ, ℤ, pos, negsuc, ◌+◌, ◌≤◌, ◌==◌, Bool, List, Option, None, Some, option_map, Result, Ok, Err, IsTrue, nat_lt, length, if◌then◌else◌}
 use Rattle.std.specs.Option.{option_map_or}
 use Rattle.pef_words.specs.Bytes.{name_at}
 use Rattle.pef_words.specs.Refusals.{◌>>=◌, first_met, first_among, unless}

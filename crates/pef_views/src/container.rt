@@ -155,3 +155,6 @@ fn loader_at<'a>(cut: Cut<'a>, header: Header, i: usize) -> Option<&'a [u8]>
     }
     Some(raw_bytes(cut, section))
 }
+
+#[cfg(test)]
+mod tests;

@@ -1,5 +1,5 @@
 -- Each section of a container is there, with its raw bytes inside.
-use Rattle.std.proofs.Common.{◌≡◌, ◌∙◌, ◌<◌, ap, subst, sym, arith, length}
+use Rattle.std.proofs.Common.{◌≡◌, ◌∙◌, ap, subst, sym, arith, length}
 use Rattle.pef_views.specs.Container.{IsInstantiable, Section, section_in}
 use Rattle.pef_views.specs.Views.{contained, seen}
 use Rattle.pef_views.proofs.Containers.{instantiable, raw_inside, raw_whole, section_header_is}
