@@ -1,3 +1,4 @@
+pub mod DescribedLemmas
 pub mod InputLemmas
 pub mod LineLemmas
 pub mod SentLemmas

@@ -1,4 +1,5 @@
 pub mod CommandLine
+pub mod Described
 pub mod Input
 pub mod Ports
 pub mod Sent
