@@ -1,0 +1,5 @@
+pub mod Changes
+pub mod Held
+pub mod Laws
+pub mod Placed
+pub mod Placing

@@ -1,0 +1,65 @@
+-- Where the first free address lies among instances that stand one behind the other.
+use Rattle.std.proofs.Common.{◌≡◌, ℕ, ◌+◌, ◌*◌, ◌/◌, ◌%◌, ◌<◌, ◌≤◌, ◌⊎◌, List, [], ◌∷◌, length, refl, inl, inr, arith}
+use Rattle.std.proofs.lemmas.Bool.{cases_lt}
+use Rattle.std.proofs.Math.Nat.{mul-le-mul_left}
+use Rattle.cfm_memory.specs.Instances.{Instance}
+use Rattle.cfm_memory.specs.Placement.{taken, end_of, IsFree, IsLaidOut}
+use Rattle.cfm_memory.specs.Searches.{IsFirstFree}
+
+-- of two multiples of a number, one that is less than that number above the other isn't above it
+pub no_multiple_between : (a b n : ℕ) → 0 < n → a % n ≡ 0 → b % n ≡ 0 → a < b + n → a ≤ b
+no_multiple_between a b n positive a_is b_is near =
+    elim (cases_lt (b / n) (a / n)) [
+      | inl less ↦ (let up : b / n + 1 ≤ a / n = omega arith in absurd (omega (arith, mul-le-mul_left n up, a_is, b_is)))
+      | inr le ↦ omega (arith, mul-le-mul_left n le, a_is, b_is)
+    ]
+
+-- an instance takes no fewer bytes than it has
+pub within_taken : (size : ℕ) → size ≤ taken size
+unfolding taken
+within_taken size = omega arith
+
+pub some_taken : (size : ℕ) → 0 < taken size
+unfolding taken
+some_taken size = omega arith
+
+pub taken_most : (size : ℕ) → taken size ≤ size + 16
+unfolding taken
+taken_most size = omega arith
+
+-- what ends before the instances begin meets none of them
+pub free_before : (address end from limit : ℕ) (xs : List Instance) → end ≤ from → IsLaidOut from limit xs → IsFree address end xs
+free_before address end from limit [] before laid = tt
+free_before address end from limit (x ∷ xs) before laid =
+    (inl (omega arith), free_before address end (end_of x) limit xs (omega arith) laid.2)
+
+pub first_of_none : (n step at : ℕ) → at % step ≡ 0 → IsFirstFree n step at [] at
+first_of_none n step at aligned = record { low = omega arith; aligned = aligned; free = tt; first = λ b low _ _. low }
+
+-- before the next instance there is room at once
+pub first_before : (n step at from limit : ℕ) (x : Instance) (xs : List Instance) → at % step ≡ 0 → at + n ≤ x.address → IsLaidOut from limit (x ∷ xs) → IsFirstFree n step at (x ∷ xs) at
+first_before n step at from limit x xs aligned before laid = record {
+  low = omega arith;
+  aligned = aligned;
+  free = (inl before, free_before at (at + n) (end_of x) limit xs (omega arith) laid.2);
+  first = λ b low _ _. low;
+}
+
+-- otherwise it is behind that instance
+pub first_behind : (n step at next : ℕ) (x : Instance) (xs : List Instance) (r : ℕ) → x.address < at + n → at ≤ next → end_of x ≤ next
+    → ((b : ℕ) → at ≤ b → end_of x ≤ b → b % step ≡ 0 → next ≤ b) → IsFirstFree n step next xs r → IsFirstFree n step at (x ∷ xs) r
+first_behind n step at next x xs r over low behind least rest = record {
+  low = (let h = rest.low in omega arith);
+  aligned = rest.aligned;
+  free = (inr (let h = rest.low in omega arith), rest.free);
+  first = λ b from aligned free. rest.first b (least b from (elim (free.0) as (λ _. end_of x ≤ b) [ inl h ↦ omega arith | inr h ↦ h ]) aligned) aligned free.1;
+}
+
+-- the search may as well begin at the first multiple
+pub first_from : (n step at next : ℕ) (xs : List Instance) (r : ℕ) → at ≤ next → ((b : ℕ) → at ≤ b → b % step ≡ 0 → next ≤ b) → IsFirstFree n step next xs r → IsFirstFree n step at xs r
+first_from n step at next xs r low least rest = record {
+  low = (let h = rest.low in omega arith);
+  aligned = rest.aligned;
+  free = rest.free;
+  first = λ b from aligned free. rest.first b (least b from aligned) aligned free;
+}

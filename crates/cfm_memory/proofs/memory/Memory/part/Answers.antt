@@ -1,0 +1,35 @@
+-- The slot at that place has the bytes of the instance.
+use Rattle.std.proofs.Common.{◌≡◌, ℕ, ◌+◌, ◌<◌, ◌≤◌, ◌^◌, List, Some, None, length, map, get_or, refl, subst, sym, ap, ◌∙◌, arith}
+use Rattle.std.proofs.lemmas.Bool.Decides.{Decides-ltb}
+use Rattle.std.proofs.lemmas.List.{length-map, length-replicate}
+use Rattle.std.proofs.Math.ListN.{set}
+use Rattle.std.proofs.lemmas.List.{map-set}
+use Rattle.cfm_memory.specs.declared.memory.Slot.{Slot}
+use Rattle.cfm_memory.specs.Instances.{Instance, Layout, bytes_at, has_length, fitted, with_bytes, with_instances, holds_place}
+use Rattle.cfm_memory.specs.Placement.{taken, IsLaidOut}
+use Rattle.cfm_memory.specs.Searches.{index_in, rank_in}
+use Rattle.cfm_memory.specs.Seen.{seen}
+use Rattle.cfm_memory.proofs.Changes.{bytes_nowhere, laid_out_seen, laid_out_to, laid_out_written, with_bytes_is}
+use Rattle.cfm_memory.proofs.Held.{held_under, held_slot, held_length}
+use Rattle.cfm_memory.proofs.Placed.{placed_laid_out, placed_slots, rank_inside}
+use Rattle.cfm_memory.proofs.Placing.{some_taken, taken_most}
+use Rattle.cfm_memory.proofs.memory.Memory.part.Goals as goal
+
+pub index-slot-requires : goal.index-slot-requires
+index-slot-requires c =
+    let under = held_under c.self.inside.slots.items c.self.inside.limit c.args.place c.args.self.now c.self.view_is c.requires in
+    let is = c.index_of-index.ensures ∙ ap (λ s. index_in (map seen s) c.args.place.address) c.deref.ensures.value in
+    let len = sym (ap length c.deref.ensures.value) ∙ c.deref.ensures.len in
+    omega arith
+
+pub returns : goal.returns
+returns c =
+    let under = held_under c.self.inside.slots.items c.self.inside.limit c.args.place c.args.self.now c.self.view_is c.requires in
+    let is = c.index_of-index.ensures ∙ ap (λ s. index_in (map seen s) c.args.place.address) c.deref.ensures.value in
+    let len = sym (ap length c.deref.ensures.value) ∙ c.deref.ensures.len in
+    let bytes = held_slot c.self.inside.slots.items c.args.place.address c.index_of-index.result c.index-slot.result.now is (omega arith) c.index-slot.ensures in
+    record {
+      bytes = rw (← c.self.view_is, c.as_slice.ensures.value) bytes;
+      len = rw c.as_slice.ensures.value (held_length _ _ c.args.place c.args.self.now _ c.self.view_is c.requires bytes);
+      laid_out = laid_out_seen c.self.inside.limit _ c.args.self.now c.self.view_is c.self.invariant;
+    }

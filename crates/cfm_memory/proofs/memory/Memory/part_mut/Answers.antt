@@ -1,0 +1,51 @@
+-- What is left behind the part is in that slot alone.
+use Rattle.std.proofs.Common.{◌≡◌, ℕ, ◌+◌, ◌<◌, ◌≤◌, ◌^◌, List, Some, None, length, map, get_or, refl, subst, sym, ap, ◌∙◌, arith}
+use Rattle.std.proofs.lemmas.Bool.Decides.{Decides-ltb}
+use Rattle.std.proofs.lemmas.List.{length-map, length-replicate}
+use Rattle.std.specs.Vec.{with_items}
+use Rattle.std.proofs.Math.ListN.{set}
+use Rattle.std.proofs.lemmas.List.{map-set}
+use Rattle.cfm_memory.specs.declared.memory.Slot.{Slot}
+use Rattle.cfm_memory.specs.Instances.{Instance, Layout, bytes_at, has_length, fitted, with_bytes, with_instances, holds_place}
+use Rattle.cfm_memory.specs.Placement.{taken, IsLaidOut}
+use Rattle.cfm_memory.specs.Searches.{index_in, rank_in}
+use Rattle.cfm_memory.specs.Seen.{seen}
+use Rattle.cfm_memory.proofs.Changes.{bytes_nowhere, laid_out_to, laid_out_written, with_bytes_is}
+use Rattle.cfm_memory.proofs.Held.{held_under, held_slot, held_length, slot_written}
+use Rattle.cfm_memory.proofs.Placed.{placed_laid_out, placed_slots, rank_inside}
+use Rattle.cfm_memory.proofs.Placing.{some_taken, taken_most}
+use Rattle.cfm_memory.proofs.memory.Memory.part_mut.Goals as goal
+
+pub index_mut-slot-requires : goal.index_mut-slot-requires
+index_mut-slot-requires c =
+    let under = held_under c.self.inside.slots.items c.self.inside.limit c.args.place c.args.self.now c.self.view_is c.requires in
+    let is = c.index_of-index.ensures ∙ ap (λ s. index_in (map seen s) c.args.place.address) c.deref.ensures.value in
+    let len = sym (ap length c.deref.ensures.value) ∙ c.deref.ensures.len in
+    omega arith
+
+pub invariant_of-self-lent : goal.invariant_of-self-lent
+invariant_of-self-lent c = λ w.
+    let under = held_under c.self.inside.slots.items c.self.inside.limit c.args.place c.args.self.now c.self.view_is c.requires in
+    let is = c.index_of-index.ensures ∙ ap (λ s. index_in (map seen s) c.args.place.address) c.deref.ensures.value in
+    let written = slot_written c.self.inside.slots.items c.args.place.address c.index_of-index.result c.index_mut-slot.result.now (record { address = c.index_mut-slot.result.now.address; bytes = with_items c.index_mut-slot.result.now.bytes w }) w
+    is (omega arith) c.index_mut-slot.ensures.value (rw (c.index_mut-slot.result.now.bytes.ok.0) refl) in
+    rw written (laid_out_written 65536 c.self.inside.limit _ c.args.place.address w c.self.invariant)
+
+pub returns : goal.returns
+returns c =
+    let under = held_under c.self.inside.slots.items c.self.inside.limit c.args.place c.args.self.now c.self.view_is c.requires in
+    let is = c.index_of-index.ensures ∙ ap (λ s. index_in (map seen s) c.args.place.address) c.deref.ensures.value in
+    let bytes = held_slot c.self.inside.slots.items c.args.place.address c.index_of-index.result c.index_mut-slot.result.now is (omega arith) c.index_mut-slot.ensures.value in (
+      (
+        refl,
+        λ w.
+            let written = slot_written c.self.inside.slots.items c.args.place.address c.index_of-index.result c.index_mut-slot.result.now (record { address = c.index_mut-slot.result.now.address; bytes = with_items c.index_mut-slot.result.now.bytes w }) w
+            is (omega arith) c.index_mut-slot.ensures.value (rw (c.index_mut-slot.result.now.bytes.ok.0) refl) in
+            rw (← c.self.view_is, written) refl,
+      ),
+      record {
+        writes_back = tt;
+        bytes = rw (← c.self.view_is, c.as_mut_slice.ensures.value) bytes;
+        len = rw c.as_mut_slice.ensures.value (held_length _ _ c.args.place c.args.self.now _ c.self.view_is c.requires bytes);
+      },
+    )

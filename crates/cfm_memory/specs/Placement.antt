@@ -1,0 +1,50 @@
+-- Where an instance may lie: the lowest free address from 00010000 (hex) on that has its alignment.
+use Rattle.std.specs.Prelude.{◌≡◌, ℕ, ◌+◌, ◌%◌, ◌^◌, ◌≤◌, ◌⊎◌, max, List, [], ◌∷◌, length, replicate}
+use Rattle.std.specs.Int.{next_multiple_of}
+use Rattle.cfm_memory.specs.Instances.{Instance, Layout, with_instance, with_instances}
+use Rattle.cfm_memory.specs.declared.place.Place.{Place}
+use Rattle.cfm_memory.specs.declared.place.MemoryFault.{MemoryFault}
+use Rattle.cfm_memory.specs.declared.place.MemoryFault.TheVariants.{NoRoom, OutOfMemory}
+
+-- the bytes that an instance of some size takes: one at least, and a multiple of 16
+unfoldable pub taken : ℕ → ℕ
+taken size = next_multiple_of (max size 1) 16
+
+-- what the address of an instance is a multiple of, from the exponent of its alignment
+unfoldable pub step_of : ℕ → ℕ
+step_of alignment = max 16 (2 ^ alignment)
+
+-- the address behind the last byte that an instance takes
+abbrev pub end_of : Instance → ℕ
+end_of x = x.address + taken (length x.bytes)
+
+-- what is taken from an address to an end meets no instance
+abbrev pub IsFree : ℕ → ℕ → List Instance → Type 0
+IsFree address end [] = Unit {0}
+IsFree address end (x ∷ xs) = ((end ≤ x.address) ⊎ (end_of x ≤ address)) × IsFree address end xs
+
+-- an address at which an instance of some size and alignment has room
+pub record IsRoom (m : Layout) (size alignment address : ℕ) : Type 0 where
+  pub from : 65536 ≤ address
+  pub aligned : address % step_of alignment ≡ 0
+  pub inside : address + taken size ≤ m.limit
+  pub free : IsFree address (address + taken size) m.instances
+
+-- the lowest address with room
+pub record IsLowest (m : Layout) (size alignment address : ℕ) : Type 0 where
+  pub room : IsRoom m size alignment address
+  pub lowest : (other : ℕ) → IsRoom m size alignment other → address ≤ other
+
+-- the memory with a new instance at a place, all zeros
+abbrev pub with_new : Layout → Place → Layout
+with_new m place = with_instances m (with_instance m.instances (record { address = place.address; bytes = replicate place.size 0 }))
+
+-- when an instance may be refused: no room where no address has it, and out of memory only where one has
+abbrev pub MayRefuse : Layout → ℕ → ℕ → MemoryFault → Type 0
+MayRefuse m size alignment NoRoom = (address : ℕ) → IsRoom m size alignment address → ⊥
+MayRefuse m size alignment OutOfMemory = (address : ℕ) × IsRoom m size alignment address
+
+-- instances from an address on to a limit, one behind the other
+abbrev pub IsLaidOut : ℕ → ℕ → List Instance → Type 0
+IsLaidOut from limit [] = Unit {0}
+IsLaidOut from limit (x ∷ xs) = (from ≤ x.address) × (end_of x ≤ limit) × IsLaidOut (end_of x) limit xs
