@@ -2,4 +2,5 @@ pub mod DescribedLemmas
 pub mod InputLemmas
 pub mod LineLemmas
 pub mod SentLemmas
+pub mod ShownLemmas
 pub mod TextLemmas

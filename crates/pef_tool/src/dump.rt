@@ -1,23 +1,17 @@
 ghost use Rattle.std.specs.Prelude.{◌≡◌, ◌≤◌, ◌<◌, ◌+◌, ◌*◌, ◌^◌, ◌++◌, length};
 ghost use Rattle.arrayvec.specs.ArrayVec.{array_vec_len};
 ghost use Rattle.pef_tool.specs.Sent.{Sends};
-ghost use Rattle.pef_tool.specs.Text.{dump_text, group_text, hex_digit, hex_text, row_text, word_text};
+ghost use Rattle.pef_tool.specs.Text.{dump_text, group_text, row_text};
 
+use crate::line::{Line, push_hex, push_word};
 use crate::page::{Page, send};
 use crate::ports::{Sink, StreamFault};
-use arrayvec::ArrayVec;
 
 /// How many bytes of memory stand in a line.
 const ROW: usize = 16;
 
 /// How many bytes of memory stand in a group of a line.
 const GROUP: usize = 4;
-
-/// The most bytes of a printed line: the address, four groups of eight digits and the line feed.
-const LINE: usize = 48;
-
-/// A line of printed memory.
-type Line = ArrayVec<u8, LINE>;
 
 /// Prints `bytes`, which stand at `address`, in lines of sixteen.
 pub fn print_memory<W: Sink>(out: &mut W, page: &mut Page, address: u32, bytes: &[u8]) -> Result<(), StreamFault>
@@ -47,15 +41,6 @@ fn line_of(address: u32, bytes: &[u8]) -> Line
     line
 }
 
-/// Appends a number of 32 bits in eight digits.
-fn push_word(line: &mut Line, n: u32)
-    requires { array_vec_len line.old + 8 ≤ 48 }
-    ensures text { line.new.items ≡ line.old.items ++ word_text n }
-    ensures len { array_vec_len line.new ≡ array_vec_len line.old + 8 }
-{
-    push_hex(line, &n.to_be_bytes());
-}
-
 /// Appends bytes in groups of four.
 fn push_groups(line: &mut Line, bytes: &[u8])
     requires few { length bytes.now ≤ 16 }
@@ -70,24 +55,4 @@ fn push_groups(line: &mut Line, bytes: &[u8])
         push_hex(line, group);
         rest = others;
     }
-}
-
-/// Appends the two digits of each byte.
-fn push_hex(line: &mut Line, bytes: &[u8])
-    requires { array_vec_len line.old + 2 * length bytes.now ≤ 48 }
-    ensures text { line.new.items ≡ line.old.items ++ hex_text bytes.now }
-    ensures len { array_vec_len line.new ≡ array_vec_len line.old + 2 * length bytes.now }
-{
-    for b in bytes {
-        line.push(digit(*b / 16));
-        line.push(digit(*b % 16));
-    }
-}
-
-/// The upper-case digit of a number below sixteen.
-fn digit(d: u8) -> u8
-    requires { d < 16 }
-    ensures { result ≡ hex_digit d }
-{
-    if d < 10 { b'0' + d } else { b'A' + (d - 10) }
 }

@@ -4,7 +4,10 @@
 mod command_line;
 mod dump;
 mod input;
+mod line;
 mod page;
 mod ports;
+mod refusal;
+mod shown;
 
 pub use ports::{FileFault, Files, Sink, Source, StreamFault};

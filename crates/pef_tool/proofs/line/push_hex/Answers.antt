@@ -2,7 +2,7 @@
 use Rattle.std.proofs.Common.{◌<◌, ◌+◌, ◌∷◌, [], ◌++◌, length, get_or, append_assoc, arith}
 use Rattle.arrayvec.specs.ArrayVec.{array_vec_len}
 use Rattle.pef_tool.proofs.TextLemmas.{hex_text-more}
-use Rattle.pef_tool.proofs.dump.push_hex.Goals as goal
+use Rattle.pef_tool.proofs.line.push_hex.Goals as goal
 
 pub push-requires : goal.push-requires
 push-requires c = (omega arith, omega (arith, c.requires, c.loop-b.invariant.len, c.loop-b-test.true))

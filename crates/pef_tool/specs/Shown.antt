@@ -1,0 +1,36 @@
+-- What is printed of prepared memory.
+use Rattle.std.specs.Prelude.{ℕ, ◌+◌, ◌^◌, ◌≤◌, IsTrue, List, [], ◌∷◌, ◌++◌, length, codes, decimal, map, unwrap_or}
+use Rattle.cfm_memory.specs.Instances.{Layout, bytes_at, holds_place}
+use Rattle.cfm_memory.specs.declared.place.Place.{Place}
+use Rattle.pef_tool.specs.Text.{word_text, dump_text}
+
+-- a section where it was placed, with its memory
+pub record PlacedSection : Type 0 where
+  pub address : ℕ
+  pub bytes : List ℕ
+
+-- an instance stands at a place, which ends below 2^32
+pub record IsHeld (m : Layout) (place : Place) : Type 0 where
+  pub held : IsTrue (holds_place m place)
+  pub below : place.address + place.size ≤ 2 ^ 32
+
+-- the section at a place
+abbrev pub section_at : Layout → Place → PlacedSection
+section_at m place = record { address = place.address; bytes = unwrap_or (bytes_at m.instances place.address) [] }
+
+-- the line above a section's memory
+unfoldable pub heading_text : ℕ → ℕ → ℕ → List ℕ
+heading_text i address size = codes "section " ++ decimal i ++ codes " at " ++ word_text address ++ codes " size " ++ decimal size ++ 10 ∷ []
+
+-- a section: its line, then its memory
+abbrev pub section_text : ℕ → PlacedSection → List ℕ
+section_text i s = heading_text i s.address (length s.bytes) ++ dump_text s.address s.bytes
+
+-- sections, numbered from a number on
+abbrev pub sections_text : ℕ → List PlacedSection → List ℕ
+sections_text i [] = []
+sections_text i (s ∷ sections) = section_text i s ++ sections_text (i + 1) sections
+
+-- a fragment's name and sections
+abbrev pub fragment_text : List ℕ → List PlacedSection → List ℕ
+fragment_text name sections = codes "fragment " ++ name ++ (10 ∷ []) ++ sections_text 0 sections

@@ -1,0 +1,57 @@
+ghost use Rattle.std.specs.Prelude.{◌≡◌, All, map};
+ghost use Rattle.pef_tool.specs.Sent.{Sends};
+ghost use Rattle.pef_tool.specs.Shown.{IsHeld, heading_text, section_at, section_text, sections_text};
+
+use crate::dump::print_memory;
+use crate::line::{Line, push_number, push_text, push_word};
+use crate::page::{Page, send};
+use crate::ports::{Sink, StreamFault};
+use cfm_memory::{Memory, Place};
+
+/// Prints the sections at some places, numbered from 0.
+pub fn print_sections<W: Sink>(
+    out: &mut W,
+    page: &mut Page,
+    memory: &Memory,
+    places: &[Place],
+) -> Result<(), StreamFault>
+    requires { All (IsHeld memory.now) places.now }
+    ensures { Sends result (W.written out.old) (W.written out.new) (W.failures out.old) (W.failures out.new) page.old.items page.new.items (sections_text 0 (map (section_at memory.now) places.now)) }
+{
+    for (i, place) in places.iter().enumerate() {
+        print_section(out, page, i, *place, memory)?;
+    }
+    Ok(())
+}
+
+/// Prints the section at a place, with its number.
+fn print_section<W: Sink>(
+    out: &mut W,
+    page: &mut Page,
+    i: usize,
+    place: Place,
+    memory: &Memory,
+) -> Result<(), StreamFault>
+    requires { IsHeld memory.now place }
+    ensures { Sends result (W.written out.old) (W.written out.new) (W.failures out.old) (W.failures out.new) page.old.items page.new.items (section_text i (section_at memory.now place)) }
+{
+    let bytes = memory.part(place);
+    send(out, page, heading(i, place).as_slice())?;
+    print_memory(out, page, place.address, bytes)
+}
+
+/// The line above a section's memory.
+#[tactic(auto, unfolding(crate::specs::Shown::heading_text))]
+fn heading(i: usize, place: Place) -> Line
+    ensures { result.items ≡ heading_text i place.address place.size }
+{
+    let mut line = Line::new();
+    push_text(&mut line, b"section ");
+    push_number(&mut line, i as u64);
+    push_text(&mut line, b" at ");
+    push_word(&mut line, place.address);
+    push_text(&mut line, b" size ");
+    push_number(&mut line, u64::from(place.size));
+    push_text(&mut line, b"\n");
+    line
+}
