@@ -1,5 +1,5 @@
 -- The instance at an address by its place in the list, and what a change leaves laid out.
-use Rattle.std.proofs.Common.{◌≡◌, ℕ, zero, suc, ◌+◌, ◌<◌, ◌≤◌, ◌⊎◌, Bool, true, false, cond, List, [], ◌∷◌, ◌++◌, Some, None, length, get_or, take, drop, map, replicate, refl, sym, ap, subst, inl, inr, arith, ◌∙◌, length-take, length-drop, length-append}
+use Rattle.std.proofs.Common.{◌≡◌, ℕ, suc, ◌+◌, ◌<◌, ◌≤◌, true, List, [], ◌∷◌, ◌++◌, Some, None, length, get_or, drop, map, refl, sym, ap, subst, inl, inr, arith, length-take, length-drop, length-append}
 use Rattle.std.specs.List.{insert, remove}
 use Rattle.std.proofs.Math.ListN.{set}
 use Rattle.std.proofs.lemmas.Bool.Decides.{eqb_tells, leb_tells}

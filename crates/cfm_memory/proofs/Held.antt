@@ -1,12 +1,12 @@
 -- The slot of an instance that the memory holds.
-use Rattle.std.proofs.Common.{◌≡◌, ℕ, ◌<◌, Bool, true, List, [], ◌∷◌, Some, IsTrue, length, get_or, map, refl, subst, sym, ap, ◌∙◌, arith}
+use Rattle.std.proofs.Common.{◌≡◌, ℕ, ◌<◌, true, List, Some, IsTrue, length, get_or, map, refl, sym, ap, ◌∙◌, arith}
 use Rattle.std.proofs.lemmas.Bool.Decides.{Decides-eqb}
 use Rattle.std.proofs.lemmas.List.{length-map}
 use Rattle.std.proofs.Math.ListN.{get_or-map, set}
 use Rattle.std.proofs.lemmas.List.{map-set}
 use Rattle.cfm_memory.specs.declared.memory.Slot.{Slot}
 use Rattle.cfm_memory.specs.declared.place.Place.{Place}
-use Rattle.cfm_memory.specs.Instances.{Instance, Layout, bytes_at, has_length, holds_place, fitted, with_bytes}
+use Rattle.cfm_memory.specs.Instances.{Layout, bytes_at, has_length, holds_place, fitted, with_bytes}
 use Rattle.cfm_memory.specs.Searches.{index_in}
 use Rattle.cfm_memory.specs.Seen.{seen}
 use Rattle.cfm_memory.proofs.Changes.{index_under, bytes_here, with_bytes_is}

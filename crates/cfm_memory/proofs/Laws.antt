@@ -1,11 +1,11 @@
 -- What callers may take from the definitions: the bytes at an address after each change, and ranges of an instance.
-use Rattle.std.proofs.Common.{◌≡◌, ◌≢◌, ℕ, zero, suc, ◌+◌, ◌-◌, ◌<◌, ◌≤◌, ◌==◌, ◌⊎◌, Bool, true, false, cond, List, [], ◌∷◌, ◌++◌, Option, Some, None, length, take, drop, refl, sym, ap, subst, inl, inr, arith, ◌∙◌}
+use Rattle.std.proofs.Common.{◌≡◌, ◌≢◌, ℕ, suc, ◌+◌, ◌-◌, ◌<◌, ◌≤◌, ◌==◌, cond, List, [], ◌∷◌, Option, Some, None, length, take, drop, refl, sym, ap, subst, inl, inr, arith, ◌∙◌}
 use Rattle.std.specs.Option.{option_or}
 use Rattle.std.proofs.Math.Seq.{take-append_seam}
 use Rattle.std.proofs.lemmas.Bool.Decides.{eqb_tells, leb_tells}
 use Rattle.std.proofs.lemmas.Bool.{cases_lt}
 use Rattle.cfm_memory.specs.Instances.{Instance, bytes_at, with_instance, without, fitted, with_bytes, range_in, range_at}
-use Rattle.cfm_memory.specs.Placement.{taken, end_of, IsFree, IsLaidOut}
+use Rattle.cfm_memory.specs.Placement.{end_of, IsFree, IsLaidOut}
 use Rattle.cfm_memory.proofs.Placing.{some_taken, within_taken}
 
 -- where something is free, no instance begins

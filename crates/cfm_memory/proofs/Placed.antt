@@ -1,6 +1,6 @@
 -- The instances stay laid out with a new one at an address that has room.
-use Rattle.std.proofs.Common.{◌≡◌, ℕ, ◌+◌, ◌≤◌, List, map, length, replicate, refl, subst, sym, ap, ◌∙◌, arith}
-use Rattle.std.proofs.lemmas.List.{length-replicate, length-map}
+use Rattle.std.proofs.Common.{◌≡◌, ℕ, ◌+◌, ◌≤◌, List, map, length, subst, sym, ◌∙◌, arith}
+use Rattle.std.proofs.lemmas.List.{length-map}
 use Rattle.std.specs.List.{insert}
 use Rattle.cfm_memory.specs.declared.memory.Slot.{Slot}
 use Rattle.cfm_memory.specs.Instances.{Instance, Layout, with_instance}

@@ -1,5 +1,5 @@
 -- What the searches through the instances answer, each over a list.
-use Rattle.std.specs.Prelude.{◌≡◌, ℕ, ◌+◌, ◌==◌, ◌%◌, ◌≤◌, List, [], ◌∷◌, zero, suc, nat_lt, if◌then◌else◌}
+use Rattle.std.specs.Prelude.{◌≡◌, ℕ, ◌+◌, ◌==◌, ◌%◌, ◌≤◌, List, [], ◌∷◌, suc, nat_lt, if◌then◌else◌}
 use Rattle.cfm_memory.specs.Instances.{Instance}
 use Rattle.cfm_memory.specs.Placement.{IsFree}
 

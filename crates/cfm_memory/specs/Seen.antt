@@ -1,5 +1,5 @@
 -- The instances as the code keeps them, seen without their place in the machine's memory.
-use Rattle.std.specs.Prelude.{ℕ, List, map}
+use Rattle.std.specs.Prelude.{map}
 use Rattle.cfm_memory.specs.declared.memory.Slot.{Slot}
 use Rattle.cfm_memory.specs.declared.memory.Memory.TheInside.{Inside}
 use Rattle.cfm_memory.specs.Instances.{Instance, Layout}

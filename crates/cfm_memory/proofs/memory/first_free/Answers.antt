@@ -1,5 +1,5 @@
 -- The search goes on behind an instance that is in the way, and ends before one that isn't.
-use Rattle.std.proofs.Common.{◌≡◌, ℕ, ◌+◌, ◌%◌, ◌<◌, ◌≤◌, ◌^◌, max, List, [], ◌∷◌, length, drop, drop-cons, get_or, map, refl, subst, sym, inl, inr, add-one, arith}
+use Rattle.std.proofs.Common.{◌≡◌, ℕ, ◌+◌, ◌%◌, ◌<◌, ◌≤◌, ◌^◌, max, List, ◌∷◌, length, drop, drop-cons, get_or, map, refl, subst, inl, inr, add-one, arith}
 use Rattle.std.proofs.lemmas.Bool.{cases_lt}
 use Rattle.cfm_memory.specs.declared.memory.Slot.{Slot}
 use Rattle.cfm_memory.specs.Seen.{seen}

@@ -1,13 +1,11 @@
 -- Without that slot the instances are those without the one at the address.
-use Rattle.std.proofs.Common.{◌≡◌, ℕ, ◌<◌, List, length, map, refl, subst, sym, ap, ◌∙◌, arith}
-use Rattle.std.proofs.lemmas.List.{length-map}
+use Rattle.std.proofs.Common.{◌≡◌, ℕ, List, length, map, refl, sym, ap, ◌∙◌, arith}
 use Rattle.std.specs.List.{remove}
 use Rattle.cfm_memory.specs.declared.memory.Slot.{Slot}
-use Rattle.cfm_memory.specs.Instances.{Instance, without, with_instances}
-use Rattle.cfm_memory.specs.Placement.{IsLaidOut}
+use Rattle.cfm_memory.specs.Instances.{without}
 use Rattle.cfm_memory.specs.Searches.{index_in}
 use Rattle.cfm_memory.specs.Seen.{seen}
-use Rattle.cfm_memory.proofs.Changes.{index_under, without_is, laid_out_without, map-remove}
+use Rattle.cfm_memory.proofs.Changes.{without_is, laid_out_without, map-remove}
 use Rattle.cfm_memory.proofs.Held.{held_under}
 use Rattle.cfm_memory.proofs.memory.Memory.give_back.Goals as goal
 
