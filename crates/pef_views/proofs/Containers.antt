@@ -105,12 +105,16 @@ section_header_is c i ok under =
     let here = unrefused c.bytes c.header i (accepted c ok).sections under in
     (here.header, here.at)
 
--- .. and so is the section
-pub section_there : (c : Contained) (i : ℕ) → IsContainer c → i < c.header.section_count → (s : Section) × (section_of c i ≡ Some s)
+-- a section is its header and its raw bytes
+pub section_of-at : (c : Contained) (i : ℕ) (s : SectionHeader) → i < c.header.section_count → section_at c.bytes i ≡ Some s → section_of c i ≡ Some (section_in c.bytes s)
 unfolding section_of
+section_of-at c i s under there = rw (lt-ltb i c.header.section_count under, there) refl
+
+-- each section below the count is there
+pub section_there : (c : Contained) (i : ℕ) → IsContainer c → i < c.header.section_count → (s : Section) × (section_of c i ≡ Some s)
 section_there c i ok under =
     let here = section_header_is c i ok under in
-    (section_in c.bytes here.0, rw (lt-ltb i c.header.section_count under, here.1) refl)
+    (section_in c.bytes here.0, section_of-at c i here.0 under here.1)
 
 -- what is known of section i of a container
 pub record IsSection (c : Contained) (i : ℕ) (s : Section) : Type 0 where
@@ -134,6 +138,7 @@ section_if c i s true (Some h) under there is ok =
       instantiated = instantiable c i h ok below there;
     })
 
+-- each section of a container is such a one
 pub section_is : (c : Contained) (i : ℕ) (s : Section) → IsContainer c → section_of c i ≡ Some s → IsSection c i s
 unfolding section_of
 section_is c i s ok is = section_if c i s (nat_lt i c.header.section_count) (section_at c.bytes i) refl refl is ok

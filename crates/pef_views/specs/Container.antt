@@ -51,16 +51,16 @@ judged bytes h = unless (first_met (header_tests h (length bytes)))
 unfoldable pub container_of : List ℕ → Result Contained ViewFault
 container_of bytes = option_map_or (judged bytes) (header_of bytes) (Err TooShort)
 
--- what it says that bytes are the container that they consist of: no test is met
+-- what its own bytes are read as
+abbrev pub IsContainer : Contained → Type 0
+IsContainer c = container_of c.bytes ≡ Ok c
+
+-- `IsContainer` in other words: the parts are there and no test is met
 pub record IsAccepted (c : Contained) : Type 0 where
   pub header : header_of c.bytes ≡ Some c.header
   pub tests : first_met (header_tests c.header (length c.bytes)) ≡ None
   pub sections : first_among (section_refusal c.bytes c.header) 0 c.header.section_count ≡ None
   pub loader : loader_of c.bytes c.header ≡ Some c.loader
-
--- what `container_of` gives for its own bytes
-abbrev pub IsContainer : Contained → Type 0
-IsContainer c = container_of c.bytes ≡ Ok c
 
 -- a section: its header and its raw bytes
 pub record Section : Type 0 where

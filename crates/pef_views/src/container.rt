@@ -65,7 +65,8 @@ impl<'a> Container<'a> {
         ensures value { option_map seen result ≡ section_of (contained self.now) i }
         ensures there { IsSome result ↔ (i < (contained self.now).header.section_count) }
         ensures raw { IfSome result (λ s. length s.raw.now ≡ s.packed_size) }
-        ensures instantiated { i < (contained self.now).header.instantiated_section_count → IfSome result (λ s. IsInstantiable (seen s)) }
+        ensures instantiated { i < (contained self.now).header.instantiated_section_count
+            → IfSome result (λ s. IsInstantiable (seen s)) }
     {
         if i >= usize::from(self.header.section_count) {
             return None;
@@ -107,7 +108,8 @@ impl<'a> Container<'a> {
 
 /// The first refusal of a section, section by section.
 fn test_sections(cut: Cut<'_>, header: Header) -> Result<(), ViewFault>
-    ensures { result_err result ≡ first_among (section_refusal cut.entry.bytes.now header) 0 header.section_count }
+    ensures { result_err result
+        ≡ first_among (section_refusal cut.entry.bytes.now header) 0 header.section_count }
 {
     for i in 0..usize::from(header.section_count) {
         test_section_at(cut, header, i)?;
