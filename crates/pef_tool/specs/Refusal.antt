@@ -1,17 +1,34 @@
 -- The line that ends a refused run.
 use Rattle.std.specs.Prelude.{ℕ, List, [], ◌∷◌, ◌++◌, codes, decimal}
+use Rattle.pef_script.specs.Faults as script
+use Rattle.pef_script.specs.declared.fault.LineFault.{LineFault}
+use Rattle.pef_script.specs.declared.fault.LineFault.TheVariants.{BadLine, BadNumber, UnknownName, RepeatedName, OutOfOrder, Overlap, OutsideSection, TooMany, BadKind}
 use Rattle.pef_tool.specs.declared.refusal.Refusal.{Refusal}
-use Rattle.pef_tool.specs.declared.refusal.Refusal.TheVariants.{NoRoom, InputUnreadable, InputTooLong, OutOfMemory}
+use Rattle.pef_tool.specs.declared.refusal.Refusal.TheVariants.{Script, NoRoom, InputUnreadable, InputTooLong, OutOfMemory}
 
 -- the numbers of the refusals
 abbrev pub number_of : Refusal → ℕ
+number_of (Script fault line) = script.number_of fault
 number_of NoRoom = 67
 number_of InputUnreadable = 73
 number_of InputTooLong = 74
 number_of OutOfMemory = 99
 
--- their names
+-- the names of a line's faults
+abbrev pub line_fault_name : LineFault → List ℕ
+line_fault_name BadLine = codes "BadLine"
+line_fault_name BadNumber = codes "BadNumber"
+line_fault_name UnknownName = codes "UnknownName"
+line_fault_name RepeatedName = codes "RepeatedName"
+line_fault_name OutOfOrder = codes "OutOfOrder"
+line_fault_name Overlap = codes "Overlap"
+line_fault_name OutsideSection = codes "OutsideSection"
+line_fault_name TooMany = codes "TooMany"
+line_fault_name BadKind = codes "BadKind"
+
+-- the names of the refusals
 abbrev pub name_of : Refusal → List ℕ
+name_of (Script fault line) = line_fault_name fault
 name_of NoRoom = codes "NoRoom"
 name_of InputUnreadable = codes "InputUnreadable"
 name_of InputTooLong = codes "InputTooLong"
@@ -19,6 +36,7 @@ name_of OutOfMemory = codes "OutOfMemory"
 
 -- what else the line says
 abbrev pub place_of : Refusal → List ℕ
+place_of (Script fault line) = codes " line " ++ decimal line
 place_of NoRoom = codes " in it"
 place_of InputUnreadable = []
 place_of InputTooLong = []

@@ -1,11 +1,15 @@
-ghost use Rattle.std.specs.Prelude.{◌≡◌, ◌≤◌, length};
-ghost use Rattle.pef_tool.specs.Refusal.{name_of, number_of, place_of, refusal_text};
+ghost use Rattle.std.specs.Prelude.{◌≡◌, ◌≤◌, ◌+◌, ◌++◌, length};
+ghost use Rattle.arrayvec.specs.ArrayVec.{array_vec_len};
+ghost use Rattle.pef_tool.specs.Refusal.{line_fault_name, name_of, number_of, place_of, refusal_text};
 
 use crate::line::{Line, push_number, push_text};
+use pef_script::LineFault;
 
 /// Why a run is refused.
 #[derive(Clone, Copy, Debug, PartialEq, Eq)]
 pub enum Refusal {
+    /// A line of the script is refused; lines count from 1.
+    Script { fault: LineFault, line: usize },
     /// No address has room for a section of the fragment `it`.
     NoRoom,
     /// The input failed.
@@ -22,6 +26,7 @@ impl Refusal {
         ensures { result ≡ number_of self.now }
     {
         match self {
+            Refusal::Script { fault, .. } => fault.number(),
             Refusal::NoRoom => 67,
             Refusal::InputUnreadable => 73,
             Refusal::InputTooLong => 74,
@@ -35,6 +40,7 @@ impl Refusal {
         ensures short { length result.now ≤ 16 }
     {
         match self {
+            Refusal::Script { fault, .. } => line_fault_name(*fault),
             Refusal::NoRoom => b"NoRoom",
             Refusal::InputUnreadable => b"InputUnreadable",
             Refusal::InputTooLong => b"InputTooLong",
@@ -42,14 +48,19 @@ impl Refusal {
         }
     }
 
-    /// What the line says behind the name.
-    fn place(&self) -> &'static [u8]
-        ensures place { result.now ≡ place_of self.now }
-        ensures short { length result.now ≤ 6 }
+    /// Appends what the line says behind the name.
+    fn push_place(&self, line: &mut Line)
+        requires { array_vec_len line.old ≤ 60 }
+        ensures text { line.new.items ≡ line.old.items ++ place_of self.now }
+        ensures len { array_vec_len line.new ≤ array_vec_len line.old + 26 }
     {
         match self {
-            Refusal::NoRoom => b" in it",
-            _ => b"",
+            Refusal::Script { line: number, .. } => {
+                push_text(line, b" line ");
+                push_number(line, *number as u64);
+            }
+            Refusal::NoRoom => push_text(line, b" in it"),
+            Refusal::InputUnreadable | Refusal::InputTooLong | Refusal::OutOfMemory => {}
         }
     }
 
@@ -62,8 +73,26 @@ impl Refusal {
         push_number(&mut line, u64::from(self.number()));
         push_text(&mut line, b" ");
         push_text(&mut line, self.name());
-        push_text(&mut line, self.place());
+        self.push_place(&mut line);
         push_text(&mut line, b"\n");
         line
+    }
+}
+
+/// The name of a line's fault.
+fn line_fault_name(fault: LineFault) -> &'static [u8]
+    ensures name { result.now ≡ line_fault_name fault }
+    ensures short { length result.now ≤ 16 }
+{
+    match fault {
+        LineFault::BadLine => b"BadLine",
+        LineFault::BadNumber => b"BadNumber",
+        LineFault::UnknownName => b"UnknownName",
+        LineFault::RepeatedName => b"RepeatedName",
+        LineFault::OutOfOrder => b"OutOfOrder",
+        LineFault::Overlap => b"Overlap",
+        LineFault::OutsideSection => b"OutsideSection",
+        LineFault::TooMany => b"TooMany",
+        LineFault::BadKind => b"BadKind",
     }
 }
