@@ -1,6 +1,6 @@
 -- How what was sent adds up.
-use Rattle.std.proofs.Common.{◌≡◌, ℕ, ◌≤◌, ◌<◌, ◌+◌, ◌-◌, ◌^◌, ◌⊎◌, List, [], ◌++◌, Option, None, Some, Result, Ok, Err, IsErrAnd, length, take, drop, refl, sym, ap, ◌∙◌, subst, inl, inr, append_assoc, arith}
-use Rattle.std.proofs.Math.Seq.{take-add}
+use Rattle.std.proofs.Common.{◌≡◌, ℕ, ◌≤◌, ◌<◌, ◌+◌, ◌-◌, ◌^◌, ◌⊎◌, List, [], ◌++◌, Option, None, Some, Result, Ok, Err, IsErrAnd, OnOk, length, take, drop, refl, sym, ap, ◌∙◌, subst, inl, inr, append_assoc, arith}
+use Rattle.std.proofs.Math.Seq.{take-append_seam}
 use Rattle.std.proofs.lemmas.List.{append-nil}
 use Rattle.std.proofs.lemmas.Result.{err_from_is_err_and}
 use Rattle.pef_tool.specs.Ports.{Grows, Rose}
@@ -65,3 +65,17 @@ Sends-short {A} {E} Q r a b m n p q t err short =
 pub Sends-then : {A E : Type 0} (r : Result A E) (a b c : Option (List ℕ)) (m n k : ℕ) (p l q t u : List ℕ) → Prints a b p l t → m ≤ n → Sends r b c n k l q u → Sends r a c m k p q (t ++ u)
 Sends-then (Ok x) a b c m n k p l q t u first low second = (Prints-then a b c p l q t u first second.0, omega arith)
 Sends-then (Err e) a b c m n k p l q t u first low second = StopsShort-then a b c m n k p l t u first low second
+
+-- what went out of a text that began a page is a front of it
+pub StopsShort-front : (a b : Option (List ℕ)) (m n : ℕ) (t : List ℕ) → StopsShort a b m n [] t → (k : ℕ) × Grows a b (take k t)
+StopsShort-front a b m n t short =
+    let sent = short.0.1.0 in
+    let P : List ℕ → Type 0 = λ (x : List ℕ). Grows a b x in
+    (length sent, subst P (sym (ap (take (length sent)) (sym short.0.1.2) ∙ take-append_seam sent short.0.0)) short.0.1.1)
+
+-- where a text that was sent leaves nothing in the page
+pub Sends-empty : {A E : Type 0} (r : Result A E) (a b : Option (List ℕ)) (m n : ℕ) (p q t : List ℕ) → OnOk r (q ≡ []) → Sends r a b m n p q t → Sends r a b m n p [] t
+Sends-empty (Ok x) a b m n p q t empty sends =
+    let P : List ℕ → Type 0 = λ (page : List ℕ). Prints a b p page t in
+    (subst P empty sends.0, sends.1)
+Sends-empty (Err e) a b m n p q t empty sends = sends

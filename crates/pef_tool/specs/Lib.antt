@@ -3,6 +3,7 @@ pub mod Described
 pub mod Input
 pub mod Ports
 pub mod Refusal
+pub mod Reply
 pub mod Sent
 pub mod Shown
 pub mod Text

@@ -8,6 +8,7 @@ mod line;
 mod page;
 mod ports;
 mod refusal;
+mod reply;
 mod shown;
 
 pub use ports::{FileFault, Files, Sink, Source, StreamFault};

@@ -8,8 +8,31 @@ use crate::page::{Page, send};
 use crate::ports::{Sink, StreamFault};
 use cfm_memory::{Memory, Place};
 
+/// The memory of a prepared fragment, and where its sections were placed, in order.
+#[derive(Drop)]
+pub struct Prepared {
+    pub memory: Memory,
+    pub places: Vec<Place>,
+    ghost held: { All (IsHeld memory) places.items },
+}
+
+impl Prepared {
+    ghost use Rattle.std.specs.Prelude.{codes};
+    ghost use Rattle.pef_tool.specs.Reply.{sections_of};
+    ghost use Rattle.pef_tool.specs.Sent.{Sends};
+    ghost use Rattle.pef_tool.specs.Shown.{fragment_text};
+
+    /// Prints the fragment `it`: its name, then its sections.
+    pub fn print<W: Sink>(&self, out: &mut W, page: &mut Page) -> Result<(), StreamFault>
+        ensures { Sends result (W.written out.old) (W.written out.new) (W.failures out.old) (W.failures out.new) page.old.items page.new.items (fragment_text (codes "it") (sections_of self.now)) }
+    {
+        send(out, page, b"fragment it\n")?;
+        print_sections(out, page, &self.memory, self.places.as_slice())
+    }
+}
+
 /// Prints the sections at some places, numbered from 0.
-pub fn print_sections<W: Sink>(
+fn print_sections<W: Sink>(
     out: &mut W,
     page: &mut Page,
     memory: &Memory,

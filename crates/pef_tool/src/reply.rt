@@ -1,0 +1,62 @@
+ghost use Rattle.std.specs.Prelude.{◌≡◌, OnOk, []};
+ghost use Rattle.pef_tool.specs.Reply.{Delivers, answer_of};
+ghost use Rattle.pef_tool.specs.Sent.{Sends};
+
+use crate::page::{Page, flush, send};
+use crate::ports::{Sink, StreamFault};
+use crate::refusal::Refusal;
+use crate::shown::Prepared;
+
+/// What a run answers.
+#[derive(Drop)]
+pub enum Reply {
+    /// The words are no line of this program.
+    Usage,
+    /// The run is refused.
+    Refused(Refusal),
+    /// The memory of the fragment `it`.
+    Shown(Prepared),
+}
+
+impl Reply {
+    /// The status that the run ends with: 0 done, 1 refused, 2 usage.
+    pub fn status(&self) -> u8
+        ensures { result ≡ (answer_of self.now).status }
+    {
+        match self {
+            Reply::Usage => 2,
+            Reply::Refused(_) => 1,
+            Reply::Shown(_) => 0,
+        }
+    }
+
+    /// Prints the reply through the page.
+    fn print<W: Sink>(&self, out: &mut W, page: &mut Page) -> Result<(), StreamFault>
+        ensures { Sends result (W.written out.old) (W.written out.new) (W.failures out.old) (W.failures out.new) page.old.items page.new.items (answer_of self.now).text }
+    {
+        match self {
+            Reply::Usage => send(out, page, b"usage\n"),
+            Reply::Refused(refusal) => send(out, page, refusal.line().as_slice()),
+            Reply::Shown(prepared) => prepared.print(out, page),
+        }
+    }
+
+    /// Sends the reply, and says the status that the run ends with.
+    pub fn deliver<W: Sink>(&self, out: &mut W) -> u8
+        ensures { Delivers (W.written out.old) (W.written out.new) (W.failures out.old) (W.failures out.new) (answer_of self.now) result }
+    {
+        match self.print_whole(out) {
+            Ok(()) => self.status(),
+            Err(StreamFault) => 1,
+        }
+    }
+
+    /// Prints the reply, and leaves nothing in a page.
+    fn print_whole<W: Sink>(&self, out: &mut W) -> Result<(), StreamFault>
+        ensures { Sends result (W.written out.old) (W.written out.new) (W.failures out.old) (W.failures out.new) [] [] (answer_of self.now).text }
+    {
+        let mut page = Page::new();
+        self.print(out, &mut page)?;
+        flush(out, &mut page)
+    }
+}
