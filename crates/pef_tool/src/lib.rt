@@ -2,6 +2,7 @@
 #![tactic(auto)]
 
 mod command_line;
+mod commands;
 mod dump;
 mod input;
 mod line;
@@ -11,4 +12,5 @@ mod refusal;
 mod reply;
 mod shown;
 
+pub use commands::run;
 pub use ports::{FileFault, Files, Sink, Source, StreamFault};
