@@ -1,6 +1,9 @@
 //! Files and streams of the system, behind the ports of the tool. They tell no bytes, and count their
 //! failures.
 
+ghost use Rattle.std.specs.Prelude.{◌≤◌, IfErr};
+ghost use Rattle.pef_tool.specs.Ports.{MayFail};
+
 use pef_tool::{FileFault, Files, Sink, Source, StreamFault};
 use std::alloc::Global;
 use std::io::{self, ErrorKind, Read, Write};
@@ -89,7 +92,10 @@ impl<'a, R: rt::Files + AllocGlobal> DiskFiles<'a, R> {
     }
 
     /// What a call on a file answered, with a failure counted.
-    fn told<T: Drop>(&mut self, answer: io::Result<T>) -> Result<T, FileFault> {
+    fn told<T: Drop>(&mut self, answer: io::Result<T>) -> Result<T, FileFault>
+        ensures fails { IfErr result (λ fault. MayFail fault self.old.failures self.new.failures) }
+        ensures counted { self.old.failures ≤ self.new.failures }
+    {
         match answer {
             Ok(value) => Ok(value),
             Err(error) if error.kind() == ErrorKind::OutOfMemory => Err(FileFault::OutOfMemory),
@@ -97,7 +103,10 @@ impl<'a, R: rt::Files + AllocGlobal> DiskFiles<'a, R> {
         }
     }
 
-    fn failed(&mut self) -> FileFault {
+    fn failed(&mut self) -> FileFault
+        ensures fails { MayFail result self.old.failures self.new.failures }
+        ensures counted { self.old.failures ≤ self.new.failures }
+    {
         self.failures = self.failures.saturating_add(1);
         FileFault::Failed
     }
