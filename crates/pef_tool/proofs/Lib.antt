@@ -1,6 +1,7 @@
 pub mod DescribedLemmas
 pub mod InputLemmas
 pub mod LineLemmas
+pub mod PlacingLemmas
 pub mod SentLemmas
 pub mod ShownLemmas
 pub mod TextLemmas

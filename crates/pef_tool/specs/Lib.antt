@@ -1,6 +1,7 @@
 pub mod CommandLine
 pub mod Described
 pub mod Input
+pub mod Placing
 pub mod Ports
 pub mod Refusal
 pub mod Reply

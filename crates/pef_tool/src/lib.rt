@@ -8,6 +8,7 @@ mod input;
 mod line;
 mod page;
 mod ports;
+mod prepare;
 mod refusal;
 mod reply;
 mod shown;
