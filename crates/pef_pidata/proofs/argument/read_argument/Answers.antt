@@ -1,0 +1,27 @@
+-- A byte with its top bit set is passed over.
+use Rattle.std.proofs.Common.{◌≡◌, ◌≢◌, ℕ, suc, ◌+◌, ◌*◌, ◌%◌, ◌≤◌, List, ◌∷◌, drop, drop-cons, get_or, refl, sym, ap, ◌∙◌, inl, inr, add-one, arith}
+use Rattle.std.proofs.lemmas.Nat.{pow-add}
+use Rattle.std.proofs.lemmas.Bool.Decides.{eqb_tells, leb_tells}
+use Rattle.pef_pidata.specs.Reading.{argument_from}
+use Rattle.pef_pidata.proofs.argument.read_argument.Goals as goal
+
+passed : (i value b : ℕ) (rest : List ℕ) → 128 ≤ b → i ≢ 4 → argument_from i value (b ∷ rest) ≡ argument_from (i + 1) (value * 128 + b % 128) rest
+passed i value b rest more few =
+    elim (leb_tells (suc b) 128) [
+      | inl below ↦ absurd (omega (arith, below.1))
+      | inr above ↦ (elim (eqb_tells i 4) [
+        | inl last ↦ absurd (few last.1)
+        | inr other ↦ rw (above.0, other.0) refl
+      ])
+    ]
+
+pub loop-i-preserved : goal.loop-i-preserved
+loop-i-preserved c =
+    let places : 7 * (c.loop-i.i + 1) ≡ 7 * c.loop-i.i + 7 = omega arith in
+    let next : drop c.loop-i.i c.args.packed.now ≡ get_or c.args.packed.now c.loop-i.i 0 ∷ drop (c.loop-i.i + 1) c.args.packed.now = rw add-one (drop-cons c.args.packed.now c.loop-i.i 0 c.loop-i-test.true) in
+    let step = passed c.loop-i.i c.loop-i.value (get_or c.args.packed.now c.loop-i.i 0) (drop (c.loop-i.i + 1) c.args.packed.now) c.if-byte-lt-MORE.false c.if-i-eq-LAST.false in
+    record {
+      few = omega arith;
+      bits = rw (c.from.ensures, c.from-in-loop-i.ensures, places, pow-add 2 (7 * c.loop-i.i) 7) (omega arith);
+      rest = rw (c.from.ensures, c.from-in-loop-i.ensures) (sym (ap (argument_from c.loop-i.i c.loop-i.value) next ∙ step) ∙ c.loop-i.invariant.rest);
+    }

@@ -1,0 +1,4 @@
+pub mod Faults
+pub mod Pattern
+pub mod Reading
+pub mod Seen

@@ -1,0 +1,64 @@
+-- Pattern text: what packed bytes spell (Mac OS Runtime Architectures, "Pattern-Initialized Data").
+use Rattle.std.specs.Prelude.{ℕ, zero, suc, ◌+◌, ◌-◌, ◌*◌, ◌==◌, List, [], ◌++◌, Result, Ok, Err, if◌then◌else◌, nat_lt, length, take, drop, replicate}
+use Rattle.pef_words.specs.Refusals.{result_map}
+use Rattle.pef_pidata.specs.declared.fault.PackFault.{PackFault}
+use Rattle.pef_pidata.specs.declared.fault.PackFault.TheVariants.{Truncated, TooLong, TooShort}
+use Rattle.pef_pidata.specs.declared.instruction.Instruction.{Instruction}
+use Rattle.pef_pidata.specs.declared.instruction.Instruction.TheVariants.{Zeros, Block, Repeat, Weave, WeaveZeros}
+use Rattle.pef_pidata.specs.Reading.{Read, ◌>>=◌, next_instruction}
+
+-- a block some times
+abbrev pub repeated : ℕ → List ℕ → List ℕ
+repeated zero block = []
+repeated (suc n) block = block ++ repeated n block
+
+-- a common part before each of n parts of some size, and once more at the end
+abbrev pub woven : ℕ → ℕ → List ℕ → List ℕ → List ℕ
+woven zero size common parts = common
+woven (suc n) size common parts = common ++ (take size parts ++ woven n size common (drop size parts))
+
+-- how many bytes an instruction spells
+abbrev pub spelled : Instruction → ℕ
+spelled (Zeros count) = count
+spelled (Block count) = count
+spelled (Repeat count repeats) = count * (repeats + 1)
+spelled (Weave common custom parts) = common * (parts + 1) + custom * parts
+spelled (WeaveZeros common custom parts) = common * (parts + 1) + custom * parts
+
+-- how many packed bytes behind its arguments it copies
+abbrev pub copied : Instruction → ℕ
+copied (Zeros count) = 0
+copied (Block count) = count
+copied (Repeat count repeats) = count
+copied (Weave common custom parts) = common + custom * parts
+copied (WeaveZeros common custom parts) = custom * parts
+
+-- the bytes that it spells, from those that it copies
+abbrev pub output : Instruction → List ℕ → List ℕ
+output (Zeros count) bytes = replicate count 0
+output (Block count) bytes = bytes
+output (Repeat count repeats) bytes = repeated (repeats + 1) bytes
+output (Weave common custom parts) bytes = woven parts custom (take common bytes) (drop common bytes)
+output (WeaveZeros common custom parts) bytes = woven parts custom (replicate common 0) bytes
+
+-- an instruction that was read, where what it spells has room: its output and what follows the bytes that it copies
+unfoldable pub obeyed : ℕ → Instruction × List ℕ → Read (List ℕ)
+obeyed room (instruction, bytes) =
+    if nat_lt room (spelled instruction) then Err TooLong
+    else if nat_lt (length bytes) (copied instruction) then Err Truncated
+    else Ok (output instruction (take (copied instruction) bytes), drop (copied instruction) bytes)
+
+-- the output of the next instruction, and what follows it
+unfoldable pub next_output : ℕ → List ℕ → Read (List ℕ)
+next_output room packed = next_instruction packed >>= obeyed room
+
+-- what at most n instructions spell, until there is no room
+abbrev pub pattern : ℕ → List ℕ → ℕ → Result (List ℕ) PackFault
+pattern zero packed room = if room == 0 then Ok [] else Err TooShort
+pattern (suc n) packed room =
+    if room == 0 then Ok []
+    else (next_output room packed >>= (λ next. result_map (λ more. next.0 ++ more) (pattern n next.1 (room - length next.0))))
+
+-- what packed bytes spell at a length, or the first refusal; no instruction is shorter than a byte, so their number bounds the instructions
+unfoldable pub pattern_text : List ℕ → ℕ → Result (List ℕ) PackFault
+pattern_text packed room = pattern (length packed) packed room

@@ -1,0 +1,63 @@
+-- How an instruction of pattern-initialized data is read (Mac OS Runtime Architectures, "Pattern-Initialized Data"):
+-- its first byte has an opcode in the high three bits and a count in the low five, and arguments may follow.
+use Rattle.std.specs.Prelude.{ℕ, ◌+◌, ◌*◌, ◌/◌, ◌%◌, ◌^◌, ◌==◌, List, [], ◌∷◌, Result, Ok, Err, if◌then◌else◌, nat_lt}
+use Rattle.pef_pidata.specs.declared.fault.PackFault.{PackFault}
+use Rattle.pef_pidata.specs.declared.fault.PackFault.TheVariants.{Truncated, BadOpcode, CountTooLarge, TooShort}
+use Rattle.pef_pidata.specs.declared.instruction.Instruction.{Instruction}
+use Rattle.pef_pidata.specs.declared.instruction.Instruction.TheVariants.{Zeros, Block, Repeat, Weave, WeaveZeros}
+
+-- what was read, and the bytes behind it
+abbrev pub Read : Type 0 → Type 0
+Read A = Result (A × List ℕ) PackFault
+
+-- what follows a part that was read; its refusal ends the reading
+infixl 10 ◌>>=◌
+abbrev pub ◌>>=◌ : {A B : Type 0} → Result A PackFault → (A → Result B PackFault) → Result B PackFault
+(Ok x) >>= f = f x
+(Err fault) >>= f = Err fault
+
+-- an argument of which some bytes were read: seven bits a byte, the highest first, and the top bit is set in all but the last.
+-- A fifth byte is the last, and the value is below 2 ^ 32
+abbrev pub argument_from : ℕ → ℕ → List ℕ → Read ℕ
+argument_from read value [] = Err Truncated
+argument_from read value (b ∷ rest) =
+    if nat_lt b 128
+    then (if nat_lt (value * 128 + b % 128) (2 ^ 32) then Ok (value * 128 + b % 128, rest) else Err CountTooLarge)
+    else (if read == 4 then Err CountTooLarge else argument_from (read + 1) (value * 128 + b % 128) rest)
+
+unfoldable pub argument : List ℕ → Read ℕ
+argument bytes = argument_from 0 0 bytes
+
+-- the count of an instruction: that of its first byte, or an argument where that is 0
+unfoldable pub counted : ℕ → List ℕ → Read ℕ
+counted count bytes = if count == 0 then argument bytes else Ok (count, bytes)
+
+-- an instruction by its opcode, from its count on
+unfoldable pub by_opcode : ℕ → ℕ → List ℕ → Read Instruction
+by_opcode opcode low bytes =
+    if opcode == 0 then (do
+      count ← counted low bytes
+      Ok (Zeros count.0, count.1))
+    else if opcode == 1 then (do
+      count ← counted low bytes
+      Ok (Block count.0, count.1))
+    else if opcode == 2 then (do
+      count ← counted low bytes
+      repeats ← argument count.1
+      Ok (Repeat count.0 repeats.0, repeats.1))
+    else if opcode == 3 then (do
+      count ← counted low bytes
+      custom ← argument count.1
+      parts ← argument custom.1
+      Ok (Weave count.0 custom.0 parts.0, parts.1))
+    else if opcode == 4 then (do
+      count ← counted low bytes
+      custom ← argument count.1
+      parts ← argument custom.1
+      Ok (WeaveZeros count.0 custom.0 parts.0, parts.1))
+    else Err BadOpcode
+
+-- the next instruction
+unfoldable pub next_instruction : List ℕ → Read Instruction
+next_instruction [] = Err TooShort
+next_instruction (b ∷ rest) = by_opcode (b / 32) (b % 32) rest

@@ -1,0 +1,67 @@
+ghost use Rattle.std.specs.Prelude.{◌≡◌, ◌≤◌, ◌<◌, ◌^◌, length, IfOk, Ok, Err, nat_lt, if◌then◌else◌};
+ghost use Rattle.pef_words.specs.Refusals.{result_map};
+ghost use Rattle.pef_pidata.specs.Reading.{argument, counted};
+ghost use Rattle.pef_pidata.specs.Seen.{value_seen};
+
+use crate::fault::PackFault;
+
+/// The bit that is set in all bytes of an argument but the last, and the number of values below it.
+const MORE: u8 = 0x80;
+
+/// The most bytes that an argument has, less one.
+const LAST: usize = 4;
+
+/// An argument, and the bytes behind it.
+#[derive(Clone, Copy)]
+pub(crate) struct Argument<'a> {
+    pub value: u32,
+    pub rest: &'a [u8],
+}
+
+/// Reads an argument: seven bits a byte, the highest first.
+#[tactic(auto, unfolding(crate::specs::Reading::argument))]
+pub(crate) fn read_argument(packed: &[u8]) -> Result<Argument<'_>, PackFault>
+    ensures read { result_map value_seen result ≡ argument packed.now }
+    ensures shorter { IfOk result (λ a. length a.rest.now < length packed.now) }
+{
+    let mut value: u64 = 0;
+    for (i, byte) in packed.iter().enumerate() {
+        value = value * u64::from(MORE) + u64::from(byte % MORE);
+        if *byte < MORE {
+            return ended(value, &packed[i + 1..]);
+        }
+        if i == LAST {
+            return Err(PackFault::CountTooLarge);
+        }
+    }
+    Err(PackFault::Truncated)
+}
+
+/// An argument whose last byte was read, where its value fits 32 bits.
+fn ended(value: u64, rest: &[u8]) -> Result<Argument<'_>, PackFault>
+    ensures read { result_map value_seen result ≡ (if nat_lt value (2 ^ 32) then Ok (value, rest.now) else Err PackFault.CountTooLarge) }
+    ensures rest { IfOk result (λ a. a.rest.now ≡ rest.now) }
+{
+    if value > u64::from(u32::MAX) {
+        return Err(PackFault::CountTooLarge);
+    }
+    Ok(Argument {
+        value: value as u32,
+        rest,
+    })
+}
+
+/// Reads an instruction's count: that of its first byte, or an argument where that is 0.
+#[tactic(auto, unfolding(crate::specs::Reading::counted))]
+pub(crate) fn read_count(low: u8, packed: &[u8]) -> Result<Argument<'_>, PackFault>
+    ensures read { result_map value_seen result ≡ counted low packed.now }
+    ensures shorter { IfOk result (λ a. length a.rest.now ≤ length packed.now) }
+{
+    if low == 0 {
+        return read_argument(packed);
+    }
+    Ok(Argument {
+        value: u32::from(low),
+        rest: packed,
+    })
+}

@@ -1,0 +1,80 @@
+ghost use Rattle.std.specs.Prelude.{◌≡◌, ◌<◌, ◌≤◌, length, IfOk};
+ghost use Rattle.pef_words.specs.Refusals.{result_map};
+ghost use Rattle.pef_pidata.specs.Pattern.{copied, next_output, obeyed, pattern_text, spelled};
+ghost use Rattle.pef_pidata.specs.Seen.{instruction_seen, step_seen};
+
+use crate::fault::PackFault;
+use crate::instruction::{Decoded, Instruction, read_instruction};
+
+/// An instruction that has room for what it spells, the bytes that it copies, and those behind it.
+#[derive(Clone, Copy)]
+struct Step<'a> {
+    instruction: Instruction,
+    len: usize,
+    bytes: &'a [u8],
+    rest: &'a [u8],
+}
+
+/// Expands packed bytes until `out` is full.
+///
+/// What is left of the packed bytes is then ignored; where `out` is empty, all of them are. After a
+/// refusal `out` has any bytes.
+///
+/// # Errors
+///
+/// The first of these that an instruction meets, in this order: `TooShort` where no packed byte is
+/// left, `BadOpcode`, then `Truncated` or `CountTooLarge` at the first argument that has it, `TooLong`
+/// where it spells more bytes than are left of `out`, and `Truncated` where fewer bytes are left than
+/// it copies.
+pub fn expand(packed: &[u8], out: &mut [u8]) -> Result<(), PackFault>
+    ensures { result_map (λ _. out.new) result ≡ pattern_text packed.now (length out.old) }
+{
+    let mut rest = packed;
+    let mut at = 0;
+    while at < out.len() {
+        let step = next_step(rest, out.len() - at)?;
+        step.instruction
+            .write(step.bytes, &mut out[at..at + step.len]);
+        at += step.len;
+        rest = step.rest;
+    }
+    Ok(())
+}
+
+/// Reads the next instruction, to be written where `room` bytes are left.
+#[tactic(auto, unfolding(crate::specs::Pattern::next_output))]
+fn next_step(packed: &[u8], room: usize) -> Result<Step<'_>, PackFault>
+    ensures step { result_map step_seen result ≡ next_output room packed.now }
+    ensures target { IfOk result (λ s. (s.len ≡ spelled s.instruction) × (s.len ≤ room)) }
+    ensures bytes { IfOk result (λ s. length s.bytes.now ≡ copied s.instruction) }
+    ensures shorter { IfOk result (λ s. length s.rest.now < length packed.now) }
+{
+    let decoded = read_instruction(packed)?;
+    obey(decoded, room)
+}
+
+#[tactic(auto, unfolding(crate::specs::Pattern::obeyed))]
+fn obey(decoded: Decoded<'_>, room: usize) -> Result<Step<'_>, PackFault>
+    ensures step { result_map step_seen result ≡ obeyed room (instruction_seen decoded.entry) }
+    ensures target { IfOk result (λ s. (s.len ≡ spelled s.instruction) × (s.len ≤ room)) }
+    ensures bytes { IfOk result (λ s. length s.bytes.now ≡ copied s.instruction) }
+    ensures shorter { IfOk result (λ s. length s.rest.now ≤ length decoded.entry.rest.now) }
+{
+    let instruction = decoded.instruction;
+    let spelled = instruction.spelled();
+    if spelled > room as u128 {
+        return Err(PackFault::TooLong);
+    }
+    let copied = instruction.copied();
+    if copied > decoded.rest.len() as u64 {
+        return Err(PackFault::Truncated);
+    }
+    let (bytes, rest) = decoded.rest.split_at(copied as usize);
+    let len = spelled as usize;
+    Ok(Step {
+        instruction,
+        len,
+        bytes,
+        rest,
+    })
+}
