@@ -3,7 +3,9 @@ pub mod Described
 pub mod Input
 pub mod Placing
 pub mod Ports
+pub mod Prepared
 pub mod Refusal
+pub mod Relocating
 pub mod Reply
 pub mod Sent
 pub mod Shown

@@ -10,6 +10,7 @@ mod page;
 mod ports;
 mod prepare;
 mod refusal;
+mod relocation;
 mod reply;
 mod shown;
 

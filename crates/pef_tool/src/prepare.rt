@@ -1,9 +1,16 @@
-ghost use Rattle.std.specs.Prelude.{◌≡◌, IfOk, IfErr};
-ghost use Rattle.pef_views.specs.Views.{contained};
+ghost use Rattle.std.specs.Prelude.{◌≡◌, ◌≢◌, ◌<◌, ◌≤◌, ◌++◌, ℕ, Some, IfErr, IfOk, [], drop, length, replicate};
+ghost use Rattle.std.specs.Result.{result_err};
+ghost use Rattle.cfm_memory.specs.Instances.{bytes_at};
+ghost use Rattle.pef_loader.specs.Views.{loaded};
+ghost use Rattle.pef_views.specs.Views.{contained, seen};
+ghost use Rattle.pef_tool.specs.Prepared.{IsPlain, image_in, section_done};
 ghost use Rattle.pef_tool.specs.Placing.{ArePlaced, LacksRoom, extent_of};
 
+use crate::relocation::relocate;
 use cfm_memory::{Memory, MemoryFault, Place};
-use pef_views::Container;
+use pef_loader::Loader;
+use pef_reloc::RelocFault;
+use pef_views::{Container, SectionView};
 use std::alloc::Global;
 
 /// Places the instantiated sections of a container, each in turn at the lowest address with room.
@@ -26,4 +33,48 @@ fn place_sections(
         places.push(place)?;
     }
     Ok(places)
+}
+
+/// Puts the image of a section at the front of its memory.
+fn fill(memory: &mut [u8], image: &[u8])
+    requires { length image.now ≤ length memory.old }
+    ensures { memory.new ≡ image.now ++ drop (length image.now) memory.old }
+{
+    memory[..image.len()].copy_from_slice(image);
+}
+
+/// Fills and relocates the memory of section `k`, which is zeros.
+fn prepare_section(
+    memory: &mut Memory,
+    place: Place,
+    k: u16,
+    container: &Container<'_>,
+    loader: &Loader<'_>,
+    sections: &[u32],
+) -> Result<(), RelocFault>
+    requires there { k < (contained container.now).header.instantiated_section_count }
+    requires size { place.size ≡ (extent_of (contained container.now) k).size }
+    requires zeros { bytes_at memory.old.instances place.address ≡ Some (replicate place.size 0) }
+    requires plain { IsPlain (contained container.now) k }
+    ensures fault { result_err result ≡ (section_done (contained container.now) (loaded loader.now) (record { sections = sections.now; imports = [] }) k).fault }
+    ensures here { bytes_at memory.new.instances place.address ≡ Some (section_done (contained container.now) (loaded loader.now) (record { sections = sections.now; imports = [] }) k).memory }
+    ensures len { length (section_done (contained container.now) (loaded loader.now) (record { sections = sections.now; imports = [] }) k).memory ≡ place.size }
+    ensures others { (address : ℕ) → address ≢ place.address → bytes_at memory.new.instances address ≡ bytes_at memory.old.instances address }
+{
+    let section = match container.section(usize::from(k)) {
+        Some(section) => section,
+        None => unreachable!(),
+    };
+    let part = memory.part_mut(place);
+    fill(part, image(&section));
+    relocate(part, u32::from(k), loader, sections, &[])
+}
+
+/// The image of a section without pattern-initialized data.
+fn image<'a>(section: &SectionView<'a>) -> &'a [u8]
+    requires { section.now.unpacked_size ≤ length section.now.raw.now }
+    ensures { result.now ≡ image_in (seen section.now) }
+{
+    let (image, _) = section.raw.split_at(section.unpacked_size as usize);
+    image
 }

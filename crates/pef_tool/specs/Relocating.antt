@@ -1,0 +1,26 @@
+-- What the relocation headers of a loader section make of a section's memory.
+use Rattle.std.specs.Prelude.{ℕ, zero, suc, ◌+◌, ◌==◌, List, Option, None, Some, if◌then◌else◌}
+use Rattle.pef_reloc.specs.Applied.{Addresses, Done, relocated, unless_refused}
+use Rattle.pef_reloc.specs.Unrolled.{program_fault}
+
+-- nothing is done
+abbrev pub untouched : List ℕ → Done
+untouched memory = record { memory = memory; fault = None }
+
+-- memory relocated by a program, if the bytes are one
+abbrev pub program_done : Addresses → List ℕ → List ℕ → Done
+program_done a bytes memory = unless_refused (program_fault bytes) memory (relocated bytes a memory)
+
+-- memory of section k relocated by a relocation header, if the header is for it
+abbrev pub header_done : Addresses → ℕ → Option (ℕ × List ℕ) → List ℕ → Done
+header_done a k None memory = untouched memory
+header_done a k (Some header) memory = if header.0 == k then program_done a header.1 memory else untouched memory
+
+-- what is done next, unless something was refused
+abbrev pub done_then : Done → (List ℕ → Done) → Done
+done_then done next = unless_refused done.fault done.memory (next done.memory)
+
+-- memory of section k relocated by the n headers from a number on, in order
+unfoldable pub relocated_by : Addresses → ℕ → (ℕ → Option (ℕ × List ℕ)) → ℕ → ℕ → List ℕ → Done
+relocated_by a k header from zero memory = untouched memory
+relocated_by a k header from (suc n) memory = done_then (header_done a k (header from) memory) (relocated_by a k header (from + 1) n)
