@@ -1,26 +1,21 @@
 -- What a container's sections become in memory.
-use Rattle.std.specs.Prelude.{◌≡◌, ◌≢◌, ℕ, ◌<◌, List, [], Option, None, Some, MatchOption, ⊤, length, map, take, slice_index_or}
-use Rattle.std.specs.Option.{option_map_or}
+use Rattle.std.specs.Prelude.{◌≡◌, ◌≢◌, ℕ, ◌<◌, ◌≤◌, List, [], Some, length, map, take, slice_index_or}
 use Rattle.cfm_memory.specs.Instances.{Layout, bytes_at}
 use Rattle.cfm_memory.specs.declared.place.Place.{Place}
 use Rattle.pef_loader.specs.Loader.{Loaded, reloc_of}
 use Rattle.pef_reloc.specs.Applied.{Addresses, Done}
-use Rattle.pef_views.specs.Container.{Contained, Section, section_of}
+use Rattle.pef_views.specs.Container.{Section}
 use Rattle.pef_tool.specs.Described.{filled}
-use Rattle.pef_tool.specs.Placing.{extent_of}
 use Rattle.pef_tool.specs.Relocating.{relocated_by}
 
 -- the image of a section without pattern-initialized data: the first unpackedSize raw bytes
 abbrev pub image_in : Section → List ℕ
 image_in s = take s.header.unpacked_size s.raw
 
--- the image of section k
-abbrev pub image_of : Contained → ℕ → List ℕ
-image_of c k = option_map_or image_in (section_of c k) []
-
--- section k has no pattern-initialized data
-abbrev pub IsPlain : Contained → ℕ → Type 0
-IsPlain c k = MatchOption (section_of c k) ⊤ (λ s. s.header.section_kind ≢ 2)
+-- a section whose image is at the front of its raw bytes, and fits its memory
+pub record HasImage (s : Section) : Type 0 where
+  pub whole : s.header.unpacked_size ≤ length s.raw
+  pub fits : s.header.unpacked_size ≤ s.header.total_size
 
 -- place k
 abbrev pub place_at : List Place → ℕ → Place
@@ -30,9 +25,10 @@ place_at places k = slice_index_or places k (record { address = 0; size = 0 })
 abbrev pub addresses_of : List Place → Addresses
 addresses_of places = record { sections = map (λ p. p.address) places; imports = [] }
 
--- the memory of section k: its image, zeros up to its length, and then what its relocation headers do
-abbrev pub section_done : Contained → Loaded → Addresses → ℕ → Done
-section_done c l a k = relocated_by a k (reloc_of l) 0 l.header.reloc_count (filled (image_of c k) (extent_of c k).size)
+-- the memory of a section, number k: its image, zeros up to its length, and then what its relocation
+-- headers do
+unfoldable pub section_done : Section → ℕ → Loaded → Addresses → Done
+section_done s k l a = relocated_by a k (reloc_of l) 0 l.header.reloc_count (filled (image_in s) s.header.total_size)
 
 -- two places have two addresses
 abbrev pub AreApart : List Place → Type 0

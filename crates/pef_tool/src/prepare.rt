@@ -3,7 +3,7 @@ ghost use Rattle.std.specs.Result.{result_err};
 ghost use Rattle.cfm_memory.specs.Instances.{bytes_at};
 ghost use Rattle.pef_loader.specs.Views.{loaded};
 ghost use Rattle.pef_views.specs.Views.{contained, seen};
-ghost use Rattle.pef_tool.specs.Prepared.{IsPlain, image_in, section_done};
+ghost use Rattle.pef_tool.specs.Prepared.{HasImage, image_in, section_done};
 ghost use Rattle.pef_tool.specs.Placing.{ArePlaced, LacksRoom, extent_of};
 
 use crate::relocation::relocate;
@@ -43,36 +43,32 @@ fn fill(memory: &mut [u8], image: &[u8])
     memory[..image.len()].copy_from_slice(image);
 }
 
-/// Fills and relocates the memory of section `k`, which is zeros.
+/// Fills and relocates the memory of a section, number `k`, which is zeros.
 fn prepare_section(
     memory: &mut Memory,
     place: Place,
-    k: u16,
-    container: &Container<'_>,
+    section: &SectionView<'_>,
+    k: u32,
     loader: &Loader<'_>,
     sections: &[u32],
 ) -> Result<(), RelocFault>
-    requires there { k < (contained container.now).header.instantiated_section_count }
-    requires size { place.size ≡ (extent_of (contained container.now) k).size }
+    requires image { HasImage (seen section.now) }
+    requires size { place.size ≡ section.now.total_size }
     requires zeros { bytes_at memory.old.instances place.address ≡ Some (replicate place.size 0) }
-    requires plain { IsPlain (contained container.now) k }
-    ensures fault { result_err result ≡ (section_done (contained container.now) (loaded loader.now) (record { sections = sections.now; imports = [] }) k).fault }
-    ensures here { bytes_at memory.new.instances place.address ≡ Some (section_done (contained container.now) (loaded loader.now) (record { sections = sections.now; imports = [] }) k).memory }
-    ensures len { length (section_done (contained container.now) (loaded loader.now) (record { sections = sections.now; imports = [] }) k).memory ≡ place.size }
+    ensures here { bytes_at memory.new.instances place.address ≡ Some (section_done (seen section.now) k (loaded loader.now) (record { sections = sections.now; imports = [] })).memory }
+    ensures fault { result_err result ≡ (section_done (seen section.now) k (loaded loader.now) (record { sections = sections.now; imports = [] })).fault }
+    ensures len { length (section_done (seen section.now) k (loaded loader.now) (record { sections = sections.now; imports = [] })).memory ≡ place.size }
     ensures others { (address : ℕ) → address ≢ place.address → bytes_at memory.new.instances address ≡ bytes_at memory.old.instances address }
+    ensures limit { memory.new.limit ≡ memory.old.limit }
 {
-    let section = match container.section(usize::from(k)) {
-        Some(section) => section,
-        None => unreachable!(),
-    };
     let part = memory.part_mut(place);
-    fill(part, image(&section));
-    relocate(part, u32::from(k), loader, sections, &[])
+    fill(part, image(section));
+    relocate(part, k, loader, sections, &[])
 }
 
 /// The image of a section without pattern-initialized data.
 fn image<'a>(section: &SectionView<'a>) -> &'a [u8]
-    requires { section.now.unpacked_size ≤ length section.now.raw.now }
+    requires { HasImage (seen section.now) }
     ensures { result.now ≡ image_in (seen section.now) }
 {
     let (image, _) = section.raw.split_at(section.unpacked_size as usize);
