@@ -3,6 +3,7 @@ use Rattle.std.specs.Prelude.{ℕ, zero, suc, ◌+◌, ◌-◌, ◌*◌, ◌==�
 use Rattle.pef_words.specs.Refusals.{result_map}
 use Rattle.pef_pidata.specs.declared.fault.PackFault.{PackFault}
 use Rattle.pef_pidata.specs.declared.fault.PackFault.TheVariants.{Truncated, TooLong, TooShort}
+use Rattle.pef_pidata.specs.declared.instruction.Woven.{Woven}
 use Rattle.pef_pidata.specs.declared.instruction.Instruction.{Instruction}
 use Rattle.pef_pidata.specs.declared.instruction.Instruction.TheVariants.{Zeros, Block, Repeat, Weave, WeaveZeros}
 use Rattle.pef_pidata.specs.Reading.{Read, ◌>>=◌, next_instruction}
@@ -17,29 +18,33 @@ abbrev pub woven : ℕ → ℕ → List ℕ → List ℕ → List ℕ
 woven zero size common parts = common
 woven (suc n) size common parts = common ++ (take size parts ++ woven n size common (drop size parts))
 
+-- the length of parts with the common bytes before each and behind the last
+abbrev pub woven_len : Woven → ℕ
+woven_len w = w.common * (w.parts + 1) + w.custom * w.parts
+
 -- how many bytes an instruction spells
 abbrev pub spelled : Instruction → ℕ
 spelled (Zeros count) = count
 spelled (Block count) = count
 spelled (Repeat count repeats) = count * (repeats + 1)
-spelled (Weave common custom parts) = common * (parts + 1) + custom * parts
-spelled (WeaveZeros common custom parts) = common * (parts + 1) + custom * parts
+spelled (Weave w) = woven_len w
+spelled (WeaveZeros w) = woven_len w
 
 -- how many packed bytes behind its arguments it copies
 abbrev pub copied : Instruction → ℕ
 copied (Zeros count) = 0
 copied (Block count) = count
 copied (Repeat count repeats) = count
-copied (Weave common custom parts) = common + custom * parts
-copied (WeaveZeros common custom parts) = custom * parts
+copied (Weave w) = w.common + w.custom * w.parts
+copied (WeaveZeros w) = w.custom * w.parts
 
 -- the bytes that it spells, from those that it copies
 abbrev pub output : Instruction → List ℕ → List ℕ
 output (Zeros count) bytes = replicate count 0
 output (Block count) bytes = bytes
 output (Repeat count repeats) bytes = repeated (repeats + 1) bytes
-output (Weave common custom parts) bytes = woven parts custom (take common bytes) (drop common bytes)
-output (WeaveZeros common custom parts) bytes = woven parts custom (replicate common 0) bytes
+output (Weave w) bytes = woven w.parts w.custom (take w.common bytes) (drop w.common bytes)
+output (WeaveZeros w) bytes = woven w.parts w.custom (replicate w.common 0) bytes
 
 -- an instruction that was read, where what it spells has room: its output and what follows the bytes that it copies
 unfoldable pub obeyed : ℕ → Instruction × List ℕ → Read (List ℕ)

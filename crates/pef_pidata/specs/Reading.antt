@@ -3,6 +3,7 @@
 use Rattle.std.specs.Prelude.{ℕ, ◌+◌, ◌*◌, ◌/◌, ◌%◌, ◌^◌, ◌==◌, List, [], ◌∷◌, Result, Ok, Err, if◌then◌else◌, nat_lt}
 use Rattle.pef_pidata.specs.declared.fault.PackFault.{PackFault}
 use Rattle.pef_pidata.specs.declared.fault.PackFault.TheVariants.{Truncated, BadOpcode, CountTooLarge, TooShort}
+use Rattle.pef_pidata.specs.declared.instruction.Woven.{Woven}
 use Rattle.pef_pidata.specs.declared.instruction.Instruction.{Instruction}
 use Rattle.pef_pidata.specs.declared.instruction.Instruction.TheVariants.{Zeros, Block, Repeat, Weave, WeaveZeros}
 
@@ -32,6 +33,14 @@ argument bytes = argument_from 0 0 bytes
 unfoldable pub counted : ℕ → List ℕ → Read ℕ
 counted count bytes = if count == 0 then argument bytes else Ok (count, bytes)
 
+-- the arguments of an instruction with parts
+unfoldable pub woven_arguments : ℕ → List ℕ → Read Woven
+woven_arguments low bytes = do
+  common ← counted low bytes
+  custom ← argument common.1
+  parts ← argument custom.1
+  Ok (record { common = common.0; custom = custom.0; parts = parts.0 }, parts.1)
+
 -- an instruction by its opcode, from its count on
 unfoldable pub by_opcode : ℕ → ℕ → List ℕ → Read Instruction
 by_opcode opcode low bytes =
@@ -46,15 +55,11 @@ by_opcode opcode low bytes =
       repeats ← argument count.1
       Ok (Repeat count.0 repeats.0, repeats.1))
     else if opcode == 3 then (do
-      count ← counted low bytes
-      custom ← argument count.1
-      parts ← argument custom.1
-      Ok (Weave count.0 custom.0 parts.0, parts.1))
+      arguments ← woven_arguments low bytes
+      Ok (Weave arguments.0, arguments.1))
     else if opcode == 4 then (do
-      count ← counted low bytes
-      custom ← argument count.1
-      parts ← argument custom.1
-      Ok (WeaveZeros count.0 custom.0 parts.0, parts.1))
+      arguments ← woven_arguments low bytes
+      Ok (WeaveZeros arguments.0, arguments.1))
     else Err BadOpcode
 
 -- the next instruction

@@ -1,43 +1,36 @@
-ghost use Rattle.std.specs.Prelude.{◌≡◌, ◌+◌, ◌*◌, ◌<◌, ◌≤◌, length, IfOk};
+ghost use Rattle.std.specs.Prelude.{◌≡◌, ◌+◌, ◌*◌, ◌<◌, ◌≤◌, ◌^◌, length, IfOk};
 ghost use Rattle.pef_words.specs.Refusals.{result_map};
-ghost use Rattle.pef_pidata.specs.Pattern.{copied, spelled};
-ghost use Rattle.pef_pidata.specs.Reading.{by_opcode, next_instruction};
+ghost use Rattle.pef_pidata.specs.Pattern.{copied, spelled, woven_len};
+ghost use Rattle.pef_pidata.specs.Reading.{by_opcode, next_instruction, woven_arguments};
 ghost use Rattle.pef_pidata.specs.Seen.{instruction_seen};
 
 use crate::argument::{read_argument, read_count};
 use crate::fault::PackFault;
 
-/// The opcode of an instruction's first byte is what stands above its count.
+/// An instruction's first byte has its opcode in the high three bits, and a count below this one in the low.
 const COUNTS: u8 = 32;
+
+/// Parts of some bytes each, with common bytes before the first, between them, and behind the last.
+#[derive(Clone, Copy)]
+pub(crate) struct Woven {
+    pub common: u32,
+    pub custom: u32,
+    pub parts: u32,
+}
 
 /// An instruction with its arguments, each below 2^32.
 #[derive(Clone, Copy)]
 pub(crate) enum Instruction {
-    /// `count` zero bytes.
-    Zeros {
-        count: u32,
-    },
-    /// `count` bytes that follow.
-    Block {
-        count: u32,
-    },
-    /// `count` bytes that follow, `repeats` more times than once.
-    Repeat {
-        count: u32,
-        repeats: u32,
-    },
-    /// `common` bytes before and behind each of `parts` parts of `custom` bytes; all follow.
-    Weave {
-        common: u32,
-        custom: u32,
-        parts: u32,
-    },
-    /// The same with zero bytes for the common ones.
-    WeaveZeros {
-        common: u32,
-        custom: u32,
-        parts: u32,
-    },
+    /// So many zero bytes.
+    Zeros(u32),
+    /// So many bytes, which follow.
+    Block(u32),
+    /// `count` bytes, which follow, and `repeats` more times the same.
+    Repeat { count: u32, repeats: u32 },
+    /// Parts and common bytes, which follow, the common ones first.
+    Weave(Woven),
+    /// Parts, which follow, and common bytes, which are zeros.
+    WeaveZeros(Woven),
 }
 
 /// An instruction, and the bytes behind its arguments.
@@ -67,19 +60,11 @@ fn read_arguments(opcode: u8, low: u8, packed: &[u8]) -> Result<Decoded<'_>, Pac
     match opcode {
         0 => {
             let count = read_count(low, packed)?;
-            let instruction = Instruction::Zeros { count: count.value };
-            Ok(Decoded {
-                instruction,
-                rest: count.rest,
-            })
+            Ok(with_rest(Instruction::Zeros(count.value), count.rest))
         }
         1 => {
             let count = read_count(low, packed)?;
-            let instruction = Instruction::Block { count: count.value };
-            Ok(Decoded {
-                instruction,
-                rest: count.rest,
-            })
+            Ok(with_rest(Instruction::Block(count.value), count.rest))
         }
         2 => {
             let count = read_count(low, packed)?;
@@ -88,41 +73,41 @@ fn read_arguments(opcode: u8, low: u8, packed: &[u8]) -> Result<Decoded<'_>, Pac
                 count: count.value,
                 repeats: repeats.value,
             };
-            Ok(Decoded {
-                instruction,
-                rest: repeats.rest,
-            })
+            Ok(with_rest(instruction, repeats.rest))
         }
         3 => {
-            let count = read_count(low, packed)?;
-            let custom = read_argument(count.rest)?;
-            let parts = read_argument(custom.rest)?;
-            let instruction = Instruction::Weave {
-                common: count.value,
-                custom: custom.value,
-                parts: parts.value,
-            };
-            Ok(Decoded {
-                instruction,
-                rest: parts.rest,
-            })
+            let (woven, rest) = read_woven(low, packed)?;
+            Ok(with_rest(Instruction::Weave(woven), rest))
         }
         4 => {
-            let count = read_count(low, packed)?;
-            let custom = read_argument(count.rest)?;
-            let parts = read_argument(custom.rest)?;
-            let instruction = Instruction::WeaveZeros {
-                common: count.value,
-                custom: custom.value,
-                parts: parts.value,
-            };
-            Ok(Decoded {
-                instruction,
-                rest: parts.rest,
-            })
+            let (woven, rest) = read_woven(low, packed)?;
+            Ok(with_rest(Instruction::WeaveZeros(woven), rest))
         }
         _ => Err(PackFault::BadOpcode),
     }
+}
+
+fn with_rest(instruction: Instruction, rest: &[u8]) -> Decoded<'_>
+    ensures { (result.instruction ≡ instruction) × (result.rest.now ≡ rest.now) }
+{
+    Decoded { instruction, rest }
+}
+
+/// Reads the arguments of an instruction with parts.
+#[tactic(auto, unfolding(crate::specs::Reading::woven_arguments))]
+fn read_woven(low: u8, packed: &[u8]) -> Result<(Woven, &[u8]), PackFault>
+    ensures read { result_map (λ w. (w.0, w.1.now)) result ≡ woven_arguments low packed.now }
+    ensures shorter { IfOk result (λ w. length w.1.now ≤ length packed.now) }
+{
+    let common = read_count(low, packed)?;
+    let custom = read_argument(common.rest)?;
+    let parts = read_argument(custom.rest)?;
+    let woven = Woven {
+        common: common.value,
+        custom: custom.value,
+        parts: parts.value,
+    };
+    Ok((woven, parts.rest))
 }
 
 impl Instruction {
@@ -131,19 +116,11 @@ impl Instruction {
         ensures { result ≡ spelled self.now }
     {
         match *self {
-            Instruction::Zeros { count } => u128::from(count),
-            Instruction::Block { count } => u128::from(count),
+            Instruction::Zeros(count) => u128::from(count),
+            Instruction::Block(count) => u128::from(count),
             Instruction::Repeat { count, repeats } => u128::from(count) * (u128::from(repeats) + 1),
-            Instruction::Weave {
-                common,
-                custom,
-                parts,
-            } => woven_len(common, custom, parts),
-            Instruction::WeaveZeros {
-                common,
-                custom,
-                parts,
-            } => woven_len(common, custom, parts),
+            Instruction::Weave(woven) => woven.len(),
+            Instruction::WeaveZeros(woven) => woven.len(),
         }
     }
 
@@ -152,22 +129,34 @@ impl Instruction {
         ensures { result ≡ copied self.now }
     {
         match *self {
-            Instruction::Zeros { .. } => 0,
-            Instruction::Block { count } => u64::from(count),
+            Instruction::Zeros(_) => 0,
+            Instruction::Block(count) => u64::from(count),
             Instruction::Repeat { count, .. } => u64::from(count),
-            Instruction::Weave {
-                common,
-                custom,
-                parts,
-            } => u64::from(common) + u64::from(custom) * u64::from(parts),
-            Instruction::WeaveZeros { custom, parts, .. } => u64::from(custom) * u64::from(parts),
+            Instruction::Weave(woven) => woven.copied_len(),
+            Instruction::WeaveZeros(woven) => woven.custom_len(),
         }
     }
 }
 
-fn woven_len(common: u32, custom: u32, parts: u32) -> u128
-    ensures { result ≡ common * (parts + 1) + custom * parts }
-{
-    let common = u128::from(common) * (u128::from(parts) + 1);
-    common + u128::from(custom) * u128::from(parts)
+impl Woven {
+    fn len(&self) -> u128
+        ensures { result ≡ woven_len self.now }
+    {
+        let common = u128::from(self.common) * (u128::from(self.parts) + 1);
+        common + u128::from(self.custom_len())
+    }
+
+    fn copied_len(&self) -> u64
+        ensures { result ≡ self.now.common + self.now.custom * self.now.parts }
+    {
+        let common = u64::from(self.common);
+        common + self.custom_len()
+    }
+
+    fn custom_len(&self) -> u64
+        ensures len { result ≡ self.now.custom * self.now.parts }
+        ensures bound { result + 2 ^ 32 ≤ 2 ^ 64 }
+    {
+        u64::from(self.custom) * u64::from(self.parts)
+    }
 }

@@ -14,27 +14,26 @@ impl Instruction {
         ensures { target.new ≡ output self.now bytes.now }
     {
         match *self {
-            Instruction::Zeros { .. } => target.fill(0),
-            Instruction::Block { .. } => target.copy_from_slice(bytes),
+            Instruction::Zeros(_) => target.fill(0),
+            Instruction::Block(_) => target.copy_from_slice(bytes),
             Instruction::Repeat { repeats, .. } => repeat(bytes, repeats, target),
-            Instruction::Weave {
-                common,
-                custom,
-                parts,
-            } => {
-                let (common, rest) = bytes.split_at(common as usize);
-                weave(common, rest, custom as usize, parts as usize, target);
+            Instruction::Weave(woven) => {
+                let (common, parts) = bytes.split_at(woven.common as usize);
+                weave(
+                    common,
+                    parts,
+                    woven.custom as usize,
+                    woven.parts as usize,
+                    target,
+                );
             }
-            Instruction::WeaveZeros {
-                common,
-                custom,
-                parts,
-            } => {
+            Instruction::WeaveZeros(woven) => {
+                let common = woven.common as usize;
                 weave_zeros(
-                    common as usize,
+                    common,
                     bytes,
-                    custom as usize,
-                    parts as usize,
+                    woven.custom as usize,
+                    woven.parts as usize,
                     target,
                 );
             }
