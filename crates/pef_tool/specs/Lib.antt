@@ -1,6 +1,8 @@
 pub mod CommandLine
 pub mod Described
 pub mod Input
+pub mod Linked
+pub mod Linking
 pub mod Placing
 pub mod Ports
 pub mod Prepared

@@ -6,6 +6,7 @@ mod commands;
 mod dump;
 mod input;
 mod line;
+mod link;
 mod page;
 mod ports;
 mod prepare;

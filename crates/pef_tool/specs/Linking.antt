@@ -1,0 +1,57 @@
+-- What the linker writes for a script: a container of its sections, and a loader section with the plain
+-- program of each section that has fixups.
+use Rattle.std.specs.Prelude.{◌≡◌, ℕ, ◌+◌, ◌%◌, ◌^◌, ◌<◌, ◌≤◌, List, [], ◌∷◌, ◌++◌, All, IsTrue, length, map}
+use Rattle.pef_reloc.specs.declared.fixup.Fixup.{Fixup}
+use Rattle.pef_reloc.specs.Instrs.{spelled}
+use Rattle.pef_reloc.specs.Plain.{plain_program}
+use Rattle.pef_script.specs.Script.{DescribedScript, DescribedSection}
+use Rattle.pef_views.specs.Section.{is_instantiable}
+use Rattle.pef_write.specs.Containers.{DescribedPart, ReadsBack}
+use Rattle.pef_write.specs.Loaders.{ProgramEntry, ReadsTables, written_loader}
+use Rattle.pef_write.specs.declared.container.Versions.{Versions}
+use Rattle.pef_tool.specs.Linked.{tables_for}
+
+-- a script without versions has the version 0
+abbrev pub no_versions : Versions
+no_versions = record { current = 0; old_definition = 0; old_implementation = 0 }
+
+-- the part of the container that a section becomes
+abbrev pub part_of : DescribedSection → DescribedPart
+part_of s = record { kind = s.header.kind; share = s.header.share; alignment = s.header.align; total = s.header.total; image = s.image }
+
+-- the program of section k, if it has fixups
+abbrev pub program_of : ℕ → List Fixup → List ProgramEntry
+program_of k [] = []
+program_of k (fixup ∷ fixups) = record { section = k; bytes = spelled (plain_program (fixup ∷ fixups)) } ∷ []
+
+-- the programs of sections, numbered from a number on
+abbrev pub programs_from : ℕ → List DescribedSection → List ProgramEntry
+programs_from k [] = []
+programs_from k (s ∷ sections) = program_of k s.fixups ++ programs_from (k + 1) sections
+
+-- a section of a script: a small one that a container can have
+pub record IsLinkable (p : DescribedPart) : Type 0 where
+  pub kind : IsTrue (is_instantiable p.kind)
+  pub share : p.share < 256
+  pub alignment : p.alignment ≤ 31
+  pub total : p.total ≤ 2 ^ 24
+  pub image : length p.image ≤ p.total
+
+-- a program of one of so many sections, of at most four halfwords for each of 16,384 fixups
+pub record IsLinkableProgram (sections : ℕ) (p : ProgramEntry) : Type 0 where
+  pub section : p.section < sections
+  pub even : length p.bytes % 2 ≡ 0
+  pub short : length p.bytes ≤ 2 ^ 17
+
+-- bytes that were linked of some sections and programs: what is written, and that it is read back
+pub record IsLinkedOf (parts : List DescribedPart) (programs : List ProgramEntry) (bytes : List ℕ) : Type 0 where
+  pub loader : List ℕ
+  pub container : ReadsBack no_versions parts loader bytes
+  pub written : loader ≡ written_loader (tables_for programs)
+  pub tables : ReadsTables (tables_for programs) loader
+  pub short : length loader < 2 ^ 32
+  pub programs_fit : All (IsLinkableProgram (length parts)) programs
+
+-- bytes that were linked of a script
+abbrev pub IsLinked : DescribedScript → List ℕ → Type 0
+IsLinked script bytes = IsLinkedOf (map part_of script.sections) (programs_from 0 script.sections) bytes

@@ -1,0 +1,124 @@
+ghost use Rattle.std.specs.Prelude.{◌≡◌, ◌≤◌, [], ◌∷◌, ◌++◌, All, IfOk, OnOk, length, map, true};
+ghost use Rattle.pef_reloc.specs.Fixups.{fixups_fit};
+ghost use Rattle.pef_reloc.specs.Plain.{plain_addition, plain_move, plain_program};
+ghost use Rattle.pef_reloc.specs.Instrs.{spelled};
+ghost use Rattle.pef_write.specs.Containers.{described};
+ghost use Rattle.pef_write.specs.Described.{program_entry};
+ghost use Rattle.pef_tool.specs.Linking.{IsLinkable, IsLinkableProgram, IsLinked, IsLinkedOf, program_of};
+
+use pef_reloc::{Base, Fixup, Instr, encode};
+use pef_script::Script;
+use pef_write::{Part, SectionProgram, Tables, Versions, write_container, write_loader};
+use std::alloc::{AllocError, Global};
+
+/// The greatest import that a short instruction names.
+const MAX_SHORT_IMPORT: u32 = 511;
+
+/// The plain program of some fixups: a move to each word that the position isn't at already, and the
+/// addition of its base.
+fn plain_program(alloc: Global, fixups: &[Fixup]) -> Result<Vec<Instr>, AllocError>
+    ensures { IfOk result (λ program. program.items ≡ plain_program fixups.now) }
+{
+    let mut program = Vec::new(alloc);
+    let mut position = 0;
+    for fixup in fixups {
+        push_move(&mut program, position, fixup.offset)?;
+        program.push(addition(fixup.base))?;
+        position = u64::from(fixup.offset) + 4;
+    }
+    Ok(program)
+}
+
+/// Appends the move from a position to an offset, where it isn't there already.
+fn push_move(program: &mut Vec<Instr>, position: u64, offset: u32) -> Result<(), AllocError>
+    ensures { OnOk result (program.new.items ≡ program.old.items ++ plain_move position offset) }
+{
+    if position != u64::from(offset) {
+        program.push(Instr::SetPosition(offset))?;
+    }
+    Ok(())
+}
+
+/// The addition of a base.
+fn addition(base: Base) -> Instr
+    ensures { result ≡ plain_addition base }
+{
+    match base {
+        Base::Section(section) => Instr::SmBySection(section),
+        Base::Import(import) if import <= MAX_SHORT_IMPORT => Instr::SmByImport(import),
+        Base::Import(import) => Instr::LgByImport(import),
+    }
+}
+
+/// The bytes of the plain program of some fixups that fit.
+fn program_bytes(alloc: Global, fixups: &[Fixup]) -> Result<Vec<u8>, AllocError>
+    requires { fixups_fit fixups.now ≡ true }
+    ensures { IfOk result (λ bytes. bytes.items ≡ spelled (plain_program fixups.now)) }
+{
+    let program = plain_program(alloc, fixups)?;
+    match encode(alloc, program.as_slice()) {
+        Ok(bytes) => Ok(bytes),
+        Err(_) => Err(AllocError),
+    }
+}
+
+/// The container of a script with at most one section.
+pub fn link(alloc: Global, script: &Script<'_>) -> Result<Vec<u8>, AllocError>
+    ensures { IfOk result (λ bytes. IsLinked script.now bytes.items) }
+{
+    match (script.section(0), script.image(0), script.fixups(0)) {
+        (Some(header), Some(image), Some(fixups)) => {
+            let part = Part {
+                kind: header.kind,
+                share: header.share,
+                alignment: header.align,
+                total: header.total,
+                image,
+            };
+            link_section(alloc, part, fixups)
+        }
+        _ => link_parts(alloc, &[], &[]),
+    }
+}
+
+/// The container of one section.
+fn link_section(alloc: Global, part: Part<'_>, fixups: &[Fixup]) -> Result<Vec<u8>, AllocError>
+    requires part { IsLinkable (described part) }
+    requires fixups { fixups_fit fixups.now ≡ true }
+    ensures { IfOk result (λ bytes. IsLinkedOf (described part.entry ∷ []) (program_of 0 fixups.now) bytes.items) }
+{
+    if fixups.is_empty() {
+        return link_parts(alloc, &[part], &[]);
+    }
+    let bytes = program_bytes(alloc, fixups)?;
+    let program = SectionProgram {
+        section: 0,
+        bytes: bytes.as_slice(),
+    };
+    link_parts(alloc, &[part], &[program])
+}
+
+/// The container of some sections and their programs.
+fn link_parts(
+    alloc: Global,
+    parts: &[Part<'_>],
+    programs: &[SectionProgram<'_>],
+) -> Result<Vec<u8>, AllocError>
+    requires parts { (length parts.now ≤ 1) × All IsLinkable (map described parts.now) }
+    requires programs { (length programs.now ≤ 1) × All (IsLinkableProgram (length parts.now)) (map program_entry programs.now) }
+    ensures { IfOk result (λ bytes. IsLinkedOf (map described parts.now) (map program_entry programs.now) bytes.items) }
+{
+    let tables = Tables {
+        main: None,
+        init: None,
+        term: None,
+        programs,
+    };
+    let loader = write_loader(alloc, tables)?;
+    let versions = Versions {
+        current: 0,
+        old_definition: 0,
+        old_implementation: 0,
+    };
+    write_container(alloc, versions, parts, loader.as_slice())
+}
