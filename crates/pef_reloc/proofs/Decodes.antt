@@ -83,10 +83,6 @@ on_section : (w v op : ℕ) → w / 1024 ≡ 0x2D → w / 64 % 16 ≡ op → lon
 unfolding long_instr
 on_section w v op e f = rw (e, f) refl
 
--- the two halves of a number
-halves : (n : ℕ) → n / 0x10000 * 0x10000 + n % 0x10000 ≡ n
-halves n = omega arith
-
 -- an instruction that fits begins the bytes that spell it
 pub reads_back : (x : Instr) (rest : List ℕ) → instr_fits x ≡ true → first_instr (halfword_bytes (halfwords_of x) ++ rest) ≡ Ok x
 unfolding halfwords_of short_instr
