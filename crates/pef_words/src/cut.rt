@@ -114,3 +114,6 @@ fn zero_ended(bytes: &[u8]) -> Option<&[u8]>
     let (name, _) = bytes.split_at(end);
     Some(name)
 }
+
+#[cfg(test)]
+mod tests;

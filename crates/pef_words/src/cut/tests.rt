@@ -1,0 +1,120 @@
+use super::*;
+
+/// An offset, and what stands there as `u8`, `u16`, `i16`, `u32` and `i32`.
+type Numbers = (
+    usize,
+    Option<u8>,
+    Option<u16>,
+    Option<i16>,
+    Option<u32>,
+    Option<i32>,
+);
+
+#[test]
+fn numbers(rt: HostRuntime) {
+    let cut = Cut::new(&[0x00, 0x80, 0xFF, 0x7F, 0xFE, 0x12]);
+    let rows: [Numbers; 9] = [
+        (
+            0,
+            Some(0),
+            Some(0x0080),
+            Some(128),
+            Some(0x0080_FF7F),
+            Some(8_454_015),
+        ),
+        (
+            1,
+            Some(0x80),
+            Some(0x80FF),
+            Some(-32_513),
+            Some(0x80FF_7FFE),
+            Some(-2_130_739_202),
+        ),
+        (
+            2,
+            Some(0xFF),
+            Some(0xFF7F),
+            Some(-129),
+            Some(0xFF7F_FE12),
+            Some(-8_389_102),
+        ),
+        (3, Some(0x7F), Some(0x7FFE), Some(32_766), None, None),
+        (4, Some(0xFE), Some(0xFE12), Some(-494), None, None),
+        (5, Some(0x12), None, None, None, None),
+        (6, None, None, None, None, None),
+        (usize::MAX - 1, None, None, None, None, None),
+        (usize::MAX, None, None, None, None, None),
+    ];
+    for (at, byte, half, signed_half, word, signed_word) in rows {
+        assert_eq!(rt; cut.u8_at(at), byte, "at {at}");
+        assert_eq!(rt; cut.u16_at(at), half, "at {at}");
+        assert_eq!(rt; cut.i16_at(at), signed_half, "at {at}");
+        assert_eq!(rt; cut.u32_at(at), word, "at {at}");
+        assert_eq!(rt; cut.i32_at(at), signed_word, "at {at}");
+    }
+}
+
+#[test]
+fn parts_and_names(rt: HostRuntime) {
+    for (bytes, len, is_empty) in [(b"abcd".as_slice(), 4, false), (b"".as_slice(), 0, true)] {
+        let cut = Cut::new(bytes);
+        assert_eq!(rt; cut.len(), len);
+        assert_eq!(rt; cut.is_empty(), is_empty);
+    }
+    let parts: [(&[u8], usize, usize, Option<&[u8]>); 18] = [
+        (b"abcd", 0, 4, Some(b"abcd")),
+        (b"abcd", 1, 2, Some(b"bc")),
+        (b"abcd", 3, 1, Some(b"d")),
+        (b"abcd", 0, 0, Some(b"")),
+        (b"abcd", 4, 0, Some(b"")),
+        (b"abcd", 4, 1, None),
+        (b"abcd", 3, 2, None),
+        (b"abcd", 0, 5, None),
+        (b"abcd", 5, 0, None),
+        (b"abcd", usize::MAX, 0, None),
+        (b"abcd", usize::MAX, 1, None),
+        (b"abcd", usize::MAX - 1, 2, None),
+        (b"abcd", usize::MAX - 1, 4, None),
+        (b"abcd", 1, usize::MAX, None),
+        (b"abcd", 4, usize::MAX - 1, None),
+        (b"", 0, 0, Some(b"")),
+        (b"", 0, 1, None),
+        (b"", 1, 0, None),
+    ];
+    for (bytes, from, len, want) in parts {
+        let cut = Cut::new(bytes);
+        assert_eq!(rt; cut.bytes(), bytes);
+        match cut.part(from, len) {
+            Some(part) => {
+                assert_eq!(rt; Some(part.bytes()), want, "{len} from {from}");
+                // A part ends where it ends, and not where its source does.
+                assert_eq!(rt; part.len(), len);
+                assert_eq!(rt; part.u8_at(len), None, "{len} from {from}");
+            }
+            None => assert_eq!(rt; want, None, "{len} from {from}"),
+        }
+    }
+    let names: [(&[u8], usize, Option<&[u8]>); 14] = [
+        (b"go\0\0main", 0, Some(b"go")),
+        (b"go\0\0main", 1, Some(b"o")),
+        (b"go\0\0main", 2, Some(b"")),
+        (b"go\0\0main", 3, Some(b"")),
+        (b"go\0\0main", 4, None),
+        (b"go\0\0main", 8, None),
+        (b"go\0\0main", 9, None),
+        (b"go\0\0main", usize::MAX - 1, None),
+        (b"go\0\0main", usize::MAX, None),
+        (b"main\0", 0, Some(b"main")),
+        (b"main\0", 4, Some(b"")),
+        (b"main\0", 5, None),
+        (b"", 0, None),
+        (b"", 1, None),
+    ];
+    for (bytes, from, want) in names {
+        assert_eq!(rt;
+            Cut::new(bytes).name_at(from),
+            want,
+            "from {from} of {bytes:?}"
+        );
+    }
+}
