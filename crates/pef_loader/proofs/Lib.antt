@@ -1,1 +1,3 @@
 pub mod Loaders
+pub mod NameEnds
+pub mod RangeLemmas

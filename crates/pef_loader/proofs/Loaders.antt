@@ -1,7 +1,7 @@
 -- What the acceptance of a loader section says, and what it takes.
-use Rattle.std.proofs.Common.{◌≡◌, ◌≢◌, ℕ, ◌+◌, ◌*◌, ◌/◌, ◌^◌, ◌<◌, ◌≤◌, Bool, true, false, cond, not, List, Option, None, Some, length, drop, take, refl, sym, ◌∙◌, ap, subst, arith}
-use Rattle.std.specs.Prelude.{◌==◌, ◌&&◌, ◌||◌, Result, Ok, Err, IsTrue, IfSome, IsSome, nat_lt, nat_le, ℤ, pos, negsuc}
-use Rattle.std.specs.Option.{is_none, is_some, option_map_or}
+use Rattle.std.proofs.Common.{◌≡◌, ℕ, ◌+◌, ◌*◌, ◌<◌, ◌≤◌, Bool, true, false, cond, not, List, Option, None, Some, length, drop, take, refl, sym, ◌∙◌, ap, subst, arith}
+use Rattle.std.specs.Prelude.{◌&&◌, ◌||◌, Result, Ok, Err, IsTrue, IfSome, nat_lt, nat_le, ℤ, pos, negsuc}
+use Rattle.std.specs.Option.{is_none, option_map_or}
 use Rattle.std.proofs.lemmas.Bool.{and_parts, lt-ltb, le-leb, leb-false, ltb-false, ltb-true}
 use Rattle.pef_words.specs.Bytes.{name_at, part_of}
 use Rattle.pef_words.specs.Refusals.{first_among, first_met, unless}
@@ -103,9 +103,10 @@ pub library_there : (l : Loaded) (i : ℕ) → IsLoader l → i < l.header.libra
 unfolding library_of library_in
 library_there l i ok under =
     let is = library_is l i ok under in
-    let e = is.0 in
-    (record { name = is.2.name; current = e.current; old_imp = e.old_imp; count = e.count; first = e.first; options = e.options },
-        rw (lt-ltb i l.header.library_count under, is.1, is.2.named) refl)
+    let e = is.0 in (
+      record { name = is.2.name; current = e.current; old_imp = e.old_imp; count = e.count; first = e.first; options = e.options },
+      rw (lt-ltb i l.header.library_count under, is.1, is.2.named) refl,
+    )
 
 -- each import is there, with a name
 pub record IsImport (l : Loaded) (entry : ImportEntry) : Type 0 where
@@ -145,9 +146,10 @@ pub import_there : (l : Loaded) (j : ℕ) → IsLoader l → j < l.header.import
 unfolding import_of import_in
 import_there l j ok under =
     let is = import_is l j ok under in
-    let owner = import_owned l j ok under in
-    (record { name = is.2.name; class = is.0.class; weak = is.0.weak; library = owner.0 },
-        rw (lt-ltb j l.header.import_count under, is.1, is.2.named, owner.1) refl)
+    let owner = import_owned l j ok under in (
+      record { name = is.2.name; class = is.0.class; weak = is.0.weak; library = owner.0 },
+      rw (lt-ltb j l.header.import_count under, is.1, is.2.named, owner.1) refl,
+    )
 
 -- each relocation header is there, of an instantiated section, and its instructions lie inside
 pub record IsReloc (l : Loaded) (entry : RelocEntry) : Type 0 where
@@ -162,20 +164,24 @@ reloc_is l k ok under =
     let part = refused_not (reloc_at l.bytes l.header k) (λ e. reloc_tests l.bytes l.header l.sections e) BadTableOffset (none_among (reloc_refusal l.bytes l.header l.sections) 0 l.header.reloc_count k (accepted l ok).relocs (omega arith) (omega arith)) in
     let section = first_unmet (nat_le l.sections part.0.section) _ _ part.2 in
     let outside = first_unmet (nat_lt (length l.bytes) (l.header.reloc_instr_offset + part.0.first + 2 * part.0.count)) _ _ section.1 in
-    let inside = ltb-false (length l.bytes) _ outside.0 in
-    (part.0, part.1, record {
-      section = leb-false l.sections part.0.section section.0;
-      inside = inside;
-      instructions = take (2 * part.0.count) (drop (l.header.reloc_instr_offset + part.0.first) l.bytes);
-      are = rw (le-leb (l.header.reloc_instr_offset + part.0.first + 2 * part.0.count) (length l.bytes) inside) refl;
-    })
+    let inside = ltb-false (length l.bytes) _ outside.0 in (
+      part.0,
+      part.1,
+      record {
+        section = leb-false l.sections part.0.section section.0;
+        inside = inside;
+        instructions = take (2 * part.0.count) (drop (l.header.reloc_instr_offset + part.0.first) l.bytes);
+        are = rw (le-leb (l.header.reloc_instr_offset + part.0.first + 2 * part.0.count) (length l.bytes) inside) refl;
+      },
+    )
 
 pub reloc_there : (l : Loaded) (k : ℕ) → IsLoader l → k < l.header.reloc_count → (x : ℕ × List ℕ) × (reloc_of l k ≡ Some x)
 unfolding reloc_of reloc_in
 reloc_there l k ok under =
-    let is = reloc_is l k ok under in
-    ((is.0.section, is.2.instructions),
-        rw (lt-ltb k l.header.reloc_count under, is.1, is.2.are) refl)
+    let is = reloc_is l k ok under in (
+      (is.0.section, is.2.instructions),
+      rw (lt-ltb k l.header.reloc_count under, is.1, is.2.are) refl,
+    )
 
 -- each export is there, with a name, in a section that it may be in
 pub record IsExport (l : Loaded) (entry : Entry) (i : ℕ) : Type 0 where
@@ -200,9 +206,10 @@ export_is l i ok under =
 pub export_there : (l : Loaded) (i : ℕ) → IsLoader l → i < l.header.export_count → (x : Export) × (export_of l i ≡ Some x)
 unfolding export_of export_in
 export_there l i ok under =
-    let is = export_is l i ok under in
-    (record { name = is.2.name; class = is.0.class; section = is.0.section; value = is.0.value },
-        rw (is.1, is.2.named) refl)
+    let is = export_is l i ok under in (
+      record { name = is.2.name; class = is.0.class; section = is.0.section; value = is.0.value },
+      rw (is.1, is.2.named) refl,
+    )
 
 some_same : {A : Type 0} (x y : A) → Some x ≡ Some y → x ≡ y
 some_same x y same = cc

@@ -1,6 +1,6 @@
 -- Exported symbols (Mac OS Runtime Architectures, "PEF Structure", "Exported Symbol Table";
 -- PEFExportedSymbol of PEFBinaryFormat.h).
-use Rattle.std.specs.Prelude.{ℕ, ℤ, pos, negsuc, ◌==◌, ◌||◌, ◌&&◌, Bool, not, List, [], ◌∷◌, Option, Some, None, drop, length, nat_lt, if◌then◌else◌}
+use Rattle.std.specs.Prelude.{ℕ, ℤ, pos, negsuc, ◌==◌, ◌||◌, ◌&&◌, Bool, not, List, [], ◌∷◌, Option, Some, drop, length, nat_lt}
 use Rattle.std.specs.Option.{is_none, option_map_or}
 use Rattle.pef_words.specs.Refusals.{◌>>=◌, first_met}
 use Rattle.pef_hash.specs.Exports.{ExportTable, entry_of, has_table, name_of}

@@ -4,5 +4,7 @@ pub mod Header
 pub mod Import
 pub mod Library
 pub mod Loader
+pub mod Names
+pub mod Ranges
 pub mod Reloc
 pub mod Views

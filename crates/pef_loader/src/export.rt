@@ -12,6 +12,7 @@ use pef_words::Cut;
 
 /// The sections of an absolute export and of one that is an import.
 const ABSOLUTE: i32 = -2;
+
 const REEXPORTED: i32 = -3;
 
 /// The export table has at most two to this power of slots.
@@ -19,6 +20,7 @@ const GREATEST_POWER: u32 = 30;
 
 /// The sizes of a slot, and of an export with its key.
 const SLOT_SIZE: usize = 4;
+
 const EXPORT_AND_KEY_SIZE: usize = 14;
 
 /// An exported symbol with its name.
@@ -52,7 +54,8 @@ pub(crate) fn has_exports(cut: Cut<'_>, header: LoaderHeader) -> bool
     if header.export_power > GREATEST_POWER {
         return false;
     }
-    let size = (SLOT_SIZE << header.export_power) + EXPORT_AND_KEY_SIZE * header.export_count as usize;
+    let size = (SLOT_SIZE << header.export_power)
+        + EXPORT_AND_KEY_SIZE * header.export_count as usize;
     size <= bytes_from(cut, header.export_hash_offset).len()
 }
 

@@ -8,23 +8,38 @@ pub(crate) const HEADER_SIZE: usize = 56;
 
 /// The offsets of its fields.
 const MAIN_SECTION: usize = 0;
+
 const MAIN_OFFSET: usize = 4;
+
 const INIT_SECTION: usize = 8;
+
 const INIT_OFFSET: usize = 12;
+
 const TERM_SECTION: usize = 16;
+
 const TERM_OFFSET: usize = 20;
+
 const LIBRARY_COUNT: usize = 24;
+
 const IMPORT_COUNT: usize = 28;
+
 const RELOC_COUNT: usize = 32;
+
 const RELOC_INSTR_OFFSET: usize = 36;
+
 const STRINGS_OFFSET: usize = 40;
+
 const EXPORT_HASH_OFFSET: usize = 44;
+
 const EXPORT_POWER: usize = 48;
+
 const EXPORT_COUNT: usize = 52;
 
 /// The sizes of an imported library, an imported symbol and a relocation header.
 pub(crate) const LIBRARY_SIZE: usize = 24;
+
 pub(crate) const IMPORT_SIZE: usize = 4;
+
 pub(crate) const RELOC_SIZE: usize = 12;
 
 /// The section of an entry that isn't there.

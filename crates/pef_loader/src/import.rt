@@ -1,15 +1,16 @@
 ghost use Rattle.std.specs.Prelude.{◌≡◌, ◌<◌, ◌^◌};
 ghost use Rattle.std.specs.Result.{result_err};
-ghost use Rattle.pef_words.specs.Refusals.{first_among, first_met};
-ghost use Rattle.pef_loader.specs.Import.{import_at, import_refusal, import_tests, owner_at, owner_of};
+ghost use Rattle.pef_words.specs.Refusals.{first_met};
+ghost use Rattle.pef_loader.specs.Names.{NamesEndAt};
+ghost use Rattle.pef_loader.specs.Import.{import_at, import_refusal, import_tests, owner_of};
 
 use crate::fault::LoaderFault;
 use crate::header::{IMPORT_SIZE, LoaderHeader};
-use crate::library::owns;
 use pef_words::Cut;
 
 /// Where the class byte stands above the name offset, and its bit of a weak import.
 const CLASS_SHIFT: u32 = 24;
+
 const WEAK_SHIFT: u32 = 31;
 
 /// An imported symbol, field by field (PEFImportedSymbol).
@@ -48,29 +49,25 @@ pub(crate) fn read_import(cut: Cut<'_>, header: LoaderHeader, j: usize) -> Optio
 
 /// The first rule that import `j` breaks.
 #[tactic(auto, unfolding(crate::specs::Import::import_tests))]
-pub(crate) fn test_import(cut: Cut<'_>, header: LoaderHeader, j: usize) -> Result<(), LoaderFault>
-    requires { j < 2 ^ 32 }
+pub(crate) fn test_import(
+    cut: Cut<'_>,
+    header: LoaderHeader,
+    names_end: usize,
+    owner: Option<usize>,
+    j: usize,
+) -> Result<(), LoaderFault>
+    requires names { NamesEndAt cut.bytes.now names_end }
+    requires owner { owner ≡ owner_of cut.bytes.now header j }
+    requires place { j < 2 ^ 32 }
     ensures { result_err result ≡ import_refusal cut.entry.bytes.now header j }
 {
     let import = read_import(cut, header, j).ok_or(LoaderFault::BadTableOffset)?;
     let name = header.strings_offset as usize + import.name_offset as usize;
-    if cut.name_at(name).is_none() {
+    if name >= names_end {
         return Err(LoaderFault::BadName);
     }
-    if find_owner(cut, header, j).is_none() {
+    if owner.is_none() {
         return Err(LoaderFault::OrphanImport);
     }
     Ok(())
-}
-
-/// The first library whose imports have import `j`.
-pub(crate) fn find_owner(cut: Cut<'_>, header: LoaderHeader, j: usize) -> Option<usize>
-    ensures { result ≡ owner_of cut.entry.bytes.now header j }
-{
-    for i in 0..header.library_count as usize {
-        if owns(cut, i, j) {
-            return Some(i);
-        }
-    }
-    None
 }

@@ -10,8 +10,10 @@ mod fault;
 mod header;
 mod import;
 mod library;
-mod tables;
+mod names;
+mod owner;
 mod reloc;
+mod tables;
 
 pub use export::ExportView;
 pub use fault::LoaderFault;

@@ -1,7 +1,8 @@
 ghost use Rattle.std.specs.Prelude.{◌≡◌, ◌+◌, ◌^◌, ◌<◌};
 ghost use Rattle.std.specs.Result.{result_err};
 ghost use Rattle.pef_words.specs.Refusals.{first_met};
-ghost use Rattle.pef_loader.specs.Library.{library_at, library_refusal, library_tests, owns};
+ghost use Rattle.pef_loader.specs.Names.{NamesEndAt};
+ghost use Rattle.pef_loader.specs.Library.{library_at, library_refusal, library_tests};
 
 use crate::fault::LoaderFault;
 use crate::header::{HEADER_SIZE, LIBRARY_SIZE, LoaderHeader};
@@ -9,10 +10,15 @@ use pef_words::Cut;
 
 /// The offsets of the fields.
 const NAME_OFFSET: usize = 0;
+
 const OLD_IMPLEMENTATION: usize = 4;
+
 const CURRENT: usize = 8;
+
 const COUNT: usize = 12;
+
 const FIRST: usize = 16;
+
 const OPTIONS: usize = 20;
 
 /// An imported library, field by field (PEFImportedLibrary).
@@ -61,31 +67,23 @@ pub(crate) fn read_library(cut: Cut<'_>, i: usize) -> Option<LibraryEntry>
 
 /// The first rule that library `i` breaks.
 #[tactic(auto, unfolding(crate::specs::Library::library_tests))]
-pub(crate) fn test_library(cut: Cut<'_>, header: LoaderHeader, i: usize) -> Result<(), LoaderFault>
-    requires { i < 2 ^ 32 }
+pub(crate) fn test_library(
+    cut: Cut<'_>,
+    header: LoaderHeader,
+    names_end: usize,
+    i: usize,
+) -> Result<(), LoaderFault>
+    requires names { NamesEndAt cut.bytes.now names_end }
+    requires place { i < 2 ^ 32 }
     ensures { result_err result ≡ library_refusal cut.entry.bytes.now header i }
 {
     let library = read_library(cut, i).ok_or(LoaderFault::BadTableOffset)?;
     let name = header.strings_offset as usize + library.name_offset as usize;
-    if cut.name_at(name).is_none() {
+    if name >= names_end {
         return Err(LoaderFault::BadName);
     }
     if u64::from(library.first) + u64::from(library.count) > u64::from(header.import_count) {
         return Err(LoaderFault::BadLibraryRange);
     }
     Ok(())
-}
-
-/// Whether import `j` is one of library `i`'s.
-pub(crate) fn owns(cut: Cut<'_>, i: usize, j: usize) -> bool
-    requires library { i < 2 ^ 32 }
-    ensures { result ≡ owns cut.entry.bytes.now j i }
-{
-    match read_library(cut, i) {
-        Some(library) => {
-            let first = library.first as usize;
-            first <= j && j < first + library.count as usize
-        }
-        None => false,
-    }
 }

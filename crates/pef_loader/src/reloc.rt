@@ -10,7 +10,9 @@ use pef_words::Cut;
 
 /// The offsets of the fields.
 const SECTION_INDEX: usize = 0;
+
 const COUNT: usize = 4;
+
 const FIRST: usize = 8;
 
 /// The size of a relocation halfword.
@@ -64,7 +66,11 @@ pub(crate) fn test_reloc(
 
 /// The instructions of a relocation header, or `None` where they pass the end.
 #[tactic(auto, unfolding(crate::specs::Reloc::instructions_of))]
-pub(crate) fn instructions<'a>(cut: Cut<'a>, header: LoaderHeader, reloc: RelocEntry) -> Option<&'a [u8]>
+pub(crate) fn instructions<'a>(
+    cut: Cut<'a>,
+    header: LoaderHeader,
+    reloc: RelocEntry,
+) -> Option<&'a [u8]>
     ensures { option_copied result ≡ instructions_of cut.entry.bytes.now header reloc }
 {
     let from = header.reloc_instr_offset as usize + reloc.first as usize;

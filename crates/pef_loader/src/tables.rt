@@ -5,13 +5,17 @@ ghost use Rattle.pef_loader.specs.Export.{export_refusal, has_exports, has_secti
 ghost use Rattle.pef_loader.specs.Import.{import_refusal};
 ghost use Rattle.pef_loader.specs.Library.{library_refusal};
 ghost use Rattle.pef_loader.specs.Loader.{export_of, fault_if, has_entries, import_of, init_of, library_of, loaded_of, main_of, named_of, reloc_of, term_of};
+ghost use Rattle.pef_loader.specs.Names.{NamesEndAt};
+ghost use Rattle.pef_loader.specs.Ranges.{AreInOrder};
 ghost use Rattle.pef_loader.specs.Reloc.{reloc_refusal};
 
 use crate::export::{ExportView, exports, has_exports, test_export};
 use crate::fault::LoaderFault;
 use crate::header::{LoaderHeader, entry, is_entry, read_header};
-use crate::import::{ImportView, find_owner, read_import, test_import};
+use crate::import::{ImportView, read_import, test_import};
 use crate::library::{LibraryView, read_library, test_library};
+use crate::names::names_end;
+use crate::owner::{are_in_order, next_owner, owner};
 use crate::reloc::{instructions, read_reloc, test_reloc};
 use pef_views::Container;
 use pef_words::Cut;
@@ -25,6 +29,8 @@ pub struct Loader<'a> {
     cut: Cut<'a>,
     header: LoaderHeader,
     sections: u16,
+    in_order: bool,
+    ghost ordered: { IsTrue in_order → AreInOrder cut.bytes.now header.library_count },
     pub ghost accepted: { loaded_of sections cut.bytes.now ≡ Ok (record {
       sections = sections;
       bytes = cut.bytes.now;
@@ -54,8 +60,10 @@ impl<'a> Loader<'a> {
         if cut.len() < header.end() {
             return Err(LoaderFault::BadTableOffset);
         }
-        test_libraries(cut, header)?;
-        test_imports(cut, header)?;
+        let names_end = names_end(cut);
+        test_libraries(cut, header, names_end)?;
+        let in_order = are_in_order(cut, header);
+        test_imports(cut, header, names_end, in_order)?;
         if !has_entries(header, sections) {
             return Err(LoaderFault::BadEntry);
         }
@@ -68,6 +76,7 @@ impl<'a> Loader<'a> {
             cut,
             header,
             sections,
+            in_order,
         })
     }
 
@@ -144,7 +153,7 @@ impl<'a> Loader<'a> {
             name: self.cut.name_at(name)?,
             class: import.class,
             weak: import.weak,
-            library: find_owner(self.cut, self.header, j)?,
+            library: owner(self.cut, self.header, self.in_order, j)?,
         })
     }
 
@@ -219,23 +228,34 @@ impl<'a> Loader<'a> {
 }
 
 /// The first refusal of a library, library by library.
-fn test_libraries(cut: Cut<'_>, header: LoaderHeader) -> Result<(), LoaderFault>
+fn test_libraries(cut: Cut<'_>, header: LoaderHeader, names_end: usize) -> Result<(), LoaderFault>
+    requires { NamesEndAt cut.bytes.now names_end }
     ensures { result_err result
         ≡ first_among (library_refusal cut.entry.bytes.now header) 0 header.library_count }
 {
     for i in 0..header.library_count as usize {
-        test_library(cut, header, i)?;
+        test_library(cut, header, names_end, i)?;
     }
     Ok(())
 }
 
 /// The first refusal of an import, import by import.
-fn test_imports(cut: Cut<'_>, header: LoaderHeader) -> Result<(), LoaderFault>
+fn test_imports(
+    cut: Cut<'_>,
+    header: LoaderHeader,
+    names_end: usize,
+    in_order: bool,
+) -> Result<(), LoaderFault>
+    requires names { NamesEndAt cut.bytes.now names_end }
+    requires order { IsTrue in_order → AreInOrder cut.bytes.now header.library_count }
     ensures { result_err result
         ≡ first_among (import_refusal cut.entry.bytes.now header) 0 header.import_count }
 {
+    let mut library = 0;
     for j in 0..header.import_count as usize {
-        test_import(cut, header, j)?;
+        let (next, owner) = next_owner(cut, header, in_order, library, j);
+        test_import(cut, header, names_end, owner, j)?;
+        library = next;
     }
     Ok(())
 }

@@ -46,7 +46,8 @@ fn changed<const N: usize>(rt: &impl Abort, bytes: &[u8; N], words: &[(usize, u3
     let mut bytes = *bytes;
     for (at, word) in words {
         assert!(rt; *at < 1000 && *at + 4 <= N);
-        bytes[*at..*at + 4].copy_from_slice(&word.to_be_bytes());
+        let all = &mut bytes[..];
+        all[*at..*at + 4].copy_from_slice(&word.to_be_bytes());
     }
     bytes
 }
@@ -132,7 +133,11 @@ fn refuses_by_the_first_rule_that_is_broken(rt: HostRuntime) {
         (&[(160, 1), (68, 0)], 15),
     ];
     for (i, (words, want)) in rows.iter().enumerate() {
-        assert_eq!(rt; answer(&changed(&rt, &LIBRARIES, words)), *want, "library row {i}");
+        assert_eq!(rt;
+            answer(&changed(&rt, &LIBRARIES, words)),
+            *want,
+            "library row {i}"
+        );
     }
 }
 
@@ -169,8 +174,10 @@ fn shows_relocations_exports_and_entries(rt: HostRuntime) {
 fn shows_libraries_and_imports(rt: HostRuntime) {
     let container = Container::read(&LIBRARIES).expect(&rt, "a container");
     let loader = Loader::read(&container).expect(&rt, "a loader section");
-    let libraries: [(&[u8], u32, u32, u32, u32, u8); 2] =
-        [(b"L", 5, 3, 2, 0, 0x40), (b"M", 1, 0, 2, 1, 0x80)];
+    let libraries: [(&[u8], u32, u32, u32, u32, u8); 2] = [
+        (b"L", 5, 3, 2, 0, 0x40),
+        (b"M", 1, 0, 2, 1, 0x80),
+    ];
     for (i, (name, current, old_imp, count, first, options)) in libraries.iter().enumerate() {
         let library = loader.library(i).expect(&rt, "a library");
         assert_eq!(rt; library.name, *name, "library {i}");
@@ -191,7 +198,10 @@ fn shows_libraries_and_imports(rt: HostRuntime) {
         assert_eq!(rt; import.library, *library);
     }
     assert!(rt; loader.import(3).is_none());
-    assert_eq!(rt; (loader.main(), loader.init(), loader.term()), (None, None, None));
+    assert_eq!(rt;
+        (loader.main(), loader.init(), loader.term()),
+        (None, None, None)
+    );
     assert_eq!(rt; (loader.relocs(), loader.exports()), (0, 0));
     assert_eq!(rt; loader.export_named(b""), None);
 }

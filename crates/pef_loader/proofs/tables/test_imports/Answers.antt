@@ -8,10 +8,14 @@ use Rattle.pef_loader.proofs.tables.test_imports.Goals as goal
 pub loop-j-preserved : goal.loop-j-preserved
 loop-j-preserved c =
     let under : c.loop-j.j < c.args.header.import_count = omega arith in
-    sym (first_among-next (import_refusal c.args.cut.bytes.now c.args.header) _ _ under (sym c.in_ok-test_import.ensures)) ∙ c.loop-j.invariant
+    record {
+      left = sym (first_among-next (import_refusal c.args.cut.bytes.now c.args.header) _ _ under (sym c.in_ok-test_import.ensures)) ∙ c.loop-j.invariant.left;
+      within = c.next_owner-next.ensures.within;
+      behind = λ i less. (let end = c.next_owner-next.ensures.behind i less in omega arith);
+    }
 
 pub returns-in_err-test_import : goal.returns-in_err-test_import
 returns-in_err-test_import c =
     let under : c.loop-j.j < c.args.header.import_count = omega arith in
     let p = err_from_is_err_and c.from_residual.result c.from_residual.ensures.1 in
-    rw (p.1, p.2) (sym (first_among-here (import_refusal c.args.cut.bytes.now c.args.header) _ _ _ under (sym c.in_err-test_import.ensures)) ∙ c.loop-j.invariant)
+    rw (p.1, p.2) (sym (first_among-here (import_refusal c.args.cut.bytes.now c.args.header) _ _ _ under (sym c.in_err-test_import.ensures)) ∙ c.loop-j.invariant.left)

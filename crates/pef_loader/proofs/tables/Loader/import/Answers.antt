@@ -1,5 +1,5 @@
 -- Each import below their count is there, with a name and a library.
-use Rattle.std.proofs.Common.{◌≡◌, ◌∙◌, sym, arith}
+use Rattle.std.proofs.Common.{◌∙◌, sym, arith}
 use Rattle.pef_loader.specs.Views.{loaded}
 use Rattle.pef_loader.proofs.Loaders.{import_is, import_owned, import_with, owner-below}
 use Rattle.pef_loader.proofs.tables.Loader.import.Goals as goal
@@ -16,11 +16,11 @@ returns-in_err-name_at-clause-there c =
     let nowhere = c.in_err-name_at.ensures ∙ is.named in
     absurd (cc)
 
-pub returns-in_err-find_owner-clause-there : goal.returns-in_err-find_owner-clause-there
-returns-in_err-find_owner-clause-there c =
+pub returns-in_err-owner-clause-there : goal.returns-in_err-owner-clause-there
+returns-in_err-owner-clause-there c =
     let is = import_owned (loaded c.args.self.now) c.args.j c.args.self.now.accepted (omega arith) in
-    let nowhere = c.in_err-find_owner.ensures ∙ is.1 in
+    let nowhere = c.in_err-owner.ensures ∙ is.1 in
     absurd (cc)
 
 pub returns-clause-library : goal.returns-clause-library
-returns-clause-library c = owner-below c.args.self.now.cut.bytes.now c.args.self.now.header c.args.j _ (sym c.in_ok-find_owner.ensures)
+returns-clause-library c = owner-below c.args.self.now.cut.bytes.now c.args.self.now.header c.args.j _ (sym c.in_ok-owner.ensures)

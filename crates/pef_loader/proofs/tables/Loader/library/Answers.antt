@@ -1,5 +1,5 @@
 -- Each library below their count is there, with a name.
-use Rattle.std.proofs.Common.{◌≡◌, ◌∙◌, sym, arith}
+use Rattle.std.proofs.Common.{◌∙◌, sym, arith}
 use Rattle.pef_loader.specs.Views.{loaded}
 use Rattle.pef_loader.proofs.Loaders.{library_is, library_with}
 use Rattle.pef_loader.proofs.tables.Loader.library.Goals as goal

@@ -1,5 +1,5 @@
 -- Each relocation header below their count is there, with its instructions inside.
-use Rattle.std.proofs.Common.{◌≡◌, ◌∙◌, sym, arith}
+use Rattle.std.proofs.Common.{◌∙◌, sym, arith}
 use Rattle.pef_loader.specs.Views.{loaded}
 use Rattle.pef_loader.proofs.Loaders.{reloc_is, reloc_with}
 use Rattle.pef_loader.proofs.tables.Loader.reloc.Goals as goal

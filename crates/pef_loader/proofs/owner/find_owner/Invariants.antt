@@ -2,7 +2,7 @@
 use Rattle.std.proofs.Common.{◌≡◌, ◌-◌}
 use Rattle.pef_words.specs.Refusals.{first_among}
 use Rattle.pef_loader.specs.Import.{owner_at}
-use Rattle.pef_loader.proofs.import.find_owner.Given as goal
+use Rattle.pef_loader.proofs.owner.find_owner.Given as goal
 
 abbrev pub invariant-loop-i : goal.invariant-loop-i
 invariant-loop-i l =

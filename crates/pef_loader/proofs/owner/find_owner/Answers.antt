@@ -2,7 +2,7 @@
 use Rattle.std.proofs.Common.{◌≡◌, ◌<◌, None, refl, sym, ◌∙◌, arith}
 use Rattle.pef_words.proofs.RefusalLemmas.{first_among-next}
 use Rattle.pef_loader.specs.Import.{owner_at}
-use Rattle.pef_loader.proofs.import.find_owner.Goals as goal
+use Rattle.pef_loader.proofs.owner.find_owner.Goals as goal
 
 pub loop-i-preserved : goal.loop-i-preserved
 loop-i-preserved c =

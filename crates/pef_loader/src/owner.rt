@@ -1,0 +1,156 @@
+ghost use Rattle.std.specs.Prelude.{◌≡◌, ◌<◌, ◌≤◌, ◌^◌, IsTrue};
+ghost use Rattle.pef_loader.specs.Import.{owner_of};
+ghost use Rattle.pef_loader.specs.Library.{owns};
+ghost use Rattle.pef_loader.specs.Ranges.{AreBehind, AreInOrder, IsFirstPast, end_of, first_of};
+
+use crate::header::LoaderHeader;
+use crate::library::read_library;
+use pef_words::Cut;
+
+/// The imports of a library: from its first one up to its end.
+#[derive(Clone, Copy)]
+struct Imports {
+    first: usize,
+    end: usize,
+}
+
+/// The imports of library `i`.
+fn imports_of(cut: Cut<'_>, i: usize) -> Imports
+    requires { i < 2 ^ 32 }
+    ensures first { result.first ≡ first_of cut.entry.bytes.now i }
+    ensures end { result.end ≡ end_of cut.entry.bytes.now i }
+{
+    match read_library(cut, i) {
+        Some(library) => {
+            let first = library.first as usize;
+            Imports {
+                first,
+                end: first + library.count as usize,
+            }
+        }
+        None => Imports { first: 0, end: 0 },
+    }
+}
+
+/// Whether the imports of each library follow those of the one before it.
+pub(crate) fn are_in_order(cut: Cut<'_>, header: LoaderHeader) -> bool
+    ensures { IsTrue result → AreInOrder cut.entry.bytes.now header.library_count }
+{
+    let mut end = 0;
+    for i in 0..header.library_count as usize {
+        let imports = imports_of(cut, i);
+        if imports.first < end {
+            return false;
+        }
+        end = imports.end;
+    }
+    true
+}
+
+/// The first library whose imports have import `j`.
+pub(crate) fn owner(cut: Cut<'_>, header: LoaderHeader, in_order: bool, j: usize) -> Option<usize>
+    requires { IsTrue in_order → AreInOrder cut.bytes.now header.library_count }
+    ensures { result ≡ owner_of cut.entry.bytes.now header j }
+{
+    if !in_order {
+        return find_owner(cut, header, j);
+    }
+    let library = first_past(cut, header, j);
+    owner_among(cut, header, library, j)
+}
+
+/// The same for imports in turn: no library before `from` ends behind import `j`. Beside the owner it
+/// gives the library from which to go on at the next import.
+pub(crate) fn next_owner(
+    cut: Cut<'_>,
+    header: LoaderHeader,
+    in_order: bool,
+    from: usize,
+    j: usize,
+) -> (usize, Option<usize>)
+    requires order { IsTrue in_order → AreInOrder cut.bytes.now header.library_count }
+    requires within { from ≤ header.library_count }
+    requires behind { AreBehind cut.bytes.now from j }
+    ensures within { result.0 ≤ header.library_count }
+    ensures behind { AreBehind cut.entry.bytes.now result.0 j }
+    ensures owner { result.1 ≡ owner_of cut.entry.bytes.now header j }
+{
+    if !in_order {
+        return (from, find_owner(cut, header, j));
+    }
+    let library = advance(cut, header, from, j);
+    (library, owner_among(cut, header, library, j))
+}
+
+/// The first library from `from` on whose imports end behind import `j`.
+fn advance(cut: Cut<'_>, header: LoaderHeader, from: usize, j: usize) -> usize
+    requires within { from ≤ header.library_count }
+    requires behind { AreBehind cut.bytes.now from j }
+    ensures { IsFirstPast cut.entry.bytes.now header.library_count j result }
+{
+    for i in from..header.library_count as usize {
+        if j < imports_of(cut, i).end {
+            return i;
+        }
+    }
+    header.library_count as usize
+}
+
+/// The first library whose imports end behind import `j`, by halving.
+fn first_past(cut: Cut<'_>, header: LoaderHeader, j: usize) -> usize
+    requires { AreInOrder cut.bytes.now header.library_count }
+    ensures { IsFirstPast cut.entry.bytes.now header.library_count j result }
+{
+    let mut low = 0;
+    let mut high = header.library_count as usize;
+    while low < high {
+        let middle = low + (high - low) / 2;
+        if imports_of(cut, middle).end <= j {
+            low = middle + 1;
+        } else {
+            high = middle;
+        }
+    }
+    low
+}
+
+/// The owner of import `j`, where `library` is the first whose imports end behind it.
+fn owner_among(cut: Cut<'_>, header: LoaderHeader, library: usize, j: usize) -> Option<usize>
+    requires order { AreInOrder cut.bytes.now header.library_count }
+    requires past { IsFirstPast cut.bytes.now header.library_count j library }
+    ensures { result ≡ owner_of cut.entry.bytes.now header j }
+{
+    if library >= header.library_count as usize {
+        return None;
+    }
+    if owns(cut, library, j) {
+        return Some(library);
+    }
+    None
+}
+
+/// The first library whose imports have import `j`, library by library.
+fn find_owner(cut: Cut<'_>, header: LoaderHeader, j: usize) -> Option<usize>
+    ensures { result ≡ owner_of cut.entry.bytes.now header j }
+{
+    for i in 0..header.library_count as usize {
+        if owns(cut, i, j) {
+            return Some(i);
+        }
+    }
+    None
+}
+
+/// Whether import `j` is one of library `i`'s.
+fn owns(cut: Cut<'_>, i: usize, j: usize) -> bool
+    requires { i < 2 ^ 32 }
+    ensures { result ≡ owns cut.entry.bytes.now j i }
+{
+    match read_library(cut, i) {
+        Some(library) => {
+            let first = library.first as usize;
+            first <= j && j < first + library.count as usize
+        }
+        None => false,
+    }
+}
