@@ -2,11 +2,13 @@
 use Rattle.std.proofs.Common.{◌≡◌, ℕ, ◌+◌, ◌*◌, ◌<◌, ◌≤◌, Bool, true, false, cond, not, List, Option, None, Some, length, drop, take, refl, sym, ◌∙◌, ap, subst, arith}
 use Rattle.std.specs.Prelude.{◌&&◌, ◌||◌, Result, Ok, Err, IsTrue, IfSome, nat_lt, nat_le, ℤ, pos, negsuc}
 use Rattle.std.specs.Option.{is_none, option_map_or}
+use Rattle.std.specs.Str.{bytes_eq}
+use Rattle.std.proofs.lemmas.Slice.Eq.{bytes_eq-Decides}
 use Rattle.std.proofs.lemmas.Bool.{and_parts, lt-ltb, le-leb, leb-false, ltb-false, ltb-true}
 use Rattle.pef_words.specs.Bytes.{name_at, part_of}
 use Rattle.pef_words.specs.Refusals.{first_among, first_met, unless}
 use Rattle.pef_words.proofs.RefusalLemmas.{first_unmet, none_among, some_among}
-use Rattle.pef_hash.specs.Exports.{entry_of, name_of}
+use Rattle.pef_hash.specs.Exports.{entry_of, export_named, name_of, named_at}
 use Rattle.pef_hash.specs.declared.exports.Entry.{Entry}
 use Rattle.pef_loader.specs.declared.header.LoaderHeader.{LoaderHeader}
 use Rattle.pef_loader.specs.declared.library.LibraryEntry.{LibraryEntry}
@@ -19,7 +21,7 @@ use Rattle.pef_loader.specs.Library.{Library, library_at, library_in, library_re
 use Rattle.pef_loader.specs.Import.{Import, import_at, import_in, import_refusal, import_tests, owner_at, owner_of}
 use Rattle.pef_loader.specs.Reloc.{instructions_of, reloc_at, reloc_in, reloc_refusal, reloc_tests}
 use Rattle.pef_loader.specs.Export.{Export, export_in, export_refusal, export_table, export_tests, has_exports, has_section}
-use Rattle.pef_loader.specs.Loader.{IsAccepted, IsLoader, Loaded, export_of, fault_if, has_entries, import_of, judged, library_of, loaded_of, reloc_of}
+use Rattle.pef_loader.specs.Loader.{IsAccepted, IsLoader, Loaded, export_of, fault_if, has_entries, import_of, judged, library_of, loaded_of, named_of, reloc_of}
 
 unless_ok : {A F : Type 0} (fault : Option F) (r : Result A F) (x : A) → unless fault r ≡ Ok x → (fault ≡ None) × (r ≡ Ok x)
 unless_ok None r x ok = (refl, ok)
@@ -117,6 +119,10 @@ pub record IsImport (l : Loaded) (entry : ImportEntry) : Type 0 where
 chosen : {A : Type 0} (b : Bool) (x y : A) → cond b (Some x) None ≡ Some y → x ≡ y
 chosen true x y is = cc
 chosen false x y is = absurd (cc)
+
+met_where : {A : Type 0} (b : Bool) (o : Option A) (y : A) → cond b o None ≡ Some y → b ≡ true
+met_where true o y is = refl
+met_where false o y is = absurd (cc)
 
 -- the owner of an import is one of the libraries
 pub owner-below : (bytes : List ℕ) (h : LoaderHeader) (j x : ℕ) → owner_of bytes h j ≡ Some x → x < h.library_count
@@ -292,3 +298,36 @@ pub term_sound : (l : Loaded) (o : Option (ℕ × ℕ)) → IsLoader l → heade
 term_sound l o ok is =
     let all = and_parts (is_entry l.sections l.header.main_section && is_entry l.sections l.header.init_section) (is_entry l.sections l.header.term_section) (entries_sound l ok) in
     within_sections l.sections l.header.term_section l.header.term_offset o all.1 is
+
+-- the first export of a name is one of the exports, and has the name
+pub record IsNamed (l : Loaded) (name : List ℕ) (i : ℕ) : Type 0 where
+  pub below : i < l.header.export_count
+  pub named : name_of (export_table l.bytes l.header) i ≡ Some name
+
+named_there : (o : Option (List ℕ)) (name : List ℕ) (i x : ℕ) → cond (option_map_or (λ found. bytes_eq found name) o false) (Some i) None ≡ Some x → (x ≡ i) × (o ≡ Some name)
+named_there None name i x is = absurd (cc)
+named_there (Some found) name i x is =
+    let same = chosen (bytes_eq found name) i x is in
+    let met = met_where (bytes_eq found name) (Some i) x is in
+    (sym same, ap Some ((bytes_eq-Decides found name).0 met))
+
+pub named_is : (l : Loaded) (name : List ℕ) (i : ℕ) → named_of l name ≡ Some i → IsNamed l name i
+unfolding named_of export_named
+named_is l name i is =
+    let r = some_among (named_at (export_table l.bytes l.header) name) 0 l.header.export_count i is in
+    let there = named_there (name_of (export_table l.bytes l.header) r.at) name r.at i r.is in
+    let high = r.high in
+    let same : i ≡ r.at = there.0 in
+    record { below = omega arith; named = rw same there.1 }
+
+pub named-below : (l : Loaded) (name : List ℕ) (o : Option ℕ) → named_of l name ≡ o → IfSome o (λ i. i < l.header.export_count)
+named-below l name None is = tt
+named-below l name (Some i) is = (named_is l name i is).below
+
+-- .. so what is found by its name is there and has it
+pub named_export : (l : Loaded) (name : List ℕ) (i : ℕ) → IsLoader l → named_of l name ≡ Some i → (x : Export) × (export_of l i ≡ Some x) × (x.name ≡ name)
+unfolding export_of export_in
+named_export l name i ok found =
+    let named = named_is l name i found in
+    let is = export_is l i ok named.below in
+    (record { name = name; class = is.0.class; section = is.0.section; value = is.0.value }, rw (is.1, named.named) refl, refl)

@@ -80,13 +80,6 @@ impl<'a> Loader<'a> {
         })
     }
 
-    /// The loader header.
-    pub fn header(&self) -> LoaderHeader
-        ensures { result ≡ (loaded self.now).header }
-    {
-        self.header
-    }
-
     /// How many imported libraries there are.
     pub fn libraries(&self) -> u32
         ensures { result ≡ (loaded self.now).header.library_count }
@@ -122,7 +115,7 @@ impl<'a> Loader<'a> {
         ensures there { IsSome result ↔ (i < (loaded self.now).header.library_count) }
         ensures range { IfSome result (λ v. v.first + v.count ≤ (loaded self.now).header.import_count) }
     {
-        if i >= self.header.library_count as usize {
+        if i >= self.libraries() as usize {
             return None;
         }
         let library = read_library(self.cut, i)?;
@@ -144,7 +137,7 @@ impl<'a> Loader<'a> {
         ensures there { IsSome result ↔ (j < (loaded self.now).header.import_count) }
         ensures library { IfSome result (λ v. v.library < (loaded self.now).header.library_count) }
     {
-        if j >= self.header.import_count as usize {
+        if j >= self.imports() as usize {
             return None;
         }
         let import = read_import(self.cut, self.header, j)?;
@@ -165,7 +158,7 @@ impl<'a> Loader<'a> {
         ensures there { IsSome result ↔ (k < (loaded self.now).header.reloc_count) }
         ensures section { IfSome result (λ r. r.0 < (loaded self.now).sections) }
     {
-        if k >= self.header.reloc_count as usize {
+        if k >= self.relocs() as usize {
             return None;
         }
         let reloc = read_reloc(self.cut, self.header, k)?;
@@ -180,7 +173,7 @@ impl<'a> Loader<'a> {
         ensures there { IsSome result ↔ (i < (loaded self.now).header.export_count) }
         ensures section { IfSome result (λ v. IsTrue (has_section (loaded self.now).header (loaded self.now).sections v.value v.section)) }
     {
-        if i >= self.header.export_count as usize {
+        if i >= self.exports() as usize {
             return None;
         }
         let exports = exports(self.cut, self.header);
@@ -197,7 +190,8 @@ impl<'a> Loader<'a> {
     /// The first export with this name. Hash words and slots have no say.
     #[tactic(auto, unfolding(crate::specs::Loader::named_of))]
     pub fn export_named(&self, name: &[u8]) -> Option<usize>
-        ensures { result ≡ named_of (loaded self.now) name.now }
+        ensures value { result ≡ named_of (loaded self.now) name.now }
+        ensures below { IfSome result (λ i. i < (loaded self.now).header.export_count) }
     {
         exports(self.cut, self.header).find(name)
     }

@@ -113,7 +113,7 @@ fn refuses_by_the_first_rule_that_is_broken(rt: HostRuntime) {
     }
     // The loader header stands at 68, the libraries at 124 and 148, the imports at 172, 176 and 180,
     // the strings at 184.
-    let rows: [(&[(usize, u32)], u32); 17] = [
+    let rows: [(&[(usize, u32)], u32); 20] = [
         (&[], 0),
         (&[(124, 10)], 0),
         (&[(124, 11)], 13),
@@ -131,6 +131,10 @@ fn refuses_by_the_first_rule_that_is_broken(rt: HostRuntime) {
         (&[(191, 0x0078_7901)], 13),
         (&[(136, 4), (172, 0x0100_000B)], 14),
         (&[(160, 1), (68, 0)], 15),
+        // Ranges that follow one another, without and with a gap, and none.
+        (&[(160, 1), (164, 2)], 0),
+        (&[(136, 1), (160, 1), (164, 2)], 15),
+        (&[(96, 0), (124, 11)], 13),
     ];
     for (i, (words, want)) in rows.iter().enumerate() {
         assert_eq!(rt;
