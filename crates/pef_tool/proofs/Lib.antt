@@ -1,6 +1,7 @@
 pub mod DescribedLemmas
 pub mod InputLemmas
 pub mod LineLemmas
+pub mod LinkingLemmas
 pub mod PlacingLemmas
 pub mod PreparedLemmas
 pub mod RelocatingLemmas

@@ -7,7 +7,7 @@ use Rattle.pef_reloc.specs.Plain.{plain_program}
 use Rattle.pef_script.specs.Script.{DescribedScript, DescribedSection}
 use Rattle.pef_views.specs.Section.{is_instantiable}
 use Rattle.pef_write.specs.Containers.{DescribedPart, ReadsBack}
-use Rattle.pef_write.specs.Loaders.{ProgramEntry, ReadsTables, written_loader}
+use Rattle.pef_write.specs.Loaders.{ProgramEntry, ReadsTables, program_bytes, written_loader}
 use Rattle.pef_write.specs.declared.container.Versions.{Versions}
 use Rattle.pef_tool.specs.Linked.{tables_for}
 
@@ -37,11 +37,14 @@ pub record IsLinkable (p : DescribedPart) : Type 0 where
   pub total : p.total ≤ 2 ^ 24
   pub image : length p.image ≤ p.total
 
--- a program of one of so many sections, of at most four halfwords for each of 16,384 fixups
-pub record IsLinkableProgram (sections : ℕ) (p : ProgramEntry) : Type 0 where
-  pub section : p.section < sections
-  pub even : length p.bytes % 2 ≡ 0
-  pub short : length p.bytes ≤ 2 ^ 17
+-- at most one section, and its program of at most four halfwords for each of 16,384 fixups
+pub record AreLinkable (parts : List DescribedPart) (programs : List ProgramEntry) : Type 0 where
+  pub parts_few : length parts ≤ 1
+  pub parts_fit : All IsLinkable parts
+  pub programs_few : length programs ≤ 1
+  pub sections : All (λ p. p.section < length parts) programs
+  pub even : All (λ p. length p.bytes % 2 ≡ 0) programs
+  pub short : length (program_bytes programs) ≤ 2 ^ 17
 
 -- bytes that were linked of some sections and programs: what is written, and that it is read back
 pub record IsLinkedOf (parts : List DescribedPart) (programs : List ProgramEntry) (bytes : List ℕ) : Type 0 where
@@ -50,7 +53,7 @@ pub record IsLinkedOf (parts : List DescribedPart) (programs : List ProgramEntry
   pub written : loader ≡ written_loader (tables_for programs)
   pub tables : ReadsTables (tables_for programs) loader
   pub short : length loader < 2 ^ 32
-  pub programs_fit : All (IsLinkableProgram (length parts)) programs
+  pub fit : AreLinkable parts programs
 
 -- bytes that were linked of a script
 abbrev pub IsLinked : DescribedScript → List ℕ → Type 0

@@ -1,10 +1,10 @@
-ghost use Rattle.std.specs.Prelude.{◌≡◌, ◌≤◌, [], ◌∷◌, ◌++◌, All, IfOk, OnOk, length, map, true};
+ghost use Rattle.std.specs.Prelude.{◌≡◌, [], ◌∷◌, ◌++◌, IfOk, OnOk, map, true};
 ghost use Rattle.pef_reloc.specs.Fixups.{fixups_fit};
 ghost use Rattle.pef_reloc.specs.Plain.{plain_addition, plain_move, plain_program};
 ghost use Rattle.pef_reloc.specs.Instrs.{spelled};
 ghost use Rattle.pef_write.specs.Containers.{described};
 ghost use Rattle.pef_write.specs.Described.{program_entry};
-ghost use Rattle.pef_tool.specs.Linking.{IsLinkable, IsLinkableProgram, IsLinked, IsLinkedOf, program_of};
+ghost use Rattle.pef_tool.specs.Linking.{AreLinkable, IsLinkable, IsLinked, IsLinkedOf, program_of};
 
 use pef_reloc::{Base, Fixup, Instr, encode};
 use pef_script::Script;
@@ -104,8 +104,7 @@ fn link_parts(
     parts: &[Part<'_>],
     programs: &[SectionProgram<'_>],
 ) -> Result<Vec<u8>, AllocError>
-    requires parts { (length parts.now ≤ 1) × All IsLinkable (map described parts.now) }
-    requires programs { (length programs.now ≤ 1) × All (IsLinkableProgram (length parts.now)) (map program_entry programs.now) }
+    requires { AreLinkable (map described parts.now) (map program_entry programs.now) }
     ensures { IfOk result (λ bytes. IsLinkedOf (map described parts.now) (map program_entry programs.now) bytes.items) }
 {
     let tables = Tables {
