@@ -2,6 +2,7 @@ pub mod DescribedLemmas
 pub mod InputLemmas
 pub mod LineLemmas
 pub mod LinkingLemmas
+pub mod LinkedLoader
 pub mod PlacingLemmas
 pub mod PreparedLemmas
 pub mod RelocatingLemmas
