@@ -1,5 +1,5 @@
 -- A linked container is small, and its numbers fit their fields.
-use Rattle.std.proofs.Common.{◌≡◌, ℕ, ◌+◌, ◌*◌, ◌^◌, ◌<◌, ◌≤◌, List, [], ◌∷◌, length, arith}
+use Rattle.std.proofs.Common.{◌≡◌, ℕ, ◌+◌, ◌*◌, ◌^◌, ◌<◌, ◌≤◌, List, [], ◌∷◌, zero, suc, length, get_or, arith}
 use Rattle.std.specs.List.{All}
 use Rattle.pef_write.specs.Containers.{AreWritable, DescribedPart, written_container}
 use Rattle.pef_write.specs.Loaders.{ProgramEntry, TablesFit, program_bytes, written_loader}
@@ -21,6 +21,10 @@ linked_size parts programs loader fit is =
     let small = loader_size programs fit.programs_few fit.short in
     container_size no_versions parts loader (omega (arith, fit.parts_few)) (images_small parts fit.parts_fit) (rw is small)
 
+empty_slot : (k d : ℕ) → k < 1 → get_or (0 ∷ []) k d < 2 ^ 32
+empty_slot zero d under = omega arith
+empty_slot (suc k) d under = absurd (omega arith)
+
 pub linked_tables : (parts : List DescribedPart) (programs : List ProgramEntry) → AreLinkable parts programs → TablesFit (tables_for programs)
 linked_tables parts programs fit =
     let small = loader_size programs fit.programs_few fit.short in
@@ -32,7 +36,7 @@ linked_tables parts programs fit =
       imports = λ k d under. absurd (omega arith);
       programs = λ k d under. record { section = omega (arith, fit.sections k d under, fit.parts_few); even = fit.even k d under };
       power = omega arith;
-      slots = ?;
+      slots = empty_slot;
       keys = λ k d under. absurd (omega arith);
       exports = λ k d under. absurd (omega arith);
       strings = omega arith;

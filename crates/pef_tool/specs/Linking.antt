@@ -52,7 +52,6 @@ pub record IsLinkedOf (parts : List DescribedPart) (programs : List ProgramEntry
   pub container : ReadsBack no_versions parts loader bytes
   pub written : loader ≡ written_loader (tables_for programs)
   pub tables : ReadsTables (tables_for programs) loader
-  pub short : length loader < 2 ^ 32
   pub fit : AreLinkable parts programs
 
 -- bytes that were linked of a script
