@@ -1,6 +1,19 @@
 -- A linked container is small, and its numbers fit their fields.
-use Rattle.std.proofs.Common.{◌≡◌, ℕ, ◌+◌, ◌*◌, ◌^◌, ◌<◌, ◌≤◌, List, [], ◌∷◌, zero, suc, length, get_or, arith}
+use Rattle.std.proofs.Common.{◌≡◌, ℕ, ◌+◌, ◌*◌, ◌%◌, ◌^◌, ◌<◌, ◌≤◌, List, [], ◌∷◌, zero, suc, true, length, length-append, append-nil, get_or, refl, ap, ◌∙◌, Option, Some, option_map, IsTrue, slice_get, arith}
+use Rattle.std.proofs.lemmas.Bool.Decides.{nat_tests}
+use Rattle.pef_views.specs.Section.{is_instantiable}
+use Rattle.pef_script.specs.Script.{DescribedHeader, DescribedSection}
+use Rattle.pef_script.specs.WellFormed.{is_kind}
 use Rattle.std.specs.List.{All}
+use Rattle.pef_reloc.specs.declared.fixup.Fixup.{Fixup}
+use Rattle.pef_reloc.specs.declared.instr.Instr.{Instr}
+use Rattle.pef_reloc.specs.Fixups.{fixups_fit}
+use Rattle.pef_reloc.specs.Instrs.{halfword_bytes, halfwords_of, program_length, spelled}
+use Rattle.pef_reloc.specs.Plain.{plain_program}
+use Rattle.pef_reloc.proofs.FixupLemmas.{fixups_fit-parts}
+use Rattle.pef_reloc.proofs.FlatLaws.{length_spelling}
+use Rattle.pef_reloc.proofs.PlainLaws.{plain-short}
+use Rattle.pef_reloc.proofs.Spellings.{spelled-nothing, spelled-one}
 use Rattle.pef_write.specs.Containers.{AreWritable, DescribedPart, written_container}
 use Rattle.pef_write.specs.Loaders.{ProgramEntry, TablesFit, program_bytes, written_loader}
 use Rattle.pef_write.proofs.Containers.{container_size}
@@ -54,3 +67,46 @@ linked_parts parts programs loader fit is = record {
     record { kind = p.kind; share = p.share; alignment = p.alignment; total = omega (arith, p.total); image = p.image };
   size = linked_size parts programs loader fit is;
 }
+
+-- each instruction has one or two halfwords, of two bytes each
+length_spelled : (instrs : List Instr) → length (spelled instrs) ≡ 2 * program_length instrs
+length_spelled [] = ap length spelled-nothing
+length_spelled (x ∷ instrs) =
+    omega (arith, ap length (spelled-one x instrs) ∙ length-append (halfword_bytes (halfwords_of x)) (spelled instrs), length_spelling x, length_spelled instrs)
+
+-- what holds of the one element
+all_of_one : {X : Type 0} (P : X → Type 0) (x : X) → P x → All P (x ∷ [])
+all_of_one P x holds zero d under = holds
+all_of_one P x holds (suc k) d under = absurd (omega arith)
+
+-- a section and its plain program
+pub section_linkable : (part : DescribedPart) (fixups : List Fixup) (bytes : List ℕ) → IsLinkable part → fixups_fit fixups ≡ true → bytes ≡ spelled (plain_program fixups) → AreLinkable (part ∷ []) (record { section = 0; bytes = bytes } ∷ [])
+section_linkable part fixups bytes linkable fit is =
+    let program : ProgramEntry = record { section = 0; bytes = bytes } in
+    let halfwords : length bytes ≡ 2 * program_length (plain_program fixups) = ap length is ∙ length_spelled (plain_program fixups) in
+    let few = (fixups_fit-parts fixups fit).count in
+    let short = plain-short fixups in
+    record {
+      parts_few = omega arith;
+      parts_fit = all_of_one IsLinkable part linkable;
+      programs_few = omega arith;
+      sections = all_of_one (λ (p : ProgramEntry). p.section < 1) program (omega arith);
+      even = all_of_one (λ (p : ProgramEntry). length p.bytes % 2 ≡ 0) program (omega (arith, halfwords));
+      short = rw (append-nil bytes) (omega (arith, halfwords, few, short));
+    }
+
+-- a kind of a script's sections is one that a container's sections can have
+pub kind_instantiable : (k : ℕ) → is_kind k ≡ true → IsTrue (is_instantiable k)
+kind_instantiable k is = grind (arith, nat_tests)
+
+-- the one section of a script
+pub one_section : (sections : List DescribedSection) (header : DescribedHeader) (image : List ℕ) (fixups : List Fixup) → length sections ≤ 1
+    → Some header ≡ option_map (λ s. s.header) (slice_get sections 0) → Some image ≡ option_map (λ s. s.image) (slice_get sections 0) → Some fixups ≡ option_map (λ s. s.fixups) (slice_get sections 0)
+    → sections ≡ record { header = header; image = image; fixups = fixups } ∷ []
+one_section [] header image fixups few a b c = absurd (cc)
+one_section (s ∷ []) header image fixups few a b c =
+    let h : header ≡ s.header = cc in
+    let i : image ≡ s.image = cc in
+    let f : fixups ≡ s.fixups = cc in
+    rw (h, i, f) refl
+one_section (s ∷ t ∷ others) header image fixups few a b c = absurd (omega arith)

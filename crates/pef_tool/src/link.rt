@@ -66,19 +66,26 @@ fn program_bytes(alloc: Global, fixups: &[Fixup]) -> Result<Vec<u8>, AllocError>
 pub fn link(alloc: Global, script: &Script<'_>) -> Result<Vec<u8>, AllocError>
     ensures { IfOk result (λ bytes. IsLinked script.now bytes.items) }
 {
-    match (script.section(0), script.image(0), script.fixups(0)) {
-        (Some(header), Some(image), Some(fixups)) => {
-            let part = Part {
-                kind: header.kind,
-                share: header.share,
-                alignment: header.align,
-                total: header.total,
-                image,
-            };
-            link_section(alloc, part, fixups)
-        }
-        _ => link_parts(alloc, &[], &[]),
+    if script.sections() == 0 {
+        return link_parts(alloc, &[], &[]);
     }
+    let Some(header) = script.section(0) else {
+        unreachable!()
+    };
+    let Some(image) = script.image(0) else {
+        unreachable!()
+    };
+    let Some(fixups) = script.fixups(0) else {
+        unreachable!()
+    };
+    let part = Part {
+        kind: header.kind,
+        share: header.share,
+        alignment: header.align,
+        total: header.total,
+        image,
+    };
+    link_section(alloc, part, fixups)
 }
 
 /// The container of one section.
