@@ -6,7 +6,7 @@ fn words_slots_and_powers(rt: HostRuntime) {
     for (i, byte) in stepped.iter_mut().enumerate() {
         *byte = ((7 * i + 13) % 256) as u8;
     }
-    let words: [(&[u8], u32); 10] = [
+    let words: [(&[u8], u32); 11] = [
         (b"a", 0x0001_0061),
         (b"ab", 0x0002_00A0),
         (b"abc", 0x0003_0123),
@@ -17,9 +17,10 @@ fn words_slots_and_powers(rt: HostRuntime) {
         (&[b'x'; 255], 0x00FF_D486),
         (&[0xFF; 255], 0x00FF_CDC1),
         (&stepped, 0x00FF_64A7),
+        (&[0x80; 300], 0x012C_9ED1),
     ];
     for (name, word) in words {
-        assert!(rt; name.len() < 256);
+        assert!(rt; name.len() < 65_536);
         assert_eq!(rt; hash_word(name), word, "name {name:?}");
     }
     let slots = [
