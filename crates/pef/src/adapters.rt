@@ -7,8 +7,7 @@ ghost use Rattle.pef_tool.specs.Ports.{MayFail};
 use pef_tool::{FileFault, Files, Sink, Source, StreamFault};
 use std::alloc::Global;
 use std::io::{self, ErrorKind, Read, Write};
-use std::rt;
-use std::{fs, str};
+use std::{fs, rt, str};
 
 /// An input.
 #[derive(Drop)]

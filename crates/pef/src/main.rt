@@ -6,8 +6,8 @@ mod adapters;
 use adapters::{DiskFiles, Input, Output};
 use pef_tool::run;
 use std::env;
-use std::rt::Env;
 use std::process::ExitCode;
+use std::rt::Env;
 
 fn main(rt: HostRuntime) -> ExitCode {
     let alloc = rt.alloc();
@@ -15,13 +15,7 @@ fn main(rt: HostRuntime) -> ExitCode {
     let mut files = DiskFiles::new(&rt);
     let mut input = Input::new(rt.stdin());
     let mut out = Output::new(rt.stdout());
-    ExitCode::from(run(
-        alloc,
-        words.as_slice(),
-        &mut files,
-        &mut input,
-        &mut out,
-    ))
+    ExitCode::from(run(alloc, words.as_slice(), &mut files, &mut input, &mut out))
 }
 
 /// The words of the command line. A line that the system can't hand over has none, and so is no good one.

@@ -36,9 +36,9 @@ obeyed_inside room i bytes piece after is =
       | inr fits ↦ (elim (leb_tells (suc (length bytes)) (copied i)) [
         | inl short ↦ (let no = rw (fits.0, short.0) at is in absurd (cc no))
         | inr there ↦
-          (let same : output i (take (copied i) bytes) ≡ piece = ap (λ p. p.0) (same_read (output i (take (copied i) bytes), drop (copied i) bytes) (piece, after) (rw (fits.0, there.0) at is)) in
-          let len = length-output i (take (copied i) bytes) (length-take-le (copied i) bytes (omega (arith, there.1))) in
-          omega (arith, len, ap length same, fits.1))
+            (let same : output i (take (copied i) bytes) ≡ piece = ap (λ p. p.0) (same_read (output i (take (copied i) bytes), drop (copied i) bytes) (piece, after) (rw (fits.0, there.0) at is)) in
+            let len = length-output i (take (copied i) bytes) (length-take-le (copied i) bytes (omega (arith, there.1))) in
+            omega (arith, len, ap length same, fits.1))
       ])
     ]
 

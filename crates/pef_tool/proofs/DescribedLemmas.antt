@@ -79,9 +79,9 @@ plain_applied a (fixup ∷ fixups) s from front memory is inside =
     let moved = move_acts s fixup.offset (plain_addition fixup.base ∷ plain_from (fixup.offset + 4) fixups) in
     let added = addition_applied a fixup.base at (acts_from (plain_from (fixup.offset + 4) fixups) next) (front ++ memory) inside.2 room in
     let behind : added_at (front ++ memory) fixup.offset (address_of a fixup.base) ≡ (front ++ (take gap memory ++ word)) ++ drop (gap + 4) memory =
-      ap (λ (o : ℕ). added_at (front ++ memory) o (address_of a fixup.base)) offset_is ∙ added_behind front memory gap (address_of a fixup.base) in
+    ap (λ (o : ℕ). added_at (front ++ memory) o (address_of a fixup.base)) offset_is ∙ added_behind front memory gap (address_of a fixup.base) in
     let front_len : length (front ++ (take gap memory ++ word)) ≡ fixup.offset + 4 =
-      rw (length-append front (take gap memory ++ word), length-append (take gap memory) word, length-take gap memory, word_len) (omega (arith, inside.0, inside.1, is)) in
+    rw (length-append front (take gap memory ++ word), length-append (take gap memory) word, length-take gap memory, word_len) (omega (arith, inside.0, inside.1, is)) in
     let left : fixup.offset + 4 + length (drop (gap + 4) memory) ≡ from + length memory = rw (length-drop (gap + 4) memory) (omega (arith, inside.0, inside.1, is)) in
     let P : ℕ → Type 0 = λ len. AreInside a (fixup.offset + 4) len fixups in
     let Q : ℕ → Type 0 = λ p. applied a (acts_from (plain_from p fixups) next) ((front ++ (take gap memory ++ word)) ++ drop (gap + 4) memory) ≡ record { memory = (front ++ (take gap memory ++ word)) ++ with_bases (address_of a) (fixup.offset + 4) fixups (drop (gap + 4) memory); fault = None } in

@@ -63,8 +63,8 @@ linked_parts parts programs loader fit is = record {
   old_implementation = omega arith;
   count = omega (arith, fit.parts_few);
   each = λ k d under.
-    let p = fit.parts_fit k d under in
-    record { kind = p.kind; share = p.share; alignment = p.alignment; total = omega (arith, p.total); image = p.image };
+      let p = fit.parts_fit k d under in
+      record { kind = p.kind; share = p.share; alignment = p.alignment; total = omega (arith, p.total); image = p.image };
   size = linked_size parts programs loader fit is;
 }
 

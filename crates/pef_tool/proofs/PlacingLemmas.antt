@@ -59,9 +59,10 @@ placed_zeros m extent from zero [] after k d placed under = absurd (omega arith)
 placed_zeros m extent from zero (p ∷ places) after k d placed under = absurd placed
 placed_zeros m extent from (suc n) [] after k d placed under = absurd placed
 placed_zeros m extent from (suc n) (p ∷ places) after zero d placed under =
-    let here : from + 0 ≡ from = omega arith in
-    (placed_stays (with_new m p) extent (from + 1) n places after p.address (replicate p.size 0) placed.1 (placed_here m.instances (record { address = p.address; bytes = replicate p.size 0 })),
-    rw here placed.0.size)
+    let here : from + 0 ≡ from = omega arith in (
+      placed_stays (with_new m p) extent (from + 1) n places after p.address (replicate p.size 0) placed.1 (placed_here m.instances (record { address = p.address; bytes = replicate p.size 0 })),
+      rw here placed.0.size,
+    )
 placed_zeros m extent from (suc n) (p ∷ places) after (suc k) d placed under =
     let next : from + suc k ≡ (from + 1) + k = omega arith in
     rw next (placed_zeros (with_new m p) extent (from + 1) n places after k d placed.1 (omega arith))

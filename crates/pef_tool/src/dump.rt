@@ -14,7 +14,12 @@ const ROW: usize = 16;
 const GROUP: usize = 4;
 
 /// Prints `bytes`, which stand at `address`, in lines of sixteen.
-pub fn print_memory<W: Sink>(out: &mut W, page: &mut Page, address: u32, bytes: &[u8]) -> Result<(), StreamFault>
+pub fn print_memory<W: Sink>(
+    out: &mut W,
+    page: &mut Page,
+    address: u32,
+    bytes: &[u8],
+) -> Result<(), StreamFault>
     requires { address + length bytes.now ≤ 2 ^ 32 }
     ensures { Sends result (W.written out.old) (W.written out.new) (W.failures out.old) (W.failures out.new) page.old.items page.new.items (dump_text address bytes.now) }
 {

@@ -44,7 +44,11 @@ impl From<StreamFault> for InputFault {
 }
 
 /// Reads an input to its end, where it has no more than `limit` bytes.
-pub fn read_input<R: Source>(alloc: Global, input: &mut R, limit: usize) -> Result<Vec<u8>, InputFault>
+pub fn read_input<R: Source>(
+    alloc: Global,
+    input: &mut R,
+    limit: usize,
+) -> Result<Vec<u8>, InputFault>
     ensures { ReadsInput result (R.coming input.old) (R.failures input.old) (R.failures input.new) limit }
 {
     let mut bytes = Vec::new(alloc);

@@ -14,7 +14,7 @@ returns-in_err-send g c =
     let some : 0 < length at.rest.now = search rules in
     let row : c.split_at.result.0.now ≡ take 16 at.rest.now = c.split_at.ensures.front ∙ ap (λ n. take n at.rest.now) c.min.ensures ∙ take_min 16 at.rest.now in
     let line : c.as_slice.result.now ≡ row_text (c.args.address + (length c.args.bytes.now - length at.rest.now)) (take 16 at.rest.now) =
-      c.as_slice.ensures.value ∙ c.line_of-line.ensures ∙ ap (row_text (c.args.address + (length c.args.bytes.now - length at.rest.now))) row in
+    c.as_slice.ensures.value ∙ c.line_of-line.ensures ∙ ap (row_text (c.args.address + (length c.args.bytes.now - length at.rest.now))) row in
     let whole = dump_text-step _ at.invariant.sent.0 c.as_slice.result.now c.args.address (length c.args.bytes.now) at.rest.now some at.invariant.inside at.invariant.sent.2 line in
     let short = StopsShort-then (told c.args.out.now) (told at.out) (told c.send.new.out) _ _ _ c.args.page.now.items at.page.items at.invariant.sent.0 c.as_slice.result.now at.invariant.sent.1 at.invariant.counted c.in_err-send.ensures in
     let longer = StopsShort-longer (told c.args.out.now) (told c.send.new.out) _ _ c.args.page.now.items _ (dump_text (c.args.address + (length c.args.bytes.now - length (drop 16 at.rest.now))) (drop 16 at.rest.now)) short in
@@ -29,7 +29,7 @@ loop-rest-preserved g c =
     let others : c.split_at.result.1.now ≡ drop 16 at.rest.now = c.split_at.ensures.back ∙ ap (λ n. drop n at.rest.now) c.min.ensures ∙ drop_min 16 at.rest.now in
     let row : c.split_at.result.0.now ≡ take 16 at.rest.now = c.split_at.ensures.front ∙ ap (λ n. take n at.rest.now) c.min.ensures ∙ take_min 16 at.rest.now in
     let line : c.as_slice.result.now ≡ row_text (c.args.address + (length c.args.bytes.now - length at.rest.now)) (take 16 at.rest.now) =
-      c.as_slice.ensures.value ∙ c.line_of-line.ensures ∙ ap (row_text (c.args.address + (length c.args.bytes.now - length at.rest.now))) row in
+    c.as_slice.ensures.value ∙ c.line_of-line.ensures ∙ ap (row_text (c.args.address + (length c.args.bytes.now - length at.rest.now))) row in
     record {
       inside = omega (arith, c.split_at.ensures.back_len, at.invariant.inside);
       sent = (

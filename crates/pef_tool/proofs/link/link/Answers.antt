@@ -16,6 +16,6 @@ returns c =
     let section : DescribedSection = record { header = header; image = image; fixups = fixups } in
     let is = one_section c.args.script.now.sections header image fixups (c.sections.ensures.holds.section_count) c.in-Some.ensures c.in-Some-image.ensures c.in-Some-fixups.ensures.fixups in
     IfOk-weaker c.link_section.result _ _ (λ bytes linked.
-      let P : List ProgramEntry → Type 0 = λ programs. IsLinkedOf (part_of section ∷ []) programs bytes.items in
-      let Q : List DescribedSection → Type 0 = λ sections. IsLinkedOf (map part_of sections) (programs_from 0 sections) bytes.items in
-      subst Q (sym is) (subst P (sym (append-nil (program_of 0 fixups))) linked)) c.link_section.ensures
+    let P : List ProgramEntry → Type 0 = λ programs. IsLinkedOf (part_of section ∷ []) programs bytes.items in
+    let Q : List DescribedSection → Type 0 = λ sections. IsLinkedOf (map part_of sections) (programs_from 0 sections) bytes.items in
+    subst Q (sym is) (subst P (sym (append-nil (program_of 0 fixups))) linked)) c.link_section.ensures

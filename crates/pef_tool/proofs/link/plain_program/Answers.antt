@@ -18,7 +18,7 @@ loop-fixup-preserved c =
     let rest = plain_from (fixup.offset + 4) (drop (at.fixup-index + 1) fixups) in
     let next : plain_from at.position (drop at.fixup-index fixups) ≡ plain_move at.position fixup.offset ++ plain_addition fixup.base ∷ rest = ap (plain_from at.position) (drop_more fixups at.fixup-index nothing c.loop-fixup-test.true) in
     let items : c.push.new.self.items ≡ (at.program.items ++ plain_move at.position fixup.offset) ++ plain_addition fixup.base ∷ [] =
-      c.in_ok-push.ensures.items ∙ ap (λ p. p ++ c.addition.result ∷ []) c.in_ok-push_move.ensures ∙ ap (λ i. (at.program.items ++ plain_move at.position fixup.offset) ++ i ∷ []) c.addition.ensures in
+    c.in_ok-push.ensures.items ∙ ap (λ p. p ++ c.addition.result ∷ []) c.in_ok-push_move.ensures ∙ ap (λ i. (at.program.items ++ plain_move at.position fixup.offset) ++ i ∷ []) c.addition.ensures in
     ap (λ p. c.push.new.self.items ++ plain_from (p + 4) (drop (at.fixup-index + 1) fixups)) c.from-position.ensures
     ∙ ap (λ p. p ++ rest) items
     ∙ append_assoc (at.program.items ++ plain_move at.position fixup.offset) (plain_addition fixup.base ∷ []) rest

@@ -26,6 +26,6 @@ loop-at-preserved g c =
     record {
       inside = omega (arith, wrote.0, c.split_at.ensures.back_len, at.invariant.inside);
       sent = rw (take-add at.at c.in_ok-at.field-0 c.args.bytes.now, ← c.split_at.ensures.back)
-        (Grows-then (told c.args.out.now) (told at.out) (told c.write.new.self) (take at.at c.args.bytes.now) _ at.invariant.sent wrote.2);
+          (Grows-then (told c.args.out.now) (told at.out) (told c.write.new.self) (take at.at c.args.bytes.now) _ at.invariant.sent wrote.2);
       counted = omega (arith, wrote.3, at.invariant.counted);
     }

@@ -32,11 +32,11 @@ loop-i-preserved c =
     let items : c.push.new.self.items ≡ at.places.items ++ place ∷ [] = search rules in
     record {
       placed = λ places after others.
-        let Q : Layout → Type 0 = λ m. ArePlaced m extent (at.i + 1) (c.from-count.result - (at.i + 1)) places after in
-        rw (items, append_assoc at.places.items (place ∷ []) places) (at.invariant.placed (place ∷ places) after (placed_more at.memory extent at.i c.from-count.result place places after c.loop-i-test.true placed (subst Q c.in_ok-place.ensures.placed others)));
+          let Q : Layout → Type 0 = λ m. ArePlaced m extent (at.i + 1) (c.from-count.result - (at.i + 1)) places after in
+          rw (items, append_assoc at.places.items (place ∷ []) places) (at.invariant.placed (place ∷ places) after (placed_more at.memory extent at.i c.from-count.result place places after c.loop-i-test.true placed (subst Q c.in_ok-place.ensures.placed others)));
       lacking = λ others.
-        let Q : Layout → Type 0 = λ m. LackRoom m extent (at.i + 1) (c.from-count.result - (at.i + 1)) in
-        at.invariant.lacking (lacking_more at.memory extent at.i c.from-count.result place c.loop-i-test.true placed (subst Q c.in_ok-place.ensures.placed others));
+          let Q : Layout → Type 0 = λ m. LackRoom m extent (at.i + 1) (c.from-count.result - (at.i + 1)) in
+          at.invariant.lacking (lacking_more at.memory extent at.i c.from-count.result place c.loop-i-test.true placed (subst Q c.in_ok-place.ensures.placed others));
     }
 
 pub returns-clause-placed : goal.returns-clause-placed

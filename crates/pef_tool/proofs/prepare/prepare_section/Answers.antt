@@ -20,8 +20,8 @@ done c =
     let l = loaded c.args.loader.now in
     let zeros = some_same _ _ (sym c.part_mut-part.ensures.bytes ∙ c.requires.zeros) in
     let filling : c.fill.new.memory ≡ filled (image_in (seen c.args.section.now)) c.args.section.now.total_size =
-      c.fill.ensures ∙ ap (λ (z : List ℕ). c.image.result.now ++ drop (length c.image.result.now) z) zeros
-      ∙ filled_zeros c.image.result.now c.args.place.size ∙ ap (λ (i : List ℕ). filled i c.args.place.size) c.image.ensures ∙ ap (filled (image_in (seen c.args.section.now))) c.requires.size in
+    c.fill.ensures ∙ ap (λ (z : List ℕ). c.image.result.now ++ drop (length c.image.result.now) z) zeros
+    ∙ filled_zeros c.image.result.now c.args.place.size ∙ ap (λ (i : List ℕ). filled i c.args.place.size) c.image.ensures ∙ ap (filled (image_in (seen c.args.section.now))) c.requires.size in
     ap (relocated_by a c.args.k (reloc_of l) 0 l.header.reloc_count) (sym filling) ∙ c.relocate.ensures
 
 pub returns-clause-fault : goal.returns-clause-fault

@@ -13,4 +13,4 @@ returns g c =
     let P : List ℕ → Type 0 = λ (page : List ℕ). Prints (told c.args.out.now) (told c.print.new.out) page c.print.new.page.items text in
     let Q : List ℕ → Type 0 = λ (t : List ℕ). Sends c.flush.result (told c.args.out.now) (told c.flush.new.out) (g.W.Sink.failures c.args.out.now) (g.W.Sink.failures c.flush.new.out) [] [] t in
     subst Q (append-nil text) (Sends-then c.flush.result (told c.args.out.now) (told c.print.new.out) (told c.flush.new.out) _ _ _ [] c.print.new.page.items [] text [] (subst P c.new-page.ensures printed.0) printed.1
-      (Sends-empty c.flush.result (told c.print.new.out) (told c.flush.new.out) _ _ _ _ [] c.flush.ensures.empty c.flush.ensures.sends))
+    (Sends-empty c.flush.result (told c.print.new.out) (told c.flush.new.out) _ _ _ _ [] c.flush.ensures.empty c.flush.ensures.sends))
