@@ -1,6 +1,8 @@
 -- How placements follow one another, and what they leave of each other.
-use Rattle.std.proofs.Common.{◌≡◌, ◌≢◌, ◌⊎◌, ℕ, zero, suc, ◌+◌, ◌-◌, ◌<◌, ◌≤◌, List, [], ◌∷◌, ◌++◌, Option, None, Some, length, get_or, replicate, refl, sym, ap, subst, ◌∙◌, inl, inr, append_assoc, append-nil, arith}
-use Rattle.cfm_memory.specs.Instances.{Layout, Instance, bytes_at}
+use Rattle.std.proofs.Common.{◌≡◌, ◌≢◌, ◌⊎◌, ℕ, zero, suc, ◌+◌, ◌-◌, ◌<◌, ◌≤◌, List, [], ◌∷◌, ◌++◌, Option, None, Some, length, get_or, replicate, refl, sym, ap, subst, ◌∙◌, inl, inr, IsTrue, arith, rules}
+use Rattle.std.specs.List.{All}
+use Rattle.cfm_memory.specs.Instances.{Layout, bytes_at, holds_place}
+use Rattle.pef_tool.specs.Shown.{IsHeld}
 use Rattle.cfm_memory.specs.Placement.{IsLowest, IsRoom, MayRefuse, taken, with_new}
 use Rattle.cfm_memory.specs.declared.place.MemoryFault.{MemoryFault}
 use Rattle.cfm_memory.specs.declared.place.MemoryFault.TheVariants.{NoRoom, OutOfMemory}
@@ -105,3 +107,23 @@ pub lacks_room : (fault : MemoryFault) (m first : Layout) (extent : ℕ → Exte
     → MayRefuse m (extent i).size (extent i).alignment fault → LacksRoom fault first extent n
 lacks_room NoRoom m first extent i n under before refused = before (lacking_here m extent i n under refused)
 lacks_room OutOfMemory m first extent i n under before refused = tt
+
+-- the one place
+pub only_place : (places : List Place) (p : Place) → length places ≡ 1 → p ≡ get_or places 0 p → places ≡ p ∷ []
+only_place [] p one is = absurd (omega arith)
+only_place (q ∷ []) p one is = ap (λ x. x ∷ []) (sym is)
+only_place (q ∷ r ∷ places) p one is = absurd (omega arith)
+
+-- the first section was placed first
+pub first_placed : (m : Layout) (extent : ℕ → Extent) (n : ℕ) (p : Place) (places : List Place) (after : Layout) → ArePlaced m extent 0 n (p ∷ places) after → IsPlaceFor m (extent 0) p
+first_placed m extent zero p places after placed = absurd placed
+first_placed m extent (suc n) p places after placed = placed.0
+
+-- an instance of the right length is held
+pub is_held : (m : Layout) (p : Place) (bytes : List ℕ) → bytes_at m.instances p.address ≡ Some bytes → length bytes ≡ p.size → IsTrue (holds_place m p)
+is_held m p bytes there len = rw (there, len) (search rules)
+
+-- what holds of the one place
+pub one_held : (m : Layout) (p : Place) → IsHeld m p → All (IsHeld m) (p ∷ [])
+one_held m p held zero d under = held
+one_held m p held (suc k) d under = absurd (omega arith)

@@ -10,5 +10,6 @@ pub mod Refusal
 pub mod Relocating
 pub mod Reply
 pub mod Sent
+pub mod Showing
 pub mod Shown
 pub mod Text

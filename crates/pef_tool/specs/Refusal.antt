@@ -3,12 +3,16 @@ use Rattle.std.specs.Prelude.{ℕ, List, [], ◌∷◌, ◌++◌, codes, decimal
 use Rattle.pef_script.specs.Faults as script
 use Rattle.pef_script.specs.declared.fault.LineFault.{LineFault}
 use Rattle.pef_script.specs.declared.fault.LineFault.TheVariants.{BadLine, BadNumber, UnknownName, RepeatedName, OutOfOrder, Overlap, OutsideSection, TooMany, BadKind}
+use Rattle.pef_reloc.specs.Faults as reloc
+use Rattle.pef_reloc.specs.declared.fault.RelocFault.{RelocFault}
+use Rattle.pef_reloc.specs.declared.fault.RelocFault.TheVariants as reloc_fault
 use Rattle.pef_tool.specs.declared.refusal.Refusal.{Refusal}
-use Rattle.pef_tool.specs.declared.refusal.Refusal.TheVariants.{Script, NoRoom, InputUnreadable, InputTooLong, OutOfMemory}
+use Rattle.pef_tool.specs.declared.refusal.Refusal.TheVariants.{Script, Reloc, NoRoom, InputUnreadable, InputTooLong, OutOfMemory}
 
 -- the numbers of the refusals
 abbrev pub number_of : Refusal → ℕ
 number_of (Script fault line) = script.number_of fault
+number_of (Reloc fault) = reloc.fault_number fault
 number_of NoRoom = 67
 number_of InputUnreadable = 73
 number_of InputTooLong = 74
@@ -26,9 +30,23 @@ line_fault_name OutsideSection = codes "OutsideSection"
 line_fault_name TooMany = codes "TooMany"
 line_fault_name BadKind = codes "BadKind"
 
+-- the names of the faults of relocation
+abbrev pub reloc_fault_name : RelocFault → List ℕ
+reloc_fault_name reloc_fault.BadOpcode = codes "BadOpcode"
+reloc_fault_name reloc_fault.CutInstruction = codes "CutInstruction"
+reloc_fault_name reloc_fault.RepeatTooFar = codes "RepeatTooFar"
+reloc_fault_name reloc_fault.RepeatCuts = codes "RepeatCuts"
+reloc_fault_name reloc_fault.NestedRepeat = codes "NestedRepeat"
+reloc_fault_name reloc_fault.TooManySteps = codes "TooManySteps"
+reloc_fault_name reloc_fault.WordOutside = codes "WordOutside"
+reloc_fault_name reloc_fault.ImportOutside = codes "ImportOutside"
+reloc_fault_name reloc_fault.SectionOutside = codes "SectionOutside"
+reloc_fault_name reloc_fault.OutOfMemory = codes "OutOfMemory"
+
 -- the names of the refusals
 abbrev pub name_of : Refusal → List ℕ
 name_of (Script fault line) = line_fault_name fault
+name_of (Reloc fault) = reloc_fault_name fault
 name_of NoRoom = codes "NoRoom"
 name_of InputUnreadable = codes "InputUnreadable"
 name_of InputTooLong = codes "InputTooLong"
@@ -37,6 +55,7 @@ name_of OutOfMemory = codes "OutOfMemory"
 -- what else the line says
 abbrev pub place_of : Refusal → List ℕ
 place_of (Script fault line) = codes " line " ++ decimal line
+place_of (Reloc fault) = codes " in it"
 place_of NoRoom = codes " in it"
 place_of InputUnreadable = []
 place_of InputTooLong = []

@@ -1,17 +1,19 @@
 -- What a run answers, and how its answer goes out.
 use Rattle.std.specs.Prelude.{◌≡◌, ◌⊎◌, ℕ, List, [], ◌∷◌, ◌++◌, Option, None, Some, Result, Ok, Err, ⊤, codes, map, take}
 use Rattle.pef_script.specs.Grammar.{script_of}
-use Rattle.pef_script.specs.Script.{DescribedScript, DescribedSection}
+use Rattle.pef_script.specs.Script.{DescribedScript}
+use Rattle.pef_script.specs.declared.fault.LineFault.{LineFault}
 use Rattle.pef_tool.specs.declared.command_line.Request.{Request}
 use Rattle.pef_tool.specs.declared.command_line.Request.TheVariants.{Show}
 use Rattle.pef_tool.specs.declared.refusal.Refusal.{Refusal}
-use Rattle.pef_tool.specs.declared.refusal.Refusal.TheVariants.{Script, NoRoom, InputUnreadable, InputTooLong, OutOfMemory}
+use Rattle.pef_tool.specs.declared.refusal.Refusal.TheVariants.{Script, Reloc, NoRoom, InputUnreadable, InputTooLong, OutOfMemory}
 use Rattle.pef_tool.specs.declared.reply.Reply.{Reply}
 use Rattle.pef_tool.specs.declared.reply.Reply.TheVariants.{Usage, Refused, Shown}
 use Rattle.pef_tool.specs.declared.shown.Prepared.{Prepared}
 use Rattle.pef_tool.specs.Input.{IsWhole, IsLonger}
 use Rattle.pef_tool.specs.Ports.{Grows, Rose}
 use Rattle.pef_tool.specs.Refusal.{refusal_text}
+use Rattle.pef_tool.specs.Showing.{IsShown}
 use Rattle.pef_tool.specs.Shown.{PlacedSection, section_at, fragment_text}
 
 -- how many bytes of an input are read
@@ -38,3 +40,33 @@ abbrev pub Delivers : Option (List ℕ) → Option (List ℕ) → ℕ → ℕ �
 Delivers told told' count count' answer status =
     (Grows told told' answer.text × (status ≡ answer.status))
     ⊎ (((n : ℕ) × Grows told told' (take n answer.text)) × Rose count count' × (status ≡ 1))
+
+-- what is shown is of the script that the whole input is
+pub record MayShow (told : Option (List ℕ)) (p : Prepared) : Type 0 where
+  pub text : List ℕ
+  pub whole : IsWhole told text
+  pub script : DescribedScript
+  pub read : script_of text ≡ Ok script
+  pub shown : IsShown script p
+
+-- the whole input is no script, by its first refusal
+pub record MayRefuseScript (told : Option (List ℕ)) (fault : LineFault) (line : ℕ) : Type 0 where
+  pub text : List ℕ
+  pub whole : IsWhole told text
+  pub read : script_of text ≡ Err (record { fault = fault; line = line })
+
+-- why `show` may be refused
+abbrev pub MayRefuse : Option (List ℕ) → ℕ → ℕ → Refusal → Type 0
+MayRefuse told count count' (Script fault line) = MayRefuseScript told fault line
+MayRefuse told count count' (Reloc fault) = ⊤
+MayRefuse told count count' NoRoom = ⊤
+MayRefuse told count count' InputUnreadable = Rose count count'
+MayRefuse told count count' InputTooLong = IsLonger told input_limit
+MayRefuse told count count' OutOfMemory = ⊤
+
+-- what a run may answer
+abbrev pub MayAnswer : Option Request → Option (List ℕ) → ℕ → ℕ → Reply → Type 0
+MayAnswer asked told count count' Usage = asked ≡ None
+MayAnswer asked told count count' (Refused OutOfMemory) = ⊤
+MayAnswer asked told count count' (Refused refusal) = (asked ≡ Some Show) × MayRefuse told count count' refusal
+MayAnswer asked told count count' (Shown p) = (asked ≡ Some Show) × MayShow told p

@@ -13,6 +13,7 @@ mod prepare;
 mod refusal;
 mod relocation;
 mod reply;
+mod show;
 mod shown;
 
 pub use commands::run;

@@ -3,15 +3,56 @@ ghost use Rattle.std.specs.Result.{result_err};
 ghost use Rattle.cfm_memory.specs.Instances.{bytes_at};
 ghost use Rattle.pef_loader.specs.Views.{loaded};
 ghost use Rattle.pef_views.specs.Views.{contained, seen};
-ghost use Rattle.pef_tool.specs.Prepared.{HasImage, image_in, section_done};
+ghost use Rattle.pef_tool.specs.Prepared.{HasImage, HasImageAt, IsPrepared, image_in, section_done};
 ghost use Rattle.pef_tool.specs.Placing.{ArePlaced, LacksRoom, extent_of};
 
 use crate::relocation::relocate;
+use crate::shown::Prepared;
 use cfm_memory::{Memory, MemoryFault, Place};
 use pef_loader::Loader;
 use pef_reloc::RelocFault;
 use pef_views::{Container, SectionView};
 use std::alloc::Global;
+
+/// Addresses of a fragment's memory end below this one.
+const MEMORY_LIMIT: u32 = 0x1000_0000;
+
+/// Why a container can't be prepared.
+#[derive(Clone, Copy, Debug, PartialEq, Eq)]
+pub enum PrepareFault {
+    /// A section isn't placed.
+    Memory(MemoryFault),
+    /// A relocation program is no program, or can't be applied.
+    Reloc(RelocFault),
+}
+
+/// Prepares a container with at most one instantiated section, alone.
+pub fn prepare(
+    alloc: Global,
+    container: &Container<'_>,
+    loader: &Loader<'_>,
+) -> Result<Prepared, PrepareFault>
+    requires one { (contained container.now).header.instantiated_section_count ≤ 1 }
+    requires image { HasImageAt (contained container.now) 0 }
+    ensures prepared { IfOk result (λ p. IsPrepared 0x10000000 (contained container.now) (loaded loader.now) p.memory p.places.items) }
+{
+    let mut memory = Memory::new(alloc, MEMORY_LIMIT);
+    let places = match place_sections(alloc, &mut memory, container) {
+        Ok(places) => places,
+        Err(fault) => return Err(PrepareFault::Memory(fault)),
+    };
+    if places.is_empty() {
+        return Ok(Prepared { memory, places });
+    }
+    let place = places[0];
+    let Some(section) = container.section(0) else {
+        unreachable!()
+    };
+    match prepare_section(&mut memory, place, &section, 0, loader, &[place.address]) {
+        Ok(()) => Ok(Prepared { memory, places }),
+        Err(fault) => Err(PrepareFault::Reloc(fault)),
+    }
+}
 
 /// Places the instantiated sections of a container, each in turn at the lowest address with room.
 fn place_sections(

@@ -1,8 +1,9 @@
 ghost use Rattle.std.specs.Prelude.{◌≡◌, ◌≤◌, ◌+◌, ◌++◌, length};
 ghost use Rattle.arrayvec.specs.ArrayVec.{array_vec_len};
-ghost use Rattle.pef_tool.specs.Refusal.{line_fault_name, name_of, number_of, place_of, refusal_text};
+ghost use Rattle.pef_tool.specs.Refusal.{line_fault_name, name_of, number_of, place_of, refusal_text, reloc_fault_name};
 
 use crate::line::{Line, push_number, push_text};
+use pef_reloc::RelocFault;
 use pef_script::LineFault;
 
 /// Why a run is refused.
@@ -10,6 +11,8 @@ use pef_script::LineFault;
 pub enum Refusal {
     /// A line of the script is refused; lines count from 1.
     Script { fault: LineFault, line: usize },
+    /// A relocation program of the fragment `it` is no program, or can't be applied.
+    Reloc(RelocFault),
     /// No address has room for a section of the fragment `it`.
     NoRoom,
     /// The input failed.
@@ -27,6 +30,7 @@ impl Refusal {
     {
         match self {
             Refusal::Script { fault, .. } => fault.number(),
+            Refusal::Reloc(fault) => fault.number(),
             Refusal::NoRoom => 67,
             Refusal::InputUnreadable => 73,
             Refusal::InputTooLong => 74,
@@ -41,6 +45,7 @@ impl Refusal {
     {
         match self {
             Refusal::Script { fault, .. } => line_fault_name(*fault),
+            Refusal::Reloc(fault) => reloc_fault_name(*fault),
             Refusal::NoRoom => b"NoRoom",
             Refusal::InputUnreadable => b"InputUnreadable",
             Refusal::InputTooLong => b"InputTooLong",
@@ -59,7 +64,7 @@ impl Refusal {
                 push_text(line, b" line ");
                 push_number(line, *number as u64);
             }
-            Refusal::NoRoom => push_text(line, b" in it"),
+            Refusal::Reloc(_) | Refusal::NoRoom => push_text(line, b" in it"),
             Refusal::InputUnreadable | Refusal::InputTooLong | Refusal::OutOfMemory => {}
         }
     }
@@ -94,5 +99,24 @@ fn line_fault_name(fault: LineFault) -> &'static [u8]
         LineFault::OutsideSection => b"OutsideSection",
         LineFault::TooMany => b"TooMany",
         LineFault::BadKind => b"BadKind",
+    }
+}
+
+/// The name of a fault of relocation.
+fn reloc_fault_name(fault: RelocFault) -> &'static [u8]
+    ensures name { result.now ≡ reloc_fault_name fault }
+    ensures short { length result.now ≤ 16 }
+{
+    match fault {
+        RelocFault::BadOpcode => b"BadOpcode",
+        RelocFault::CutInstruction => b"CutInstruction",
+        RelocFault::RepeatTooFar => b"RepeatTooFar",
+        RelocFault::RepeatCuts => b"RepeatCuts",
+        RelocFault::NestedRepeat => b"NestedRepeat",
+        RelocFault::TooManySteps => b"TooManySteps",
+        RelocFault::WordOutside => b"WordOutside",
+        RelocFault::ImportOutside => b"ImportOutside",
+        RelocFault::SectionOutside => b"SectionOutside",
+        RelocFault::OutOfMemory => b"OutOfMemory",
     }
 }
