@@ -7,5 +7,6 @@ pub mod PlacingLemmas
 pub mod PreparedLemmas
 pub mod RelocatingLemmas
 pub mod SentLemmas
+pub mod ShowingLemmas
 pub mod ShownLemmas
 pub mod TextLemmas
