@@ -22,8 +22,8 @@ pub fn run<F: Files, R: Source, W: Sink>(
     out: &mut W,
 ) -> u8
     ensures { (reply : Reply)
-      × MayAnswer (asked_by (map string_bytes words.now)) (R.coming input.old) (R.failures input.old) (R.failures input.new) reply
-      × Delivers (W.written out.old) (W.written out.new) (W.failures out.old) (W.failures out.new) (answer_of reply) result }
+        × MayAnswer (asked_by (map string_bytes words.now)) (R.coming input.old) (R.failures input.old) (R.failures input.new) reply
+        × Delivers (W.written out.old) (W.written out.new) (W.failures out.old) (W.failures out.new) (answer_of reply) result }
 {
     let reply = answer(alloc, words, input);
     reply.deliver(out)

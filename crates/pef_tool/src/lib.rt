@@ -18,3 +18,6 @@ mod shown;
 
 pub use commands::run;
 pub use ports::{FileFault, Files, Sink, Source, StreamFault};
+
+#[cfg(test)]
+mod tests;

@@ -78,9 +78,11 @@ returns-in-Ok-prepare_section c =
     let Q : Layout → Type 0 = λ m. ArePlaced m (extent_of container) 0 container.header.instantiated_section_count (p ∷ []) c.place_sections.new.memory in
     let Q' : List Place → Type 0 = λ places. ArePlaced c.new-memory.result (extent_of container) 0 container.header.instantiated_section_count places c.place_sections.new.memory in
     let P : List Place → Type 0 = λ places. IsPrepared 0x10000000 container loader memory places in
-    record { prepared = subst P (sym only) (record {
-      after = c.place_sections.new.memory;
-      placed = subst Q c.new-memory.ensures (subst Q' only c.in-Ok.ensures.placed);
-      stand = first_alone (λ k. bytes_at memory.instances (place_at (p ∷ []) k).address ≡ Some (done_at container loader a k).memory) (c.in-Ok-prepare_section.ensures.here ∙ ap (λ (d : Done). Some d.memory) done);
-      sound = first_alone (λ k. (done_at container loader a k).fault ≡ None) (sym (ap (λ (d : Done). d.fault) done) ∙ sym c.in-Ok-prepare_section.ensures.fault);
-    }) }
+    record {
+      prepared = subst P (sym only) (record {
+        after = c.place_sections.new.memory;
+        placed = subst Q c.new-memory.ensures (subst Q' only c.in-Ok.ensures.placed);
+        stand = first_alone (λ k. bytes_at memory.instances (place_at (p ∷ []) k).address ≡ Some (done_at container loader a k).memory) (c.in-Ok-prepare_section.ensures.here ∙ ap (λ (d : Done). Some d.memory) done);
+        sound = first_alone (λ k. (done_at container loader a k).fault ≡ None) (sym (ap (λ (d : Done). d.fault) done) ∙ sym c.in-Ok-prepare_section.ensures.fault);
+      });
+    }

@@ -1,0 +1,277 @@
+ghost use Rattle.std.specs.Prelude.{◌≡◌, ◌<◌, ◌≤◌};
+ghost use Rattle.pef_tool.specs.Ports.{Rose};
+
+use crate::input::{InputFault, read_input};
+use crate::link::link;
+use crate::ports::{FileFault, Files, Sink, Source, StreamFault};
+use crate::run;
+use pef_script::Script;
+use std::alloc::Global;
+use std::test::Fail;
+
+/// An input that gives its bytes a few at a time, and fails at a call.
+#[derive(Drop)]
+struct Text<'a> {
+    rest: &'a [u8],
+    fails_at: u32,
+    failures: u64,
+}
+
+impl<'a> Source for Text<'a> {
+    ghost use Rattle.std.specs.Prelude.{None};
+
+    ghost coming = { λ _. None };
+
+    ghost failures = { λ text. text.failures };
+
+    fn read(&mut self, buffer: &mut [u8]) -> Result<usize, StreamFault> {
+        if self.fails_at == 1 {
+            self.failures = self.failures.saturating_add(1);
+            return Err(StreamFault);
+        }
+        self.fails_at = self.fails_at.saturating_sub(1);
+        let count = self.rest.len().min(buffer.len()).min(3);
+        let (next, rest) = self.rest.split_at(count);
+        buffer[..count].copy_from_slice(next);
+        self.rest = rest;
+        Ok(count)
+    }
+}
+
+/// An output that keeps what it takes, so many bytes a call, and fails at a call.
+#[derive(Drop)]
+struct Sheet {
+    bytes: Vec<u8>,
+    step: usize,
+    fails_at: u32,
+    failures: u64,
+    ghost takes_some: { 0 < step },
+}
+
+impl Sheet {
+    fn failed(&mut self) -> StreamFault
+        ensures rose { Rose self.old.failures self.new.failures }
+        ensures counted { self.old.failures ≤ self.new.failures }
+        ensures step { self.new.step ≡ self.old.step }
+    {
+        self.failures = self.failures.saturating_add(1);
+        StreamFault
+    }
+}
+
+impl Sink for Sheet {
+    ghost use Rattle.std.specs.Prelude.{None};
+
+    ghost written = { λ _. None };
+
+    ghost failures = { λ sheet. sheet.failures };
+
+    fn write(&mut self, bytes: &[u8]) -> Result<usize, StreamFault> {
+        if self.fails_at == 1 {
+            return Err(self.failed());
+        }
+        self.fails_at = self.fails_at.saturating_sub(1);
+        let count = self.step.min(bytes.len());
+        let (taken, _) = bytes.split_at(count);
+        match self.bytes.extend_from_slice(taken) {
+            Ok(()) => Ok(count),
+            Err(_) => Err(self.failed()),
+        }
+    }
+}
+
+/// No files.
+#[derive(Drop)]
+struct NoFiles;
+
+impl Files for NoFiles {
+    ghost use Rattle.std.specs.Prelude.{None};
+
+    ghost contents = { λ _. None };
+
+    ghost failures = { λ _. 0 };
+
+    fn read(&mut self, _alloc: Global, _path: &[u8]) -> Result<Vec<u8>, FileFault> {
+        Err(FileFault::OutOfMemory)
+    }
+
+    fn write(&mut self, _path: &[u8], _bytes: &[u8]) -> Result<(), FileFault> {
+        Err(FileFault::OutOfMemory)
+    }
+}
+
+const EXAMPLE: &[u8] =
+    b"section d data process 4 16\nbytes d 11223344000000080102\nfix d 4 section d\nfix d 12 section d\n";
+
+const SHOWN: &[u8] =
+    b"fragment it\nsection 0 at 00010000 size 16\n00010000 11223344 00010008 01020000 00010000\n";
+
+/// What `run` prints for some words and an input, over an output of so many bytes a call that fails at a
+/// call, and the status.
+fn ran(
+    alloc: Global,
+    words: &[&str],
+    text: &[u8],
+    input_fails_at: u32,
+    step: usize,
+    fails_at: u32,
+) -> Result<(Vec<u8>, u8), Fail>
+    requires { 0 < step }
+{
+    let mut line = Vec::new(alloc);
+    for word in words {
+        line.push(String::from_str(alloc, word)?)?;
+    }
+    let mut files = NoFiles;
+    let mut input = Text {
+        rest: text,
+        fails_at: input_fails_at,
+        failures: 0,
+    };
+    let mut out = Sheet {
+        bytes: Vec::new(alloc),
+        step,
+        fails_at,
+        failures: 0,
+    };
+    let status = run(alloc, line.as_slice(), &mut files, &mut input, &mut out);
+    let Sheet { bytes, .. } = out;
+    Ok((bytes, status))
+}
+
+#[test]
+fn shows(rt: HostRuntime) -> Result<(), Fail> {
+    let show = ["pef", "show"];
+    for (text, want, status) in [
+        (EXAMPLE, SHOWN, 0),
+        (b"".as_slice(), b"fragment it\n".as_slice(), 0),
+        (
+            b"# no line\n\nsection d data process 4 3\nbytes d aAfF",
+            b"fragment it\nsection 0 at 00010000 size 3\n00010000 AAFF00\n",
+            0,
+        ),
+        (
+            b"section d data process 4 8\nfix d 0 section d\nfix d 2 section d\n",
+            b"refused 46 Overlap line 3\n",
+            1,
+        ),
+        (
+            b"section d data process 4 8\nfix d 0 section d\nfix d 5 section d\n",
+            b"refused 47 OutsideSection line 3\n",
+            1,
+        ),
+        (
+            b"section d data process 4 8\nfix d 4 section d\nfix d 0 section d\n",
+            b"refused 45 OutOfOrder line 3\n",
+            1,
+        ),
+        (
+            b"section d odd process 4 8\n",
+            b"refused 49 BadKind line 1\n",
+            1,
+        ),
+        (
+            b"section d data process 4 16777217\n",
+            b"refused 42 BadNumber line 1\n",
+            1,
+        ),
+        (
+            b"fix d 0 section d\n",
+            b"refused 43 UnknownName line 1\n",
+            1,
+        ),
+        (b"section d\n", b"refused 41 BadLine line 1\n", 1),
+        (
+            b"section d data process 4 8\nsection d data process 4 8\n",
+            b"refused 44 RepeatedName line 2\n",
+            1,
+        ),
+        (
+            b"section d data process 4 8\nsection e data process 4 8\n",
+            b"refused 48 TooMany line 2\n",
+            1,
+        ),
+        (
+            b"section d data process 4 8\nfix d 0 import x\n",
+            b"refused 43 UnknownName line 2\n",
+            1,
+        ),
+    ] {
+        let (bytes, ended) = ran(rt.alloc(), &show, text, 0, 1000, 0)?;
+        assert_eq!(rt; bytes.as_slice(), want);
+        assert_eq!(rt; ended, status);
+    }
+    for words in [
+        ["pef", "load"].as_slice(),
+        ["pef"].as_slice(),
+        ["pef", "--help"].as_slice(),
+        ["pef", "show", "it"].as_slice(),
+    ] {
+        let (bytes, ended) = ran(rt.alloc(), words, EXAMPLE, 0, 1000, 0)?;
+        assert_eq!(rt; bytes.as_slice(), b"usage\n".as_slice());
+        assert_eq!(rt; ended, 2);
+    }
+    Ok(())
+}
+
+#[test]
+fn streams_fail(rt: HostRuntime) -> Result<(), Fail> {
+    let show = ["pef", "show"];
+    let (bytes, status) = ran(rt.alloc(), &show, EXAMPLE, 0, 1, 0)?;
+    assert_eq!(rt; bytes.as_slice(), SHOWN);
+    assert_eq!(rt; status, 0);
+    for k in 1..=SHOWN.len() {
+        let (bytes, status) = ran(rt.alloc(), &show, EXAMPLE, 0, 1, k as u32)?;
+        assert_eq!(rt; bytes.as_slice(), &SHOWN[..k - 1]);
+        assert_eq!(rt; status, 1);
+    }
+    let (bytes, status) = ran(rt.alloc(), &show, EXAMPLE, 3, 1000, 0)?;
+    assert_eq!(rt;
+        bytes.as_slice(),
+        b"refused 73 InputUnreadable\n".as_slice()
+    );
+    assert_eq!(rt; status, 1);
+    for (fails_at, limit, want) in [
+        (0, 5, Ok(5)),
+        (0, 4, Err(InputFault::TooLong)),
+        (2, 5, Err(InputFault::Unreadable)),
+    ] {
+        let mut input = Text {
+            rest: b"12345",
+            fails_at,
+            failures: 0,
+        };
+        let read = read_input(rt.alloc(), &mut input, limit).map(|bytes| bytes.len());
+        assert_eq!(rt; read, want);
+    }
+    Ok(())
+}
+
+/// The container of a script.
+fn linked(alloc: Global, text: &[u8]) -> Result<Vec<u8>, Fail> {
+    let script = Script::read(alloc, text)?;
+    Ok(link(alloc, &script)?)
+}
+
+#[test]
+fn links(rt: HostRuntime) -> Result<(), Fail> {
+    let bytes = linked(rt.alloc(), EXAMPLE)?;
+    let want = [
+        0x4A, 0x6F, 0x79, 0x21, 0x70, 0x65, 0x66, 0x66, 0x70, 0x77, 0x70, 0x63, 0x00, 0x00, 0x00,
+        0x01, 0x00, 0x00, 0x00, 0x00, 0x00, 0x00, 0x00, 0x00, 0x00, 0x00, 0x00, 0x00, 0x00, 0x00,
+        0x00, 0x00, 0x00, 0x02, 0x00, 0x01, 0x00, 0x00, 0x00, 0x00, 0xFF, 0xFF, 0xFF, 0xFF, 0x00,
+        0x00, 0x00, 0x00, 0x00, 0x00, 0x00, 0x10, 0x00, 0x00, 0x00, 0x0A, 0x00, 0x00, 0x00, 0x0A,
+        0x00, 0x00, 0x00, 0x60, 0x01, 0x01, 0x04, 0x00, 0xFF, 0xFF, 0xFF, 0xFF, 0x00, 0x00, 0x00,
+        0x00, 0x00, 0x00, 0x00, 0x00, 0x00, 0x00, 0x00, 0x00, 0x00, 0x00, 0x00, 0x54, 0x00, 0x00,
+        0x00, 0x70, 0x04, 0x04, 0x04, 0x00, 0x11, 0x22, 0x33, 0x44, 0x00, 0x00, 0x00, 0x08, 0x01,
+        0x02, 0x00, 0x00, 0x00, 0x00, 0x00, 0x00, 0xFF, 0xFF, 0xFF, 0xFF, 0x00, 0x00, 0x00, 0x00,
+        0xFF, 0xFF, 0xFF, 0xFF, 0x00, 0x00, 0x00, 0x00, 0xFF, 0xFF, 0xFF, 0xFF, 0x00, 0x00, 0x00,
+        0x00, 0x00, 0x00, 0x00, 0x00, 0x00, 0x00, 0x00, 0x00, 0x00, 0x00, 0x00, 0x01, 0x00, 0x00,
+        0x00, 0x44, 0x00, 0x00, 0x00, 0x50, 0x00, 0x00, 0x00, 0x50, 0x00, 0x00, 0x00, 0x00, 0x00,
+        0x00, 0x00, 0x00, 0x00, 0x00, 0x00, 0x00, 0x00, 0x00, 0x00, 0x06, 0x00, 0x00, 0x00, 0x00,
+        0xA0, 0x00, 0x00, 0x04, 0x66, 0x00, 0xA0, 0x00, 0x00, 0x0C, 0x66, 0x00, 0x00, 0x00, 0x00,
+        0x00,
+    ];
+    assert_eq!(rt; bytes.as_slice(), want.as_slice());
+    Ok(())
+}
