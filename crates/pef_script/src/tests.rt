@@ -1,6 +1,6 @@
 use crate::Script;
 use pef_reloc::{Base, Fixup};
-use std::alloc::Global;
+use std::alloc::{AllocError, Global};
 use std::test::Fail;
 
 /// The number and the line of a refusal, or `None` where the text is read.
@@ -256,5 +256,69 @@ fn reads_parts(rt: HostRuntime) -> Result<(), Fail> {
     assert!(rt; script.image(1).is_none());
     assert!(rt; script.fixups(1).is_none());
     assert!(rt; script.section(1).is_none());
+    Ok(())
+}
+
+/// Adds a line with a number in it, of so many digits, the lowest of which stands first.
+fn push_line(
+    text: &mut Vec<u8>,
+    front: &str,
+    number: u32,
+    digits: u32,
+    end: &str,
+) -> Result<(), AllocError> {
+    text.extend_from_slice(front.as_bytes())?;
+    let mut rest = number;
+    for _ in 0..digits {
+        text.extend_from_slice(&[b'0' + (rest % 10) as u8])?;
+        rest /= 10;
+    }
+    text.extend_from_slice(end.as_bytes())
+}
+
+/// A first line and so many lines that declare names.
+fn names_text(
+    alloc: Global,
+    before: &str,
+    front: &str,
+    count: u32,
+    end: &str,
+) -> Result<Vec<u8>, AllocError> {
+    let mut text = Vec::new(alloc);
+    text.extend_from_slice(before.as_bytes())?;
+    for number in 0..count {
+        push_line(&mut text, front, number, 5, end)?;
+    }
+    Ok(text)
+}
+
+const LIMITS: [(&str, &str, &str, u32, usize); 4] = [
+    ("\n", "section s", " data process 0 0\n", 8, 10),
+    ("\n", "library l", " 1 0 -\n", 4096, 4098),
+    (
+        "library l 1 0 -\n",
+        "import i",
+        " data weak\n",
+        65_536,
+        65_538,
+    ),
+    (
+        "section s data process 0 0\n",
+        "export e",
+        " data s 0\n",
+        16_383,
+        16_385,
+    ),
+];
+
+#[test]
+fn keeps_limits(rt: HostRuntime) -> Result<(), Fail> {
+    let alloc = rt.alloc();
+    for (before, front, end, limit, line) in LIMITS {
+        let text = names_text(alloc, before, front, limit, end)?;
+        assert_eq!(rt; refusal(alloc, &text), None, "{front}");
+        let text = names_text(alloc, before, front, limit + 1, end)?;
+        assert_eq!(rt; refusal(alloc, &text), Some((48, line)), "{front}");
+    }
     Ok(())
 }
