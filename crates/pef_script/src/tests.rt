@@ -259,6 +259,78 @@ fn reads_parts(rt: HostRuntime) -> Result<(), Fail> {
     Ok(())
 }
 
+const WHOLE: [&[u8]; 1] = [
+    b"versions 3 2 1
+library Tools 5 4 weak,before
+library Other 7 6 -
+import draw tvector strong
+import size data weak
+section code code global 4 8
+section data data process 4 16
+bytes code 0011
+tvector data 0 code data
+fix data 8 import size
+export go tvector data 0
+main data 0
+term code 4
+",
+];
+
+/// The counts of libraries, imports, sections and exports.
+fn counts(script: &Script) -> (usize, usize, usize, usize) {
+    (
+        script.libraries(),
+        script.imports(),
+        script.sections(),
+        script.exports(),
+    )
+}
+
+fn library_numbers(script: &Script) -> Option<(u32, u32, u8)> {
+    let library = script.library(0)?;
+    Some((library.current, library.old_imp, library.options))
+}
+
+fn import_numbers(script: &Script) -> Option<(u8, bool, u32)> {
+    let import = script.import(1)?;
+    Some((import.class, import.weak, import.library))
+}
+
+fn export_numbers(script: &Script) -> Option<(u8, i32, u32)> {
+    let export = script.export(0)?;
+    Some((export.class, export.section, export.value))
+}
+
+fn fixup_of(script: &Script, i: usize) -> Option<Fixup> {
+    script.fixups(1)?.get(i).copied()
+}
+
+#[test]
+fn reads_every_line(rt: HostRuntime) -> Result<(), Fail> {
+    for text in WHOLE {
+        let script = Script::read(rt.alloc(), text)?;
+        assert_eq!(rt; counts(&script), (2, 2, 2, 1));
+        assert_eq!(rt; library_numbers(&script), Some((5, 4, 0xC0)));
+        assert_eq!(rt; import_numbers(&script), Some((1, true, 1)));
+        assert_eq!(rt; export_numbers(&script), Some((2, 1, 0)));
+        assert_eq!(rt;
+            fixup_of(&script, 1),
+            Some(Fixup {
+                offset: 4,
+                base: Base::Section(1)
+            })
+        );
+        assert_eq!(rt;
+            fixup_of(&script, 2),
+            Some(Fixup {
+                offset: 8,
+                base: Base::Import(1)
+            })
+        );
+    }
+    Ok(())
+}
+
 /// Adds a line with a number in it, of so many digits, the lowest of which stands first.
 fn push_line(
     text: &mut Vec<u8>,
