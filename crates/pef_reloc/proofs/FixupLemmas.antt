@@ -1,0 +1,69 @@
+-- Lists of fixups that are built one by one, and what stands in a list that fits.
+use Rattle.std.proofs.Common.{◌≡◌, ℕ, ◌+◌, ◌≤◌, ◌<◌, Bool, true, false, List, [], ◌∷◌, ◌++◌, ◌&&◌, nat_le, length, refl, ap, ◌∙◌, sym, arith, length-append}
+use Rattle.std.proofs.lemmas.Bool.{leb-true, le-leb}
+use Rattle.pef_reloc.specs.declared.fixup.Fixup.{Fixup}
+use Rattle.pef_reloc.specs.declared.fixup.TheConstants.{MAX_FIXUPS, OFFSET_LIMIT}
+use Rattle.pef_reloc.specs.Fixups.{base_fits, fixup_fits, fixups_from, fixups_end, fixups_fit}
+
+-- two tests that are both met
+pub both_met : (a b : Bool) → a ≡ true → b ≡ true → (a && b) ≡ true
+both_met a b p q = rw (p, q) refl
+
+-- what both is met when both are
+pub met_both : (a b : Bool) → (a && b) ≡ true → (a ≡ true) × (b ≡ true)
+met_both true b p = (refl, p)
+met_both false b p = absurd (cc)
+
+pub and_assoc : (a b c : Bool) → (a && b && c) ≡ (a && (b && c))
+and_assoc true b c = refl
+and_assoc false b c = refl
+
+-- the fixups of two lists stand apart where those of the first do, and those of the second after its end
+pub fixups_from-append : (end : ℕ) (fs gs : List Fixup) → fixups_from end (fs ++ gs) ≡ (fixups_from end fs && fixups_from (fixups_end end fs) gs)
+fixups_from-append end [] gs = refl
+fixups_from-append end (f ∷ fs) gs =
+    rw (fixups_from-append (f.offset + 4) fs gs)
+    (sym (and_assoc (nat_le end f.offset && fixup_fits f) (fixups_from (f.offset + 4) fs) (fixups_from (fixups_end (f.offset + 4) fs) gs)))
+
+pub fixups_end-append : (end : ℕ) (fs gs : List Fixup) → fixups_end end (fs ++ gs) ≡ fixups_end (fixups_end end fs) gs
+fixups_end-append end [] gs = refl
+fixups_end-append end (f ∷ fs) gs = fixups_end-append (f.offset + 4) fs gs
+
+-- no fixups fit
+pub no_fixups_fit : fixups_fit [] ≡ true
+unfolding fixups_fit
+no_fixups_fit = refl
+
+-- one more fixup at the end fits
+pub fixups_fit-more : (fs : List Fixup) (f : Fixup) → fixups_fit fs ≡ true → length fs < MAX_FIXUPS → fixups_end 0 fs ≤ f.offset → f.offset + 4 ≤ OFFSET_LIMIT → base_fits f.base ≡ true → fixups_fit (fs ++ f ∷ []) ≡ true
+unfolding fixups_fit
+fixups_fit-more fs f fit room after inside base =
+    let parts = met_both (nat_le (length fs) MAX_FIXUPS) (fixups_from 0 fs) fit in
+    let count : length (fs ++ f ∷ []) ≤ MAX_FIXUPS = omega (arith, length-append fs (f ∷ [])) in
+    both_met _ _ (le-leb _ _ count)
+    (fixups_from-append 0 fs (f ∷ []) ∙ both_met _ _ parts.1 (both_met _ _ (both_met _ _ (le-leb _ _ after) (both_met _ _ (le-leb _ _ inside) base)) refl))
+
+-- what is known of fixups that fit: how many there are, and how each stands to the one before it
+pub record FixupsFit (fs : List Fixup) : Type 0 where
+  pub count : length fs ≤ MAX_FIXUPS
+  pub apart : fixups_from 0 fs ≡ true
+
+pub fixups_fit-parts : (fs : List Fixup) → fixups_fit fs ≡ true → FixupsFit fs
+unfolding fixups_fit
+fixups_fit-parts fs fit =
+    let parts = met_both (nat_le (length fs) MAX_FIXUPS) (fixups_from 0 fs) fit in
+    record { count = leb-true _ _ parts.0; apart = parts.1 }
+
+-- what is known of the first of fixups that stand apart, and of the others
+pub record FirstStands (end : ℕ) (f : Fixup) (fs : List Fixup) : Type 0 where
+  pub after : end ≤ f.offset
+  pub inside : f.offset + 4 ≤ OFFSET_LIMIT
+  pub base : base_fits f.base ≡ true
+  pub others : fixups_from (f.offset + 4) fs ≡ true
+
+pub fixups_from-first : (end : ℕ) (f : Fixup) (fs : List Fixup) → fixups_from end (f ∷ fs) ≡ true → FirstStands end f fs
+fixups_from-first end f fs apart =
+    let parts = met_both (nat_le end f.offset && fixup_fits f) (fixups_from (f.offset + 4) fs) apart in
+    let first = met_both (nat_le end f.offset) (fixup_fits f) parts.0 in
+    let second = met_both (nat_le (f.offset + 4) OFFSET_LIMIT) (base_fits f.base) first.1 in
+    record { after = leb-true _ _ first.0; inside = leb-true _ _ second.0; base = second.1; others = parts.1 }

@@ -1,0 +1,11 @@
+//! Relocation programs of PEF containers: what they say, and what they do to a section.
+//!
+//! Source: Mac OS Runtime Architectures, "PEF Structure", the sections on relocation instructions, and
+//! `PEFBinaryFormat.h`.
+#![tactic(auto)]
+
+mod fixup;
+
+pub use fixup::{
+    Base, Fixup, MAX_FIXUPS, MAX_IMPORTS, MAX_SECTIONS, OFFSET_LIMIT, WORD, fixups_fit,
+};
