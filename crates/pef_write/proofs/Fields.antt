@@ -1,0 +1,95 @@
+-- What spelled fields are read back as.
+use Rattle.std.proofs.Common.{◌≡◌, ◌∙◌, ℕ, ◌+◌, ◌-◌, ◌<◌, ◌≤◌, ◌^◌, List, [], ◌∷◌, ◌++◌, Some, length, take, drop, get_or, replicate, length-append, append_assoc, refl, sym, ap, subst, arith}
+use Rattle.std.specs.Int.{next_multiple_of}
+use Rattle.std.proofs.lemmas.Bool.{le-leb}
+use Rattle.std.proofs.lemmas.List.{drop_at, drop_more, drop_all, length-replicate, take_all}
+use Rattle.std.specs.Prelude.{Result, Ok, Err, OnOk}
+use Rattle.byteorder.specs.Endian.{big_bytes}
+use Rattle.byteorder.specs.Numbers.{big_number-reads_back, length-bytes_high_first}
+use Rattle.pef_words.specs.Bytes.{number_at}
+use Rattle.pef_write.specs.declared.field.Field.{Field}
+use Rattle.pef_write.specs.Fields.{field_bytes, padded, spelled, value, width}
+
+-- the next multiple is as far as what lies before it and the gap
+next_from : (n multiple : ℕ) → n + (next_multiple_of n multiple - n) ≡ next_multiple_of n multiple
+next_from n multiple = omega arith
+
+-- what is written and what is left make the whole, also when one more part is written
+pub one_more : (before part now left rest whole : List ℕ) → now ≡ before ++ part → left ≡ part ++ rest → before ++ left ≡ whole → now ++ rest ≡ whole
+one_more before part now left rest whole written split all =
+    ap (λ z. z ++ rest) written ∙ append_assoc before part rest ∙ ap (λ z. before ++ z) (sym split) ∙ all
+
+-- .. and where nothing is left the whole is written
+pub all_written : (before part now left whole : List ℕ) → now ≡ before ++ part → left ≡ part → before ++ left ≡ whole → now ≡ whole
+all_written before part now left whole written split all = written ∙ ap (λ z. before ++ z) (sym split) ∙ all
+
+-- bytes with zeros behind them end at the next multiple
+pub length-padded : (multiple : ℕ) (bytes : List ℕ) → length (padded multiple bytes) ≡ next_multiple_of (length bytes) multiple
+unfolding padded
+length-padded multiple bytes =
+    let n : ℕ = next_multiple_of (length bytes) multiple - length bytes in
+    length-append bytes (replicate n 0) ∙ ap (λ z. length bytes + z) (length-replicate n 0) ∙ next_from (length bytes) multiple
+
+-- what is written where there was nothing
+pub from_nothing : (before now whole : List ℕ) → now ≡ before ++ whole → before ≡ [] → now ≡ whole
+from_nothing before now whole written none = written ∙ ap (λ z. z ++ whole) none
+
+-- a vector that is filled up with zeros to the next multiple
+pub resized : (multiple n len : ℕ) (bytes : List ℕ) → n ≡ next_multiple_of (length bytes) multiple → len ≡ length bytes → take n bytes ++ replicate (n - len) 0 ≡ padded multiple bytes
+unfolding padded
+resized multiple n len bytes end whole =
+    let front = take_all n bytes (omega arith) in
+    rw (front, end, whole) refl
+
+-- what follows from success
+pub on_ok : {E P Q : Type 0} (r : Result (Unit {0}) E) → (P → Q) → OnOk r P → OnOk r Q
+on_ok (Ok x) so ok = so ok
+on_ok (Err e) so ok = tt
+
+-- one field, and those behind it
+pub spelled-more : (fields : List Field) (i : ℕ) (d : Field) → i < length fields → spelled (drop i fields) ≡ field_bytes (get_or fields i d) ++ spelled (drop (i + 1) fields)
+unfolding spelled
+spelled-more fields i d under = ap spelled (drop_more fields i d under)
+
+pub spelled-end : (fields : List Field) (i : ℕ) → length fields ≤ i → spelled (drop i fields) ≡ []
+unfolding spelled
+spelled-end fields i past = ap spelled (drop_all i fields past)
+
+-- a number behind some bytes
+number_here : (n x : ℕ) (before rest : List ℕ) → x < 256 ^ n → number_at n (before ++ (big_bytes n x ++ rest)) (length before) ≡ Some x
+unfolding number_at
+number_here n x before rest fits =
+    let whole = length-append before (big_bytes n x ++ rest) in
+    let part = length-append (big_bytes n x) rest in
+    let bytes = length-bytes_high_first n x in
+    let inside = le-leb (length before + n) (length (before ++ (big_bytes n x ++ rest))) (omega arith) in
+    rw (inside, drop_at before (big_bytes n x ++ rest) (length before) refl, big_number-reads_back n x rest fits) refl
+
+-- each number fits its field
+abbrev pub AllFit : List Field → Type 0
+AllFit [] = Unit {0}
+AllFit (field ∷ fields) = (value field < 256 ^ width field) × AllFit fields
+
+-- at a place and behind it stand these fields, in their order
+abbrev pub Reads : List ℕ → ℕ → ℕ → List Field → Type 0
+Reads bytes from off [] = Unit {0}
+Reads bytes from off (field ∷ fields) =
+    (number_at (width field) bytes (from + off) ≡ Some (value field)) × Reads bytes from (off + width field) fields
+
+reads_from : (from off : ℕ) (before rest : List ℕ) (fields : List Field) → length before ≡ from + off → AllFit fields → Reads (before ++ (spelled fields ++ rest)) from off fields
+unfolding spelled
+reads_from from off before rest [] here fits = tt
+reads_from from off before rest (field ∷ fields) here fits =
+    let bytes = length-bytes_high_first (width field) (value field) in
+    let joined = length-append before (field_bytes field) in
+    let later = reads_from from (off + width field) (before ++ field_bytes field) rest fields (omega arith) fits.1 in
+    let number = number_here (width field) (value field) before (spelled fields ++ rest) fits.0 in
+    let inner : (field_bytes field ++ spelled fields) ++ rest ≡ field_bytes field ++ (spelled fields ++ rest) = append_assoc (field_bytes field) (spelled fields) rest in
+    let outer : before ++ ((field_bytes field ++ spelled fields) ++ rest) ≡ (before ++ field_bytes field) ++ (spelled fields ++ rest) = ap (λ z. before ++ z) inner ∙ sym (append_assoc before (field_bytes field) (spelled fields ++ rest)) in
+    let P : List ℕ → Type 0 = λ bytes. Reads bytes from (off + width field) fields in
+    let Q : List ℕ → Type 0 = λ z. number_at (width field) (before ++ z) (from + off) ≡ Some (value field) in
+    (subst Q (sym inner) (rw here at number), subst P (sym outer) later)
+
+-- fields behind some bytes are read back, whatever follows
+pub reads : (before rest : List ℕ) (fields : List Field) → AllFit fields → Reads (before ++ (spelled fields ++ rest)) (length before) 0 fields
+reads before rest fields fits = reads_from (length before) 0 before rest fields (omega arith) fits

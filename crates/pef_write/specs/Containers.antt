@@ -1,0 +1,162 @@
+-- Which bytes are written for some sections and a loader section (Mac OS Runtime Architectures, "PEF
+-- Structure"; where they lie and which optional fields are left empty is this project's own choice).
+use Rattle.std.specs.Prelude.{◌≡◌, ℕ, ◌+◌, ◌*◌, ◌^◌, ◌<◌, ◌≤◌, negsuc, IsTrue, Ok, List, [], ◌∷◌, ◌++◌, length, slice_get}
+use Rattle.std.specs.List.{All}
+use Rattle.std.specs.Int.{w32, cast_unsigned, next_multiple_of}
+use Rattle.pef_views.specs.declared.header.Header.{Header}
+use Rattle.pef_views.specs.declared.section.SectionHeader.{SectionHeader}
+use Rattle.pef_views.specs.Container.{Contained, Section, container_of, section_of}
+use Rattle.pef_views.specs.Section.{is_instantiable}
+use Rattle.pef_write.specs.declared.container.Part.{Part}
+use Rattle.pef_write.specs.declared.container.Versions.{Versions}
+use Rattle.pef_write.specs.declared.field.Field.{Field}
+use Rattle.pef_write.specs.declared.field.Field.TheVariants.{Byte, Half, Word}
+use Rattle.pef_write.specs.Fields.{padded, spelled}
+
+-- an instantiated section without a name: what its header says of it, and its image
+pub record DescribedPart : Type 0 where
+  pub kind : ℕ
+  pub share : ℕ
+  pub alignment : ℕ
+  pub total : ℕ
+  pub image : List ℕ
+
+-- the section that a part describes
+abbrev pub described : Part → DescribedPart
+described p = record { kind = p.kind; share = p.share; alignment = p.alignment; total = p.total; image = p.image.now }
+
+-- the fields of the container header, in order
+unfoldable pub header_fields : Header → List Field
+header_fields h = Word h.tag_1
+    ∷ Word h.tag_2
+    ∷ Word h.architecture
+    ∷ Word h.format_version
+    ∷ Word h.date_time_stamp
+    ∷ Word h.old_definition_version
+    ∷ Word h.old_implementation_version
+    ∷ Word h.current_version
+    ∷ Half h.section_count
+    ∷ Half h.instantiated_section_count
+    ∷ Word h.reserved
+    ∷ []
+
+-- the fields of a section header, in order
+unfoldable pub section_fields : SectionHeader → List Field
+section_fields s = Word (cast_unsigned w32 s.name_offset)
+    ∷ Word s.default_address
+    ∷ Word s.total_size
+    ∷ Word s.unpacked_size
+    ∷ Word s.packed_size
+    ∷ Word s.container_offset
+    ∷ Byte s.section_kind
+    ∷ Byte s.share_kind
+    ∷ Byte s.alignment
+    ∷ Byte s.reserved
+    ∷ []
+
+-- the header of a container with n instantiated sections and a loader section
+abbrev pub written_header : Versions → ℕ → Header
+written_header v n = record {
+  tag_1 = 0x4A6F7921;
+  tag_2 = 0x70656666;
+  architecture = 0x70777063;
+  format_version = 1;
+  date_time_stamp = 0;
+  old_definition_version = v.old_definition;
+  old_implementation_version = v.old_implementation;
+  current_version = v.current;
+  section_count = n + 1;
+  instantiated_section_count = n;
+  reserved = 0;
+}
+
+-- the header of a part whose image lies at a place
+abbrev pub part_header : DescribedPart → ℕ → SectionHeader
+part_header p at = record {
+  name_offset = negsuc 0;
+  default_address = 0;
+  total_size = p.total;
+  unpacked_size = length p.image;
+  packed_size = length p.image;
+  container_offset = at;
+  section_kind = p.kind;
+  share_kind = p.share;
+  alignment = p.alignment;
+  reserved = 0;
+}
+
+-- the header of a loader section of n bytes at a place
+abbrev pub loader_header : ℕ → ℕ → SectionHeader
+loader_header n at = record {
+  name_offset = negsuc 0;
+  default_address = 0;
+  total_size = 0;
+  unpacked_size = 0;
+  packed_size = n;
+  container_offset = at;
+  section_kind = 4;
+  share_kind = 4;
+  alignment = 4;
+  reserved = 0;
+}
+
+-- the sections, where the first lies at a place and each later one at the next multiple of 16 behind
+-- the one before it
+unfoldable pub laid_out : ℕ → List DescribedPart → List ℕ → List Section
+laid_out at [] loader = record { header = loader_header (length loader) at; raw = loader } ∷ []
+laid_out at (p ∷ parts) loader =
+    record { header = part_header p at; raw = p.image } ∷ laid_out (at + next_multiple_of (length p.image) 16) parts loader
+
+-- the headers of some sections, one after the other
+unfoldable pub spelled_headers : List Section → List ℕ
+spelled_headers [] = []
+spelled_headers (s ∷ sections) = spelled (section_fields s.header) ++ spelled_headers sections
+
+-- the raw bytes: the images with zeros up to a multiple of 16 behind each, then the loader section
+unfoldable pub raw_data : List DescribedPart → List ℕ → List ℕ
+raw_data [] loader = loader
+raw_data (p ∷ parts) loader = padded 16 p.image ++ raw_data parts loader
+
+-- where the raw bytes of n parts begin: behind the container header and n + 1 section headers
+abbrev pub data_from : ℕ → ℕ
+data_from n = next_multiple_of (40 + 28 * (n + 1)) 16
+
+-- the sections of a container of some parts and a loader section
+unfoldable pub written_sections : List DescribedPart → List ℕ → List Section
+written_sections parts loader = laid_out (data_from (length parts)) parts loader
+
+-- all headers, then the raw bytes from the next multiple of 16 on
+unfoldable pub written_container : Versions → List DescribedPart → List ℕ → List ℕ
+written_container v parts loader =
+    padded 16 (spelled (header_fields (written_header v (length parts))) ++ spelled_headers (written_sections parts loader))
+    ++ raw_data parts loader
+
+-- a part that a container can have
+pub record IsWritable (p : DescribedPart) : Type 0 where
+  pub kind : IsTrue (is_instantiable p.kind)
+  pub share : p.share < 256
+  pub alignment : p.alignment ≤ 31
+  pub total : p.total < 2 ^ 32
+  pub image : length p.image ≤ p.total
+
+-- versions, parts and a loader section that are a container's
+pub record AreWritable (v : Versions) (parts : List DescribedPart) (loader : List ℕ) : Type 0 where
+  pub current : v.current < 2 ^ 32
+  pub old_definition : v.old_definition < 2 ^ 32
+  pub old_implementation : v.old_implementation < 2 ^ 32
+  pub count : length parts + 1 < 2 ^ 16
+  pub each : All IsWritable parts
+  pub size : length (written_container v parts loader) < 2 ^ 32
+
+-- the container that they are
+abbrev pub contained_in : Versions → List DescribedPart → List ℕ → Contained
+contained_in v parts loader = record {
+  bytes = written_container v parts loader;
+  header = written_header v (length parts);
+  loader = loader;
+}
+
+-- what is read of bytes: the header, the loader section, and each section with its image
+pub record ReadsBack (v : Versions) (parts : List DescribedPart) (loader : List ℕ) (bytes : List ℕ) : Type 0 where
+  pub container : container_of bytes ≡ Ok (contained_in v parts loader)
+  pub sections : (k : ℕ) → section_of (contained_in v parts loader) k ≡ slice_get (written_sections parts loader) k

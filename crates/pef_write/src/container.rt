@@ -1,0 +1,234 @@
+ghost use Rattle.std.specs.Prelude.{◌≡◌, ◌+◌, ◌*◌, ◌-◌, ◌++◌, ◌<◌, ◌≤◌, ◌^◌, OnOk, IfOk, length, map};
+ghost use Rattle.pef_write.specs.Fields.{padded, spelled};
+ghost use Rattle.pef_write.specs.Containers.{AreWritable, ReadsBack, data_from, described, header_fields, laid_out, loader_header, part_header, raw_data, section_fields, spelled_headers, written_container, written_header, written_sections};
+
+use crate::field::{Field, put_fields};
+use pef_views::layout::{
+    CONTAINER_HEADER_SIZE, FORMAT_VERSION, GLOBAL_SHARE, LOADER_SECTION, NO_NAME, POWERPC,
+    SECTION_HEADER_SIZE, TAG_1, TAG_2,
+};
+use pef_views::{Header, SectionHeader};
+use std::alloc::{AllocError, Global};
+
+/// The raw bytes of each section begin at a multiple of this.
+pub const DATA_ALIGNMENT: usize = 16;
+
+/// The alignment that a loader section's header states, as an exponent of two.
+const LOADER_ALIGNMENT: u8 = 4;
+
+/// A library's versions, as the container header has them.
+#[derive(Clone, Copy, Debug, PartialEq, Eq)]
+pub struct Versions {
+    pub current: u32,
+    /// The oldest version of the definition that this implementation still serves.
+    pub old_definition: u32,
+    /// The oldest version of the implementation that a client built with this one still takes.
+    pub old_implementation: u32,
+}
+
+/// An instantiated section without a name.
+#[derive(Clone, Copy, Debug)]
+pub struct Part<'a> {
+    pub kind: u8,
+    pub share: u8,
+    /// The memory's alignment, as an exponent of two.
+    pub alignment: u8,
+    /// The length of the section's memory.
+    pub total: u32,
+    /// The bytes that the memory begins with; zeros follow.
+    pub image: &'a [u8],
+}
+
+/// The container of `parts`, in their order, and of a loader section behind them.
+///
+/// It has no time stamp. All raw bytes begin at a multiple of [`DATA_ALIGNMENT`].
+///
+/// # Errors
+///
+/// Want of memory.
+pub fn write_container(
+    alloc: Global,
+    versions: Versions,
+    parts: &[Part<'_>],
+    loader: &[u8],
+) -> Result<Vec<u8>, AllocError>
+    requires count { length parts.now + 1 < 2 ^ 16 }
+    requires fits { length (written_container versions (map described parts.now) loader.now) < 2 ^ 32 }
+    ensures bytes { IfOk result (λ bytes. bytes.items ≡ written_container versions (map described parts.now) loader.now) }
+    ensures read_back { AreWritable versions (map described parts.now) loader.now → IfOk result (λ bytes. ReadsBack versions (map described parts.now) loader.now bytes.items) }
+{
+    let mut out = Vec::with_capacity(alloc, container_length(parts, loader))?;
+    put_headers(&mut out, versions, parts, loader)?;
+    let data_from = out.len().next_multiple_of(DATA_ALIGNMENT);
+    out.resize(data_from, 0)?;
+    for part in parts {
+        put_padded(&mut out, part.image)?;
+    }
+    out.extend_from_slice(loader)?;
+    Ok(out)
+}
+
+/// Where the raw bytes of `count` parts and of a loader section begin.
+fn data_from(count: usize) -> usize
+    requires { count + 1 < 2 ^ 16 }
+    ensures { result ≡ data_from count }
+{
+    (CONTAINER_HEADER_SIZE + SECTION_HEADER_SIZE * (count + 1)).next_multiple_of(DATA_ALIGNMENT)
+}
+
+/// The length of the container of `parts` and of a loader section.
+fn container_length(parts: &[Part<'_>], loader: &[u8]) -> usize
+    requires count { length parts.now + 1 < 2 ^ 16 }
+    requires fits { data_from (length parts.now) + length (raw_data (map described parts.now) loader.now) < 2 ^ 32 }
+    ensures { result ≡ data_from (length parts.now) + length (raw_data (map described parts.now) loader.now) }
+{
+    let mut at = data_from(parts.len());
+    for part in parts {
+        at += part.image.len().next_multiple_of(DATA_ALIGNMENT);
+    }
+    at + loader.len()
+}
+
+/// Appends the container header and all section headers.
+fn put_headers(
+    out: &mut Vec<u8>,
+    versions: Versions,
+    parts: &[Part<'_>],
+    loader: &[u8],
+) -> Result<(), AllocError>
+    requires count { length parts.now + 1 < 2 ^ 16 }
+    requires fits { data_from (length parts.now) + length (raw_data (map described parts.now) loader.now) < 2 ^ 32 }
+    ensures { OnOk result (out.new.items ≡ out.old.items ++ (spelled (header_fields (written_header versions (length parts.now))) ++ spelled_headers (written_sections (map described parts.now) loader.now))) }
+{
+    let header = container_header(versions, parts.len() as u16);
+    put_fields(out, &header_fields(header))?;
+    put_section_headers(out, parts, loader)
+}
+
+/// Appends the headers of `parts` and of the loader section.
+fn put_section_headers(
+    out: &mut Vec<u8>,
+    parts: &[Part<'_>],
+    loader: &[u8],
+) -> Result<(), AllocError>
+    requires count { length parts.now + 1 < 2 ^ 16 }
+    requires fits { data_from (length parts.now) + length (raw_data (map described parts.now) loader.now) < 2 ^ 32 }
+    ensures { OnOk result (out.new.items ≡ out.old.items ++ spelled_headers (written_sections (map described parts.now) loader.now)) }
+{
+    let mut at = data_from(parts.len());
+    for part in parts {
+        put_fields(out, &section_fields(part_header(*part, at as u32)))?;
+        at += part.image.len().next_multiple_of(DATA_ALIGNMENT);
+    }
+    put_fields(
+        out,
+        &section_fields(loader_header(loader.len() as u32, at as u32)),
+    )
+}
+
+/// Appends `bytes` and zeros behind them, up to a multiple of [`DATA_ALIGNMENT`].
+#[tactic(auto, unfolding(crate::specs::Fields::padded))]
+fn put_padded(out: &mut Vec<u8>, bytes: &[u8]) -> Result<(), AllocError>
+    requires { length bytes.now < 2 ^ 32 }
+    ensures { OnOk result (out.new.items ≡ out.old.items ++ padded 16 bytes.now) }
+{
+    out.extend_from_slice(bytes)?;
+    let zeros = bytes.len().next_multiple_of(DATA_ALIGNMENT) - bytes.len();
+    out.resize(out.len() + zeros, 0)
+}
+
+/// The header of a container of `count` parts and a loader section.
+fn container_header(versions: Versions, count: u16) -> Header
+    requires { count + 1 < 2 ^ 16 }
+    ensures { result ≡ written_header versions count }
+{
+    Header {
+        tag_1: TAG_1,
+        tag_2: TAG_2,
+        architecture: POWERPC,
+        format_version: FORMAT_VERSION,
+        date_time_stamp: 0,
+        old_definition_version: versions.old_definition,
+        old_implementation_version: versions.old_implementation,
+        current_version: versions.current,
+        section_count: count + 1,
+        instantiated_section_count: count,
+        reserved: 0,
+    }
+}
+
+/// The header of a part whose image lies at `at`.
+fn part_header(part: Part<'_>, at: u32) -> SectionHeader
+    requires { length part.image.now < 2 ^ 32 }
+    ensures { result ≡ part_header (described part.entry) at }
+{
+    SectionHeader {
+        name_offset: NO_NAME,
+        default_address: 0,
+        total_size: part.total,
+        unpacked_size: part.image.len() as u32,
+        packed_size: part.image.len() as u32,
+        container_offset: at,
+        section_kind: part.kind,
+        share_kind: part.share,
+        alignment: part.alignment,
+        reserved: 0,
+    }
+}
+
+/// The header of a loader section of `len` bytes that lies at `at`.
+fn loader_header(len: u32, at: u32) -> SectionHeader
+    ensures { result ≡ loader_header len at }
+{
+    SectionHeader {
+        name_offset: NO_NAME,
+        default_address: 0,
+        total_size: 0,
+        unpacked_size: 0,
+        packed_size: len,
+        container_offset: at,
+        section_kind: LOADER_SECTION,
+        share_kind: GLOBAL_SHARE,
+        alignment: LOADER_ALIGNMENT,
+        reserved: 0,
+    }
+}
+
+/// The fields of the container header, in order (PEFContainerHeader).
+#[tactic(auto, unfolding(crate::specs::Containers::header_fields))]
+fn header_fields(header: Header) -> [Field; 11]
+    ensures { result ≡ header_fields header }
+{
+    [
+        Field::Word(header.tag_1),
+        Field::Word(header.tag_2),
+        Field::Word(header.architecture),
+        Field::Word(header.format_version),
+        Field::Word(header.date_time_stamp),
+        Field::Word(header.old_definition_version),
+        Field::Word(header.old_implementation_version),
+        Field::Word(header.current_version),
+        Field::Half(header.section_count),
+        Field::Half(header.instantiated_section_count),
+        Field::Word(header.reserved),
+    ]
+}
+
+/// The fields of a section header, in order (PEFSectionHeader).
+#[tactic(auto, unfolding(crate::specs::Containers::section_fields))]
+fn section_fields(header: SectionHeader) -> [Field; 10]
+    ensures { result ≡ section_fields header }
+{
+    [
+        Field::Word(header.name_offset.cast_unsigned()),
+        Field::Word(header.default_address),
+        Field::Word(header.total_size),
+        Field::Word(header.unpacked_size),
+        Field::Word(header.packed_size),
+        Field::Word(header.container_offset),
+        Field::Byte(header.section_kind),
+        Field::Byte(header.share_kind),
+        Field::Byte(header.alignment),
+        Field::Byte(header.reserved),
+    ]
+}

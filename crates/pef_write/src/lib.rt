@@ -1,0 +1,11 @@
+//! PEF containers as bytes.
+//!
+//! The format is that of Mac OS Runtime Architectures, "PEF Structure", and of PEFBinaryFormat.h. What
+//! is written is what `pef_views` reads: its parts are those that were handed in.
+#![tactic(auto)]
+
+mod container;
+mod field;
+
+pub use container::{DATA_ALIGNMENT, Part, Versions, write_container};
+pub use field::{Field, put_fields};
