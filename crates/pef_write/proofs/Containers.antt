@@ -1,6 +1,7 @@
 -- What a written container is read back as.
-use Rattle.std.proofs.Common.{◌≡◌, ◌∙◌, ℕ, ◌+◌, ◌*◌, ◌<◌, ◌≤◌, List, [], ◌∷◌, ◌++◌, length, drop, map, get_or, length-append, refl, sym, ap, ap₂, arith}
+use Rattle.std.proofs.Common.{◌≡◌, ◌∙◌, ℕ, suc, ◌+◌, ◌*◌, ◌<◌, ◌≤◌, ◌^◌, List, [], ◌∷◌, ◌++◌, length, drop, map, get_or, length-append, refl, sym, ap, ap₂, arith}
 use Rattle.std.specs.Int.{next_multiple_of}
+use Rattle.std.specs.List.{All}
 use Rattle.std.proofs.lemmas.List.{drop_more, drop_all, length-map}
 use Rattle.pef_views.specs.declared.header.Header.{Header}
 use Rattle.pef_views.specs.declared.section.SectionHeader.{SectionHeader}
@@ -93,3 +94,19 @@ pub length-written_container : (v : Versions) (parts : List DescribedPart) (load
 unfolding written_container
 length-written_container v parts loader =
     length-append (padded 16 (fronts v parts loader)) (raw_data parts loader) ∙ ap (λ n. n + length (raw_data parts loader)) (length-front v parts loader)
+
+-- parts of at most 2^24 bytes each
+length-raw_data-bound : (parts : List DescribedPart) (loader : List ℕ) → All (λ p. length p.image ≤ 2 ^ 24) parts → length (raw_data parts loader) ≤ 2 ^ 24 * length parts + length loader
+unfolding raw_data
+length-raw_data-bound [] loader each = omega arith
+length-raw_data-bound (p ∷ parts) loader each =
+    let own = each 0 p (omega arith) in
+    let later = length-raw_data-bound parts loader (λ k d under. each (suc k) d (omega arith)) in
+    let joined = length-append (padded 16 p.image) (raw_data parts loader) in
+    let padding = length-padded 16 p.image in
+    omega (arith, own, later, joined, padding)
+
+-- a container of few and small sections is no longer than its fields can say
+pub container_size : (v : Versions) (parts : List DescribedPart) (loader : List ℕ) → length parts ≤ 16 → All (λ p. length p.image ≤ 2 ^ 24) parts → length loader < 2 ^ 31 → length (written_container v parts loader) < 2 ^ 32
+container_size v parts loader few each small =
+    omega (arith, length-written_container v parts loader, length-raw_data-bound parts loader each)

@@ -1,5 +1,5 @@
 -- What spelled fields are read back as.
-use Rattle.std.proofs.Common.{◌≡◌, ◌∙◌, ℕ, ◌+◌, ◌-◌, ◌<◌, ◌≤◌, ◌^◌, List, [], ◌∷◌, ◌++◌, Some, length, take, drop, get_or, replicate, length-append, append_assoc, refl, sym, ap, subst, arith}
+use Rattle.std.proofs.Common.{◌≡◌, ◌∙◌, ℕ, ◌+◌, ◌-◌, ◌<◌, ◌≤◌, ◌^◌, List, [], ◌∷◌, ◌++◌, Some, length, take, drop, get_or, replicate, length-append, append-nil, append_assoc, refl, sym, ap, ap₂, subst, arith}
 use Rattle.std.specs.Int.{next_multiple_of}
 use Rattle.std.proofs.lemmas.Bool.{le-leb}
 use Rattle.std.proofs.lemmas.List.{drop_at, drop_more, drop_all, length-replicate, take_all}
@@ -8,7 +8,7 @@ use Rattle.byteorder.specs.Endian.{big_bytes}
 use Rattle.byteorder.specs.Numbers.{big_number-reads_back, length-bytes_high_first}
 use Rattle.pef_words.specs.Bytes.{number_at}
 use Rattle.pef_write.specs.declared.field.Field.{Field}
-use Rattle.pef_write.specs.Fields.{field_bytes, padded, spelled, value, width}
+use Rattle.pef_write.specs.Fields.{AllFit, Reads, field_bytes, padded, spelled, value, width}
 
 -- the next multiple is as far as what lies before it and the gap
 next_from : (n multiple : ℕ) → n + (next_multiple_of n multiple - n) ≡ next_multiple_of n multiple
@@ -65,17 +65,6 @@ number_here n x before rest fits =
     let inside = le-leb (length before + n) (length (before ++ (big_bytes n x ++ rest))) (omega arith) in
     rw (inside, drop_at before (big_bytes n x ++ rest) (length before) refl, big_number-reads_back n x rest fits) refl
 
--- each number fits its field
-abbrev pub AllFit : List Field → Type 0
-AllFit [] = Unit {0}
-AllFit (field ∷ fields) = (value field < 256 ^ width field) × AllFit fields
-
--- at a place and behind it stand these fields, in their order
-abbrev pub Reads : List ℕ → ℕ → ℕ → List Field → Type 0
-Reads bytes from off [] = Unit {0}
-Reads bytes from off (field ∷ fields) =
-    (number_at (width field) bytes (from + off) ≡ Some (value field)) × Reads bytes from (off + width field) fields
-
 reads_from : (from off : ℕ) (before rest : List ℕ) (fields : List Field) → length before ≡ from + off → AllFit fields → Reads (before ++ (spelled fields ++ rest)) from off fields
 unfolding spelled
 reads_from from off before rest [] here fits = tt
@@ -93,3 +82,42 @@ reads_from from off before rest (field ∷ fields) here fits =
 -- fields behind some bytes are read back, whatever follows
 pub reads : (before rest : List ℕ) (fields : List Field) → AllFit fields → Reads (before ++ (spelled fields ++ rest)) (length before) 0 fields
 reads before rest fields fits = reads_from (length before) 0 before rest fields (omega arith) fits
+
+-- where nothing is left, what is written is the whole
+pub none_left : (now left whole : List ℕ) → left ≡ [] → now ++ left ≡ whole → now ≡ whole
+none_left now left whole none all = sym (append-nil now) ∙ ap (λ z. now ++ z) (sym none) ∙ all
+
+-- how many bytes some fields have
+abbrev pub widths : List Field → ℕ
+widths [] = 0
+widths (field ∷ fields) = width field + widths fields
+
+pub widths-length : (fields : List Field) → length (spelled fields) ≡ widths fields
+unfolding spelled
+widths-length [] = refl
+widths-length (field ∷ fields) =
+    length-append (field_bytes field) (spelled fields) ∙ ap₂ (λ a b. a + b) (length-bytes_high_first (width field) (value field)) (widths-length fields)
+
+-- fields that are read are those of both parts
+pub reads-split : (bytes : List ℕ) (from off : ℕ) (xs ys : List Field) → Reads bytes from off (xs ++ ys) → Reads bytes from off xs × Reads bytes from (off + widths xs) ys
+reads-split bytes from off [] ys all =
+    let e : off ≡ off + 0 = omega arith in
+    let P : ℕ → Type 0 = λ off. Reads bytes from off ys in
+    (tt, subst P e all)
+reads-split bytes from off (x ∷ xs) ys all =
+    let later = reads-split bytes from (off + width x) xs ys all.1 in
+    let e : off + width x + widths xs ≡ off + (width x + widths xs) = omega arith in
+    let P : ℕ → Type 0 = λ off. Reads bytes from off ys in
+    ((all.0, later.0), subst P e later.1)
+
+-- fields that fit are those of both parts
+pub fit-append : (xs ys : List Field) → AllFit xs → AllFit ys → AllFit (xs ++ ys)
+fit-append [] ys first second = second
+fit-append (x ∷ xs) ys first second = (first.0, fit-append xs ys first.1 second)
+
+-- a place that is named otherwise
+pub reads-at : (bytes : List ℕ) (from off from' off' : ℕ) (fields : List Field) → from + off ≡ from' + off' → Reads bytes from off fields → Reads bytes from' off' fields
+reads-at bytes from off from' off' [] same all = tt
+reads-at bytes from off from' off' (x ∷ xs) same all =
+    let P : ℕ → Type 0 = λ at. number_at (width x) bytes at ≡ Some (value x) in
+    (subst P same all.0, reads-at bytes from (off + width x) from' (off' + width x) xs (omega arith) all.1)

@@ -1,3 +1,5 @@
 pub mod Fields
 pub mod Containers
 pub mod Written
+pub mod Loaders
+pub mod LoaderLaws

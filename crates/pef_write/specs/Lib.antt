@@ -1,2 +1,4 @@
 pub mod Fields
 pub mod Containers
+pub mod Loaders
+pub mod Described

@@ -6,6 +6,11 @@
 
 mod container;
 mod field;
+mod loader;
 
 pub use container::{DATA_ALIGNMENT, Part, Versions, write_container};
 pub use field::{Field, put_fields};
+pub use loader::{SectionProgram, Tables, write_loader};
+
+#[cfg(test)]
+mod tests;
