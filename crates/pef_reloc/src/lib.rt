@@ -4,8 +4,13 @@
 //! `PEFBinaryFormat.h`.
 #![tactic(auto)]
 
+mod decode;
+mod fault;
 mod fixup;
+mod instr;
 
 pub use fixup::{
     Base, Fixup, MAX_FIXUPS, MAX_IMPORTS, MAX_SECTIONS, OFFSET_LIMIT, WORD, fixups_fit,
 };
+pub use fault::RelocFault;
+pub use instr::{Instr, Repeat};

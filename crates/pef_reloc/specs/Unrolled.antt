@@ -1,0 +1,90 @@
+-- What a program with repeats executes, and why a program is refused. A repeat runs the preceding
+-- halfwords so many further times; the pass that ran before it isn't counted.
+use Rattle.std.specs.Prelude.{◌≡◌, ℕ, zero, suc, ◌+◌, ◌-◌, Bool, nat_lt, nat_le, if◌then◌else◌, List, [], ◌∷◌, ◌++◌, length, Option, None, Some, Result, Ok, Err}
+use Rattle.std.specs.Option.{option_or}
+use Rattle.std.specs.Result.{result_unwrap_or}
+use Rattle.pef_reloc.specs.declared.fault.RelocFault.{RelocFault}
+use Rattle.pef_reloc.specs.declared.fault.RelocFault.TheVariants.{RepeatTooFar, RepeatCuts, NestedRepeat, TooManySteps}
+use Rattle.pef_reloc.specs.declared.instr.Instr.{Instr}
+use Rattle.pef_reloc.specs.declared.instr.Repeat.{Repeat}
+use Rattle.pef_reloc.specs.Instrs.{instr_length, repeat_free, repeat_of}
+use Rattle.pef_reloc.specs.Decoding.{Code, code_of}
+
+-- the instructions of the last n halfwords, in front of others: of those before, the last one stands
+-- first
+abbrev pub reached : List Instr → ℕ → List Instr → Result (List Instr) RelocFault
+reached before zero block = Ok block
+reached [] (suc n) block = Err RepeatTooFar
+reached (instr ∷ before) (suc n) block =
+    if nat_le (instr_length instr) (suc n) then reached before (suc n - instr_length instr) (instr ∷ block)
+    else Err RepeatCuts
+
+-- the instructions that a repeat runs again
+unfoldable pub block_of : List Instr → Repeat → List Instr
+block_of before r = result_unwrap_or (reached before r.blocks []) []
+
+-- a list so many times
+abbrev pub repeated : ℕ → List Instr → List Instr
+repeated zero block = []
+repeated (suc n) block = block ++ repeated n block
+
+-- what is executed at an instruction: itself, or the passes of the repeat that it is
+abbrev pub executed_as : List Instr → Instr → Option Repeat → List Instr
+executed_as before instr None = instr ∷ []
+executed_as before instr (Some r) = repeated r.passes (block_of before r)
+
+abbrev pub executed : List Instr → Instr → List Instr
+executed before instr = executed_as before instr (repeat_of instr)
+
+-- what a list of instructions executes behind others
+abbrev pub unrolled_after : List Instr → List Instr → List Instr
+unrolled_after before [] = []
+unrolled_after before (instr ∷ instrs) = executed before instr ++ unrolled_after (instr ∷ before) instrs
+
+-- what a program executes
+abbrev pub unrolled : List Instr → List Instr
+unrolled instrs = unrolled_after [] instrs
+
+-- how many instructions a program may execute, each pass and each repeat counted
+abbrev pub step_limit : ℕ
+step_limit = 0x1000000
+
+-- the steps at an instruction: what it executes, and a repeat itself
+abbrev pub steps_as : List Instr → Option Repeat → ℕ
+steps_as before None = 1
+steps_as before (Some r) = length (repeated r.passes (block_of before r)) + 1
+
+-- why the block of a repeat is refused
+abbrev pub block_fault : Result (List Instr) RelocFault → Option RelocFault
+block_fault (Err fault) = Some fault
+block_fault (Ok block) = if repeat_free block then None else Some NestedRepeat
+
+abbrev pub repeat_fault : List Instr → Option Repeat → Option RelocFault
+repeat_fault before None = None
+repeat_fault before (Some r) = block_fault (reached before r.blocks [])
+
+abbrev pub steps_fault : ℕ → Option RelocFault
+steps_fault steps = if nat_le steps step_limit then None else Some TooManySteps
+
+-- why an instruction is refused, behind others and after so many steps
+abbrev pub instr_fault : List Instr → ℕ → Option Repeat → Option RelocFault
+instr_fault before steps r = option_or (repeat_fault before r) (steps_fault (steps + steps_as before r))
+
+-- the first refusal of an instruction
+abbrev pub first_fault : List Instr → ℕ → List Instr → Option RelocFault
+first_fault before steps [] = None
+first_fault before steps (instr ∷ instrs) =
+    option_or (instr_fault before steps (repeat_of instr))
+    (first_fault (instr ∷ before) (steps + steps_as before (repeat_of instr)) instrs)
+
+-- the first refusal of some code: of its instructions, or of the bytes behind them
+abbrev pub code_fault : List Instr → ℕ → Code → Option RelocFault
+code_fault before steps code = option_or (first_fault before steps code.instrs) code.fault
+
+-- why the bytes are no readable program
+unfoldable pub program_fault : List ℕ → Option RelocFault
+program_fault bytes = code_fault [] 0 (code_of bytes)
+
+-- the instructions of a program
+unfoldable pub instrs_of : List ℕ → List Instr
+instrs_of bytes = (code_of bytes).instrs

@@ -1,0 +1,138 @@
+ghost use Rattle.std.specs.Prelude.{◌≡◌, ◌<◌};
+ghost use Rattle.pef_reloc.specs.Decoding.{first_instr, long_instr, opcode_instr, section_instr, short_instr};
+
+use pef_words::Cut;
+
+use crate::fault::RelocFault;
+use crate::instr::Instr;
+
+/// The kinds that the high four bits of a halfword tell.
+const SKIP_END: u16 = 0x4;
+const INCR_POSITION: u16 = 0x8;
+const SM_REPEAT: u16 = 0x9;
+
+/// The kinds that the high seven bits tell, with a nine-bit number behind them.
+const BY_SECT_C: u16 = 0x20;
+const BY_SECT_D: u16 = 0x21;
+const T_VECTOR_12: u16 = 0x22;
+const T_VECTOR_8: u16 = 0x23;
+const V_TABLE_8: u16 = 0x24;
+const IMPORT_RUN: u16 = 0x25;
+const SM_BY_IMPORT: u16 = 0x30;
+const SM_SET_SECT_C: u16 = 0x31;
+const SM_SET_SECT_D: u16 = 0x32;
+const SM_BY_SECTION: u16 = 0x33;
+
+/// The kinds of two halfwords, which the high six bits of the first one tell.
+const SET_POSITION: u16 = 0x28;
+const LG_BY_IMPORT: u16 = 0x29;
+const LG_REPEAT: u16 = 0x2C;
+const LG_SET_OR_BY_SECTION: u16 = 0x2D;
+
+/// What the four bits behind the last of them tell.
+const LG_BY_SECTION: u16 = 0;
+const LG_SET_SECT_C: u16 = 1;
+const LG_SET_SECT_D: u16 = 2;
+
+/// The instruction that begins the bytes.
+///
+/// # Errors
+///
+/// `BadOpcode` where its first halfword begins none, and `CutInstruction` where the bytes end in it.
+#[tactic(auto, unfolding(crate::specs::Decoding::first_instr))]
+pub(crate) fn first_instr(bytes: &[u8]) -> Result<Instr, RelocFault>
+    ensures { result ≡ first_instr bytes.now }
+{
+    let cut = Cut::new(bytes);
+    let first = match cut.u16_at(0) {
+        Some(first) => first,
+        None => return Err(RelocFault::CutInstruction),
+    };
+    if let Some(instr) = short_instr(first) {
+        return Ok(instr);
+    }
+    if long_instr(first, 0).is_none() {
+        return Err(RelocFault::BadOpcode);
+    }
+    let second = match cut.u16_at(2) {
+        Some(second) => second,
+        None => return Err(RelocFault::CutInstruction),
+    };
+    match long_instr(first, second) {
+        Some(instr) => Ok(instr),
+        None => Err(RelocFault::CutInstruction),
+    }
+}
+
+/// The instruction of one halfword, where that is one.
+#[tactic(auto, unfolding(crate::specs::Decoding::short_instr))]
+fn short_instr(halfword: u16) -> Option<Instr>
+    ensures { result ≡ short_instr halfword }
+{
+    let word = u32::from(halfword);
+    match halfword / 0x1000 {
+        0..SKIP_END => Some(Instr::BySectDWithSkip {
+            skip: word / 64,
+            count: word % 64,
+        }),
+        INCR_POSITION => Some(Instr::IncrPosition(word % 4096 + 1)),
+        SM_REPEAT => Some(Instr::SmRepeat {
+            blocks: word / 256 % 16 + 1,
+            count: word % 256 + 1,
+        }),
+        _ => opcode_instr(halfword / 512, word % 512),
+    }
+}
+
+/// The instruction of a seven-bit opcode and a nine-bit number.
+fn opcode_instr(opcode: u16, number: u32) -> Option<Instr>
+    requires { number < 512 }
+    ensures { result ≡ opcode_instr opcode number }
+{
+    match opcode {
+        BY_SECT_C => Some(Instr::BySectC(number + 1)),
+        BY_SECT_D => Some(Instr::BySectD(number + 1)),
+        T_VECTOR_12 => Some(Instr::TVector12(number + 1)),
+        T_VECTOR_8 => Some(Instr::TVector8(number + 1)),
+        V_TABLE_8 => Some(Instr::VTable8(number + 1)),
+        IMPORT_RUN => Some(Instr::ImportRun(number + 1)),
+        SM_BY_IMPORT => Some(Instr::SmByImport(number)),
+        SM_SET_SECT_C => Some(Instr::SmSetSectC(number)),
+        SM_SET_SECT_D => Some(Instr::SmSetSectD(number)),
+        SM_BY_SECTION => Some(Instr::SmBySection(number)),
+        _ => None,
+    }
+}
+
+/// The instruction of two halfwords, where the first one begins one.
+#[tactic(auto, unfolding(crate::specs::Decoding::long_instr))]
+fn long_instr(first: u16, second: u16) -> Option<Instr>
+    ensures { result ≡ long_instr first second }
+{
+    let high = u32::from(first);
+    let low = u32::from(second);
+    let number = high % 1024 * 0x1_0000 + low;
+    let index = high % 64 * 0x1_0000 + low;
+    match first / 1024 {
+        SET_POSITION => Some(Instr::SetPosition(number)),
+        LG_BY_IMPORT => Some(Instr::LgByImport(number)),
+        LG_REPEAT => Some(Instr::LgRepeat {
+            blocks: high / 64 % 16 + 1,
+            count: index,
+        }),
+        LG_SET_OR_BY_SECTION => section_instr(first / 64 % 16, index),
+        _ => None,
+    }
+}
+
+/// The instruction on a section of a four-bit opcode.
+fn section_instr(opcode: u16, section: u32) -> Option<Instr>
+    ensures { result ≡ section_instr opcode section }
+{
+    match opcode {
+        LG_BY_SECTION => Some(Instr::LgBySection(section)),
+        LG_SET_SECT_C => Some(Instr::LgSetSectC(section)),
+        LG_SET_SECT_D => Some(Instr::LgSetSectD(section)),
+        _ => None,
+    }
+}

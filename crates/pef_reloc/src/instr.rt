@@ -1,0 +1,134 @@
+ghost use Rattle.std.specs.Prelude.{◌≡◌};
+ghost use Rattle.pef_reloc.specs.Instrs.{instr_fits, instr_length, repeat_of};
+
+/// The most words that a run of additions has.
+pub const MAX_RUN: u32 = 512;
+
+/// The most words that a skip passes, and the most that it adds to.
+pub const MAX_SKIP: u32 = 255;
+pub const MAX_SKIP_COUNT: u32 = 63;
+
+/// The most bytes that an increment moves on.
+pub const MAX_INCREMENT: u32 = 4096;
+
+/// The most halfwords that a repeat reaches back, and the most passes of a short one.
+pub const MAX_BLOCKS: u32 = 16;
+pub const MAX_SHORT_PASSES: u32 = 256;
+
+/// The bounds of the numbers in nine, twenty-two and twenty-six bits.
+pub const SMALL_INDEX_LIMIT: u32 = 512;
+pub const LARGE_INDEX_LIMIT: u32 = 0x0040_0000;
+pub const POSITION_LIMIT: u32 = 0x0400_0000;
+
+/// A relocation instruction, with its numbers as they mean.
+///
+/// A run's number is how many times it adds, an increment's is in bytes, and `blocks` counts
+/// halfwords. Source: `PEFBinaryFormat.h`, the relocation opcodes.
+#[derive(Clone, Copy, Debug, PartialEq, Eq)]
+pub enum Instr {
+    /// Passes `skip` words, then adds section D to `count` words.
+    BySectDWithSkip { skip: u32, count: u32 },
+    /// Adds section C to that many words.
+    BySectC(u32),
+    /// Adds section D to that many words.
+    BySectD(u32),
+    /// That many times: adds section C, adds section D, passes a word.
+    TVector12(u32),
+    /// That many times: adds section C, adds section D.
+    TVector8(u32),
+    /// That many times: adds section D, passes a word.
+    VTable8(u32),
+    /// Adds that many imports, one after the other.
+    ImportRun(u32),
+    /// Adds an import, after which the next one is at hand.
+    SmByImport(u32),
+    /// Makes a section section C.
+    SmSetSectC(u32),
+    /// Makes a section section D.
+    SmSetSectD(u32),
+    /// Adds a section.
+    SmBySection(u32),
+    /// Moves on by that many bytes.
+    IncrPosition(u32),
+    /// Runs the preceding `blocks` halfwords `count` further times.
+    SmRepeat { blocks: u32, count: u32 },
+    /// Moves to an offset of the section.
+    SetPosition(u32),
+    /// `SmByImport` with a larger number.
+    LgByImport(u32),
+    /// `SmRepeat` with a larger number.
+    LgRepeat { blocks: u32, count: u32 },
+    /// `SmBySection` with a larger number.
+    LgBySection(u32),
+    /// `SmSetSectC` with a larger number.
+    LgSetSectC(u32),
+    /// `SmSetSectD` with a larger number.
+    LgSetSectD(u32),
+}
+
+impl Instr {
+    /// Whether its numbers fit their bits.
+    pub fn fits(self) -> bool
+        ensures { result ≡ instr_fits self }
+    {
+        match self {
+            Instr::BySectDWithSkip { skip, count } => skip <= MAX_SKIP && count <= MAX_SKIP_COUNT,
+            Instr::BySectC(count)
+            | Instr::BySectD(count)
+            | Instr::TVector12(count)
+            | Instr::TVector8(count)
+            | Instr::VTable8(count)
+            | Instr::ImportRun(count) => 1 <= count && count <= MAX_RUN,
+            Instr::SmByImport(index)
+            | Instr::SmSetSectC(index)
+            | Instr::SmSetSectD(index)
+            | Instr::SmBySection(index) => index < SMALL_INDEX_LIMIT,
+            Instr::IncrPosition(bytes) => 1 <= bytes && bytes <= MAX_INCREMENT,
+            Instr::SmRepeat { blocks, count } => {
+                1 <= blocks && blocks <= MAX_BLOCKS && 1 <= count && count <= MAX_SHORT_PASSES
+            }
+            Instr::SetPosition(number) | Instr::LgByImport(number) => number < POSITION_LIMIT,
+            Instr::LgRepeat { blocks, count } => {
+                1 <= blocks && blocks <= MAX_BLOCKS && count < LARGE_INDEX_LIMIT
+            }
+            Instr::LgBySection(index) | Instr::LgSetSectC(index) | Instr::LgSetSectD(index) => {
+                index < LARGE_INDEX_LIMIT
+            }
+        }
+    }
+
+    /// How many halfwords it has.
+    pub fn length(self) -> usize
+        ensures { result ≡ instr_length self }
+    {
+        match self {
+            Instr::SetPosition(_)
+            | Instr::LgByImport(_)
+            | Instr::LgRepeat { .. }
+            | Instr::LgBySection(_)
+            | Instr::LgSetSectC(_)
+            | Instr::LgSetSectD(_) => 2,
+            _ => 1,
+        }
+    }
+
+    /// The repeat that it is, where it is one.
+    pub fn repeat(self) -> Option<Repeat>
+        ensures { result ≡ repeat_of self }
+    {
+        match self {
+            Instr::SmRepeat { blocks, count } | Instr::LgRepeat { blocks, count } => Some(Repeat {
+                blocks,
+                passes: count,
+            }),
+            _ => None,
+        }
+    }
+}
+
+/// How many halfwords run again, and how many further times.
+#[derive(Clone, Copy, Debug, PartialEq, Eq)]
+pub struct Repeat {
+    pub blocks: u32,
+    pub passes: u32,
+}
