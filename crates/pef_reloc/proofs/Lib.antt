@@ -1,1 +1,3 @@
+pub mod Acts
 pub mod FixupLemmas
+pub mod Rows

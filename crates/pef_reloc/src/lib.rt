@@ -8,6 +8,8 @@ mod decode;
 mod fault;
 mod fixup;
 mod instr;
+mod machine;
+mod words;
 
 pub use fixup::{
     Base, Fixup, MAX_FIXUPS, MAX_IMPORTS, MAX_SECTIONS, OFFSET_LIMIT, WORD, fixups_fit,

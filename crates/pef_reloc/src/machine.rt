@@ -1,0 +1,256 @@
+ghost use Rattle.std.specs.Prelude.{◌≡◌, ◌+◌, ◌*◌, ◌^◌, ◌≤◌, ◌<◌, ◌∷◌, [], length, true};
+ghost use Rattle.std.specs.Result.{result_err};
+ghost use Rattle.pef_reloc.specs.Applied.{address_of};
+ghost use Rattle.pef_reloc.specs.Instrs.{instr_fits};
+ghost use Rattle.pef_reloc.specs.Machines.{Does, DoesNumbered, DoesPairs, DoesRow, FindsImport, FindsSection, Holds, Moves, Near, SetsC, SetsD, Stepped, known, machine_after};
+ghost use Rattle.pef_reloc.specs.Steps.{add, added, need, start};
+ghost use Rattle.pef_reloc.specs.declared.fixup.Base.TheVariants.{Section, Import};
+
+use crate::fault::RelocFault;
+use crate::instr::Instr;
+use crate::words::{WORD, add_pairs, add_row, add_word};
+
+/// The addresses that a program adds: of the fragment's sections, and of its imports' targets.
+#[derive(Clone, Copy, Debug)]
+pub(crate) struct Targets<'a> {
+    sections: &'a [u32],
+    imports: &'a [u32],
+}
+
+impl<'a> Targets<'a> {
+    pub(crate) fn new(sections: &'a [u32], imports: &'a [u32]) -> Targets<'a>
+        ensures sections { result.sections.now ≡ sections.entry.now }
+        ensures imports { result.imports.now ≡ imports.entry.now }
+    {
+        Targets { sections, imports }
+    }
+
+    /// The address of a section that an instruction names.
+    fn section(self, section: u32) -> Result<u32, RelocFault>
+        ensures { FindsSection (known self.entry) section result }
+    {
+        match self.sections.get(section as usize) {
+            Some(address) => Ok(*address),
+            None => Err(RelocFault::SectionOutside),
+        }
+    }
+
+    /// The address of an import.
+    fn import(self, import: u64) -> Result<u32, RelocFault>
+        ensures { FindsImport (known self.entry) import result }
+    {
+        match self.imports.get(import as usize) {
+            Some(address) => Ok(*address),
+            None => Err(RelocFault::ImportOutside),
+        }
+    }
+
+    /// The address of a section that a register starts with, and 0 where there is no such section.
+    fn start_section(self, section: usize) -> u32
+        ensures { result ≡ address_of (known self.entry) (Section section) }
+    {
+        match self.sections.get(section) {
+            Some(address) => *address,
+            None => 0,
+        }
+    }
+}
+
+/// The registers of a relocation program, with addresses in place of section numbers.
+///
+/// The position is in bytes. Neither number can wrap: a program has at most 2^24 instructions, each of
+/// which moves on by less than 2^39, its repeats counted in.
+#[derive(Clone, Copy, Debug)]
+pub(crate) struct Machine {
+    position: u64,
+    import_index: u64,
+    section_c: u32,
+    section_d: u32,
+}
+
+impl Machine {
+    /// The registers that a program starts with.
+    pub(crate) fn new(targets: Targets) -> Machine
+        ensures holds { Holds (known targets.entry) result start }
+        ensures at_start { (result.position ≡ 0) × (result.import_index ≡ 0) }
+    {
+        Machine {
+            position: 0,
+            import_index: 0,
+            section_c: targets.start_section(0),
+            section_d: targets.start_section(1),
+        }
+    }
+
+    /// Executes an instruction. A repeat does nothing by itself.
+    #[tactic(auto, using(crate::proofs::Rows::nothing_done))]
+    pub(crate) fn step(
+        &mut self,
+        instr: Instr,
+        memory: &mut [u8],
+        targets: Targets,
+    ) -> Result<(), RelocFault>
+        requires near { Near self.old }
+        requires fits { instr_fits instr ≡ true }
+        ensures steps { Stepped (known targets.entry) self.old self.new memory.old memory.new instr (result_err result) }
+        ensures moves { Moves self.old self.new (2 ^ 13) }
+    {
+        let (position, c, d) = (self.position, self.section_c, self.section_d);
+        match instr {
+            Instr::BySectDWithSkip { skip, count } => {
+                self.row(memory, position + WORD * u64::from(skip), WORD, count, d)
+            }
+            Instr::BySectC(count) => self.row(memory, position, WORD, count, c),
+            Instr::BySectD(count) => self.row(memory, position, WORD, count, d),
+            Instr::VTable8(count) => self.row(memory, position, 2 * WORD, count, d),
+            Instr::TVector12(count) => self.pairs(memory, 3 * WORD, count),
+            Instr::TVector8(count) => self.pairs(memory, 2 * WORD, count),
+            Instr::ImportRun(count) => self.import_run(memory, count, targets),
+            Instr::SmByImport(index) | Instr::LgByImport(index) => {
+                self.import_word(memory, index, targets)
+            }
+            Instr::SmBySection(section) | Instr::LgBySection(section) => {
+                self.section_word(memory, section, targets)
+            }
+            Instr::SmSetSectC(section) | Instr::LgSetSectC(section) => {
+                self.set_section_c(section, targets)
+            }
+            Instr::SmSetSectD(section) | Instr::LgSetSectD(section) => {
+                self.set_section_d(section, targets)
+            }
+            Instr::IncrPosition(bytes) => {
+                self.position = position + u64::from(bytes);
+                Ok(())
+            }
+            Instr::SetPosition(offset) => {
+                self.position = u64::from(offset);
+                Ok(())
+            }
+            Instr::SmRepeat { .. } | Instr::LgRepeat { .. } => Ok(()),
+        }
+    }
+
+    /// Adds an address to some words, `stride` bytes apart, and moves behind them.
+    fn row(
+        &mut self,
+        memory: &mut [u8],
+        from: u64,
+        stride: u64,
+        count: u32,
+        address: u32,
+    ) -> Result<(), RelocFault>
+        requires { from + stride * count + 4 < 2 ^ 64 }
+        ensures does { DoesRow memory.old memory.new count from stride address (result_err result) }
+        ensures after { self.new ≡ machine_after (result_err result) self.old (record self.old { position = from + stride * count }) }
+    {
+        add_row(memory, from, stride, count, address)?;
+        self.position = from + stride * u64::from(count);
+        Ok(())
+    }
+
+    /// Adds sections C and D to some pairs of words, `stride` bytes apart, and moves behind them.
+    fn pairs(&mut self, memory: &mut [u8], stride: u64, count: u32) -> Result<(), RelocFault>
+        requires { self.old.position + stride * count + 8 < 2 ^ 64 }
+        ensures does { DoesPairs memory.old memory.new count self.old.position stride self.old.section_c self.old.section_d (result_err result) }
+        ensures after { self.new ≡ machine_after (result_err result) self.old (record self.old { position = self.old.position + stride * count }) }
+    {
+        let from = self.position;
+        add_pairs(memory, from, stride, count, self.section_c, self.section_d)?;
+        self.position = from + stride * u64::from(count);
+        Ok(())
+    }
+
+    /// Adds some imports, one after the other.
+    fn import_run(
+        &mut self,
+        memory: &mut [u8],
+        count: u32,
+        targets: Targets,
+    ) -> Result<(), RelocFault>
+        requires near { Near self.old }
+        requires short { count ≤ 512 }
+        ensures does { DoesNumbered (known targets.entry) memory.old memory.new count self.old.position self.old.import_index (result_err result) }
+        ensures after { self.new ≡ machine_after (result_err result) self.old (record self.old { position = self.old.position + 4 * count; import_index = self.old.import_index + count }) }
+    {
+        add_imports(memory, self.position, count, self.import_index, targets)?;
+        self.position += WORD * u64::from(count);
+        self.import_index += u64::from(count);
+        Ok(())
+    }
+
+    /// Adds an import, after which the next one is at hand.
+    #[tactic(auto, using(crate::proofs::Rows::numbered_one))]
+    fn import_word(
+        &mut self,
+        memory: &mut [u8],
+        import: u32,
+        targets: Targets,
+    ) -> Result<(), RelocFault>
+        requires near { Near self.old }
+        ensures does { Does (known targets.entry) memory.old memory.new (add (added self.old.position (Import import)) ∷ []) (result_err result) }
+        ensures after { self.new ≡ machine_after (result_err result) self.old (record self.old { position = self.old.position + 4; import_index = import + 1 }) }
+    {
+        let import = u64::from(import);
+        add_imports(memory, self.position, 1, import, targets)?;
+        self.position += WORD;
+        self.import_index = import + 1;
+        Ok(())
+    }
+
+    /// Adds a section.
+    fn section_word(
+        &mut self,
+        memory: &mut [u8],
+        section: u32,
+        targets: Targets,
+    ) -> Result<(), RelocFault>
+        requires near { Near self.old }
+        ensures does { Does (known targets.entry) memory.old memory.new (need section ∷ add (added self.old.position (Section section)) ∷ []) (result_err result) }
+        ensures after { self.new ≡ machine_after (result_err result) self.old (record self.old { position = self.old.position + 4 }) }
+    {
+        let address = targets.section(section)?;
+        add_word(memory, self.position, address)?;
+        self.position += WORD;
+        Ok(())
+    }
+
+    /// Makes a section section C.
+    fn set_section_c(&mut self, section: u32, targets: Targets) -> Result<(), RelocFault>
+        ensures { SetsC (known targets.entry) self.old self.new section (result_err result) }
+    {
+        self.section_c = targets.section(section)?;
+        Ok(())
+    }
+
+    /// Makes a section section D.
+    fn set_section_d(&mut self, section: u32, targets: Targets) -> Result<(), RelocFault>
+        ensures { SetsD (known targets.entry) self.old self.new section (result_err result) }
+    {
+        self.section_d = targets.section(section)?;
+        Ok(())
+    }
+}
+
+/// Adds `count` imports from `first` on to the words from `position` on, up to the first that is
+/// refused.
+fn add_imports(
+    memory: &mut [u8],
+    position: u64,
+    count: u32,
+    first: u64,
+    targets: Targets,
+) -> Result<(), RelocFault>
+    requires word { position + 4 * count + 4 < 2 ^ 64 }
+    requires index { first + count < 2 ^ 64 }
+    ensures { DoesNumbered (known targets.entry) memory.old memory.new count position first (result_err result) }
+{
+    let mut at = position;
+    let mut import = first;
+    'words: for _ in 0..count {
+        let address = targets.import(import)?;
+        add_word(memory, at, address)?;
+        at += WORD;
+        import += 1;
+    }
+    Ok(())
+}

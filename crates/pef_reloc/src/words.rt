@@ -1,0 +1,77 @@
+ghost use Rattle.std.specs.Prelude.{◌≡◌, ◌+◌, ◌*◌, ◌^◌, ◌≤◌, ◌<◌, length};
+ghost use Rattle.std.specs.Result.{result_err};
+ghost use Rattle.pef_reloc.specs.Applied.{added_at, word_added};
+ghost use Rattle.pef_reloc.specs.Machines.{DoesPairs, DoesRow};
+
+use byteorder::{BigEndian, ByteOrder};
+
+use crate::fault::RelocFault;
+
+/// The bytes of a word.
+pub(crate) const WORD: u64 = 4;
+
+/// Adds `address` to `count` words, `stride` bytes apart, up to the first that passes the end.
+pub(crate) fn add_row(
+    memory: &mut [u8],
+    position: u64,
+    stride: u64,
+    count: u32,
+    address: u32,
+) -> Result<(), RelocFault>
+    requires { position + stride * count + 4 < 2 ^ 64 }
+    ensures { DoesRow memory.old memory.new count position stride address (result_err result) }
+{
+    let mut at = position;
+    'words: for _ in 0..count {
+        add_word(memory, at, address)?;
+        at += stride;
+    }
+    Ok(())
+}
+
+/// Adds `first` and `second` to `count` pairs of words, `stride` bytes apart, up to the first word
+/// that passes the end.
+pub(crate) fn add_pairs(
+    memory: &mut [u8],
+    position: u64,
+    stride: u64,
+    count: u32,
+    first: u32,
+    second: u32,
+) -> Result<(), RelocFault>
+    requires { position + stride * count + 8 < 2 ^ 64 }
+    ensures { DoesPairs memory.old memory.new count position stride first second (result_err result) }
+{
+    let mut at = position;
+    'words: for _ in 0..count {
+        add_word(memory, at, first)?;
+        add_word(memory, at + WORD, second)?;
+        at += stride;
+    }
+    Ok(())
+}
+
+/// Adds an address to the word at a place, modulo 2^32.
+///
+/// # Errors
+///
+/// `WordOutside` where the word passes the end, with memory as it was.
+pub(crate) fn add_word(memory: &mut [u8], at: u64, address: u32) -> Result<(), RelocFault>
+    requires { at + 4 < 2 ^ 64 }
+    ensures { word_added memory.old at address ≡ record { memory = memory.new; fault = result_err result } }
+{
+    if at + WORD > memory.len() as u64 {
+        return Err(RelocFault::WordOutside);
+    }
+    add_at(memory, at as usize, address);
+    Ok(())
+}
+
+#[tactic(auto, unfolding(crate::specs::Applied::added_at))]
+fn add_at(memory: &mut [u8], at: usize, address: u32)
+    requires { at + 4 ≤ length memory.old }
+    ensures { memory.new ≡ added_at memory.old at address }
+{
+    let word = BigEndian::read_u32(&memory[at..]);
+    BigEndian::write_u32(&mut memory[at..], word.wrapping_add(address));
+}
