@@ -1,3 +1,7 @@
+pub mod ActLists
 pub mod Acts
+pub mod CodeLemmas
 pub mod FixupLemmas
+pub mod Halfwords
 pub mod Rows
+pub mod Runs

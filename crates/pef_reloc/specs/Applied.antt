@@ -63,3 +63,7 @@ applied a (act ∷ acts) memory = unless_refused (act_fault a (length memory) ac
 -- memory relocated by the program that the bytes spell
 unfoldable pub relocated : List ℕ → Addresses → List ℕ → Done
 relocated bytes a memory = applied a (acts_from (unrolled (instrs_of bytes)) start) memory
+
+-- what is done after something, where that isn't refused
+abbrev pub then_done : Done → (List ℕ → Done) → Done
+then_done done rest = unless_refused done.fault done.memory (rest done.memory)

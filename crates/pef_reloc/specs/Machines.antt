@@ -1,5 +1,5 @@
 -- How the code's registers, which hold addresses, stand to the model's, which hold numbers of sections.
-use Rattle.std.specs.Prelude.{◌≡◌, ◌≤◌, ℕ, ◌+◌, ◌^◌, false, true, max, nat_lt, List, [], ◌∷◌, length, map, slice_index, Option, None, Some, Result, Ok, Err}
+use Rattle.std.specs.Prelude.{◌≡◌, ◌≤◌, ℕ, ◌+◌, ◌*◌, ◌^◌, false, true, max, nat_lt, List, [], ◌∷◌, length, drop, map, slice_index, Option, None, Some, Result, Ok, Err}
 use Rattle.pef_reloc.specs.declared.fault.RelocFault.{RelocFault}
 use Rattle.pef_reloc.specs.declared.fault.RelocFault.TheVariants.{ImportOutside, SectionOutside}
 use Rattle.pef_reloc.specs.declared.machine.Targets.{Targets}
@@ -9,6 +9,8 @@ use Rattle.pef_reloc.specs.declared.instr.Instr.{Instr}
 use Rattle.pef_reloc.specs.declared.machine.Machine.{Machine}
 use Rattle.pef_reloc.specs.Steps.{State, Act, add, need, row, pairs, numbered, acts_of, next_state, acts_from, state_after}
 use Rattle.pef_reloc.specs.Applied.{Addresses, address_of, is_missing, applied}
+use Rattle.pef_reloc.specs.Decoding.{first_instr}
+use Rattle.pef_reloc.specs.Instrs.{instr_length}
 
 -- memory and the answer are those of the acts
 pub record Does (a : Addresses) (old new : List ℕ) (acts : List Act) (answer : Option RelocFault) : Type 0 where
@@ -73,9 +75,9 @@ pub record Moves (old new : Machine) (by : ℕ) : Type 0 where
   pub imports : new.import_index ≤ max old.import_index (2 ^ 26) + by
 
 -- both registers are far from wrapping
-pub record Near (m : Machine) : Type 0 where
-  pub position : m.position ≤ 2 ^ 63 + 2 ^ 40
-  pub imports : m.import_index ≤ 2 ^ 63 + 2 ^ 40
+pub record Near (m : Machine) (room : ℕ) : Type 0 where
+  pub position : m.position ≤ 2 ^ 63 + room
+  pub imports : m.import_index ≤ 2 ^ 63 + room
 
 -- a section made section C or D, where it is there
 pub record SetsC (a : Addresses) (old new : Machine) (section : ℕ) (answer : Option RelocFault) : Type 0 where
@@ -85,3 +87,20 @@ pub record SetsC (a : Addresses) (old new : Machine) (section : ℕ) (answer : O
 pub record SetsD (a : Addresses) (old new : Machine) (section : ℕ) (answer : Option RelocFault) : Type 0 where
   pub does : (memory : List ℕ) → Does a memory memory (need section ∷ []) answer
   pub after : new ≡ machine_after answer old (record old { section_d = address_of a (Section section) })
+
+-- the instructions stand in the bytes from one place to another
+abbrev pub Spans : List ℕ → ℕ → List Instr → ℕ → Type 0
+Spans bytes from [] to = from ≡ to
+Spans bytes from (instr ∷ instrs) to = (first_instr (drop from bytes) ≡ Ok instr) × Spans bytes (from + 2 * instr_length instr) instrs to
+
+-- the instructions, the last one first, stand in the bytes up to a place
+abbrev pub Before : List ℕ → List Instr → ℕ → Type 0
+Before bytes [] at = at ≡ 0
+Before bytes (instr ∷ before) at = (prev : ℕ) × (at ≡ prev + 2 * instr_length instr) × (first_instr (drop prev bytes) ≡ Ok instr) × Before bytes before prev
+
+-- what is left to do does what all would have done
+pub record Leaves (a : Addresses) (m : Machine) (memory : List ℕ) (left : List Instr) (whole : List ℕ) (all : List Instr) (begin : State) : Type 0 where
+  pub state : State
+  pub holds : Holds a m state
+  pub rest : applied a (acts_from left state) memory ≡ applied a (acts_from all begin) whole
+  pub after : state_after left state ≡ state_after all begin

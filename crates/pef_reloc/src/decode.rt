@@ -1,4 +1,5 @@
-ghost use Rattle.std.specs.Prelude.{◌≡◌, ◌<◌};
+ghost use Rattle.std.specs.Prelude.{◌≡◌, ◌<◌, ◌≤◌, ◌+◌, ◌*◌, ◌^◌, IfOk, IfSome, drop, length, true};
+ghost use Rattle.pef_reloc.specs.Instrs.{instr_fits, instr_length};
 ghost use Rattle.pef_reloc.specs.Decoding.{first_instr, long_instr, opcode_instr, section_instr, short_instr};
 
 use pef_words::Cut;
@@ -39,9 +40,11 @@ const LG_SET_SECT_D: u16 = 2;
 /// # Errors
 ///
 /// `BadOpcode` where its first halfword begins none, and `CutInstruction` where the bytes end in it.
-#[tactic(auto, unfolding(crate::specs::Decoding::first_instr))]
+#[tactic(auto, using(crate::proofs::Halfwords::number_inside), unfolding(crate::specs::Decoding::first_instr))]
 pub(crate) fn first_instr(bytes: &[u8]) -> Result<Instr, RelocFault>
-    ensures { result ≡ first_instr bytes.now }
+    ensures value { result ≡ first_instr bytes.now }
+    ensures fits { IfOk result (λ x. instr_fits x ≡ true) }
+    ensures inside { IfOk result (λ x. 2 * instr_length x ≤ length bytes.now) }
 {
     let cut = Cut::new(bytes);
     let first = match cut.u16_at(0) {
@@ -64,10 +67,23 @@ pub(crate) fn first_instr(bytes: &[u8]) -> Result<Instr, RelocFault>
     }
 }
 
+/// The instruction that begins the bytes from `at`.
+pub(crate) fn instr_from(bytes: &[u8], at: usize) -> Result<Instr, RelocFault>
+    requires { at ≤ length bytes.now }
+    ensures value { result ≡ first_instr (drop at bytes.now) }
+    ensures fits { IfOk result (λ x. instr_fits x ≡ true) }
+    ensures inside { IfOk result (λ x. at + 2 * instr_length x ≤ length bytes.now) }
+{
+    let (_, rest) = bytes.split_at(at);
+    first_instr(rest)
+}
+
 /// The instruction of one halfword, where that is one.
 #[tactic(auto, unfolding(crate::specs::Decoding::short_instr))]
 fn short_instr(halfword: u16) -> Option<Instr>
-    ensures { result ≡ short_instr halfword }
+    ensures value { result ≡ short_instr halfword }
+    ensures fits { IfSome result (λ x. instr_fits x ≡ true) }
+    ensures length { IfSome result (λ x. instr_length x ≡ 1) }
 {
     let word = u32::from(halfword);
     match halfword / 0x1000 {
@@ -87,7 +103,9 @@ fn short_instr(halfword: u16) -> Option<Instr>
 /// The instruction of a seven-bit opcode and a nine-bit number.
 fn opcode_instr(opcode: u16, number: u32) -> Option<Instr>
     requires { number < 512 }
-    ensures { result ≡ opcode_instr opcode number }
+    ensures value { result ≡ opcode_instr opcode number }
+    ensures fits { IfSome result (λ x. instr_fits x ≡ true) }
+    ensures length { IfSome result (λ x. instr_length x ≡ 1) }
 {
     match opcode {
         BY_SECT_C => Some(Instr::BySectC(number + 1)),
@@ -107,7 +125,9 @@ fn opcode_instr(opcode: u16, number: u32) -> Option<Instr>
 /// The instruction of two halfwords, where the first one begins one.
 #[tactic(auto, unfolding(crate::specs::Decoding::long_instr))]
 fn long_instr(first: u16, second: u16) -> Option<Instr>
-    ensures { result ≡ long_instr first second }
+    ensures value { result ≡ long_instr first second }
+    ensures fits { IfSome result (λ x. instr_fits x ≡ true) }
+    ensures length { IfSome result (λ x. instr_length x ≡ 2) }
 {
     let high = u32::from(first);
     let low = u32::from(second);
@@ -127,7 +147,10 @@ fn long_instr(first: u16, second: u16) -> Option<Instr>
 
 /// The instruction on a section of a four-bit opcode.
 fn section_instr(opcode: u16, section: u32) -> Option<Instr>
-    ensures { result ≡ section_instr opcode section }
+    requires { section < 2 ^ 22 }
+    ensures value { result ≡ section_instr opcode section }
+    ensures fits { IfSome result (λ x. instr_fits x ≡ true) }
+    ensures length { IfSome result (λ x. instr_length x ≡ 2) }
 {
     match opcode {
         LG_BY_SECTION => Some(Instr::LgBySection(section)),

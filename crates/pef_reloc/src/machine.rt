@@ -1,11 +1,14 @@
-ghost use Rattle.std.specs.Prelude.{◌≡◌, ◌+◌, ◌*◌, ◌^◌, ◌≤◌, ◌<◌, ◌∷◌, [], length, true};
+ghost use Rattle.std.specs.Prelude.{◌≡◌, ◌+◌, ◌*◌, ◌^◌, ◌≤◌, ◌<◌, ◌∷◌, [], IfSome, List, length, true};
 ghost use Rattle.std.specs.Result.{result_err};
 ghost use Rattle.pef_reloc.specs.Applied.{address_of};
-ghost use Rattle.pef_reloc.specs.Instrs.{instr_fits};
-ghost use Rattle.pef_reloc.specs.Machines.{Does, DoesNumbered, DoesPairs, DoesRow, FindsImport, FindsSection, Holds, Moves, Near, SetsC, SetsD, Stepped, known, machine_after};
+ghost use Rattle.pef_reloc.specs.Instrs.{instr_fits, repeat_of};
+ghost use Rattle.pef_reloc.specs.Unrolled.{executed, repeat_fault, repeated};
+ghost use Rattle.pef_reloc.specs.declared.instr.Instr.{Instr};
+ghost use Rattle.pef_reloc.specs.Machines.{Before, Does, DoesNumbered, DoesPairs, DoesRow, FindsImport, FindsSection, Holds, Moves, Near, Runs, SetsC, SetsD, Spans, Stepped, known, machine_after};
 ghost use Rattle.pef_reloc.specs.Steps.{add, added, need, start};
 ghost use Rattle.pef_reloc.specs.declared.fixup.Base.TheVariants.{Section, Import};
 
+use crate::decode::instr_from;
 use crate::fault::RelocFault;
 use crate::instr::Instr;
 use crate::words::{WORD, add_pairs, add_row, add_word};
@@ -90,10 +93,10 @@ impl Machine {
         memory: &mut [u8],
         targets: Targets,
     ) -> Result<(), RelocFault>
-        requires near { Near self.old }
+        requires near { Near self.old (2 ^ 40) }
         requires fits { instr_fits instr ≡ true }
         ensures steps { Stepped (known targets.entry) self.old self.new memory.old memory.new instr (result_err result) }
-        ensures moves { Moves self.old self.new (2 ^ 13) }
+        ensures moves { Moves self.old self.new 6144 }
     {
         let (position, c, d) = (self.position, self.section_c, self.section_d);
         match instr {
@@ -128,6 +131,80 @@ impl Machine {
             }
             Instr::SmRepeat { .. } | Instr::LgRepeat { .. } => Ok(()),
         }
+    }
+
+    /// Executes an instruction that stands at a place of the bytes, a repeat by its passes.
+    pub(crate) fn execute(
+        &mut self,
+        instr: Instr,
+        bytes: &[u8],
+        at: usize,
+        memory: &mut [u8],
+        targets: Targets,
+    ) -> Result<(), RelocFault>
+        requires near { Near self.old (2 ^ 26) }
+        requires fits { instr_fits instr ≡ true }
+        requires inside { at ≤ length bytes.now }
+        requires room { IfSome (repeat_of instr) (λ r. 2 * r.blocks ≤ at) }
+        ensures runs { (before : List Instr) → Before bytes.now before at → repeat_fault before (repeat_of instr) ≡ None → Runs (known targets.entry) self.old self.new memory.old memory.new (executed before instr) (result_err result) }
+        ensures moves { Moves self.old self.new (2 ^ 39) }
+    {
+        match instr.repeat() {
+            Some(repeat) => {
+                let from = at - 2 * repeat.blocks as usize;
+                self.repeat(repeat.passes, bytes, from, at, memory, targets)
+            }
+            None => self.step(instr, memory, targets),
+        }
+    }
+
+    /// Executes the instructions of some bytes so many times.
+    fn repeat(
+        &mut self,
+        passes: u32,
+        bytes: &[u8],
+        from: usize,
+        to: usize,
+        memory: &mut [u8],
+        targets: Targets,
+    ) -> Result<(), RelocFault>
+        requires near { Near self.old (2 ^ 26) }
+        requires passes { passes < 2 ^ 22 }
+        requires inside { to ≤ length bytes.now }
+        requires order { from ≤ to }
+        requires short { to ≤ from + 32 }
+        ensures runs { (block : List Instr) → Spans bytes.now from block to → Runs (known targets.entry) self.old self.new memory.old memory.new (repeated passes block) (result_err result) }
+        ensures moves { Moves self.old self.new (2 ^ 39) }
+    {
+        'passes: for _ in 0..passes {
+            self.run_block(bytes, from, to, memory, targets)?;
+        }
+        Ok(())
+    }
+
+    /// Executes the instructions of some bytes.
+    fn run_block(
+        &mut self,
+        bytes: &[u8],
+        from: usize,
+        to: usize,
+        memory: &mut [u8],
+        targets: Targets,
+    ) -> Result<(), RelocFault>
+        requires near { Near self.old (2 ^ 39 + 2 ^ 26) }
+        requires inside { to ≤ length bytes.now }
+        requires order { from ≤ to }
+        requires short { to ≤ from + 32 }
+        ensures runs { (block : List Instr) → Spans bytes.now from block to → Runs (known targets.entry) self.old self.new memory.old memory.new block (result_err result) }
+        ensures moves { Moves self.old self.new (2 ^ 17) }
+    {
+        let mut at = from;
+        while at < to {
+            let instr = instr_from(bytes, at)?;
+            self.step(instr, memory, targets)?;
+            at += 2 * instr.length();
+        }
+        Ok(())
     }
 
     /// Adds an address to some words, `stride` bytes apart, and moves behind them.
@@ -167,7 +244,7 @@ impl Machine {
         count: u32,
         targets: Targets,
     ) -> Result<(), RelocFault>
-        requires near { Near self.old }
+        requires near { Near self.old (2 ^ 40) }
         requires short { count ≤ 512 }
         ensures does { DoesNumbered (known targets.entry) memory.old memory.new count self.old.position self.old.import_index (result_err result) }
         ensures after { self.new ≡ machine_after (result_err result) self.old (record self.old { position = self.old.position + 4 * count; import_index = self.old.import_index + count }) }
@@ -186,7 +263,7 @@ impl Machine {
         import: u32,
         targets: Targets,
     ) -> Result<(), RelocFault>
-        requires near { Near self.old }
+        requires near { Near self.old (2 ^ 40) }
         ensures does { Does (known targets.entry) memory.old memory.new (add (added self.old.position (Import import)) ∷ []) (result_err result) }
         ensures after { self.new ≡ machine_after (result_err result) self.old (record self.old { position = self.old.position + 4; import_index = import + 1 }) }
     {
@@ -204,7 +281,7 @@ impl Machine {
         section: u32,
         targets: Targets,
     ) -> Result<(), RelocFault>
-        requires near { Near self.old }
+        requires near { Near self.old (2 ^ 40) }
         ensures does { Does (known targets.entry) memory.old memory.new (need section ∷ add (added self.old.position (Section section)) ∷ []) (result_err result) }
         ensures after { self.new ≡ machine_after (result_err result) self.old (record self.old { position = self.old.position + 4 }) }
     {

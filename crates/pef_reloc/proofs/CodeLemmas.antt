@@ -1,0 +1,68 @@
+-- The code of a program's bytes, instruction by instruction.
+use Rattle.std.proofs.Common.{◌≡◌, ℕ, zero, suc, ◌+◌, ◌*◌, ◌-◌, ◌<◌, ◌≤◌, List, [], ◌∷◌, length, drop, Option, None, Some, Result, Ok, Err, refl, ap, sym, ◌∙◌, arith, length-drop}
+use Rattle.std.proofs.lemmas.List.{drop-drop, drop_all}
+use Rattle.pef_reloc.specs.declared.fault.RelocFault.{RelocFault}
+use Rattle.pef_reloc.specs.declared.instr.Instr.{Instr}
+use Rattle.pef_reloc.specs.declared.instr.Instr.TheVariants.{BySectDWithSkip, BySectC, BySectD, TVector12, TVector8, VTable8, ImportRun, SmByImport, SmSetSectC, SmSetSectD, SmBySection, IncrPosition, SmRepeat, SetPosition, LgByImport, LgRepeat, LgBySection, LgSetSectC, LgSetSectD}
+use Rattle.pef_reloc.specs.Instrs.{instr_length}
+use Rattle.pef_reloc.specs.Decoding.{Code, no_code, code_more, code_from, code_within, code_of, first_instr}
+
+-- an instruction has a halfword
+pub some_length : (instr : Instr) → 1 ≤ instr_length instr
+some_length (SetPosition q) = omega arith
+some_length (LgByImport k) = omega arith
+some_length (LgRepeat blocks count) = omega arith
+some_length (LgBySection k) = omega arith
+some_length (LgSetSectC k) = omega arith
+some_length (LgSetSectD k) = omega arith
+some_length _ = omega arith
+
+-- the code behind an instruction, however many instructions are allowed
+from_enough : (r : Result Instr RelocFault) (f g : Instr → Code) → ((instr : Instr) → f instr ≡ g instr) → code_from r f ≡ code_from r g
+from_enough (Ok instr) f g e = ap (code_more instr) (e instr)
+from_enough (Err fault) f g e = refl
+
+pub code_within-enough : (n m : ℕ) (bytes : List ℕ) → length bytes ≤ n → length bytes ≤ m → code_within n bytes ≡ code_within m bytes
+unfolding code_within
+code_within-enough zero zero bytes low high = refl
+code_within-enough zero (suc m) [] low high = refl
+code_within-enough zero (suc m) (b ∷ bytes) low high = absurd (omega arith)
+code_within-enough (suc n) zero [] low high = refl
+code_within-enough (suc n) zero (b ∷ bytes) low high = absurd (omega arith)
+code_within-enough (suc n) (suc m) [] low high = refl
+code_within-enough (suc n) (suc m) (b ∷ bytes) low high =
+    from_enough (first_instr (b ∷ bytes)) (λ instr. code_within n (drop (2 * instr_length instr) (b ∷ bytes))) (λ instr. code_within m (drop (2 * instr_length instr) (b ∷ bytes)))
+    (λ instr. let some = some_length instr in
+    code_within-enough n m (drop (2 * instr_length instr) (b ∷ bytes))
+    (omega (arith, length-drop (2 * instr_length instr) (b ∷ bytes)))
+    (omega (arith, length-drop (2 * instr_length instr) (b ∷ bytes))))
+
+-- the code of some bytes begins with their first instruction
+pub code_of-begins : (bytes : List ℕ) → 0 < length bytes → code_of bytes ≡ code_from (first_instr bytes) (λ instr. code_of (drop (2 * instr_length instr) bytes))
+unfolding code_of code_within
+code_of-begins [] some = absurd (omega arith)
+code_of-begins (b ∷ bytes) some =
+    from_enough (first_instr (b ∷ bytes)) (λ instr. code_within (length bytes) (drop (2 * instr_length instr) (b ∷ bytes))) (λ instr. code_of (drop (2 * instr_length instr) (b ∷ bytes)))
+    (λ instr. let some = some_length instr in
+    code_within-enough (length bytes) (length (drop (2 * instr_length instr) (b ∷ bytes))) (drop (2 * instr_length instr) (b ∷ bytes))
+    (omega (arith, length-drop (2 * instr_length instr) (b ∷ bytes))) (omega arith))
+
+pub code_of-nothing : code_of [] ≡ no_code
+unfolding code_of code_within
+code_of-nothing = refl
+
+-- no bytes are left
+pub code-end : (bytes : List ℕ) (at : ℕ) → length bytes ≤ at → code_of (drop at bytes) ≡ no_code
+code-end bytes at past = rw (drop_all at bytes past) code_of-nothing
+
+-- an instruction at a place, and the code behind it
+pub code-next : (bytes : List ℕ) (at : ℕ) (instr : Instr) → at < length bytes → first_instr (drop at bytes) ≡ Ok instr → code_of (drop at bytes) ≡ code_more instr (code_of (drop (at + 2 * instr_length instr) bytes))
+code-next bytes at instr under e =
+    let some : 0 < length (drop at bytes) = omega (arith, length-drop at bytes) in
+    code_of-begins (drop at bytes) some ∙ rw (e, drop-drop) refl
+
+-- no instruction at a place
+pub code-fault : (bytes : List ℕ) (at : ℕ) (f : RelocFault) → at < length bytes → first_instr (drop at bytes) ≡ Err f → code_of (drop at bytes) ≡ record { instrs = []; fault = Some f }
+code-fault bytes at f under e =
+    let some : 0 < length (drop at bytes) = omega (arith, length-drop at bytes) in
+    code_of-begins (drop at bytes) some ∙ rw e refl
