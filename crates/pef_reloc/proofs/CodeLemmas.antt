@@ -66,3 +66,13 @@ pub code-fault : (bytes : List ℕ) (at : ℕ) (f : RelocFault) → at < length 
 code-fault bytes at f under e =
     let some : 0 < length (drop at bytes) = omega (arith, length-drop at bytes) in
     code_of-begins (drop at bytes) some ∙ rw e refl
+
+-- and at most two
+pub most_length : (instr : Instr) → instr_length instr ≤ 2
+most_length (SetPosition q) = omega arith
+most_length (LgByImport k) = omega arith
+most_length (LgRepeat blocks count) = omega arith
+most_length (LgBySection k) = omega arith
+most_length (LgSetSectC k) = omega arith
+most_length (LgSetSectD k) = omega arith
+most_length _ = omega arith

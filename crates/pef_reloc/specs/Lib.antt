@@ -5,5 +5,7 @@ pub mod Fixups
 pub mod Instrs
 pub mod Machines
 pub mod Plain
+pub mod Readers
 pub mod Steps
 pub mod Unrolled
+pub mod Views

@@ -9,6 +9,8 @@ mod fault;
 mod fixup;
 mod instr;
 mod machine;
+mod program;
+mod recent;
 mod words;
 
 pub use fixup::{
@@ -16,3 +18,5 @@ pub use fixup::{
 };
 pub use fault::RelocFault;
 pub use instr::{Instr, Repeat};
+pub use program::Program;
+pub use recent::MAX_STEPS;

@@ -1,0 +1,11 @@
+use Rattle.std.proofs.Common.{◌*◌, ◌^◌, List}
+use Rattle.pef_reloc.specs.declared.instr.Instr.{Instr}
+use Rattle.pef_reloc.specs.Machines.{Moves, Spans, known}
+use Rattle.pef_reloc.proofs.Blocks.{PassesLeft}
+use Rattle.pef_reloc.proofs.machine.Machine.repeat.Given as goal
+
+abbrev pub invariant-passes : goal.invariant-passes
+invariant-passes l = record {
+  moves : Moves l.fn.self l.self (2 ^ 17 * l.counter);
+  left : (block : List Instr) → Spans l.bytes l.from block l.to → PassesLeft (known l.targets) l.self l.memory l.passes l.counter l.fn.self l.fn.memory block;
+}

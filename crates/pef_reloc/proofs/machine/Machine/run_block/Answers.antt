@@ -1,0 +1,32 @@
+use Rattle.std.proofs.Common.{◌≤◌, ◌+◌, ◌*◌, ◌-◌, sym, refl, arith}
+use Rattle.std.proofs.lemmas.Result.{err_from_is_err_and}
+use Rattle.pef_reloc.specs.Instrs.{instr_length}
+use Rattle.pef_reloc.proofs.CodeLemmas.{some_length, most_length}
+use Rattle.pef_reloc.proofs.Runs.{runs-one}
+use Rattle.pef_reloc.proofs.Blocks.{block-begins, block-end, block-fault, block-more, moves-more}
+use Rattle.pef_reloc.proofs.machine.Machine.run_block.Goals as goal
+
+pub returns-in_err-instr-clause-runs : goal.returns-in_err-instr-clause-runs
+returns-in_err-instr-clause-runs c =
+    λ block spans. absurd (block-begins _ _ _ _ _ _ _ _ _ _ (c.loop-at.invariant.left block spans) c.loop-at-test.true (sym c.in_err-instr.ensures.value))
+
+pub returns-in_err-step-clause-runs : goal.returns-in_err-step-clause-runs
+returns-in_err-step-clause-runs c =
+    λ block spans. let p = err_from_is_err_and c.from_residual-in_err-step.result c.from_residual-in_err-step.ensures.1 in
+    rw (p.1, p.2) (block-fault _ _ _ _ _ _ _ _ _ _ _ _ _ (c.loop-at.invariant.left block spans) c.loop-at-test.true (sym c.in_ok-instr.ensures.value) (runs-one _ _ _ _ _ _ _ c.in_err-step.ensures.steps))
+
+pub loop-at-preserved : goal.loop-at-preserved
+loop-at-preserved c =
+    let some = some_length c.in_ok-instr.instr in
+    let most = most_length c.in_ok-instr.instr in
+    rw c.length.ensures (record {
+      inside = c.in_ok-instr.ensures.inside;
+      ahead = omega arith;
+      short = omega (arith, c.loop-at-test.true, most);
+      moves = moves-more _ _ _ _ _ _ c.loop-at.invariant.moves c.in_ok-step.ensures.moves (omega (arith, some, c.loop-at.invariant.ahead));
+      left = λ block spans. block-more _ _ _ _ _ _ _ _ _ _ _ _ (c.loop-at.invariant.left block spans) c.loop-at-test.true (sym c.in_ok-instr.ensures.value) (runs-one _ _ _ _ _ _ _ c.in_ok-step.ensures.steps);
+    })
+
+pub returns-clause-runs : goal.returns-clause-runs
+returns-clause-runs c =
+    λ block spans. block-end _ _ _ _ _ _ _ _ _ (c.loop-at.invariant.left block spans) c.loop-at-test.false
