@@ -4,5 +4,7 @@ pub mod Blocks
 pub mod CodeLemmas
 pub mod FixupLemmas
 pub mod Halfwords
+pub mod Readings
 pub mod Rows
 pub mod Runs
+pub mod Windows

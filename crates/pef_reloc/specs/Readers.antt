@@ -13,6 +13,7 @@ brief block = record { count = length block; flat = repeat_free block }
 
 -- the reader knows the last sixteen instructions
 pub record Recent (r : Reader) (before : List Instr) : Type 0 where
+  pub full : length r.recent ≡ 16
   pub known_is : r.known ≡ min 16 (length before)
   pub recent_is : take r.known r.recent ≡ take 16 before
 

@@ -70,7 +70,7 @@ impl Reader {
         ensures value { (before : List Instr) → Recent self.now before → result ≡ unless (repeat_fault before (Some repeat)) (Ok (steps_as before (Some repeat))) }
         ensures small { IfOk result (λ n. n ≤ 0x4000000) }
     {
-        let block = block(&self.recent[..self.known], repeat.blocks)?;
+        let block = measure(&self.recent[..self.known], repeat.blocks)?;
         if !block.flat {
             return Err(RelocFault::NestedRepeat);
         }
@@ -97,7 +97,7 @@ impl Reader {
 ///
 /// `RepeatTooFar` where there are fewer halfwords, and `RepeatCuts` where they begin inside an
 /// instruction.
-fn block(recent: &[Instr], blocks: u32) -> Result<Block, RelocFault>
+fn measure(recent: &[Instr], blocks: u32) -> Result<Block, RelocFault>
     requires few { length recent.now ≤ 16 }
     ensures value { result ≡ result_map brief (reached recent.now blocks []) }
     ensures small { IfOk result (λ b. b.count ≤ 16) }
@@ -114,7 +114,8 @@ fn block(recent: &[Instr], blocks: u32) -> Result<Block, RelocFault>
         }
         left -= instr.length();
         count += 1;
-        flat = flat && instr.repeat().is_none();
+        let plain = instr.repeat().is_none();
+        flat = plain && flat;
     }
     if left > 0 {
         return Err(RelocFault::RepeatTooFar);

@@ -1,0 +1,18 @@
+use Rattle.std.proofs.Common.{◌≡◌, ◌≤◌, ◌-◌, List, drop, length}
+use Rattle.pef_reloc.specs.declared.instr.Instr.{Instr}
+use Rattle.pef_reloc.specs.Decoding.{code_of}
+use Rattle.pef_reloc.specs.Readers.{Recent}
+use Rattle.pef_reloc.specs.Unrolled.{code_fault, program_fault, step_limit}
+use Rattle.pef_reloc.proofs.Readings.{ReadLeft}
+use Rattle.pef_reloc.proofs.program.Program.read.Given as goal
+
+abbrev pub invariant-loop-at : goal.invariant-loop-at
+invariant-loop-at l = record {
+  inside : l.at ≤ length l.bytes;
+  known : l.reader.known ≤ 16;
+  under : l.reader.steps ≤ step_limit;
+  left : ReadLeft l.bytes l.at l.reader;
+}
+
+abbrev pub decreases-loop-at : goal.decreases-loop-at
+decreases-loop-at l = length l.bytes - l.at
