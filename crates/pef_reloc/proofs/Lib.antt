@@ -1,5 +1,6 @@
 pub mod ActLists
 pub mod Acts
+pub mod Applying
 pub mod Blocks
 pub mod CodeLemmas
 pub mod FixupLemmas

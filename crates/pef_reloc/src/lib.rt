@@ -4,6 +4,7 @@
 //! `PEFBinaryFormat.h`.
 #![tactic(auto)]
 
+
 mod decode;
 mod fault;
 mod fixup;
@@ -11,8 +12,10 @@ mod instr;
 mod machine;
 mod program;
 mod recent;
+mod relocate;
 mod words;
 
+pub use relocate::apply;
 pub use fixup::{
     Base, Fixup, MAX_FIXUPS, MAX_IMPORTS, MAX_SECTIONS, OFFSET_LIMIT, WORD, fixups_fit,
 };
