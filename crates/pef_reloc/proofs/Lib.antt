@@ -8,4 +8,5 @@ pub mod Halfwords
 pub mod Readings
 pub mod Rows
 pub mod Runs
+pub mod Spellings
 pub mod Windows

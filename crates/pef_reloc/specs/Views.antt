@@ -1,7 +1,19 @@
--- What a program is seen as.
-use Rattle.std.specs.Prelude.{ℕ, List}
+-- What a program and a walk over one are seen as.
+use Rattle.std.specs.Prelude.{◌≡◌, ℕ, List, [], ◌∷◌, drop, Option, None, Some}
+use Rattle.pef_reloc.specs.declared.instr.Instr.{Instr}
+use Rattle.pef_reloc.specs.declared.program.Instrs.{Instrs}
 use Rattle.pef_reloc.specs.declared.program.Program.{Program}
+use Rattle.pef_reloc.specs.Decoding.{code_of}
 
 -- the bytes of a program
 abbrev pub program_bytes : Program → List ℕ
 program_bytes p = p.bytes.now
+
+-- the instructions that a walk has before it
+abbrev pub listed : Instrs → List Instr
+listed walk = (code_of (drop walk.at walk.bytes.now)).instrs
+
+-- the first of a list is taken, and nothing from an empty one
+abbrev pub TakesFirst : List Instr → Option Instr → List Instr → Type 0
+TakesFirst old None new = (old ≡ []) × (new ≡ [])
+TakesFirst old (Some instr) new = old ≡ instr ∷ new

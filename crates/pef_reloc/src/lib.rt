@@ -6,6 +6,7 @@
 
 
 mod decode;
+mod encoding;
 mod fault;
 mod fixup;
 mod instr;
@@ -23,3 +24,4 @@ pub use fault::RelocFault;
 pub use instr::{Instr, Repeat};
 pub use program::Program;
 pub use recent::MAX_STEPS;
+pub use encoding::{Spelling, encode};

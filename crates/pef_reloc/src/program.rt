@@ -1,8 +1,11 @@
 ghost use Rattle.std.specs.Prelude.{◌≡◌, None};
-ghost use Rattle.pef_reloc.specs.Unrolled.{program_fault};
+ghost use Rattle.pef_reloc.specs.Decoding.{starting};
+ghost use Rattle.pef_reloc.specs.Instrs.{repeat_free};
+ghost use Rattle.pef_reloc.specs.Unrolled.{instrs_of, program_fault};
 
 use crate::decode::instr_from;
 use crate::fault::RelocFault;
+use crate::instr::Instr;
 use crate::recent::Reader;
 
 /// A relocation program that was read, with its bytes borrowed.
@@ -15,7 +18,7 @@ pub struct Program<'a> {
 impl<'a> Program<'a> {
     ghost use Rattle.std.specs.Prelude.{Ok};
     ghost use Rattle.pef_words.specs.Refusals.{result_map, unless};
-    ghost use Rattle.pef_reloc.specs.Views.{program_bytes};
+    ghost use Rattle.pef_reloc.specs.Views.{listed, program_bytes};
 
     /// Reads a program, in time linear in its bytes: no pass of a repeat is run.
     ///
@@ -41,5 +44,75 @@ impl<'a> Program<'a> {
         ensures { result.now ≡ program_bytes self.now }
     {
         self.bytes
+    }
+
+    /// A walk over its instructions, from the first one on.
+    #[tactic(auto, unfolding(crate::specs::Unrolled::instrs_of))]
+    pub fn instrs(&self) -> Instrs<'a>
+        ensures { listed result ≡ instrs_of (program_bytes self.now) }
+    {
+        Instrs {
+            bytes: self.bytes,
+            at: 0,
+        }
+    }
+
+    /// The instruction that starts at a halfword, and `None` where none starts there, in time linear
+    /// in the halfwords before it.
+    pub fn instr_at(&self, halfword: usize) -> Option<Instr>
+        ensures { result ≡ starting (instrs_of (program_bytes self.now)) halfword }
+    {
+        let mut instrs = self.instrs();
+        let mut ahead = halfword;
+        while let Some(instr) = instrs.next_instr() {
+            if ahead == 0 {
+                return Some(instr);
+            }
+            if ahead < instr.length() {
+                return None;
+            }
+            ahead -= instr.length();
+        }
+        None
+    }
+
+    /// Whether it has no repeats.
+    pub fn flat(&self) -> bool
+        ensures { result ≡ repeat_free (instrs_of (program_bytes self.now)) }
+    {
+        let mut instrs = self.instrs();
+        while let Some(instr) = instrs.next_instr() {
+            if instr.repeat().is_some() {
+                return false;
+            }
+        }
+        true
+    }
+}
+
+/// A walk over the instructions of a program.
+#[derive(Clone, Copy, Debug)]
+pub struct Instrs<'a> {
+    bytes: &'a [u8],
+    at: usize,
+}
+
+impl<'a> Instrs<'a> {
+    ghost use Rattle.pef_reloc.specs.Views.{TakesFirst, listed};
+
+    /// The next instruction, which the walk then is behind, and `None` at the end.
+    pub fn next_instr(&mut self) -> Option<Instr>
+        ensures { TakesFirst (listed self.old) result (listed self.new) }
+    {
+        if self.at >= self.bytes.len() {
+            return None;
+        }
+        match instr_from(self.bytes, self.at) {
+            Ok(instr) => {
+                self.at += 2 * instr.length();
+                Some(instr)
+            }
+            Err(_) => None,
+        }
     }
 }

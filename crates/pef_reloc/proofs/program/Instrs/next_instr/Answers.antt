@@ -1,0 +1,16 @@
+use Rattle.std.proofs.Common.{◌≡◌, [], sym, ap}
+use Rattle.pef_reloc.specs.Decoding.{Code}
+use Rattle.pef_reloc.proofs.CodeLemmas.{code-end, code-next, code-fault}
+use Rattle.pef_reloc.proofs.program.Instrs.next_instr.Goals as goal
+
+pub returns-then-self : goal.returns-then-self
+returns-then-self c =
+    let e = ap (λ (k : Code). k.instrs) (code-end _ _ c.if-self.true) in (e, e)
+
+pub returns-in-Ok : goal.returns-in-Ok
+returns-in-Ok c =
+    rw c.length.ensures (ap (λ (k : Code). k.instrs) (code-next _ _ c.in-Ok.instr c.if-self.false (sym c.in-Ok.ensures.value)))
+
+pub returns-in-Err : goal.returns-in-Err
+returns-in-Err c =
+    let e = ap (λ (k : Code). k.instrs) (code-fault _ _ _ c.if-self.false (sym c.in-Err.ensures.value)) in (e, e)
