@@ -3,6 +3,7 @@ pub mod Acts
 pub mod Applying
 pub mod Blocks
 pub mod CodeLemmas
+pub mod Decodes
 pub mod FixupLemmas
 pub mod Halfwords
 pub mod Readings
