@@ -6,6 +6,8 @@ pub mod CodeLemmas
 pub mod Decodes
 pub mod FixupLemmas
 pub mod Halfwords
+pub mod Laws
+pub mod PlainLaws
 pub mod Readings
 pub mod Rows
 pub mod Runs

@@ -1,7 +1,7 @@
 -- What a repeat-free relocation instruction does: the words that it adds to, the sections that it names
 -- and the registers that it leaves (Mac OS Runtime Architectures, "PEF Structure", the relocation
 -- instruction set). All numbers are whole numbers that don't wrap.
-use Rattle.std.specs.Prelude.{◌≡◌, ◌≤◌, ℕ, zero, suc, ◌+◌, ◌*◌, Bool, true, ◌&&◌, List, [], ◌∷◌, ◌++◌, map}
+use Rattle.std.specs.Prelude.{◌≡◌, ◌≤◌, ℕ, zero, suc, ◌+◌, ◌*◌, Bool, true, ◌&&◌, nat_lt, List, [], ◌∷◌, ◌++◌, map}
 use Rattle.pef_reloc.specs.declared.fixup.Base.{Base}
 use Rattle.pef_reloc.specs.declared.fixup.Base.TheVariants.{Section, Import}
 use Rattle.pef_reloc.specs.declared.fixup.Fixup.{Fixup}
@@ -121,6 +121,16 @@ acts_from (instr ∷ instrs) s = acts_of instr s ++ acts_from instrs (next_state
 -- instructions that fit, without a repeat
 abbrev pub is_flat : List Instr → Bool
 is_flat instrs = repeat_free instrs && instrs_fit instrs
+
+-- the sections of a list are numbered below a count
+abbrev pub all_below : ℕ → List ℕ → Bool
+all_below count [] = true
+all_below count (k ∷ sections) = nat_lt k count && all_below count sections
+
+-- the instructions name sections below a count alone
+abbrev pub names_below : ℕ → List Instr → Bool
+names_below count [] = true
+names_below count (instr ∷ instrs) = all_below count (named_sections instr) && names_below count instrs
 
 -- the instructions add just these fixups, in this order
 abbrev pub Makes : List Fixup → List Instr → Type 0
