@@ -44,7 +44,7 @@ more a m m' memory memory' bytes at to m0 whole block x (y ∷ ys) spans leaves 
       rest = ys;
       spans = let P : Instr → Type 0 = λ z. Spans bytes (at + 2 * instr_length z) ys to in subst P same spans.1;
       leaves = λ s h. let P : Instr → Type 0 = λ z. Leaves a m memory (z ∷ ys) whole block s in
-        leaves-more a m m' memory memory' (x ∷ []) ys whole block s (subst P same (leaves s h)) ran;
+          leaves-more a m m' memory memory' (x ∷ []) ys whole block s (subst P same (leaves s h)) ran;
     }
 
 pub block-more : (a : Addresses) (m m' : Machine) (memory memory' bytes : List ℕ) (at to : ℕ) (m0 : Machine) (whole : List ℕ) (block : List Instr) (x : Instr) → BlockLeft a m memory bytes at to m0 whole block → at < to → first_instr (drop at bytes) ≡ Ok x → Runs a m m' memory memory' (x ∷ []) None → BlockLeft a m' memory' bytes (at + 2 * instr_length x) to m0 whole block
@@ -57,7 +57,7 @@ faulted a m m' memory memory' bytes at to m0 whole block x f (y ∷ ys) spans le
     let same : y ≡ x = cc (spans.0, here) in
     record {
       does = λ s h. let P : Instr → Type 0 = λ z. Leaves a m memory (z ∷ ys) whole block s in
-        record { is = leaves-fault a m m' memory memory' (x ∷ []) ys whole block s f (subst P same (leaves s h)) ran };
+          record { is = leaves-fault a m m' memory memory' (x ∷ []) ys whole block s f (subst P same (leaves s h)) ran };
       holds = λ s h none. absurd (cc none);
     }
 
@@ -141,13 +141,13 @@ passes-start a m memory n block =
 pub passes-more : (a : Addresses) (m m' : Machine) (memory memory' : List ℕ) (n i : ℕ) (m0 : Machine) (whole : List ℕ) (block : List Instr) → PassesLeft a m memory n i m0 whole block → i < n → Runs a m m' memory memory' block None → PassesLeft a m' memory' n (i + 1) m0 whole block
 passes-more a m m' memory memory' n i m0 whole block left under ran = record {
   leaves = λ s h. let P : List Instr → Type 0 = λ xs. Leaves a m memory xs whole (repeated n block) s in
-    leaves-more a m m' memory memory' block (repeated (n - (i + 1)) block) whole (repeated n block) s (subst P (repeated-more n i block under) (left.leaves s h)) ran;
+      leaves-more a m m' memory memory' block (repeated (n - (i + 1)) block) whole (repeated n block) s (subst P (repeated-more n i block under) (left.leaves s h)) ran;
 }
 
 pub passes-fault : (a : Addresses) (m m' : Machine) (memory memory' : List ℕ) (n i : ℕ) (m0 : Machine) (whole : List ℕ) (block : List Instr) (f : RelocFault) → PassesLeft a m memory n i m0 whole block → i < n → Runs a m m' memory memory' block (Some f) → Runs a m0 m' whole memory' (repeated n block) (Some f)
 passes-fault a m m' memory memory' n i m0 whole block f left under ran = record {
   does = λ s h. let P : List Instr → Type 0 = λ xs. Leaves a m memory xs whole (repeated n block) s in
-    record { is = leaves-fault a m m' memory memory' block (repeated (n - (i + 1)) block) whole (repeated n block) s f (subst P (repeated-more n i block under) (left.leaves s h)) ran };
+      record { is = leaves-fault a m m' memory memory' block (repeated (n - (i + 1)) block) whole (repeated n block) s f (subst P (repeated-more n i block under) (left.leaves s h)) ran };
   holds = λ s h none. absurd (cc none);
 }
 

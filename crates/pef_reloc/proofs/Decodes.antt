@@ -67,7 +67,6 @@ no_long_short w low high =
     let a : nat_lt (w / 0x1000) 4 ≡ false = not_under (w / 0x1000) 4 (omega arith) in
     rw (a, unequal (w / 0x1000) 8 (omega arith), unequal (w / 0x1000) 9 (omega arith)) (none_past (w / 512) (w % 512) (omega arith))
 
-
 set_position : (w v : ℕ) → w / 1024 ≡ 0x28 → long_instr w v ≡ Some (SetPosition (w % 1024 * 0x10000 + v))
 unfolding long_instr
 set_position w v e = rw e refl

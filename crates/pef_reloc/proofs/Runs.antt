@@ -27,10 +27,10 @@ leaves-more a m m' memory memory' xs ys whole all begin left ran = record {
   state = state_after xs left.state;
   holds = ran.holds left.state left.holds refl;
   rest =
-    sym (ap (λ acts. applied a acts memory) (acts_from-append xs ys left.state)
-    ∙ (applied-append a (acts_from xs left.state) (acts_from ys (state_after xs left.state)) memory
-    ∙ ap (λ (d : Done). then_done d (applied a (acts_from ys (state_after xs left.state)))) (ran.does left.state left.holds).is))
-    ∙ left.rest;
+      sym (ap (λ acts. applied a acts memory) (acts_from-append xs ys left.state)
+      ∙ (applied-append a (acts_from xs left.state) (acts_from ys (state_after xs left.state)) memory
+      ∙ ap (λ (d : Done). then_done d (applied a (acts_from ys (state_after xs left.state)))) (ran.does left.state left.holds).is))
+      ∙ left.rest;
   after = sym (state_after-append xs ys left.state) ∙ left.after;
 }
 

@@ -48,7 +48,7 @@ window-push old new x before recent e known =
     let count : new.known ≡ suc (min 15 old.known) = omega (arith, known, recent.known_is) in
     let fifteen : min (min 15 old.known) 15 ≡ min 15 old.known = omega arith in
     let inner : take (min 15 old.known) (take 15 old.recent) ≡ take 15 before =
-        take_take (min 15 old.known) 15 old.recent ∙ (ap (λ k. take k old.recent) fifteen ∙ (sym (take_take 15 old.known old.recent) ∙ (ap (λ xs. take 15 xs) recent.recent_is ∙ take_take 15 16 before))) in
+    take_take (min 15 old.known) 15 old.recent ∙ (ap (λ k. take k old.recent) fifteen ∙ (sym (take_take 15 old.known old.recent) ∙ (ap (λ xs. take 15 xs) recent.recent_is ∙ take_take 15 16 before))) in
     record {
       full = ap (λ xs. length xs) is ∙ rw (length-take 15 old.recent, recent.full) refl;
       known_is = omega (arith, known, recent.known_is);
@@ -80,8 +80,8 @@ pub measure-more : (recent : List Instr) (blocks i left count : ℕ) (flat now :
 measure-more recent blocks i left count flat now d m under some fits now_is = record {
   block = get_or recent i d ∷ m.block;
   rest = let one : i + 1 ≡ suc i = omega arith in rw one (
-    sym (ap (λ xs. reached xs left m.block) (drop-cons recent i d under) ∙ reached-more (get_or recent i d) (drop (suc i) recent) left m.block some fits)
-    ∙ m.rest);
+      sym (ap (λ xs. reached xs left m.block) (drop-cons recent i d under) ∙ reached-more (get_or recent i d) (drop (suc i) recent) left m.block some fits)
+      ∙ m.rest);
   count_is = rw m.count_is (omega arith);
   flat_is = now_is ∙ ap (λ b. is_none (repeat_of (get_or recent i d)) && b) m.flat_is;
 }

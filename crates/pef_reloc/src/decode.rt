@@ -2,37 +2,52 @@ ghost use Rattle.std.specs.Prelude.{◌≡◌, ◌<◌, ◌≤◌, ◌+◌, ◌*
 ghost use Rattle.pef_reloc.specs.Instrs.{instr_fits, instr_length};
 ghost use Rattle.pef_reloc.specs.Decoding.{first_instr, long_instr, opcode_instr, section_instr, short_instr};
 
-use pef_words::Cut;
-
 use crate::fault::RelocFault;
 use crate::instr::Instr;
+use pef_words::Cut;
 
 /// The kinds that the high four bits of a halfword tell.
 const SKIP_END: u16 = 0x4;
+
 const INCR_POSITION: u16 = 0x8;
+
 const SM_REPEAT: u16 = 0x9;
 
 /// The kinds that the high seven bits tell, with a nine-bit number behind them.
 const BY_SECT_C: u16 = 0x20;
+
 const BY_SECT_D: u16 = 0x21;
+
 const T_VECTOR_12: u16 = 0x22;
+
 const T_VECTOR_8: u16 = 0x23;
+
 const V_TABLE_8: u16 = 0x24;
+
 const IMPORT_RUN: u16 = 0x25;
+
 const SM_BY_IMPORT: u16 = 0x30;
+
 const SM_SET_SECT_C: u16 = 0x31;
+
 const SM_SET_SECT_D: u16 = 0x32;
+
 const SM_BY_SECTION: u16 = 0x33;
 
 /// The kinds of two halfwords, which the high six bits of the first one tell.
 const SET_POSITION: u16 = 0x28;
+
 const LG_BY_IMPORT: u16 = 0x29;
+
 const LG_REPEAT: u16 = 0x2C;
+
 const LG_SET_OR_BY_SECTION: u16 = 0x2D;
 
 /// What the four bits behind the last of them tell.
 const LG_BY_SECTION: u16 = 0;
+
 const LG_SET_SECT_C: u16 = 1;
+
 const LG_SET_SECT_D: u16 = 2;
 
 /// The instruction that begins the bytes.

@@ -4,10 +4,9 @@ ghost use Rattle.std.specs.Result.{IfErr, OnOk};
 ghost use Rattle.pef_reloc.specs.Instrs.{halfword_bytes, halfwords_of, instr_fits, instrs_fit, spelled};
 ghost use Rattle.pef_reloc.specs.declared.fault.RelocFault.TheVariants.{OutOfMemory};
 
-use std::alloc::{AllocError, Global};
-
 use crate::fault::RelocFault;
 use crate::instr::Instr;
+use std::alloc::{AllocError, Global};
 
 /// The halfwords of an instruction.
 #[derive(Clone, Copy, Debug, PartialEq, Eq)]

@@ -6,6 +6,7 @@ pub const MAX_RUN: u32 = 512;
 
 /// The most words that a skip passes, and the most that it adds to.
 pub const MAX_SKIP: u32 = 255;
+
 pub const MAX_SKIP_COUNT: u32 = 63;
 
 /// The most bytes that an increment moves on.
@@ -13,11 +14,14 @@ pub const MAX_INCREMENT: u32 = 4096;
 
 /// The most halfwords that a repeat reaches back, and the most passes of a short one.
 pub const MAX_BLOCKS: u32 = 16;
+
 pub const MAX_SHORT_PASSES: u32 = 256;
 
 /// The bounds of the numbers in nine, twenty-two and twenty-six bits.
 pub const SMALL_INDEX_LIMIT: u32 = 512;
+
 pub const LARGE_INDEX_LIMIT: u32 = 0x0040_0000;
+
 pub const POSITION_LIMIT: u32 = 0x0400_0000;
 
 /// A relocation instruction, with its numbers as they mean.

@@ -4,7 +4,6 @@
 //! `PEFBinaryFormat.h`.
 #![tactic(auto)]
 
-
 mod decode;
 mod encoding;
 mod fault;
@@ -16,12 +15,15 @@ mod recent;
 mod relocate;
 mod words;
 
-pub use relocate::apply;
+pub use encoding::{Spelling, encode};
+pub use fault::RelocFault;
 pub use fixup::{
     Base, Fixup, MAX_FIXUPS, MAX_IMPORTS, MAX_SECTIONS, OFFSET_LIMIT, WORD, fixups_fit,
 };
-pub use fault::RelocFault;
 pub use instr::{Instr, Repeat};
 pub use program::Program;
 pub use recent::MAX_STEPS;
-pub use encoding::{Spelling, encode};
+pub use relocate::apply;
+
+#[cfg(test)]
+mod tests;

@@ -3,9 +3,8 @@ ghost use Rattle.std.specs.Result.{result_err};
 ghost use Rattle.pef_reloc.specs.Applied.{added_at, word_added};
 ghost use Rattle.pef_reloc.specs.Machines.{DoesPairs, DoesRow};
 
-use byteorder::{BigEndian, ByteOrder};
-
 use crate::fault::RelocFault;
+use byteorder::{BigEndian, ByteOrder};
 
 /// The bytes of a word.
 pub(crate) const WORD: u64 = 4;
