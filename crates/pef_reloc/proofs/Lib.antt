@@ -6,7 +6,7 @@ pub mod CodeLemmas
 pub mod Decodes
 pub mod FixupLemmas
 pub mod Halfwords
-pub mod Laws
+pub mod FlatLaws
 pub mod PlainLaws
 pub mod Readings
 pub mod Rows

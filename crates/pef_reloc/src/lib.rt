@@ -9,6 +9,7 @@ mod encoding;
 mod fault;
 mod fixup;
 mod instr;
+mod laws;
 mod machine;
 mod program;
 mod recent;
@@ -21,7 +22,8 @@ pub use fixup::{
     Base, Fixup, MAX_FIXUPS, MAX_IMPORTS, MAX_SECTIONS, OFFSET_LIMIT, WORD, fixups_fit,
 };
 pub use instr::{Instr, Repeat};
-pub use program::Program;
+pub use laws::{acts_in_turn, plain_programs, spelled_programs};
+pub use program::{Instrs, Program};
 pub use recent::MAX_STEPS;
 pub use relocate::apply;
 
