@@ -1,12 +1,11 @@
 -- What one act does, and what follows.
-use Rattle.std.proofs.Common.{◌≡◌, ℕ, ◌+◌, Bool, true, false, cond, List, [], ◌∷◌, ◌++◌, nat_le, nat_lt, length, Option, None, Some, refl, ap, ◌∙◌, sym}
+use Rattle.std.proofs.Common.{◌≡◌, ℕ, ◌+◌, Bool, true, false, cond, List, ◌∷◌, nat_le, nat_lt, length, Option, None, Some, refl, ap, sym}
 use Rattle.pef_reloc.specs.declared.fault.RelocFault.{RelocFault}
 use Rattle.pef_reloc.specs.declared.fault.RelocFault.TheVariants.{WordOutside, ImportOutside, SectionOutside}
 use Rattle.pef_reloc.specs.declared.fixup.Base.{Base}
 use Rattle.pef_reloc.specs.declared.fixup.Base.TheVariants.{Section, Import}
-use Rattle.pef_reloc.specs.declared.fixup.Fixup.{Fixup}
 use Rattle.pef_reloc.specs.Steps.{Act, add, need, added}
-use Rattle.pef_reloc.specs.Applied.{Addresses, address_of, Done, act_fault, act_done, added_at, applied, unless_refused, word_added}
+use Rattle.pef_reloc.specs.Applied.{Addresses, address_of, Done, added_at, applied, unless_refused, word_added}
 use Rattle.pef_reloc.specs.Machines.{Stands}
 
 abbrev memory_of : Done → List ℕ

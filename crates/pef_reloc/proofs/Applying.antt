@@ -1,8 +1,7 @@
 -- A readable program as it is applied, instruction by instruction.
-use Rattle.std.proofs.Common.{◌≡◌, ℕ, ◌+◌, ◌*◌, ◌-◌, ◌^◌, ◌<◌, ◌≤◌, max, Bool, true, false, cond, List, [], ◌∷◌, ◌++◌, drop, length, nat_le, Option, None, Some, Ok, Err, IfSome, refl, ap, sym, subst, ◌∙◌, arith}
+use Rattle.std.proofs.Common.{◌≡◌, ℕ, ◌+◌, ◌*◌, ◌^◌, ◌<◌, ◌≤◌, Bool, true, false, cond, List, [], ◌∷◌, ◌++◌, drop, length, nat_le, Option, None, Some, Ok, Err, IfSome, refl, ap, sym, subst, ◌∙◌, arith}
 use Rattle.std.specs.Option.{option_or}
 use Rattle.std.proofs.lemmas.Bool.{leb-true}
-use Rattle.pef_words.proofs.RefusalLemmas.{neither}
 use Rattle.pef_reloc.specs.declared.fault.RelocFault.{RelocFault}
 use Rattle.pef_reloc.specs.declared.fault.RelocFault.TheVariants.{TooManySteps}
 use Rattle.pef_reloc.specs.declared.instr.Instr.{Instr}
@@ -10,9 +9,9 @@ use Rattle.pef_reloc.specs.declared.instr.Repeat.{Repeat}
 use Rattle.pef_reloc.specs.declared.machine.Machine.{Machine}
 use Rattle.pef_reloc.specs.Instrs.{instr_length, repeat_of}
 use Rattle.pef_reloc.specs.Decoding.{Code, code_of, first_instr}
-use Rattle.pef_reloc.specs.Steps.{State, acts_from, start}
-use Rattle.pef_reloc.specs.Unrolled.{code_fault, executed, first_fault, instr_fault, instrs_of, program_fault, repeat_fault, repeated, block_of, step_limit, steps_as, steps_fault, unrolled, unrolled_after}
-use Rattle.pef_reloc.specs.Applied.{Addresses, applied, relocated}
+use Rattle.pef_reloc.specs.Steps.{start}
+use Rattle.pef_reloc.specs.Unrolled.{code_fault, executed, instrs_of, program_fault, repeat_fault, step_limit, steps_as, steps_fault, unrolled, unrolled_after}
+use Rattle.pef_reloc.specs.Applied.{Addresses, relocated}
 use Rattle.pef_reloc.specs.Machines.{Before, Holds, Leaves, Moves, Runs}
 use Rattle.pef_reloc.proofs.Blocks.{repeat-reach}
 use Rattle.pef_reloc.proofs.CodeLemmas.{code-end, code-next}

@@ -1,5 +1,5 @@
 -- Instructions between two places of the bytes, as a loop runs them.
-use Rattle.std.proofs.Common.{◌≡◌, ℕ, zero, suc, ◌+◌, ◌*◌, ◌-◌, ◌<◌, ◌≤◌, ◌^◌, max, Bool, true, false, cond, List, [], ◌∷◌, ◌++◌, length, drop, nat_le, Option, None, Some, Result, Ok, Err, refl, ap, sym, subst, ◌∙◌, arith}
+use Rattle.std.proofs.Common.{◌≡◌, ℕ, zero, suc, ◌+◌, ◌*◌, ◌-◌, ◌<◌, ◌≤◌, Bool, true, false, cond, List, [], ◌∷◌, ◌++◌, drop, nat_le, None, Some, Result, Ok, Err, refl, sym, subst, ◌∙◌, arith}
 use Rattle.std.proofs.lemmas.Bool.{leb-true}
 use Rattle.pef_reloc.specs.declared.fault.RelocFault.{RelocFault}
 use Rattle.pef_reloc.specs.declared.fault.RelocFault.TheVariants.{RepeatCuts}
@@ -8,10 +8,10 @@ use Rattle.pef_reloc.specs.declared.instr.Repeat.{Repeat}
 use Rattle.pef_reloc.specs.declared.machine.Machine.{Machine}
 use Rattle.pef_reloc.specs.Decoding.{first_instr}
 use Rattle.pef_reloc.specs.Instrs.{instr_length}
-use Rattle.pef_reloc.specs.Steps.{State, acts_from, state_after}
+use Rattle.pef_reloc.specs.Steps.{State}
 use Rattle.pef_reloc.specs.Unrolled.{reached, repeated, block_of, block_fault, repeat_fault}
-use Rattle.pef_reloc.specs.Applied.{Addresses, applied}
-use Rattle.pef_reloc.specs.Machines.{Before, Does, Holds, Leaves, Moves, Runs, Spans}
+use Rattle.pef_reloc.specs.Applied.{Addresses}
+use Rattle.pef_reloc.specs.Machines.{Before, Holds, Leaves, Moves, Runs, Spans}
 use Rattle.pef_reloc.proofs.CodeLemmas.{some_length}
 use Rattle.pef_reloc.proofs.Runs.{leaves-all, leaves-more, leaves-fault, leaves-none, leaves-holds}
 

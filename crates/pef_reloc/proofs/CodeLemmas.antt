@@ -1,9 +1,9 @@
 -- The code of a program's bytes, instruction by instruction.
-use Rattle.std.proofs.Common.{◌≡◌, ℕ, zero, suc, ◌+◌, ◌*◌, ◌-◌, ◌<◌, ◌≤◌, List, [], ◌∷◌, length, drop, Option, None, Some, Result, Ok, Err, refl, ap, sym, ◌∙◌, arith, length-drop}
+use Rattle.std.proofs.Common.{◌≡◌, ℕ, zero, suc, ◌+◌, ◌*◌, ◌<◌, ◌≤◌, List, [], ◌∷◌, length, drop, Some, Result, Ok, Err, refl, ap, ◌∙◌, arith, length-drop}
 use Rattle.std.proofs.lemmas.List.{drop-drop, drop_all}
 use Rattle.pef_reloc.specs.declared.fault.RelocFault.{RelocFault}
 use Rattle.pef_reloc.specs.declared.instr.Instr.{Instr}
-use Rattle.pef_reloc.specs.declared.instr.Instr.TheVariants.{BySectDWithSkip, BySectC, BySectD, TVector12, TVector8, VTable8, ImportRun, SmByImport, SmSetSectC, SmSetSectD, SmBySection, IncrPosition, SmRepeat, SetPosition, LgByImport, LgRepeat, LgBySection, LgSetSectC, LgSetSectD}
+use Rattle.pef_reloc.specs.declared.instr.Instr.TheVariants.{SetPosition, LgByImport, LgRepeat, LgBySection, LgSetSectC, LgSetSectD}
 use Rattle.pef_reloc.specs.Instrs.{instr_length}
 use Rattle.pef_reloc.specs.Decoding.{Code, no_code, code_more, code_from, code_within, code_of, first_instr}
 

@@ -1,14 +1,14 @@
 -- The bytes that spell instructions decode to them.
-use Rattle.std.proofs.Common.{◌≡◌, ℕ, zero, suc, ◌+◌, ◌*◌, ◌-◌, ◌/◌, ◌%◌, ◌^◌, ◌<◌, ◌≤◌, ◌≢◌, ◌==◌, Bool, true, false, ◌&&◌, nat_lt, nat_le, List, [], ◌∷◌, ◌++◌, drop, length, Option, None, Some, Ok, refl, ap, sym, ◌∙◌, arith}
+use Rattle.std.proofs.Common.{◌≡◌, ℕ, suc, ◌+◌, ◌*◌, ◌-◌, ◌/◌, ◌%◌, ◌<◌, ◌≤◌, ◌≢◌, ◌==◌, true, false, ◌&&◌, nat_lt, nat_le, List, ◌++◌, length, None, Some, Ok, refl, ap, ◌∙◌, arith}
 use Rattle.std.specs.Option.{is_some}
 use Rattle.std.proofs.lemmas.Bool.{leb-true, ltb-true, lt-ltb, le-leb, ne_eqb, le-ltb}
-use Rattle.byteorder.specs.Endian.{big_bytes, big_number}
+use Rattle.byteorder.specs.Endian.{big_bytes}
 use Rattle.byteorder.specs.Numbers.{big_number-reads_back}
 use Rattle.pef_words.specs.Bytes.{number_at}
 use Rattle.pef_reloc.specs.declared.instr.Instr.{Instr}
 use Rattle.pef_reloc.specs.declared.instr.Instr.TheVariants.{BySectDWithSkip, BySectC, BySectD, TVector12, TVector8, VTable8, ImportRun, SmByImport, SmSetSectC, SmSetSectD, SmBySection, IncrPosition, SmRepeat, SetPosition, LgByImport, LgRepeat, LgBySection, LgSetSectC, LgSetSectD}
-use Rattle.pef_reloc.specs.Instrs.{halfword_bytes, halfwords_of, instr_fits, instr_length}
-use Rattle.pef_reloc.specs.Decoding.{first_instr, instr_of, long_instr, opcode_instr, section_instr, short_instr}
+use Rattle.pef_reloc.specs.Instrs.{halfword_bytes, halfwords_of, instr_fits}
+use Rattle.pef_reloc.specs.Decoding.{first_instr, long_instr, opcode_instr, section_instr, short_instr}
 use Rattle.pef_reloc.proofs.FixupLemmas.{met_both}
 
 -- the first and the second halfword of some bytes

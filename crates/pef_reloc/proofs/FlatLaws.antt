@@ -1,18 +1,17 @@
 -- Laws for the crates that write programs: what bytes that spell instructions are read as, and what
 -- instructions without repeats do.
-use Rattle.std.proofs.Common.{◌≡◌, ℕ, zero, suc, ◌+◌, ◌*◌, ◌<◌, ◌≤◌, Bool, true, false, ◌&&◌, nat_lt, List, [], ◌∷◌, ◌++◌, drop, length, map, Option, None, Some, Ok, refl, ap, ap₂, sym, ◌∙◌, arith, length-append, append_assoc}
+use Rattle.std.proofs.Common.{◌≡◌, ℕ, ◌+◌, ◌*◌, ◌<◌, ◌≤◌, true, nat_lt, List, [], ◌∷◌, ◌++◌, drop, length, map, Option, None, Some, refl, ap, sym, ◌∙◌, arith, length-append, append_assoc}
 use Rattle.std.proofs.lemmas.List.{map-append}
 use Rattle.std.proofs.Math.Seq.{drop-append_seam}
 use Rattle.std.specs.Option.{is_none}
 use Rattle.std.proofs.lemmas.Bool.{le-leb}
 use Rattle.pef_reloc.specs.declared.fault.RelocFault.{RelocFault}
-use Rattle.pef_reloc.specs.declared.fixup.Fixup.{Fixup}
 use Rattle.pef_reloc.specs.declared.instr.Instr.{Instr}
 use Rattle.pef_reloc.specs.declared.instr.Instr.TheVariants.{BySectDWithSkip, BySectC, BySectD, TVector12, TVector8, VTable8, ImportRun, SmByImport, SmSetSectC, SmSetSectD, SmBySection, IncrPosition, SmRepeat, SetPosition, LgByImport, LgRepeat, LgBySection, LgSetSectC, LgSetSectD}
 use Rattle.pef_reloc.specs.declared.instr.Repeat.{Repeat}
 use Rattle.pef_reloc.specs.Instrs.{halfword_bytes, halfwords_of, instr_fits, instr_length, instrs_fit, repeat_free, repeat_of, spelled}
-use Rattle.pef_reloc.specs.Decoding.{Code, code_more, code_of, first_instr}
-use Rattle.pef_reloc.specs.Steps.{State, Act, add, need, acts_from, acts_of, additions, all_below, is_flat, named_sections, names_below, next_state, start, trace}
+use Rattle.pef_reloc.specs.Decoding.{Code, code_more, code_of}
+use Rattle.pef_reloc.specs.Steps.{State, Act, add, need, acts_from, additions, all_below, is_flat, named_sections, names_below, next_state, start, trace}
 use Rattle.pef_reloc.specs.Unrolled.{first_fault, instrs_of, program_fault, step_limit, unrolled, unrolled_after}
 use Rattle.pef_reloc.specs.Applied.{Addresses, Done, applied, relocated, then_done, unless_refused}
 use Rattle.pef_reloc.proofs.Acts.{need-there}

@@ -1,16 +1,16 @@
 -- The plain program of some fixups makes them, fits and is short.
-use Rattle.std.proofs.Common.{◌≡◌, ℕ, suc, ◌+◌, ◌*◌, ◌<◌, ◌≤◌, ◌==◌, Bool, true, false, cond, ◌&&◌, nat_lt, List, [], ◌∷◌, ◌++◌, length, inl, inr, refl, ap, sym, ◌∙◌, arith, length-append}
-use Rattle.std.proofs.lemmas.Bool.{leb-true, ltb-true, lt-ltb}
+use Rattle.std.proofs.Common.{◌≡◌, ℕ, ◌+◌, ◌*◌, ◌<◌, ◌≤◌, ◌==◌, Bool, true, false, cond, nat_lt, List, [], ◌∷◌, ◌++◌, length, inl, inr, refl, ap, ◌∙◌, arith}
+use Rattle.std.proofs.lemmas.Bool.{ltb-true, lt-ltb}
 use Rattle.std.proofs.lemmas.Bool.Decides.{eqb_tells}
 use Rattle.pef_reloc.specs.declared.fixup.Base.{Base}
 use Rattle.pef_reloc.specs.declared.fixup.Base.TheVariants.{Section, Import}
 use Rattle.pef_reloc.specs.declared.fixup.Fixup.{Fixup}
 use Rattle.pef_reloc.specs.declared.instr.Instr.{Instr}
-use Rattle.pef_reloc.specs.declared.instr.Instr.TheVariants.{SetPosition, SmBySection, SmByImport, LgByImport}
+use Rattle.pef_reloc.specs.declared.instr.Instr.TheVariants.{SetPosition, SmByImport, LgByImport}
 use Rattle.pef_reloc.specs.Fixups.{base_below, base_fits, bases_below, fixups_fit, fixups_from}
 use Rattle.pef_reloc.specs.Instrs.{instr_fits, instr_length, instrs_fit, program_length, repeat_free}
 use Rattle.pef_reloc.specs.Steps.{Makes, State, added, additions, is_flat, names_below, next_state, start, trace}
-use Rattle.pef_reloc.specs.Plain.{plain_addition, plain_from, plain_move, plain_program}
+use Rattle.pef_reloc.specs.Plain.{plain_addition, plain_from, plain_program}
 use Rattle.pef_reloc.proofs.FixupLemmas.{both_met, met_both, fixups_fit-parts, fixups_from-first}
 
 -- the addition of a base, whichever it is

@@ -1,13 +1,13 @@
 -- A program as it is read, instruction by instruction.
-use Rattle.std.proofs.Common.{◌≡◌, ℕ, ◌+◌, ◌*◌, ◌<◌, ◌≤◌, List, [], ◌∷◌, drop, length, Option, None, Some, Ok, Err, refl, ap, sym, subst, ◌∙◌, arith}
+use Rattle.std.proofs.Common.{◌≡◌, ℕ, ◌+◌, ◌*◌, ◌<◌, ◌≤◌, List, [], ◌∷◌, drop, length, Option, None, Some, Ok, Err, refl, ap, sym, ◌∙◌}
 use Rattle.std.specs.Option.{option_or}
 use Rattle.pef_reloc.specs.declared.fault.RelocFault.{RelocFault}
 use Rattle.pef_reloc.specs.declared.instr.Instr.{Instr}
 use Rattle.pef_reloc.specs.declared.recent.Reader.{Reader}
 use Rattle.pef_reloc.specs.Instrs.{instr_length, repeat_of}
-use Rattle.pef_reloc.specs.Decoding.{Code, code_of, code_more, first_instr}
+use Rattle.pef_reloc.specs.Decoding.{code_of, first_instr}
 use Rattle.pef_reloc.specs.Readers.{Passes, Recent}
-use Rattle.pef_reloc.specs.Unrolled.{code_fault, first_fault, instr_fault, program_fault, steps_as}
+use Rattle.pef_reloc.specs.Unrolled.{code_fault, instr_fault, program_fault, steps_as}
 use Rattle.pef_reloc.proofs.CodeLemmas.{code-end, code-next, code-fault}
 
 -- the refusal of what is left is that of the program

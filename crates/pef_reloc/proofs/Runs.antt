@@ -1,12 +1,12 @@
 -- What ran, and what is left to run.
-use Rattle.std.proofs.Common.{◌≡◌, ℕ, List, [], ◌∷◌, ◌++◌, length, Option, None, Some, refl, ap, sym, ◌∙◌}
+use Rattle.std.proofs.Common.{◌≡◌, ℕ, List, [], ◌∷◌, ◌++◌, Option, None, Some, refl, ap, sym, ◌∙◌}
 use Rattle.std.proofs.lemmas.List.{append-nil}
 use Rattle.pef_reloc.specs.declared.fault.RelocFault.{RelocFault}
 use Rattle.pef_reloc.specs.declared.instr.Instr.{Instr}
 use Rattle.pef_reloc.specs.declared.machine.Machine.{Machine}
-use Rattle.pef_reloc.specs.Steps.{State, Act, acts_of, acts_from, next_state, state_after}
+use Rattle.pef_reloc.specs.Steps.{State, acts_of, acts_from, state_after}
 use Rattle.pef_reloc.specs.Applied.{Addresses, Done, applied, then_done}
-use Rattle.pef_reloc.specs.Machines.{Does, Holds, Leaves, Runs, Stepped}
+use Rattle.pef_reloc.specs.Machines.{Holds, Leaves, Runs, Stepped}
 use Rattle.pef_reloc.proofs.ActLists.{applied-append, acts_from-append, state_after-append}
 use Rattle.pef_reloc.proofs.Rows.{nothing_done}
 

@@ -5,7 +5,6 @@ use Rattle.pef_reloc.specs.declared.fault.RelocFault.{RelocFault}
 use Rattle.pef_reloc.specs.declared.fault.RelocFault.TheVariants.{WordOutside, ImportOutside, SectionOutside}
 use Rattle.pef_reloc.specs.declared.fixup.Base.{Base}
 use Rattle.pef_reloc.specs.declared.fixup.Base.TheVariants.{Section, Import}
-use Rattle.pef_reloc.specs.declared.fixup.Fixup.{Fixup}
 use Rattle.pef_reloc.specs.Steps.{Act, add, need, acts_from, start}
 use Rattle.pef_reloc.specs.Unrolled.{unrolled, instrs_of}
 

@@ -15,16 +15,14 @@ pub fn spelled_programs()
     ensures reads { (instrs : List Instr) → instrs_fit instrs ≡ true → instrs_of (spelled instrs) ≡ instrs }
     ensures readable { (instrs : List Instr) → is_flat instrs ≡ true → length instrs ≤ step_limit → program_fault (spelled instrs) ≡ None }
     ensures does { (instrs : List Instr) (a : Addresses) (memory : List ℕ) → is_flat instrs ≡ true → relocated (spelled instrs) a memory ≡ applied a (acts_from instrs start) memory }
-{
-}
+{}
 
 /// Acts behind acts are done where those are not refused; and instructions that name sections that are
 /// there do their additions alone.
 pub fn acts_in_turn()
     ensures behind { (a : Addresses) (acts others : List Act) (memory : List ℕ) → applied a (acts ++ others) memory ≡ then_done (applied a acts memory) (applied a others) }
     ensures additions { (a : Addresses) (instrs : List Instr) (s : State) (memory : List ℕ) → names_below (length a.sections) instrs ≡ true → applied a (acts_from instrs s) memory ≡ applied a (map add (trace instrs s)) memory }
-{
-}
+{}
 
 /// The plain program of some fixups makes them, fits where they fit, has at most four halfwords and
 /// two instructions a fixup, and names no other sections.
@@ -34,5 +32,4 @@ pub fn plain_programs()
     ensures short { (fixups : List Fixup) → program_length (plain_program fixups) ≤ 4 * length fixups }
     ensures count { (fixups : List Fixup) → length (plain_program fixups) ≤ 2 * length fixups }
     ensures names { (count : ℕ) (fixups : List Fixup) → bases_below count fixups ≡ true → names_below count (plain_program fixups) ≡ true }
-{
-}
+{}

@@ -1,4 +1,4 @@
-use Rattle.std.proofs.Common.{◌≡◌, ◌≤◌, None, sym, refl, ap, ◌∙◌, arith}
+use Rattle.std.proofs.Common.{sym, arith}
 use Rattle.std.proofs.lemmas.Result.{err_from_is_err_and}
 use Rattle.pef_reloc.proofs.Applying.{apply-start, apply-room, apply-more, apply-fault, apply-end, fine-begins, fine-here}
 use Rattle.pef_reloc.proofs.relocate.run.Goals as goal

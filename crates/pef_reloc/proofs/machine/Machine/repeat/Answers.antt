@@ -1,4 +1,4 @@
-use Rattle.std.proofs.Common.{◌≤◌, ◌<◌, ◌+◌, ◌*◌, ◌-◌, sym, refl, arith}
+use Rattle.std.proofs.Common.{◌<◌, arith}
 use Rattle.std.proofs.lemmas.Result.{err_from_is_err_and}
 use Rattle.pef_reloc.proofs.Blocks.{passes-start, passes-end, passes-fault, passes-more, moves-more}
 use Rattle.pef_reloc.proofs.machine.Machine.repeat.Goals as goal

@@ -1,6 +1,5 @@
-use Rattle.std.proofs.Common.{◌≤◌, ◌+◌, ◌*◌, ◌-◌, sym, refl, arith}
+use Rattle.std.proofs.Common.{sym, arith}
 use Rattle.std.proofs.lemmas.Result.{err_from_is_err_and}
-use Rattle.pef_reloc.specs.Instrs.{instr_length}
 use Rattle.pef_reloc.proofs.CodeLemmas.{some_length, most_length}
 use Rattle.pef_reloc.proofs.Runs.{runs-one}
 use Rattle.pef_reloc.proofs.Blocks.{block-begins, block-end, block-fault, block-more, moves-more}

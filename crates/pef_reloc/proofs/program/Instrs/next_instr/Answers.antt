@@ -1,4 +1,4 @@
-use Rattle.std.proofs.Common.{◌≡◌, [], sym, ap}
+use Rattle.std.proofs.Common.{sym, ap}
 use Rattle.pef_reloc.specs.Decoding.{Code}
 use Rattle.pef_reloc.proofs.CodeLemmas.{code-end, code-next, code-fault}
 use Rattle.pef_reloc.proofs.program.Instrs.next_instr.Goals as goal

@@ -1,5 +1,4 @@
 use Rattle.std.proofs.Common.{◌≡◌, length}
-use Rattle.pef_reloc.specs.Decoding.{starting}
 use Rattle.pef_reloc.specs.Instrs.{repeat_free}
 use Rattle.pef_reloc.specs.Unrolled.{instrs_of}
 use Rattle.pef_reloc.specs.Views.{listed, program_bytes}

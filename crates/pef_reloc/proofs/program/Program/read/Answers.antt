@@ -1,4 +1,4 @@
-use Rattle.std.proofs.Common.{◌≡◌, ◌≤◌, ◌+◌, ◌*◌, None, Some, sym, refl, ◌∙◌, arith}
+use Rattle.std.proofs.Common.{◌≡◌, Some, sym, refl, ◌∙◌, arith}
 use Rattle.std.proofs.lemmas.Result.{err_from_is_err_and}
 use Rattle.pef_reloc.specs.Unrolled.{program_fault}
 use Rattle.pef_reloc.proofs.Readings.{fault-end, fault-here, fault-none, read-more, read-start}

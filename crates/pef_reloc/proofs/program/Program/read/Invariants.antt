@@ -1,8 +1,5 @@
-use Rattle.std.proofs.Common.{◌≡◌, ◌≤◌, ◌-◌, List, drop, length}
-use Rattle.pef_reloc.specs.declared.instr.Instr.{Instr}
-use Rattle.pef_reloc.specs.Decoding.{code_of}
-use Rattle.pef_reloc.specs.Readers.{Recent}
-use Rattle.pef_reloc.specs.Unrolled.{code_fault, program_fault, step_limit}
+use Rattle.std.proofs.Common.{◌≤◌, ◌-◌, length}
+use Rattle.pef_reloc.specs.Unrolled.{step_limit}
 use Rattle.pef_reloc.proofs.Readings.{ReadLeft}
 use Rattle.pef_reloc.proofs.program.Program.read.Given as goal
 

@@ -1,4 +1,4 @@
-use Rattle.std.proofs.Common.{◌≡◌, false, not, sym, ap}
+use Rattle.std.proofs.Common.{◌≡◌, false, sym}
 use Rattle.std.proofs.lemmas.Result.{err_from_is_err_and}
 use Rattle.pef_reloc.proofs.Windows.{window-measure, steps-fault, steps-nested, steps-fine, not_met, not_unmet}
 use Rattle.pef_reloc.proofs.recent.Reader.repeat_steps.Goals as goal
