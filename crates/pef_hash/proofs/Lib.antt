@@ -1,0 +1,3 @@
+pub mod SlotLists
+pub mod Slots
+pub mod Tables

@@ -1,0 +1,6 @@
+use Rattle.std.proofs.Common.{◌≡◌}
+use Rattle.pef_hash.specs.Chains.{IsChainedFrom}
+use Rattle.pef_hash.proofs.builder.Chains.new.Given as goal
+
+abbrev pub invariant-loop-i : goal.invariant-loop-i
+invariant-loop-i l = IsChainedFrom l.i l.power l.words l.heads.items l.next.items

@@ -1,0 +1,8 @@
+-- What the bytes that are left make of the running value is what all bytes make of 0.
+use Rattle.std.proofs.Common.{◌≡◌, drop}
+use Rattle.std.specs.Prelude.{pos, fold}
+use Rattle.pef_hash.specs.Word.{hash_step}
+use Rattle.pef_hash.proofs.word.hash_value.Given as goal
+
+abbrev pub invariant-loop-byte : goal.invariant-loop-byte
+invariant-loop-byte l = fold hash_step l.hash (drop l.byte-index l.name) ≡ fold hash_step (pos 0) l.name

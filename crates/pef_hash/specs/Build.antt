@@ -1,0 +1,51 @@
+-- The table that is written for some names. Which power it has is this project's own choice; keys
+-- in order of slot and the slot words are those of Mac OS Runtime Architectures, "PEF Structure",
+-- "Export Hash Table".
+use Rattle.std.specs.Prelude.{ℕ, zero, suc, ◌+◌, ◌*◌, ◌^◌, ◌==◌, List, [], ◌∷◌, ◌++◌, length, map, take, drop, slice_index, if◌then◌else◌}
+use Rattle.pef_hash.specs.Word.{hash_word, least_power, slot}
+
+-- 2^power slot words, a key for each name, and for each key the name that it is of
+pub record BuiltTable : Type 0 where
+  pub power : ℕ
+  pub slots : List ℕ
+  pub keys : List ℕ
+  pub order : List ℕ
+
+-- the names of these lengths that stand one after the other
+abbrev pub names_in : List ℕ → List ℕ → List (List ℕ)
+names_in bytes [] = []
+names_in bytes (n ∷ lengths) = take n bytes ∷ names_in (drop n bytes) lengths
+
+-- the places of the words in slot s, in their order, where the first word has the place `from`
+abbrev pub in_slot : ℕ → ℕ → ℕ → List ℕ → List ℕ
+in_slot power s from [] = []
+in_slot power s from (w ∷ words) =
+    if slot w power == s then from ∷ in_slot power s (from + 1) words else in_slot power s (from + 1) words
+
+-- the places of the words in the n slots from slot s on, slot by slot
+abbrev pub in_slots : ℕ → List ℕ → ℕ → ℕ → List ℕ
+in_slots power words s zero = []
+in_slots power words s (suc n) = in_slot power s 0 words ++ in_slots power words (s + 1) n
+
+-- the slot words of the n slots from slot s on, where the keys of slot s begin at key `first`
+abbrev pub slot_words : ℕ → List ℕ → ℕ → ℕ → ℕ → List ℕ
+slot_words power words s first zero = []
+slot_words power words s first (suc n) =
+    (length (in_slot power s 0 words) * 2 ^ 18 + first) ∷ slot_words power words (s + 1) (first + length (in_slot power s 0 words)) n
+
+-- the words at some places
+unfoldable pub keys_at : List ℕ → List ℕ → List ℕ
+keys_at words order = map (λ i. slice_index words i) order
+
+-- the table of some hash words
+abbrev pub of_words : ℕ → List ℕ → BuiltTable
+of_words power words = record {
+  power = power;
+  slots = slot_words power words 0 0 (2 ^ power);
+  keys = keys_at words (in_slots power words 0 (2 ^ power));
+  order = in_slots power words 0 (2 ^ power);
+}
+
+-- the table of some names
+unfoldable pub built : List (List ℕ) → BuiltTable
+built names = of_words (least_power (length names) 0 16) (map hash_word names)

@@ -1,0 +1,13 @@
+//! The export hash table of a PEF loader section (Mac OS Runtime Architectures, "PEF Structure",
+//! "Export Hash Table"): hash words and slots, the export of a name, and the table of some names.
+#![tactic(auto)]
+
+mod builder;
+mod exports;
+mod fault;
+mod word;
+
+pub use builder::{Table, build};
+pub use exports::{Entry, Exports};
+pub use fault::HashFault;
+pub use word::{hash_word, power_for, slot};
