@@ -1,10 +1,10 @@
 -- Slots of a hash word, and powers.
-use Rattle.std.proofs.Common.{◌≡◌, ℕ, zero, suc, ◌+◌, ◌-◌, ◌*◌, ◌/◌, ◌%◌, ◌^◌, ◌<◌, ◌≤◌, refl, sym, ◌∙◌, arith}
+use Rattle.std.proofs.Common.{◌≡◌, ℕ, zero, suc, ◌+◌, ◌-◌, ◌*◌, ◌/◌, ◌%◌, ◌^◌, ◌<◌, ◌≤◌, refl, sym, arith}
 use Rattle.std.proofs.Math.Nat.{pow-le-pow_right, mod-eq_of_lt, div-eq_of_lt}
 use Rattle.std.proofs.lemmas.Bool.{cond_both, lt-ltb, le-ltb}
 use Rattle.std.proofs.lemmas.Nat.{and_mask, pow_pos, pow_below, and_le_r}
 use Rattle.std.specs.Int.Bits.{xor_zero_r}
-use Rattle.std.specs.Prelude.{bit_and, bit_xor, nat_lt as ltb}
+use Rattle.std.specs.Prelude.{bit_xor, nat_lt as ltb}
 use Rattle.pef_hash.specs.Word.{least_power, slot}
 
 -- a word is below the number of slots of a power past all its bits

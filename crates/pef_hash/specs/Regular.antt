@@ -1,8 +1,8 @@
 -- Tables whose slots lead to their keys (Mac OS Runtime Architectures, "PEF Structure", "Export Hash
 -- Table"), as they are written for some names. A container may hold any other table.
-use Rattle.std.specs.Prelude.{◌≡◌, ℕ, ◌+◌, ◌/◌, ◌%◌, ◌^◌, ◌<◌, ◌≤◌, ◌↔◌, List, [], length, Some, slice_index, slice_index_or}
-use Rattle.pef_hash.specs.Build.{BuiltTable}
-use Rattle.pef_hash.specs.Exports.{ExportTable, key_of, name_of, slot_word_of}
+use Rattle.std.specs.Prelude.{◌≡◌, ◌≢◌, ℕ, ◌+◌, ◌/◌, ◌%◌, ◌^◌, ◌<◌, ◌≤◌, ◌↔◌, List, [], length, None, Some, slice_index, slice_index_or}
+use Rattle.pef_hash.specs.Build.{BuiltTable, built}
+use Rattle.pef_hash.specs.Exports.{ExportTable, export_named, key_of, name_of, slot_word_of}
 use Rattle.pef_hash.specs.Word.{hash_word, slot}
 
 -- each key is the hash word of its name, keys stand in order of slot, and each slot's count and first index delimit exactly its keys
@@ -18,4 +18,22 @@ pub record Spells (t : ExportTable) (b : BuiltTable) (names : List (List ℕ)) :
   pub count : t.count ≡ length names
   pub slots : (s : ℕ) → s < 2 ^ b.power → slot_word_of t s ≡ Some (slice_index b.slots s)
   pub keys : (i : ℕ) → i < length names → key_of t i ≡ Some (slice_index b.keys i)
-  pub names : (i : ℕ) → i < length names → name_of t i ≡ Some (slice_index_or names (slice_index b.order i) [])
+  pub ordered : (i : ℕ) → i < length names → name_of t i ≡ Some (slice_index_or names (slice_index b.order i) [])
+
+-- no name comes twice
+abbrev pub AreDistinct : List (List ℕ) → Type 0
+AreDistinct names = (i j : ℕ) → i < length names → j < length names → slice_index_or names i [] ≡ slice_index_or names j [] → i ≡ j
+
+-- a table that is written for some names is regular
+abbrev pub BuiltIsRegular : Type 0
+BuiltIsRegular = (names : List (List ℕ)) (t : ExportTable) → length names < 2 ^ 14 → Spells t (built names) names → IsRegular t
+
+-- in it each of distinct names has its own key, the one that the order gives it
+abbrev pub BuiltHasOwn : Type 0
+BuiltHasOwn = (names : List (List ℕ)) (t : ExportTable) (j : ℕ) → length names < 2 ^ 14 → Spells t (built names) names → AreDistinct names → j < length names
+    → (i : ℕ) × (export_named t (slice_index_or names j []) ≡ Some i) × (i < length names) × (slice_index (built names).order i ≡ j)
+
+-- and any other name has none
+abbrev pub BuiltHasNoOther : Type 0
+BuiltHasNoOther = (names : List (List ℕ)) (t : ExportTable) (other : List ℕ) → length names < 2 ^ 14 → Spells t (built names) names
+    → ((j : ℕ) → j < length names → slice_index_or names j [] ≢ other) → export_named t other ≡ None

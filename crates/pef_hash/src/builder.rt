@@ -3,11 +3,10 @@ ghost use Rattle.pef_hash.specs.Word.{hash_word};
 ghost use Rattle.pef_hash.specs.Chains.{IsChained};
 ghost use Rattle.pef_hash.specs.Build.{BuiltTable, built, in_slot, in_slots, keys_at, names_in, of_words, slot_words};
 
-use std::alloc::{AllocError, Global};
-use std::marker::Model;
-
 use crate::fault::HashFault;
 use crate::word::{hash_word, power_for, slot};
+use std::alloc::{AllocError, Global};
+use std::marker::Model;
 
 /// A slot word has the index of its first key below this bit, and the number of its keys above it.
 const COUNT_SHIFT: u32 = 18;

@@ -12,11 +12,13 @@ const EXPORT_SIZE: usize = 10;
 
 /// The offsets of an export's value and section. Its class and name offset share the first word.
 const VALUE: usize = 4;
+
 const SECTION: usize = 8;
 
 /// Where the class byte stands in the first word of an export, and where the length of the name
 /// stands in a key.
 const CLASS_SHIFT: u32 = 24;
+
 const LENGTH_SHIFT: u32 = 16;
 
 /// An export without its name.

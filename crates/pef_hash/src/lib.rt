@@ -5,9 +5,14 @@
 mod builder;
 mod exports;
 mod fault;
+mod regular;
 mod word;
 
 pub use builder::{Table, build};
 pub use exports::{Entry, Exports};
 pub use fault::HashFault;
+pub use regular::built_tables_are_regular;
 pub use word::{hash_word, power_for, slot};
+
+#[cfg(test)]
+mod tests;

@@ -1,5 +1,5 @@
 -- There are as many words as lengths.
-use Rattle.std.proofs.Common.{refl, sym, ◌∙◌, arith}
+use Rattle.std.proofs.Common.{refl, ◌∙◌}
 use Rattle.std.proofs.lemmas.List.{length-map}
 use Rattle.pef_hash.specs.Build.{built}
 use Rattle.pef_hash.proofs.Slots.{least_power-most}

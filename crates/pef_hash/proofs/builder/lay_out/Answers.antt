@@ -1,6 +1,6 @@
 -- No more keys than words stand before a slot, so the numbers fit.
-use Rattle.std.proofs.Common.{◌≡◌, ◌≤◌, ◌<◌, ◌+◌, ◌*◌, ◌-◌, ◌^◌, ◌++◌, length, refl, sym, ◌∙◌, ap, length-append, arith}
-use Rattle.pef_hash.specs.Build.{in_slot, in_slots}
+use Rattle.std.proofs.Common.{◌≡◌, ◌≤◌, ◌<◌, ◌+◌, ◌-◌, ◌^◌, ◌++◌, length, refl, sym, ◌∙◌, ap, length-append, arith}
+use Rattle.pef_hash.specs.Build.{in_slot}
 use Rattle.pef_hash.proofs.Slots.{power_below}
 use Rattle.pef_hash.proofs.SlotLists.{in_slots-next, keys_at-none, length-before, slot_words-next}
 use Rattle.pef_hash.proofs.builder.lay_out.Goals as goal

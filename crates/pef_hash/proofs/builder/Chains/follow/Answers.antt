@@ -1,7 +1,5 @@
 -- The head is the first word of the slot, and each link leads to the next one.
-use Rattle.std.proofs.Common.{◌≡◌, ◌<◌, ◌+◌, ◌++◌, ◌∷◌, [], drop, refl, sym, ◌∙◌, ap, append_assoc, length, arith}
-use Rattle.pef_hash.specs.Build.{in_slot}
-use Rattle.pef_hash.specs.Chains.{first_in}
+use Rattle.std.proofs.Common.{◌<◌, refl, append_assoc, length, arith}
 use Rattle.pef_hash.proofs.SlotLists.{head_of, in_slot-head, in_slot-next, keys_at-more, leads_from_head, leads_next, next-high, next_of}
 use Rattle.pef_hash.proofs.builder.Chains.follow.Goals as goal
 

@@ -1,4 +1,3 @@
-use Rattle.std.proofs.Common.{◌≡◌}
 use Rattle.pef_hash.specs.Chains.{IsChainedFrom}
 use Rattle.pef_hash.proofs.builder.Chains.new.Given as goal
 
