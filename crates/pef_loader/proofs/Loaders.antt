@@ -1,0 +1,287 @@
+-- What the acceptance of a loader section says, and what it takes.
+use Rattle.std.proofs.Common.{◌≡◌, ◌≢◌, ℕ, ◌+◌, ◌*◌, ◌/◌, ◌^◌, ◌<◌, ◌≤◌, Bool, true, false, cond, not, List, Option, None, Some, length, drop, take, refl, sym, ◌∙◌, ap, subst, arith}
+use Rattle.std.specs.Prelude.{◌==◌, ◌&&◌, ◌||◌, Result, Ok, Err, IsTrue, IfSome, IsSome, nat_lt, nat_le, ℤ, pos, negsuc}
+use Rattle.std.specs.Option.{is_none, is_some, option_map_or}
+use Rattle.std.proofs.lemmas.Bool.{and_parts, lt-ltb, le-leb, leb-false, ltb-false, ltb-true}
+use Rattle.pef_words.specs.Bytes.{name_at, part_of}
+use Rattle.pef_words.specs.Refusals.{first_among, first_met, unless}
+use Rattle.pef_words.proofs.RefusalLemmas.{first_unmet, none_among, some_among}
+use Rattle.pef_hash.specs.Exports.{entry_of, name_of}
+use Rattle.pef_hash.specs.declared.exports.Entry.{Entry}
+use Rattle.pef_loader.specs.declared.header.LoaderHeader.{LoaderHeader}
+use Rattle.pef_loader.specs.declared.library.LibraryEntry.{LibraryEntry}
+use Rattle.pef_loader.specs.declared.import.ImportEntry.{ImportEntry}
+use Rattle.pef_loader.specs.declared.reloc.RelocEntry.{RelocEntry}
+use Rattle.pef_loader.specs.declared.fault.LoaderFault.{LoaderFault}
+use Rattle.pef_loader.specs.declared.fault.LoaderFault.TheVariants.{LoaderShort, BadTableOffset, BadEntry, BadExportTable}
+use Rattle.pef_loader.specs.Header.{entry_of as header_entry, header_of, is_entry, tables_end}
+use Rattle.pef_loader.specs.Library.{Library, library_at, library_in, library_refusal, library_tests, owns}
+use Rattle.pef_loader.specs.Import.{Import, import_at, import_in, import_refusal, import_tests, owner_at, owner_of}
+use Rattle.pef_loader.specs.Reloc.{instructions_of, reloc_at, reloc_in, reloc_refusal, reloc_tests}
+use Rattle.pef_loader.specs.Export.{Export, export_in, export_refusal, export_table, export_tests, has_exports, has_section}
+use Rattle.pef_loader.specs.Loader.{IsAccepted, IsLoader, Loaded, export_of, fault_if, has_entries, import_of, judged, library_of, loaded_of, reloc_of}
+
+unless_ok : {A F : Type 0} (fault : Option F) (r : Result A F) (x : A) → unless fault r ≡ Ok x → (fault ≡ None) × (r ≡ Ok x)
+unless_ok None r x ok = (refl, ok)
+unless_ok (Some fault) r x ok = absurd (cc)
+
+abbrev value_or : {A F : Type 0} → A → Result A F → A
+value_or x (Ok y) = y
+value_or x (Err fault) = x
+
+judged_ok : (l : Loaded) (h : LoaderHeader) → header_of l.bytes ≡ Some h → judged l.sections l.bytes h ≡ Ok l → IsAccepted l
+judged_ok l h there ok =
+    let a = unless_ok (fault_if (nat_lt (length l.bytes) (tables_end h)) BadTableOffset) _ l ok in
+    let b = unless_ok (first_among (library_refusal l.bytes h) 0 h.library_count) _ l a.1 in
+    let d = unless_ok (first_among (import_refusal l.bytes h) 0 h.import_count) _ l b.1 in
+    let e = unless_ok (fault_if (not (has_entries l.sections h)) BadEntry) _ l d.1 in
+    let f = unless_ok (first_among (reloc_refusal l.bytes h l.sections) 0 h.reloc_count) _ l e.1 in
+    let g = unless_ok (fault_if (not (has_exports l.bytes h)) BadExportTable) _ l f.1 in
+    let i = unless_ok (first_among (export_refusal l.bytes h l.sections) 0 h.export_count) _ l g.1 in
+    let same : h ≡ l.header = ap (λ r. (value_or l r).header) i.1 in
+    let P : LoaderHeader → Type 0 = λ h. IsAccepted (record l { header = h }) in
+    subst P same (record { header = there; tables = a.0; libraries = b.0; imports = d.0; entries = e.0; relocs = f.0; table = g.0; exports = i.0 })
+
+header_ok : (l : Loaded) (h : Option LoaderHeader) → header_of l.bytes ≡ h → option_map_or (judged l.sections l.bytes) h (Err LoaderShort) ≡ Ok l → IsAccepted l
+header_ok l None there ok = absurd (cc)
+header_ok l (Some h) there ok = judged_ok l h there ok
+
+-- a loader section's header is there, and no test is met
+pub accepted : (l : Loaded) → IsLoader l → IsAccepted l
+unfolding loaded_of
+accepted l ok = header_ok l (header_of l.bytes) refl ok
+
+-- where the header is there and no test is met, the bytes are that loader section
+pub accepts : (l : Loaded) → IsAccepted l → IsLoader l
+unfolding loaded_of
+accepts l a = rw (a.header, a.tables, a.libraries, a.imports, a.entries, a.relocs, a.table, a.exports) refl
+
+-- a fault that isn't there: its test isn't met
+fault_unmet : (test : Bool) (fault : LoaderFault) → fault_if test fault ≡ None → test ≡ false
+fault_unmet true fault none = absurd (cc)
+fault_unmet false fault none = refl
+
+true-from_not : (b : Bool) → not b ≡ false → IsTrue b
+true-from_not true e = refl
+true-from_not false e = absurd (cc)
+
+-- the export table is whole
+pub exports_whole : (l : Loaded) → IsLoader l → IsTrue (has_exports l.bytes l.header)
+exports_whole l ok = true-from_not _ (fault_unmet _ BadExportTable (accepted l ok).table)
+
+-- each entry is in an instantiated section or isn't there
+pub entries_sound : (l : Loaded) → IsLoader l → IsTrue (has_entries l.sections l.header)
+entries_sound l ok = true-from_not _ (fault_unmet _ BadEntry (accepted l ok).entries)
+
+-- a part that isn't refused is there, and none of its tests is met
+refused_not : {E : Type 0} (part : Option E) (tests : E → List (Bool × LoaderFault)) (fault : LoaderFault) → option_map_or (λ e. first_met (tests e)) part (Some fault) ≡ None → (e : E) × (part ≡ Some e) × (first_met (tests e) ≡ None)
+refused_not None tests fault none = absurd (cc)
+refused_not (Some e) tests fault none = (e, refl, none)
+
+-- what isn't missing is there
+some_if : {A : Type 0} (o : Option A) → is_none o ≡ false → (x : A) × (o ≡ Some x)
+some_if None some = absurd (cc)
+some_if (Some x) some = (x, refl)
+
+-- each library is there, with a name, and its imports are among all
+pub record IsLibrary (l : Loaded) (entry : LibraryEntry) : Type 0 where
+  pub name : List ℕ
+  pub named : name_at l.bytes (l.header.strings_offset + entry.name_offset) ≡ Some name
+  pub range : entry.first + entry.count ≤ l.header.import_count
+
+pub library_is : (l : Loaded) (i : ℕ) → IsLoader l → i < l.header.library_count → (entry : LibraryEntry) × (library_at l.bytes i ≡ Some entry) × IsLibrary l entry
+unfolding library_tests
+library_is l i ok under =
+    let part = refused_not (library_at l.bytes i) (λ e. library_tests l.bytes l.header e) BadTableOffset (none_among (library_refusal l.bytes l.header) 0 l.header.library_count i (accepted l ok).libraries (omega arith) (omega arith)) in
+    let name = first_unmet (is_none (name_at l.bytes (l.header.strings_offset + part.0.name_offset))) _ _ part.2 in
+    let range = first_unmet (nat_lt l.header.import_count (part.0.first + part.0.count)) _ _ name.1 in
+    let there = some_if _ name.0 in
+    (part.0, part.1, record { name = there.0; named = there.1; range = ltb-false l.header.import_count _ range.0 })
+
+-- .. so library i is there for each i below their count
+pub library_there : (l : Loaded) (i : ℕ) → IsLoader l → i < l.header.library_count → (x : Library) × (library_of l i ≡ Some x)
+unfolding library_of library_in
+library_there l i ok under =
+    let is = library_is l i ok under in
+    let e = is.0 in
+    (record { name = is.2.name; current = e.current; old_imp = e.old_imp; count = e.count; first = e.first; options = e.options },
+        rw (lt-ltb i l.header.library_count under, is.1, is.2.named) refl)
+
+-- each import is there, with a name
+pub record IsImport (l : Loaded) (entry : ImportEntry) : Type 0 where
+  pub name : List ℕ
+  pub named : name_at l.bytes (l.header.strings_offset + entry.name_offset) ≡ Some name
+
+-- what a choice gives, it gives of what it chose
+chosen : {A : Type 0} (b : Bool) (x y : A) → cond b (Some x) None ≡ Some y → x ≡ y
+chosen true x y is = cc
+chosen false x y is = absurd (cc)
+
+-- the owner of an import is one of the libraries
+pub owner-below : (bytes : List ℕ) (h : LoaderHeader) (j x : ℕ) → owner_of bytes h j ≡ Some x → x < h.library_count
+owner-below bytes h j x is =
+    let r = some_among (owner_at bytes j) 0 h.library_count x is in
+    let same : r.at ≡ x = chosen (owns bytes j r.at) r.at x r.is in
+    let high = r.high in
+    omega arith
+
+pub import_is : (l : Loaded) (j : ℕ) → IsLoader l → j < l.header.import_count → (entry : ImportEntry) × (import_at l.bytes l.header j ≡ Some entry) × IsImport l entry
+unfolding import_tests
+import_is l j ok under =
+    let part = refused_not (import_at l.bytes l.header j) (λ e. import_tests l.bytes l.header j e) BadTableOffset (none_among (import_refusal l.bytes l.header) 0 l.header.import_count j (accepted l ok).imports (omega arith) (omega arith)) in
+    let name = first_unmet (is_none (name_at l.bytes (l.header.strings_offset + part.0.name_offset))) _ _ part.2 in
+    let there = some_if _ name.0 in
+    (part.0, part.1, record { name = there.0; named = there.1 })
+
+-- .. and a library
+pub import_owned : (l : Loaded) (j : ℕ) → IsLoader l → j < l.header.import_count → (owner : ℕ) × (owner_of l.bytes l.header j ≡ Some owner)
+unfolding import_tests
+import_owned l j ok under =
+    let part = refused_not (import_at l.bytes l.header j) (λ e. import_tests l.bytes l.header j e) BadTableOffset (none_among (import_refusal l.bytes l.header) 0 l.header.import_count j (accepted l ok).imports (omega arith) (omega arith)) in
+    let name = first_unmet (is_none (name_at l.bytes (l.header.strings_offset + part.0.name_offset))) _ _ part.2 in
+    some_if _ (first_unmet (is_none (owner_of l.bytes l.header j)) _ _ name.1).0
+
+pub import_there : (l : Loaded) (j : ℕ) → IsLoader l → j < l.header.import_count → (x : Import) × (import_of l j ≡ Some x)
+unfolding import_of import_in
+import_there l j ok under =
+    let is = import_is l j ok under in
+    let owner = import_owned l j ok under in
+    (record { name = is.2.name; class = is.0.class; weak = is.0.weak; library = owner.0 },
+        rw (lt-ltb j l.header.import_count under, is.1, is.2.named, owner.1) refl)
+
+-- each relocation header is there, of an instantiated section, and its instructions lie inside
+pub record IsReloc (l : Loaded) (entry : RelocEntry) : Type 0 where
+  pub section : entry.section < l.sections
+  pub inside : l.header.reloc_instr_offset + entry.first + 2 * entry.count ≤ length l.bytes
+  pub instructions : List ℕ
+  pub are : instructions_of l.bytes l.header entry ≡ Some instructions
+
+pub reloc_is : (l : Loaded) (k : ℕ) → IsLoader l → k < l.header.reloc_count → (entry : RelocEntry) × (reloc_at l.bytes l.header k ≡ Some entry) × IsReloc l entry
+unfolding reloc_tests instructions_of part_of
+reloc_is l k ok under =
+    let part = refused_not (reloc_at l.bytes l.header k) (λ e. reloc_tests l.bytes l.header l.sections e) BadTableOffset (none_among (reloc_refusal l.bytes l.header l.sections) 0 l.header.reloc_count k (accepted l ok).relocs (omega arith) (omega arith)) in
+    let section = first_unmet (nat_le l.sections part.0.section) _ _ part.2 in
+    let outside = first_unmet (nat_lt (length l.bytes) (l.header.reloc_instr_offset + part.0.first + 2 * part.0.count)) _ _ section.1 in
+    let inside = ltb-false (length l.bytes) _ outside.0 in
+    (part.0, part.1, record {
+      section = leb-false l.sections part.0.section section.0;
+      inside = inside;
+      instructions = take (2 * part.0.count) (drop (l.header.reloc_instr_offset + part.0.first) l.bytes);
+      are = rw (le-leb (l.header.reloc_instr_offset + part.0.first + 2 * part.0.count) (length l.bytes) inside) refl;
+    })
+
+pub reloc_there : (l : Loaded) (k : ℕ) → IsLoader l → k < l.header.reloc_count → (x : ℕ × List ℕ) × (reloc_of l k ≡ Some x)
+unfolding reloc_of reloc_in
+reloc_there l k ok under =
+    let is = reloc_is l k ok under in
+    ((is.0.section, is.2.instructions),
+        rw (lt-ltb k l.header.reloc_count under, is.1, is.2.are) refl)
+
+-- each export is there, with a name, in a section that it may be in
+pub record IsExport (l : Loaded) (entry : Entry) (i : ℕ) : Type 0 where
+  pub name : List ℕ
+  pub named : name_of (export_table l.bytes l.header) i ≡ Some name
+  pub section : IsTrue (has_section l.header l.sections entry.value entry.section)
+
+-- of two tests neither of which is met, the second isn't
+second_unmet : (a b : Bool) → (a || b) ≡ false → b ≡ false
+second_unmet true b none = absurd (cc)
+second_unmet false b none = none
+
+pub export_is : (l : Loaded) (i : ℕ) → IsLoader l → i < l.header.export_count → (entry : Entry) × (entry_of (export_table l.bytes l.header) i ≡ Some entry) × IsExport l entry i
+unfolding export_tests
+export_is l i ok under =
+    let part = refused_not (entry_of (export_table l.bytes l.header) i) (λ e. export_tests l.bytes l.header l.sections i e) BadExportTable (none_among (export_refusal l.bytes l.header l.sections) 0 l.header.export_count i (accepted l ok).exports (omega arith) (omega arith)) in
+    let name = first_unmet (nat_lt (length l.bytes) l.header.strings_offset || is_none (name_of (export_table l.bytes l.header) i)) _ _ part.2 in
+    let section = first_unmet (not (has_section l.header l.sections part.0.value part.0.section)) _ _ name.1 in
+    let there = some_if _ (second_unmet _ _ name.0) in
+    (part.0, part.1, record { name = there.0; named = there.1; section = true-from_not _ section.0 })
+
+pub export_there : (l : Loaded) (i : ℕ) → IsLoader l → i < l.header.export_count → (x : Export) × (export_of l i ≡ Some x)
+unfolding export_of export_in
+export_there l i ok under =
+    let is = export_is l i ok under in
+    (record { name = is.2.name; class = is.0.class; section = is.0.section; value = is.0.value },
+        rw (is.1, is.2.named) refl)
+
+some_same : {A : Type 0} (x y : A) → Some x ≡ Some y → x ≡ y
+some_same x y same = cc
+
+-- the same of an entry that was read
+pub library_with : (l : Loaded) (i : ℕ) (e : LibraryEntry) → IsLoader l → i < l.header.library_count → library_at l.bytes i ≡ Some e → IsLibrary l e
+library_with l i e ok under at =
+    let is = library_is l i ok under in
+    let P : LibraryEntry → Type 0 = λ e. IsLibrary l e in
+    subst P (some_same is.0 e (sym is.1 ∙ at)) is.2
+
+pub import_with : (l : Loaded) (j : ℕ) (e : ImportEntry) → IsLoader l → j < l.header.import_count → import_at l.bytes l.header j ≡ Some e → IsImport l e
+import_with l j e ok under at =
+    let is = import_is l j ok under in
+    let P : ImportEntry → Type 0 = λ e. IsImport l e in
+    subst P (some_same is.0 e (sym is.1 ∙ at)) is.2
+
+pub reloc_with : (l : Loaded) (k : ℕ) (e : RelocEntry) → IsLoader l → k < l.header.reloc_count → reloc_at l.bytes l.header k ≡ Some e → IsReloc l e
+reloc_with l k e ok under at =
+    let is = reloc_is l k ok under in
+    let P : RelocEntry → Type 0 = λ e. IsReloc l e in
+    subst P (some_same is.0 e (sym is.1 ∙ at)) is.2
+
+pub export_with : (l : Loaded) (i : ℕ) (e : Entry) → IsLoader l → i < l.header.export_count → entry_of (export_table l.bytes l.header) i ≡ Some e → IsExport l e i
+export_with l i e ok under at =
+    let is = export_is l i ok under in
+    let P : Entry → Type 0 = λ e. IsExport l e i in
+    subst P (some_same is.0 e (sym is.1 ∙ at)) is.2
+
+-- an entry that is there is in an instantiated section
+pub entry-section : (sections : ℕ) (section : ℤ) (offset : ℕ) (e : ℕ × ℕ) → IsTrue (is_entry sections section) → header_entry section offset ≡ Some e → e.0 < sections
+entry-section sections (pos section) offset e sound is =
+    let same : section ≡ e.0 = ap (λ o. option_map_or (λ x. x.0) o section) is in
+    rw (sym same) (ltb-true section sections sound)
+entry-section sections (negsuc n) offset e sound is = absurd (cc)
+
+parts_of : (sections : ℕ) (bytes : List ℕ) (l : Loaded) (h : Option LoaderHeader) → option_map_or (judged sections bytes) h (Err LoaderShort) ≡ Ok l → (sections ≡ l.sections) × (bytes ≡ l.bytes)
+parts_of sections bytes l None ok = absurd (cc)
+parts_of sections bytes l (Some h) ok =
+    let a = unless_ok (fault_if (nat_lt (length bytes) (tables_end h)) BadTableOffset) _ l ok in
+    let b = unless_ok (first_among (library_refusal bytes h) 0 h.library_count) _ l a.1 in
+    let d = unless_ok (first_among (import_refusal bytes h) 0 h.import_count) _ l b.1 in
+    let e = unless_ok (fault_if (not (has_entries sections h)) BadEntry) _ l d.1 in
+    let f = unless_ok (first_among (reloc_refusal bytes h sections) 0 h.reloc_count) _ l e.1 in
+    let g = unless_ok (fault_if (not (has_exports bytes h)) BadExportTable) _ l f.1 in
+    let i = unless_ok (first_among (export_refusal bytes h sections) 0 h.export_count) _ l g.1 in
+    (ap (λ r. (value_or l r).sections) i.1, ap (λ r. (value_or l r).bytes) i.1)
+
+-- what bytes are read as has those bytes, and so many instantiated sections
+pub loaded_of-parts : (sections : ℕ) (bytes : List ℕ) (l : Loaded) → loaded_of sections bytes ≡ Ok l → (sections ≡ l.sections) × (bytes ≡ l.bytes)
+unfolding loaded_of
+loaded_of-parts sections bytes l ok = parts_of sections bytes l (header_of bytes) ok
+
+-- and is a loader section
+pub loaded_of-ok : (sections : ℕ) (bytes : List ℕ) (l : Loaded) → loaded_of sections bytes ≡ Ok l → IsLoader l
+loaded_of-ok sections bytes l ok =
+    let same = loaded_of-parts sections bytes l ok in
+    let P : ℕ → Type 0 = λ n. loaded_of n l.bytes ≡ Ok l in
+    let Q : List ℕ → Type 0 = λ xs. loaded_of sections xs ≡ Ok l in
+    subst P same.0 (subst Q same.1 ok)
+
+-- the same of each entry
+within_sections : (sections : ℕ) (section : ℤ) (offset : ℕ) (o : Option (ℕ × ℕ)) → IsTrue (is_entry sections section) → header_entry section offset ≡ o → IfSome o (λ e. e.0 < sections)
+within_sections sections section offset None sound is = tt
+within_sections sections section offset (Some e) sound is = entry-section sections section offset e sound is
+
+pub main_sound : (l : Loaded) (o : Option (ℕ × ℕ)) → IsLoader l → header_entry l.header.main_section l.header.main_offset ≡ o → IfSome o (λ e. e.0 < l.sections)
+main_sound l o ok is =
+    let all = and_parts (is_entry l.sections l.header.main_section && is_entry l.sections l.header.init_section) (is_entry l.sections l.header.term_section) (entries_sound l ok) in
+    let two = and_parts (is_entry l.sections l.header.main_section) (is_entry l.sections l.header.init_section) all.0 in
+    within_sections l.sections l.header.main_section l.header.main_offset o two.0 is
+
+pub init_sound : (l : Loaded) (o : Option (ℕ × ℕ)) → IsLoader l → header_entry l.header.init_section l.header.init_offset ≡ o → IfSome o (λ e. e.0 < l.sections)
+init_sound l o ok is =
+    let all = and_parts (is_entry l.sections l.header.main_section && is_entry l.sections l.header.init_section) (is_entry l.sections l.header.term_section) (entries_sound l ok) in
+    let two = and_parts (is_entry l.sections l.header.main_section) (is_entry l.sections l.header.init_section) all.0 in
+    within_sections l.sections l.header.init_section l.header.init_offset o two.1 is
+
+pub term_sound : (l : Loaded) (o : Option (ℕ × ℕ)) → IsLoader l → header_entry l.header.term_section l.header.term_offset ≡ o → IfSome o (λ e. e.0 < l.sections)
+term_sound l o ok is =
+    let all = and_parts (is_entry l.sections l.header.main_section && is_entry l.sections l.header.init_section) (is_entry l.sections l.header.term_section) (entries_sound l ok) in
+    within_sections l.sections l.header.term_section l.header.term_offset o all.1 is

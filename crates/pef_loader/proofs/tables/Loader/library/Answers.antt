@@ -1,0 +1,20 @@
+-- Each library below their count is there, with a name.
+use Rattle.std.proofs.Common.{◌≡◌, ◌∙◌, sym, arith}
+use Rattle.pef_loader.specs.Views.{loaded}
+use Rattle.pef_loader.proofs.Loaders.{library_is, library_with}
+use Rattle.pef_loader.proofs.tables.Loader.library.Goals as goal
+
+pub returns-in_err-library-clause-there : goal.returns-in_err-library-clause-there
+returns-in_err-library-clause-there c =
+    let is = library_is (loaded c.args.self.now) c.args.i c.args.self.now.accepted (omega arith) in
+    let nowhere = c.in_err-library.ensures ∙ is.1 in
+    absurd (cc)
+
+pub returns-in_err-name_at-clause-there : goal.returns-in_err-name_at-clause-there
+returns-in_err-name_at-clause-there c =
+    let is = library_with (loaded c.args.self.now) c.args.i c.in_ok-library.library c.args.self.now.accepted (omega arith) (sym c.in_ok-library.ensures) in
+    let nowhere = c.in_err-name_at.ensures ∙ is.named in
+    absurd (cc)
+
+pub returns-clause-range : goal.returns-clause-range
+returns-clause-range c = (library_with (loaded c.args.self.now) c.args.i c.in_ok-library.library c.args.self.now.accepted (omega arith) (sym c.in_ok-library.ensures)).range

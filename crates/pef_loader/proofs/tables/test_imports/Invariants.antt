@@ -1,0 +1,10 @@
+-- What is left decides.
+use Rattle.std.proofs.Common.{◌≡◌, ◌-◌}
+use Rattle.pef_words.specs.Refusals.{first_among}
+use Rattle.pef_loader.specs.Import.{import_refusal}
+use Rattle.pef_loader.proofs.tables.test_imports.Given as goal
+
+abbrev pub invariant-loop-j : goal.invariant-loop-j
+invariant-loop-j l =
+    first_among (import_refusal l.cut.bytes.now l.header) l.j (l.header.import_count - l.j)
+    ≡ first_among (import_refusal l.cut.bytes.now l.header) 0 l.header.import_count

@@ -1,0 +1,52 @@
+-- Exported symbols (Mac OS Runtime Architectures, "PEF Structure", "Exported Symbol Table";
+-- PEFExportedSymbol of PEFBinaryFormat.h).
+use Rattle.std.specs.Prelude.{ℕ, ℤ, pos, negsuc, ◌==◌, ◌||◌, ◌&&◌, Bool, not, List, [], ◌∷◌, Option, Some, None, drop, length, nat_lt, if◌then◌else◌}
+use Rattle.std.specs.Option.{is_none, option_map_or}
+use Rattle.pef_words.specs.Refusals.{◌>>=◌, first_met}
+use Rattle.pef_hash.specs.Exports.{ExportTable, entry_of, has_table, name_of}
+use Rattle.pef_hash.specs.declared.exports.Entry.{Entry}
+use Rattle.pef_loader.specs.declared.header.LoaderHeader.{LoaderHeader}
+use Rattle.pef_loader.specs.declared.fault.LoaderFault.{LoaderFault}
+use Rattle.pef_loader.specs.declared.fault.LoaderFault.TheVariants.{BadExportTable, BadName, BadExportSection}
+
+-- there are no exports, or slots, keys and exports are there
+abbrev pub has_exports : List ℕ → LoaderHeader → Bool
+has_exports bytes h = has_table h.export_power h.export_count (drop h.export_hash_offset bytes)
+
+-- the export table and its strings
+abbrev pub export_table : List ℕ → LoaderHeader → ExportTable
+export_table bytes h = record {
+  power = h.export_power;
+  count = h.export_count;
+  bytes = drop h.export_hash_offset bytes;
+  strings = drop h.strings_offset bytes;
+}
+
+-- an instantiated section, or -2 for an absolute value, or -3 for an import whose index is the value
+abbrev pub has_section : LoaderHeader → ℕ → ℕ → ℤ → Bool
+has_section h sections value (pos section) = nat_lt section sections
+has_section h sections value (negsuc n) = n == 1 || (n == 2 && nat_lt value h.import_count)
+
+-- the tests of export i, in order; a name passes the end also where the strings begin behind it
+unfoldable pub export_tests : List ℕ → LoaderHeader → ℕ → ℕ → Entry → List (Bool × LoaderFault)
+export_tests bytes h sections i e = (nat_lt (length bytes) h.strings_offset || is_none (name_of (export_table bytes h) i), BadName)
+    ∷ (not (has_section h sections e.value e.section), BadExportSection)
+    ∷ []
+
+-- the refusal of export i
+abbrev pub export_refusal : List ℕ → LoaderHeader → ℕ → ℕ → Option LoaderFault
+export_refusal bytes h sections i = option_map_or (λ e. first_met (export_tests bytes h sections i e)) (entry_of (export_table bytes h) i) (Some BadExportTable)
+
+-- an export with its name
+pub record Export : Type 0 where
+  pub name : List ℕ
+  pub class : ℕ
+  pub section : ℤ
+  pub value : ℕ
+
+-- export i with its name; none past the last one
+unfoldable pub export_in : List ℕ → LoaderHeader → ℕ → Option Export
+export_in bytes h i = do
+  e ← entry_of (export_table bytes h) i
+  name ← name_of (export_table bytes h) i
+  Some (record { name = name; class = e.class; section = e.section; value = e.value })

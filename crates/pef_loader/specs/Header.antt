@@ -1,0 +1,62 @@
+-- The loader header, and where the tables behind it stand (Mac OS Runtime Architectures, "PEF
+-- Structure", "Loader Section"; PEFLoaderInfoHeader of PEFBinaryFormat.h).
+use Rattle.std.specs.Prelude.{ℕ, ℤ, pos, negsuc, ◌+◌, ◌*◌, ◌==◌, Bool, List, Option, Some, None, nat_lt}
+use Rattle.std.specs.Int.{w32}
+use Rattle.pef_words.specs.Bytes.{number_at, signed_at}
+use Rattle.pef_words.specs.Refusals.{◌>>=◌}
+use Rattle.pef_loader.specs.declared.header.LoaderHeader.{LoaderHeader}
+
+-- the header of a loader section; none where there are fewer than 56 bytes
+unfoldable pub header_of : List ℕ → Option LoaderHeader
+header_of bytes = do
+  main ← signed_at w32 4 bytes 0
+  main_offset ← number_at 4 bytes 4
+  init ← signed_at w32 4 bytes 8
+  init_offset ← number_at 4 bytes 12
+  term ← signed_at w32 4 bytes 16
+  term_offset ← number_at 4 bytes 20
+  libraries ← number_at 4 bytes 24
+  imports ← number_at 4 bytes 28
+  relocs ← number_at 4 bytes 32
+  instructions ← number_at 4 bytes 36
+  strings ← number_at 4 bytes 40
+  hash ← number_at 4 bytes 44
+  power ← number_at 4 bytes 48
+  exports ← number_at 4 bytes 52
+  Some (record {
+    main_section = main;
+    main_offset = main_offset;
+    init_section = init;
+    init_offset = init_offset;
+    term_section = term;
+    term_offset = term_offset;
+    library_count = libraries;
+    import_count = imports;
+    reloc_count = relocs;
+    reloc_instr_offset = instructions;
+    strings_offset = strings;
+    export_hash_offset = hash;
+    export_power = power;
+    export_count = exports;
+  })
+
+-- the tables stand behind the header without a gap: the libraries of 24 bytes each, the imports of 4
+-- and the relocation headers of 12
+abbrev pub imports_from : LoaderHeader → ℕ
+imports_from h = 56 + 24 * h.library_count
+
+abbrev pub relocs_from : LoaderHeader → ℕ
+relocs_from h = imports_from h + 4 * h.import_count
+
+abbrev pub tables_end : LoaderHeader → ℕ
+tables_end h = relocs_from h + 12 * h.reloc_count
+
+-- an entry's section is -1, for no entry, or that of an instantiated section
+abbrev pub is_entry : ℕ → ℤ → Bool
+is_entry sections (pos section) = nat_lt section sections
+is_entry sections (negsuc n) = n == 0
+
+-- the section and offset of an entry that is there
+abbrev pub entry_of : ℤ → ℕ → Option (ℕ × ℕ)
+entry_of (pos section) offset = Some (section, offset)
+entry_of (negsuc n) offset = None

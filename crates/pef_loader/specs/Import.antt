@@ -1,0 +1,52 @@
+-- Imported symbols (Mac OS Runtime Architectures, "PEF Structure", "Imported Symbol Table";
+-- PEFImportedSymbol of PEFBinaryFormat.h).
+use Rattle.std.specs.Prelude.{ℕ, ◌+◌, ◌*◌, ◌/◌, ◌%◌, ◌^◌, ◌==◌, Bool, List, [], ◌∷◌, Option, Some, None, nat_lt, if◌then◌else◌}
+use Rattle.std.specs.Option.{is_none, option_map_or}
+use Rattle.pef_words.specs.Bytes.{name_at, number_at}
+use Rattle.pef_words.specs.Refusals.{◌>>=◌, first_among, first_met}
+use Rattle.pef_loader.specs.declared.header.LoaderHeader.{LoaderHeader}
+use Rattle.pef_loader.specs.declared.import.ImportEntry.{ImportEntry}
+use Rattle.pef_loader.specs.declared.fault.LoaderFault.{LoaderFault}
+use Rattle.pef_loader.specs.declared.fault.LoaderFault.TheVariants.{BadTableOffset, BadName, OrphanImport}
+use Rattle.pef_loader.specs.Header.{imports_from}
+use Rattle.pef_loader.specs.Library.{owns}
+
+-- import j: a class byte, whose high bit says that the symbol may be missing, and a name offset of 24
+-- bits; none where it passes the end
+unfoldable pub import_at : List ℕ → LoaderHeader → ℕ → Option ImportEntry
+import_at bytes h j = do
+  word ← number_at 4 bytes (imports_from h + 4 * j)
+  Some (record { class = word / 2 ^ 24 % 16; weak = word / 2 ^ 31 == 1; name_offset = word % 2 ^ 24 })
+
+-- i, where library i has import j
+abbrev pub owner_at : List ℕ → ℕ → ℕ → Option ℕ
+owner_at bytes j i = if owns bytes j i then Some i else None
+
+-- the first library that has import j
+abbrev pub owner_of : List ℕ → LoaderHeader → ℕ → Option ℕ
+owner_of bytes h j = first_among (owner_at bytes j) 0 h.library_count
+
+-- the tests of import j, in order
+unfoldable pub import_tests : List ℕ → LoaderHeader → ℕ → ImportEntry → List (Bool × LoaderFault)
+import_tests bytes h j e = (is_none (name_at bytes (h.strings_offset + e.name_offset)), BadName)
+    ∷ (is_none (owner_of bytes h j), OrphanImport)
+    ∷ []
+
+-- the refusal of import j
+abbrev pub import_refusal : List ℕ → LoaderHeader → ℕ → Option LoaderFault
+import_refusal bytes h j = option_map_or (λ e. first_met (import_tests bytes h j e)) (import_at bytes h j) (Some BadTableOffset)
+
+-- an import with its name and library
+pub record Import : Type 0 where
+  pub name : List ℕ
+  pub class : ℕ
+  pub weak : Bool
+  pub library : ℕ
+
+-- import j with its name and its first library
+unfoldable pub import_in : List ℕ → LoaderHeader → ℕ → Option Import
+import_in bytes h j = if nat_lt j h.import_count then (do
+  e ← import_at bytes h j
+  name ← name_at bytes (h.strings_offset + e.name_offset)
+  owner ← owner_of bytes h j
+  Some (record { name = name; class = e.class; weak = e.weak; library = owner })) else None

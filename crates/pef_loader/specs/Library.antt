@@ -1,0 +1,51 @@
+-- Imported libraries (Mac OS Runtime Architectures, "PEF Structure", "Imported Library Table";
+-- PEFImportedLibrary of PEFBinaryFormat.h).
+use Rattle.std.specs.Prelude.{ℕ, ◌+◌, ◌*◌, Bool, false, List, [], ◌∷◌, Option, Some, None, nat_lt, nat_le, ◌&&◌, if◌then◌else◌}
+use Rattle.std.specs.Option.{is_none, option_map_or}
+use Rattle.pef_words.specs.Bytes.{name_at, number_at}
+use Rattle.pef_words.specs.Refusals.{◌>>=◌, first_met}
+use Rattle.pef_loader.specs.declared.header.LoaderHeader.{LoaderHeader}
+use Rattle.pef_loader.specs.declared.library.LibraryEntry.{LibraryEntry}
+use Rattle.pef_loader.specs.declared.fault.LoaderFault.{LoaderFault}
+use Rattle.pef_loader.specs.declared.fault.LoaderFault.TheVariants.{BadTableOffset, BadName, BadLibraryRange}
+
+-- library i; none where it passes the end
+unfoldable pub library_at : List ℕ → ℕ → Option LibraryEntry
+library_at bytes i = do
+  name ← number_at 4 bytes (56 + 24 * i)
+  old_imp ← number_at 4 bytes (56 + 24 * i + 4)
+  current ← number_at 4 bytes (56 + 24 * i + 8)
+  count ← number_at 4 bytes (56 + 24 * i + 12)
+  first ← number_at 4 bytes (56 + 24 * i + 16)
+  options ← number_at 1 bytes (56 + 24 * i + 20)
+  Some (record { name_offset = name; old_imp = old_imp; current = current; count = count; first = first; options = options })
+
+-- the tests of a library, in order
+unfoldable pub library_tests : List ℕ → LoaderHeader → LibraryEntry → List (Bool × LoaderFault)
+library_tests bytes h e = (is_none (name_at bytes (h.strings_offset + e.name_offset)), BadName)
+    ∷ (nat_lt h.import_count (e.first + e.count), BadLibraryRange)
+    ∷ []
+
+-- the refusal of library i
+abbrev pub library_refusal : List ℕ → LoaderHeader → ℕ → Option LoaderFault
+library_refusal bytes h i = option_map_or (λ e. first_met (library_tests bytes h e)) (library_at bytes i) (Some BadTableOffset)
+
+-- import j is one of library i's
+abbrev pub owns : List ℕ → ℕ → ℕ → Bool
+owns bytes j i = option_map_or (λ e. nat_le e.first j && nat_lt j (e.first + e.count)) (library_at bytes i) false
+
+-- a library with its name
+pub record Library : Type 0 where
+  pub name : List ℕ
+  pub current : ℕ
+  pub old_imp : ℕ
+  pub count : ℕ
+  pub first : ℕ
+  pub options : ℕ
+
+-- library i with its name
+unfoldable pub library_in : List ℕ → LoaderHeader → ℕ → Option Library
+library_in bytes h i = if nat_lt i h.library_count then (do
+  e ← library_at bytes i
+  name ← name_at bytes (h.strings_offset + e.name_offset)
+  Some (record { name = name; current = e.current; old_imp = e.old_imp; count = e.count; first = e.first; options = e.options })) else None

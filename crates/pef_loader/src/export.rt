@@ -1,0 +1,100 @@
+ghost use Rattle.std.specs.Prelude.{◌≡◌, drop, IsTrue};
+ghost use Rattle.std.specs.Result.{result_err};
+ghost use Rattle.pef_words.specs.Refusals.{first_met};
+ghost use Rattle.pef_hash.specs.Exports.{ExportTable};
+ghost use Rattle.pef_hash.specs.Views.{table_of};
+ghost use Rattle.pef_loader.specs.Export.{export_refusal, export_table, export_tests, has_exports, has_section};
+
+use crate::fault::LoaderFault;
+use crate::header::LoaderHeader;
+use pef_hash::Exports;
+use pef_words::Cut;
+
+/// The sections of an absolute export and of one that is an import.
+const ABSOLUTE: i32 = -2;
+const REEXPORTED: i32 = -3;
+
+/// The export table has at most two to this power of slots.
+const GREATEST_POWER: u32 = 30;
+
+/// The sizes of a slot, and of an export with its key.
+const SLOT_SIZE: usize = 4;
+const EXPORT_AND_KEY_SIZE: usize = 14;
+
+/// An exported symbol with its name.
+#[derive(Clone, Copy, Debug)]
+pub struct ExportView<'a> {
+    pub name: &'a [u8],
+    /// The low four bits of the class byte: 0 code, 1 data, 2 transition vector, 3 TOC, 4 glue.
+    pub class: u8,
+    /// The section that the value is an offset in, or -2 for an absolute value, or -3 for an import
+    /// whose index is the value.
+    pub section: i32,
+    pub value: u32,
+}
+
+/// The bytes from an offset on, none where it passes the end.
+pub(crate) fn bytes_from<'a>(cut: Cut<'a>, offset: u32) -> &'a [u8]
+    ensures { result.now ≡ drop offset cut.entry.bytes.now }
+{
+    let at = cut.len().min(offset as usize);
+    let (_, rest) = cut.bytes().split_at(at);
+    rest
+}
+
+/// Whether there are no exports or their whole table is there.
+pub(crate) fn has_exports(cut: Cut<'_>, header: LoaderHeader) -> bool
+    ensures { result ≡ has_exports cut.entry.bytes.now header }
+{
+    if header.export_count == 0 {
+        return true;
+    }
+    if header.export_power > GREATEST_POWER {
+        return false;
+    }
+    let size = (SLOT_SIZE << header.export_power) + EXPORT_AND_KEY_SIZE * header.export_count as usize;
+    size <= bytes_from(cut, header.export_hash_offset).len()
+}
+
+/// The view of the exports.
+pub(crate) fn exports<'a>(cut: Cut<'a>, header: LoaderHeader) -> Exports<'a>
+    requires { IsTrue (has_exports cut.bytes.now header) }
+    ensures { table_of result ≡ export_table cut.entry.bytes.now header }
+{
+    let table = bytes_from(cut, header.export_hash_offset);
+    let strings = bytes_from(cut, header.strings_offset);
+    Exports::new(header.export_power, header.export_count, table, strings)
+}
+
+/// The first rule that export `i` breaks.
+#[tactic(auto, unfolding(crate::specs::Export::export_tests))]
+pub(crate) fn test_export(
+    cut: Cut<'_>,
+    header: LoaderHeader,
+    sections: u16,
+    i: usize,
+) -> Result<(), LoaderFault>
+    requires { IsTrue (has_exports cut.bytes.now header) }
+    ensures { result_err result ≡ export_refusal cut.entry.bytes.now header sections i }
+{
+    let exports = exports(cut, header);
+    let export = exports.entry(i).ok_or(LoaderFault::BadExportTable)?;
+    if header.strings_offset as usize > cut.len() || exports.name(i).is_none() {
+        return Err(LoaderFault::BadName);
+    }
+    if !has_section(export.section, export.value, header, sections) {
+        return Err(LoaderFault::BadExportSection);
+    }
+    Ok(())
+}
+
+/// Whether an export is in an instantiated section, or is absolute, or is one of the imports.
+fn has_section(section: i32, value: u32, header: LoaderHeader, sections: u16) -> bool
+    ensures { result ≡ has_section header sections value section }
+{
+    match section {
+        ABSOLUTE => true,
+        REEXPORTED => value < header.import_count,
+        _ => section >= 0 && section < i32::from(sections),
+    }
+}

@@ -1,0 +1,76 @@
+ghost use Rattle.std.specs.Prelude.{◌≡◌, ◌<◌, ◌^◌};
+ghost use Rattle.std.specs.Result.{result_err};
+ghost use Rattle.pef_words.specs.Refusals.{first_among, first_met};
+ghost use Rattle.pef_loader.specs.Import.{import_at, import_refusal, import_tests, owner_at, owner_of};
+
+use crate::fault::LoaderFault;
+use crate::header::{IMPORT_SIZE, LoaderHeader};
+use crate::library::owns;
+use pef_words::Cut;
+
+/// Where the class byte stands above the name offset, and its bit of a weak import.
+const CLASS_SHIFT: u32 = 24;
+const WEAK_SHIFT: u32 = 31;
+
+/// An imported symbol, field by field (PEFImportedSymbol).
+#[derive(Clone, Copy, Debug, PartialEq, Eq)]
+pub(crate) struct ImportEntry {
+    pub class: u8,
+    pub weak: bool,
+    pub name_offset: u32,
+}
+
+/// An imported symbol with its name and its library.
+#[derive(Clone, Copy, Debug)]
+pub struct ImportView<'a> {
+    pub name: &'a [u8],
+    /// The low four bits of the class byte: 0 code, 1 data, 2 transition vector, 3 TOC, 4 glue.
+    pub class: u8,
+    /// The symbol may be missing.
+    pub weak: bool,
+    /// The first library whose imports it is among.
+    pub library: usize,
+}
+
+/// Import `j`, or `None` where it passes the end.
+#[tactic(auto, unfolding(crate::specs::Import::import_at))]
+pub(crate) fn read_import(cut: Cut<'_>, header: LoaderHeader, j: usize) -> Option<ImportEntry>
+    requires { j < 2 ^ 32 }
+    ensures { result ≡ import_at cut.entry.bytes.now header j }
+{
+    let word = cut.u32_at(header.imports() + IMPORT_SIZE * j)?;
+    Some(ImportEntry {
+        class: (word >> CLASS_SHIFT) as u8 % 16,
+        weak: word >> WEAK_SHIFT == 1,
+        name_offset: word % (1 << CLASS_SHIFT),
+    })
+}
+
+/// The first rule that import `j` breaks.
+#[tactic(auto, unfolding(crate::specs::Import::import_tests))]
+pub(crate) fn test_import(cut: Cut<'_>, header: LoaderHeader, j: usize) -> Result<(), LoaderFault>
+    requires { j < 2 ^ 32 }
+    ensures { result_err result ≡ import_refusal cut.entry.bytes.now header j }
+{
+    let import = read_import(cut, header, j).ok_or(LoaderFault::BadTableOffset)?;
+    let name = header.strings_offset as usize + import.name_offset as usize;
+    if cut.name_at(name).is_none() {
+        return Err(LoaderFault::BadName);
+    }
+    if find_owner(cut, header, j).is_none() {
+        return Err(LoaderFault::OrphanImport);
+    }
+    Ok(())
+}
+
+/// The first library whose imports have import `j`.
+pub(crate) fn find_owner(cut: Cut<'_>, header: LoaderHeader, j: usize) -> Option<usize>
+    ensures { result ≡ owner_of cut.entry.bytes.now header j }
+{
+    for i in 0..header.library_count as usize {
+        if owns(cut, i, j) {
+            return Some(i);
+        }
+    }
+    None
+}

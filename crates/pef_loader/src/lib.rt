@@ -1,0 +1,21 @@
+//! The tables of a container's loader section, seen in place, or the first rule that they break.
+//!
+//! The format is that of Mac OS Runtime Architectures, "PEF Structure", and of PEFBinaryFormat.h.
+//! [`Loader::read`] judges the section once. The views that it gives are slices of it, so nothing is
+//! copied and nothing is allocated.
+#![tactic(auto)]
+
+mod export;
+mod fault;
+mod header;
+mod import;
+mod library;
+mod tables;
+mod reloc;
+
+pub use export::ExportView;
+pub use fault::LoaderFault;
+pub use header::LoaderHeader;
+pub use import::ImportView;
+pub use library::LibraryView;
+pub use tables::Loader;

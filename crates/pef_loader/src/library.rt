@@ -1,0 +1,91 @@
+ghost use Rattle.std.specs.Prelude.{◌≡◌, ◌+◌, ◌^◌, ◌<◌};
+ghost use Rattle.std.specs.Result.{result_err};
+ghost use Rattle.pef_words.specs.Refusals.{first_met};
+ghost use Rattle.pef_loader.specs.Library.{library_at, library_refusal, library_tests, owns};
+
+use crate::fault::LoaderFault;
+use crate::header::{HEADER_SIZE, LIBRARY_SIZE, LoaderHeader};
+use pef_words::Cut;
+
+/// The offsets of the fields.
+const NAME_OFFSET: usize = 0;
+const OLD_IMPLEMENTATION: usize = 4;
+const CURRENT: usize = 8;
+const COUNT: usize = 12;
+const FIRST: usize = 16;
+const OPTIONS: usize = 20;
+
+/// An imported library, field by field (PEFImportedLibrary).
+#[derive(Clone, Copy, Debug, PartialEq, Eq)]
+pub(crate) struct LibraryEntry {
+    pub name_offset: u32,
+    pub old_imp: u32,
+    pub current: u32,
+    pub count: u32,
+    pub first: u32,
+    pub options: u8,
+}
+
+/// An imported library with its name.
+#[derive(Clone, Copy, Debug)]
+pub struct LibraryView<'a> {
+    pub name: &'a [u8],
+    /// The version of the library's definition that the fragment was linked with.
+    pub current: u32,
+    /// The oldest version of an implementation that the fragment takes.
+    pub old_imp: u32,
+    /// How many of the imports are the library's.
+    pub count: u32,
+    /// The first of them.
+    pub first: u32,
+    /// 0x80: initialize the library before the fragment; 0x40: the library may be missing.
+    pub options: u8,
+}
+
+/// Library `i`, or `None` where it passes the end.
+#[tactic(auto, unfolding(crate::specs::Library::library_at))]
+pub(crate) fn read_library(cut: Cut<'_>, i: usize) -> Option<LibraryEntry>
+    requires { i < 2 ^ 32 }
+    ensures { result ≡ library_at cut.entry.bytes.now i }
+{
+    let at = HEADER_SIZE + LIBRARY_SIZE * i;
+    Some(LibraryEntry {
+        name_offset: cut.u32_at(at + NAME_OFFSET)?,
+        old_imp: cut.u32_at(at + OLD_IMPLEMENTATION)?,
+        current: cut.u32_at(at + CURRENT)?,
+        count: cut.u32_at(at + COUNT)?,
+        first: cut.u32_at(at + FIRST)?,
+        options: cut.u8_at(at + OPTIONS)?,
+    })
+}
+
+/// The first rule that library `i` breaks.
+#[tactic(auto, unfolding(crate::specs::Library::library_tests))]
+pub(crate) fn test_library(cut: Cut<'_>, header: LoaderHeader, i: usize) -> Result<(), LoaderFault>
+    requires { i < 2 ^ 32 }
+    ensures { result_err result ≡ library_refusal cut.entry.bytes.now header i }
+{
+    let library = read_library(cut, i).ok_or(LoaderFault::BadTableOffset)?;
+    let name = header.strings_offset as usize + library.name_offset as usize;
+    if cut.name_at(name).is_none() {
+        return Err(LoaderFault::BadName);
+    }
+    if u64::from(library.first) + u64::from(library.count) > u64::from(header.import_count) {
+        return Err(LoaderFault::BadLibraryRange);
+    }
+    Ok(())
+}
+
+/// Whether import `j` is one of library `i`'s.
+pub(crate) fn owns(cut: Cut<'_>, i: usize, j: usize) -> bool
+    requires library { i < 2 ^ 32 }
+    ensures { result ≡ owns cut.entry.bytes.now j i }
+{
+    match read_library(cut, i) {
+        Some(library) => {
+            let first = library.first as usize;
+            first <= j && j < first + library.count as usize
+        }
+        None => false,
+    }
+}

@@ -1,0 +1,73 @@
+ghost use Rattle.std.specs.Prelude.{◌≡◌, ◌+◌, ◌*◌, ◌<◌, ◌≤◌, ◌^◌, length};
+ghost use Rattle.std.specs.Result.{result_err};
+ghost use Rattle.std.specs.Option.{option_copied};
+ghost use Rattle.pef_words.specs.Refusals.{first_among, first_met};
+ghost use Rattle.pef_loader.specs.Reloc.{instructions_of, reloc_at, reloc_refusal, reloc_tests};
+
+use crate::fault::LoaderFault;
+use crate::header::{LoaderHeader, RELOC_SIZE};
+use pef_words::Cut;
+
+/// The offsets of the fields.
+const SECTION_INDEX: usize = 0;
+const COUNT: usize = 4;
+const FIRST: usize = 8;
+
+/// The size of a relocation halfword.
+const HALFWORD_SIZE: usize = 2;
+
+/// A relocation header, field by field (PEFLoaderRelocationHeader).
+#[derive(Clone, Copy, Debug, PartialEq, Eq)]
+pub(crate) struct RelocEntry {
+    pub section: u16,
+    /// How many halfwords of instructions there are.
+    pub count: u32,
+    /// Where they begin, counted in bytes from the first of all instructions.
+    pub first: u32,
+}
+
+/// Relocation header `k`, or `None` where it passes the end.
+#[tactic(auto, unfolding(crate::specs::Reloc::reloc_at))]
+pub(crate) fn read_reloc(cut: Cut<'_>, header: LoaderHeader, k: usize) -> Option<RelocEntry>
+    requires { k < 2 ^ 32 }
+    ensures { result ≡ reloc_at cut.entry.bytes.now header k }
+{
+    let at = header.relocs() + RELOC_SIZE * k;
+    Some(RelocEntry {
+        section: cut.u16_at(at + SECTION_INDEX)?,
+        count: cut.u32_at(at + COUNT)?,
+        first: cut.u32_at(at + FIRST)?,
+    })
+}
+
+/// The first rule that relocation header `k` breaks.
+#[tactic(auto, unfolding(crate::specs::Reloc::reloc_tests))]
+pub(crate) fn test_reloc(
+    cut: Cut<'_>,
+    header: LoaderHeader,
+    sections: u16,
+    k: usize,
+) -> Result<(), LoaderFault>
+    requires { k < 2 ^ 32 }
+    ensures { result_err result ≡ reloc_refusal cut.entry.bytes.now header sections k }
+{
+    let reloc = read_reloc(cut, header, k).ok_or(LoaderFault::BadTableOffset)?;
+    if reloc.section >= sections {
+        return Err(LoaderFault::BadRelocSection);
+    }
+    let from = header.reloc_instr_offset as usize + reloc.first as usize;
+    if from + HALFWORD_SIZE * reloc.count as usize > cut.len() {
+        return Err(LoaderFault::RelocOutside);
+    }
+    Ok(())
+}
+
+/// The instructions of a relocation header, or `None` where they pass the end.
+#[tactic(auto, unfolding(crate::specs::Reloc::instructions_of))]
+pub(crate) fn instructions<'a>(cut: Cut<'a>, header: LoaderHeader, reloc: RelocEntry) -> Option<&'a [u8]>
+    ensures { option_copied result ≡ instructions_of cut.entry.bytes.now header reloc }
+{
+    let from = header.reloc_instr_offset as usize + reloc.first as usize;
+    let instructions = cut.part(from, HALFWORD_SIZE * reloc.count as usize)?;
+    Some(instructions.bytes())
+}

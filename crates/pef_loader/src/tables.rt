@@ -1,0 +1,273 @@
+ghost use Rattle.std.specs.Prelude.{◌≡◌, ◌+◌, ◌<◌, ◌≤◌, ◌↔◌, Ok, IfSome, IsSome, IsTrue, option_map};
+ghost use Rattle.std.specs.Result.{result_err};
+ghost use Rattle.pef_words.specs.Refusals.{first_among, result_map};
+ghost use Rattle.pef_loader.specs.Export.{export_refusal, has_exports, has_section};
+ghost use Rattle.pef_loader.specs.Import.{import_refusal};
+ghost use Rattle.pef_loader.specs.Library.{library_refusal};
+ghost use Rattle.pef_loader.specs.Loader.{export_of, fault_if, has_entries, import_of, init_of, library_of, loaded_of, main_of, named_of, reloc_of, term_of};
+ghost use Rattle.pef_loader.specs.Reloc.{reloc_refusal};
+
+use crate::export::{ExportView, exports, has_exports, test_export};
+use crate::fault::LoaderFault;
+use crate::header::{LoaderHeader, entry, is_entry, read_header};
+use crate::import::{ImportView, find_owner, read_import, test_import};
+use crate::library::{LibraryView, read_library, test_library};
+use crate::reloc::{instructions, read_reloc, test_reloc};
+use pef_views::Container;
+use pef_words::Cut;
+
+/// A loader section, seen in place.
+///
+/// A value of this type is the proof that its bytes broke no rule. What it gives are slices of the
+/// bytes that it was read from, which live as long as those.
+#[derive(Clone, Copy, Debug)]
+pub struct Loader<'a> {
+    cut: Cut<'a>,
+    header: LoaderHeader,
+    sections: u16,
+    pub ghost accepted: { loaded_of sections cut.bytes.now ≡ Ok (record {
+      sections = sections;
+      bytes = cut.bytes.now;
+      header = header;
+    }) },
+}
+
+impl<'a> Loader<'a> {
+    ghost use Rattle.pef_views.specs.Views.{contained};
+    ghost use Rattle.pef_loader.specs.Views.{export_seen, import_seen, library_seen, loaded, reloc_seen};
+
+    /// The loader section of a container.
+    ///
+    /// # Errors
+    ///
+    /// The first rule that it breaks: those of the header, of the length of the tables, of each
+    /// library, of each import, of the entries, of each relocation header, of the export table's
+    /// length and of each export.
+    #[tactic(auto, unfolding(crate::specs::Loader::loaded_of))]
+    pub fn read(container: &Container<'a>) -> Result<Loader<'a>, LoaderFault>
+        ensures { result_map loaded result
+            ≡ loaded_of (contained container.now).header.instantiated_section_count (contained container.now).loader }
+    {
+        let cut = Cut::new(container.loader());
+        let sections = container.header().instantiated_section_count;
+        let header = read_header(cut).ok_or(LoaderFault::LoaderShort)?;
+        if cut.len() < header.end() {
+            return Err(LoaderFault::BadTableOffset);
+        }
+        test_libraries(cut, header)?;
+        test_imports(cut, header)?;
+        if !has_entries(header, sections) {
+            return Err(LoaderFault::BadEntry);
+        }
+        test_relocs(cut, header, sections)?;
+        if !has_exports(cut, header) {
+            return Err(LoaderFault::BadExportTable);
+        }
+        test_exports(cut, header, sections)?;
+        Ok(Loader {
+            cut,
+            header,
+            sections,
+        })
+    }
+
+    /// The loader header.
+    pub fn header(&self) -> LoaderHeader
+        ensures { result ≡ (loaded self.now).header }
+    {
+        self.header
+    }
+
+    /// How many imported libraries there are.
+    pub fn libraries(&self) -> u32
+        ensures { result ≡ (loaded self.now).header.library_count }
+    {
+        self.header.library_count
+    }
+
+    /// How many imported symbols there are.
+    pub fn imports(&self) -> u32
+        ensures { result ≡ (loaded self.now).header.import_count }
+    {
+        self.header.import_count
+    }
+
+    /// How many relocation headers there are.
+    pub fn relocs(&self) -> u32
+        ensures { result ≡ (loaded self.now).header.reloc_count }
+    {
+        self.header.reloc_count
+    }
+
+    /// How many exported symbols there are.
+    pub fn exports(&self) -> u32
+        ensures { result ≡ (loaded self.now).header.export_count }
+    {
+        self.header.export_count
+    }
+
+    /// Library `i`, or `None` past the last one.
+    #[tactic(auto, unfolding(crate::specs::Loader::library_of, crate::specs::Library::library_in))]
+    pub fn library(&self, i: usize) -> Option<LibraryView<'a>>
+        ensures value { option_map library_seen result ≡ library_of (loaded self.now) i }
+        ensures there { IsSome result ↔ (i < (loaded self.now).header.library_count) }
+        ensures range { IfSome result (λ v. v.first + v.count ≤ (loaded self.now).header.import_count) }
+    {
+        if i >= self.header.library_count as usize {
+            return None;
+        }
+        let library = read_library(self.cut, i)?;
+        let name = self.header.strings_offset as usize + library.name_offset as usize;
+        Some(LibraryView {
+            name: self.cut.name_at(name)?,
+            current: library.current,
+            old_imp: library.old_imp,
+            count: library.count,
+            first: library.first,
+            options: library.options,
+        })
+    }
+
+    /// Import `j`, or `None` past the last one.
+    #[tactic(auto, unfolding(crate::specs::Loader::import_of, crate::specs::Import::import_in))]
+    pub fn import(&self, j: usize) -> Option<ImportView<'a>>
+        ensures value { option_map import_seen result ≡ import_of (loaded self.now) j }
+        ensures there { IsSome result ↔ (j < (loaded self.now).header.import_count) }
+        ensures library { IfSome result (λ v. v.library < (loaded self.now).header.library_count) }
+    {
+        if j >= self.header.import_count as usize {
+            return None;
+        }
+        let import = read_import(self.cut, self.header, j)?;
+        let name = self.header.strings_offset as usize + import.name_offset as usize;
+        Some(ImportView {
+            name: self.cut.name_at(name)?,
+            class: import.class,
+            weak: import.weak,
+            library: find_owner(self.cut, self.header, j)?,
+        })
+    }
+
+    /// The section of relocation header `k` and the bytes of its instructions, or `None` past the
+    /// last one.
+    #[tactic(auto, unfolding(crate::specs::Loader::reloc_of, crate::specs::Reloc::reloc_in))]
+    pub fn reloc(&self, k: usize) -> Option<(u32, &'a [u8])>
+        ensures value { option_map reloc_seen result ≡ reloc_of (loaded self.now) k }
+        ensures there { IsSome result ↔ (k < (loaded self.now).header.reloc_count) }
+        ensures section { IfSome result (λ r. r.0 < (loaded self.now).sections) }
+    {
+        if k >= self.header.reloc_count as usize {
+            return None;
+        }
+        let reloc = read_reloc(self.cut, self.header, k)?;
+        let instructions = instructions(self.cut, self.header, reloc)?;
+        Some((u32::from(reloc.section), instructions))
+    }
+
+    /// Export `i`, or `None` past the last one.
+    #[tactic(auto, unfolding(crate::specs::Loader::export_of, crate::specs::Export::export_in))]
+    pub fn export(&self, i: usize) -> Option<ExportView<'a>>
+        ensures value { option_map export_seen result ≡ export_of (loaded self.now) i }
+        ensures there { IsSome result ↔ (i < (loaded self.now).header.export_count) }
+        ensures section { IfSome result (λ v. IsTrue (has_section (loaded self.now).header (loaded self.now).sections v.value v.section)) }
+    {
+        if i >= self.header.export_count as usize {
+            return None;
+        }
+        let exports = exports(self.cut, self.header);
+        let export = exports.entry(i)?;
+        let name = exports.name(i)?;
+        Some(ExportView {
+            name,
+            class: export.class,
+            section: export.section,
+            value: export.value,
+        })
+    }
+
+    /// The first export with this name. Hash words and slots have no say.
+    #[tactic(auto, unfolding(crate::specs::Loader::named_of))]
+    pub fn export_named(&self, name: &[u8]) -> Option<usize>
+        ensures { result ≡ named_of (loaded self.now) name.now }
+    {
+        exports(self.cut, self.header).find(name)
+    }
+
+    /// The section and offset of the main entry, where there is one.
+    pub fn main(&self) -> Option<(u32, u32)>
+        ensures value { result ≡ main_of (loaded self.now) }
+        ensures section { IfSome result (λ e. e.0 < (loaded self.now).sections) }
+    {
+        entry(self.header.main_section, self.header.main_offset)
+    }
+
+    /// The section and offset of the initialization routine, where there is one.
+    pub fn init(&self) -> Option<(u32, u32)>
+        ensures value { result ≡ init_of (loaded self.now) }
+        ensures section { IfSome result (λ e. e.0 < (loaded self.now).sections) }
+    {
+        entry(self.header.init_section, self.header.init_offset)
+    }
+
+    /// The section and offset of the termination routine, where there is one.
+    pub fn term(&self) -> Option<(u32, u32)>
+        ensures value { result ≡ term_of (loaded self.now) }
+        ensures section { IfSome result (λ e. e.0 < (loaded self.now).sections) }
+    {
+        entry(self.header.term_section, self.header.term_offset)
+    }
+}
+
+/// The first refusal of a library, library by library.
+fn test_libraries(cut: Cut<'_>, header: LoaderHeader) -> Result<(), LoaderFault>
+    ensures { result_err result
+        ≡ first_among (library_refusal cut.entry.bytes.now header) 0 header.library_count }
+{
+    for i in 0..header.library_count as usize {
+        test_library(cut, header, i)?;
+    }
+    Ok(())
+}
+
+/// The first refusal of an import, import by import.
+fn test_imports(cut: Cut<'_>, header: LoaderHeader) -> Result<(), LoaderFault>
+    ensures { result_err result
+        ≡ first_among (import_refusal cut.entry.bytes.now header) 0 header.import_count }
+{
+    for j in 0..header.import_count as usize {
+        test_import(cut, header, j)?;
+    }
+    Ok(())
+}
+
+/// Whether each entry isn't there or is in an instantiated section.
+fn has_entries(header: LoaderHeader, sections: u16) -> bool
+    ensures { result ≡ has_entries sections header }
+{
+    is_entry(header.main_section, sections)
+        && is_entry(header.init_section, sections)
+        && is_entry(header.term_section, sections)
+}
+
+/// The first refusal of a relocation header, header by header.
+fn test_relocs(cut: Cut<'_>, header: LoaderHeader, sections: u16) -> Result<(), LoaderFault>
+    ensures { result_err result
+        ≡ first_among (reloc_refusal cut.entry.bytes.now header sections) 0 header.reloc_count }
+{
+    for k in 0..header.reloc_count as usize {
+        test_reloc(cut, header, sections, k)?;
+    }
+    Ok(())
+}
+
+/// The first refusal of an export, export by export.
+fn test_exports(cut: Cut<'_>, header: LoaderHeader, sections: u16) -> Result<(), LoaderFault>
+    requires { IsTrue (has_exports cut.bytes.now header) }
+    ensures { result_err result
+        ≡ first_among (export_refusal cut.entry.bytes.now header sections) 0 header.export_count }
+{
+    for i in 0..header.export_count as usize {
+        test_export(cut, header, sections, i)?;
+    }
+    Ok(())
+}
