@@ -19,3 +19,6 @@ pub use header::LoaderHeader;
 pub use import::ImportView;
 pub use library::LibraryView;
 pub use tables::Loader;
+
+#[cfg(test)]
+mod tests;
