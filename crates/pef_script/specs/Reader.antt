@@ -1,0 +1,23 @@
+-- What the code holds, seen as what the grammar speaks of, and what its answers say of the grammar's.
+use Rattle.std.specs.Prelude.{◌≡◌, ℕ, List, [], Option, None, Result, Ok, Err}
+use Rattle.pef_script.specs.declared.fault.ScriptFault.{ScriptFault}
+use Rattle.pef_script.specs.declared.fault.ScriptFault.TheVariants as fault
+use Rattle.pef_script.specs.declared.parts.Parts.{Parts}
+use Rattle.pef_script.specs.declared.reader.Reader.{Reader}
+use Rattle.pef_script.specs.Script.{DescribedScript}
+use Rattle.pef_script.specs.Grammar.{State, Refusal, no_versions}
+
+abbrev pub script_in : Parts → DescribedScript
+script_in p = record { versions = no_versions; libraries = []; imports = []; sections = p.sections.items; exports = []; main = None; init = None; term = None }
+
+abbrev pub state_of : Reader → State
+state_of r = record { script = script_in r.parts; reached = r.reached; section = r.section }
+
+-- what reading a text answered is what it was to answer, where it had memory
+abbrev pub Fails : {A : Type 0} → ScriptFault → Result A Refusal → Type 0
+Fails (fault.Refused what line) expected = expected ≡ Err (record { fault = what; line = line })
+Fails fault.OutOfMemory expected = Unit {0}
+
+abbrev pub Reads : {A : Type 0} → (A → DescribedScript) → Result A ScriptFault → Result DescribedScript Refusal → Type 0
+Reads seen (Ok x) expected = expected ≡ Ok (seen x)
+Reads seen (Err failed) expected = Fails failed expected

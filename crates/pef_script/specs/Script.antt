@@ -1,0 +1,50 @@
+-- What a script describes: the parts of a container, by their names and numbers.
+use Rattle.std.specs.Prelude.{ℕ, Bool, List, Option}
+use Rattle.pef_reloc.specs.declared.fixup.Fixup.{Fixup}
+use Rattle.pef_script.specs.declared.parts.Versions.{Versions}
+
+-- a section's line: kind and share by their numbers in the container, the alignment as a power of two
+pub record DescribedHeader : Type 0 where
+  pub name : List ℕ
+  pub kind : ℕ
+  pub share : ℕ
+  pub align : ℕ
+  pub total : ℕ
+
+-- a section: the bytes that it begins with, and its fixups in address order
+pub record DescribedSection : Type 0 where
+  pub header : DescribedHeader
+  pub image : List ℕ
+  pub fixups : List Fixup
+
+-- a library to import from; the options are 80 (hex) for one that initializes before, and 40 for a weak one
+pub record DescribedLibrary : Type 0 where
+  pub name : List ℕ
+  pub current : ℕ
+  pub old_imp : ℕ
+  pub options : ℕ
+
+-- an imported symbol of a library, which is named by its number
+pub record DescribedImport : Type 0 where
+  pub name : List ℕ
+  pub class : ℕ
+  pub weak : Bool
+  pub library : ℕ
+
+-- an exported symbol: an offset in a section, which is named by its number
+pub record DescribedExport : Type 0 where
+  pub name : List ℕ
+  pub class : ℕ
+  pub section : ℕ
+  pub value : ℕ
+
+-- a whole script; main, init and term are a section, by its number, and an offset in it
+pub record DescribedScript : Type 0 where
+  pub versions : Versions
+  pub libraries : List DescribedLibrary
+  pub imports : List DescribedImport
+  pub sections : List DescribedSection
+  pub exports : List DescribedExport
+  pub main : Option (ℕ × ℕ)
+  pub init : Option (ℕ × ℕ)
+  pub term : Option (ℕ × ℕ)

@@ -1,0 +1,131 @@
+ghost use Rattle.std.specs.Prelude.{◌≡◌};
+ghost use Rattle.pef_script.specs.Faults.{number_of, script_number_of, stopped_at};
+
+use std::alloc::{AllocError, AllocFailed};
+use thiserror::Error;
+
+/// What is wrong with a line of a script.
+#[derive(Clone, Copy, Debug, PartialEq, Eq, Error)]
+pub enum LineFault {
+    /// No line of the grammar has this shape: its words, their bytes, a name or hex digits are wrong.
+    #[error("BadLine")]
+    BadLine,
+    /// A number is spelled in another way, or is too large for its place.
+    #[error("BadNumber")]
+    BadNumber,
+    /// A section or an import has not been declared.
+    #[error("UnknownName")]
+    UnknownName,
+    /// A name has been given to another one of its kind.
+    #[error("RepeatedName")]
+    RepeatedName,
+    /// The line comes after one that it has to come before.
+    #[error("OutOfOrder")]
+    OutOfOrder,
+    /// A fixup's word overlaps the one before.
+    #[error("Overlap")]
+    Overlap,
+    /// An image, a fixup's word or an offset passes the end of its section.
+    #[error("OutsideSection")]
+    OutsideSection,
+    /// There are as many of these as a script may have.
+    #[error("TooMany")]
+    TooMany,
+    /// A word is none of those that may stand in its place.
+    #[error("BadKind")]
+    BadKind,
+}
+
+impl LineFault {
+    /// The number of the refusal.
+    pub fn number(&self) -> u32
+        ensures { result ≡ number_of self.now }
+    {
+        match self {
+            LineFault::BadLine => 41,
+            LineFault::BadNumber => 42,
+            LineFault::UnknownName => 43,
+            LineFault::RepeatedName => 44,
+            LineFault::OutOfOrder => 45,
+            LineFault::Overlap => 46,
+            LineFault::OutsideSection => 47,
+            LineFault::TooMany => 48,
+            LineFault::BadKind => 49,
+        }
+    }
+}
+
+/// Why a text is no script.
+#[derive(Clone, Copy, Debug, PartialEq, Eq, Error)]
+pub enum ScriptFault {
+    /// The first fault of the first line that has one; lines count from 1.
+    #[error("{fault} line {line}")]
+    Refused { fault: LineFault, line: usize },
+    /// A growth of memory was refused.
+    #[error("OutOfMemory")]
+    OutOfMemory,
+}
+
+impl ScriptFault {
+    /// The number of the refusal.
+    pub fn number(&self) -> u32
+        ensures { result ≡ script_number_of self.now }
+    {
+        match self {
+            ScriptFault::Refused { fault, .. } => fault.number(),
+            ScriptFault::OutOfMemory => 99,
+        }
+    }
+}
+
+/// Why a line was not taken.
+#[derive(Clone, Copy)]
+pub enum Stop {
+    Refused(LineFault),
+    OutOfMemory,
+}
+
+impl Stop {
+    /// The same, of the line with a number.
+    pub fn at(self, line: usize) -> ScriptFault
+        ensures { result ≡ stopped_at line self }
+    {
+        match self {
+            Stop::Refused(fault) => ScriptFault::Refused { fault, line },
+            Stop::OutOfMemory => ScriptFault::OutOfMemory,
+        }
+    }
+}
+
+impl From<LineFault> for Stop {
+    ghost use Rattle.std.specs.Prelude.{◌≡◌};
+    ghost use Rattle.pef_script.specs.declared.fault.Stop.TheVariants.{Refused};
+
+    ghost from_gives = { λ fault e. e ≡ Refused fault };
+
+    fn from(fault: LineFault) -> Stop {
+        Stop::Refused(fault)
+    }
+}
+
+impl From<AllocError> for Stop {
+    ghost use Rattle.std.specs.Prelude.{◌≡◌};
+    ghost use Rattle.pef_script.specs.declared.fault.Stop.TheVariants.{OutOfMemory};
+
+    ghost from_gives = { λ _ e. e ≡ OutOfMemory };
+
+    fn from(_error: AllocError) -> Stop {
+        Stop::OutOfMemory
+    }
+}
+
+impl<T: Drop> From<AllocFailed<T>> for Stop {
+    ghost use Rattle.std.specs.Prelude.{◌≡◌};
+    ghost use Rattle.pef_script.specs.declared.fault.Stop.TheVariants.{OutOfMemory};
+
+    ghost from_gives = { λ _ e. e ≡ OutOfMemory };
+
+    fn from(_error: AllocFailed<T>) -> Stop {
+        Stop::OutOfMemory
+    }
+}

@@ -1,0 +1,15 @@
+//! Link scripts: the lines of a script, read from text into the parts that a container is made of.
+//!
+//! [`Script::read`] takes the text; what it refuses is a [`ScriptFault`] with the number of its line.
+#![tactic(auto)]
+
+mod fault;
+mod limits;
+mod numbers;
+mod pairs;
+mod parts;
+mod reader;
+mod words;
+
+pub use fault::{LineFault, ScriptFault};
+pub use parts::{SectionHeader, Versions};
