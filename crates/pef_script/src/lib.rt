@@ -9,7 +9,9 @@ mod numbers;
 mod pairs;
 mod parts;
 mod reader;
+mod script;
 mod words;
 
 pub use fault::{LineFault, ScriptFault};
 pub use parts::{SectionHeader, Versions};
+pub use script::Script;

@@ -4,9 +4,9 @@ ghost use Rattle.std.specs.Str.{bytes_eq};
 ghost use Rattle.pef_words.specs.Refusals.{first_met};
 ghost use Rattle.pef_script.specs.Grammar.{base_named, bytes_line, bytes_tests, entered, fix_line, fixup_tests, is_section_word, is_skipped, kind_of, line_of, no_lines, section_from, section_line, section_named, section_tests, share_of, word_in};
 ghost use Rattle.pef_script.specs.Reader.{script_in, state_of};
-ghost use Rattle.pef_script.specs.Steps.{Steps};
+ghost use Rattle.pef_script.specs.Steps.{NumberedSteps, Steps};
 
-use crate::LineFault;
+use crate::{LineFault, ScriptFault};
 use crate::fault::Stop;
 use crate::numbers::read_number;
 use crate::limits::{CONTENT_GROUP, MAX_ALIGN, MAX_NUMBER, MAX_SECTIONS, MAX_TOTAL, SECTION_GROUP};
@@ -113,9 +113,19 @@ impl<'a> Reader<'a> {
         parts
     }
 
+    /// Reads the line with a number.
+    pub fn read_numbered(&mut self, line: &'a [u8], number: usize) -> Result<(), ScriptFault>
+        ensures { NumberedSteps result (state_of self.new) number (line_of (state_of self.old) line.entry.now) }
+    {
+        match self.read_line(line) {
+            Ok(()) => Ok(()),
+            Err(stop) => Err(stop.at(number)),
+        }
+    }
+
     /// Reads a line.
     #[tactic(auto, unfolding(crate::specs::Grammar::line_of))]
-    pub fn read_line(&mut self, line: &'a [u8]) -> Result<(), Stop>
+    fn read_line(&mut self, line: &'a [u8]) -> Result<(), Stop>
         ensures { Steps result (state_of self.new) (line_of (state_of self.old) line.entry.now) }
     {
         if is_skipped(line) {
