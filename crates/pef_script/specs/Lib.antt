@@ -4,4 +4,5 @@ pub mod Reader
 pub mod Script
 pub mod Sections
 pub mod Steps
+pub mod WellFormed
 pub mod Words

@@ -1,6 +1,9 @@
 /// How many sections a script can have.
 pub const MAX_SECTIONS: usize = 1;
 
+/// How many imports a script can have.
+pub const MAX_IMPORTS: usize = 65_536;
+
 /// The greatest alignment of a section, as a power of two.
 pub const MAX_ALIGN: u32 = 12;
 

@@ -1,8 +1,10 @@
-ghost use Rattle.std.specs.Prelude.{◌≡◌, length, option_map, slice_get};
+ghost use Rattle.std.specs.Prelude.{◌≡◌, IfSome, length, option_map, slice_get, true};
 ghost use Rattle.std.specs.Option.{option_copied};
 ghost use Rattle.pef_script.specs.Grammar.{script_of};
 ghost use Rattle.pef_script.specs.Reader.{Reads, script_in};
 ghost use Rattle.pef_script.specs.Sections.{header_in};
+ghost use Rattle.pef_script.specs.WellFormed.{ScriptHolds};
+ghost use Rattle.pef_reloc.specs.Fixups.{fixups_fit};
 
 use crate::ScriptFault;
 use crate::parts::{Parts, SectionHeader};
@@ -23,10 +25,13 @@ pub struct Script<'a> {
 impl<'a> Model for Script<'a> {
     ghost use Rattle.pef_script.specs.Reader.{script_in};
     ghost use Rattle.pef_script.specs.Script.{DescribedScript};
+    ghost use Rattle.pef_script.specs.WellFormed.{ScriptHolds};
 
     ghost Value = { DescribedScript };
 
     ghost view = { λ s. script_in s.parts };
+
+    ghost invariant = { λ s. ScriptHolds (script_in s.parts) };
 }
 
 impl<'a> Script<'a> {
@@ -44,7 +49,8 @@ impl<'a> Script<'a> {
 
     /// How many sections there are.
     pub fn sections(&self) -> usize
-        ensures { result ≡ length self.now.sections }
+        ensures count { result ≡ length self.now.sections }
+        ensures holds { ScriptHolds self.now }
     {
         self.parts.sections.len()
     }
@@ -67,7 +73,8 @@ impl<'a> Script<'a> {
 
     /// The fixups of section `k`, in address order.
     pub fn fixups(&self, k: usize) -> Option<&[Fixup]>
-        ensures { option_copied result ≡ option_map (λ section. section.fixups) (slice_get self.now.sections k) }
+        ensures fits { IfSome result (λ fixups. fixups_fit fixups.now ≡ true) }
+        ensures fixups { option_copied result ≡ option_map (λ section. section.fixups) (slice_get self.now.sections k) }
     {
         let section = self.parts.sections.get(k)?;
         Some(section.fixups.as_slice())
