@@ -1,25 +1,25 @@
 -- Every line keeps what is true of the script so far.
-use Rattle.std.proofs.Common.{◌≡◌, ℕ, zero, suc, ◌+◌, ◌*◌, ◌<◌, ◌≤◌, ◌==◌, ◌||◌, not, Bool, true, false, cond, List, [], ◌∷◌, ◌++◌, Option, None, Some, Result, Ok, Err, length, slice_get, take, drop, refl, sym, ap, subst, ◌∙◌, arith, length-append}
-use Rattle.std.specs.Prelude.{codes, slice_index_or, slice_set, nat_lt, nat_le, if◌then◌else◌}
+use Rattle.std.proofs.Common.{◌≡◌, ℕ, zero, suc, ◌+◌, ◌*◌, ◌<◌, ◌≤◌, ◌||◌, not, Bool, true, false, cond, List, [], ◌∷◌, ◌++◌, Option, None, Some, Result, Ok, Err, length, slice_get, refl, ap, subst, arith, length-append}
+use Rattle.std.specs.Prelude.{codes, slice_index_or, slice_set, nat_lt}
 use Rattle.std.specs.List.{AllByRecursion}
 use Rattle.std.specs.Option.{is_some, ok_or}
 use Rattle.std.specs.Str.{bytes_eq}
 use Rattle.std.proofs.lemmas.Bool.{ltb-false, ltb-true, lt-ltb}
 use Rattle.std.proofs.lemmas.List.{length-set}
-use Rattle.pef_words.specs.Refusals.{first_met, unless}
+use Rattle.pef_words.specs.Refusals.{first_met}
 use Rattle.pef_words.proofs.RefusalLemmas.{first_unmet}
 use Rattle.pef_reloc.specs.declared.fixup.Base.{Base}
 use Rattle.pef_reloc.specs.declared.fixup.Base.TheVariants as base
 use Rattle.pef_reloc.specs.declared.fixup.Fixup.{Fixup}
 use Rattle.pef_reloc.specs.declared.fixup.TheConstants.{MAX_FIXUPS}
-use Rattle.pef_reloc.specs.Fixups.{base_fits, fixups_fit, fixups_end}
+use Rattle.pef_reloc.specs.Fixups.{base_fits, fixups_end}
 use Rattle.pef_reloc.proofs.FixupLemmas.{fixups_fit-more, fixups_end-append, no_fixups_fit}
 use Rattle.pef_script.specs.declared.fault.LineFault.{LineFault}
 use Rattle.pef_script.specs.declared.fault.LineFault.TheVariants.{BadLine, BadNumber, UnknownName, RepeatedName, OutOfOrder, Overlap, OutsideSection, TooMany, BadKind}
 use Rattle.pef_script.specs.declared.limits.TheConstants.{MAX_ALIGN, MAX_SECTIONS, MAX_TOTAL, MAX_NUMBER, SECTION_GROUP, CONTENT_GROUP}
-use Rattle.pef_script.specs.Script.{DescribedHeader, DescribedSection, DescribedScript}
+use Rattle.pef_script.specs.Script.{DescribedSection, DescribedScript}
 use Rattle.pef_script.specs.Words.{below, cut_at, image_of, is_word, last_name, last_word, named, next_name, next_word, number_in, number_up_to, word_before}
-use Rattle.pef_script.specs.Grammar.{Refusal, State, after_line, lines_of, no_lines, read_lines, script_of, is_skipped, base_named, bytes_line, bytes_tests, entered, fix_line, fixup_tests, is_section_word, kind_of, line_by_word, line_of, section_at, section_from, section_line, section_named, section_tests, share_of, with_contents, with_fixups, with_image, with_section, no_section}
+use Rattle.pef_script.specs.Grammar.{Refusal, State, after_line, lines_of, no_lines, read_lines, script_of, is_skipped, base_named, bytes_line, bytes_tests, entered, fix_line, fixup_tests, is_section_word, kind_of, line_by_word, line_of, section_at, section_from, section_line, section_named, section_tests, share_of, with_contents, with_fixups, with_image, no_section}
 use Rattle.pef_script.specs.WellFormed.{BaseThere, IsName, ScriptHolds, SectionHolds, is_kind, is_share}
 use Rattle.pef_script.proofs.Leads.{Leads, leads_if, leads_then, leads_unless, led}
 
@@ -138,8 +138,15 @@ still_there m n (base.Import j) there = there
 
 still_holds : (m n : ℕ) (s : DescribedSection) → SectionHolds m n s → SectionHolds (m + 1) n s
 still_holds m n s holds = record {
-  name = holds.name; kind = holds.kind; share = holds.share; align = holds.align; total = holds.total; image = holds.image; fixups = holds.fixups; inside = holds.inside;
-  bases = all-map (λ (f : Fixup). BaseThere m n f.base) (λ (f : Fixup). BaseThere (m + 1) n f.base) s.fixups (λ f. still_there m n f.base) holds.bases
+  name = holds.name;
+  kind = holds.kind;
+  share = holds.share;
+  align = holds.align;
+  total = holds.total;
+  image = holds.image;
+  fixups = holds.fixups;
+  inside = holds.inside;
+  bases = all-map (λ (f : Fixup). BaseThere m n f.base) (λ (f : Fixup). BaseThere (m + 1) n f.base) s.fixups (λ f. still_there m n f.base) holds.bases;
 }
 
 -- what the tests that are not met say
@@ -187,7 +194,7 @@ changed s k section holds under fits =
     record {
       section_count = omega (arith, count, holds.section_count);
       import_count = holds.import_count;
-      sections = rw count (all-set (SectionHolds (length s.script.sections) (length s.script.imports)) s.script.sections k section holds.sections fits)
+      sections = rw count (all-set (SectionHolds (length s.script.sections) (length s.script.imports)) s.script.sections k section holds.sections fits);
     }
 
 -- one more fixup
@@ -196,10 +203,15 @@ with_fixup-holds : (m n : ℕ) (s : DescribedSection) (offset : ℕ) (b : Base) 
 with_fixup-holds m n s offset b few holds room inside after there fits =
     let f : Fixup = record { offset = offset; base = b } in
     record {
-      name = holds.name; kind = holds.kind; share = holds.share; align = holds.align; total = holds.total; image = holds.image;
+      name = holds.name;
+      kind = holds.kind;
+      share = holds.share;
+      align = holds.align;
+      total = holds.total;
+      image = holds.image;
       fixups = fixups_fit-more s.fixups f holds.fixups room after (omega (arith, holds.total, inside)) fits;
       inside = rw (fixups_end-append 0 s.fixups (f ∷ [])) inside;
-      bases = all-append (λ (g : Fixup). BaseThere m n g.base) s.fixups (f ∷ []) holds.bases (there, tt)
+      bases = all-append (λ (g : Fixup). BaseThere m n g.base) s.fixups (f ∷ []) holds.bases (there, tt);
     }
 
 -- a base that is there is within the limits of bases
@@ -233,14 +245,20 @@ module _ (s : State) (holds : ScriptHolds s.script) (line : List ℕ) where
       let section : DescribedSection = record { header = record { name = name.0; kind = kind; share = share; align = align; total = total }; image = []; fixups = [] } in
       let more : length (s.script.sections ++ section ∷ []) ≡ n + 1 = length-append s.script.sections (section ∷ []) in
       let fits : SectionHolds (n + 1) i section = record {
-        name = next_name-is line name name_is; kind = kind_of-is kind_word.0 kind kind_is; share = share_of-is share_word.0 share share_is;
-        align = number_up_to-is MAX_ALIGN align_word.0 align align_is; total = number_up_to-is MAX_TOTAL total_word total total_is;
-        image = omega arith; fixups = no_fixups_fit; inside = omega arith; bases = tt
+        name = next_name-is line name name_is;
+        kind = kind_of-is kind_word.0 kind kind_is;
+        share = share_of-is share_word.0 share share_is;
+        align = number_up_to-is MAX_ALIGN align_word.0 align align_is;
+        total = number_up_to-is MAX_TOTAL total_word total total_is;
+        image = omega arith;
+        fixups = no_fixups_fit;
+        inside = omega arith;
+        bases = tt;
       } in
       record {
         section_count = omega (arith, more, room);
         import_count = holds.import_count;
-        sections = rw more (all-append (SectionHolds (n + 1) i) s.script.sections (section ∷ []) (all-map (SectionHolds n i) (SectionHolds (n + 1) i) s.script.sections (still_holds n i) holds.sections) (fits, tt))
+        sections = rw more (all-append (SectionHolds (n + 1) i) s.script.sections (section ∷ []) (all-map (SectionHolds n i) (SectionHolds (n + 1) i) s.script.sections (still_holds n i) holds.sections) (fits, tt));
       })))))))))))
 
   bytes_line-holds : Leads Next (bytes_line s line)
@@ -256,9 +274,15 @@ module _ (s : State) (holds : ScriptHolds s.script) (line : List ℕ) where
       let was = at_section s k holds under in
       let room = bytes_tests-unmet s k (length bytes) unmet in
       changed s k (with_image (section_at s k) bytes) holds under (record {
-        name = was.name; kind = was.kind; share = was.share; align = was.align; total = was.total;
+        name = was.name;
+        kind = was.kind;
+        share = was.share;
+        align = was.align;
+        total = was.total;
         image = omega (arith, room, length-append (section_at s k).image bytes);
-        fixups = was.fixups; inside = was.inside; bases = was.bases
+        fixups = was.fixups;
+        inside = was.inside;
+        bases = was.bases;
       })))))))
 
   fix_line-holds : Leads Next (fix_line s line)
@@ -281,7 +305,6 @@ module _ (s : State) (holds : ScriptHolds s.script) (line : List ℕ) where
       changed s k (with_fixups (section_at s k) (record { offset = offset; base = target } ∷ [])) holds under
       (with_fixup-holds (length s.script.sections) (length s.script.imports) (section_at s k) offset target holds.section_count was (omega (arith, room.room)) (omega (arith, room.inside)) room.after there
       (base_within (length s.script.sections) (length s.script.imports) target (omega (arith, holds.section_count)) holds.import_count there))))))))))))
-
 
 pub line_of-holds : (s : State) (line : List ℕ) → ScriptHolds s.script → Leads (λ (next : State). ScriptHolds next.script) (line_of s line)
 unfolding line_of

@@ -1,5 +1,5 @@
 -- Bytes that pairs of hex digits spell.
-use Rattle.std.proofs.Common.{◌≡◌, ℕ, zero, suc, ◌+◌, ◌*◌, ◌<◌, ◌≤◌, Bool, true, false, ◌&&◌, List, [], ◌∷◌, ◌++◌, Option, None, Some, length, drop, get_or, option_map, is_some, refl, sym, ap, ◌∙◌, add-one, drop-cons, append_assoc, append-nil, arith}
+use Rattle.std.proofs.Common.{◌≡◌, ℕ, zero, suc, ◌+◌, ◌*◌, ◌<◌, ◌≤◌, Bool, true, false, ◌&&◌, List, [], ◌∷◌, ◌++◌, Option, None, Some, length, drop, get_or, option_map, is_some, refl, ap, ◌∙◌, drop-cons, append_assoc, append-nil, arith}
 use Rattle.std.specs.List.{list_all}
 use Rattle.std.specs.Option.{option_and_then, ok_or}
 use Rattle.pef_words.specs.Refusals.{result_map}

@@ -1,5 +1,5 @@
 -- The numbers of the refusals of a script.
-use Rattle.std.specs.Prelude.{ℕ}
+use Rattle.std.specs.Prelude.{ℕ, Option, None, Some}
 use Rattle.pef_script.specs.declared.fault.LineFault.{LineFault}
 use Rattle.pef_script.specs.declared.fault.LineFault.TheVariants.{BadLine, BadNumber, UnknownName, RepeatedName, OutOfOrder, Overlap, OutsideSection, TooMany, BadKind}
 use Rattle.pef_script.specs.declared.fault.ScriptFault.{ScriptFault}
@@ -21,6 +21,10 @@ number_of BadKind = 49
 abbrev pub script_number_of : ScriptFault → ℕ
 script_number_of (fault.Refused what line) = number_of what
 script_number_of fault.OutOfMemory = 99
+
+abbrev pub line_of_fault : ScriptFault → Option ℕ
+line_of_fault (fault.Refused what line) = Some line
+line_of_fault fault.OutOfMemory = None
 
 -- a fault with the number of its line
 abbrev pub stopped_at : ℕ → Stop → ScriptFault

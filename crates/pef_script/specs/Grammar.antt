@@ -1,6 +1,6 @@
 -- The grammar of link scripts, line by line. A script is read by a state: each line is refused by its
 -- first fault, or leads to the next state. Lines come in groups, and no line goes back to a lower group.
-use Rattle.std.specs.Prelude.{ℕ, true, false, ◌+◌, ◌*◌, ◌==◌, ◌||◌, not, Bool, List, [], ◌∷◌, ◌++◌, Option, None, Some, Result, Ok, Err, length, codes, nat_le, nat_lt, slice_index_or, slice_set, if◌then◌else◌}
+use Rattle.std.specs.Prelude.{ℕ, true, false, ◌+◌, ◌*◌, ◌==◌, ◌||◌, not, Bool, List, [], ◌∷◌, ◌++◌, Option, None, Some, Result, Ok, Err, length, codes, nat_lt, slice_index_or, slice_set, if◌then◌else◌}
 use Rattle.std.specs.Option.{is_some, ok_or}
 use Rattle.std.specs.Str.{bytes_eq}
 use Rattle.pef_words.specs.Refusals.{first_met, unless}
@@ -10,7 +10,7 @@ use Rattle.pef_reloc.specs.declared.fixup.Fixup.{Fixup}
 use Rattle.pef_reloc.specs.declared.fixup.TheConstants.{MAX_FIXUPS}
 use Rattle.pef_reloc.specs.Fixups.{fixups_end}
 use Rattle.pef_script.specs.declared.fault.LineFault.{LineFault}
-use Rattle.pef_script.specs.declared.fault.LineFault.TheVariants.{BadLine, BadNumber, UnknownName, RepeatedName, OutOfOrder, Overlap, OutsideSection, TooMany, BadKind}
+use Rattle.pef_script.specs.declared.fault.LineFault.TheVariants.{BadLine, UnknownName, RepeatedName, OutOfOrder, Overlap, OutsideSection, TooMany, BadKind}
 use Rattle.pef_script.specs.declared.limits.TheConstants.{MAX_SECTIONS, MAX_ALIGN, MAX_TOTAL, MAX_NUMBER, SECTION_GROUP, CONTENT_GROUP}
 use Rattle.pef_script.specs.declared.parts.Versions.{Versions}
 use Rattle.pef_script.specs.Script.{DescribedHeader, DescribedSection, DescribedScript}
@@ -71,7 +71,7 @@ section_tests s name = (is_some (section_from s.script.sections name 0), Repeate
 abbrev pub with_section : State → DescribedHeader → State
 with_section s header = record s {
   reached = SECTION_GROUP;
-  script = record s.script { sections = s.script.sections ++ record { header = header; image = []; fixups = [] } ∷ [] }
+  script = record s.script { sections = s.script.sections ++ record { header = header; image = []; fixups = [] } ∷ [] };
 }
 
 unfoldable pub section_line : State → List ℕ → Result State LineFault
@@ -100,7 +100,7 @@ abbrev pub with_contents : State → ℕ → DescribedSection → State
 with_contents s k section = record s {
   reached = CONTENT_GROUP;
   section = k;
-  script = record s.script { sections = slice_set s.script.sections k section }
+  script = record s.script { sections = slice_set s.script.sections k section };
 }
 
 abbrev pub with_image : DescribedSection → List ℕ → DescribedSection

@@ -1,5 +1,5 @@
 -- What the code holds, seen as what the grammar speaks of, and what its answers say of the grammar's.
-use Rattle.std.specs.Prelude.{◌≡◌, ℕ, List, [], Option, None, Result, Ok, Err}
+use Rattle.std.specs.Prelude.{◌≡◌, [], None, Result, Ok, Err}
 use Rattle.pef_script.specs.declared.fault.ScriptFault.{ScriptFault}
 use Rattle.pef_script.specs.declared.fault.ScriptFault.TheVariants as fault
 use Rattle.pef_script.specs.declared.parts.Parts.{Parts}

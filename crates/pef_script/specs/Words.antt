@@ -1,6 +1,6 @@
 -- The words of a line: bytes 21 to 7E (hex), with one space between two words. A number is decimal
 -- without a leading zero, or `0x` and one to eight hex digits. An image is spelled by pairs of hex digits.
-use Rattle.std.specs.Prelude.{◌≡◌, ℕ, ◌+◌, ◌*◌, ◌-◌, ◌^◌, ◌==◌, ◌&&◌, ◌||◌, not, Bool, true, false, List, [], ◌∷◌, Option, None, Some, Result, Ok, Err, option_map, length, nat_le, nat_lt, if◌then◌else◌}
+use Rattle.std.specs.Prelude.{◌≡◌, ℕ, ◌+◌, ◌*◌, ◌-◌, ◌^◌, ◌==◌, ◌&&◌, ◌||◌, not, Bool, List, [], ◌∷◌, Option, None, Some, Result, Ok, Err, option_map, length, nat_le, nat_lt, if◌then◌else◌}
 use Rattle.std.specs.List.{list_all}
 use Rattle.std.specs.Option.{option_and_then, ok_or, is_some}
 use Rattle.pef_script.specs.declared.fault.LineFault.{LineFault}

@@ -1,5 +1,5 @@
 ghost use Rattle.std.specs.Prelude.{◌≡◌};
-ghost use Rattle.pef_script.specs.Faults.{number_of, script_number_of, stopped_at};
+ghost use Rattle.pef_script.specs.Faults.{line_of_fault, number_of, script_number_of, stopped_at};
 
 use std::alloc::{AllocError, AllocFailed};
 use thiserror::Error;
@@ -74,6 +74,16 @@ impl ScriptFault {
         match self {
             ScriptFault::Refused { fault, .. } => fault.number(),
             ScriptFault::OutOfMemory => 99,
+        }
+    }
+
+    /// The number of the line that was refused, from 1.
+    pub fn line(&self) -> Option<usize>
+        ensures { result ≡ line_of_fault self.now }
+    {
+        match self {
+            ScriptFault::Refused { line, .. } => Some(*line),
+            ScriptFault::OutOfMemory => None,
         }
     }
 }

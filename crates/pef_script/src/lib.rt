@@ -10,6 +10,8 @@ mod pairs;
 mod parts;
 mod reader;
 mod script;
+#[cfg(test)]
+mod tests;
 mod words;
 
 pub use fault::{LineFault, ScriptFault};

@@ -1,8 +1,8 @@
 ghost use Rattle.std.specs.Prelude.{◌≤◌, vec_len};
 ghost use Rattle.pef_script.specs.declared.limits.TheConstants.{MAX_SECTIONS};
 
-use crate::limits::MAX_SECTIONS;
 use crate::fault::Stop;
+use crate::limits::MAX_SECTIONS;
 use crate::pairs::append_pairs;
 use pef_reloc::{Fixup, WORD};
 use std::alloc::AllocFailed;

@@ -6,13 +6,13 @@ ghost use Rattle.pef_script.specs.Grammar.{base_named, bytes_line, bytes_tests, 
 ghost use Rattle.pef_script.specs.Reader.{script_in, state_of};
 ghost use Rattle.pef_script.specs.Steps.{NumberedSteps, Steps};
 
-use crate::{LineFault, ScriptFault};
 use crate::fault::Stop;
-use crate::numbers::read_number;
 use crate::limits::{CONTENT_GROUP, MAX_ALIGN, MAX_NUMBER, MAX_SECTIONS, MAX_TOTAL, SECTION_GROUP};
-use crate::parts::{Parts, Section, SectionHeader};
+use crate::numbers::read_number;
 use crate::pairs::count_pairs;
+use crate::parts::{Parts, Section, SectionHeader};
 use crate::words::{last_name, last_word, next_name, next_word};
+use crate::{LineFault, ScriptFault};
 use pef_reloc::{Base, Fixup, MAX_FIXUPS, WORD};
 use std::alloc::Global;
 
@@ -99,7 +99,9 @@ impl<'a> Reader<'a> {
     {
         Reader {
             alloc,
-            parts: Parts { sections: Vec::new(alloc) },
+            parts: Parts {
+                sections: Vec::new(alloc),
+            },
             reached: 0,
             section: 0,
         }
@@ -109,7 +111,12 @@ impl<'a> Reader<'a> {
     pub fn into_parts(self) -> Parts<'a>
         ensures { script_in result ≡ (state_of self.entry).script }
     {
-        let Reader { alloc: _, parts, reached: _, section: _ } = self;
+        let Reader {
+            alloc: _,
+            parts,
+            reached: _,
+            section: _,
+        } = self;
         parts
     }
 
@@ -161,7 +168,13 @@ impl<'a> Reader<'a> {
         self.test_section(name)?;
         let parts = &mut self.parts;
         parts.sections.push(Section {
-            header: SectionHeader { name, kind, share, align, total },
+            header: SectionHeader {
+                name,
+                kind,
+                share,
+                align,
+                total,
+            },
             image: Vec::new(self.alloc),
             fixups: Vec::new(self.alloc),
         })?;

@@ -35,7 +35,6 @@ impl<'a> Model for Script<'a> {
 }
 
 impl<'a> Script<'a> {
-
     /// Reads a script.
     ///
     /// # Errors

@@ -1,5 +1,5 @@
 -- Each pair adds its byte; where there is none, the digits spell nothing.
-use Rattle.std.proofs.Common.{◌≡◌, ◌+◌, ◌*◌, ◌/◌, ◌<◌, ◌++◌, length, option_map, sym, refl, ap, ◌∙◌, arith}
+use Rattle.std.proofs.Common.{◌+◌, ◌*◌, ◌/◌, ◌<◌, ◌++◌, length, option_map, sym, refl, ap, ◌∙◌, arith}
 use Rattle.std.specs.Option.{ok_or}
 use Rattle.pef_script.specs.declared.fault.LineFault.TheVariants.{BadLine}
 use Rattle.pef_script.specs.Words.{image_of, pairs_of}
