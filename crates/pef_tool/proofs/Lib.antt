@@ -6,6 +6,7 @@ pub mod LinkedLoader
 pub mod PlacingLemmas
 pub mod PreparedLemmas
 pub mod RelocatingLemmas
+pub mod SendingLemmas
 pub mod SentLemmas
 pub mod ShowingLemmas
 pub mod ShownLemmas

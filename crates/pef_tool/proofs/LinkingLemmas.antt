@@ -1,5 +1,5 @@
 -- A linked container is small, and its numbers fit their fields.
-use Rattle.std.proofs.Common.{◌≡◌, ℕ, ◌+◌, ◌*◌, ◌%◌, ◌^◌, ◌<◌, ◌≤◌, List, [], ◌∷◌, zero, suc, true, length, length-append, append-nil, get_or, refl, ap, ◌∙◌, Option, Some, option_map, IsTrue, slice_get, arith}
+use Rattle.std.proofs.Common.{◌≡◌, ℕ, ◌*◌, ◌%◌, ◌^◌, ◌<◌, ◌≤◌, List, [], ◌∷◌, zero, suc, true, length, length-append, append-nil, get_or, refl, ap, ◌∙◌, Some, map, option_map, IsTrue, slice_get, arith}
 use Rattle.std.proofs.lemmas.Bool.Decides.{nat_tests}
 use Rattle.pef_views.specs.Section.{is_instantiable}
 use Rattle.pef_script.specs.Script.{DescribedHeader, DescribedSection}
@@ -19,7 +19,7 @@ use Rattle.pef_write.specs.Loaders.{ProgramEntry, TablesFit, program_bytes, writ
 use Rattle.pef_write.proofs.Containers.{container_size}
 use Rattle.pef_write.proofs.Loaders.{length-table_fields, length-written_loader}
 use Rattle.pef_tool.specs.Linked.{tables_for}
-use Rattle.pef_tool.specs.Linking.{AreLinkable, IsLinkable, no_versions}
+use Rattle.pef_tool.specs.Linking.{AreLinkable, IsLinkable, length_of, no_versions}
 
 -- the loader section of few and short programs
 pub loader_size : (programs : List ProgramEntry) → length programs ≤ 1 → length (program_bytes programs) ≤ 2 ^ 17 → length (written_loader (tables_for programs)) < 2 ^ 31
@@ -69,7 +69,7 @@ linked_parts parts programs loader fit is = record {
 }
 
 -- each instruction has one or two halfwords, of two bytes each
-length_spelled : (instrs : List Instr) → length (spelled instrs) ≡ 2 * program_length instrs
+pub length_spelled : (instrs : List Instr) → length (spelled instrs) ≡ 2 * program_length instrs
 length_spelled [] = ap length spelled-nothing
 length_spelled (x ∷ instrs) =
     omega (arith, ap length (spelled-one x instrs) ∙ length-append (halfword_bytes (halfwords_of x)) (spelled instrs), length_spelling x, length_spelled instrs)
@@ -110,3 +110,12 @@ one_section (s ∷ []) header image fixups few a b c =
     let f : fixups ≡ s.fixups = cc in
     rw (h, i, f) refl
 one_section (s ∷ t ∷ others) header image fixups few a b c = absurd (omega arith)
+
+-- the length of the program of section k
+pub length_at : (sections : List DescribedSection) (k : ℕ) (fixups : List Fixup) → Some fixups ≡ option_map (λ s. s.fixups) (slice_get sections k)
+    → get_or (map length_of sections) k 0 ≡ program_length (plain_program fixups)
+length_at [] k fixups is = absurd (cc)
+length_at (s ∷ sections) zero fixups is =
+    let same : s.fixups ≡ fixups = cc in
+    ap (λ (fs : List Fixup). program_length (plain_program fs)) same
+length_at (s ∷ sections) (suc k) fixups is = length_at sections k fixups is

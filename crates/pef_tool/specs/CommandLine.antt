@@ -1,19 +1,37 @@
 -- What the words of a command line ask for, by `clap`'s own function of the words at this program's
 -- commands.
-use Rattle.std.specs.Prelude.{◌≡◌, ⊤, Bool, true, List, [], ◌∷◌, Option, None, Some, Result, Ok, Err, codes, if◌then◌else◌, option_and_then}
+use Rattle.std.specs.Prelude.{◌≡◌, ⊤, true, List, [], ◌∷◌, Option, None, Some, Result, Ok, Err, codes, if◌then◌else◌, option_and_then, option_map}
 use Rattle.std.specs.Str.{bytes_eq}
-use Rattle.clap.specs.Walk.{Row, Text}
-use Rattle.clap.specs.Words.{App, Kinds, new_app, with_subcommand, fault_of, subcommand_of}
+use Rattle.clap.specs.Walk.{Row, Rule, Text, first_of}
+use Rattle.clap.specs.Words.{App, Kinds, new_app, new_rule, with_rule, with_subcommand, fault_of, subcommand_of}
 use Rattle.clap.specs.declared.error.kind.ErrorKind.{ErrorKind}
 use Rattle.clap.specs.declared.error.kind.ErrorKind.TheVariants as kind
 use Rattle.pef_tool.specs.declared.command_line.Request.{Request}
-use Rattle.pef_tool.specs.declared.command_line.Request.TheVariants.{Show}
+use Rattle.pef_tool.specs.declared.command_line.Request.TheVariants as request
 use Rattle.pef_tool.specs.declared.command_line.LineFault.{LineFault}
 use Rattle.pef_tool.specs.declared.command_line.LineFault.TheVariants.{Usage, OutOfMemory}
+
+-- what a line asks for: a command and its operands
+pub data Asked : Type 0 where
+  show : Asked
+  link : Text → Text → Asked
+
+-- what a request asks for
+abbrev pub asked_of : Request → Asked
+asked_of request.Show = show
+asked_of (request.Link script out) = link script.now out.now
+
+-- an operand that has to be there
+abbrev pub operand : Text → Rule
+operand name = record (new_rule name) { required = true }
 
 -- `show`, which has no operands
 abbrev pub show_command : App
 show_command = new_app (codes "show")
+
+-- `link SCRIPT OUT`
+abbrev pub link_command : App
+link_command = with_rule (with_rule (new_app (codes "link")) (operand (codes "SCRIPT"))) (operand (codes "OUT"))
 
 -- the program, which wants a command and has no help
 abbrev pub top_command : App
@@ -23,29 +41,26 @@ top_command =
 
 -- the program's commands
 unfoldable pub pef : App
-pef = with_subcommand top_command show_command.top
+pef = with_subcommand (with_subcommand top_command show_command.top) link_command.top
 
--- the request of a command's name
-abbrev pub request_named : Text → Option Request
-request_named name = if bytes_eq name (codes "show") then Some Show else None
+-- what the operands of `link` ask for
+abbrev pub link_asked : List Row → Option Asked
+link_asked rows = option_and_then (λ script. option_map (link script) (first_of (codes "OUT") rows)) (first_of (codes "SCRIPT") rows)
 
--- the request of a command's name and operands
-abbrev pub request_of : Text × List Row → Option Request
-request_of found = request_named found.0
+-- what a command's name and operands ask for
+abbrev pub command_asked : Text → List Row → Option Asked
+command_asked name rows =
+    if bytes_eq name (codes "show") then Some show
+    else if bytes_eq name (codes "link") then link_asked rows else None
 
--- a line without a fault is the request of its command
-abbrev pub asked_at : Kinds → Option (Text × List Row) → Option Request
-asked_at [] found = option_and_then request_of found
+-- a line without a fault asks for what its command asks for
+abbrev pub asked_at : Kinds → Option (Text × List Row) → Option Asked
+asked_at [] found = option_and_then (λ f. command_asked f.0 f.1) found
 asked_at (k ∷ ks) found = None
 
 -- what the words ask for, where they are a good line
-unfoldable pub asked_by : List Text → Option Request
+unfoldable pub asked_by : List Text → Option Asked
 asked_by words = asked_at (fault_of pef words) (subcommand_of pef words)
-
--- a request that there is, or that the line is none of this program's
-abbrev pub answer_of : Option Request → Result Request LineFault
-answer_of (Some request) = Ok request
-answer_of None = Err Usage
 
 -- why a line was refused
 abbrev pub fault_of_kind : ErrorKind → LineFault
@@ -53,7 +68,7 @@ fault_of_kind kind.OutOfMemory = OutOfMemory
 fault_of_kind _ = Usage
 
 -- the answer to a command line: what it asks for, or that it is no good line
-abbrev pub AnswersLine : Result Request LineFault → Option Request → Type 0
-AnswersLine (Ok request) asked = asked ≡ Some request
+abbrev pub AnswersLine : Result Request LineFault → Option Asked → Type 0
+AnswersLine (Ok request) asked = asked ≡ Some (asked_of request)
 AnswersLine (Err Usage) asked = asked ≡ None
 AnswersLine (Err OutOfMemory) asked = ⊤

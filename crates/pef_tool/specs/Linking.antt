@@ -2,7 +2,7 @@
 -- program of each section that has fixups.
 use Rattle.std.specs.Prelude.{◌≡◌, ℕ, ◌+◌, ◌%◌, ◌^◌, ◌<◌, ◌≤◌, List, [], ◌∷◌, ◌++◌, All, IsTrue, length, map}
 use Rattle.pef_reloc.specs.declared.fixup.Fixup.{Fixup}
-use Rattle.pef_reloc.specs.Instrs.{spelled}
+use Rattle.pef_reloc.specs.Instrs.{program_length, spelled}
 use Rattle.pef_reloc.specs.Plain.{plain_program}
 use Rattle.pef_script.specs.Script.{DescribedScript, DescribedSection}
 use Rattle.pef_views.specs.Section.{is_instantiable}
@@ -57,3 +57,11 @@ pub record IsLinkedOf (parts : List DescribedPart) (programs : List ProgramEntry
 -- bytes that were linked of a script
 abbrev pub IsLinked : DescribedScript → List ℕ → Type 0
 IsLinked script bytes = IsLinkedOf (map part_of script.sections) (programs_from 0 script.sections) bytes
+
+-- the halfwords of a section's program; a section without fixups has no program, and 0
+abbrev pub length_of : DescribedSection → ℕ
+length_of s = program_length (plain_program s.fixups)
+
+-- bytes that were linked of a script, and the halfwords of each section's program
+abbrev pub IsLinkedWith : DescribedScript → List ℕ → List ℕ → Type 0
+IsLinkedWith script bytes lengths = IsLinked script bytes × (lengths ≡ map length_of script.sections)

@@ -65,3 +65,25 @@ ReadsFile (Err fault) told told' count count' path = MayFail fault count count' 
 abbrev pub WritesFile : {A : Type 0} → Result A FileFault → Option Paths → Option Paths → ℕ → ℕ → List ℕ → List ℕ → Type 0
 WritesFile (Ok done) told told' count count' path bytes = IsAt told' path bytes × OthersStay told told' path × (count ≤ count')
 WritesFile (Err fault) told told' count count' path bytes = MayFail fault count count' × OthersStay told told' path × (count ≤ count')
+
+-- the files that a run meets and leaves, where they are told, and their failures as counted before and behind it
+pub record FilesMet : Type 0 where
+  pub before : Option Paths
+  pub after : Option Paths
+  pub count_before : ℕ
+  pub count_after : ℕ
+
+abbrev pub files_met : Option Paths → Option Paths → ℕ → ℕ → FilesMet
+files_met before after count count' = record { before = before; after = after; count_before = count; count_after = count' }
+
+-- no file is changed
+abbrev pub AreKept : FilesMet → Type 0
+AreKept files = files.after ≡ files.before
+
+-- no other file than the one at a path is changed
+abbrev pub OthersKept : FilesMet → List ℕ → Type 0
+OthersKept files path = OthersStay files.before files.after path
+
+-- a failure of the files was counted
+abbrev pub HaveFailed : FilesMet → Type 0
+HaveFailed files = Rose files.count_before files.count_after

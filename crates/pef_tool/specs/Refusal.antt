@@ -6,8 +6,11 @@ use Rattle.pef_script.specs.declared.fault.LineFault.TheVariants.{BadLine, BadNu
 use Rattle.pef_reloc.specs.Faults as reloc
 use Rattle.pef_reloc.specs.declared.fault.RelocFault.{RelocFault}
 use Rattle.pef_reloc.specs.declared.fault.RelocFault.TheVariants as reloc_fault
+use Rattle.pef_tool.specs.declared.refusal.FileRefusal.{FileRefusal}
+use Rattle.pef_tool.specs.declared.refusal.FileRefusal.TheVariants.{Unreadable, Unwritable}
 use Rattle.pef_tool.specs.declared.refusal.Refusal.{Refusal}
 use Rattle.pef_tool.specs.declared.refusal.Refusal.TheVariants.{Script, Reloc, NoRoom, InputUnreadable, InputTooLong, OutOfMemory}
+use Rattle.pef_tool.specs.Names.{name_text}
 
 -- the numbers of the refusals
 abbrev pub number_of : Refusal → ℕ
@@ -63,3 +66,21 @@ place_of OutOfMemory = []
 
 abbrev pub refusal_text : Refusal → List ℕ
 refusal_text refusal = codes "refused " ++ decimal (number_of refusal) ++ codes " " ++ name_of refusal ++ place_of refusal ++ 10 ∷ []
+
+-- a path as it ends a line
+abbrev pub path_end : List ℕ → List ℕ
+path_end path = name_text path ++ 10 ∷ []
+
+-- what the line of a file that failed begins with
+abbrev pub file_refusal_start : FileRefusal → List ℕ
+file_refusal_start (Unreadable path) = codes "refused 71 FileUnreadable "
+file_refusal_start (Unwritable path) = codes "refused 72 FileUnwritable "
+
+-- the path of a file that failed
+abbrev pub failed_path : FileRefusal → List ℕ
+failed_path (Unreadable path) = path.now
+failed_path (Unwritable path) = path.now
+
+-- the line of a file that failed
+abbrev pub file_refusal_text : FileRefusal → List ℕ
+file_refusal_text refusal = file_refusal_start refusal ++ path_end (failed_path refusal)

@@ -1,18 +1,19 @@
 -- What a run answers, and how its answer goes out.
-use Rattle.std.specs.Prelude.{◌≡◌, ◌⊎◌, ℕ, List, [], ◌∷◌, ◌++◌, Option, None, Some, Result, Ok, Err, ⊤, codes, map, take}
+use Rattle.std.specs.Prelude.{◌≡◌, ◌⊎◌, ℕ, List, Option, None, Some, Ok, Err, ⊤, codes, map, take}
 use Rattle.pef_script.specs.Grammar.{script_of}
 use Rattle.pef_script.specs.Script.{DescribedScript}
 use Rattle.pef_script.specs.declared.fault.LineFault.{LineFault}
-use Rattle.pef_tool.specs.declared.command_line.Request.{Request}
-use Rattle.pef_tool.specs.declared.command_line.Request.TheVariants.{Show}
 use Rattle.pef_tool.specs.declared.refusal.Refusal.{Refusal}
 use Rattle.pef_tool.specs.declared.refusal.Refusal.TheVariants.{Script, Reloc, NoRoom, InputUnreadable, InputTooLong, OutOfMemory}
 use Rattle.pef_tool.specs.declared.reply.Reply.{Reply}
-use Rattle.pef_tool.specs.declared.reply.Reply.TheVariants.{Usage, Refused, Shown}
+use Rattle.pef_tool.specs.declared.reply.Reply.TheVariants.{Usage, Refused, RefusedFile, Shown, Linked}
 use Rattle.pef_tool.specs.declared.shown.Prepared.{Prepared}
+use Rattle.pef_tool.specs.CommandLine.{Asked, show, link}
 use Rattle.pef_tool.specs.Input.{IsWhole, IsLonger}
-use Rattle.pef_tool.specs.Ports.{Grows, Rose}
-use Rattle.pef_tool.specs.Refusal.{refusal_text}
+use Rattle.pef_tool.specs.LinkCommand.{LinkAnswers}
+use Rattle.pef_tool.specs.LinkedText.{linked_text}
+use Rattle.pef_tool.specs.Ports.{FilesMet, AreKept, Grows, Rose}
+use Rattle.pef_tool.specs.Refusal.{file_refusal_text, refusal_text}
 use Rattle.pef_tool.specs.Showing.{IsShown}
 use Rattle.pef_tool.specs.Shown.{PlacedSection, section_at, fragment_text}
 
@@ -33,7 +34,9 @@ sections_of p = map (section_at p.memory) p.places.items
 abbrev pub answer_of : Reply → Answer
 answer_of Usage = record { text = codes "usage\n"; status = 2 }
 answer_of (Refused refusal) = record { text = refusal_text refusal; status = 1 }
+answer_of (RefusedFile refusal) = record { text = file_refusal_text refusal; status = 1 }
 answer_of (Shown prepared) = record { text = fragment_text (codes "it") (sections_of prepared); status = 0 }
+answer_of (Linked size lengths) = record { text = linked_text size lengths.items; status = 0 }
 
 -- the answer goes out whole, or the output fails: then a front of it went out, and the status is 1
 abbrev pub Delivers : Option (List ℕ) → Option (List ℕ) → ℕ → ℕ → Answer → ℕ → Type 0
@@ -64,9 +67,20 @@ MayRefuse told count count' InputUnreadable = Rose count count'
 MayRefuse told count count' InputTooLong = IsLonger told input_limit
 MayRefuse told count count' OutOfMemory = ⊤
 
--- what a run may answer
-abbrev pub MayAnswer : Option Request → Option (List ℕ) → ℕ → ℕ → Reply → Type 0
-MayAnswer asked told count count' Usage = asked ≡ None
-MayAnswer asked told count count' (Refused OutOfMemory) = ⊤
-MayAnswer asked told count count' (Refused refusal) = (asked ≡ Some Show) × MayRefuse told count count' refusal
-MayAnswer asked told count count' (Shown p) = (asked ≡ Some Show) × MayShow told p
+-- what `show` may answer
+abbrev pub ShowAnswers : Option (List ℕ) → ℕ → ℕ → Reply → Type 0
+ShowAnswers told count count' (Refused refusal) = MayRefuse told count count' refusal
+ShowAnswers told count count' (Shown p) = MayShow told p
+ShowAnswers told count count' _ = ⊥
+
+-- what words that are no line may be answered
+abbrev pub UsageAnswers : Reply → Type 0
+UsageAnswers Usage = ⊤
+UsageAnswers (Refused refusal) = refusal ≡ OutOfMemory
+UsageAnswers _ = ⊥
+
+-- what a run may answer, and which files it may change: none but the one that `link` writes
+abbrev pub MayAnswer : Option Asked → Option (List ℕ) → ℕ → ℕ → FilesMet → Reply → Type 0
+MayAnswer None told count count' files reply = UsageAnswers reply × AreKept files
+MayAnswer (Some show) told count count' files reply = ShowAnswers told count count' reply × AreKept files
+MayAnswer (Some (link script out)) told count count' files reply = LinkAnswers files script out reply

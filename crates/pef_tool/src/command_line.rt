@@ -1,16 +1,19 @@
-ghost use Rattle.std.specs.Prelude.{◌≡◌, IfOk, map, string_bytes};
-ghost use Rattle.clap.specs.Words.{app_of};
-ghost use Rattle.pef_tool.specs.CommandLine.{AnswersLine, answer_of, asked_by, fault_of_kind, pef, request_named};
+ghost use Rattle.std.specs.Prelude.{◌≡◌, IfOk, false, map, string_bytes};
+ghost use Rattle.clap.specs.Words.{app_of, found_of, rows_of};
+ghost use Rattle.clap.specs.declared.builder.command.Command.TheViews.{out-Command};
+ghost use Rattle.pef_tool.specs.CommandLine.{AnswersLine, asked_by, command_asked, fault_of_kind, link_asked, link_command, pef};
 
-use clap::Command;
 use clap::error::ErrorKind;
+use clap::{Arg, ArgMatches, Command};
 use std::alloc::{AllocError, Global};
 
 /// What a command line asks for.
 #[derive(Clone, Copy, Debug, PartialEq, Eq)]
-pub enum Request {
+pub enum Request<'a> {
     /// Link the script on the input, prepare it, and print its memory.
     Show,
+    /// Link the script at a path, and write the container to another.
+    Link { script: &'a str, out: &'a str },
 }
 
 /// Why a command line asks for nothing.
@@ -34,8 +37,8 @@ impl From<AllocError> for LineFault {
 }
 
 /// Reads the words of a command line, of which the first is the program's name.
-pub fn read_words(alloc: Global, words: &[String]) -> Result<Request, LineFault>
-    ensures { AnswersLine result (asked_by (map string_bytes words.now)) }
+pub fn read_words<'a>(alloc: Global, words: &'a [String]) -> Result<Request<'a>, LineFault>
+    ensures { AnswersLine result (asked_by (map string_bytes words.entry.now)) }
 {
     let command = command(alloc)?;
     let matches = match command.try_get_matches_from(words) {
@@ -43,7 +46,7 @@ pub fn read_words(alloc: Global, words: &[String]) -> Result<Request, LineFault>
         Err(error) => return Err(line_fault(error.kind())),
     };
     match matches.subcommand() {
-        Some((name, _)) => request_named(name),
+        Some((name, operands)) => command_request(name, operands),
         None => Err(LineFault::Usage),
     }
 }
@@ -53,21 +56,47 @@ fn command<'a>(alloc: Global) -> Result<Command<'a>, AllocError>
     ensures app { IfOk result (λ c. app_of c ≡ pef) }
 {
     let show = Command::new(alloc, "show");
+    let link = link_command(alloc)?;
     let top = Command::new(alloc, "pef")
         .subcommand_required(true)
         .disable_help_flag(true)
         .disable_help_subcommand(true);
-    top.subcommand(show)
+    top.subcommand(show)?.subcommand(link)
 }
 
-/// The request of a command's name.
-fn request_named(name: &str) -> Result<Request, LineFault>
-    ensures { result ≡ answer_of (request_named name.now) }
+/// The command `link SCRIPT OUT`.
+fn link_command<'a>(alloc: Global) -> Result<Command<'a>, AllocError>
+    ensures app { IfOk result (λ c. app_of c ≡ link_command) }
+    ensures local { IfOk result (λ c. (out-Command c).has_globals ≡ false) }
+{
+    let script = Arg::new(alloc, "SCRIPT").required(true);
+    let out = Arg::new(alloc, "OUT").required(true);
+    Command::new(alloc, "link").arg(script)?.arg(out)
+}
+
+/// The request of a command's name and operands.
+fn command_request<'a>(name: &str, operands: &ArgMatches<'a>) -> Result<Request<'a>, LineFault>
+    ensures { AnswersLine result (command_asked name.now (rows_of (found_of operands.now))) }
 {
     match name {
         "show" => Ok(Request::Show),
+        "link" => link_request(operands),
         _ => Err(LineFault::Usage),
     }
+}
+
+/// The request of the operands of `link`.
+#[tactic(auto, using(crate::proofs::LineLemmas::first_in_rows))]
+fn link_request<'a>(operands: &ArgMatches<'a>) -> Result<Request<'a>, LineFault>
+    ensures { AnswersLine result (link_asked (rows_of (found_of operands.now))) }
+{
+    let Some(script) = operands.get_str("SCRIPT") else {
+        return Err(LineFault::Usage);
+    };
+    let Some(out) = operands.get_str("OUT") else {
+        return Err(LineFault::Usage);
+    };
+    Ok(Request::Link { script, out })
 }
 
 /// Why `clap` refused a line.

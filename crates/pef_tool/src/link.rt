@@ -1,10 +1,10 @@
 ghost use Rattle.std.specs.Prelude.{◌≡◌, [], ◌∷◌, ◌++◌, IfOk, OnOk, map, true};
 ghost use Rattle.pef_reloc.specs.Fixups.{fixups_fit};
 ghost use Rattle.pef_reloc.specs.Plain.{plain_addition, plain_move, plain_program};
-ghost use Rattle.pef_reloc.specs.Instrs.{spelled};
+ghost use Rattle.pef_reloc.specs.Instrs.{program_length, spelled};
 ghost use Rattle.pef_write.specs.Containers.{described};
 ghost use Rattle.pef_write.specs.Described.{program_entry};
-ghost use Rattle.pef_tool.specs.Linking.{AreLinkable, IsLinkable, IsLinked, IsLinkedOf, program_of};
+ghost use Rattle.pef_tool.specs.Linking.{AreLinkable, IsLinkable, IsLinked, IsLinkedOf, IsLinkedWith, length_of, program_of};
 
 use pef_reloc::{Base, Fixup, Instr, encode};
 use pef_script::Script;
@@ -60,6 +60,48 @@ fn program_bytes(alloc: Global, fixups: &[Fixup]) -> Result<Vec<u8>, AllocError>
         Ok(bytes) => Ok(bytes),
         Err(_) => Err(AllocError),
     }
+}
+
+/// What was linked of a script.
+#[derive(Drop)]
+pub struct Linked {
+    /// The container.
+    pub bytes: Vec<u8>,
+    /// How many halfwords the program of each section has.
+    pub lengths: Vec<usize>,
+}
+
+/// The container of a script with at most one section, and the lengths of its programs.
+pub fn link_script(alloc: Global, script: &Script<'_>) -> Result<Linked, AllocError>
+    ensures { IfOk result (λ linked. IsLinkedWith script.now linked.bytes.items linked.lengths.items) }
+{
+    let bytes = link(alloc, script)?;
+    let lengths = program_lengths(alloc, script)?;
+    Ok(Linked { bytes, lengths })
+}
+
+/// How many halfwords the program of each section has.
+fn program_lengths(alloc: Global, script: &Script<'_>) -> Result<Vec<usize>, AllocError>
+    ensures { IfOk result (λ lengths. lengths.items ≡ map length_of script.now.sections) }
+{
+    let mut lengths = Vec::new(alloc);
+    for k in 0..script.sections() {
+        let Some(fixups) = script.fixups(k) else {
+            unreachable!()
+        };
+        lengths.push(program_length(alloc, fixups)?)?;
+    }
+    Ok(lengths)
+}
+
+/// How many halfwords the plain program of some fixups that fit has.
+#[tactic(auto, using(crate::proofs::LinkingLemmas::length_spelled))]
+fn program_length(alloc: Global, fixups: &[Fixup]) -> Result<usize, AllocError>
+    requires { fixups_fit fixups.now ≡ true }
+    ensures { IfOk result (λ halfwords. halfwords ≡ program_length (plain_program fixups.now)) }
+{
+    let bytes = program_bytes(alloc, fixups)?;
+    Ok(bytes.len() / 2)
 }
 
 /// The container of a script with at most one section.

@@ -1,8 +1,12 @@
 ghost use Rattle.std.specs.Prelude.{◌≡◌, ◌≤◌, ◌+◌, ◌++◌, length};
 ghost use Rattle.arrayvec.specs.ArrayVec.{array_vec_len};
-ghost use Rattle.pef_tool.specs.Refusal.{line_fault_name, name_of, number_of, place_of, refusal_text, reloc_fault_name};
+ghost use Rattle.pef_tool.specs.Refusal.{failed_path, file_refusal_start, file_refusal_text, line_fault_name, name_of, number_of, path_end, place_of, refusal_text, reloc_fault_name};
+ghost use Rattle.pef_tool.specs.Sent.{Sends};
 
 use crate::line::{Line, push_number, push_text};
+use crate::name::print_name;
+use crate::page::{Page, send};
+use crate::ports::{Sink, StreamFault};
 use pef_reloc::RelocFault;
 use pef_script::LineFault;
 
@@ -82,6 +86,52 @@ impl Refusal {
         push_text(&mut line, b"\n");
         line
     }
+}
+
+/// Why a run is refused over a file. It ends with the file's path, which may be long.
+#[derive(Clone, Copy, Debug, PartialEq, Eq)]
+pub enum FileRefusal<'a> {
+    /// The file at the path could not be read.
+    Unreadable(&'a [u8]),
+    /// The file at the path could not be written.
+    Unwritable(&'a [u8]),
+}
+
+impl<'a> FileRefusal<'a> {
+    /// What the line of the refusal begins with: its number and name.
+    fn start(&self) -> &'static [u8]
+        ensures { result.now ≡ file_refusal_start self.now }
+    {
+        match self {
+            FileRefusal::Unreadable(_) => b"refused 71 FileUnreadable ",
+            FileRefusal::Unwritable(_) => b"refused 72 FileUnwritable ",
+        }
+    }
+
+    /// The path of the file.
+    fn path(&self) -> &'a [u8]
+        ensures { result.now ≡ failed_path self.now }
+    {
+        match self {
+            FileRefusal::Unreadable(path) | FileRefusal::Unwritable(path) => path,
+        }
+    }
+
+    /// Prints the line that ends the run.
+    pub fn print<W: Sink>(&self, out: &mut W, page: &mut Page) -> Result<(), StreamFault>
+        ensures { Sends result (W.written out.old) (W.written out.new) (W.failures out.old) (W.failures out.new) page.old.items page.new.items (file_refusal_text self.now) }
+    {
+        send(out, page, self.start())?;
+        print_path_end(out, page, self.path())
+    }
+}
+
+/// Prints a path, and ends its line.
+fn print_path_end<W: Sink>(out: &mut W, page: &mut Page, path: &[u8]) -> Result<(), StreamFault>
+    ensures { Sends result (W.written out.old) (W.written out.new) (W.failures out.old) (W.failures out.new) page.old.items page.new.items (path_end path.now) }
+{
+    print_name(out, page, path)?;
+    send(out, page, b"\n")
 }
 
 /// The name of a line's fault.

@@ -2,31 +2,36 @@ ghost use Rattle.std.specs.Prelude.{◌≡◌, OnOk, []};
 ghost use Rattle.pef_tool.specs.Reply.{Delivers, answer_of};
 ghost use Rattle.pef_tool.specs.Sent.{Sends};
 
+use crate::linked::print_linked;
 use crate::page::{Page, flush, send};
 use crate::ports::{Sink, StreamFault};
-use crate::refusal::Refusal;
+use crate::refusal::{FileRefusal, Refusal};
 use crate::shown::Prepared;
 
 /// What a run answers.
 #[derive(Drop)]
-pub enum Reply {
+pub enum Reply<'a> {
     /// The words are no line of this program.
     Usage,
     /// The run is refused.
     Refused(Refusal),
+    /// The run is refused over a file.
+    RefusedFile(FileRefusal<'a>),
     /// The memory of the fragment `it`.
     Shown(Prepared),
+    /// A container of so many bytes was written; the program of each section has so many halfwords.
+    Linked { size: usize, lengths: Vec<usize> },
 }
 
-impl Reply {
+impl<'a> Reply<'a> {
     /// The status that the run ends with: 0 done, 1 refused, 2 usage.
     pub fn status(&self) -> u8
         ensures { result ≡ (answer_of self.now).status }
     {
         match self {
             Reply::Usage => 2,
-            Reply::Refused(_) => 1,
-            Reply::Shown(_) => 0,
+            Reply::Refused(_) | Reply::RefusedFile(_) => 1,
+            Reply::Shown(_) | Reply::Linked { .. } => 0,
         }
     }
 
@@ -37,7 +42,9 @@ impl Reply {
         match self {
             Reply::Usage => send(out, page, b"usage\n"),
             Reply::Refused(refusal) => send(out, page, refusal.line().as_slice()),
+            Reply::RefusedFile(refusal) => refusal.print(out, page),
             Reply::Shown(prepared) => prepared.print(out, page),
+            Reply::Linked { size, lengths } => print_linked(out, page, *size, lengths.as_slice()),
         }
     }
 

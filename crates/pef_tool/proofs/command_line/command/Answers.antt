@@ -11,4 +11,5 @@ returns c =
     let required = ap app_of_fields c.subcommand_required.ensures ∙ ap (on_top (λ s. record s { subcommand_required = true })) c.new.ensures.app in
     let no_flag = ap app_of_fields c.disable_help_flag.ensures ∙ ap (on_top (λ s. record s { disable_help_flag = true })) required in
     let top = ap app_of_fields c.disable_help_subcommand-top.ensures ∙ ap (on_top (λ s. record s { disable_help_subcommand = true })) no_flag in
-    record { app = IfOk-weaker c.subcommand.result _ _ (λ r added. added.shape c.new-show.ensures.local ∙ ap₂ with_subcommand top (ap (λ a. a.top) c.new-show.ensures.app)) c.subcommand.ensures }
+    let with_show = c.in_ok-subcommand.ensures.shape c.new-show.ensures.local ∙ ap₂ with_subcommand top (ap (λ a. a.top) c.new-show.ensures.app) in
+    record { app = IfOk-weaker c.subcommand-2.result _ _ (λ r added. added.shape c.in_ok-link.ensures.local ∙ ap₂ with_subcommand with_show (ap (λ a. a.top) c.in_ok-link.ensures.app)) c.subcommand-2.ensures }

@@ -1,10 +1,12 @@
 -- A refused line has one of clap's kinds, and a good one names its command.
-use Rattle.std.proofs.Common.{◌≡◌, ◌⊎◌, true, List, [], Option, Some, None, Err, refl, sym, ap, subst, ◌∙◌, map, string_bytes, option_map, option_and_then}
+use Rattle.std.proofs.Common.{◌≡◌, true, [], Option, sym, subst, ◌∙◌, map, string_bytes}
 use Rattle.clap.specs.Faults.{is_simple_and_free, fault_of}
 use Rattle.clap.specs.Kinds.{HasKind}
-use Rattle.clap.specs.Simple.{App, HasMatchesOf, is_simple, subcommand_of}
-use Rattle.pef_tool.specs.CommandLine.{AnswersLine, answer_of, asked_by, pef, request_named}
-use Rattle.pef_tool.proofs.LineLemmas.{pef_simple, pef_plain, asked_by-good, asked_by-refused, answer_of-answers, request_of-name, subcommand_rows-name}
+use Rattle.clap.specs.Matches.{found_of}
+use Rattle.clap.specs.Simple.{App, HasMatchesOf}
+use Rattle.clap.specs.Walk.{rows_of}
+use Rattle.pef_tool.specs.CommandLine.{AnswersLine, Asked}
+use Rattle.pef_tool.proofs.LineLemmas.{pef_simple, pef_plain, asked_by-good, asked_by-refused, entered_none, entered_pair}
 use Rattle.pef_tool.proofs.command_line.read_words.Goals as goal
 
 pub returns-in-Err : goal.returns-in-Err
@@ -21,9 +23,10 @@ returns-in-Some c =
     let good = subst P c.in_ok-command.ensures.app c.in-Ok.ensures.kinds pef_simple in
     let Q : App → Type 0 = λ a. HasMatchesOf a words c.in-Ok.matches in
     let rows = (subst Q c.in_ok-command.ensures.app c.in-Ok.ensures.matches pef_plain).1 in
-    let name : option_map (λ f. f.0) (subcommand_of pef words) ≡ Some c.in-Some.name.now = ap (option_map (λ f. f.0)) (sym rows) ∙ subcommand_rows-name _ ∙ sym c.in-Some.ensures.name in
-    let asked : asked_by words ≡ request_named c.in-Some.name.now = asked_by-good words (subcommand_of pef words) good refl ∙ request_of-name (subcommand_of pef words) ∙ ap (option_and_then request_named) name in
-    rw (asked, c.request_named.ensures) (answer_of-answers (request_named c.in-Some.name.now))
+    let entered = entered_pair _ c.in-Some.name.now (rows_of (found_of c.in-Some.operands.now)) c.in-Some.ensures.name c.in-Some.ensures.rows in
+    let asked = asked_by-good words _ good (sym rows ∙ entered) in
+    let R : Option Asked → Type 0 = λ o. AnswersLine c.command_request.result o in
+    subst R (sym asked) c.command_request.ensures
 
 pub returns : goal.returns
 returns c =
@@ -32,5 +35,4 @@ returns c =
     let good = subst P c.in_ok-command.ensures.app c.in-Ok.ensures.kinds pef_simple in
     let Q : App → Type 0 = λ a. HasMatchesOf a words c.in-Ok.matches in
     let rows = (subst Q c.in_ok-command.ensures.app c.in-Ok.ensures.matches pef_plain).1 in
-    let name : option_map (λ f. f.0) (subcommand_of pef words) ≡ None = ap (option_map (λ f. f.0)) (sym rows) ∙ subcommand_rows-name _ ∙ sym c.in-None.ensures.name in
-    asked_by-good words (subcommand_of pef words) good refl ∙ request_of-name (subcommand_of pef words) ∙ ap (option_and_then request_named) name
+    asked_by-good words _ good (sym rows ∙ entered_none _ c.in-None.ensures.name)
