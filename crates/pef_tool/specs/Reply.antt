@@ -33,7 +33,7 @@ sections_of p = map (section_at p.memory) p.places.items
 abbrev pub answer_of : Reply → Answer
 answer_of Usage = record { text = codes "usage\n"; status = 2 }
 answer_of (Refused refusal) = record { text = refusal_text refusal; status = 1 }
-answer_of (Shown prepared) = record { text = fragment_text (codes "it") (sections_of prepared); status = 0 }
+answer_of (Shown prepared) = record { text = fragment_text (codes "it") (sections_of prepared) prepared.entries; status = 0 }
 
 -- the answer goes out whole, or the output fails: then a front of it went out, and the status is 1
 abbrev pub Delivers : Option (List ℕ) → Option (List ℕ) → ℕ → ℕ → Answer → ℕ → Type 0
