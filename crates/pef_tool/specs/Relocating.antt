@@ -1,7 +1,10 @@
--- What the relocation headers of a loader section make of a section's memory.
+-- What the relocation headers of a loader section make of a section's memory, and which is refused first.
 use Rattle.std.specs.Prelude.{ℕ, zero, suc, ◌+◌, ◌==◌, List, Option, None, Some, if◌then◌else◌}
+use Rattle.std.specs.Option.{option_and_then}
 use Rattle.pef_reloc.specs.Applied.{Addresses, Done, relocated, unless_refused}
 use Rattle.pef_reloc.specs.Unrolled.{program_fault}
+use Rattle.pef_reloc.specs.declared.fault.RelocFault.{RelocFault}
+use Rattle.pef_words.specs.Refusals.{first_among}
 
 -- nothing is done
 abbrev pub untouched : List ℕ → Done
@@ -24,3 +27,12 @@ done_then done next = unless_refused done.fault done.memory (next done.memory)
 unfoldable pub relocated_by : Addresses → ℕ → (ℕ → Option (ℕ × List ℕ)) → ℕ → ℕ → List ℕ → Done
 relocated_by a k header from zero memory = untouched memory
 relocated_by a k header from (suc n) memory = done_then (header_done a k (header from) memory) (relocated_by a k header (from + 1) n)
+
+-- why header i is refused, on what the headers before it make of its section's memory; each section's
+-- memory is given as it was before them all
+unfoldable pub refusal_at : Addresses → (ℕ → List ℕ) → (ℕ → Option (ℕ × List ℕ)) → ℕ → Option RelocFault
+refusal_at a memory header i = option_and_then (λ h. (program_done a h.1 (relocated_by a h.0 header 0 i (memory h.0)).memory).fault) (header i)
+
+-- the first refusal among n headers, in their order, whichever sections they are for
+abbrev pub first_refusal : Addresses → (ℕ → List ℕ) → (ℕ → Option (ℕ × List ℕ)) → ℕ → Option RelocFault
+first_refusal a memory header n = first_among (refusal_at a memory header) 0 n

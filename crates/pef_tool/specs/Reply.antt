@@ -35,7 +35,7 @@ abbrev pub answer_of : Reply → Answer
 answer_of Usage = record { text = codes "usage\n"; status = 2 }
 answer_of (Refused refusal) = record { text = refusal_text refusal; status = 1 }
 answer_of (RefusedFile refusal) = record { text = file_refusal_text refusal; status = 1 }
-answer_of (Shown prepared) = record { text = fragment_text (codes "it") (sections_of prepared); status = 0 }
+answer_of (Shown prepared) = record { text = fragment_text (codes "it") (sections_of prepared) prepared.entries; status = 0 }
 answer_of (Linked size lengths) = record { text = linked_text size lengths.items; status = 0 }
 
 -- the answer goes out whole, or the output fails: then a front of it went out, and the status is 1

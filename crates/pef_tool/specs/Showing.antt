@@ -17,7 +17,7 @@ pub record IsShown (script : DescribedScript) (p : Prepared) : Type 0 where
   pub read : container_of bytes ≡ Ok container
   pub loader : Loaded
   pub loaded : loaded_of container.header.instantiated_section_count container.loader ≡ Ok loader
-  pub prepared : IsPrepared 0x10000000 container loader p.memory p.places.items
+  pub prepared : IsPrepared 0x10000000 container loader p
 
 -- why a script may not be shown
 abbrev pub MayNotShow : DescribedScript → Refusal → Type 0

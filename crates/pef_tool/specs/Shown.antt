@@ -1,7 +1,8 @@
 -- What is printed of prepared memory.
-use Rattle.std.specs.Prelude.{ℕ, ◌+◌, ◌^◌, ◌≤◌, IsTrue, List, [], ◌∷◌, ◌++◌, length, codes, decimal, map, unwrap_or}
+use Rattle.std.specs.Prelude.{ℕ, ◌+◌, ◌^◌, ◌≤◌, IsTrue, List, [], ◌∷◌, ◌++◌, Option, None, Some, length, codes, decimal, map, unwrap_or}
 use Rattle.cfm_memory.specs.Instances.{Layout, bytes_at, holds_place}
 use Rattle.cfm_memory.specs.declared.place.Place.{Place}
+use Rattle.pef_tool.specs.declared.entries.Entries.{Entries}
 use Rattle.pef_tool.specs.Text.{word_text, dump_text}
 
 -- a section where it was placed, with its memory
@@ -31,6 +32,18 @@ abbrev pub sections_text : ℕ → List PlacedSection → List ℕ
 sections_text i [] = []
 sections_text i (s ∷ sections) = section_text i s ++ sections_text (i + 1) sections
 
--- a fragment's name and sections
-abbrev pub fragment_text : List ℕ → List PlacedSection → List ℕ
-fragment_text name sections = codes "fragment " ++ name ++ (10 ∷ []) ++ sections_text 0 sections
+-- the line of an entry that is there
+abbrev pub entry_text : List ℕ → Option ℕ → List ℕ
+entry_text label None = []
+entry_text label (Some address) = label ++ word_text address ++ 10 ∷ []
+
+-- the entries of a fragment
+abbrev pub entries_text : List ℕ → Entries → List ℕ
+entries_text name e =
+    entry_text (codes "init " ++ name ++ codes " ") e.init
+    ++ entry_text (codes "main ") e.main
+    ++ entry_text (codes "term " ++ name ++ codes " ") e.term
+
+-- a fragment's name, sections and entries
+abbrev pub fragment_text : List ℕ → List PlacedSection → Entries → List ℕ
+fragment_text name sections entries = codes "fragment " ++ name ++ (10 ∷ []) ++ sections_text 0 sections ++ entries_text name entries

@@ -4,6 +4,7 @@
 mod command_line;
 mod commands;
 mod dump;
+mod entries;
 mod input;
 mod line;
 mod link;

@@ -1,12 +1,13 @@
-ghost use Rattle.std.specs.Prelude.{◌≡◌, ◌≢◌, ◌<◌, ◌≤◌, ◌++◌, ℕ, Some, IfErr, IfOk, [], drop, length, replicate};
-ghost use Rattle.std.specs.Result.{result_err};
+ghost use Rattle.std.specs.Prelude.{◌≡◌, ◌≢◌, ◌<◌, ◌≤◌, ◌++◌, ℕ, Some, Err, IfErr, IfOk, OnErr, drop, length, map, replicate};
 ghost use Rattle.cfm_memory.specs.Instances.{bytes_at};
+ghost use Rattle.cfm_memory.specs.declared.place.MemoryFault.TheVariants.{OutOfMemory};
 ghost use Rattle.pef_loader.specs.Views.{loaded};
 ghost use Rattle.pef_views.specs.Views.{contained, seen};
-ghost use Rattle.pef_tool.specs.Prepared.{HasImage, HasImageAt, IsPrepared, image_in, section_done};
+ghost use Rattle.pef_tool.specs.Prepared.{AreApart, HasImage, HasImageAt, IsPrepared, MayNotPrepare, Stand, filled_at, filled_in, image_in, place_at, zeros_at};
 ghost use Rattle.pef_tool.specs.Placing.{ArePlaced, LacksRoom, extent_of};
 
-use crate::relocation::relocate;
+use crate::entries::{Entries, entry_address};
+use crate::relocation::relocate_sections;
 use crate::shown::Prepared;
 use cfm_memory::{Memory, MemoryFault, Place};
 use pef_loader::Loader;
@@ -26,32 +27,55 @@ pub enum PrepareFault {
     Reloc(RelocFault),
 }
 
-/// Prepares a container with at most one instantiated section, alone.
+impl From<MemoryFault> for PrepareFault {
+    ghost use Rattle.std.specs.Prelude.{◌≡◌};
+    ghost use Rattle.pef_tool.specs.declared.prepare.PrepareFault.TheVariants as prepare_fault;
+
+    ghost from_gives = { λ fault e. e ≡ prepare_fault.Memory fault };
+
+    fn from(fault: MemoryFault) -> PrepareFault {
+        PrepareFault::Memory(fault)
+    }
+}
+
+impl From<RelocFault> for PrepareFault {
+    ghost use Rattle.std.specs.Prelude.{◌≡◌};
+    ghost use Rattle.pef_tool.specs.declared.prepare.PrepareFault.TheVariants as prepare_fault;
+
+    ghost from_gives = { λ fault e. e ≡ prepare_fault.Reloc fault };
+
+    fn from(fault: RelocFault) -> PrepareFault {
+        PrepareFault::Reloc(fault)
+    }
+}
+
+/// Prepares a container by its loader section, alone: places its instantiated sections, fills them, and
+/// relocates them by the relocation headers in their order.
 pub fn prepare(
     alloc: Global,
     container: &Container<'_>,
     loader: &Loader<'_>,
 ) -> Result<Prepared, PrepareFault>
-    requires one { (contained container.now).header.instantiated_section_count ≤ 1 }
-    requires image { HasImageAt (contained container.now) 0 }
-    ensures prepared { IfOk result (λ p. IsPrepared 0x10000000 (contained container.now) (loaded loader.now) p.memory p.places.items) }
+    requires loader { (loaded loader.now).sections ≡ (contained container.now).header.instantiated_section_count }
+    requires images { (k : ℕ) → HasImageAt (contained container.now) k }
+    ensures prepared { IfOk result (λ p. IsPrepared 0x10000000 (contained container.now) (loaded loader.now) p) }
+    ensures refused { IfErr result (λ fault. MayNotPrepare 0x10000000 (contained container.now) (loaded loader.now) fault) }
 {
     let mut memory = Memory::new(alloc, MEMORY_LIMIT);
-    let places = match place_sections(alloc, &mut memory, container) {
-        Ok(places) => places,
-        Err(fault) => return Err(PrepareFault::Memory(fault)),
+    let places = place_sections(alloc, &mut memory, container)?;
+    let sections = addresses(alloc, places.as_slice())?;
+    fill_sections(&mut memory, places.as_slice(), container);
+    relocate_sections(&mut memory, places.as_slice(), loader, sections.as_slice())?;
+    let entries = Entries {
+        init: entry_address(places.as_slice(), loader.init()),
+        main: entry_address(places.as_slice(), loader.main()),
+        term: entry_address(places.as_slice(), loader.term()),
     };
-    if places.is_empty() {
-        return Ok(Prepared { memory, places });
-    }
-    let place = places[0];
-    let Some(section) = container.section(0) else {
-        unreachable!()
-    };
-    match prepare_section(&mut memory, place, &section, 0, loader, &[place.address]) {
-        Ok(()) => Ok(Prepared { memory, places }),
-        Err(fault) => Err(PrepareFault::Reloc(fault)),
-    }
+    Ok(Prepared {
+        memory,
+        places,
+        entries,
+    })
 }
 
 /// Places the instantiated sections of a container, each in turn at the lowest address with room.
@@ -76,35 +100,52 @@ fn place_sections(
     Ok(places)
 }
 
-/// Puts the image of a section at the front of its memory.
+/// The addresses of some places.
+fn addresses(alloc: Global, places: &[Place]) -> Result<Vec<u32>, MemoryFault>
+    ensures addresses { IfOk result (λ sections. sections.items ≡ map (λ p. p.address) places.now) }
+    ensures memory { OnErr result (result ≡ Err OutOfMemory) }
+{
+    let mut addresses = Vec::new(alloc);
+    for place in places {
+        addresses.push(place.address)?;
+    }
+    Ok(addresses)
+}
+
+/// Fills the sections at some places, all zeros, with their images.
+fn fill_sections(memory: &mut Memory, places: &[Place], container: &Container<'_>)
+    requires there { length places.now ≤ (contained container.now).header.section_count }
+    requires images { (k : ℕ) → HasImageAt (contained container.now) k }
+    requires sizes { (k : ℕ) → k < length places.now → (place_at places.now k).size ≡ (extent_of (contained container.now) k).size }
+    requires apart { AreApart places.now }
+    requires zeros { Stand memory.old places.now (zeros_at places.now) }
+    ensures filled { Stand memory.new places.now (filled_at (contained container.now)) }
+{
+    for (k, place) in places.iter().enumerate() {
+        let Some(section) = container.section(k) else {
+            unreachable!()
+        };
+        fill_section(memory, *place, &section);
+    }
+}
+
+/// Fills the section at a place, all zeros, with its image.
+fn fill_section(memory: &mut Memory, place: Place, section: &SectionView<'_>)
+    requires image { HasImage (seen section.now) }
+    requires size { place.size ≡ section.now.total_size }
+    requires zeros { bytes_at memory.old.instances place.address ≡ Some (replicate place.size 0) }
+    ensures here { bytes_at memory.new.instances place.address ≡ Some (filled_in (seen section.now)) }
+    ensures others { (address : ℕ) → address ≢ place.address → bytes_at memory.new.instances address ≡ bytes_at memory.old.instances address }
+{
+    fill(memory.part_mut(place), image(section));
+}
+
+/// Puts an image at the front of some memory.
 fn fill(memory: &mut [u8], image: &[u8])
     requires { length image.now ≤ length memory.old }
     ensures { memory.new ≡ image.now ++ drop (length image.now) memory.old }
 {
     memory[..image.len()].copy_from_slice(image);
-}
-
-/// Fills and relocates the memory of a section, number `k`, which is zeros.
-fn prepare_section(
-    memory: &mut Memory,
-    place: Place,
-    section: &SectionView<'_>,
-    k: u32,
-    loader: &Loader<'_>,
-    sections: &[u32],
-) -> Result<(), RelocFault>
-    requires image { HasImage (seen section.now) }
-    requires size { place.size ≡ section.now.total_size }
-    requires zeros { bytes_at memory.old.instances place.address ≡ Some (replicate place.size 0) }
-    ensures here { bytes_at memory.new.instances place.address ≡ Some (section_done (seen section.now) k (loaded loader.now) (record { sections = sections.now; imports = [] })).memory }
-    ensures fault { result_err result ≡ (section_done (seen section.now) k (loaded loader.now) (record { sections = sections.now; imports = [] })).fault }
-    ensures len { length (section_done (seen section.now) k (loaded loader.now) (record { sections = sections.now; imports = [] })).memory ≡ place.size }
-    ensures others { (address : ℕ) → address ≢ place.address → bytes_at memory.new.instances address ≡ bytes_at memory.old.instances address }
-    ensures limit { memory.new.limit ≡ memory.old.limit }
-{
-    let part = memory.part_mut(place);
-    fill(part, image(section));
-    relocate(part, k, loader, sections, &[])
 }
 
 /// The image of a section without pattern-initialized data.

@@ -3,16 +3,18 @@ ghost use Rattle.pef_tool.specs.Sent.{Sends};
 ghost use Rattle.pef_tool.specs.Shown.{IsHeld, heading_text, section_at, section_text, sections_text};
 
 use crate::dump::print_memory;
+use crate::entries::Entries;
 use crate::line::{Line, push_number, push_text, push_word};
 use crate::page::{Page, send};
 use crate::ports::{Sink, StreamFault};
 use cfm_memory::{Memory, Place};
 
-/// The memory of a prepared fragment, and where its sections were placed, in order.
+/// The memory of a prepared fragment, where its sections were placed, in order, and its entries.
 #[derive(Drop)]
 pub struct Prepared {
     pub memory: Memory,
     pub places: Vec<Place>,
+    pub entries: Entries,
     ghost held: { All (IsHeld memory) places.items },
 }
 
@@ -24,7 +26,7 @@ impl Prepared {
 
     /// Prints the fragment `it`: its name, then its sections.
     pub fn print<W: Sink>(&self, out: &mut W, page: &mut Page) -> Result<(), StreamFault>
-        ensures { Sends result (W.written out.old) (W.written out.new) (W.failures out.old) (W.failures out.new) page.old.items page.new.items (fragment_text (codes "it") (sections_of self.now)) }
+        ensures { Sends result (W.written out.old) (W.written out.new) (W.failures out.old) (W.failures out.new) page.old.items page.new.items (fragment_text (codes "it") (sections_of self.now) self.now.entries) }
     {
         send(out, page, b"fragment it\n")?;
         print_sections(out, page, &self.memory, self.places.as_slice())
