@@ -2,3 +2,4 @@ pub mod Fields
 pub mod Containers
 pub mod Loaders
 pub mod Described
+pub mod Places

@@ -7,10 +7,12 @@
 mod container;
 mod field;
 mod loader;
+mod symbols;
 
 pub use container::{DATA_ALIGNMENT, Part, Versions, write_container};
 pub use field::{Field, put_fields};
 pub use loader::{SectionProgram, Tables, write_loader};
+pub use symbols::{Export, Import, Library};
 
 #[cfg(test)]
 mod tests;
