@@ -1,15 +1,17 @@
 -- What is known of words that were read.
-use Rattle.std.proofs.Common.{◌≡◌, ℕ, ◌+◌, ◌<◌, ◌≤◌, Bool, true, false, cond, List, [], ◌∷◌, Option, None, Some, Result, Ok, Err, length, refl, arith}
+use Rattle.std.proofs.Common.{◌≡◌, ℕ, ◌+◌, ◌<◌, ◌≤◌, ◌==◌, not, Bool, true, false, cond, List, [], ◌∷◌, Option, None, Some, Result, Ok, Err, length, refl, arith}
 use Rattle.std.specs.Prelude.{codes, nat_lt}
 use Rattle.std.specs.Option.{ok_or}
+use Rattle.std.specs.List.{list_all}
 use Rattle.std.specs.Str.{bytes_eq}
 use Rattle.std.proofs.lemmas.Bool.{ltb-false, ltb-true}
 use Rattle.std.proofs.lemmas.List.{length-map}
 use Rattle.pef_reloc.specs.declared.fixup.Base.{Base}
 use Rattle.pef_reloc.specs.declared.fixup.Base.TheVariants as base
+use Rattle.pef_reloc.proofs.FixupLemmas.{met_both}
 use Rattle.pef_script.specs.declared.fault.LineFault.{LineFault}
 use Rattle.pef_script.specs.declared.fault.LineFault.TheVariants.{BadLine, BadNumber, UnknownName, BadKind}
-use Rattle.pef_script.specs.Words.{below, cut_at, is_word, named, next_name, next_word, number_in, number_up_to, word_before}
+use Rattle.pef_script.specs.Words.{below, cut_at, is_word, is_printing, named, next_name, next_word, number_in, number_up_to, word_before}
 use Rattle.pef_script.specs.State.{State, import_names, number_of_name, section_named, section_names}
 use Rattle.pef_script.specs.Declarations.{class_of, kind_of, options_of, share_of}
 use Rattle.pef_script.specs.Contents.{base_named, import_named}
@@ -17,17 +19,18 @@ use Rattle.pef_script.specs.WellFormed.{BaseThere, IsName, is_kind, is_options, 
 use Rattle.pef_script.proofs.Leads.{Leads, leads_if, leads_then, led}
 use Rattle.pef_script.proofs.ListLemmas.{position_from-under}
 
-word_before-is : (cut : Option (List ℕ × List ℕ)) → Leads (λ p. 1 ≤ length p.0) (word_before cut)
+word_before-is : (cut : Option (List ℕ × List ℕ)) → Leads (λ p. is_word p.0 ≡ true) (word_before cut)
 word_before-is None = tt
-word_before-is (Some p) = leads_if (λ (q : List ℕ × List ℕ). 1 ≤ length q.0) (is_word p.0) (Ok p) (Err BadLine) (λ is. not_empty p.0 is) (λ isnt. tt)
-  where
-    not_empty : (word : List ℕ) → is_word word ≡ true → 1 ≤ length word
-    not_empty [] is = absurd (cc)
-    not_empty (b ∷ bytes) is = omega arith
+word_before-is (Some p) = leads_if (λ (q : List ℕ × List ℕ). is_word q.0 ≡ true) (is_word p.0) (Ok p) (Err BadLine) (λ is. is) (λ isnt. tt)
 
-named-is : (r : Result (List ℕ × List ℕ) LineFault) → Leads (λ p. 1 ≤ length p.0) r → Leads (λ p. IsName p.0) (named (λ p. p.0) r)
-named-is (Err fault) least = tt
-named-is (Ok p) least = leads_if (λ (q : List ℕ × List ℕ). IsName q.0) (nat_lt 255 (length p.0)) (Err BadLine) (Ok p) (λ over. tt) (λ within. record { least = least; most = ltb-false _ _ within })
+-- a word of at most 255 bytes is a name
+name_if : (word : List ℕ) → is_word word ≡ true → length word ≤ 255 → IsName word
+name_if [] is most = absurd (cc)
+name_if (b ∷ bytes) is most = record { least = omega arith; most = most; bytes = (met_both (not (length (b ∷ bytes) == 0)) (list_all is_printing (b ∷ bytes)) is).1 }
+
+named-is : (r : Result (List ℕ × List ℕ) LineFault) → Leads (λ p. is_word p.0 ≡ true) r → Leads (λ p. IsName p.0) (named (λ p. p.0) r)
+named-is (Err fault) word = tt
+named-is (Ok p) word = leads_if (λ (q : List ℕ × List ℕ). IsName q.0) (nat_lt 255 (length p.0)) (Err BadLine) (Ok p) (λ over. tt) (λ within. name_if p.0 word (ltb-false _ _ within))
 
 pub next_name-is : (line : List ℕ) (p : List ℕ × List ℕ) → next_name line ≡ Ok p → IsName p.0
 unfolding next_name next_word

@@ -1,6 +1,6 @@
 -- What is true of every script that was read.
 use Rattle.std.specs.Prelude.{◌≡◌, ℕ, ℤ, pos, negsuc, ◌+◌, ◌<◌, ◌≤◌, ◌==◌, ◌||◌, Bool, true, List, [], ◌∷◌, Option, None, Some, length, map, slice_index}
-use Rattle.std.specs.List.{AllByRecursion, IsDistinct, sum_by}
+use Rattle.std.specs.List.{AllByRecursion, IsDistinct, list_all, sum_by}
 use Rattle.std.specs.Str.{bytes_eq}
 use Rattle.pef_reloc.specs.declared.fixup.Base.{Base}
 use Rattle.pef_reloc.specs.declared.fixup.Base.TheVariants as base
@@ -10,11 +10,13 @@ use Rattle.pef_script.specs.declared.limits.TheConstants.{MAX_ALIGN, MAX_EXPORTS
 use Rattle.pef_script.specs.declared.parts.Versions.{Versions}
 use Rattle.pef_script.specs.Script.{DescribedExport, DescribedImport, DescribedLibrary, DescribedSection, DescribedScript}
 use Rattle.pef_script.specs.State.{export_names, import_names, library_names}
+use Rattle.pef_script.specs.Words.{is_printing}
 
--- a name has 1 to 255 bytes
+-- a name has 1 to 255 bytes, each from 21 to 7E (hex)
 pub record IsName (name : List ℕ) : Type 0 where
   pub least : 1 ≤ length name
   pub most : length name ≤ 255
+  pub bytes : list_all is_printing name ≡ true
 
 -- each is at most those behind it
 abbrev pub Rises : List ℕ → Type 0
