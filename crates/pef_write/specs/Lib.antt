@@ -3,3 +3,6 @@ pub mod Containers
 pub mod Loaders
 pub mod Described
 pub mod Places
+pub mod Linked
+pub mod Encoded
+pub mod Sound
