@@ -4,4 +4,7 @@ pub mod Ends
 pub mod Holds
 pub mod Leads
 pub mod LineLemmas
+pub mod ListLemmas
 pub mod PairLemmas
+pub mod TableLemmas
+pub mod WordLemmas

@@ -3,8 +3,9 @@ use Rattle.std.proofs.Common.{◌≡◌, ℕ, ◌+◌, ◌≤◌, ◌==◌, Bool
 use Rattle.pef_script.specs.declared.fault.ScriptFault.{ScriptFault}
 use Rattle.pef_script.specs.declared.fault.ScriptFault.TheVariants as fault
 use Rattle.pef_script.specs.Words.{cut_at}
-use Rattle.pef_script.specs.Grammar.{State, line_of, lines_of, longer_first, read_lines}
+use Rattle.pef_script.specs.Grammar.{line_of, lines_of, longer_first, read_lines}
 use Rattle.pef_script.specs.Reader.{Fails}
+use Rattle.pef_script.specs.State.{State}
 use Rattle.pef_script.specs.Steps.{FailsAt}
 
 -- the two parts of a cut

@@ -1,8 +1,12 @@
+pub mod Contents
+pub mod Declarations
+pub mod Exports
 pub mod Faults
 pub mod Grammar
 pub mod Reader
 pub mod Script
-pub mod Sections
+pub mod Seen
+pub mod State
 pub mod Steps
 pub mod WellFormed
 pub mod Words

@@ -1,5 +1,5 @@
 -- What a script describes: the parts of a container, by their names and numbers.
-use Rattle.std.specs.Prelude.{ℕ, Bool, List, Option}
+use Rattle.std.specs.Prelude.{ℕ, ℤ, Bool, List, Option}
 use Rattle.pef_reloc.specs.declared.fixup.Fixup.{Fixup}
 use Rattle.pef_script.specs.declared.parts.Versions.{Versions}
 
@@ -17,25 +17,25 @@ pub record DescribedSection : Type 0 where
   pub image : List ℕ
   pub fixups : List Fixup
 
--- a library to import from; the options are 80 (hex) for one that initializes before, and 40 for a weak one
+-- a library to import from; of the options, 80 (hex) is for one that initializes before and 40 for a weak one
 pub record DescribedLibrary : Type 0 where
   pub name : List ℕ
   pub current : ℕ
   pub old_imp : ℕ
   pub options : ℕ
 
--- an imported symbol of a library, which is named by its number
+-- an imported symbol, of a library by its number
 pub record DescribedImport : Type 0 where
   pub name : List ℕ
   pub class : ℕ
   pub weak : Bool
   pub library : ℕ
 
--- an exported symbol: an offset in a section, which is named by its number
+-- an exported symbol: an offset in a section, by its number
 pub record DescribedExport : Type 0 where
   pub name : List ℕ
   pub class : ℕ
-  pub section : ℕ
+  pub section : ℤ
   pub value : ℕ
 
 -- a whole script; main, init and term are a section, by its number, and an offset in it

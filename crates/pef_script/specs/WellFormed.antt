@@ -1,17 +1,60 @@
 -- What is true of every script that was read.
-use Rattle.std.specs.Prelude.{◌≡◌, ℕ, ◌<◌, ◌≤◌, ◌==◌, ◌||◌, Bool, true, List, length}
-use Rattle.std.specs.List.{AllByRecursion}
+use Rattle.std.specs.Prelude.{◌≡◌, ℕ, ℤ, pos, negsuc, ◌+◌, ◌<◌, ◌≤◌, ◌==◌, ◌||◌, Bool, true, List, [], ◌∷◌, Option, None, Some, length, map, slice_index}
+use Rattle.std.specs.List.{AllByRecursion, IsDistinct, list_all, sum_by}
+use Rattle.std.specs.Str.{bytes_eq}
 use Rattle.pef_reloc.specs.declared.fixup.Base.{Base}
 use Rattle.pef_reloc.specs.declared.fixup.Base.TheVariants as base
 use Rattle.pef_reloc.specs.declared.fixup.Fixup.{Fixup}
 use Rattle.pef_reloc.specs.Fixups.{fixups_fit, fixups_end}
-use Rattle.pef_script.specs.declared.limits.TheConstants.{MAX_ALIGN, MAX_IMPORTS, MAX_SECTIONS, MAX_TOTAL}
-use Rattle.pef_script.specs.Script.{DescribedSection, DescribedScript}
+use Rattle.pef_script.specs.declared.limits.TheConstants.{MAX_ALIGN, MAX_EXPORTS, MAX_IMPORTS, MAX_LIBRARIES, MAX_NAME_BYTES, MAX_NUMBER, MAX_SECTIONS, MAX_TOTAL}
+use Rattle.pef_script.specs.declared.parts.Versions.{Versions}
+use Rattle.pef_script.specs.Script.{DescribedExport, DescribedImport, DescribedLibrary, DescribedSection, DescribedScript}
+use Rattle.pef_script.specs.State.{export_names, import_names, library_names}
+use Rattle.pef_script.specs.Words.{is_printing}
 
--- a name has 1 to 255 bytes
+-- a name has 1 to 255 bytes, each from 21 to 7E (hex)
 pub record IsName (name : List ℕ) : Type 0 where
   pub least : 1 ≤ length name
   pub most : length name ≤ 255
+  pub bytes : list_all is_printing name ≡ true
+
+-- each is at most those behind it
+abbrev pub Rises : List ℕ → Type 0
+Rises [] = Unit {0}
+Rises (x ∷ xs) = AllByRecursion (λ y. x ≤ y) xs × Rises xs
+
+pub record VersionsHold (v : Versions) : Type 0 where
+  pub current : v.current ≤ MAX_NUMBER
+  pub old_def : v.old_def ≤ MAX_NUMBER
+  pub old_imp : v.old_imp ≤ MAX_NUMBER
+
+-- the options of a library, by their bits
+abbrev pub is_options : ℕ → Bool
+is_options options = options == 0 || options == 0x40 || options == 0x80 || options == 0xC0
+
+pub record LibraryHolds (l : DescribedLibrary) : Type 0 where
+  pub name : IsName l.name
+  pub current : l.current ≤ MAX_NUMBER
+  pub old_imp : l.old_imp ≤ MAX_NUMBER
+  pub options : is_options l.options ≡ true
+
+pub record LibrariesHold (libraries : List DescribedLibrary) : Type 0 where
+  pub count : length libraries ≤ MAX_LIBRARIES
+  pub each : AllByRecursion LibraryHolds libraries
+  pub apart : IsDistinct bytes_eq (map (λ library. library.name) libraries)
+
+-- an import among so many libraries
+pub record ImportHolds (libraries : ℕ) (i : DescribedImport) : Type 0 where
+  pub name : IsName i.name
+  pub class : i.class ≤ 4
+  pub library : i.library < libraries
+
+-- imports stand library by library
+pub record ImportsHold (libraries : ℕ) (imports : List DescribedImport) : Type 0 where
+  pub count : length imports ≤ MAX_IMPORTS
+  pub each : AllByRecursion (ImportHolds libraries) imports
+  pub apart : IsDistinct bytes_eq (map (λ symbol. symbol.name) imports)
+  pub grouped : Rises (map (λ symbol. symbol.library) imports)
 
 -- the kinds and the shares of sections, by their numbers
 abbrev pub is_kind : ℕ → Bool
@@ -37,7 +80,54 @@ pub record SectionHolds (sections imports : ℕ) (s : DescribedSection) : Type 0
   pub inside : fixups_end 0 s.fixups ≤ s.header.total
   pub bases : AllByRecursion (λ (fixup : Fixup). BaseThere sections imports fixup.base) s.fixups
 
+pub record SectionsHold (imports : ℕ) (sections : List DescribedSection) : Type 0 where
+  pub count : length sections ≤ MAX_SECTIONS
+  pub each : AllByRecursion (SectionHolds (length sections) imports) sections
+  pub apart : IsDistinct bytes_eq (map (λ section. section.header.name) sections)
+
+-- how many bytes each section has
+abbrev pub totals_of : List DescribedSection → List ℕ
+totals_of sections = map (λ section. section.header.total) sections
+
+-- an offset in section k, or at its end, where sections have so many bytes
+pub record PlaceHolds (totals : List ℕ) (k offset : ℕ) : Type 0 where
+  pub there : k < length totals
+  pub inside : offset ≤ slice_index totals k
+
+-- the same of a section by its signed number
+abbrev pub SignedPlaceHolds : List ℕ → ℤ → ℕ → Type 0
+SignedPlaceHolds totals (pos k) offset = PlaceHolds totals k offset
+SignedPlaceHolds totals (negsuc n) offset = ⊥
+
+pub record ExportHolds (totals : List ℕ) (e : DescribedExport) : Type 0 where
+  pub name : IsName e.name
+  pub class : e.class ≤ 4
+  pub place : SignedPlaceHolds totals e.section e.value
+
+pub record ExportsHold (totals : List ℕ) (exports : List DescribedExport) : Type 0 where
+  pub count : length exports ≤ MAX_EXPORTS
+  pub each : AllByRecursion (ExportHolds totals) exports
+  pub apart : IsDistinct bytes_eq (map (λ symbol. symbol.name) exports)
+
+-- an entry is in a section, where there is one
+abbrev pub EntryHolds : List ℕ → Option (ℕ × ℕ) → Type 0
+EntryHolds totals None = Unit {0}
+EntryHolds totals (Some entry) = PlaceHolds totals entry.0 entry.1
+
+-- the bytes of names, with one more for each
+abbrev pub bytes_of_names : List (List ℕ) → ℕ
+bytes_of_names names = sum_by (λ name. length name + 1) names
+
+abbrev pub name_bytes : DescribedScript → ℕ
+name_bytes s = bytes_of_names (library_names s) + bytes_of_names (import_names s) + bytes_of_names (export_names s)
+
 pub record ScriptHolds (s : DescribedScript) : Type 0 where
-  pub section_count : length s.sections ≤ MAX_SECTIONS
-  pub import_count : length s.imports ≤ MAX_IMPORTS
-  pub sections : AllByRecursion (SectionHolds (length s.sections) (length s.imports)) s.sections
+  pub versions : VersionsHold s.versions
+  pub libraries : LibrariesHold s.libraries
+  pub imports : ImportsHold (length s.libraries) s.imports
+  pub sections : SectionsHold (length s.imports) s.sections
+  pub exports : ExportsHold (totals_of s.sections) s.exports
+  pub main : EntryHolds (totals_of s.sections) s.main
+  pub init : EntryHolds (totals_of s.sections) s.init
+  pub term : EntryHolds (totals_of s.sections) s.term
+  pub names : name_bytes s ≤ MAX_NAME_BYTES

@@ -3,17 +3,22 @@
 //! [`Script::read`] takes the text; what it refuses is a [`ScriptFault`] with the number of its line.
 #![tactic(auto)]
 
+mod contents;
+mod declarations;
+mod exports;
 mod fault;
+mod kinds;
 mod limits;
 mod numbers;
 mod pairs;
 mod parts;
 mod reader;
 mod script;
+mod tables;
 #[cfg(test)]
 mod tests;
 mod words;
 
 pub use fault::{LineFault, ScriptFault};
-pub use parts::{SectionHeader, Versions};
+pub use parts::{Export, Import, Library, SectionHeader, Versions};
 pub use script::Script;

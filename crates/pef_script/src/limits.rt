@@ -1,8 +1,17 @@
 /// How many sections a script can have.
-pub const MAX_SECTIONS: usize = 1;
+pub const MAX_SECTIONS: usize = 8;
+
+/// How many libraries a script can have.
+pub const MAX_LIBRARIES: usize = 4096;
 
 /// How many imports a script can have.
 pub const MAX_IMPORTS: usize = 65_536;
+
+/// How many exports a script can have.
+pub const MAX_EXPORTS: usize = 16_383;
+
+/// How many bytes the names of libraries, imports and exports can have, with one more for each.
+pub const MAX_NAME_BYTES: usize = 8_388_608;
 
 /// The greatest alignment of a section, as a power of two.
 pub const MAX_ALIGN: u32 = 12;
@@ -13,8 +22,20 @@ pub const MAX_TOTAL: u32 = 0x0100_0000;
 /// The greatest number in a script.
 pub const MAX_NUMBER: u32 = u32::MAX;
 
-/// The group of the lines that declare sections.
+// The groups of lines. No line comes behind one of a later group.
+
+pub const VERSIONS_GROUP: u8 = 1;
+
+pub const LIBRARY_GROUP: u8 = 2;
+
 pub const SECTION_GROUP: u8 = 3;
 
-/// The group of the lines that say what is in a section.
 pub const CONTENT_GROUP: u8 = 4;
+
+pub const EXPORT_GROUP: u8 = 5;
+
+pub const MAIN_GROUP: u8 = 6;
+
+pub const INIT_GROUP: u8 = 7;
+
+pub const TERM_GROUP: u8 = 8;

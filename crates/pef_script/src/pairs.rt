@@ -45,6 +45,7 @@ pub fn append_pairs(image: &mut Vec<u8>, digits: &[u8]) -> Result<(), Stop>
     if digits.len() % 2 != 0 {
         return Err(Stop::Refused(LineFault::BadLine));
     }
+    image.reserve(digits.len() / 2)?;
     for i in 0..digits.len() / 2 {
         match pair(digits[2 * i], digits[2 * i + 1]) {
             Some(byte) => image.push(byte)?,

@@ -1,11 +1,13 @@
 ghost use Rattle.std.specs.Prelude.{◌≤◌, vec_len};
-ghost use Rattle.pef_script.specs.declared.limits.TheConstants.{MAX_SECTIONS};
+ghost use Rattle.indexmap.specs.IndexMap.{index_map_len};
+ghost use Rattle.pef_script.specs.declared.limits.TheConstants.{MAX_IMPORTS, MAX_LIBRARIES, MAX_SECTIONS};
 
 use crate::fault::Stop;
-use crate::limits::MAX_SECTIONS;
+use crate::limits::{MAX_IMPORTS, MAX_LIBRARIES, MAX_SECTIONS};
 use crate::pairs::append_pairs;
+use indexmap::IndexMap;
 use pef_reloc::{Fixup, WORD};
-use std::alloc::AllocFailed;
+use std::alloc::AllocError;
 use std::marker::Model;
 
 /// The versions of a container.
@@ -14,6 +16,27 @@ pub struct Versions {
     pub current: u32,
     pub old_def: u32,
     pub old_imp: u32,
+}
+
+/// A library that a container imports from.
+#[derive(Clone, Copy, Debug, PartialEq, Eq)]
+pub struct Library<'a> {
+    pub name: &'a [u8],
+    pub current: u32,
+    pub old_imp: u32,
+    /// 80 (hex) where it initializes before, 40 where it is weak.
+    pub options: u8,
+}
+
+/// A symbol that a container imports.
+#[derive(Clone, Copy, Debug, PartialEq, Eq)]
+pub struct Import<'a> {
+    pub name: &'a [u8],
+    /// The symbol's class: 0 code, 1 data, 2 transition vector, 3 TOC, 4 glue.
+    pub class: u8,
+    pub weak: bool,
+    /// The number of its library.
+    pub library: u32,
 }
 
 /// A section, without its image and its fixups.
@@ -30,6 +53,42 @@ pub struct SectionHeader<'a> {
     pub total: u32,
 }
 
+/// A symbol that a container exports.
+#[derive(Clone, Copy, Debug, PartialEq, Eq)]
+pub struct Export<'a> {
+    pub name: &'a [u8],
+    /// The symbol's class: 0 code, 1 data, 2 transition vector, 3 TOC, 4 glue.
+    pub class: u8,
+    /// The number of its section.
+    pub section: i32,
+    /// Its offset in the section.
+    pub value: u32,
+}
+
+/// What a script says of a library beside its name.
+#[derive(Clone, Copy)]
+pub struct LibraryData {
+    pub current: u32,
+    pub old_imp: u32,
+    pub options: u8,
+}
+
+/// What a script says of an import beside its name.
+#[derive(Clone, Copy)]
+pub struct ImportData {
+    pub class: u8,
+    pub weak: bool,
+    pub library: u32,
+}
+
+/// What a script says of an export beside its name.
+#[derive(Clone, Copy)]
+pub struct ExportData {
+    pub class: u8,
+    pub section: i32,
+    pub value: u32,
+}
+
 /// A section with the bytes that it begins with and its fixups in address order.
 #[derive(Drop)]
 pub struct Section<'a> {
@@ -40,7 +99,7 @@ pub struct Section<'a> {
 
 impl<'a> Model for Section<'a> {
     ghost use Rattle.pef_script.specs.Script.{DescribedSection};
-    ghost use Rattle.pef_script.specs.Sections.{header_in};
+    ghost use Rattle.pef_script.specs.Seen.{header_in};
 
     ghost Value = { DescribedSection };
 
@@ -52,10 +111,10 @@ impl<'a> Model for Section<'a> {
 }
 
 impl<'a> Section<'a> {
-    ghost use Rattle.std.specs.Prelude.{◌≡◌, [], ◌∷◌, OnOk};
+    ghost use Rattle.std.specs.Prelude.{◌≡◌, OnOk};
     ghost use Rattle.pef_words.specs.Refusals.{result_map};
     ghost use Rattle.pef_reloc.specs.Fixups.{fixups_end};
-    ghost use Rattle.pef_script.specs.Grammar.{with_fixups, with_image};
+    ghost use Rattle.pef_script.specs.Contents.{with_fixups, with_image};
     ghost use Rattle.pef_script.specs.Words.{image_of};
     ghost use Rattle.pef_script.specs.Steps.{Steps};
 
@@ -76,16 +135,26 @@ impl<'a> Section<'a> {
         append_pairs(&mut self.image, digits)
     }
 
-    pub fn add_fixup(&mut self, fixup: Fixup) -> Result<(), AllocFailed<Fixup>>
-        ensures { OnOk result (self.new ≡ with_fixups self.old (fixup ∷ [])) }
+    /// Appends fixups, which come behind those that are there.
+    pub fn add_fixups(&mut self, fixups: &[Fixup]) -> Result<(), AllocError>
+        ensures { OnOk result (self.new ≡ with_fixups self.old fixups.now) }
     {
-        self.fixups.push(fixup)
+        self.fixups.extend_from_slice(fixups)
     }
 }
 
-/// What was read of a script.
+/// What was read of a script. Libraries, imports and exports are numbered as their names came.
 #[derive(Drop)]
 pub struct Parts<'a> {
+    pub versions: Versions,
+    pub libraries: IndexMap<&'a [u8], LibraryData>,
+    pub imports: IndexMap<&'a [u8], ImportData>,
     pub sections: Vec<Section<'a>>,
+    pub exports: IndexMap<&'a [u8], ExportData>,
+    pub main: Option<(u32, u32)>,
+    pub init: Option<(u32, u32)>,
+    pub term: Option<(u32, u32)>,
+    ghost few_libraries: { index_map_len libraries ≤ MAX_LIBRARIES },
+    ghost few_imports: { index_map_len imports ≤ MAX_IMPORTS },
     ghost few_sections: { vec_len sections ≤ MAX_SECTIONS },
 }

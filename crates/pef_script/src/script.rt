@@ -1,13 +1,13 @@
 ghost use Rattle.std.specs.Prelude.{◌≡◌, IfSome, length, option_map, slice_get, true};
 ghost use Rattle.std.specs.Option.{option_copied};
+ghost use Rattle.pef_reloc.specs.Fixups.{fixups_fit};
 ghost use Rattle.pef_script.specs.Grammar.{script_of};
 ghost use Rattle.pef_script.specs.Reader.{Reads, script_in};
-ghost use Rattle.pef_script.specs.Sections.{header_in};
+ghost use Rattle.pef_script.specs.Seen.{export_in, header_in, import_in, library_in};
 ghost use Rattle.pef_script.specs.WellFormed.{ScriptHolds};
-ghost use Rattle.pef_reloc.specs.Fixups.{fixups_fit};
 
 use crate::ScriptFault;
-use crate::parts::{Parts, SectionHeader};
+use crate::parts::{Export, Import, Library, Parts, SectionHeader, Versions};
 use crate::reader::Reader;
 use crate::words::cut_at;
 use pef_reloc::Fixup;
@@ -46,12 +46,66 @@ impl<'a> Script<'a> {
         Ok(Script { parts })
     }
 
+    /// The versions of the container: 0, 0 and 0 without a line for them.
+    pub fn versions(&self) -> Versions
+        ensures { result ≡ self.now.versions }
+    {
+        self.parts.versions
+    }
+
+    /// How many libraries there are.
+    pub fn libraries(&self) -> usize
+        ensures { result ≡ length self.now.libraries }
+    {
+        self.parts.libraries.len()
+    }
+
+    /// How many imports there are, of all libraries.
+    pub fn imports(&self) -> usize
+        ensures { result ≡ length self.now.imports }
+    {
+        self.parts.imports.len()
+    }
+
     /// How many sections there are.
     pub fn sections(&self) -> usize
         ensures count { result ≡ length self.now.sections }
         ensures holds { ScriptHolds self.now }
     {
         self.parts.sections.len()
+    }
+
+    /// How many exports there are.
+    pub fn exports(&self) -> usize
+        ensures { result ≡ length self.now.exports }
+    {
+        self.parts.exports.len()
+    }
+
+    /// Library `l`.
+    pub fn library(&self, l: usize) -> Option<Library<'a>>
+        ensures { option_map library_in result ≡ slice_get self.now.libraries l }
+    {
+        let (name, library) = self.parts.libraries.get_index(l)?;
+        Some(Library {
+            name,
+            current: library.current,
+            old_imp: library.old_imp,
+            options: library.options,
+        })
+    }
+
+    /// Import `j`.
+    pub fn import(&self, j: usize) -> Option<Import<'a>>
+        ensures { option_map import_in result ≡ slice_get self.now.imports j }
+    {
+        let (name, import) = self.parts.imports.get_index(j)?;
+        Some(Import {
+            name,
+            class: import.class,
+            weak: import.weak,
+            library: import.library,
+        })
     }
 
     /// The line of section `k`.
@@ -77,6 +131,40 @@ impl<'a> Script<'a> {
     {
         let section = self.parts.sections.get(k)?;
         Some(section.fixups.as_slice())
+    }
+
+    /// Export `e`.
+    pub fn export(&self, e: usize) -> Option<Export<'a>>
+        ensures { option_map export_in result ≡ slice_get self.now.exports e }
+    {
+        let (name, export) = self.parts.exports.get_index(e)?;
+        Some(Export {
+            name,
+            class: export.class,
+            section: export.section,
+            value: export.value,
+        })
+    }
+
+    /// Where the container is entered: a section by its number, and an offset in it.
+    pub fn main(&self) -> Option<(u32, u32)>
+        ensures { result ≡ self.now.main }
+    {
+        self.parts.main
+    }
+
+    /// Where the container is initialized.
+    pub fn init(&self) -> Option<(u32, u32)>
+        ensures { result ≡ self.now.init }
+    {
+        self.parts.init
+    }
+
+    /// Where the container is terminated.
+    pub fn term(&self) -> Option<(u32, u32)>
+        ensures { result ≡ self.now.term }
+    {
+        self.parts.term
     }
 }
 

@@ -3,3 +3,4 @@ pub mod Containers
 pub mod Written
 pub mod Loaders
 pub mod LoaderLaws
+pub mod Entries

@@ -9,9 +9,9 @@ use Rattle.pef_words.specs.Bytes.{number_at, part_of}
 use Rattle.pef_write.specs.declared.field.Field.{Field}
 use Rattle.pef_write.specs.declared.field.Field.TheVariants.{Half, Word}
 use Rattle.pef_write.specs.Fields.{AllFit, Reads, padded, spelled}
-use Rattle.pef_write.specs.Loaders.{ImportEntry, IsProgram, LibraryEntry, LibraryFits, LoaderTables, ProgramEntry, ProgramFits, ReadsTables, TablesFit, front_fields, header_fields, import_fields, library_fields, program_bytes, program_at, program_fields, programs_from, relocations_from, strings_of, table_fields, written_loader, zero_ended}
+use Rattle.pef_write.specs.Loaders.{ImportEntry, IsProgram, LibraryEntry, LibraryFits, LoaderTables, ProgramEntry, ProgramFits, ReadsTables, TablesFit, front_fields, header_fields, import_fields, import_names_from, library_fields, program_bytes, program_at, program_fields, programs_from, relocations_from, strings_of, table_fields, written_loader, zero_ended}
 use Rattle.pef_write.proofs.Fields.{fit-append, reads, reads-at, reads-split, widths, widths-length}
-use Rattle.pef_write.proofs.Loaders.{front_of, import_names_from, length-import_fields, length-library_fields, length-loader_header, length-table_fields, length-front_fields, length-written_loader}
+use Rattle.pef_write.proofs.Loaders.{front_of, length-import_fields, length-library_fields, length-loader_header, length-table_fields, length-front_fields, length-written_loader}
 
 -- numbers of tables whose names lie inside fit their fields
 fit-libraries : (at limit : ℕ) (libraries : List LibraryEntry) → All LibraryFits libraries → at + length (zero_ended (map (λ l. l.name) libraries)) ≤ limit → limit < 2 ^ 32 → AllFit (library_fields at libraries)

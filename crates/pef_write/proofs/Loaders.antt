@@ -6,7 +6,7 @@ use Rattle.pef_write.specs.declared.field.Field.{Field}
 use Rattle.pef_write.specs.declared.field.Field.TheVariants.{Half, Word}
 use Rattle.pef_write.specs.Fields.{field_bytes, padded, spelled}
 use Rattle.std.specs.Int.{next_multiple_of}
-use Rattle.pef_write.specs.Loaders.{ExportEntry, ImportEntry, LibraryEntry, LoaderTables, ProgramEntry, export_fields, exports_from, front_fields, header_fields, import_fields, library_fields, program_bytes, program_fields, programs_from, strings_from, strings_of, table_fields, written_loader, zero_ended}
+use Rattle.pef_write.specs.Loaders.{ExportEntry, ImportEntry, LibraryEntry, LoaderTables, ProgramEntry, export_fields, export_names_from, exports_from, front_fields, header_fields, import_fields, import_names_from, library_fields, program_bytes, program_fields, program_tables, programs_from, strings_from, strings_of, table_fields, written_loader}
 use Rattle.pef_write.specs.Described.{program_entry}
 use Rattle.pef_write.proofs.Fields.{length-padded}
 
@@ -19,6 +19,12 @@ pub spelled-append : (xs ys : List Field) → spelled (xs ++ ys) ≡ spelled xs 
 unfolding spelled
 spelled-append [] ys = refl
 spelled-append (x ∷ xs) ys = ap (λ z. field_bytes x ++ z) (spelled-append xs ys) ∙ sym (append_assoc (field_bytes x) (spelled xs) (spelled ys))
+
+-- fields in three parts that are written one behind the other
+pub in_three : (before : List ℕ) (xs ys zs : List Field) (first second third : List ℕ) → first ≡ before ++ spelled xs → second ≡ first ++ spelled ys → third ≡ second ++ spelled zs → third ≡ before ++ spelled (xs ++ (ys ++ zs))
+in_three before xs ys zs first second third a b d =
+    let all : spelled (xs ++ (ys ++ zs)) ≡ spelled xs ++ (spelled ys ++ spelled zs) = spelled-append xs (ys ++ zs) ∙ ap (λ z. spelled xs ++ z) (spelled-append ys zs) in
+    rw (all, d, b, a) (simp append_assoc)
 
 -- one program, and those behind it
 pub program_bytes-more : (programs : List SectionProgram) (i : ℕ) → i < length programs
@@ -57,13 +63,6 @@ length-program_fields at [] = refl
 length-program_fields at (p ∷ programs) =
     let later = length-program_fields (at + length p.bytes) programs in
     omega (arith, later)
-
--- where the imports' names begin, and the exports'
-abbrev pub import_names_from : LoaderTables → ℕ
-import_names_from t = length (zero_ended (map (λ l. l.name) t.libraries))
-
-abbrev pub export_names_from : LoaderTables → ℕ
-export_names_from t = length (zero_ended (map (λ l. l.name) t.libraries) ++ zero_ended (map (λ i. i.name) t.imports))
 
 -- all that stands before the programs is as long as they are far
 pub length-front_fields : (t : LoaderTables) → length (spelled (front_fields t)) ≡ programs_from t
@@ -127,3 +126,9 @@ program_fields-more at programs i under = ap (λ rest. spelled (program_fields a
 pub program_fields-end : (at : ℕ) (programs : List SectionProgram) (i : ℕ) → length programs ≤ i → spelled (program_fields at (map program_entry (drop i programs))) ≡ []
 unfolding program_fields spelled
 program_fields-end at programs i past = ap (λ rest. spelled (program_fields at (map program_entry rest))) (drop_all i programs past)
+
+-- the loader section of some programs alone is little longer than they are
+pub length-program_tables : (programs : List ProgramEntry) → length (written_loader (program_tables programs)) ≤ 64 + 12 * length programs + length (program_bytes programs)
+length-program_tables programs =
+    let t = program_tables programs in
+    omega (arith, length-written_loader t, length-table_fields t)

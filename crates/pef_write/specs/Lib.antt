@@ -2,3 +2,7 @@ pub mod Fields
 pub mod Containers
 pub mod Loaders
 pub mod Described
+pub mod Places
+pub mod Linked
+pub mod Encoded
+pub mod Sound

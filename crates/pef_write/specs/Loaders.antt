@@ -70,6 +70,13 @@ program_bytes programs = flat_map (λ p. p.bytes) programs
 abbrev pub strings_of : LoaderTables → List ℕ
 strings_of t = zero_ended (map (λ l. l.name) t.libraries) ++ zero_ended (map (λ i. i.name) t.imports) ++ flat_map (λ e. e.name) t.exports
 
+-- where the names of imports begin, and those of exports, counted from the first string
+abbrev pub import_names_from : LoaderTables → ℕ
+import_names_from t = length (zero_ended (map (λ l. l.name) t.libraries))
+
+abbrev pub export_names_from : LoaderTables → ℕ
+export_names_from t = import_names_from t + length (zero_ended (map (λ i. i.name) t.imports))
+
 -- where the programs begin: behind the header, the libraries, the imports and the relocation headers
 abbrev pub programs_from : LoaderTables → ℕ
 programs_from t = 56 + 24 * length t.libraries + 4 * length t.imports + 12 * length t.programs
@@ -135,22 +142,38 @@ export_fields at (e ∷ exports) = Word (e.class * 2 ^ 24 + at)
     ∷ Half e.section
     ∷ export_fields (at + length e.name) exports
 
+-- the libraries, the imports and the relocation headers
+abbrev pub entry_fields : LoaderTables → List Field
+entry_fields t = library_fields 0 t.libraries ++ (import_fields (import_names_from t) t.imports ++ program_fields 0 t.programs)
+
 -- all that stands before the programs
 abbrev pub front_fields : LoaderTables → List Field
-front_fields t = header_fields t
-    ++ (library_fields 0 t.libraries
-    ++ (import_fields (length (zero_ended (map (λ l. l.name) t.libraries))) t.imports
-    ++ program_fields 0 t.programs))
+front_fields t = header_fields t ++ entry_fields t
 
 -- the export table
 abbrev pub table_fields : LoaderTables → List Field
 table_fields t = map Word t.slots
     ++ (map Word t.keys
-    ++ export_fields (length (zero_ended (map (λ l. l.name) t.libraries) ++ zero_ended (map (λ i. i.name) t.imports))) t.exports)
+    ++ export_fields (export_names_from t) t.exports)
 
 -- a loader section
 unfoldable pub written_loader : LoaderTables → List ℕ
 written_loader t = padded 4 (spelled (front_fields t) ++ (program_bytes t.programs ++ strings_of t)) ++ spelled (table_fields t)
+
+-- the tables of some programs alone: the export table is one empty slot
+abbrev pub program_tables : List ProgramEntry → LoaderTables
+program_tables programs = record {
+  main = None;
+  init = None;
+  term = None;
+  libraries = [];
+  imports = [];
+  programs = programs;
+  power = 0;
+  slots = 0 ∷ [];
+  keys = [];
+  exports = [];
+}
 
 -- an entry that fits its fields
 abbrev pub EntryFits : Option (ℕ × ℕ) → Type 0

@@ -5,12 +5,18 @@
 #![tactic(auto)]
 
 mod container;
+mod fault;
 mod field;
+mod linking;
 mod loader;
+mod symbols;
 
 pub use container::{DATA_ALIGNMENT, Part, Versions, write_container};
+pub use fault::LinkFault;
 pub use field::{Field, put_fields};
+pub use linking::{Linked, link};
 pub use loader::{SectionProgram, Tables, write_loader};
+pub use symbols::{Export, Import, Library};
 
 #[cfg(test)]
 mod tests;

@@ -51,18 +51,12 @@ fn written(
     requires programs { length programs.now ≤ 1 }
     requires halfwords { length (program_bytes (map program_entry programs.now)) ≤ 12 }
 {
-    let tables = Tables {
-        main: None,
-        init: None,
-        term: None,
-        programs,
-    };
     let versions = Versions {
         current: 0,
         old_definition: 0,
         old_implementation: 0,
     };
-    let loader = write_loader(alloc, tables).expect(rt, "memory");
+    let loader = write_loader(alloc, Tables::of_programs(programs)).expect(rt, "memory");
     write_container(alloc, versions, parts, &loader).expect(rt, "memory")
 }
 

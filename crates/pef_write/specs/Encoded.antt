@@ -1,0 +1,20 @@
+-- The relocation programs of a script's sections as bytes, as the code holds them.
+use Rattle.std.specs.Prelude.{ℕ, ◌+◌, List, [], ◌∷◌, ◌++◌}
+use Rattle.pef_reloc.specs.Instrs.{spelled}
+use Rattle.pef_reloc.specs.Plain.{plain_program}
+use Rattle.pef_script.specs.Script.{DescribedSection}
+use Rattle.pef_write.specs.Loaders.{ProgramEntry}
+
+-- the bytes of the plain program of a section
+abbrev pub plain_bytes : DescribedSection → List ℕ
+plain_bytes s = spelled (plain_program s.fixups)
+
+-- a program that has bytes, with its section's number
+abbrev pub filled : ℕ → List ℕ → List ProgramEntry
+filled k [] = []
+filled k (b ∷ bytes) = record { section = k; bytes = b ∷ bytes } ∷ []
+
+-- the programs that have bytes, where the first is that of section k
+abbrev pub filled_from : ℕ → List (List ℕ) → List ProgramEntry
+filled_from k [] = []
+filled_from k (bytes ∷ programs) = filled k bytes ++ filled_from (k + 1) programs

@@ -1,0 +1,137 @@
+-- What the linker writes for a script: a container of its sections, and a loader section with its
+-- libraries, imports and exports, its entries, and a relocation program for each section that has fixups.
+use Rattle.std.specs.Prelude.{◌≡◌, ℕ, true, false, pos, ◌+◌, ◌*◌, ◌≤◌, ◌==◌, Bool, List, [], ◌∷◌, ◌++◌, length, map, nat_lt, slice_index_or}
+use Rattle.std.specs.Int.{w16, cast_unsigned}
+use Rattle.std.specs.List.{count_by}
+use Rattle.pef_hash.specs.Build.{built}
+use Rattle.pef_reloc.specs.declared.fixup.Fixup.{Fixup}
+use Rattle.pef_reloc.specs.declared.instr.Instr.{Instr}
+use Rattle.pef_reloc.specs.Instrs.{program_length, spelled}
+use Rattle.pef_reloc.specs.Steps.{Makes, is_flat, names_below}
+use Rattle.pef_script.specs.declared.parts.Versions as script_versions
+use Rattle.pef_script.specs.Script.{DescribedExport, DescribedImport, DescribedLibrary, DescribedScript, DescribedSection}
+use Rattle.pef_script.specs.State.{export_names}
+use Rattle.pef_write.specs.declared.container.Versions.{Versions}
+use Rattle.pef_views.specs.Container.{Contained}
+use Rattle.pef_write.specs.Containers.{DescribedPart, contained_in, written_container}
+use Rattle.pef_write.specs.Loaders.{ExportEntry, ImportEntry, LibraryEntry, LoaderTables, ProgramEntry, written_loader}
+
+-- instructions that are a program for some fixups among so many sections: without a repeat, they make
+-- the fixups, each once and in order, name no other sections, and have at most four halfwords for each
+pub record IsProgramFor (sections : ℕ) (fixups : List Fixup) (instrs : List Instr) : Type 0 where
+  pub flat : is_flat instrs ≡ true
+  pub makes : Makes fixups instrs
+  pub names : names_below sections instrs ≡ true
+  pub short : program_length instrs ≤ 4 * length fixups
+
+-- a program for each of some sections
+abbrev pub AreProgramsFor : ℕ → List DescribedSection → List (List Instr) → Type 0
+AreProgramsFor count [] [] = Unit {0}
+AreProgramsFor count [] (instrs ∷ programs) = ⊥
+AreProgramsFor count (s ∷ sections) [] = ⊥
+AreProgramsFor count (s ∷ sections) (instrs ∷ programs) = IsProgramFor count s.fixups instrs × AreProgramsFor count sections programs
+
+-- the versions of a script, as the container header has them
+abbrev pub versions_of : DescribedScript → Versions
+versions_of s = record {
+  current = s.versions.current;
+  old_definition = s.versions.old_def;
+  old_implementation = s.versions.old_imp;
+}
+
+-- the part of the container that a section becomes
+abbrev pub part_of : DescribedSection → DescribedPart
+part_of s = record { kind = s.header.kind; share = s.header.share; alignment = s.header.align; total = s.header.total; image = s.image }
+
+-- a library and its imports: how many imports are its own, and how many are of the libraries before it
+abbrev pub library_of : List DescribedImport → ℕ → DescribedLibrary → LibraryEntry
+library_of imports k l = record {
+  name = l.name;
+  old_implementation = l.old_imp;
+  current = l.current;
+  count = count_by (λ i. i.library == k) imports;
+  first = count_by (λ i. nat_lt i.library k) imports;
+  options = l.options;
+}
+
+-- libraries, numbered from a number on
+abbrev pub libraries_from : List DescribedImport → ℕ → List DescribedLibrary → List LibraryEntry
+libraries_from imports k [] = []
+libraries_from imports k (l ∷ libraries) = library_of imports k l ∷ libraries_from imports (k + 1) libraries
+
+-- the class byte of an import: its class, with the highest bit for a weak one
+abbrev pub class_byte : Bool → ℕ → ℕ
+class_byte true class = class + 0x80
+class_byte false class = class
+
+abbrev pub import_of : DescribedImport → ImportEntry
+import_of i = record { name = i.name; class = class_byte i.weak i.class }
+
+-- the relocation program of section k, where it has fixups
+abbrev pub program_of : ℕ → List Fixup → List Instr → List ProgramEntry
+program_of k [] instrs = []
+program_of k (fixup ∷ fixups) instrs = record { section = k; bytes = spelled instrs } ∷ []
+
+-- the relocation programs of sections, numbered from a number on
+abbrev pub programs_from : ℕ → List DescribedSection → List (List Instr) → List ProgramEntry
+programs_from k (s ∷ sections) (instrs ∷ programs) = program_of k s.fixups instrs ++ programs_from (k + 1) sections programs
+programs_from k sections programs = []
+
+abbrev pub export_of : DescribedExport → ExportEntry
+export_of e = record { name = e.name; class = e.class; value = e.value; section = cast_unsigned w16 e.section }
+
+-- what stands for an export past the last one
+abbrev pub no_export : DescribedExport
+no_export = record { name = []; class = 0; section = pos 0; value = 0 }
+
+-- the exports at some places, in the order of the places
+abbrev pub exports_at : List DescribedExport → List ℕ → List ExportEntry
+exports_at exports order = map (λ e. export_of (slice_index_or exports e no_export)) order
+
+-- the tables of the loader section of a script, with some relocation programs; keys and exports are in
+-- the order of the export table
+unfoldable pub script_tables : DescribedScript → List ProgramEntry → LoaderTables
+script_tables s programs = record {
+  main = s.main;
+  init = s.init;
+  term = s.term;
+  libraries = libraries_from s.imports 0 s.libraries;
+  imports = map import_of s.imports;
+  programs = programs;
+  power = (built (export_names s)).power;
+  slots = (built (export_names s)).slots;
+  keys = (built (export_names s)).keys;
+  exports = exports_at s.exports (built (export_names s)).order;
+}
+
+-- the same, with programs for the sections
+abbrev pub linked_tables : DescribedScript → List (List Instr) → LoaderTables
+linked_tables s programs = script_tables s (programs_from 0 s.sections programs)
+
+-- the loader section of a script, with programs for its sections
+unfoldable pub linked_loader : DescribedScript → List (List Instr) → List ℕ
+linked_loader s programs = written_loader (linked_tables s programs)
+
+-- the parts of the container of a script
+abbrev pub linked_parts : DescribedScript → List DescribedPart
+linked_parts s = map part_of s.sections
+
+-- the container of a script, with programs for its sections
+unfoldable pub linked_bytes : DescribedScript → List (List Instr) → List ℕ
+linked_bytes s programs = written_container (versions_of s) (linked_parts s) (linked_loader s programs)
+
+-- the container that these bytes are
+abbrev pub linked_container : DescribedScript → List (List Instr) → Contained
+linked_container s programs = contained_in (versions_of s) (linked_parts s) (linked_loader s programs)
+
+-- what was linked: the container, and for each section the length of its program, in halfwords
+pub record LinkedContainer : Type 0 where
+  pub bytes : List ℕ
+  pub lengths : List ℕ
+
+-- what was linked of a script: its container with some programs for its sections, and their lengths
+pub record IsLinked (script : DescribedScript) (l : LinkedContainer) : Type 0 where
+  pub programs : List (List Instr)
+  pub are : AreProgramsFor (length script.sections) script.sections programs
+  pub bytes : l.bytes ≡ linked_bytes script programs
+  pub lengths : l.lengths ≡ map program_length programs
