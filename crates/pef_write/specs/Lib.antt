@@ -3,3 +3,4 @@ pub mod Containers
 pub mod Loaders
 pub mod Described
 pub mod Places
+pub mod Reading

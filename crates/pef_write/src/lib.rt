@@ -6,11 +6,13 @@
 
 mod container;
 mod field;
+mod laws;
 mod loader;
 mod symbols;
 
 pub use container::{DATA_ALIGNMENT, Part, Versions, write_container};
 pub use field::{Field, put_fields};
+pub use laws::read_back;
 pub use loader::{SectionProgram, Tables, write_loader};
 pub use symbols::{Export, Import, Library};
 
