@@ -11,3 +11,4 @@ pub mod ReadingExports
 pub mod ReadingPlaces
 pub mod ReadingRefusals
 pub mod Reading
+pub mod ReadingEach

@@ -7,9 +7,9 @@ use Rattle.pef_loader.specs.Library.{Library}
 use Rattle.pef_loader.specs.Import.{Import}
 use Rattle.pef_loader.specs.Export.{Export}
 use Rattle.pef_loader.specs.Loader.{Loaded}
-use Rattle.pef_write.specs.Loaders.{ExportEntry, ImportEntry, LibraryEntry, LoaderTables, TablesFit, entry_offset, exports_from, programs_from, strings_from, written_loader}
+use Rattle.pef_write.specs.Loaders.{ExportEntry, ImportEntry, LibraryEntry, LoaderTables, ProgramEntry, TablesFit, entry_offset, exports_from, programs_from, strings_from, written_loader}
 
--- a name that ends before a zero byte
+-- a name without a zero byte
 abbrev pub HasNoZero : List ℕ → Type 0
 HasNoZero name = All (λ b. b ≢ 0) name
 
@@ -65,6 +65,10 @@ header_read t = record {
 -- the loader section that is read, of a container with so many instantiated sections
 abbrev pub loaded_tables : ℕ → LoaderTables → Loaded
 loaded_tables sections t = record { sections = sections; bytes = written_loader t; header = header_read t }
+
+-- a relocation program as it is read: its section and its instructions
+abbrev pub program_read : ProgramEntry → ℕ × List ℕ
+program_read p = (p.section, p.bytes)
 
 -- a library as it is read
 abbrev pub library_read : LibraryEntry → Library

@@ -1,10 +1,18 @@
 //! A law of the definitions, for the proofs of crates that write loader sections. The function does nothing.
-ghost use Rattle.std.specs.Prelude.{◌≡◌, ℕ, Ok};
-ghost use Rattle.pef_loader.specs.Loader.{loaded_of};
+ghost use Rattle.std.specs.Prelude.{◌≡◌, ℕ, Ok, option_map, slice_get};
+ghost use Rattle.std.specs.Option.{option_and_then};
+ghost use Rattle.pef_loader.specs.Loader.{export_of, import_of, init_of, library_of, loaded_of, main_of, reloc_of, term_of};
 ghost use Rattle.pef_write.specs.Loaders.{LoaderTables, written_loader};
-ghost use Rattle.pef_write.specs.Reading.{AreTables, loaded_tables};
+ghost use Rattle.pef_write.specs.Reading.{AreTables, export_read, import_read, library_read, loaded_tables, owner_from, program_read};
 
-/// What is written for tables is read as a loader section with these tables.
+/// What is written for tables is read as a loader section, and each of its parts is that of the tables.
 pub fn read_back()
     ensures loaded { (sections : ℕ) (t : LoaderTables) → AreTables sections t → loaded_of sections (written_loader t) ≡ Ok (loaded_tables sections t) }
+    ensures main { (sections : ℕ) (t : LoaderTables) → main_of (loaded_tables sections t) ≡ t.main }
+    ensures init { (sections : ℕ) (t : LoaderTables) → init_of (loaded_tables sections t) ≡ t.init }
+    ensures term { (sections : ℕ) (t : LoaderTables) → term_of (loaded_tables sections t) ≡ t.term }
+    ensures relocs { (sections : ℕ) (t : LoaderTables) → AreTables sections t → (i : ℕ) → reloc_of (loaded_tables sections t) i ≡ option_map program_read (slice_get t.programs i) }
+    ensures libraries { (sections : ℕ) (t : LoaderTables) → AreTables sections t → (i : ℕ) → library_of (loaded_tables sections t) i ≡ option_map library_read (slice_get t.libraries i) }
+    ensures imports { (sections : ℕ) (t : LoaderTables) → AreTables sections t → (j : ℕ) → import_of (loaded_tables sections t) j ≡ option_and_then (λ i. option_map (import_read i) (owner_from 0 t.libraries j)) (slice_get t.imports j) }
+    ensures exports { (sections : ℕ) (t : LoaderTables) → AreTables sections t → (k : ℕ) → export_of (loaded_tables sections t) k ≡ option_map export_read (slice_get t.exports k) }
 {}
