@@ -12,3 +12,4 @@ pub mod ReadingPlaces
 pub mod ReadingRefusals
 pub mod Reading
 pub mod ReadingEach
+pub mod ReadingTurns

@@ -86,6 +86,11 @@ abbrev pub owner_from : ℕ → List LibraryEntry → ℕ → Option ℕ
 owner_from at [] j = None
 owner_from at (l ∷ libraries) j = if nat_le l.first j && nat_lt j (l.first + l.count) then Some at else owner_from (at + 1) libraries j
 
+-- the imports from one number up to another are those of some libraries, one library's behind the other's
+abbrev pub AreInTurn : ℕ → ℕ → List LibraryEntry → Type 0
+AreInTurn from end [] = from ≡ end
+AreInTurn from end (l ∷ libraries) = (l.first ≡ from) × AreInTurn (from + l.count) end libraries
+
 -- an import of a library as it is read; the class byte's highest bit says that the symbol may be missing
 abbrev pub import_read : ImportEntry → ℕ → Import
 import_read i owner = record { name = i.name; class = i.class % 16; weak = i.class / 128 == 1; library = owner }

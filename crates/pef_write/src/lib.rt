@@ -12,7 +12,7 @@ mod symbols;
 
 pub use container::{DATA_ALIGNMENT, Part, Versions, write_container};
 pub use field::{Field, put_fields};
-pub use laws::read_back;
+pub use laws::{libraries_in_turn, read_back};
 pub use loader::{SectionProgram, Tables, write_loader};
 pub use symbols::{Export, Import, Library};
 
