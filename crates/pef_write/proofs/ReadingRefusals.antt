@@ -9,20 +9,20 @@ use Rattle.std.proofs.lemmas.Option.{cond_some, get_or_from_slice_get, slice_get
 use Rattle.pef_words.specs.Bytes.{name_at, part_of}
 use Rattle.pef_hash.specs.Exports.{entry_at, entry_of, key_of, name_of}
 use Rattle.pef_loader.specs.Library.{library_at, library_refusal, library_tests}
-use Rattle.pef_loader.specs.Import.{import_at, import_refusal, import_tests, owner_of}
+use Rattle.pef_loader.specs.Import.{import_at, import_refusal, import_tests, owner_at, owner_of}
 use Rattle.pef_loader.specs.Export.{export_refusal, export_table, export_tests, has_exports}
 use Rattle.pef_loader.specs.Reloc.{reloc_at, reloc_refusal, reloc_tests}
 use Rattle.pef_write.specs.Loaders.{ExportEntry, ImportEntry, LibraryEntry, LoaderTables, ProgramEntry, import_names_from, strings_from, strings_of, table_fields, written_loader}
 use Rattle.pef_write.specs.declared.field.Field.TheVariants.{Word}
 use Rattle.pef_write.specs.Fields.{Reads, spelled}
-use Rattle.pef_write.specs.Reading.{AreTables, HasNoZero, header_read, owner_from}
+use Rattle.pef_write.specs.Reading.{AreTables, HasNoZero, first_owner, has_import, header_read}
 use Rattle.pef_write.proofs.Fields.{reads-at}
 use Rattle.pef_write.proofs.Loaders.{length-table_fields}
 use Rattle.pef_write.proofs.LoaderLaws.{reads_back}
 use Rattle.pef_write.proofs.ReadingParts.{name-stands, part-stands, stands-dropped, stands-in, stands-inside}
 use Rattle.pef_write.proofs.ReadingEntries.{import_name, imports-table, libraries-table, library_name, one_export, one_import, one_library, table-entry}
 use Rattle.pef_write.proofs.ReadingExports.{export_reads, key_reads, table-behind, zip-at, zip-length}
-use Rattle.pef_write.proofs.ReadingOwners.{owner-found, owner-there}
+use Rattle.pef_write.proofs.ReadingOwners.{first-place, owner-there}
 use Rattle.pef_write.proofs.ReadingPlaces.{export-name-stands, export_name_at, import-name-stands, import_name_at, imports_there, libraries_there, library-name-stands, library_name_at, strings-stand}
 
 -- what holds of all holds of each
@@ -104,10 +104,8 @@ module _ (sections : ℕ) (t : LoaderTables) (a : AreTables sections t) where
       name-stands (written_loader t) i.name (strings_from t + import_name_at t j) (stands-in (written_loader t) (strings_of t) (import_name i) (strings_from t) (import_name_at t j) (strings-stand t) (import-name-stands t j i there))
       (all-at (λ i. HasNoZero i.name) t.imports j i a.import_names there)
 
-  pub import_owner : (j : ℕ) → owner_of (written_loader t) (header_read t) j ≡ owner_from 0 t.libraries j
-  import_owner j = owner-found (written_loader t) j 0 t.libraries (λ i l there. (
-      let e : 0 + i ≡ i = omega arith in
-      rw (e, library_there i l there) refl))
+  pub import_owner : (j : ℕ) → owner_of (written_loader t) (header_read t) j ≡ first_owner t.libraries j
+  import_owner j = first-place (owner_at (written_loader t) j) (has_import j) t.libraries (λ i l there. rw (library_there i l there) refl)
 
   pub import_accepted : (j : ℕ) (i : ImportEntry) → slice_get t.imports j ≡ Some i → import_refusal (written_loader t) (header_read t) j ≡ None
   unfolding import_tests

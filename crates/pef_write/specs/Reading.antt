@@ -1,7 +1,8 @@
 -- What a written loader section is read as (Mac OS Runtime Architectures, "PEF Structure", "The Loader
 -- Section").
-use Rattle.std.specs.Prelude.{◌≡◌, ◌≢◌, ℕ, ℤ, pos, negsuc, ◌+◌, ◌/◌, ◌%◌, ◌^◌, ◌==◌, ◌<◌, ◌≤◌, ◌&&◌, List, [], ◌∷◌, Option, None, Some, IfSome, length, nat_le, nat_lt, slice_get, if◌then◌else◌}
-use Rattle.std.specs.List.{All, AllZip}
+use Rattle.std.specs.Prelude.{◌≡◌, ◌≢◌, ℕ, ℤ, pos, negsuc, ◌+◌, ◌/◌, ◌%◌, ◌^◌, ◌==◌, ◌<◌, ◌≤◌, ◌&&◌, Bool, List, [], ◌∷◌, Option, None, Some, IfSome, length, nat_le, nat_lt, slice_get}
+use Rattle.std.specs.List.{All, AllZip, position}
+use Rattle.std.specs.Str.{bytes_eq}
 use Rattle.pef_loader.specs.declared.header.LoaderHeader.{LoaderHeader}
 use Rattle.pef_loader.specs.Library.{Library}
 use Rattle.pef_loader.specs.Import.{Import}
@@ -81,15 +82,22 @@ library_read l = record {
   options = l.options;
 }
 
--- the first of some libraries that has import j, where they are counted from a number on
-abbrev pub owner_from : ℕ → List LibraryEntry → ℕ → Option ℕ
-owner_from at [] j = None
-owner_from at (l ∷ libraries) j = if nat_le l.first j && nat_lt j (l.first + l.count) then Some at else owner_from (at + 1) libraries j
+-- import j is one of a library's
+abbrev pub has_import : ℕ → LibraryEntry → Bool
+has_import j l = nat_le l.first j && nat_lt j (l.first + l.count)
 
--- the imports from one number up to another are those of some libraries, one library's behind the other's
-abbrev pub AreInTurn : ℕ → ℕ → List LibraryEntry → Type 0
-AreInTurn from end [] = from ≡ end
-AreInTurn from end (l ∷ libraries) = (l.first ≡ from) × AreInTurn (from + l.count) end libraries
+-- the first of some libraries that has import j
+abbrev pub first_owner : List LibraryEntry → ℕ → Option ℕ
+first_owner libraries j = position (has_import j) libraries
+
+-- the first of some exports that has a name
+abbrev pub first_named : List ExportEntry → List ℕ → Option ℕ
+first_named exports name = position (λ e. bytes_eq e.name name) exports
+
+-- the imports from a number on are those of some libraries, one library's behind the other's
+abbrev pub AreInTurn : ℕ → List LibraryEntry → Type 0
+AreInTurn from [] = Unit {0}
+AreInTurn from (l ∷ libraries) = (l.first ≡ from) × AreInTurn (from + l.count) libraries
 
 -- an import of a library as it is read; the class byte's highest bit says that the symbol may be missing
 abbrev pub import_read : ImportEntry → ℕ → Import

@@ -6,14 +6,14 @@
 
 mod container;
 mod field;
-mod laws;
 mod loader;
+mod reading_laws;
 mod symbols;
 
 pub use container::{DATA_ALIGNMENT, Part, Versions, write_container};
 pub use field::{Field, put_fields};
-pub use laws::{libraries_in_turn, read_back};
 pub use loader::{SectionProgram, Tables, write_loader};
+pub use reading_laws::{libraries_in_turn, read_back};
 pub use symbols::{Export, Import, Library};
 
 #[cfg(test)]

@@ -1,6 +1,6 @@
 use Rattle.pef_write.proofs.Reading.{tables_loaded}
-use Rattle.pef_write.proofs.ReadingEach.{exports_back, imports_back, init_back, libraries_back, main_back, relocs_back, term_back}
-use Rattle.pef_write.proofs.laws.read_back.Goals as goal
+use Rattle.pef_write.proofs.ReadingEach.{exports_back, imports_back, init_back, libraries_back, main_back, named_back, relocs_back, term_back}
+use Rattle.pef_write.proofs.reading_laws.read_back.Goals as goal
 
 pub returns : goal.returns
 returns c = record {
@@ -12,4 +12,5 @@ returns c = record {
   libraries = libraries_back;
   imports = imports_back;
   exports = exports_back;
+  named = named_back;
 }
