@@ -4,3 +4,12 @@ pub mod Written
 pub mod Loaders
 pub mod LoaderLaws
 pub mod Entries
+pub mod ReadingParts
+pub mod ReadingEntries
+pub mod ReadingOwners
+pub mod ReadingExports
+pub mod ReadingPlaces
+pub mod ReadingRefusals
+pub mod Reading
+pub mod ReadingEach
+pub mod ReadingTurns

@@ -6,3 +6,4 @@ pub mod Places
 pub mod Linked
 pub mod Encoded
 pub mod Sound
+pub mod Reading

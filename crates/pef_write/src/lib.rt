@@ -9,6 +9,7 @@ mod fault;
 mod field;
 mod linking;
 mod loader;
+mod reading_laws;
 mod symbols;
 
 pub use container::{DATA_ALIGNMENT, Part, Versions, write_container};
@@ -16,6 +17,7 @@ pub use fault::LinkFault;
 pub use field::{Field, put_fields};
 pub use linking::{Linked, link};
 pub use loader::{SectionProgram, Tables, write_loader};
+pub use reading_laws::{libraries_in_turn, read_back};
 pub use symbols::{Export, Import, Library};
 
 #[cfg(test)]
