@@ -1,13 +1,15 @@
 pub mod DescribedLemmas
 pub mod InputLemmas
 pub mod LineLemmas
-pub mod LinkingLemmas
-pub mod LinkedLoader
+pub mod LinkedLemmas
+pub mod PlacedLemmas
 pub mod PlacingLemmas
 pub mod PreparedLemmas
+pub mod ProgramLemmas
 pub mod RelocatingLemmas
 pub mod SendingLemmas
 pub mod SentLemmas
 pub mod ShowingLemmas
 pub mod ShownLemmas
+pub mod Temp
 pub mod TextLemmas

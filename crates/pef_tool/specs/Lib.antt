@@ -2,9 +2,7 @@ pub mod CommandLine
 pub mod Described
 pub mod Input
 pub mod LinkCommand
-pub mod Linked
 pub mod LinkedText
-pub mod Linking
 pub mod Names
 pub mod Placing
 pub mod Ports

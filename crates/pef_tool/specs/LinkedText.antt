@@ -1,5 +1,6 @@
 -- What is printed of what was linked.
-use Rattle.std.specs.Prelude.{ℕ, ◌+◌, List, [], ◌∷◌, ◌++◌, codes, decimal}
+use Rattle.std.specs.Prelude.{ℕ, ◌+◌, List, [], ◌∷◌, ◌++◌, codes, decimal, length}
+use Rattle.pef_write.specs.Linked.{LinkedContainer}
 
 -- the line of a container's size in bytes
 unfoldable pub size_text : ℕ → List ℕ
@@ -15,5 +16,5 @@ lengths_text k [] = []
 lengths_text k (len ∷ lengths) = length_text k len ++ lengths_text (k + 1) lengths
 
 -- the container's size, then the length of each section's program
-abbrev pub linked_text : ℕ → List ℕ → List ℕ
-linked_text size lengths = size_text size ++ lengths_text 0 lengths
+abbrev pub linked_text : LinkedContainer → List ℕ
+linked_text l = size_text (length l.bytes) ++ lengths_text 0 l.lengths

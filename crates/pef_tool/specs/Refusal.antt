@@ -6,8 +6,8 @@ use Rattle.pef_script.specs.declared.fault.LineFault.TheVariants.{BadLine, BadNu
 use Rattle.pef_reloc.specs.Faults as reloc
 use Rattle.pef_reloc.specs.declared.fault.RelocFault.{RelocFault}
 use Rattle.pef_reloc.specs.declared.fault.RelocFault.TheVariants as reloc_fault
-use Rattle.pef_tool.specs.declared.refusal.FileRefusal.{FileRefusal}
-use Rattle.pef_tool.specs.declared.refusal.FileRefusal.TheVariants.{Unreadable, Unwritable}
+use Rattle.pef_tool.specs.declared.refusal.NamedRefusal.{NamedRefusal}
+use Rattle.pef_tool.specs.declared.refusal.NamedRefusal.TheVariants.{FileUnreadable, FileUnwritable, LibraryMissing}
 use Rattle.pef_tool.specs.declared.refusal.Refusal.{Refusal}
 use Rattle.pef_tool.specs.declared.refusal.Refusal.TheVariants.{Script, Reloc, NoRoom, InputUnreadable, InputTooLong, OutOfMemory}
 use Rattle.pef_tool.specs.Names.{name_text}
@@ -67,20 +67,29 @@ place_of OutOfMemory = []
 abbrev pub refusal_text : Refusal → List ℕ
 refusal_text refusal = codes "refused " ++ decimal (number_of refusal) ++ codes " " ++ name_of refusal ++ place_of refusal ++ 10 ∷ []
 
--- a path as it ends a line
-abbrev pub path_end : List ℕ → List ℕ
-path_end path = name_text path ++ 10 ∷ []
+-- a name as it ends a line
+abbrev pub name_end : List ℕ → List ℕ
+name_end name = name_text name ++ 10 ∷ []
 
--- what the line of a file that failed begins with
-abbrev pub file_refusal_start : FileRefusal → List ℕ
-file_refusal_start (Unreadable path) = codes "refused 71 FileUnreadable "
-file_refusal_start (Unwritable path) = codes "refused 72 FileUnwritable "
+-- the line of a missing library
+abbrev pub missing_library_start : List ℕ
+missing_library_start = codes "refused 61 LibraryMissing in it library "
 
--- the path of a file that failed
-abbrev pub failed_path : FileRefusal → List ℕ
-failed_path (Unreadable path) = path.now
-failed_path (Unwritable path) = path.now
+abbrev pub missing_library_text : List ℕ → List ℕ
+missing_library_text name = missing_library_start ++ name_end name
 
--- the line of a file that failed
-abbrev pub file_refusal_text : FileRefusal → List ℕ
-file_refusal_text refusal = file_refusal_start refusal ++ path_end (failed_path refusal)
+-- what the line of a refusal with a name begins with
+abbrev pub named_refusal_start : NamedRefusal → List ℕ
+named_refusal_start (FileUnreadable path) = codes "refused 71 FileUnreadable "
+named_refusal_start (FileUnwritable path) = codes "refused 72 FileUnwritable "
+named_refusal_start (LibraryMissing name) = missing_library_start
+
+-- the path of a file that failed, or the name of a library that is missing
+abbrev pub refused_name : NamedRefusal → List ℕ
+refused_name (FileUnreadable path) = path.now
+refused_name (FileUnwritable path) = path.now
+refused_name (LibraryMissing name) = name.now
+
+-- the line of a refusal with a name
+abbrev pub named_refusal_text : NamedRefusal → List ℕ
+named_refusal_text refusal = named_refusal_start refusal ++ name_end (refused_name refusal)

@@ -9,7 +9,7 @@ use crate::link_file::link_file;
 use crate::ports::{Files, Sink, Source};
 use crate::refusal::Refusal;
 use crate::reply::Reply;
-use crate::show::show;
+use crate::show::{ShowFault, show};
 use std::alloc::Global;
 
 /// Runs the command that the words ask for, of which the first is the program's name.
@@ -62,7 +62,8 @@ fn answer_request<'a, F: Files, R: Source>(
     match request {
         Request::Show => match show(alloc, input) {
             Ok(prepared) => Reply::Shown(prepared),
-            Err(refusal) => Reply::Refused(refusal),
+            Err(ShowFault::Refused(refusal)) => Reply::Refused(refusal),
+            Err(ShowFault::LibraryMissing(name)) => Reply::LibraryMissing(name),
         },
         Request::Link { script, out } => {
             link_file(alloc, files, script.as_bytes(), out.as_bytes())

@@ -11,11 +11,3 @@ pub struct Entries {
     pub term: Option<u32>,
 }
 
-/// The address of an entry, given by its section and the offset in it.
-pub fn entry_address(places: &[Place], entry: Option<(u32, u32)>) -> Option<u32>
-    requires { IfSome entry (λ e. e.0 < length places.now) }
-    ensures { result ≡ entry_address places.now entry.entry }
-{
-    let (section, offset) = entry?;
-    Some(places[section as usize].address.wrapping_add(offset))
-}

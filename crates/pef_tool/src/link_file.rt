@@ -1,11 +1,11 @@
 ghost use Rattle.pef_tool.specs.LinkCommand.{LinkAnswers, WritesLinked};
 ghost use Rattle.pef_tool.specs.Ports.{files_met};
 
-use crate::link::{Linked, link_script};
 use crate::ports::{FileFault, Files};
-use crate::refusal::{FileRefusal, Refusal};
+use crate::refusal::{NamedRefusal, Refusal};
 use crate::reply::Reply;
 use pef_script::{Script, ScriptFault};
+use pef_write::{Linked, link};
 use std::alloc::Global;
 
 /// Links the script at a path, and writes the container to the path `out`.
@@ -21,7 +21,7 @@ pub fn link_file<'a, F: Files>(
 {
     let text = match files.read(alloc, script) {
         Ok(text) => text,
-        Err(FileFault::Failed) => return Reply::RefusedFile(FileRefusal::Unreadable(script)),
+        Err(FileFault::Failed) => return Reply::RefusedFile(NamedRefusal::FileUnreadable(script)),
         Err(FileFault::OutOfMemory) => return Reply::Refused(Refusal::OutOfMemory),
     };
     let read = match Script::read(alloc, text.as_slice()) {
@@ -32,11 +32,8 @@ pub fn link_file<'a, F: Files>(
         Err(ScriptFault::OutOfMemory) => return Reply::Refused(Refusal::OutOfMemory),
     };
     match write_linked(alloc, files, &read, out) {
-        Ok(linked) => Reply::Linked {
-            size: linked.bytes.len(),
-            lengths: linked.lengths,
-        },
-        Err(FileFault::Failed) => Reply::RefusedFile(FileRefusal::Unwritable(out)),
+        Ok(linked) => Reply::Linked(linked),
+        Err(FileFault::Failed) => Reply::RefusedFile(NamedRefusal::FileUnwritable(out)),
         Err(FileFault::OutOfMemory) => Reply::Refused(Refusal::OutOfMemory),
     }
 }
@@ -50,9 +47,9 @@ fn write_linked<F: Files>(
 ) -> Result<Linked, FileFault>
     ensures { WritesLinked result (files_met (F.contents files.old) (F.contents files.new) (F.failures files.old) (F.failures files.new)) script.now out.now }
 {
-    let Ok(linked) = link_script(alloc, script) else {
+    let Ok(linked) = link(alloc, script) else {
         return Err(FileFault::OutOfMemory);
     };
-    files.write(out, linked.bytes.as_slice())?;
+    files.write(out, linked.bytes())?;
     Ok(linked)
 }

@@ -1,6 +1,6 @@
 ghost use Rattle.std.specs.Prelude.{◌≡◌, ◌≤◌, ◌+◌, ◌++◌, length};
 ghost use Rattle.arrayvec.specs.ArrayVec.{array_vec_len};
-ghost use Rattle.pef_tool.specs.Refusal.{failed_path, file_refusal_start, file_refusal_text, line_fault_name, name_of, number_of, path_end, place_of, refusal_text, reloc_fault_name};
+ghost use Rattle.pef_tool.specs.Refusal.{refused_name, named_refusal_start, named_refusal_text, line_fault_name, name_of, number_of, name_end, place_of, refusal_text, reloc_fault_name};
 ghost use Rattle.pef_tool.specs.Sent.{Sends};
 
 use crate::line::{Line, push_number, push_text};
@@ -88,49 +88,54 @@ impl Refusal {
     }
 }
 
-/// Why a run is refused over a file. It ends with the file's path, which may be long.
+/// Why a run is refused over something that has a name, which ends the line and may be long.
 #[derive(Clone, Copy, Debug, PartialEq, Eq)]
-pub enum FileRefusal<'a> {
+pub enum NamedRefusal<'a> {
     /// The file at the path could not be read.
-    Unreadable(&'a [u8]),
+    FileUnreadable(&'a [u8]),
     /// The file at the path could not be written.
-    Unwritable(&'a [u8]),
+    FileUnwritable(&'a [u8]),
+    /// The library of the fragment `it` isn't there.
+    LibraryMissing(&'a [u8]),
 }
 
-impl<'a> FileRefusal<'a> {
+impl<'a> NamedRefusal<'a> {
     /// What the line of the refusal begins with: its number and name.
     fn start(&self) -> &'static [u8]
-        ensures { result.now ≡ file_refusal_start self.now }
+        ensures { result.now ≡ named_refusal_start self.now }
     {
         match self {
-            FileRefusal::Unreadable(_) => b"refused 71 FileUnreadable ",
-            FileRefusal::Unwritable(_) => b"refused 72 FileUnwritable ",
+            NamedRefusal::FileUnreadable(_) => b"refused 71 FileUnreadable ",
+            NamedRefusal::FileUnwritable(_) => b"refused 72 FileUnwritable ",
+            NamedRefusal::LibraryMissing(_) => b"refused 61 LibraryMissing in it library ",
         }
     }
 
-    /// The path of the file.
-    fn path(&self) -> &'a [u8]
-        ensures { result.now ≡ failed_path self.now }
+    /// The path of the file, or the name of the library.
+    fn name(&self) -> &'a [u8]
+        ensures { result.now ≡ refused_name self.now }
     {
         match self {
-            FileRefusal::Unreadable(path) | FileRefusal::Unwritable(path) => path,
+            NamedRefusal::FileUnreadable(name)
+            | NamedRefusal::FileUnwritable(name)
+            | NamedRefusal::LibraryMissing(name) => name,
         }
     }
 
     /// Prints the line that ends the run.
     pub fn print<W: Sink>(&self, out: &mut W, page: &mut Page) -> Result<(), StreamFault>
-        ensures { Sends result (W.written out.old) (W.written out.new) (W.failures out.old) (W.failures out.new) page.old.items page.new.items (file_refusal_text self.now) }
+        ensures { Sends result (W.written out.old) (W.written out.new) (W.failures out.old) (W.failures out.new) page.old.items page.new.items (named_refusal_text self.now) }
     {
         send(out, page, self.start())?;
-        print_path_end(out, page, self.path())
+        print_name_end(out, page, self.name())
     }
 }
 
-/// Prints a path, and ends its line.
-fn print_path_end<W: Sink>(out: &mut W, page: &mut Page, path: &[u8]) -> Result<(), StreamFault>
-    ensures { Sends result (W.written out.old) (W.written out.new) (W.failures out.old) (W.failures out.new) page.old.items page.new.items (path_end path.now) }
+/// Prints a name, and ends its line.
+fn print_name_end<W: Sink>(out: &mut W, page: &mut Page, name: &[u8]) -> Result<(), StreamFault>
+    ensures { Sends result (W.written out.old) (W.written out.new) (W.failures out.old) (W.failures out.new) page.old.items page.new.items (name_end name.now) }
 {
-    print_name(out, page, path)?;
+    print_name(out, page, name)?;
     send(out, page, b"\n")
 }
 

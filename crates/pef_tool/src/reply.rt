@@ -5,8 +5,9 @@ ghost use Rattle.pef_tool.specs.Sent.{Sends};
 use crate::linked::print_linked;
 use crate::page::{Page, flush, send};
 use crate::ports::{Sink, StreamFault};
-use crate::refusal::{FileRefusal, Refusal};
+use crate::refusal::{NamedRefusal, Refusal};
 use crate::shown::Prepared;
+use pef_write::Linked;
 
 /// What a run answers.
 #[derive(Drop)]
@@ -16,11 +17,13 @@ pub enum Reply<'a> {
     /// The run is refused.
     Refused(Refusal),
     /// The run is refused over a file.
-    RefusedFile(FileRefusal<'a>),
+    RefusedFile(NamedRefusal<'a>),
     /// The memory of the fragment `it`.
     Shown(Prepared),
-    /// A container of so many bytes was written; the program of each section has so many halfwords.
-    Linked { size: usize, lengths: Vec<usize> },
+    /// A library of the fragment `it` isn't there; this is its name.
+    LibraryMissing(Vec<u8>),
+    /// A container was linked and written.
+    Linked(Linked),
 }
 
 impl<'a> Reply<'a> {
@@ -30,8 +33,8 @@ impl<'a> Reply<'a> {
     {
         match self {
             Reply::Usage => 2,
-            Reply::Refused(_) | Reply::RefusedFile(_) => 1,
-            Reply::Shown(_) | Reply::Linked { .. } => 0,
+            Reply::Refused(_) | Reply::RefusedFile(_) | Reply::LibraryMissing(_) => 1,
+            Reply::Shown(_) | Reply::Linked(_) => 0,
         }
     }
 
@@ -44,7 +47,10 @@ impl<'a> Reply<'a> {
             Reply::Refused(refusal) => send(out, page, refusal.line().as_slice()),
             Reply::RefusedFile(refusal) => refusal.print(out, page),
             Reply::Shown(prepared) => prepared.print(out, page),
-            Reply::Linked { size, lengths } => print_linked(out, page, *size, lengths.as_slice()),
+            Reply::LibraryMissing(name) => {
+                NamedRefusal::LibraryMissing(name.as_slice()).print(out, page)
+            }
+            Reply::Linked(linked) => print_linked(out, page, linked),
         }
     }
 

@@ -35,6 +35,13 @@ impl Linked {
     {
         self.lengths.get(k).copied()
     }
+
+    /// The same of all sections, in their order.
+    pub fn lengths(&self) -> &[u32]
+        ensures { result.now ≡ self.now.lengths }
+    {
+        &self.lengths
+    }
 }
 
 /// Links a script: its container, with a relocation program for each section that has fixups.
