@@ -1,12 +1,13 @@
-ghost use Rattle.std.specs.Prelude.{◌≡◌, ◌≢◌, ◌<◌, ◌≤◌, ◌++◌, ℕ, Some, Err, IfErr, IfOk, OnErr, drop, length, map, replicate};
+ghost use Rattle.std.specs.Prelude.{◌≡◌, ◌≢◌, ◌<◌, ◌≤◌, ◌++◌, ℕ, All, Some, Err, IfErr, IfOk, OnErr, drop, length, map, replicate};
 ghost use Rattle.cfm_memory.specs.Instances.{bytes_at};
 ghost use Rattle.cfm_memory.specs.declared.place.MemoryFault.TheVariants.{OutOfMemory};
 ghost use Rattle.pef_loader.specs.Views.{loaded};
 ghost use Rattle.pef_views.specs.Views.{contained, seen};
 ghost use Rattle.pef_tool.specs.Prepared.{AreApart, HasImage, HasImageAt, IsPrepared, MayNotPrepare, Stand, filled_at, filled_in, image_in, place_at, zeros_at};
 ghost use Rattle.pef_tool.specs.Placing.{ArePlaced, LacksRoom, extent_of};
+ghost use Rattle.pef_tool.specs.Shown.{IsHeld};
 
-use crate::entries::{Entries, entry_address};
+use crate::entries::find_entries;
 use crate::relocation::relocate_sections;
 use crate::shown::Prepared;
 use cfm_memory::{Memory, MemoryFault, Place};
@@ -63,14 +64,11 @@ pub fn prepare(
 {
     let mut memory = Memory::new(alloc, MEMORY_LIMIT);
     let places = place_sections(alloc, &mut memory, container)?;
-    let sections = addresses(alloc, places.as_slice())?;
-    fill_sections(&mut memory, places.as_slice(), container);
-    relocate_sections(&mut memory, places.as_slice(), loader, sections.as_slice())?;
-    let entries = Entries {
-        init: entry_address(places.as_slice(), loader.init()),
-        main: entry_address(places.as_slice(), loader.main()),
-        term: entry_address(places.as_slice(), loader.term()),
-    };
+    let placed = places.as_slice();
+    let sections = addresses(alloc, placed)?;
+    fill_sections(&mut memory, placed, container);
+    relocate_sections(&mut memory, placed, loader, sections.as_slice())?;
+    let entries = find_entries(loader, placed);
     Ok(Prepared {
         memory,
         places,
@@ -120,6 +118,7 @@ fn fill_sections(memory: &mut Memory, places: &[Place], container: &Container<'_
     requires apart { AreApart places.now }
     requires zeros { Stand memory.old places.now (zeros_at places.now) }
     ensures filled { Stand memory.new places.now (filled_at (contained container.now)) }
+    ensures held { All (IsHeld memory.old) places.now → All (IsHeld memory.new) places.now }
 {
     for (k, place) in places.iter().enumerate() {
         let Some(section) = container.section(k) else {
@@ -136,8 +135,10 @@ fn fill_section(memory: &mut Memory, place: Place, section: &SectionView<'_>)
     requires zeros { bytes_at memory.old.instances place.address ≡ Some (replicate place.size 0) }
     ensures here { bytes_at memory.new.instances place.address ≡ Some (filled_in (seen section.now)) }
     ensures others { (address : ℕ) → address ≢ place.address → bytes_at memory.new.instances address ≡ bytes_at memory.old.instances address }
+    ensures held { (other : Place) → IsHeld memory.old other → IsHeld memory.new other }
 {
-    fill(memory.part_mut(place), image(section));
+    let part = memory.part_mut(place);
+    fill(part, image(section));
 }
 
 /// Puts an image at the front of some memory.

@@ -34,7 +34,8 @@ pub fn relocate_sections(
         let Some((section, program)) = loader.reloc(i as usize) else {
             unreachable!()
         };
-        relocate_section(memory, places[section as usize], program, sections)?;
+        let place = places[section as usize];
+        relocate_section(memory, place, program, sections)?;
     }
     Ok(())
 }
@@ -54,7 +55,8 @@ fn relocate_section(
     ensures others { (address : ℕ) → address ≢ place.address → bytes_at memory.new.instances address ≡ bytes_at memory.old.instances address }
     ensures held { (other : Place) → IsHeld memory.old other → IsHeld memory.new other }
 {
-    relocate_whole(memory.part_mut(place), program, sections, &[])
+    let part = memory.part_mut(place);
+    relocate_whole(part, program, sections, &[])
 }
 
 /// Relocates memory by the program that the bytes spell.
