@@ -1,15 +1,19 @@
 -- How placements follow one another, and what they leave of each other.
-use Rattle.std.proofs.Common.{◌≡◌, ◌≢◌, ◌⊎◌, ℕ, zero, suc, ◌+◌, ◌-◌, ◌<◌, ◌≤◌, List, [], ◌∷◌, ◌++◌, Option, None, Some, length, get_or, replicate, refl, sym, ap, subst, ◌∙◌, inl, inr, IsTrue, arith, rules}
-use Rattle.std.specs.List.{All}
+use Rattle.std.proofs.Common.{◌≡◌, ◌≢◌, ℕ, zero, suc, ◌+◌, ◌-◌, ◌<◌, ◌≤◌, List, [], ◌∷◌, Option, None, Some, length, get_or, replicate, refl, sym, ap, subst, ◌∙◌, inl, inr, IsTrue, arith, rules}
 use Rattle.cfm_memory.specs.Instances.{Layout, bytes_at, holds_place}
-use Rattle.pef_tool.specs.Shown.{IsHeld}
-use Rattle.cfm_memory.specs.Placement.{IsLowest, IsRoom, MayRefuse, taken, with_new}
+use Rattle.cfm_memory.specs.Placement.{MayRefuse, taken, with_new}
 use Rattle.cfm_memory.specs.declared.place.MemoryFault.{MemoryFault}
 use Rattle.cfm_memory.specs.declared.place.MemoryFault.TheVariants.{NoRoom, OutOfMemory}
 use Rattle.cfm_memory.specs.declared.place.Place.{Place}
 use Rattle.cfm_memory.proofs.Laws.{nothing_at_free, placed_here, placed_other}
-use Rattle.cfm_memory.proofs.Placing.{some_taken}
+use Rattle.cfm_memory.proofs.Placing.{some_taken, within_taken}
+use Rattle.std.proofs.lemmas.Bool.{cases_lt}
 use Rattle.pef_tool.specs.Placing.{Extent, IsPlaceFor, ArePlaced, HasNoRoomFor, LackRoom, LacksRoom}
+use Rattle.pef_tool.specs.Prepared.{AreApart, Stand, place_at, zeros_at}
+
+-- what stands for a place past the last one
+abbrev nowhere : Place
+nowhere = record { address = 0; size = 0 }
 
 -- sections that are placed behind a placed one
 pub placed_more : (m : Layout) (extent : ℕ → Extent) (i n : ℕ) (p : Place) (places : List Place) (after : Layout) → i < n → IsPlaceFor m (extent i) p
@@ -108,22 +112,40 @@ pub lacks_room : (fault : MemoryFault) (m first : Layout) (extent : ℕ → Exte
 lacks_room NoRoom m first extent i n under before refused = before (lacking_here m extent i n under refused)
 lacks_room OutOfMemory m first extent i n under before refused = tt
 
--- the one place
-pub only_place : (places : List Place) (p : Place) → length places ≡ 1 → p ≡ get_or places 0 p → places ≡ p ∷ []
-only_place [] p one is = absurd (omega arith)
-only_place (q ∷ []) p one is = ap (λ x. x ∷ []) (sym is)
-only_place (q ∷ r ∷ places) p one is = absurd (omega arith)
-
--- the first section was placed first
-pub first_placed : (m : Layout) (extent : ℕ → Extent) (n : ℕ) (p : Place) (places : List Place) (after : Layout) → ArePlaced m extent 0 n (p ∷ places) after → IsPlaceFor m (extent 0) p
-first_placed m extent zero p places after placed = absurd placed
-first_placed m extent (suc n) p places after placed = placed.0
-
 -- an instance of the right length is held
 pub is_held : (m : Layout) (p : Place) (bytes : List ℕ) → bytes_at m.instances p.address ≡ Some bytes → length bytes ≡ p.size → IsTrue (holds_place m p)
 is_held m p bytes there len = rw (there, len) (search rules)
 
--- what holds of the one place
-pub one_held : (m : Layout) (p : Place) → IsHeld m p → All (IsHeld m) (p ∷ [])
-one_held m p held zero d under = held
-one_held m p held (suc k) d under = absurd (omega arith)
+-- no two placed sections have one address
+pub placed_are_apart : (m : Layout) (extent : ℕ → Extent) (from n : ℕ) (places : List Place) (after : Layout) → ArePlaced m extent from n places after → AreApart places
+placed_are_apart m extent from n places after placed j k order under = placed_distinct m extent from n places after j k nowhere placed order under
+
+-- all placed sections are zeros
+pub placed_stand : (m : Layout) (extent : ℕ → Extent) (from n : ℕ) (places : List Place) (after : Layout) → ArePlaced m extent from n places after → Stand after places (zeros_at places)
+placed_stand m extent from n places after placed k under = (placed_zeros m extent from n places after k nowhere placed under).0
+
+-- and have the sizes that they need
+pub placed_size : (m : Layout) (extent : ℕ → Extent) (n : ℕ) (places : List Place) (after : Layout) → ArePlaced m extent 0 n places after
+    → (k : ℕ) → k < length places → (place_at places k).size ≡ (extent k).size
+placed_size m extent n places after placed k under =
+    let here : 0 + k ≡ k = omega arith in
+    (placed_zeros m extent 0 n places after k nowhere placed under).1 ∙ ap (λ j. (extent j).size) here
+
+-- no placed section passes the limit
+pub placed_below : (m : Layout) (extent : ℕ → Extent) (from n : ℕ) (places : List Place) (after : Layout) → ArePlaced m extent from n places after
+    → (k : ℕ) → k < length places → (place_at places k).address + (place_at places k).size ≤ m.limit
+placed_below m extent from zero [] after placed k under = absurd (omega arith)
+placed_below m extent from zero (p ∷ places) after placed k under = absurd placed
+placed_below m extent from (suc n) [] after placed k under = absurd placed
+placed_below m extent from (suc n) (p ∷ places) after placed zero under =
+    let room = placed.0.lowest.room.inside in
+    omega (arith, room, placed.0.size, within_taken (extent from).size)
+placed_below m extent from (suc n) (p ∷ places) after placed (suc k) under =
+    placed_below (with_new m p) extent (from + 1) n places after placed.1 k (omega arith)
+
+-- two places are apart, in either order
+pub apart_both : (places : List Place) (j k : ℕ) → j < length places → k < length places → AreApart places → j ≢ k → (place_at places j).address ≢ (place_at places k).address
+apart_both places j k low high apart other = elim (cases_lt j k) [
+  | inl less ↦ apart j k less high
+  | inr le ↦ λ same. apart k j (omega (arith, le, other)) low (sym same)
+]

@@ -1,5 +1,5 @@
 -- What is printed of prepared memory.
-use Rattle.std.specs.Prelude.{ℕ, ◌+◌, ◌^◌, ◌≤◌, IsTrue, List, [], ◌∷◌, ◌++◌, Option, None, Some, length, codes, decimal, map, unwrap_or}
+use Rattle.std.specs.Prelude.{ℕ, ◌+◌, ◌^◌, ◌≤◌, IsTrue, List, [], ◌∷◌, ◌++◌, Option, None, Some, length, codes, decimal, unwrap_or}
 use Rattle.cfm_memory.specs.Instances.{Layout, bytes_at, holds_place}
 use Rattle.cfm_memory.specs.declared.place.Place.{Place}
 use Rattle.pef_tool.specs.declared.entries.Entries.{Entries}

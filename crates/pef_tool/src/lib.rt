@@ -14,6 +14,7 @@ mod page;
 mod ports;
 mod prepare;
 mod refusal;
+mod relocation;
 mod reply;
 mod show;
 mod shown;

@@ -24,12 +24,13 @@ impl Prepared {
     ghost use Rattle.pef_tool.specs.Sent.{Sends};
     ghost use Rattle.pef_tool.specs.Shown.{fragment_text};
 
-    /// Prints the fragment `it`: its name, then its sections.
+    /// Prints the fragment `it`: its name, then its sections, then its entries.
     pub fn print<W: Sink>(&self, out: &mut W, page: &mut Page) -> Result<(), StreamFault>
         ensures { Sends result (W.written out.old) (W.written out.new) (W.failures out.old) (W.failures out.new) page.old.items page.new.items (fragment_text (codes "it") (sections_of self.now) self.now.entries) }
     {
         send(out, page, b"fragment it\n")?;
-        print_sections(out, page, &self.memory, self.places.as_slice())
+        print_sections(out, page, &self.memory, self.places.as_slice())?;
+        send(out, page, self.entries.lines().as_slice())
     }
 }
 

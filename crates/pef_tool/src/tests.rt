@@ -1,10 +1,14 @@
 ghost use Rattle.std.specs.Prelude.{◌≡◌, ◌<◌, ◌≤◌};
 ghost use Rattle.pef_tool.specs.Ports.{Rose};
 
+use crate::entries::Entries;
 use crate::input::{InputFault, read_input};
 use crate::link::link;
 use crate::ports::{FileFault, Files, Sink, Source, StreamFault};
+use crate::reply::Reply;
 use crate::run;
+use crate::shown::Prepared;
+use cfm_memory::Memory;
 use pef_script::Script;
 use std::alloc::Global;
 use std::test::Fail;
@@ -273,5 +277,46 @@ fn links(rt: HostRuntime) -> Result<(), Fail> {
         0x00,
     ];
     assert_eq!(rt; bytes.as_slice(), want.as_slice());
+    Ok(())
+}
+
+#[test]
+fn shows_entries(rt: HostRuntime) -> Result<(), Fail> {
+    for (init, main, term, want) in [
+        (
+            Some(0x0001_0000),
+            Some(0x0001_0010),
+            Some(0x0001_0020),
+            b"fragment it\ninit it 00010000\nmain 00010010\nterm it 00010020\n".as_slice(),
+        ),
+        (
+            None,
+            Some(0xFFFF_FFFF),
+            None,
+            b"fragment it\nmain FFFFFFFF\n",
+        ),
+        (
+            Some(0),
+            None,
+            Some(0x0ABC_DEF0),
+            b"fragment it\ninit it 00000000\nterm it 0ABCDEF0\n",
+        ),
+        (None, None, None, b"fragment it\n"),
+    ] {
+        let reply = Reply::Shown(Prepared {
+            memory: Memory::new(rt.alloc(), 0x0010_0000),
+            places: Vec::new(rt.alloc()),
+            entries: Entries { init, main, term },
+        });
+        let mut out = Sheet {
+            bytes: Vec::new(rt.alloc()),
+            step: 1,
+            fails_at: 0,
+            failures: 0,
+        };
+        let status = reply.deliver(&mut out);
+        assert_eq!(rt; out.bytes.as_slice(), want);
+        assert_eq!(rt; status, 0);
+    }
     Ok(())
 }

@@ -1,5 +1,5 @@
 -- What is left of the sections.
-use Rattle.std.proofs.Common.{◌≡◌, ◌≤◌, ◌+◌, [], ◌++◌, List, ℕ, length, drop, map, get_or, refl, sym, ap, subst, ◌∙◌, append-nil, arith}
+use Rattle.std.proofs.Common.{◌+◌, [], ◌++◌, List, ℕ, drop, map, refl, sym, ap, subst, ◌∙◌, append-nil, arith}
 use Rattle.cfm_memory.specs.declared.place.Place.{Place}
 use Rattle.pef_tool.specs.Shown.{section_at, sections_text}
 use Rattle.pef_tool.specs.Sent.{Prints, StopsShort}
