@@ -1,12 +1,11 @@
-ghost use Rattle.std.specs.Prelude.{◌≡◌, ◌<◌, ◌≤◌};
-ghost use Rattle.pef_tool.specs.Ports.{Rose};
+ghost use Rattle.std.specs.Prelude.{◌≡◌, ◌<◌, ◌≤◌, IfErr};
+ghost use Rattle.pef_tool.specs.Ports.{MayFail, Rose};
 
 use crate::input::{InputFault, read_input};
-use crate::link::link;
 use crate::ports::{FileFault, Files, Sink, Source, StreamFault};
 use crate::run;
-use pef_script::Script;
 use std::alloc::Global;
+use std::process::Abort;
 use std::test::Fail;
 
 /// An input that gives its bytes a few at a time, and fails at a call.
@@ -100,11 +99,106 @@ impl Files for NoFiles {
     }
 }
 
+/// A file in memory.
+#[derive(Drop)]
+struct Paper {
+    path: Vec<u8>,
+    bytes: Vec<u8>,
+}
+
+/// Files in memory, of which those at one path can't be written.
+#[derive(Drop)]
+struct Papers {
+    papers: Vec<Paper>,
+    locked: Vec<u8>,
+    failures: u64,
+}
+
+impl Papers {
+    fn failed(&mut self) -> FileFault
+        ensures fails { MayFail result self.old.failures self.new.failures }
+        ensures counted { self.old.failures ≤ self.new.failures }
+    {
+        self.failures = self.failures.saturating_add(1);
+        FileFault::Failed
+    }
+
+    /// The bytes of the last file at a path.
+    fn bytes(&self, path: &[u8]) -> Option<&[u8]> {
+        let mut found = None;
+        for paper in &self.papers {
+            if paper.path.as_slice() == path {
+                found = Some(paper.bytes.as_slice());
+            }
+        }
+        found
+    }
+
+    /// Whether the last file at a path has some bytes.
+    fn has(&self, path: &[u8], bytes: &[u8]) -> bool {
+        match self.bytes(path) {
+            Some(there) => there == bytes,
+            None => false,
+        }
+    }
+
+    fn put(&mut self, alloc: Global, path: &[u8], bytes: &[u8]) -> Result<(), FileFault>
+        ensures count { self.new.failures ≡ self.old.failures }
+        ensures fails { IfErr result (λ fault. MayFail fault self.old.failures self.new.failures) }
+    {
+        let Ok(path) = Vec::from_slice(alloc, path) else {
+            return Err(FileFault::OutOfMemory);
+        };
+        let Ok(bytes) = Vec::from_slice(alloc, bytes) else {
+            return Err(FileFault::OutOfMemory);
+        };
+        match self.papers.push(Paper { path, bytes }) {
+            Ok(()) => Ok(()),
+            Err(_) => Err(FileFault::OutOfMemory),
+        }
+    }
+}
+
+impl Files for Papers {
+    ghost use Rattle.std.specs.Prelude.{None};
+
+    ghost contents = { λ _. None };
+
+    ghost failures = { λ papers. papers.failures };
+
+    fn read(&mut self, alloc: Global, path: &[u8]) -> Result<Vec<u8>, FileFault> {
+        match self.bytes(path) {
+            Some(bytes) => match Vec::from_slice(alloc, bytes) {
+                Ok(bytes) => Ok(bytes),
+                Err(_) => Err(FileFault::OutOfMemory),
+            },
+            None => Err(self.failed()),
+        }
+    }
+
+    fn write(&mut self, path: &[u8], bytes: &[u8]) -> Result<(), FileFault> {
+        if path == self.locked.as_slice() {
+            return Err(self.failed());
+        }
+        let alloc = *self.papers.allocator();
+        self.put(alloc, path, bytes)
+    }
+}
+
 const EXAMPLE: &[u8] =
     b"section d data process 4 16\nbytes d 11223344000000080102\nfix d 4 section d\nfix d 12 section d\n";
 
 const SHOWN: &[u8] =
     b"fragment it\nsection 0 at 00010000 size 16\n00010000 11223344 00010008 01020000 00010000\n";
+
+/// The words of a command line.
+fn line_of(alloc: Global, words: &[&str]) -> Result<Vec<String>, Fail> {
+    let mut line = Vec::new(alloc);
+    for word in words {
+        line.push(String::from_str(alloc, word)?)?;
+    }
+    Ok(line)
+}
 
 /// What `run` prints for some words and an input, over an output of so many bytes a call that fails at a
 /// call, and the status.
@@ -118,10 +212,7 @@ fn ran(
 ) -> Result<(Vec<u8>, u8), Fail>
     requires { 0 < step }
 {
-    let mut line = Vec::new(alloc);
-    for word in words {
-        line.push(String::from_str(alloc, word)?)?;
-    }
+    let line = line_of(alloc, words)?;
     let mut files = NoFiles;
     let mut input = Text {
         rest: text,
@@ -247,16 +338,79 @@ fn streams_fail(rt: HostRuntime) -> Result<(), Fail> {
     Ok(())
 }
 
-/// The container of a script.
-fn linked(alloc: Global, text: &[u8]) -> Result<Vec<u8>, Fail> {
-    let script = Script::read(alloc, text)?;
-    Ok(link(alloc, &script)?)
+/// What a run of `link` printed, its status, and the files that it left.
+#[derive(Drop)]
+struct Outcome {
+    printed: Vec<u8>,
+    status: u8,
+    papers: Papers,
+}
+
+/// What `run` does with some words where the file `a` has a text, and `locked` can't be written.
+fn run_link(alloc: Global, words: &[&str], text: &[u8], locked: &[u8]) -> Result<Outcome, Fail> {
+    let line = line_of(alloc, words)?;
+    let mut papers = Papers {
+        papers: Vec::new(alloc),
+        locked: Vec::from_slice(alloc, locked)?,
+        failures: 0,
+    };
+    papers.put(alloc, b"a", text)?;
+    let mut input = Text {
+        rest: b"",
+        fails_at: 0,
+        failures: 0,
+    };
+    let mut out = Sheet {
+        bytes: Vec::new(alloc),
+        step: 1000,
+        fails_at: 0,
+        failures: 0,
+    };
+    let status = run(alloc, line.as_slice(), &mut papers, &mut input, &mut out);
+    let Sheet { bytes, .. } = out;
+    Ok(Outcome {
+        printed: bytes,
+        status,
+        papers,
+    })
+}
+
+/// Links the text of `a` to a path, which has the container then.
+fn assert_links(
+    rt: &impl Abort,
+    alloc: Global,
+    text: &[u8],
+    out: &str,
+    printed: &[u8],
+    container: &[u8],
+) -> Result<(), Fail> {
+    let outcome = run_link(alloc, &["pef", "link", "a", out], text, b"")?;
+    assert_eq!(rt; outcome.printed.as_slice(), printed);
+    assert_eq!(rt; outcome.status, 0);
+    assert!(rt; outcome.papers.has(out.as_bytes(), container));
+    Ok(())
+}
+
+/// Runs words where they are refused: `a` keeps its text, and nothing is written.
+fn assert_refuses(
+    rt: &impl Abort,
+    alloc: Global,
+    words: &[&str],
+    text: &[u8],
+    printed: &[u8],
+    status: u8,
+) -> Result<(), Fail> {
+    let outcome = run_link(alloc, words, text, b"locked")?;
+    assert_eq!(rt; outcome.printed.as_slice(), printed);
+    assert_eq!(rt; outcome.status, status);
+    assert_eq!(rt; outcome.papers.papers.len(), 1);
+    assert!(rt; outcome.papers.has(b"a", text));
+    Ok(())
 }
 
 #[test]
 fn links(rt: HostRuntime) -> Result<(), Fail> {
-    let bytes = linked(rt.alloc(), EXAMPLE)?;
-    let want = [
+    let container = [
         0x4A, 0x6F, 0x79, 0x21, 0x70, 0x65, 0x66, 0x66, 0x70, 0x77, 0x70, 0x63, 0x00, 0x00, 0x00,
         0x01, 0x00, 0x00, 0x00, 0x00, 0x00, 0x00, 0x00, 0x00, 0x00, 0x00, 0x00, 0x00, 0x00, 0x00,
         0x00, 0x00, 0x00, 0x02, 0x00, 0x01, 0x00, 0x00, 0x00, 0x00, 0xFF, 0xFF, 0xFF, 0xFF, 0x00,
@@ -272,6 +426,90 @@ fn links(rt: HostRuntime) -> Result<(), Fail> {
         0xA0, 0x00, 0x00, 0x04, 0x66, 0x00, 0xA0, 0x00, 0x00, 0x0C, 0x66, 0x00, 0x00, 0x00, 0x00,
         0x00,
     ];
-    assert_eq!(rt; bytes.as_slice(), want.as_slice());
+    let container = container.as_slice();
+    let printed = b"linked 196 bytes\nsection 0 length 6\n".as_slice();
+    assert_links(&rt, rt.alloc(), EXAMPLE, "out", printed, container)?;
+    assert_links(&rt, rt.alloc(), EXAMPLE, "a", printed, container)
+}
+
+#[test]
+fn links_an_empty_script(rt: HostRuntime) -> Result<(), Fail> {
+    let container = [
+        0x4A, 0x6F, 0x79, 0x21, 0x70, 0x65, 0x66, 0x66, 0x70, 0x77, 0x70, 0x63, 0x00, 0x00, 0x00,
+        0x01, 0x00, 0x00, 0x00, 0x00, 0x00, 0x00, 0x00, 0x00, 0x00, 0x00, 0x00, 0x00, 0x00, 0x00,
+        0x00, 0x00, 0x00, 0x01, 0x00, 0x00, 0x00, 0x00, 0x00, 0x00, 0xFF, 0xFF, 0xFF, 0xFF, 0x00,
+        0x00, 0x00, 0x00, 0x00, 0x00, 0x00, 0x00, 0x00, 0x00, 0x00, 0x00, 0x00, 0x00, 0x00, 0x3C,
+        0x00, 0x00, 0x00, 0x50, 0x04, 0x04, 0x04, 0x00, 0x00, 0x00, 0x00, 0x00, 0x00, 0x00, 0x00,
+        0x00, 0x00, 0x00, 0x00, 0x00, 0xFF, 0xFF, 0xFF, 0xFF, 0x00, 0x00, 0x00, 0x00, 0xFF, 0xFF,
+        0xFF, 0xFF, 0x00, 0x00, 0x00, 0x00, 0xFF, 0xFF, 0xFF, 0xFF, 0x00, 0x00, 0x00, 0x00, 0x00,
+        0x00, 0x00, 0x00, 0x00, 0x00, 0x00, 0x00, 0x00, 0x00, 0x00, 0x00, 0x00, 0x00, 0x00, 0x38,
+        0x00, 0x00, 0x00, 0x38, 0x00, 0x00, 0x00, 0x38, 0x00, 0x00, 0x00, 0x00, 0x00, 0x00, 0x00,
+        0x00, 0x00, 0x00, 0x00, 0x00,
+    ];
+    let container = container.as_slice();
+    assert_links(
+        &rt,
+        rt.alloc(),
+        b"",
+        "out",
+        b"linked 140 bytes\n",
+        container,
+    )
+}
+
+#[test]
+fn links_without_fixups(rt: HostRuntime) -> Result<(), Fail> {
+    let text = b"section d data process 4 3\nbytes d aAfF";
+    let outcome = run_link(rt.alloc(), &["pef", "link", "a", "out"], text, b"")?;
+    let printed = b"linked 172 bytes\nsection 0 length 0\n".as_slice();
+    assert_eq!(rt; outcome.printed.as_slice(), printed);
+    Ok(())
+}
+
+#[test]
+fn refuses_to_link(rt: HostRuntime) -> Result<(), Fail> {
+    for (script, out, text, printed) in [
+        (
+            "missing",
+            "out",
+            EXAMPLE,
+            b"refused 71 FileUnreadable missing\n".as_slice(),
+        ),
+        (
+            "a b%\u{E9}~!",
+            "out",
+            EXAMPLE,
+            b"refused 71 FileUnreadable a%20b%25%C3%A9~!\n",
+        ),
+        (
+            "a",
+            "locked",
+            EXAMPLE,
+            b"refused 72 FileUnwritable locked\n",
+        ),
+        (
+            "a",
+            "out",
+            b"section d data process 4 8\nfix d 0 section d\nfix d 2 section d\n".as_slice(),
+            b"refused 46 Overlap line 3\n",
+        ),
+        ("a", "locked", b"main", b"refused 41 BadLine line 1\n"),
+    ] {
+        let words = ["pef", "link", script, out];
+        assert_refuses(&rt, rt.alloc(), &words, text, printed, 1)?;
+    }
+    Ok(())
+}
+
+#[test]
+fn refuses_words_of_link(rt: HostRuntime) -> Result<(), Fail> {
+    for words in [
+        ["pef", "link"].as_slice(),
+        ["pef", "link", "a"].as_slice(),
+        ["pef", "link", "a", "out", "b"].as_slice(),
+        ["pef", "link", "--help"].as_slice(),
+    ] {
+        assert_refuses(&rt, rt.alloc(), words, EXAMPLE, b"usage\n", 2)?;
+    }
     Ok(())
 }
