@@ -21,7 +21,8 @@ const WINDOW: usize = MAX_BLOCKS as usize;
 /// instruction, and how many instructions would have been executed.
 ///
 /// Halfword h of the program stands at h % `WINDOW`. The instructions themselves aren't kept: where a
-/// repeat reaches them, they are decoded again.
+/// repeat reaches them, they are decoded again, each once at most, since a reach with a repeat in it ends
+/// the reading.
 #[derive(Clone, Copy, Debug)]
 pub(crate) struct Reader {
     begins: [bool; WINDOW],
