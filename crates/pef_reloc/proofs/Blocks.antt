@@ -65,7 +65,7 @@ pub block-fault : (a : Addresses) (m m' : Machine) (memory memory' bytes : List 
 block-fault a m m' memory memory' bytes at to m0 whole block x f left = faulted a m m' memory memory' bytes at to m0 whole block x f left.rest left.spans left.leaves
 
 -- a place inside a block begins an instruction
-begins : (bytes : List ℕ) (at to : ℕ) (f : RelocFault) (rest : List Instr) → Spans bytes at rest to → at < to → first_instr (drop at bytes) ≡ Err f → ⊥
+pub begins : (bytes : List ℕ) (at to : ℕ) (f : RelocFault) (rest : List Instr) → Spans bytes at rest to → at < to → first_instr (drop at bytes) ≡ Err f → ⊥
 begins bytes at to f [] spans under none = absurd (omega arith)
 begins bytes at to f (y ∷ ys) spans under none = let no : Ok y ≡ Err f = sym spans.0 ∙ none in cc no
 

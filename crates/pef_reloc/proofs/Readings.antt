@@ -6,19 +6,21 @@ use Rattle.pef_reloc.specs.declared.instr.Instr.{Instr}
 use Rattle.pef_reloc.specs.declared.recent.Reader.{Reader}
 use Rattle.pef_reloc.specs.Instrs.{instr_length, repeat_of}
 use Rattle.pef_reloc.specs.Decoding.{code_of, first_instr}
-use Rattle.pef_reloc.specs.Readers.{Passes, Recent}
+use Rattle.pef_reloc.specs.Machines.{Before}
+use Rattle.pef_reloc.specs.Readers.{Marks, Passes}
 use Rattle.pef_reloc.specs.Unrolled.{code_fault, instr_fault, program_fault, steps_as}
 use Rattle.pef_reloc.proofs.CodeLemmas.{code-end, code-next, code-fault}
 
 -- the refusal of what is left is that of the program
 pub record ReadLeft (bytes : List ℕ) (at : ℕ) (reader : Reader) : Type 0 where
   pub before : List Instr
-  pub recent : Recent reader before
+  pub stands : Before bytes before at
+  pub marks : Marks reader.begins before
   pub rest : code_fault before reader.steps (code_of (drop at bytes)) ≡ program_fault bytes
 
-pub read-start : (bytes : List ℕ) (reader : Reader) → Recent reader [] → reader.steps ≡ 0 → ReadLeft bytes 0 reader
+pub read-start : (bytes : List ℕ) (reader : Reader) → Marks reader.begins [] → reader.steps ≡ 0 → ReadLeft bytes 0 reader
 unfolding program_fault
-read-start bytes reader recent steps = record { before = []; recent = recent; rest = rw steps refl }
+read-start bytes reader marks steps = record { before = []; stands = refl; marks = marks; rest = rw steps refl }
 
 -- an instruction that isn't refused is passed over
 passed : (f : Option RelocFault) (rest last : Option RelocFault) → f ≡ None → option_or (option_or f rest) last ≡ option_or rest last
@@ -47,6 +49,7 @@ fault-end bytes at before steps past = ap (code_fault before steps) (code-end by
 pub read-more : (bytes : List ℕ) (at : ℕ) (old new : Reader) (x : Instr) (left : ReadLeft bytes at old) → at < length bytes → first_instr (drop at bytes) ≡ Ok x → Passes old new left.before x None → ReadLeft bytes (at + 2 * instr_length x) new
 read-more bytes at old new x left under here passes = record {
   before = x ∷ left.before;
-  recent = passes.recent refl;
+  stands = (at, refl, here, left.stands);
+  marks = passes.marks refl;
   rest = rw (passes.steps refl) (sym (fault-next bytes at x left.before old.steps under here (sym passes.fault)) ∙ left.rest);
 }

@@ -1,133 +1,261 @@
--- The last instructions that a reader keeps.
-use Rattle.std.proofs.Common.{◌≡◌, ℕ, zero, suc, ◌+◌, ◌*◌, ◌-◌, ◌<◌, ◌≤◌, ◌≢◌, min, Bool, true, false, cond, not, ◌&&◌, List, [], ◌∷◌, ◌++◌, length, take, drop, set, get_or, nat_le, None, Some, Result, Ok, Err, refl, ap, sym, ◌∙◌, arith, length-append, length-drop, drop-cons}
-use Rattle.std.proofs.lemmas.List.{length-take}
-use Rattle.std.proofs.lemmas.Bool.{le-leb}
-use Rattle.std.specs.Option.{is_none}
-use Rattle.pef_words.specs.Refusals.{result_map, unless}
+-- Where the last instructions begin, as a reader keeps it, and what the block of a repeat comes to.
+use Rattle.std.proofs.Common.{◌≡◌, ℕ, zero, suc, ◌+◌, ◌*◌, ◌-◌, ◌/◌, ◌%◌, ◌<◌, ◌≤◌, ◌≢◌, Bool, true, false, cond, List, [], ◌∷◌, length, drop, set, get_or, nat_le, Option, None, Some, Result, Ok, Err, refl, ap, sym, subst, ◌∙◌, arith, length-append, is_ok}
+use Rattle.std.specs.Option.{is_none, is_some}
+use Rattle.std.proofs.lemmas.List.{get_or-set_same, get_or-set_other, length-set}
+use Rattle.std.proofs.lemmas.Bool.{le-leb, lt-leb, leb-true}
+use Rattle.pef_words.specs.Refusals.{unless}
 use Rattle.pef_reloc.specs.declared.fault.RelocFault.{RelocFault}
-use Rattle.pef_reloc.specs.declared.fault.RelocFault.TheVariants.{NestedRepeat, RepeatCuts}
+use Rattle.pef_reloc.specs.declared.fault.RelocFault.TheVariants.{NestedRepeat, RepeatCuts, RepeatTooFar}
 use Rattle.pef_reloc.specs.declared.instr.Instr.{Instr}
-use Rattle.pef_reloc.specs.declared.recent.Block.{Block}
-use Rattle.pef_reloc.specs.declared.recent.Reader.{Reader}
 use Rattle.pef_reloc.specs.declared.instr.Repeat.{Repeat}
-use Rattle.pef_reloc.specs.Instrs.{instr_length, repeat_free, repeat_of}
-use Rattle.pef_reloc.specs.Readers.{Recent, brief}
-use Rattle.pef_reloc.specs.Unrolled.{block_fault, block_of, reached, repeat_fault, repeated, steps_as}
+use Rattle.pef_reloc.specs.Decoding.{first_instr}
+use Rattle.pef_reloc.specs.Instrs.{instr_length, program_length, repeat_free, repeat_of}
+use Rattle.pef_reloc.specs.Machines.{Before, Spans}
+use Rattle.pef_reloc.specs.Readers.{Marks, flat_count}
+use Rattle.pef_reloc.specs.Unrolled.{block_of, reached, repeat_fault, repeated, steps_as}
+use Rattle.pef_reloc.proofs.Blocks.{begins, reach, spans-order}
 use Rattle.pef_reloc.proofs.CodeLemmas.{some_length}
 
--- what a walk back over the instructions has left: what it reached so far, in order
-pub record MeasureLeft (recent : List Instr) (blocks i left count : ℕ) (flat : Bool) : Type 0 where
-  pub block : List Instr
-  pub rest : reached (drop i recent) left block ≡ reached recent blocks []
-  pub count_is : count ≡ length block
-  pub flat_is : flat ≡ repeat_free block
+either : (b : Bool) (r s : Result (List Instr) RelocFault) → is_ok r ≡ is_ok s → is_ok (cond b r (Err RepeatCuts)) ≡ is_ok (cond b s (Err RepeatCuts))
+either true r s e = e
+either false r s e = refl
 
-pub take_take : (m n : ℕ) (xs : List Instr) → take m (take n xs) ≡ take (min m n) xs
-take_take zero n xs = let e : min 0 n ≡ 0 = omega arith in rw e refl
-take_take (suc m) zero xs = let e : min (suc m) 0 ≡ 0 = omega arith in rw e refl
-take_take (suc m) (suc n) [] = let e : min (suc m) (suc n) ≡ suc (min m n) = omega arith in rw e refl
-take_take (suc m) (suc n) (x ∷ xs) =
-    let e : min (suc m) (suc n) ≡ suc (min m n) = omega arith in
-    rw e (ap (λ ys. x ∷ ys) (take_take m n xs))
+-- how far back an instruction begins doesn't depend on what was reached before
+behind : (before : List Instr) (n : ℕ) (xs ys : List Instr) → is_ok (reached before n xs) ≡ is_ok (reached before n ys)
+behind [] zero xs ys = refl
+behind [] (suc n) xs ys = refl
+behind (x ∷ before) zero xs ys = refl
+behind (x ∷ before) (suc n) xs ys = either (nat_le (instr_length x) (suc n)) _ _ (behind before (suc n - instr_length x) (x ∷ xs) (x ∷ ys))
 
-set_front : (ys zs : List Instr) (x : Instr) → length ys ≡ 1 → set (ys ++ zs) 0 x ≡ x ∷ zs
-set_front [] zs x one = absurd (omega arith)
-set_front (y ∷ []) zs x one = refl
-set_front (y ∷ z ∷ ys) zs x one = absurd (omega arith)
+reached-nothing : (before block : List Instr) → reached before 0 block ≡ Ok block
+reached-nothing [] block = refl
+reached-nothing (x ∷ before) block = refl
 
--- the list after it is turned by one and its first place is written
-turned : (xs : List Instr) (x : Instr) → length xs ≡ 16 → set (drop (length xs - 1) xs ++ take (length xs - 1) xs) 0 x ≡ x ∷ take 15 xs
-turned xs x full =
-    let last : length (drop 15 xs) ≡ 1 = omega (arith, length-drop 15 xs) in
-    rw full (set_front (drop 15 xs) (take 15 xs) x last)
+-- behind the last instruction
+begins-past : (x : Instr) (before : List Instr) (n : ℕ) → 1 ≤ n → instr_length x ≤ n → is_ok (reached (x ∷ before) n []) ≡ is_ok (reached before (n - instr_length x) [])
+begins-past x before zero some fits = absurd (omega arith)
+begins-past x before (suc n) some fits = rw (le-leb (instr_length x) (suc n) fits) (behind before (suc n - instr_length x) (x ∷ []) [])
 
--- one more instruction in front of those that can be reached
-pub window-push : (old new : Reader) (x : Instr) (before : List Instr) → Recent old before → new.recent ≡ set (drop (length old.recent - 1) old.recent ++ take (length old.recent - 1) old.recent) 0 x → new.known ≡ min 16 (old.known + 1) → Recent new (x ∷ before)
-window-push old new x before recent e known =
-    let is : new.recent ≡ x ∷ take 15 old.recent = e ∙ turned old.recent x recent.full in
-    let count : new.known ≡ suc (min 15 old.known) = omega (arith, known, recent.known_is) in
-    let fifteen : min (min 15 old.known) 15 ≡ min 15 old.known = omega arith in
-    let inner : take (min 15 old.known) (take 15 old.recent) ≡ take 15 before =
-    take_take (min 15 old.known) 15 old.recent ∙ (ap (λ k. take k old.recent) fifteen ∙ (sym (take_take 15 old.known old.recent) ∙ (ap (λ xs. take 15 xs) recent.recent_is ∙ take_take 15 16 before))) in
+-- where the last instruction begins
+begins-here : (x : Instr) (before : List Instr) (n : ℕ) → n ≡ instr_length x → is_ok (reached (x ∷ before) n []) ≡ true
+begins-here x before n e =
+    let some = some_length x in
+    let nothing : n - instr_length x ≡ 0 = omega (arith, e) in
+    begins-past x before n (omega (arith, e, some)) (omega (arith, e)) ∙ (ap (λ k. is_ok (reached before k [])) nothing ∙ ap is_ok (reached-nothing before []))
+
+-- inside the last instruction
+begins-inside : (x : Instr) (before : List Instr) (n : ℕ) → 1 ≤ n → n < instr_length x → is_ok (reached (x ∷ before) n []) ≡ false
+begins-inside x before zero some under = absurd (omega arith)
+begins-inside x before (suc n) some under = rw (lt-leb (instr_length x) (suc n) under) refl
+
+-- each mark behind an instruction of one halfword
+one_at : (marks : List Bool) (x : Instr) (before : List Instr) → instr_length x ≡ 1 → Marks marks before → (n : ℕ) → 1 ≤ n → n ≤ 16 → n ≤ instr_length x + program_length before → get_or (set marks (program_length before % 16) true) ((instr_length x + program_length before - n) % 16) false ≡ is_ok (reached (x ∷ before) n [])
+one_at marks x before one old zero some few inside = absurd (omega arith)
+one_at marks x before one old (suc zero) some few inside =
+    let m = program_length before in
+    let place : (instr_length x + m - 1) % 16 ≡ m % 16 = omega (arith, one) in
+    rw place (get_or-set_same marks (m % 16) true false (omega (arith, old.full)) ∙ sym (begins-here x before 1 (sym one)))
+one_at marks x before one old (suc (suc k)) some few inside =
+    let m = program_length before in
+    let place : (instr_length x + m - suc (suc k)) % 16 ≡ (m - suc k) % 16 = omega (arith, one) in
+    let apart : (m - suc k) % 16 ≢ m % 16 = λ e. omega (arith, e, one, few, inside) in
+    let less : suc (suc k) - instr_length x ≡ suc k = omega (arith, one) in
+    rw place (get_or-set_other marks (m % 16) ((m - suc k) % 16) true false apart
+    ∙ (old.begins (suc k) (omega arith) (omega (arith, few)) (omega (arith, inside, one))
+    ∙ sym (begins-past x before (suc (suc k)) some (omega (arith, one)) ∙ ap (λ n. is_ok (reached before n [])) less)))
+
+-- each mark behind one of two
+two_at : (marks : List Bool) (x : Instr) (before : List Instr) → instr_length x ≡ 2 → Marks marks before → (n : ℕ) → 1 ≤ n → n ≤ 16 → n ≤ instr_length x + program_length before → get_or (set (set marks (program_length before % 16) true) ((program_length before + 1) % 16) false) ((instr_length x + program_length before - n) % 16) false ≡ is_ok (reached (x ∷ before) n [])
+two_at marks x before two old zero some few inside = absurd (omega arith)
+two_at marks x before two old (suc zero) some few inside =
+    let m = program_length before in
+    let place : (instr_length x + m - 1) % 16 ≡ (m + 1) % 16 = omega (arith, two) in
+    let long : (m + 1) % 16 < length (set marks (m % 16) true) = omega (arith, old.full, length-set marks (m % 16) true) in
+    rw place (get_or-set_same (set marks (m % 16) true) ((m + 1) % 16) false false long ∙ sym (begins-inside x before 1 some (omega (arith, two))))
+two_at marks x before two old (suc (suc zero)) some few inside =
+    let m = program_length before in
+    let place : (instr_length x + m - 2) % 16 ≡ m % 16 = omega (arith, two) in
+    let apart : m % 16 ≢ (m + 1) % 16 = λ e. omega (arith, e) in
+    rw place (get_or-set_other (set marks (m % 16) true) ((m + 1) % 16) (m % 16) false false apart
+    ∙ (get_or-set_same marks (m % 16) true false (omega (arith, old.full)) ∙ sym (begins-here x before 2 (sym two))))
+two_at marks x before two old (suc (suc (suc k))) some few inside =
+    let m = program_length before in
+    let place : (instr_length x + m - suc (suc (suc k))) % 16 ≡ (m - suc k) % 16 = omega (arith, two) in
+    let first : (m - suc k) % 16 ≢ m % 16 = λ e. omega (arith, e, two, few, inside) in
+    let second : (m - suc k) % 16 ≢ (m + 1) % 16 = λ e. omega (arith, e, two, few, inside) in
+    let less : suc (suc (suc k)) - instr_length x ≡ suc k = omega (arith, two) in
+    rw place (get_or-set_other (set marks (m % 16) true) ((m + 1) % 16) ((m - suc k) % 16) false false second
+    ∙ (get_or-set_other marks (m % 16) ((m - suc k) % 16) true false first
+    ∙ (old.begins (suc k) (omega arith) (omega (arith, few)) (omega (arith, inside, two))
+    ∙ sym (begins-past x before (suc (suc (suc k))) some (omega (arith, two)) ∙ ap (λ n. is_ok (reached before n [])) less))))
+
+-- an instruction of one halfword is marked
+pub mark-one : (marks : List Bool) (x : Instr) (before : List Instr) (at : ℕ) → instr_length x ≡ 1 → at ≡ 2 * program_length before → Marks marks before → Marks (set marks (at / 2 % 16) true) (x ∷ before)
+mark-one marks x before at one at_is old =
+    let half : at / 2 ≡ program_length before = omega (arith, at_is) in
+    rw half (record {
+      full = length-set marks (program_length before % 16) true ∙ old.full;
+      begins = one_at marks x before one old;
+    })
+
+-- and one of two
+pub mark-two : (marks : List Bool) (x : Instr) (before : List Instr) (at : ℕ) → instr_length x ≡ 2 → at ≡ 2 * program_length before → Marks marks before → Marks (set (set marks (at / 2 % 16) true) ((at / 2 + 1) % 16) false) (x ∷ before)
+mark-two marks x before at two at_is old =
+    let m = program_length before in
+    let half : at / 2 ≡ m = omega (arith, at_is) in
+    rw half (record {
+      full = length-set (set marks (m % 16) true) ((m + 1) % 16) false ∙ (length-set marks (m % 16) true ∙ old.full);
+      begins = two_at marks x before two old;
+    })
+
+-- what is left to count of a block
+pub record CountLeft (bytes : List ℕ) (at to count : ℕ) (block : List Instr) : Type 0 where
+  pub rest : List Instr
+  pub spans : Spans bytes at rest to
+  pub flat_is : repeat_free rest ≡ repeat_free block
+  pub count_is : count + length rest ≡ length block
+
+pub count-start : (bytes : List ℕ) (from to : ℕ) (block : List Instr) → Spans bytes from block to → CountLeft bytes from to 0 block
+count-start bytes from to block spans = record { rest = block; spans = spans; flat_is = refl; count_is = omega arith }
+
+-- the instruction that stands first
+pub record First (bytes : List ℕ) (at to : ℕ) (rest : List Instr) (x : Instr) : Type 0 where
+  pub others : List Instr
+  pub rest_is : rest ≡ x ∷ others
+  pub spans : Spans bytes (at + 2 * instr_length x) others to
+
+first-of : (bytes : List ℕ) (at to : ℕ) (rest : List Instr) (x : Instr) → Spans bytes at rest to → at < to → first_instr (drop at bytes) ≡ Ok x → First bytes at to rest x
+first-of bytes at to [] x spans under here = absurd (omega arith)
+first-of bytes at to (y ∷ ys) x spans under here =
+    let same : y ≡ x = cc (spans.0, here) in
+    let P : Instr → Type 0 = λ z. Spans bytes (at + 2 * instr_length z) ys to in
+    record { others = ys; rest_is = ap (λ z. z ∷ ys) same; spans = subst P same spans.1 }
+
+plain_one : (r : Option Repeat) → is_some r ≡ false → is_none r ≡ true
+plain_one None e = refl
+plain_one (Some r) e = absurd (cc e)
+
+rough_one : (r : Option Repeat) → is_some r ≡ true → is_none r ≡ false
+rough_one None e = absurd (cc e)
+rough_one (Some r) e = refl
+
+pub count-more : (bytes : List ℕ) (at to count : ℕ) (block : List Instr) (x : Instr) → CountLeft bytes at to count block → at < to → first_instr (drop at bytes) ≡ Ok x → is_some (repeat_of x) ≡ false → CountLeft bytes (at + 2 * instr_length x) to (count + 1) block
+count-more bytes at to count block x left under here plain =
+    let f = first-of bytes at to left.rest x left.spans under here in
+    let flat : repeat_free (x ∷ f.others) ≡ repeat_free f.others = rw (plain_one (repeat_of x) plain) refl in
+    let long : length left.rest ≡ suc (length f.others) = ap length f.rest_is in
     record {
-      full = ap (λ xs. length xs) is ∙ rw (length-take 15 old.recent, recent.full) refl;
-      known_is = omega (arith, known, recent.known_is);
-      recent_is = rw (is, count) (ap (λ ys. x ∷ ys) inner);
+      rest = f.others;
+      spans = f.spans;
+      flat_is = sym (ap repeat_free f.rest_is ∙ flat) ∙ left.flat_is;
+      count_is = omega (arith, long, left.count_is);
     }
 
--- of the instructions before, sixteen are enough
-pub reached-zero : (before block : List Instr) → reached before 0 block ≡ Ok block
-reached-zero [] block = refl
-reached-zero (x ∷ before) block = refl
+-- a repeat in the block
+pub count-nested : (bytes : List ℕ) (at to count : ℕ) (block : List Instr) (x : Instr) → CountLeft bytes at to count block → at < to → first_instr (drop at bytes) ≡ Ok x → is_some (repeat_of x) ≡ true → flat_count block ≡ Err NestedRepeat
+count-nested bytes at to count block x left under here nested =
+    let f = first-of bytes at to left.rest x left.spans under here in
+    let rough : repeat_free block ≡ false = sym left.flat_is ∙ (ap repeat_free f.rest_is ∙ rw (rough_one (repeat_of x) nested) refl) in
+    rw rough refl
 
-pub reached-window : (m n : ℕ) (xs acc : List Instr) → n ≤ m → reached (take m xs) n acc ≡ reached xs n acc
-reached-window zero zero [] acc low = refl
-reached-window zero zero (x ∷ xs) acc low = refl
-reached-window zero (suc n) xs acc low = absurd (omega arith)
-reached-window (suc m) zero [] acc low = refl
-reached-window (suc m) zero (x ∷ xs) acc low = refl
-reached-window (suc m) (suc n) [] acc low = refl
-reached-window (suc m) (suc n) (x ∷ xs) acc low =
-    let some = some_length x in
-    ap (λ r. cond (nat_le (instr_length x) (suc n)) r (Err RepeatCuts)) (reached-window m (suc n - instr_length x) xs (x ∷ acc) (omega (arith, some)))
+-- a place inside a block begins an instruction
+pub count-begins : (bytes : List ℕ) (at to count : ℕ) (block : List Instr) (f : RelocFault) → CountLeft bytes at to count block → at < to → first_instr (drop at bytes) ≡ Err f → ⊥
+count-begins bytes at to count block f left = begins bytes at to f left.rest left.spans
 
--- one more instruction of a walk back
-reached-more : (x : Instr) (xs : List Instr) (left : ℕ) (block : List Instr) → left ≢ 0 → instr_length x ≤ left → reached (x ∷ xs) left block ≡ reached xs (left - instr_length x) (x ∷ block)
-reached-more x xs zero block some fits = absurd (some refl)
-reached-more x xs (suc n) block some fits = rw (le-leb (instr_length x) (suc n) fits) refl
+-- a block that is counted
+counted : (bytes : List ℕ) (at to count : ℕ) (block rest : List Instr) → Spans bytes at rest to → repeat_free rest ≡ repeat_free block → count + length rest ≡ length block → to ≤ at → flat_count block ≡ Ok count
+counted bytes at to count block [] spans flat long past =
+    let all : length block ≡ count = omega (arith, long) in
+    rw (← flat) (ap Ok all)
+counted bytes at to count block (y ∷ ys) spans flat long past =
+    let later = spans-order bytes (at + 2 * instr_length y) ys to spans.1 in
+    let some = some_length y in
+    absurd (omega (arith, later, some))
 
-pub measure-more : (recent : List Instr) (blocks i left count : ℕ) (flat now : Bool) (d : Instr) → MeasureLeft recent blocks i left count flat → i < length recent → left ≢ 0 → instr_length (get_or recent i d) ≤ left → now ≡ (is_none (repeat_of (get_or recent i d)) && flat) → MeasureLeft recent blocks (i + 1) (left - instr_length (get_or recent i d)) (count + 1) now
-measure-more recent blocks i left count flat now d m under some fits now_is = record {
-  block = get_or recent i d ∷ m.block;
-  rest = let one : i + 1 ≡ suc i = omega arith in rw one (
-      sym (ap (λ xs. reached xs left m.block) (drop-cons recent i d under) ∙ reached-more (get_or recent i d) (drop (suc i) recent) left m.block some fits)
-      ∙ m.rest);
-  count_is = rw m.count_is (omega arith);
-  flat_is = now_is ∙ ap (λ b. is_none (repeat_of (get_or recent i d)) && b) m.flat_is;
-}
+pub count-end : (bytes : List ℕ) (at to count : ℕ) (block : List Instr) → CountLeft bytes at to count block → to ≤ at → flat_count block ≡ Ok count
+count-end bytes at to count block left = counted bytes at to count block left.rest left.spans left.flat_is left.count_is
+
+-- where the instructions before a place end
+pub before_length : (bytes : List ℕ) (before : List Instr) (at : ℕ) → Before bytes before at → at ≡ 2 * program_length before
+before_length bytes [] at stands = omega (arith, stands)
+before_length bytes (x ∷ before) at (prev, at_is, here, others) = omega (arith, at_is, before_length bytes before prev others)
+
+-- a repeat that reaches back past the start
+far : (before block : List Instr) (n : ℕ) → program_length before < n → reached before n block ≡ Err RepeatTooFar
+far before block zero under = absurd (omega arith)
+far [] block (suc n) under = refl
+far (x ∷ before) block (suc n) under =
+    rw (le-leb (instr_length x) (suc n) (omega (arith, under))) (far before (x ∷ block) (suc n - instr_length x) (omega (arith, under)))
+
+cut_at : (b : Bool) (r : Result (List Instr) RelocFault) → (b ≡ true → is_ok r ≡ false → r ≡ Err RepeatCuts) → is_ok (cond b r (Err RepeatCuts)) ≡ false → cond b r (Err RepeatCuts) ≡ Err RepeatCuts
+cut_at true r further e = further refl e
+cut_at false r further e = refl
+
+-- one that doesn't, and doesn't reach the beginning of an instruction
+cut : (before block : List Instr) (n : ℕ) → n ≤ program_length before → is_ok (reached before n block) ≡ false → reached before n block ≡ Err RepeatCuts
+cut [] block zero inside e = absurd (cc e)
+cut [] block (suc n) inside e = absurd (omega arith)
+cut (x ∷ before) block zero inside e = absurd (cc e)
+cut (x ∷ before) block (suc n) inside e =
+    cut_at (nat_le (instr_length x) (suc n)) (reached before (suc n - instr_length x) (x ∷ block))
+    (λ fits cuts. cut before (x ∷ block) (suc n - instr_length x) (omega (arith, inside, leb-true (instr_length x) (suc n) fits)) cuts) e
+
+-- and one that does
+there : (r : Result (List Instr) RelocFault) → is_ok r ≡ true → (block : List Instr) × (r ≡ Ok block)
+there (Ok block) e = (block, refl)
+there (Err f) e = absurd (cc e)
+
+pub steps-far : (bytes : List ℕ) (before : List Instr) (r : Repeat) (at steps : ℕ) → Before bytes before at → at < 2 * r.blocks → unless (repeat_fault before (Some r)) (Ok steps) ≡ Err RepeatTooFar
+steps-far bytes before r at steps stands past =
+    rw (far before [] r.blocks (omega (arith, past, before_length bytes before at stands))) refl
+
+-- what the marks say of the place that a repeat reaches back to
+pub record Reaches (before : List Instr) (r : Repeat) (at : ℕ) (begins : Bool) : Type 0 where
+  pub inside : r.blocks ≤ program_length before
+  pub begins_is : is_ok (reached before r.blocks []) ≡ begins
+
+pub reaches : (bytes : List ℕ) (marks : List Bool) (before : List Instr) (r : Repeat) (at : ℕ) (begins : Bool) → Before bytes before at → Marks marks before → 1 ≤ r.blocks → r.blocks ≤ 16 → 2 * r.blocks ≤ at → get_or marks ((at - 2 * r.blocks) / 2 % 16) false ≡ begins → Reaches before r at begins
+reaches bytes marks before r at begins stands old some few near e =
+    let ends = before_length bytes before at stands in
+    let inside : r.blocks ≤ program_length before = omega (arith, ends, near) in
+    let place : (at - 2 * r.blocks) / 2 ≡ program_length before - r.blocks = omega (arith, ends, near) in
+    record {
+      inside = inside;
+      begins_is = sym (old.begins r.blocks some few inside) ∙ (ap (λ h. get_or marks (h % 16) false) (sym place) ∙ e);
+    }
+
+pub steps-cut : (before : List Instr) (r : Repeat) (at steps : ℕ) → Reaches before r at false → unless (repeat_fault before (Some r)) (Ok steps) ≡ Err RepeatCuts
+steps-cut before r at steps reach = rw (cut before [] r.blocks reach.inside reach.begins_is) refl
+
+-- the block of a repeat whose reach begins an instruction
+pub record BlockThere (bytes : List ℕ) (before : List Instr) (r : Repeat) (at : ℕ) : Type 0 where
+  pub block : List Instr
+  pub is : reached before r.blocks [] ≡ Ok block
+  pub spans : Spans bytes (at - 2 * r.blocks) block at
+
+pub block-there : (bytes : List ℕ) (before : List Instr) (r : Repeat) (at : ℕ) → Before bytes before at → Reaches before r at true → BlockThere bytes before r at
+block-there bytes before r at stands reaches =
+    let found = there (reached before r.blocks []) reaches.begins_is in
+    record { block = found.0; is = found.1; spans = (reach bytes before r.blocks at [] found.0 at stands refl found.1).spans }
 
 pub length-repeated : (n : ℕ) (block : List Instr) → length (repeated n block) ≡ n * length block
 length-repeated zero block = omega arith
 length-repeated (suc n) block = rw (length-append block (repeated n block), length-repeated n block) (omega arith)
 
+nested : (b : Bool) (k steps : ℕ) (f : RelocFault) → cond b (Ok k) (Err NestedRepeat) ≡ Err f → unless (cond b None (Some NestedRepeat)) (Ok steps) ≡ Err f
+nested true k steps f e = absurd (cc e)
+nested false k steps f e = cc e
+
 -- what a repeat comes to, from what its block came to
-steps_from : (before : List Instr) (r : Repeat) (found : Result (List Instr) RelocFault) (f : RelocFault) → result_map brief found ≡ Err f → block_fault found ≡ Some f
-steps_from before r (Ok block) f e = absurd (cc e)
-steps_from before r (Err g) f e = cc e
+pub steps-nested : (bytes : List ℕ) (before : List Instr) (r : Repeat) (at steps : ℕ) (f : RelocFault) (found : BlockThere bytes before r at) → flat_count found.block ≡ Err f → unless (repeat_fault before (Some r)) (Ok steps) ≡ Err f
+steps-nested bytes before r at steps f found e = rw found.is (nested (repeat_free found.block) (length found.block) steps f e)
 
-pub steps-fault : (before : List Instr) (r : Repeat) (f : RelocFault) (steps : ℕ) → result_map brief (reached before r.blocks []) ≡ Err f → unless (repeat_fault before (Some r)) (Ok steps) ≡ Err f
-steps-fault before r f steps e = rw (steps_from before r (reached before r.blocks []) f e) refl
+fine_count : (b : Bool) (k n : ℕ) → cond b (Ok k) (Err NestedRepeat) ≡ Ok n → (b ≡ true) × (k ≡ n)
+fine_count true k n e = (refl, cc e)
+fine_count false k n e = absurd (cc e)
 
-nested : (found : Result (List Instr) RelocFault) (b : Block) → result_map brief found ≡ Ok b → b.flat ≡ false → block_fault found ≡ Some NestedRepeat
-nested (Err g) b e rough_is = absurd (cc e)
-nested (Ok block) b e rough_is = let same : brief block ≡ b = cc e in let rough : repeat_free block ≡ false = ap (λ (x : Block). x.flat) same ∙ rough_is in rw rough refl
-
-pub steps-nested : (before : List Instr) (r : Repeat) (b : Block) (steps : ℕ) → result_map brief (reached before r.blocks []) ≡ Ok b → b.flat ≡ false → unless (repeat_fault before (Some r)) (Ok steps) ≡ Err NestedRepeat
-steps-nested before r b steps e rough_is = rw (nested (reached before r.blocks []) b e rough_is) refl
-
-fine : (before : List Instr) (r : Repeat) (found : Result (List Instr) RelocFault) (b : Block) → reached before r.blocks [] ≡ found → result_map brief found ≡ Ok b → b.flat ≡ true → (repeat_fault before (Some r) ≡ None) × (steps_as before (Some r) ≡ r.passes * b.count + 1)
+pub steps-fine : (bytes : List ℕ) (before : List Instr) (r : Repeat) (at count : ℕ) (found : BlockThere bytes before r at) → flat_count found.block ≡ Ok count → unless (repeat_fault before (Some r)) (Ok (steps_as before (Some r))) ≡ Ok (r.passes * count + 1)
 unfolding block_of
-fine before r (Err g) b is e flat_is = absurd (cc e)
-fine before r (Ok block) b is e flat_is =
-    let same : brief block ≡ b = cc e in
-    let flat : repeat_free block ≡ true = ap (λ (x : Block). x.flat) same ∙ flat_is in
-    let count : length block ≡ b.count = ap (λ (x : Block). x.count) same in
-    (rw (is, flat) refl, rw (is, length-repeated r.passes block, count) refl)
-
-pub steps-fine : (before : List Instr) (r : Repeat) (b : Block) → result_map brief (reached before r.blocks []) ≡ Ok b → b.flat ≡ true → unless (repeat_fault before (Some r)) (Ok (steps_as before (Some r))) ≡ Ok (r.passes * b.count + 1)
-steps-fine before r b e flat_is =
-    let p = fine before r (reached before r.blocks []) b refl e flat_is in
-    rw (p.0, p.1) refl
-
--- what the window comes to is what all instructions before come to
-pub window-measure : (r : Reader) (before : List Instr) (n : ℕ) (m : Result Block RelocFault) → Recent r before → n ≤ 16 → m ≡ result_map brief (reached (take r.known r.recent) n []) → result_map brief (reached before n []) ≡ m
-window-measure r before n m recent few e =
-    sym (e ∙ ap (λ xs. result_map brief (reached xs n [])) recent.recent_is ∙ ap (λ f. result_map brief f) (reached-window 16 n before [] few))
-
-pub not_met : (b : Bool) → not b ≡ true → b ≡ false
-not_met true e = absurd (cc e)
-not_met false e = refl
-
-pub not_unmet : (b : Bool) → not b ≡ false → b ≡ true
-not_unmet true e = refl
-not_unmet false e = absurd (cc e)
+steps-fine bytes before r at count found e =
+    let p = fine_count (repeat_free found.block) (length found.block) count e in
+    rw (found.is, p.0, length-repeated r.passes found.block, p.1) refl

@@ -1,25 +1,25 @@
 -- What a reader of a program keeps.
-use Rattle.std.specs.Prelude.{◌≡◌, ◌≤◌, ◌+◌, min, List, ◌∷◌, length, take, Option, None}
+use Rattle.std.specs.Prelude.{◌≡◌, ◌≤◌, ℕ, ◌+◌, ◌-◌, ◌%◌, Bool, false, if◌then◌else◌, List, [], ◌∷◌, length, slice_index_or, Option, None, Result, Ok, Err, is_ok}
 use Rattle.pef_reloc.specs.declared.fault.RelocFault.{RelocFault}
+use Rattle.pef_reloc.specs.declared.fault.RelocFault.TheVariants.{NestedRepeat}
 use Rattle.pef_reloc.specs.declared.instr.Instr.{Instr}
-use Rattle.pef_reloc.specs.declared.recent.Block.{Block}
 use Rattle.pef_reloc.specs.declared.recent.Reader.{Reader}
-use Rattle.pef_reloc.specs.Instrs.{repeat_free, repeat_of}
-use Rattle.pef_reloc.specs.Unrolled.{instr_fault, step_limit, steps_as}
+use Rattle.pef_reloc.specs.Instrs.{program_length, repeat_free, repeat_of}
+use Rattle.pef_reloc.specs.Unrolled.{instr_fault, reached, step_limit, steps_as}
 
--- what a block comes to
-abbrev pub brief : List Instr → Block
-brief block = record { count = length block; flat = repeat_free block }
+-- how many instructions a block has, where none of them is a repeat
+abbrev pub flat_count : List Instr → Result ℕ RelocFault
+flat_count block = if repeat_free block then Ok (length block) else Err NestedRepeat
 
--- the reader knows the last sixteen instructions
-pub record Recent (r : Reader) (before : List Instr) : Type 0 where
-  pub full : length r.recent ≡ 16
-  pub known_is : r.known ≡ min 16 (length before)
-  pub recent_is : take r.known r.recent ≡ take 16 before
+-- marks for the last sixteen halfwords, halfword h at h % 16: whether so many halfwords back an instruction
+-- begins, so that a repeat can reach it
+pub record Marks (marks : List Bool) (before : List Instr) : Type 0 where
+  pub full : length marks ≡ 16
+  pub begins : (n : ℕ) → 1 ≤ n → n ≤ 16 → n ≤ program_length before → slice_index_or marks ((program_length before - n) % 16) false ≡ is_ok (reached before n [])
 
 -- the reader passed an instruction, or refused it
 pub record Passes (old new : Reader) (before : List Instr) (instr : Instr) (answer : Option RelocFault) : Type 0 where
   pub fault : answer ≡ instr_fault before old.steps (repeat_of instr)
-  pub recent : answer ≡ None → Recent new (instr ∷ before)
+  pub marks : answer ≡ None → Marks new.begins (instr ∷ before)
   pub steps : answer ≡ None → new.steps ≡ old.steps + steps_as before (repeat_of instr)
   pub under : answer ≡ None → new.steps ≤ step_limit

@@ -55,6 +55,7 @@ const LG_SET_SECT_D: u16 = 2;
 /// # Errors
 ///
 /// `BadOpcode` where its first halfword begins none, and `CutInstruction` where the bytes end in it.
+#[inline(always)]
 #[tactic(auto, using(crate::proofs::Halfwords::number_inside), unfolding(crate::specs::Decoding::first_instr))]
 pub(crate) fn first_instr(bytes: &[u8]) -> Result<Instr, RelocFault>
     ensures value { result ≡ first_instr bytes.now }
@@ -83,6 +84,9 @@ pub(crate) fn first_instr(bytes: &[u8]) -> Result<Instr, RelocFault>
 }
 
 /// The instruction that begins the bytes from `at`.
+///
+/// Inlined with what it calls, so that a loop over instructions tells the kind of each by one jump.
+#[inline(always)]
 pub(crate) fn instr_from(bytes: &[u8], at: usize) -> Result<Instr, RelocFault>
     requires { at ≤ length bytes.now }
     ensures value { result ≡ first_instr (drop at bytes.now) }
@@ -94,6 +98,7 @@ pub(crate) fn instr_from(bytes: &[u8], at: usize) -> Result<Instr, RelocFault>
 }
 
 /// The instruction of one halfword, where that is one.
+#[inline(always)]
 #[tactic(auto, unfolding(crate::specs::Decoding::short_instr))]
 fn short_instr(halfword: u16) -> Option<Instr>
     ensures value { result ≡ short_instr halfword }
@@ -116,6 +121,7 @@ fn short_instr(halfword: u16) -> Option<Instr>
 }
 
 /// The instruction of a seven-bit opcode and a nine-bit number.
+#[inline(always)]
 fn opcode_instr(opcode: u16, number: u32) -> Option<Instr>
     requires { number < 512 }
     ensures value { result ≡ opcode_instr opcode number }

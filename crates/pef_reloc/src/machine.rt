@@ -86,6 +86,9 @@ impl Machine {
     }
 
     /// Executes an instruction. A repeat does nothing by itself.
+    ///
+    /// Inlined behind the decoding, whose one jump then leads to what is done.
+    #[inline(always)]
     #[tactic(auto, using(crate::proofs::Rows::nothing_done))]
     pub(crate) fn step(
         &mut self,
@@ -134,6 +137,7 @@ impl Machine {
     }
 
     /// Executes an instruction that stands at a place of the bytes, a repeat by its passes.
+    #[inline(always)]
     pub(crate) fn execute(
         &mut self,
         instr: Instr,
@@ -159,6 +163,9 @@ impl Machine {
     }
 
     /// Executes the instructions of some bytes so many times.
+    ///
+    /// Kept apart, so that the loop over a program is a single one.
+    #[inline(never)]
     fn repeat(
         &mut self,
         passes: u32,

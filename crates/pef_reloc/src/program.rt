@@ -33,7 +33,7 @@ impl<'a> Program<'a> {
         let mut at = 0;
         while at < bytes.len() {
             let instr = instr_from(bytes, at)?;
-            reader.pass(instr)?;
+            reader.pass(instr, bytes, at)?;
             at += 2 * instr.length();
         }
         Ok(Program { bytes })

@@ -6,12 +6,10 @@ use Rattle.pef_reloc.proofs.program.Program.read.Goals as goal
 
 pub loop-at-init : goal.loop-at-init
 loop-at-init c =
-    let recent = c.new-reader.ensures.recent in
     record {
       inside = omega arith;
-      known = omega (arith, recent.known_is);
       under = omega (arith, c.new-reader.ensures.steps);
-      left = read-start _ _ recent c.new-reader.ensures.steps;
+      left = read-start _ _ c.new-reader.ensures.marks c.new-reader.ensures.steps;
     }
 
 pub returns-in_err-instr : goal.returns-in_err-instr
@@ -25,17 +23,16 @@ pub returns-in_err-pass : goal.returns-in_err-pass
 returns-in_err-pass c =
     let p = err_from_is_err_and c.from_residual-in_err-pass.result c.from_residual-in_err-pass.ensures.1 in
     let left = c.loop-at.invariant.left in
-    let passes = c.in_err-pass.ensures left.before left.recent in
+    let passes = c.in_err-pass.ensures left.before left.stands left.marks in
     let fault : program_fault c.args.bytes.now ≡ Some c.in_err-pass.field-0.0 = sym left.rest ∙ fault-here _ _ _ left.before _ _ c.loop-at-test.true (sym c.in_ok-instr.ensures.value) (sym passes.fault) in
     rw (p.1, p.2, fault) refl
 
 pub loop-at-preserved : goal.loop-at-preserved
 loop-at-preserved c =
     let left = c.loop-at.invariant.left in
-    let passes = c.in_ok-pass.ensures left.before left.recent in
+    let passes = c.in_ok-pass.ensures left.before left.stands left.marks in
     rw c.length.ensures (record {
       inside = c.in_ok-instr.ensures.inside;
-      known = omega (arith, (passes.recent refl).known_is);
       under = passes.under refl;
       left = read-more _ _ _ _ _ left c.loop-at-test.true (sym c.in_ok-instr.ensures.value) passes;
     })

@@ -6,7 +6,6 @@ use Rattle.pef_reloc.proofs.program.Program.read.Given as goal
 abbrev pub invariant-loop-at : goal.invariant-loop-at
 invariant-loop-at l = record {
   inside : l.at ≤ length l.bytes;
-  known : l.reader.known ≤ 16;
   under : l.reader.steps ≤ step_limit;
   left : ReadLeft l.bytes l.at l.reader;
 }

@@ -1,0 +1,9 @@
+use Rattle.std.proofs.Common.{rules}
+use Rattle.pef_reloc.proofs.Windows.{before_length}
+use Rattle.pef_reloc.proofs.recent.Reader.pass.Goals as goal
+
+pub returns : goal.returns
+returns c =
+    λ before stands marks.
+    let kept = c.mark.ensures.marks before (before_length _ before _ stands) marks in
+    search rules
