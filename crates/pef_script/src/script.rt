@@ -55,14 +55,16 @@ impl<'a> Script<'a> {
 
     /// How many libraries there are.
     pub fn libraries(&self) -> usize
-        ensures { result ≡ length self.now.libraries }
+        ensures count { result ≡ length self.now.libraries }
+        ensures holds { ScriptHolds self.now }
     {
         self.parts.libraries.len()
     }
 
     /// How many imports there are, of all libraries.
     pub fn imports(&self) -> usize
-        ensures { result ≡ length self.now.imports }
+        ensures count { result ≡ length self.now.imports }
+        ensures holds { ScriptHolds self.now }
     {
         self.parts.imports.len()
     }
@@ -77,7 +79,8 @@ impl<'a> Script<'a> {
 
     /// How many exports there are.
     pub fn exports(&self) -> usize
-        ensures { result ≡ length self.now.exports }
+        ensures count { result ≡ length self.now.exports }
+        ensures holds { ScriptHolds self.now }
     {
         self.parts.exports.len()
     }
