@@ -4,3 +4,11 @@ pub mod Written
 pub mod Loaders
 pub mod LoaderLaws
 pub mod Entries
+pub mod Listing
+pub mod Counts
+pub mod Programs
+pub mod ExportNames
+pub mod Fitting
+pub mod LinkedTables
+pub mod LinkedLaws
+pub mod LinkLemmas
