@@ -11,5 +11,4 @@ pub mod SendingLemmas
 pub mod SentLemmas
 pub mod ShowingLemmas
 pub mod ShownLemmas
-pub mod Temp
 pub mod TextLemmas

@@ -19,7 +19,7 @@ use Rattle.pef_script.specs.Script.{DescribedScript, DescribedSection}
 use Rattle.pef_script.specs.WellFormed.{SectionHolds}
 use Rattle.pef_views.specs.Container.{Contained, Section, section_of}
 use Rattle.pef_words.specs.Refusals.{first_among}
-use Rattle.pef_write.specs.Containers.{part_header}
+use Rattle.pef_write.specs.Containers.{IsPart, part_header}
 use Rattle.pef_write.specs.Loaders.{ProgramEntry}
 use Rattle.pef_tool.specs.declared.prepare.PrepareFault.{PrepareFault}
 use Rattle.pef_tool.specs.declared.prepare.PrepareFault.TheVariants.{Memory, Reloc}
@@ -36,7 +36,6 @@ use Rattle.pef_tool.proofs.PlacedLemmas.{IsSmall, none_lacks}
 use Rattle.pef_tool.proofs.PlacingLemmas.{length-placed}
 use Rattle.pef_tool.proofs.ProgramLemmas.{AreHeaders, each_sound, program_makes, section_made, sound}
 use Rattle.pef_write.specs.Linked.{AreProgramsFor, IsProgramFor, part_of, program_of, programs_from}
-use Rattle.pef_write.specs.Sound.{IsPart}
 
 -- a script without imports, and the container and loader section that it becomes with some programs
 pub record IsContainerOf (script : DescribedScript) (programs : List (List Instr)) (c : Contained) (l : Loaded) : Type 0 where

@@ -13,3 +13,11 @@ pub mod ReadingRefusals
 pub mod Reading
 pub mod ReadingEach
 pub mod ReadingTurns
+pub mod Listing
+pub mod Counts
+pub mod Programs
+pub mod ExportNames
+pub mod Fitting
+pub mod LinkedTables
+pub mod LinkedLaws
+pub mod LinkLemmas

@@ -1,6 +1,6 @@
 -- Which bytes are written for some sections and a loader section (Mac OS Runtime Architectures, "PEF
 -- Structure"; where they lie and which optional fields are left empty is this project's own choice).
-use Rattle.std.specs.Prelude.{◌≡◌, ℕ, ◌+◌, ◌*◌, ◌^◌, ◌<◌, ◌≤◌, negsuc, IsTrue, Ok, List, [], ◌∷◌, ◌++◌, length, slice_get}
+use Rattle.std.specs.Prelude.{◌≡◌, ℕ, ◌+◌, ◌*◌, ◌^◌, ◌<◌, ◌≤◌, negsuc, IsTrue, Ok, Some, List, [], ◌∷◌, ◌++◌, length, slice_get}
 use Rattle.std.specs.List.{All}
 use Rattle.std.specs.Int.{w32, cast_unsigned, next_multiple_of}
 use Rattle.pef_views.specs.declared.header.Header.{Header}
@@ -160,3 +160,8 @@ contained_in v parts loader = record {
 pub record ReadsBack (v : Versions) (parts : List DescribedPart) (loader : List ℕ) (bytes : List ℕ) : Type 0 where
   pub container : container_of bytes ≡ Ok (contained_in v parts loader)
   pub sections : (k : ℕ) → section_of (contained_in v parts loader) k ≡ slice_get (written_sections parts loader) k
+
+-- section k of a container is a part: its header says what the part does, and its raw bytes are the image
+pub record IsPart (c : Contained) (k : ℕ) (p : DescribedPart) : Type 0 where
+  pub at : ℕ
+  pub is : section_of c k ≡ Some (record { header = part_header p at; raw = p.image })

@@ -1,8 +1,11 @@
 -- The relocation programs of a script's sections as bytes, as the code holds them.
-use Rattle.std.specs.Prelude.{ℕ, ◌+◌, List, [], ◌∷◌, ◌++◌}
+use Rattle.std.specs.Prelude.{◌≡◌, ℕ, ◌+◌, List, [], ◌∷◌, ◌++◌, length, map}
+use Rattle.pef_reloc.specs.declared.instr.Instr.{Instr}
 use Rattle.pef_reloc.specs.Instrs.{spelled}
 use Rattle.pef_reloc.specs.Plain.{plain_program}
-use Rattle.pef_script.specs.Script.{DescribedSection}
+use Rattle.pef_script.specs.Script.{DescribedScript, DescribedSection}
+use Rattle.pef_script.specs.WellFormed.{ScriptHolds}
+use Rattle.pef_write.specs.Linked.{AreProgramsFor}
 use Rattle.pef_write.specs.Loaders.{ProgramEntry}
 
 -- the bytes of the plain program of a section
@@ -18,3 +21,10 @@ filled k (b ∷ bytes) = record { section = k; bytes = b ∷ bytes } ∷ []
 abbrev pub filled_from : ℕ → List (List ℕ) → List ProgramEntry
 filled_from k [] = []
 filled_from k (bytes ∷ programs) = filled k bytes ++ filled_from (k + 1) programs
+
+-- the bytes of programs for the sections of a script that was read
+pub record AreEncoded (s : DescribedScript) (bytes : List (List ℕ)) : Type 0 where
+  pub holds : ScriptHolds s
+  pub programs : List (List Instr)
+  pub are : AreProgramsFor (length s.sections) s.sections programs
+  pub bytes_are : bytes ≡ map spelled programs

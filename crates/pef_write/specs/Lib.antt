@@ -5,5 +5,4 @@ pub mod Described
 pub mod Places
 pub mod Linked
 pub mod Encoded
-pub mod Sound
 pub mod Reading

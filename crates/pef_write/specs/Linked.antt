@@ -8,7 +8,6 @@ use Rattle.pef_reloc.specs.declared.fixup.Fixup.{Fixup}
 use Rattle.pef_reloc.specs.declared.instr.Instr.{Instr}
 use Rattle.pef_reloc.specs.Instrs.{program_length, spelled}
 use Rattle.pef_reloc.specs.Steps.{Makes, is_flat, names_below}
-use Rattle.pef_script.specs.declared.parts.Versions as script_versions
 use Rattle.pef_script.specs.Script.{DescribedExport, DescribedImport, DescribedLibrary, DescribedScript, DescribedSection}
 use Rattle.pef_script.specs.State.{export_names}
 use Rattle.pef_write.specs.declared.container.Versions.{Versions}

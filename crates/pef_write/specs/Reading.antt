@@ -22,7 +22,9 @@ pub record IsOwned (libraries : List LibraryEntry) (j : ℕ) : Type 0 where
   pub low : library.first ≤ j
   pub high : j < library.first + library.count
 
--- tables of a container with so many instantiated sections
+-- tables that are a loader section of a container with so many sections: names end before a zero byte,
+-- each import is a library's, entries, programs and exports are in sections that are there, and the
+-- export table has its slots, and for each export a key with the length of its name
 pub record AreTables (sections : ℕ) (t : LoaderTables) : Type 0 where
   pub fit : TablesFit t
   pub few : sections < 2 ^ 15

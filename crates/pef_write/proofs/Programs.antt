@@ -1,0 +1,115 @@
+-- The programs of a script's sections: their lengths, and those that have bytes.
+use Rattle.std.proofs.Common.{◌≡◌, ◌∙◌, ℕ, ◌+◌, ◌*◌, ◌/◌, ◌^◌, ◌≤◌, true, List, [], ◌∷◌, ◌++◌, length, map, length-append, refl, sym, ap, ap₂, subst, arith}
+use Rattle.std.specs.List.{All, AllByRecursion}
+use Rattle.std.proofs.lemmas.Bool.{lt-ltb}
+use Rattle.std.proofs.lemmas.List.Elements.{All-cons}
+use Rattle.pef_reloc.specs.declared.fixup.Base.{Base}
+use Rattle.pef_reloc.specs.declared.fixup.Base.TheVariants as base
+use Rattle.pef_reloc.specs.declared.fixup.Fixup.{Fixup}
+use Rattle.pef_reloc.specs.declared.instr.Instr.{Instr}
+use Rattle.pef_reloc.specs.Fixups.{base_below, bases_below}
+use Rattle.pef_reloc.specs.Instrs.{halfword_bytes, halfwords_of, instrs_fit, program_length, repeat_free, spelled}
+use Rattle.pef_reloc.specs.Plain.{plain_program}
+use Rattle.pef_reloc.specs.Steps.{Makes}
+use Rattle.pef_reloc.specs.Unrolled.{instrs_of}
+use Rattle.pef_reloc.proofs.FixupLemmas.{both_met, fixups_fit-parts, met_both}
+use Rattle.pef_reloc.proofs.FlatLaws.{instrs_of-spelled, length_spelling}
+use Rattle.pef_reloc.proofs.PlainLaws.{plain-flat, plain-makes, plain-names, plain-short}
+use Rattle.pef_reloc.proofs.Spellings.{spelled-nothing, spelled-one}
+use Rattle.pef_script.specs.Script.{DescribedSection}
+use Rattle.pef_script.specs.WellFormed.{BaseThere, SectionHolds}
+use Rattle.pef_write.specs.Encoded.{filled, filled_from, plain_bytes}
+use Rattle.pef_write.specs.Linked.{AreProgramsFor, IsProgramFor, program_of, programs_from}
+
+-- each instruction has one or two halfwords, of two bytes each
+pub length-spelled : (instrs : List Instr) → length (spelled instrs) ≡ 2 * program_length instrs
+length-spelled [] = ap length spelled-nothing
+length-spelled (x ∷ instrs) =
+    omega (arith, ap length (spelled-one x instrs) ∙ length-append (halfword_bytes (halfwords_of x)) (spelled instrs), length_spelling x, length-spelled instrs)
+
+-- a program for no fixups is empty, and one for some is not
+no_bytes : (n : ℕ) (instrs : List Instr) → IsProgramFor n [] instrs → spelled instrs ≡ []
+no_bytes n instrs is = empty (spelled instrs) (omega (arith, length-spelled instrs, is.short))
+  where
+    empty : (bytes : List ℕ) → length bytes ≡ 0 → bytes ≡ []
+    empty [] none = refl
+    empty (b ∷ bytes) none = absurd (omega arith)
+
+some_bytes : (n : ℕ) (f : Fixup) (fixups : List Fixup) (instrs : List Instr) → IsProgramFor n (f ∷ fixups) instrs → 1 ≤ length (spelled instrs)
+some_bytes n f fixups instrs is = by (spelled instrs) refl
+  where
+    by : (bytes : List ℕ) → bytes ≡ spelled instrs → 1 ≤ length bytes
+    by [] none =
+        let fits = (met_both (repeat_free instrs) (instrs_fit instrs) is.flat).1 in
+        let nothing : instrs ≡ [] = sym (instrs_of-spelled instrs fits) ∙ ap instrs_of (sym none ∙ sym spelled-nothing) ∙ instrs_of-spelled [] refl in
+        let made : Makes (f ∷ fixups) [] = subst (Makes (f ∷ fixups)) nothing is.makes in
+        absurd (cc)
+    by (b ∷ bytes) some = omega arith
+
+-- a section's program has bytes where the section has fixups
+filled-is : (n k : ℕ) (fixups : List Fixup) (instrs : List Instr) → IsProgramFor n fixups instrs → program_of k fixups instrs ≡ filled k (spelled instrs)
+filled-is n k [] instrs is = ap (filled k) (sym (no_bytes n instrs is))
+filled-is n k (f ∷ fixups) instrs is = by (spelled instrs) (some_bytes n f fixups instrs is)
+  where
+    by : (bytes : List ℕ) → 1 ≤ length bytes → record { section = k; bytes = bytes } ∷ [] ≡ filled k bytes
+    by [] some = absurd (omega arith)
+    by (b ∷ bytes) some = refl
+
+pub filled_from-is : (n k : ℕ) (sections : List DescribedSection) (programs : List (List Instr)) → AreProgramsFor n sections programs → programs_from k sections programs ≡ filled_from k (map spelled programs)
+filled_from-is n k [] [] are = refl
+filled_from-is n k [] (instrs ∷ programs) are = absurd are
+filled_from-is n k (s ∷ sections) [] are = absurd are
+filled_from-is n k (s ∷ sections) (instrs ∷ programs) are =
+    ap₂ (λ a b. a ++ b) (filled-is n k s.fixups instrs are.0) (filled_from-is n (k + 1) sections programs are.1)
+
+-- as many programs as sections
+pub length-programs : (n : ℕ) (sections : List DescribedSection) (programs : List (List Instr)) → AreProgramsFor n sections programs → length programs ≡ length sections
+length-programs n [] [] are = refl
+length-programs n [] (instrs ∷ programs) are = absurd are
+length-programs n (s ∷ sections) [] are = absurd are
+length-programs n (s ∷ sections) (instrs ∷ programs) are = omega (arith, length-programs n sections programs are.1)
+
+-- the bytes that are counted are two for each halfword
+pub halves-are : (programs : List (List Instr)) → map (λ bytes. length bytes / 2) (map spelled programs) ≡ map program_length programs
+halves-are [] = refl
+halves-are (instrs ∷ programs) =
+    let here : length (spelled instrs) / 2 ≡ program_length instrs = omega (arith, length-spelled instrs) in
+    ap₂ (λ a b. a ∷ b) here (halves-are programs)
+
+-- a program is short
+pub short_program : (n m j : ℕ) (s : DescribedSection) (instrs : List Instr) → SectionHolds m j s → IsProgramFor n s.fixups instrs → length (spelled instrs) ≤ 2 ^ 17
+short_program n m j s instrs holds is =
+    omega (arith, length-spelled instrs, is.short, (fixups_fit-parts s.fixups holds.fixups).count)
+
+pub short_programs : (n m j : ℕ) (sections : List DescribedSection) (programs : List (List Instr)) → AllByRecursion (SectionHolds m j) sections → AreProgramsFor n sections programs → All (λ bytes. length bytes ≤ 2 ^ 17) (map spelled programs)
+short_programs n m j [] [] holds are = λ k d under. absurd (omega arith)
+short_programs n m j [] (instrs ∷ programs) holds are = absurd are
+short_programs n m j (s ∷ sections) [] holds are = absurd are
+short_programs n m j (s ∷ sections) (instrs ∷ programs) holds are =
+    All-cons (λ (bytes : List ℕ). length bytes ≤ 2 ^ 17) (spelled instrs) (map spelled programs) (short_program n m j s instrs holds.0 are.0) (short_programs n m j sections programs holds.1 are.1)
+
+-- plain programs are programs for their sections
+
+bases-below : (n j : ℕ) (fixups : List Fixup) → AllByRecursion (λ (fixup : Fixup). BaseThere n j fixup.base) fixups → bases_below n fixups ≡ true
+bases-below n j [] there = refl
+bases-below n j (f ∷ fixups) there = both_met (base_below n f.base) (bases_below n fixups) (one f.base there.0) (bases-below n j fixups there.1)
+  where
+    one : (b : Base) → BaseThere n j b → base_below n b ≡ true
+    one (base.Section k) there = lt-ltb k n there
+    one (base.Import i) there = refl
+
+plain_is : (n j : ℕ) (s : DescribedSection) → SectionHolds n j s → IsProgramFor n s.fixups (plain_program s.fixups)
+plain_is n j s holds = record {
+  flat = plain-flat s.fixups holds.fixups;
+  makes = plain-makes s.fixups;
+  names = plain-names n s.fixups (bases-below n j s.fixups holds.bases);
+  short = plain-short s.fixups;
+}
+
+pub plain_are : (n j : ℕ) (sections : List DescribedSection) → AllByRecursion (SectionHolds n j) sections → AreProgramsFor n sections (map (λ s. plain_program s.fixups) sections)
+plain_are n j [] holds = tt
+plain_are n j (s ∷ sections) holds = (plain_is n j s holds.0, plain_are n j sections holds.1)
+
+pub plain_spelled : (sections : List DescribedSection) → map plain_bytes sections ≡ map spelled (map (λ s. plain_program s.fixups) sections)
+plain_spelled [] = refl
+plain_spelled (s ∷ sections) = ap (λ rest. plain_bytes s ∷ rest) (plain_spelled sections)
