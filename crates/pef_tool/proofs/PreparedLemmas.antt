@@ -1,6 +1,5 @@
 -- Memory that is filled, and the sections that stand in it.
-use Rattle.std.proofs.Common.{◌≡◌, ℕ, ◌+◌, ◌<◌, ◌≤◌, ◌-◌, ◌^◌, ◌==◌, List, [], ◌∷◌, ◌++◌, Option, None, Some, MatchOption, length, drop, replicate, sym, ap, subst, ◌∙◌, inl, inr, length-append, length-take, refl, arith}
-use Rattle.std.specs.Prelude.{⊤}
+use Rattle.std.proofs.Common.{◌≡◌, ℕ, ◌+◌, ◌<◌, ◌≤◌, ◌^◌, ◌==◌, List, [], ◌∷◌, ◌++◌, None, Some, length, drop, replicate, sym, ap, subst, ◌∙◌, inl, inr, refl, arith}
 use Rattle.std.specs.List.{All}
 use Rattle.std.specs.Option.{option_map_or}
 use Rattle.std.proofs.lemmas.Bool.Decides.{eqb_tells}
@@ -13,8 +12,8 @@ use Rattle.pef_reloc.specs.Applied.{Addresses, Done}
 use Rattle.pef_views.specs.Container.{Contained, IsContainer, Section, section_of}
 use Rattle.pef_views.proofs.Containers.{section_there}
 use Rattle.pef_tool.specs.Described.{filled}
-use Rattle.pef_tool.specs.Placing.{ArePlaced, Extent, extent_in, extent_of}
-use Rattle.pef_tool.specs.Prepared.{HasImage, HasImageAt, Stand, done_at, filled_at, filled_in, image_in, place_at, section_done, zeros_at}
+use Rattle.pef_tool.specs.Placing.{ArePlaced, Extent}
+use Rattle.pef_tool.specs.Prepared.{Stand, done_at, filled_at, place_at, section_done, zeros_at}
 use Rattle.pef_tool.specs.Relocating.{first_refusal, relocated_by}
 use Rattle.pef_tool.specs.Shown.{IsHeld}
 use Rattle.pef_tool.proofs.PlacingLemmas.{is_held, placed_below, placed_stand}
@@ -27,22 +26,6 @@ filled_zeros image size = ap (λ (z : List ℕ). image ++ z) (drop-replicate (le
 -- the same bytes
 pub some_same : (x y : List ℕ) → Some x ≡ Some y → x ≡ y
 some_same x y same = ap (λ o. option_map_or (λ z. z) o []) same
-
--- an image that fits and the zeros behind it take the whole memory
-length-filled : (s : Section) → HasImage s → length (filled_in s) ≡ s.header.total_size
-length-filled s image =
-    let front = length-take s.header.unpacked_size s.raw in
-    let zeros = length-replicate {A = ℕ} (s.header.total_size - length (image_in s)) 0 in
-    let whole = length-append (image_in s) (replicate (s.header.total_size - length (image_in s)) 0) in
-    omega (arith, front, zeros, whole, image.whole, image.fits)
-
--- so does what a section of a container is filled with
-pub length-filled_at : (c : Contained) (k : ℕ) → HasImageAt c k → length (filled_at c k) ≡ (extent_of c k).size
-length-filled_at c k image = go (section_of c k) image
-  where
-    go : (o : Option Section) → MatchOption o ⊤ HasImage → length (option_map_or filled_in o []) ≡ (option_map_or extent_in o (record { size = 0; alignment = 0 })).size
-    go None image = refl
-    go (Some s) image = length-filled s image
 
 -- what the headers make of a section that is there is what they make of it once it is filled
 pub done_filled : (c : Contained) (l : Loaded) (a : Addresses) (k : ℕ) (s : Section) → section_of c k ≡ Some s

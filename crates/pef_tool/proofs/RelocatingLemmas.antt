@@ -7,7 +7,7 @@ use Rattle.cfm_memory.specs.declared.place.Place.{Place}
 use Rattle.pef_reloc.specs.Applied.{Addresses, Done, unless_refused}
 use Rattle.pef_reloc.specs.declared.fault.RelocFault.{RelocFault}
 use Rattle.pef_words.specs.Refusals.{first_among}
-use Rattle.pef_words.proofs.RefusalLemmas.{first_among-end, first_among-here, first_among-next, none_among}
+use Rattle.pef_words.proofs.RefusalLemmas.{first_among-here, first_among-next, none_among}
 use Rattle.pef_tool.proofs.PlacingLemmas.{apart_both}
 use Rattle.pef_tool.specs.Prepared.{AreApart, Stand, place_at}
 use Rattle.pef_tool.specs.Relocating.{done_then, first_refusal, header_done, program_done, refusal_at, relocated_by, untouched}
@@ -156,7 +156,3 @@ pub run_whole : (a : Addresses) (header : ℕ → Option (ℕ × List ℕ)) (pla
 run_whole a header places bytes m i n run all =
     let P : ℕ → Type 0 = λ j. HaveRun a header places bytes m j n in
     subst P all run
-
-pub run_unrefused : (a : Addresses) (header : ℕ → Option (ℕ × List ℕ)) (places : List Place) (bytes : ℕ → List ℕ) (m : Layout) (n : ℕ)
-    → HaveRun a header places bytes m n n → None ≡ first_refusal a bytes header n
-run_unrefused a header places bytes m n run = sym (first_among-end (refusal_at a bytes header) n n (omega arith)) ∙ run.left

@@ -52,6 +52,11 @@ impl From<RelocFault> for PrepareFault {
 
 /// Prepares a container by its loader section, alone: places its instantiated sections, fills them, and
 /// relocates them by the relocation headers in their order.
+///
+/// # Errors
+///
+/// `Memory` where a section finds no room, or the machine refuses memory; `Reloc` with the first refusal
+/// among the relocation headers.
 pub fn prepare(
     alloc: Global,
     container: &Container<'_>,

@@ -1,5 +1,5 @@
 -- The placed sections are zeros, apart and held; so they are filled, and then relocated.
-use Rattle.std.proofs.Common.{◌≡◌, ◌<◌, ◌≤◌, ℕ, List, [], None, length, map, sym, ap, subst, ◌∙◌, arith}
+use Rattle.std.proofs.Common.{◌≡◌, ◌<◌, ◌≤◌, ℕ, List, [], None, length, map, sym, ap, subst, ◌∙◌, arith, rules}
 use Rattle.cfm_memory.specs.Instances.{Layout}
 use Rattle.cfm_memory.specs.declared.place.Place.{Place}
 use Rattle.pef_loader.specs.Loader.{init_of, main_of, reloc_of, term_of}
@@ -43,7 +43,7 @@ relocate_sections-requires-clause-held c =
     let P : List Place → Type 0 = λ places. ArePlaced c.new-memory.result (extent_of (contained c.args.container.now)) 0 c.args.container.now.header.instantiated_section_count places c.place_sections.new.memory in
     let held = placed_held c.new-memory.result (extent_of (contained c.args.container.now)) c.args.container.now.header.instantiated_section_count c.as_slice-placed.result.now c.place_sections.new.memory (omega (arith, limit))
     (subst P (sym c.as_slice-placed.ensures.value) c.in_ok-places.ensures.placed) in
-    c.fill_sections.ensures.held held
+    search (rules, held)
 
 pub find_entries-entries-requires : goal.find_entries-entries-requires
 find_entries-entries-requires c =
