@@ -323,7 +323,7 @@ fn shows_sections_and_entries(rt: HostRuntime) -> Result<(), Fail> {
             0,
         ),
         (
-            b"section a data process 4 8\nsection b data process 4 4\nbytes a FFFFFFFF00000001\nbytes b 00000002\nfix a 0 section a\nfix a 4 section b\nfix b 0 section a\n",
+            b"section a data process 4 8\nsection b data process 4 4\nbytes a FFFFFFFF00000001\nfix a 0 section a\nfix a 4 section b\nbytes b 00000002\nfix b 0 section a\n",
             b"fragment it\nsection 0 at 00010000 size 8\n00010000 0000FFFF 00010011\nsection 1 at 00010010 size 4\n00010010 00010002\n",
             0,
         ),

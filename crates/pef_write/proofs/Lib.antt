@@ -21,3 +21,4 @@ pub mod Fitting
 pub mod LinkedTables
 pub mod LinkedLaws
 pub mod LinkLemmas
+pub mod LinkedImports

@@ -67,21 +67,33 @@ no_import = record { name = []; class = 0; weak = false; library = 0 }
 abbrev no_library : DescribedLibrary
 no_library = record { name = []; current = 0; old_imp = 0; options = 0 }
 
+-- an import is one of the library's at a place
+pub record IsOwnedAt (libraries : List LibraryEntry) (at j : ℕ) : Type 0 where
+  pub library : LibraryEntry
+  pub there : slice_get libraries at ≡ Some library
+  pub low : library.first ≤ j
+  pub high : j < library.first + library.count
+
 -- imports stand library by library, so each is one of its library's
-pub has_owner : (imports : List DescribedImport) (libraries : List DescribedLibrary) (j : ℕ) → AllByRecursion (ImportHolds (length libraries)) imports → Rises (map (λ symbol. symbol.library) imports) → j < length imports → IsOwned (libraries_from imports 0 libraries) j
-has_owner imports libraries j each rises under =
-    let l = (get_or imports j no_import).library in
-    let inside = (all-at (ImportHolds (length libraries)) imports j no_import each under).library in
+pub own_library : (imports : List DescribedImport) (libraries : List DescribedLibrary) (j : ℕ) (d : DescribedImport) → AllByRecursion (ImportHolds (length libraries)) imports → Rises (map (λ symbol. symbol.library) imports) → j < length imports
+    → IsOwnedAt (libraries_from imports 0 libraries) (get_or imports j d).library j
+own_library imports libraries j d each rises under =
+    let l = (get_or imports j d).library in
+    let inside = (all-at (ImportHolds (length libraries)) imports j d each under).library in
     let same : 0 + l ≡ l = omega arith in
-    let low = counted-past l imports j no_import rises under (omega arith) in
-    let high = counted-here (l + 1) imports j no_import rises under (omega arith) in
+    let low = counted-past l imports j d rises under (omega arith) in
+    let high = counted-here (l + 1) imports j d rises under (omega arith) in
     record {
-      at = l;
       library = library_of imports l (get_or libraries l no_library);
       there = subst (λ n. slice_get (libraries_from imports 0 libraries) l ≡ Some (library_of imports n (get_or libraries l no_library))) same (library_there imports 0 libraries l no_library inside);
       low = low;
       high = omega (arith, high, before-next l imports);
     }
+
+pub has_owner : (imports : List DescribedImport) (libraries : List DescribedLibrary) (j : ℕ) → AllByRecursion (ImportHolds (length libraries)) imports → Rises (map (λ symbol. symbol.library) imports) → j < length imports → IsOwned (libraries_from imports 0 libraries) j
+has_owner imports libraries j each rises under =
+    let own = own_library imports libraries j no_import each rises under in
+    record { at = (get_or imports j no_import).library; library = own.library; there = own.there; low = own.low; high = own.high }
 
 -- entries, programs and exports are of sections that are there
 

@@ -18,7 +18,7 @@ mod tables;
 pub use container::{DATA_ALIGNMENT, Part, Versions, write_container};
 pub use fault::LinkFault;
 pub use field::{Field, put_fields};
-pub use laws::{linked_containers, linked_tables_are_sound};
+pub use laws::{linked_containers, linked_imports, linked_tables_are_sound};
 pub use linking::{Linked, link};
 pub use loader::{SectionProgram, Tables, write_loader};
 pub use reading_laws::{libraries_in_turn, read_back};
