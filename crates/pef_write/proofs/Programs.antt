@@ -18,7 +18,7 @@ use Rattle.pef_reloc.proofs.PlainLaws.{plain-flat, plain-makes, plain-names, pla
 use Rattle.pef_reloc.proofs.Spellings.{spelled-nothing, spelled-one}
 use Rattle.pef_script.specs.Script.{DescribedSection}
 use Rattle.pef_script.specs.WellFormed.{BaseThere, SectionHolds}
-use Rattle.pef_write.specs.Encoded.{filled, filled_from, plain_bytes}
+use Rattle.pef_write.specs.Encoded.{filled, filled_from}
 use Rattle.pef_write.specs.Linked.{AreProgramsFor, IsProgramFor, program_of, programs_from}
 
 -- each instruction has one or two halfwords, of two bytes each
@@ -89,6 +89,10 @@ short_programs n m j (s ∷ sections) (instrs ∷ programs) holds are =
     All-cons (λ (bytes : List ℕ). length bytes ≤ 2 ^ 17) (spelled instrs) (map spelled programs) (short_program n m j s instrs holds.0 are.0) (short_programs n m j sections programs holds.1 are.1)
 
 -- plain programs are programs for their sections
+
+-- the bytes of the plain program of a section
+abbrev pub plain_bytes : DescribedSection → List ℕ
+plain_bytes s = spelled (plain_program s.fixups)
 
 bases-below : (n j : ℕ) (fixups : List Fixup) → AllByRecursion (λ (fixup : Fixup). BaseThere n j fixup.base) fixups → bases_below n fixups ≡ true
 bases-below n j [] there = refl

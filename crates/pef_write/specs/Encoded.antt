@@ -2,15 +2,10 @@
 use Rattle.std.specs.Prelude.{◌≡◌, ℕ, ◌+◌, List, [], ◌∷◌, ◌++◌, length, map}
 use Rattle.pef_reloc.specs.declared.instr.Instr.{Instr}
 use Rattle.pef_reloc.specs.Instrs.{spelled}
-use Rattle.pef_reloc.specs.Plain.{plain_program}
-use Rattle.pef_script.specs.Script.{DescribedScript, DescribedSection}
+use Rattle.pef_script.specs.Script.{DescribedScript}
 use Rattle.pef_script.specs.WellFormed.{ScriptHolds}
 use Rattle.pef_write.specs.Linked.{AreProgramsFor}
 use Rattle.pef_write.specs.Loaders.{ProgramEntry}
-
--- the bytes of the plain program of a section
-abbrev pub plain_bytes : DescribedSection → List ℕ
-plain_bytes s = spelled (plain_program s.fixups)
 
 -- a program that has bytes, with its section's number
 abbrev pub filled : ℕ → List ℕ → List ProgramEntry

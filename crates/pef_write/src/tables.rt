@@ -1,11 +1,11 @@
-ghost use Rattle.std.specs.Prelude.{◌≡◌, ◌+◌, ◌<◌, ◌≤◌, IfOk, length, map, nat_lt, option_map, slice_get, slice_index_or};
+ghost use Rattle.std.specs.Prelude.{◌≡◌, ◌+◌, ◌<◌, ◌≤◌, IfOk, length, map, nat_lt, option_map, slice_get};
 ghost use Rattle.std.specs.List.{All, count_by};
 ghost use Rattle.pef_hash.specs.Build.{built};
 ghost use Rattle.pef_script.specs.State.{export_names};
 ghost use Rattle.pef_script.specs.WellFormed.{ScriptHolds};
 ghost use Rattle.pef_write.specs.Containers.{described};
 ghost use Rattle.pef_write.specs.Described.{export_entry, import_entry, library_entry};
-ghost use Rattle.pef_write.specs.Linked.{class_byte, export_of, exports_at, import_of, libraries_from, linked_parts, no_export, part_of};
+ghost use Rattle.pef_write.specs.Linked.{class_byte, exports_at, import_of, libraries_from, linked_parts, part_of};
 
 use crate::container::Part;
 use crate::fault::LinkFault;

@@ -3,9 +3,8 @@ use Rattle.std.proofs.Common.{◌≡◌, ◌∙◌, Some, length, map, option_ma
 use Rattle.pef_reloc.specs.Instrs.{spelled}
 use Rattle.pef_reloc.specs.Plain.{plain_program}
 use Rattle.pef_script.specs.Script.{DescribedSection}
-use Rattle.pef_write.specs.Encoded.{plain_bytes}
 use Rattle.pef_write.proofs.Listing.{found-as, listed-all, listed-more, option_map-twice}
-use Rattle.pef_write.proofs.Programs.{plain_are, plain_spelled}
+use Rattle.pef_write.proofs.Programs.{plain_are, plain_bytes, plain_spelled}
 use Rattle.pef_write.proofs.program.plain_programs.Goals as goal
 
 pub sections-preserved : goal.sections-preserved

@@ -1,6 +1,6 @@
 -- What is made and what is left make the whole.
 use Rattle.std.proofs.Common.{◌≡◌, ◌++◌, ◌-◌, drop, length, map}
-use Rattle.pef_write.specs.Encoded.{plain_bytes}
+use Rattle.pef_write.proofs.Programs.{plain_bytes}
 use Rattle.pef_write.proofs.program.plain_programs.Given as goal
 
 abbrev pub invariant-sections : goal.invariant-sections
