@@ -1,5 +1,5 @@
 -- Additions that a script describes make of the filled memory what it describes.
-use Rattle.std.proofs.Common.{◌≡◌, ℕ, ◌+◌, ◌-◌, ◌^◌, ◌%◌, ◌<◌, ◌≤◌, ◌&&◌, Bool, true, List, [], ◌∷◌, ◌++◌, length, map, take, drop, None, refl, sym, ap, subst, ◌∙◌, append_assoc, ltb, leb, arith}
+use Rattle.std.proofs.Common.{◌≡◌, ℕ, ◌+◌, ◌-◌, ◌^◌, ◌%◌, ◌≤◌, ◌&&◌, true, List, [], ◌∷◌, ◌++◌, length, map, take, drop, None, refl, sym, ap, subst, ◌∙◌, append_assoc, leb, arith}
 use Rattle.std.specs.List.{AllByRecursion}
 use Rattle.std.proofs.Math.Seq.{take-append-add, drop-append-add}
 use Rattle.std.proofs.lemmas.Bool.{leb-true, lt-ltb, le-leb}
@@ -9,9 +9,9 @@ use Rattle.byteorder.specs.Numbers.{length-bytes_high_first}
 use Rattle.pef_reloc.specs.declared.fixup.Base.{Base}
 use Rattle.pef_reloc.specs.declared.fixup.Base.TheVariants.{Section, Import}
 use Rattle.pef_reloc.specs.declared.fixup.Fixup.{Fixup}
-use Rattle.pef_reloc.specs.Fixups.{fixup_fits, fixups_end, fixups_fit, fixups_from}
-use Rattle.pef_reloc.specs.Steps.{Act, add}
-use Rattle.pef_reloc.specs.Applied.{Addresses, Done, act_fault, address_of, added_at, applied}
+use Rattle.pef_reloc.specs.Fixups.{fixup_fits, fixups_end, fixups_from}
+use Rattle.pef_reloc.specs.Steps.{add}
+use Rattle.pef_reloc.specs.Applied.{Addresses, act_fault, address_of, added_at, applied}
 use Rattle.pef_reloc.proofs.FixupLemmas.{fixups_fit-parts, met_both}
 use Rattle.pef_script.specs.Script.{DescribedSection}
 use Rattle.pef_script.specs.WellFormed.{BaseThere, SectionHolds}

@@ -1,5 +1,5 @@
 -- What is linked of a script is its container.
-use Rattle.std.proofs.Common.{◌≡◌, ℕ, zero, suc, ◌+◌, ◌<◌, ◌≤◌, List, [], ◌∷◌, Option, None, Some, Ok, Result, MatchOption, length, map, option_map, refl, sym, ap, subst, ◌∙◌, arith}
+use Rattle.std.proofs.Common.{◌≡◌, ℕ, zero, suc, ◌+◌, List, [], ◌∷◌, Option, Ok, Result, MatchOption, length, map, option_map, refl, sym, ap, subst, ◌∙◌, arith}
 use Rattle.std.specs.Prelude.{⊤}
 use Rattle.std.specs.Int.{next_multiple_of}
 use Rattle.std.specs.List.{AllByRecursion, slice_get}
@@ -9,7 +9,7 @@ use Rattle.pef_loader.specs.declared.fault.LoaderFault.{LoaderFault}
 use Rattle.pef_reloc.specs.declared.instr.Instr.{Instr}
 use Rattle.pef_script.specs.Script.{DescribedImport, DescribedScript, DescribedSection}
 use Rattle.pef_script.specs.WellFormed.{ImportHolds, ScriptHolds, SectionHolds}
-use Rattle.pef_views.specs.Container.{Contained, Section, container_of, section_of}
+use Rattle.pef_views.specs.Container.{Contained, Section, container_of}
 use Rattle.pef_views.specs.declared.fault.ViewFault.{ViewFault}
 use Rattle.pef_write.specs.Containers.{laid_out, written_sections}
 use Rattle.pef_write.specs.Linked.{AreProgramsFor, IsLinked, LinkedContainer, linked_container, linked_loader, linked_parts, linked_tables, part_of, programs_from, script_tables}

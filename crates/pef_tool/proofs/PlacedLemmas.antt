@@ -1,12 +1,11 @@
 -- A few small sections always find room.
-use Rattle.std.proofs.Common.{◌≡◌, ◌⊎◌, ℕ, zero, suc, ◌+◌, ◌*◌, ◌/◌, ◌^◌, ◌%◌, ◌<◌, ◌≤◌, Bool, true, false, List, [], ◌∷◌, cond, ltb, inl, inr, length, replicate, ap, arith}
+use Rattle.std.proofs.Common.{ℕ, zero, suc, ◌+◌, ◌*◌, ◌/◌, ◌^◌, ◌<◌, ◌≤◌, Bool, true, false, List, [], ◌∷◌, cond, ltb, inl, inr, length, replicate, arith}
 use Rattle.std.proofs.Math.Nat.{div-add-mod, le-max_left, max-le, mod-lt, mul-mod_right, pow-le-pow_right}
 use Rattle.std.proofs.lemmas.List.{length-replicate}
 use Rattle.cfm_memory.specs.Instances.{Instance, Layout, with_instance}
 use Rattle.cfm_memory.specs.Placement.{IsFree, IsRoom, end_of, step_of, taken, with_new}
-use Rattle.cfm_memory.specs.declared.place.Place.{Place}
 use Rattle.cfm_memory.proofs.Placing.{taken_most}
-use Rattle.pef_tool.specs.Placing.{Extent, IsPlaceFor, LackRoom}
+use Rattle.pef_tool.specs.Placing.{Extent, LackRoom}
 
 -- all instances end before an address
 abbrev pub EndBy : ℕ → List Instance → Type 0

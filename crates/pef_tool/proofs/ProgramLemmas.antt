@@ -1,15 +1,13 @@
 -- Relocation programs of sections make of their filled memory what the script describes.
-use Rattle.std.proofs.Common.{◌≡◌, ◌≢◌, ℕ, zero, suc, ◌+◌, ◌*◌, ◌^◌, ◌<◌, ◌≤◌, Bool, true, false, List, [], ◌∷◌, ◌++◌, Option, None, Some, eqb, get_or, length, map, refl, sym, ap, subst, ◌∙◌, arith}
+use Rattle.std.proofs.Common.{◌≡◌, ◌≢◌, ℕ, zero, suc, ◌+◌, ◌<◌, ◌≤◌, List, [], ◌∷◌, ◌++◌, Option, None, Some, get_or, length, map, refl, sym, ap, subst, ◌∙◌, arith}
 use Rattle.std.proofs.lemmas.Bool.{eq-eqb, ne_eqb}
-use Rattle.std.specs.Option.{option_and_then}
 use Rattle.pef_reloc.specs.declared.fault.RelocFault.{RelocFault}
-use Rattle.pef_reloc.specs.declared.fixup.Base.{Base}
 use Rattle.pef_reloc.specs.declared.fixup.Fixup.{Fixup}
 use Rattle.pef_reloc.specs.declared.instr.Instr.{Instr}
 use Rattle.pef_reloc.specs.Applied.{Addresses, Done, address_of, applied, unless_refused}
-use Rattle.pef_reloc.specs.Instrs.{instr_length, program_length, spelled}
-use Rattle.pef_reloc.specs.Steps.{add, trace, start}
-use Rattle.pef_reloc.specs.Unrolled.{program_fault, step_limit}
+use Rattle.pef_reloc.specs.Instrs.{spelled}
+use Rattle.pef_reloc.specs.Steps.{add, start}
+use Rattle.pef_reloc.specs.Unrolled.{step_limit}
 use Rattle.pef_reloc.proofs.FlatLaws.{applied-trace, program_fault-spelled, relocated-spelled}
 use Rattle.pef_script.specs.Script.{DescribedSection}
 use Rattle.pef_write.specs.Loaders.{ProgramEntry}

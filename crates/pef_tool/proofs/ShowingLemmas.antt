@@ -1,35 +1,33 @@
 -- A container that a script describes prepares to what the script describes, and is never refused.
-use Rattle.std.proofs.Common.{◌≡◌, ℕ, zero, suc, ◌+◌, ◌-◌, ◌*◌, ◌^◌, ◌<◌, ◌≤◌, List, [], ◌∷◌, ◌++◌, Option, None, Some, get_or, length, map, replicate, take, inl, inr, refl, sym, ap, subst, ◌∙◌, arith}
+use Rattle.std.proofs.Common.{◌≡◌, ℕ, zero, suc, ◌+◌, ◌-◌, ◌<◌, ◌≤◌, List, [], ◌∷◌, ◌++◌, Option, None, Some, get_or, length, replicate, inl, inr, refl, sym, ap, subst, ◌∙◌, arith}
 use Rattle.std.specs.List.{AllByRecursion, slice_get}
-use Rattle.std.specs.Option.{option_and_then, option_map_or, option_or}
+use Rattle.std.specs.Option.{option_map_or}
 use Rattle.std.proofs.lemmas.List.{length-append, length-map, length-replicate, take_all}
 use Rattle.std.proofs.lemmas.Option.{get_or_from_slice_get, slice_get-get_or, slice_get_within}
 use Rattle.cfm_memory.specs.Instances.{Layout}
 use Rattle.cfm_memory.specs.Placement.{with_new}
 use Rattle.cfm_memory.specs.declared.place.Place.{Place}
 use Rattle.pef_loader.specs.Loader.{Loaded, init_of, main_of, reloc_of, term_of}
-use Rattle.pef_reloc.specs.declared.fault.RelocFault.{RelocFault}
 use Rattle.pef_reloc.specs.declared.fixup.Fixup.{Fixup}
 use Rattle.pef_reloc.specs.declared.instr.Instr.{Instr}
 use Rattle.pef_reloc.specs.Applied.{Addresses, Done, address_of}
-use Rattle.pef_reloc.specs.Instrs.{instr_length, program_length, spelled}
+use Rattle.pef_reloc.specs.Instrs.{program_length, spelled}
 use Rattle.pef_reloc.proofs.CodeLemmas.{some_length}
 use Rattle.pef_reloc.proofs.FixupLemmas.{fixups_fit-parts}
 use Rattle.pef_script.specs.Script.{DescribedScript, DescribedSection}
 use Rattle.pef_script.specs.WellFormed.{SectionHolds}
-use Rattle.pef_views.specs.Container.{Contained, Section, section_of}
+use Rattle.pef_views.specs.Container.{Contained}
 use Rattle.pef_words.specs.Refusals.{first_among}
 use Rattle.pef_write.specs.Containers.{IsPart, part_header}
 use Rattle.pef_write.specs.Loaders.{ProgramEntry}
 use Rattle.pef_tool.specs.declared.prepare.PrepareFault.{PrepareFault}
 use Rattle.pef_tool.specs.declared.prepare.PrepareFault.TheVariants.{Memory, Reloc}
 use Rattle.pef_tool.specs.declared.shown.Prepared.{Prepared}
-use Rattle.cfm_memory.specs.declared.place.MemoryFault.{MemoryFault}
 use Rattle.cfm_memory.specs.declared.place.MemoryFault.TheVariants.{NoRoom, OutOfMemory}
 use Rattle.pef_tool.specs.Described.{described_at, described_extent, described_memory, filled}
 use Rattle.pef_tool.specs.Placing.{ArePlaced, Extent, HasNoRoomFor, IsPlaceFor, LackRoom, extent_in, extent_of}
-use Rattle.pef_tool.specs.Prepared.{HasImage, IsPrepared, IsRefused, MayNotPrepare, entry_address, addresses_of, done_at, filled_at, filled_in, no_instances, section_done}
-use Rattle.pef_tool.specs.Relocating.{first_refusal, program_done, refusal_at, relocated_by, untouched}
+use Rattle.pef_tool.specs.Prepared.{IsPrepared, MayNotPrepare, entry_address, addresses_of, done_at, filled_at, filled_in, no_instances, section_done}
+use Rattle.pef_tool.specs.Relocating.{program_done, refusal_at, relocated_by, untouched}
 use Rattle.pef_tool.specs.Showing.{IsShown}
 use Rattle.pef_tool.proofs.DescribedLemmas.{AreInside, fixups_inside}
 use Rattle.pef_tool.proofs.PlacedLemmas.{IsSmall, none_lacks}

@@ -1,5 +1,5 @@
 -- What `link` may answer, and what it leaves in the files.
-use Rattle.std.specs.Prelude.{◌≡◌, ℕ, ◌≤◌, List, Result, Ok, Err, length}
+use Rattle.std.specs.Prelude.{◌≡◌, ℕ, ◌≤◌, List, Result, Ok, Err}
 use Rattle.pef_script.specs.Grammar.{script_of}
 use Rattle.pef_script.specs.Script.{DescribedScript}
 use Rattle.pef_script.specs.declared.fault.LineFault.{LineFault}

@@ -21,11 +21,7 @@ pub fn print_linked<W: Sink>(
 }
 
 /// Prints the lengths of sections' programs, numbered from 0.
-fn print_lengths<W: Sink>(
-    out: &mut W,
-    page: &mut Page,
-    lengths: &[u32],
-) -> Result<(), StreamFault>
+fn print_lengths<W: Sink>(out: &mut W, page: &mut Page, lengths: &[u32]) -> Result<(), StreamFault>
     ensures { Sends result (W.written out.old) (W.written out.new) (W.failures out.old) (W.failures out.new) page.old.items page.new.items (lengths_text 0 lengths.now) }
 {
     for (k, length) in lengths.iter().enumerate() {

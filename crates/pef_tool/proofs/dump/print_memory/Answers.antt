@@ -1,5 +1,5 @@
 -- What is left of the lines.
-use Rattle.std.proofs.Common.{◌≡◌, ◌<◌, ◌≤◌, ◌+◌, ◌-◌, ◌++◌, List, ℕ, length, take, drop, sym, ap, subst, ◌∙◌, append_assoc, arith, rules}
+use Rattle.std.proofs.Common.{◌≡◌, ◌<◌, ◌+◌, ◌-◌, ◌++◌, List, ℕ, length, take, drop, sym, ap, subst, ◌∙◌, arith, rules}
 use Rattle.std.proofs.lemmas.List.{take_min, drop_min, append-nil}
 use Rattle.pef_tool.specs.Sent.{Prints, StopsShort}
 use Rattle.pef_tool.specs.Text.{dump_text, row_text}

@@ -1,7 +1,6 @@
 -- What is left of the groups, and how long they get.
-use Rattle.std.proofs.Common.{◌≡◌, ◌<◌, ◌≤◌, ◌+◌, ◌/◌, ◌∷◌, [], ◌++◌, length, take, drop, sym, ap, ◌∙◌, append_assoc, arith, rules}
-use Rattle.std.proofs.lemmas.List.{take_min, drop_min, length-drop, length-take, append-nil}
-use Rattle.pef_tool.specs.Text.{group_text, hex_text}
+use Rattle.std.proofs.Common.{◌≡◌, ◌<◌, ◌++◌, length, take, drop, sym, ap, ◌∙◌, append_assoc, arith, rules}
+use Rattle.std.proofs.lemmas.List.{take_min, drop_min, length-drop, append-nil}
 use Rattle.pef_tool.proofs.TextLemmas.{group_text-more, group_text-none}
 use Rattle.pef_tool.proofs.dump.push_groups.Goals as goal
 

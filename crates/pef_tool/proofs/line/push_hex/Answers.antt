@@ -1,6 +1,5 @@
 -- Each byte adds its two digits.
-use Rattle.std.proofs.Common.{◌<◌, ◌+◌, ◌∷◌, [], ◌++◌, length, get_or, append_assoc, arith}
-use Rattle.arrayvec.specs.ArrayVec.{array_vec_len}
+use Rattle.std.proofs.Common.{append_assoc, arith}
 use Rattle.pef_tool.proofs.TextLemmas.{hex_text-more}
 use Rattle.pef_tool.proofs.line.push_hex.Goals as goal
 

@@ -1,6 +1,5 @@
 -- What waited goes out first, and then the bytes that don't fit into the page.
-use Rattle.std.proofs.Common.{◌≡◌, Result, Ok, Err, [], refl, sym, subst, arith, rules}
-use Rattle.pef_tool.specs.Sent.{Sends}
+use Rattle.std.proofs.Common.{◌≡◌, [], rules}
 use Rattle.pef_tool.proofs.SentLemmas.{Sends-short, Sends-then, StopsShort-longer}
 use Rattle.pef_tool.proofs.page.send.Goals as goal
 

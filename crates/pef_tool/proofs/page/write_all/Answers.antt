@@ -1,8 +1,7 @@
 -- What went out so far, and what the next write sends of the rest.
-use Rattle.std.proofs.Common.{◌≡◌, List, [], ◌++◌, length, take, drop, refl, sym, ap, subst, ◌∙◌, arith}
+use Rattle.std.proofs.Common.{[], ◌++◌, take, drop, ap, ◌∙◌, arith}
 use Rattle.std.proofs.Math.Seq.{take-add}
 use Rattle.std.proofs.lemmas.List.{append-nil, take-append-drop}
-use Rattle.pef_tool.specs.Ports.{Grows}
 use Rattle.pef_tool.proofs.SentLemmas.{Grows-then, Rose-later, Sends-short}
 use Rattle.pef_tool.proofs.page.write_all.Goals as goal
 

@@ -1,7 +1,7 @@
 -- The container that was linked is read, and prepares to what the script describes.
-use Rattle.std.proofs.Common.{◌≡◌, ℕ, length, Ok, Err, Result, sym, ap, subst, ◌∙◌}
+use Rattle.std.proofs.Common.{◌≡◌, length, Ok, Err, Result, sym, ◌∙◌}
 use Rattle.cfm_memory.specs.declared.place.MemoryFault.TheVariants.{NoRoom, OutOfMemory}
-use Rattle.pef_loader.specs.Loader.{Loaded, loaded_of}
+use Rattle.pef_loader.specs.Loader.{Loaded}
 use Rattle.pef_loader.specs.Views.{loaded}
 use Rattle.pef_loader.specs.declared.fault.LoaderFault.{LoaderFault}
 use Rattle.pef_views.specs.Container.{Contained}
@@ -11,7 +11,6 @@ use Rattle.pef_write.specs.Linked.{linked_container, linked_tables}
 use Rattle.pef_write.specs.Reading.{loaded_tables}
 use Rattle.pef_tool.specs.declared.prepare.PrepareFault.{PrepareFault}
 use Rattle.pef_tool.specs.declared.prepare.PrepareFault.TheVariants.{Memory, Reloc}
-use Rattle.pef_tool.specs.Prepared.{HasImageAt, IsPrepared, MayNotPrepare}
 use Rattle.pef_tool.proofs.LinkedLemmas.{container_read, loader_read, read_images, read_is, read_sections, was_read}
 use Rattle.pef_tool.proofs.ShowingLemmas.{never_refused, shown_of}
 use Rattle.pef_tool.proofs.show.prepare_script.Goals as goal

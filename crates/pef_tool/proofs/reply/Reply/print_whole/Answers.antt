@@ -1,5 +1,5 @@
 -- What waits in the page goes out last.
-use Rattle.std.proofs.Common.{◌≡◌, [], ◌++◌, List, ℕ, subst, append-nil}
+use Rattle.std.proofs.Common.{[], List, ℕ, subst, append-nil}
 use Rattle.pef_tool.specs.Reply.{answer_of}
 use Rattle.pef_tool.specs.Sent.{Prints, Sends}
 use Rattle.pef_tool.proofs.SentLemmas.{Sends-empty, Sends-then}
