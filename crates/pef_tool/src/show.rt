@@ -15,7 +15,7 @@ use pef_loader::Loader;
 use pef_script::{Script, ScriptFault};
 use pef_views::Container;
 use pef_write::link;
-use std::alloc::{AllocError, Global};
+use std::alloc::Global;
 
 /// How many bytes of an input are read.
 const INPUT_LIMIT: usize = 536_870_912;
@@ -79,7 +79,8 @@ fn show_script(alloc: Global, script: &Script<'_>) -> Result<Prepared, ShowFault
     Ok(prepare_script(alloc, script)?)
 }
 
-/// Links a script without libraries, and prepares it alone.
+/// Links a script without libraries, and prepares it alone. Of the faults of `prepare` only want of
+/// memory can come: what is linked finds room, and its relocation programs are sound.
 fn prepare_script(alloc: Global, script: &Script<'_>) -> Result<Prepared, Refusal>
     requires holds { ScriptHolds script.now }
     requires alone { length script.now.libraries ≡ 0 }
@@ -103,8 +104,8 @@ fn prepare_script(alloc: Global, script: &Script<'_>) -> Result<Prepared, Refusa
     }
 }
 
-/// The first library of a script isn't there. Its name is copied, since it is told behind the script's
-/// time.
+/// The first library of a script isn't there. Its name is copied: the script's text is gone by the time
+/// that the line is printed.
 fn missing_library(alloc: Global, script: &Script<'_>) -> ShowFault
     requires { 0 < length script.now.libraries }
     ensures { MayNotShow script.now result }
@@ -112,17 +113,8 @@ fn missing_library(alloc: Global, script: &Script<'_>) -> ShowFault
     let Some(library) = script.library(0) else {
         unreachable!()
     };
-    match copied(alloc, library.name) {
+    match Vec::from_slice(alloc, library.name) {
         Ok(name) => ShowFault::LibraryMissing(name),
-        Err(AllocError) => ShowFault::Refused(Refusal::OutOfMemory),
+        Err(_) => ShowFault::Refused(Refusal::OutOfMemory),
     }
-}
-
-/// A copy of some bytes.
-fn copied(alloc: Global, bytes: &[u8]) -> Result<Vec<u8>, AllocError>
-    ensures { IfOk result (λ copy. copy.items ≡ bytes.now) }
-{
-    let mut copy = Vec::new(alloc);
-    copy.extend_from_slice(bytes)?;
-    Ok(copy)
 }
