@@ -15,6 +15,7 @@ use Rattle.pef_reloc.specs.Instrs.{program_length, spelled}
 use Rattle.pef_reloc.proofs.CodeLemmas.{some_length}
 use Rattle.pef_reloc.proofs.FixupLemmas.{fixups_fit-parts}
 use Rattle.pef_script.specs.Script.{DescribedScript, DescribedSection}
+use Rattle.pef_script.proofs.ListLemmas.{all-get}
 use Rattle.pef_script.specs.WellFormed.{SectionHolds}
 use Rattle.pef_views.specs.Container.{Contained}
 use Rattle.pef_words.specs.Refusals.{first_among}
@@ -49,14 +50,6 @@ pub record IsContainerOf (script : DescribedScript) (programs : List (List Instr
   pub main : main_of l ≡ script.main
   pub term : term_of l ≡ script.term
 
--- what holds of each holds of one
-all_get : {A : Type 0} (P : A → Type 0) (xs : List A) (k : ℕ) (x : A) → AllByRecursion P xs → slice_get xs k ≡ Some x → P x
-all_get P [] k x all is = absurd (cc)
-all_get P (y ∷ xs) zero x all is =
-    let same : y ≡ x = cc in
-    subst P same all.0
-all_get P (y ∷ xs) (suc k) x all is = all_get P xs k x all.1 is
-
 -- instructions have no more halfwords than their program
 length_most : (instrs : List Instr) → length instrs ≤ program_length instrs
 length_most [] = omega arith
@@ -87,7 +80,7 @@ made : (script : DescribedScript) (programs : List (List Instr)) (c : Contained)
     → (k : ℕ) (s : DescribedSection) → slice_get script.sections k ≡ Some s
     → relocated_by a k (reloc_of l) 0 l.header.reloc_count (filled s.image s.header.total) ≡ sound (described_memory (address_of a) s)
 made script programs c l a of sections imports k s there =
-    let holds = all_get (SectionHolds (length script.sections) (length script.imports)) script.sections k s of.sections there in
+    let holds = all-get (SectionHolds (length script.sections) (length script.imports)) script.sections k s of.sections there in
     let whole : length (filled s.image s.header.total) ≡ s.header.total = length-filled s.image s.header.total holds.image in
     let H : ℕ → Type 0 = λ n. SectionHolds n (length a.imports) s in
     let H' : ℕ → Type 0 = λ n. SectionHolds (length script.sections) n s in
@@ -211,7 +204,7 @@ described_small script sections k = go (slice_get script.sections k) refl
     go : (o : Option DescribedSection) → slice_get script.sections k ≡ o → IsSmall (described_extent script k)
     go None is = rw is (record { size = omega arith; alignment = omega arith })
     go (Some s) is =
-        let holds = all_get (SectionHolds (length script.sections) (length script.imports)) script.sections k s sections is in
+        let holds = all-get (SectionHolds (length script.sections) (length script.imports)) script.sections k s sections is in
         rw is (record { size = omega (arith, holds.total); alignment = omega (arith, holds.align) })
 
 -- such a container is refused for want of memory alone

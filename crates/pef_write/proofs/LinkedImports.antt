@@ -1,6 +1,6 @@
 -- The imports of a linked container are the script's.
-use Rattle.std.proofs.Common.{◌≡◌, ◌∙◌, ℕ, zero, suc, ◌+◌, ◌/◌, ◌%◌, ◌≤◌, ◌==◌, Bool, true, false, List, [], ◌∷◌, Some, get_or, length, nat_lt, slice_get, option_map, refl, ap, subst, eq-eqb, arith}
-use Rattle.std.specs.List.{AllByRecursion, count_by}
+use Rattle.std.proofs.Common.{◌≡◌, ◌∙◌, ℕ, ◌+◌, ◌/◌, ◌%◌, ◌≤◌, ◌==◌, Bool, true, false, List, [], ◌∷◌, Some, get_or, length, nat_lt, slice_get, option_map, refl, ap, subst, eq-eqb, arith}
+use Rattle.std.specs.List.{count_by}
 use Rattle.std.specs.Option.{option_and_then}
 use Rattle.std.proofs.lemmas.Bool.{ne_eqb}
 use Rattle.std.proofs.lemmas.Option.{get_or_from_slice_get, slice_get-map, slice_get_within}
@@ -8,6 +8,7 @@ use Rattle.pef_loader.specs.Import.{Import}
 use Rattle.pef_loader.specs.Loader as loader
 use Rattle.pef_reloc.specs.declared.instr.Instr.{Instr}
 use Rattle.pef_script.specs.Script.{DescribedImport, DescribedLibrary, DescribedScript}
+use Rattle.pef_script.proofs.ListLemmas.{all-get}
 use Rattle.pef_script.specs.WellFormed.{ImportHolds, ScriptHolds}
 use Rattle.pef_write.specs.Linked.{AreProgramsFor, class_byte, import_of, libraries_from, linked_tables, script_tables}
 use Rattle.pef_write.specs.Reading.{AreInTurn, first_owner, import_read, loaded_tables}
@@ -44,13 +45,6 @@ import_same i small =
     let class = class_read i.weak i.class small in
     rw (class.0, class.1) refl
 
-all_get : {A : Type 0} (P : A → Type 0) (xs : List A) (k : ℕ) (x : A) → AllByRecursion P xs → slice_get xs k ≡ Some x → P x
-all_get P [] k x all is = absurd (cc)
-all_get P (y ∷ xs) zero x all is =
-    let same : y ≡ x = cc in
-    subst P same all.0
-all_get P (y ∷ xs) (suc k) x all is = all_get P xs k x all.1 is
-
 pub import_is : (s : DescribedScript) (programs : List (List Instr)) (j : ℕ) (i : DescribedImport) → ScriptHolds s → AreProgramsFor (length s.sections) s.sections programs → slice_get s.imports j ≡ Some i
     → loader.import_of (loaded_tables (length s.sections) (linked_tables s programs)) j ≡ Some (read_import i)
 unfolding script_tables
@@ -64,4 +58,4 @@ import_is s programs j i holds are there =
     imports_back (length s.sections) t (are_sound s programs holds are) j
     ∙ ap (option_and_then (λ e. option_map (import_read e) (first_owner t.libraries j))) entry
     ∙ ap (λ o. option_map (import_read (import_of i)) o) owner
-    ∙ ap Some (import_same i (all_get (ImportHolds (length s.libraries)) s.imports j i holds.imports.each there).class)
+    ∙ ap Some (import_same i (all-get (ImportHolds (length s.libraries)) s.imports j i holds.imports.each there).class)
