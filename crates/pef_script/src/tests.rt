@@ -394,3 +394,40 @@ fn keeps_limits(rt: HostRuntime) -> Result<(), Fail> {
     }
     Ok(())
 }
+
+/// Appends a line with an offset in eight hex digits.
+fn push_offset(text: &mut Vec<u8>, front: &str, offset: u32, end: &str) -> Result<(), AllocError> {
+    text.extend_from_slice(front.as_bytes())?;
+    for place in [28, 24, 20, 16, 12, 8, 4, 0] {
+        let digit = (offset >> place) % 16;
+        text.extend_from_slice(&[b"0123456789abcdef"[digit as usize]])?;
+    }
+    text.extend_from_slice(end.as_bytes())
+}
+
+/// A section with so many fixups side by side, and a last line.
+fn fixups_text(alloc: Global, count: u32, last: &str) -> Result<Vec<u8>, AllocError> {
+    let mut text = Vec::from_slice(alloc, b"section s data process 0 65544\n")?;
+    for k in 0..count {
+        push_offset(&mut text, "fix s 0x", k.wrapping_mul(4), " section s\n")?;
+    }
+    text.extend_from_slice(last.as_bytes())?;
+    Ok(text)
+}
+
+#[test]
+fn keeps_the_limit_of_fixups(rt: HostRuntime) -> Result<(), Fail> {
+    let alloc = rt.alloc();
+    for (count, last, want) in [
+        (16_384, "", None),
+        (16_384, "fix s 65536 section s", Some((48, 16_386))),
+        (16_384, "fix s 0 section s", Some((48, 16_386))),
+        (16_382, "tvector s 65528 s s", None),
+        (16_383, "tvector s 65532 s s", Some((48, 16_385))),
+        (16_383, "tvector s 0 s s", Some((48, 16_385))),
+    ] {
+        let text = fixups_text(alloc, count, last)?;
+        assert_eq!(rt; refusal(alloc, &text), want, "{last}");
+    }
+    Ok(())
+}
