@@ -1,247 +1,31 @@
 -- Every line keeps what is true of the script so far.
-use Rattle.std.proofs.Common.{◌≡◌, ℕ, ℤ, pos, negsuc, ◌+◌, ◌*◌, ◌-◌, ◌<◌, ◌≤◌, ◌==◌, ◌||◌, not, Bool, true, false, cond, List, [], ◌∷◌, ◌++◌, Option, None, Some, Result, Ok, Err, length, map, slice_get, is_some, refl, ap, subst, ◌∙◌, arith, length-append, append_assoc}
-use Rattle.std.specs.Prelude.{codes, slice_set, nat_lt}
+use Rattle.std.proofs.Common.{◌≡◌, ℕ, pos, ◌+◌, ◌-◌, ◌≤◌, List, [], ◌∷◌, ◌++◌, None, Result, Ok, Err, length, map, refl, ap, subst, ◌∙◌, arith, length-append, append_assoc}
+use Rattle.std.specs.Prelude.{codes, nat_lt}
 use Rattle.std.specs.List.{AllByRecursion}
 use Rattle.std.specs.Str.{bytes_eq}
-use Rattle.std.proofs.lemmas.Bool.{ltb-false, ltb-true, lt-ltb}
-use Rattle.std.proofs.lemmas.List.{length-map, length-set, map-append, get_or_append_left, get_or-map}
-use Rattle.std.proofs.lemmas.List.Sums.{sum_by-append}
+use Rattle.std.proofs.lemmas.Bool.{ltb-false}
+use Rattle.std.proofs.lemmas.List.{map-append}
 use Rattle.pef_words.specs.Refusals.{first_met}
 use Rattle.pef_words.proofs.RefusalLemmas.{first_unmet}
-use Rattle.pef_reloc.specs.declared.fixup.Base.{Base}
 use Rattle.pef_reloc.specs.declared.fixup.Base.TheVariants as base
 use Rattle.pef_reloc.specs.declared.fixup.Fixup.{Fixup}
-use Rattle.pef_reloc.specs.declared.fixup.TheConstants.{MAX_FIXUPS}
-use Rattle.pef_reloc.specs.Fixups.{base_fits, fixups_end}
-use Rattle.pef_reloc.proofs.FixupLemmas.{fixups_fit-more, fixups_end-append, no_fixups_fit}
+use Rattle.pef_reloc.specs.Fixups.{fixups_end}
+use Rattle.pef_reloc.proofs.FixupLemmas.{fixups_end-append, no_fixups_fit}
 use Rattle.pef_script.specs.declared.fault.LineFault.{LineFault}
-use Rattle.pef_script.specs.declared.fault.LineFault.TheVariants.{BadLine, RepeatedName, OutOfOrder, Overlap, OutsideSection, TooMany}
-use Rattle.pef_script.specs.declared.limits.TheConstants.{MAX_ALIGN, MAX_EXPORTS, MAX_IMPORTS, MAX_LIBRARIES, MAX_NAME_BYTES, MAX_NUMBER, MAX_SECTIONS, MAX_TOTAL, VERSIONS_GROUP, LIBRARY_GROUP, SECTION_GROUP, CONTENT_GROUP, EXPORT_GROUP, MAIN_GROUP, INIT_GROUP, TERM_GROUP}
+use Rattle.pef_script.specs.declared.fault.LineFault.TheVariants.{BadLine, OutsideSection}
+use Rattle.pef_script.specs.declared.limits.TheConstants.{MAX_ALIGN, MAX_EXPORTS, MAX_IMPORTS, MAX_LIBRARIES, MAX_NUMBER, MAX_TOTAL, VERSIONS_GROUP, LIBRARY_GROUP, SECTION_GROUP, CONTENT_GROUP, EXPORT_GROUP, MAIN_GROUP, INIT_GROUP, TERM_GROUP}
 use Rattle.pef_script.specs.Script.{DescribedExport, DescribedImport, DescribedLibrary, DescribedSection, DescribedScript}
 use Rattle.pef_script.specs.Words.{image_of, last_name, last_word, next_name, next_word, number_up_to}
-use Rattle.pef_script.specs.State.{State, entered, entered_once, export_names, has_no_room, import_names, is_repeated, library_names, no_section, number_of_name, section_at, section_named, section_names}
+use Rattle.pef_script.specs.State.{State, entered, entered_once, export_names, import_names, library_names, section_at, section_named, section_names}
 use Rattle.pef_script.specs.Declarations.{class_of, entered_import, import_line, import_tests, is_weak_word, kind_of, library_line, library_tests, options_of, section_line, section_tests, share_of, versions_line}
-use Rattle.pef_script.specs.Contents.{base_named, bytes_line, bytes_tests, fix_line, fixup_of, fixup_tests, is_section_word, tvector_line, with_contents, with_fixups, with_image}
+use Rattle.pef_script.specs.Contents.{base_named, bytes_line, bytes_tests, fix_line, fixup_of, fixup_tests, is_section_word, tvector_line, with_fixups, with_image}
 use Rattle.pef_script.specs.Exports.{entry_in, export_line, export_tests, init_line, main_line, term_line}
 use Rattle.pef_script.specs.Grammar.{Refusal, after_line, is_skipped, line_by_word, line_of, lines_of, no_lines, read_lines, script_of}
-use Rattle.pef_script.specs.WellFormed.{BaseThere, EntryHolds, ExportHolds, ExportsHold, ImportHolds, ImportsHold, LibraryHolds, PlaceHolds, ScriptHolds, SectionHolds, SectionsHold, SignedPlaceHolds, bytes_of_names, name_bytes, totals_of}
+use Rattle.pef_script.specs.WellFormed.{ExportHolds, ImportHolds, LibraryHolds, PlaceHolds, ScriptHolds, SectionHolds, bytes_of_names, totals_of}
 use Rattle.pef_script.proofs.Leads.{Leads, leads_if, leads_then, leads_unless, led}
-use Rattle.pef_script.proofs.ListLemmas.{all-append, all-at, all-get, all-map, all-set, all-weaker, distinct-more, map-set, no_names_apart, rises-more}
+use Rattle.pef_script.proofs.ListLemmas.{all-append, all-map, all-weaker, distinct-more, no_names_apart, rises-more}
 use Rattle.pef_script.proofs.WordLemmas.{base_named-is, class_of-is, kind_of-is, next_name-is, number_up_to-is, options_of-is, section_named-is, share_of-is}
-
--- what is true while a script is read
-pub record StateHolds (s : State) : Type 0 where
-  pub script : ScriptHolds s.script
-  pub names : s.names ≡ name_bytes s.script
-
--- section k of a script that was read
-pub section-holds : (s : DescribedScript) (k : ℕ) (section : DescribedSection) → ScriptHolds s → slice_get s.sections k ≡ Some section → SectionHolds (length s.sections) (length s.imports) section
-section-holds s k section holds is = all-get (SectionHolds (length s.sections) (length s.imports)) s.sections k section holds.sections.each is
-
--- what tests that are not met say
-
-new_name : (names : List (List ℕ)) (name : List ℕ) → is_repeated names name ≡ false → number_of_name names name ≡ None
-new_name names name isnt = by (number_of_name names name) isnt
-  where
-    by : (o : Option ℕ) → is_some o ≡ false → o ≡ None
-    by None isnt = refl
-    by (Some k) isnt = absurd (cc)
-
-below_limit : (count limit : ℕ) → not (nat_lt count limit) ≡ false → count < limit
-below_limit count limit unmet = by (nat_lt count limit) refl unmet
-  where
-    by : (b : Bool) → nat_lt count limit ≡ b → not b ≡ false → count < limit
-    by true is unmet = ltb-true _ _ is
-    by false is unmet = absurd (cc)
-
--- room for one more name among a count of others
-record NameRoom (s : State) (names : List (List ℕ)) (count limit : ℕ) (name : List ℕ) : Type 0 where
-  pub new : number_of_name names name ≡ None
-  pub room : count < limit
-  pub bytes : s.names + (length name + 1) ≤ MAX_NAME_BYTES
-
-name_tests-unmet : (s : State) (names : List (List ℕ)) (count limit : ℕ) (name : List ℕ) (others : List (Bool × LineFault))
-    → first_met ((is_repeated names name, RepeatedName) ∷ (not (nat_lt count limit), TooMany) ∷ (has_no_room s name, TooMany) ∷ others) ≡ None
-    → NameRoom s names count limit name × (first_met others ≡ None)
-name_tests-unmet s names count limit name others unmet =
-    let a = first_unmet (is_repeated names name) RepeatedName (first_met ((not (nat_lt count limit), TooMany) ∷ (has_no_room s name, TooMany) ∷ others)) unmet in
-    let b = first_unmet (not (nat_lt count limit)) TooMany (first_met ((has_no_room s name, TooMany) ∷ others)) a.1 in
-    let c = first_unmet (has_no_room s name) TooMany (first_met others) b.1 in
-    (record { new = new_name names name a.0; room = below_limit count limit b.0; bytes = ltb-false _ _ c.0 }, c.1)
-
-record SectionRoom (s : State) (name : List ℕ) : Type 0 where
-  pub new : number_of_name (section_names s.script) name ≡ None
-  pub room : length s.script.sections < MAX_SECTIONS
-
-section_tests-unmet : (s : State) (name : List ℕ) → first_met (section_tests s name) ≡ None → SectionRoom s name
-section_tests-unmet s name unmet =
-    let a = first_unmet (is_repeated (section_names s.script) name) RepeatedName (first_met ((not (nat_lt (length s.script.sections) MAX_SECTIONS), TooMany) ∷ [])) unmet in
-    let b = first_unmet (not (nat_lt (length s.script.sections) MAX_SECTIONS)) TooMany None a.1 in
-    record { new = new_name (section_names s.script) name a.0; room = below_limit (length s.script.sections) MAX_SECTIONS b.0 }
-
-bytes_tests-unmet : (s : State) (k count : ℕ) → first_met (bytes_tests s k count) ≡ None → length (section_at s k).image + count ≤ (section_at s k).header.total
-bytes_tests-unmet s k count unmet =
-    let section = section_at s k in
-    let a = first_unmet (nat_lt k s.section) OutOfOrder (first_met ((nat_lt section.header.total (length section.image + count), OutsideSection) ∷ [])) unmet in
-    let b = first_unmet (nat_lt section.header.total (length section.image + count)) OutsideSection None a.1 in
-    ltb-false _ _ b.0
-
--- room for more fixups
-record FixupRoom (section : DescribedSection) (offset count : ℕ) : Type 0 where
-  pub room : length section.fixups + count ≤ MAX_FIXUPS
-  pub inside : offset + 4 * count ≤ section.header.total
-  pub after : fixups_end 0 section.fixups ≤ offset
-
-fixup_tests-unmet : (s : State) (k offset count : ℕ) → first_met (fixup_tests s k offset count) ≡ None → FixupRoom (section_at s k) offset count
-fixup_tests-unmet s k offset count unmet =
-    let section = section_at s k in
-    let fixups = section.fixups in
-    let third = (nat_lt section.header.total (offset + 4 * count), OutsideSection) ∷ (nat_lt offset (fixups_end 0 fixups), Overlap) ∷ [] in
-    let late = nat_lt k s.section || nat_lt (offset + 4) (fixups_end 0 fixups) in
-    let a = first_unmet (nat_lt MAX_FIXUPS (length fixups + count)) TooMany (first_met ((late, OutOfOrder) ∷ third)) unmet in
-    let b = first_unmet late OutOfOrder (first_met third) a.1 in
-    let c = first_unmet (nat_lt section.header.total (offset + 4 * count)) OutsideSection (first_met ((nat_lt offset (fixups_end 0 fixups), Overlap) ∷ [])) b.1 in
-    let d = first_unmet (nat_lt offset (fixups_end 0 fixups)) Overlap None c.1 in
-    record { room = ltb-false _ _ a.0; inside = ltb-false _ _ c.0; after = ltb-false _ _ d.0 }
-
--- places and entries, with more sections
-
-place-more : (totals more : List ℕ) (k offset : ℕ) → PlaceHolds totals k offset → PlaceHolds (totals ++ more) k offset
-place-more totals more k offset place = record {
-  there = omega (arith, place.there, length-append totals more);
-  inside = rw (get_or_append_left totals more 0 k place.there) place.inside;
-}
-
-entry-more : (totals more : List ℕ) (entry : Option (ℕ × ℕ)) → EntryHolds totals entry → EntryHolds (totals ++ more) entry
-entry-more totals more None holds = tt
-entry-more totals more (Some entry) holds = place-more totals more entry.0 entry.1 holds
-
-export-more : (totals more : List ℕ) (e : DescribedExport) → ExportHolds totals e → ExportHolds (totals ++ more) e
-export-more totals more e holds = record { name = holds.name; class = holds.class; place = by e.section holds.place }
-  where
-    by : (section : ℤ) → SignedPlaceHolds totals section e.value → SignedPlaceHolds (totals ++ more) section e.value
-    by (pos k) place = place-more totals more k e.value place
-    by (negsuc n) place = place
-
-exports-more : (totals more : List ℕ) (exports : List DescribedExport) → ExportsHold totals exports → ExportsHold (totals ++ more) exports
-exports-more totals more exports holds = record {
-  count = holds.count;
-  each = all-weaker (ExportHolds totals) (ExportHolds (totals ++ more)) exports (export-more totals more) holds.each;
-  apart = holds.apart;
-}
-
--- with one more section or import, what was there is there
-
-base-more : (m n i j : ℕ) (b : Base) → BaseThere m n b → BaseThere (m + i) (n + j) b
-base-more m n i j (base.Section k) there = omega (arith, there)
-base-more m n i j (base.Import l) there = omega (arith, there)
-
-section-more : (m n i j : ℕ) (s : DescribedSection) → SectionHolds m n s → SectionHolds (m + i) (n + j) s
-section-more m n i j s holds = record {
-  name = holds.name;
-  kind = holds.kind;
-  share = holds.share;
-  align = holds.align;
-  total = holds.total;
-  image = holds.image;
-  fixups = holds.fixups;
-  inside = holds.inside;
-  bases = all-weaker (λ (f : Fixup). BaseThere m n f.base) (λ (f : Fixup). BaseThere (m + i) (n + j) f.base) s.fixups (λ f. base-more m n i j f.base) holds.bases;
-}
-
-sections-more : (n j : ℕ) (sections : List DescribedSection) → SectionsHold n sections → SectionsHold (n + j) sections
-sections-more n j sections holds =
-    let m = length sections in
-    let same : m + 0 ≡ m = omega arith in
-    record {
-      count = holds.count;
-      each = subst (λ k. AllByRecursion (SectionHolds k (n + j)) sections) same (all-weaker (SectionHolds m n) (SectionHolds (m + 0) (n + j)) sections (section-more m n 0 j) holds.each);
-      apart = holds.apart;
-    }
-
--- with one more library, the imports have theirs
-imports-more : (n : ℕ) (imports : List DescribedImport) → ImportsHold n imports → ImportsHold (n + 1) imports
-imports-more n imports holds = record {
-  count = holds.count;
-  each = all-weaker (ImportHolds n) (ImportHolds (n + 1)) imports (λ i fits. record { name = fits.name; class = fits.class; library = omega (arith, fits.library) }) holds.each;
-  apart = holds.apart;
-  grouped = holds.grouped;
-}
-
--- an import stands behind a library
-entered_import-some : (s : State) (group : ℕ) → entered_import s ≡ Ok group → 1 ≤ length s.script.libraries
-entered_import-some s group is = by (nat_lt LIBRARY_GROUP s.reached) s.script.libraries is
-  where
-    by : (late : Bool) (libraries : List DescribedLibrary) → cond (late || (length libraries == 0)) (Err OutOfOrder) (Ok LIBRARY_GROUP) ≡ Ok group → 1 ≤ length libraries
-    by true libraries is = absurd (cc)
-    by false [] is = absurd (cc)
-    by false (l ∷ libraries) is = omega arith
-
--- a place in section k
-place_at : (s : State) (k offset : ℕ) → k < length s.script.sections → offset ≤ (section_at s k).header.total → PlaceHolds (totals_of s.script.sections) k offset
-place_at s k offset under inside =
-    let count : length (totals_of s.script.sections) ≡ length s.script.sections = simp length-map in
-    record { there = omega (arith, count, under); inside = rw (get_or-map (λ (x : DescribedSection). x.header.total) s.script.sections k no_section 0 under) inside }
-
--- the bytes of names, with one more
-
-names-more : (names : List (List ℕ)) (name : List ℕ) → bytes_of_names (names ++ name ∷ []) ≡ bytes_of_names names + (length name + 1)
-names-more names name = let more = sum_by-append (λ (n : List ℕ). length n + 1) names (name ∷ []) in omega (arith, more)
-
--- a section that is changed, but for its line
-
-changed : (s : State) (k : ℕ) (section : DescribedSection) → StateHolds s → section.header ≡ (section_at s k).header → SectionHolds (length s.script.sections) (length s.script.imports) section → StateHolds (with_contents s k section)
-changed s k section holds same fits =
-    let sections = s.script.sections in
-    let was = holds.script in
-    let count : length (slice_set sections k section) ≡ length sections = length-set sections k section in
-    let totals : totals_of (slice_set sections k section) ≡ totals_of sections = map-set (λ (x : DescribedSection). x.header) (λ h. h.total) sections k no_section section same in
-    let names : map (λ (x : DescribedSection). x.header.name) (slice_set sections k section) ≡ map (λ (x : DescribedSection). x.header.name) sections = map-set (λ (x : DescribedSection). x.header) (λ h. h.name) sections k no_section section same in
-    record {
-      script = record {
-        versions = was.versions;
-        libraries = was.libraries;
-        imports = was.imports;
-        sections = record {
-          count = omega (arith, count, was.sections.count);
-          each = rw count (all-set (SectionHolds (length sections) (length s.script.imports)) sections k section was.sections.each fits);
-          apart = rw names was.sections.apart;
-        };
-        exports = rw totals was.exports;
-        main = rw totals was.main;
-        init = rw totals was.init;
-        term = rw totals was.term;
-        names = was.names;
-      };
-      names = holds.names;
-    }
-
-at_section : (s : State) (k : ℕ) → StateHolds s → k < length s.script.sections → SectionHolds (length s.script.sections) (length s.script.imports) (section_at s k)
-at_section s k holds under = all-at (SectionHolds (length s.script.sections) (length s.script.imports)) s.script.sections k no_section holds.script.sections.each under
-
--- a base that is there is within the limits of bases
-base_within : (m n : ℕ) (b : Base) → m ≤ 8 → n ≤ 65536 → BaseThere m n b → base_fits b ≡ true
-base_within m n (base.Section k) few some there = let under : k < 8 = omega (arith, there) in lt-ltb k 8 under
-base_within m n (base.Import j) few some there = let under : j < 65536 = omega (arith, there) in lt-ltb j 65536 under
-
--- one more fixup
-fixup-more : (m n : ℕ) (s : DescribedSection) (offset : ℕ) (b : Base) → m ≤ 8 → n ≤ 65536 → SectionHolds m n s → length s.fixups < MAX_FIXUPS → offset + 4 ≤ s.header.total → fixups_end 0 s.fixups ≤ offset → BaseThere m n b
-    → SectionHolds m n (with_fixups s (fixup_of offset b ∷ []))
-fixup-more m n s offset b few some holds room inside after there =
-    let f : Fixup = fixup_of offset b in
-    record {
-      name = holds.name;
-      kind = holds.kind;
-      share = holds.share;
-      align = holds.align;
-      total = holds.total;
-      image = holds.image;
-      fixups = fixups_fit-more s.fixups f holds.fixups room after (omega (arith, holds.total, inside)) (base_within m n b few some there);
-      inside = rw (fixups_end-append 0 s.fixups (f ∷ [])) inside;
-      bases = all-append (λ (g : Fixup). BaseThere m n g.base) s.fixups (f ∷ []) holds.bases (there, tt);
-    }
-
--- the lines
+use Rattle.pef_script.proofs.Growing.{StateHolds, name_tests-unmet, section_tests-unmet, bytes_tests-unmet, fixup_tests-unmet, entry-more, exports-more, section-more, sections-more, imports-more, entered_import-some, place_at, names-more, changed, at_section, fixup-more}
 
 module _ (s : State) (holds : StateHolds s) (line : List ℕ) where
   abbrev was : ScriptHolds s.script

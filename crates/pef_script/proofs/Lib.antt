@@ -1,6 +1,7 @@
 pub mod Cuts
 pub mod Digits
 pub mod Ends
+pub mod Growing
 pub mod Holds
 pub mod Leads
 pub mod LineLemmas
