@@ -7,6 +7,10 @@ use Rattle.std.proofs.lemmas.Bool.{cases_lt}
 use Rattle.cfm_memory.specs.Instances.{Instance, bytes_at, with_instance, without, fitted, with_bytes, range_in, range_at}
 use Rattle.cfm_memory.specs.Placement.{end_of, IsFree, IsLaidOut}
 use Rattle.cfm_memory.proofs.Placing.{some_taken, within_taken}
+-- an instance takes some bytes, at least its own, and at most fifteen more
+pub use Rattle.cfm_memory.proofs.Placing.{some_taken, within_taken, taken_most}
+-- what is written keeps an instance's length
+pub use Rattle.cfm_memory.proofs.Changes.{length-fitted}
 
 -- where something is free, no instance begins
 pub nothing_at_free : (xs : List Instance) (address end : ℕ) → address < end → IsFree address end xs → bytes_at xs address ≡ None

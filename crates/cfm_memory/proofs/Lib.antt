@@ -1,5 +1,5 @@
-pub mod Changes
-pub mod Held
+mod Changes
+mod Held
 pub mod Laws
-pub mod Placed
-pub mod Placing
+mod Placed
+mod Placing

@@ -1,5 +1,6 @@
-pub mod RegularLemmas
-pub mod Places
-pub mod SlotLists
-pub mod Slots
-pub mod Tables
+pub mod Laws
+mod RegularLemmas
+mod Places
+mod SlotLists
+mod Slots
+mod Tables

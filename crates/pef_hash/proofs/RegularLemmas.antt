@@ -9,7 +9,7 @@ use Rattle.std.proofs.Math.Nat.{mul-add-mod_self_right, mod-eq_of_lt}
 use Rattle.std.specs.Option.{option_map_or}
 use Rattle.std.specs.Str.{bytes_eq}
 use Rattle.pef_words.specs.Refusals.{first_among}
-use Rattle.pef_words.proofs.RefusalLemmas.{none_among, some_among}
+use Rattle.pef_words.proofs.Laws.Refusals.{none_among, some_among}
 use Rattle.pef_hash.specs.Word.{hash_word, slot}
 use Rattle.pef_hash.specs.Build.{built, in_slots, keys_at, slot_words}
 use Rattle.pef_hash.specs.Exports.{ExportTable, export_named, key_of, name_of, named_at, slot_word_of}

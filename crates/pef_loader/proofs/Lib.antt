@@ -1,3 +1,4 @@
-pub mod Loaders
-pub mod NameEnds
-pub mod RangeLemmas
+pub mod Laws
+mod Loaders
+mod NameEnds
+mod RangeLemmas

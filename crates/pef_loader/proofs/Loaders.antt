@@ -7,7 +7,7 @@ use Rattle.std.proofs.lemmas.Slice.Eq.{bytes_eq-Decides}
 use Rattle.std.proofs.lemmas.Bool.{and_parts, lt-ltb, le-leb, leb-false, ltb-false, ltb-true}
 use Rattle.pef_words.specs.Bytes.{name_at, part_of}
 use Rattle.pef_words.specs.Refusals.{first_among, first_met, unless}
-use Rattle.pef_words.proofs.RefusalLemmas.{first_unmet, none_among, some_among}
+use Rattle.pef_words.proofs.Laws.Refusals.{first_unmet, none_among, some_among}
 use Rattle.pef_hash.specs.Exports.{entry_of, export_named, name_of, named_at}
 use Rattle.pef_hash.specs.declared.exports.Entry.{Entry}
 use Rattle.pef_loader.specs.declared.header.LoaderHeader.{LoaderHeader}

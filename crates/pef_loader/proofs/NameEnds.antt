@@ -6,7 +6,7 @@ use Rattle.std.proofs.lemmas.Bool.{le-leb}
 use Rattle.std.proofs.lemmas.Bool.Decides.{eqb_tells, leb_tells}
 use Rattle.std.proofs.lemmas.List.{get_or-drop}
 use Rattle.pef_words.specs.Bytes.{before_zero, name_at}
-use Rattle.pef_words.proofs.Names.{before_zero-none}
+use Rattle.pef_words.proofs.Laws.Names.{before_zero-none}
 use Rattle.pef_loader.specs.Names.{NamesEndAt}
 
 -- a name is there whatever stands before it

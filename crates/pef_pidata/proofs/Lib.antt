@@ -1,4 +1,4 @@
 pub mod Laws
-pub mod Repeats
-pub mod Steps
-pub mod Weaves
+mod Repeats
+mod Steps
+mod Weaves

@@ -9,7 +9,7 @@ use Rattle.pef_reloc.specs.declared.instr.Instr.{Instr}
 use Rattle.pef_reloc.specs.declared.instr.Instr.TheVariants.{BySectDWithSkip, BySectC, BySectD, TVector12, TVector8, VTable8, ImportRun, SmByImport, SmSetSectC, SmSetSectD, SmBySection, IncrPosition, SmRepeat, SetPosition, LgByImport, LgRepeat, LgBySection, LgSetSectC, LgSetSectD}
 use Rattle.pef_reloc.specs.Instrs.{halfword_bytes, halfwords_of, instr_fits}
 use Rattle.pef_reloc.specs.Decoding.{first_instr, long_instr, opcode_instr, section_instr, short_instr}
-use Rattle.pef_reloc.proofs.FixupLemmas.{met_both}
+use Rattle.pef_words.proofs.Laws.Tests.{met_both}
 
 -- the first and the second halfword of some bytes
 first_word : (w : ℕ) (rest : List ℕ) → w < 0x10000 → number_at 2 (big_bytes 2 w ++ rest) 0 ≡ Some w

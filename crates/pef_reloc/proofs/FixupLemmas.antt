@@ -4,15 +4,7 @@ use Rattle.std.proofs.lemmas.Bool.{leb-true, le-leb}
 use Rattle.pef_reloc.specs.declared.fixup.Fixup.{Fixup}
 use Rattle.pef_reloc.specs.declared.fixup.TheConstants.{MAX_FIXUPS, OFFSET_LIMIT}
 use Rattle.pef_reloc.specs.Fixups.{base_fits, fixup_fits, fixups_from, fixups_end, fixups_fit}
-
--- two tests that are both met
-pub both_met : (a b : Bool) → a ≡ true → b ≡ true → (a && b) ≡ true
-both_met a b p q = rw (p, q) refl
-
--- what both is met when both are
-pub met_both : (a b : Bool) → (a && b) ≡ true → (a ≡ true) × (b ≡ true)
-met_both true b p = (refl, p)
-met_both false b p = absurd (cc)
+use Rattle.pef_words.proofs.Laws.Tests.{both_met, met_both}
 
 pub and_assoc : (a b c : Bool) → (a && b && c) ≡ (a && (b && c))
 and_assoc true b c = refl

@@ -18,7 +18,7 @@ use Rattle.pef_reloc.proofs.Acts.{need-there}
 use Rattle.pef_reloc.proofs.ActLists.{applied-append}
 use Rattle.pef_reloc.proofs.CodeLemmas.{code_of-begins, code_of-nothing, some_length}
 use Rattle.pef_reloc.proofs.Decodes.{reads_back}
-use Rattle.pef_reloc.proofs.FixupLemmas.{met_both}
+use Rattle.pef_words.proofs.Laws.Tests.{met_both}
 use Rattle.pef_reloc.proofs.Spellings.{spelled-nothing, spelled-one}
 
 -- an instruction is spelled in two bytes a halfword

@@ -1,15 +1,16 @@
-pub mod ActLists
-pub mod Acts
-pub mod Applying
-pub mod Blocks
-pub mod CodeLemmas
-pub mod Decodes
-pub mod FixupLemmas
-pub mod Halfwords
-pub mod FlatLaws
-pub mod PlainLaws
-pub mod Readings
-pub mod Rows
-pub mod Runs
-pub mod Spellings
-pub mod Windows
+pub mod Laws
+mod ActLists
+mod Acts
+mod Applying
+mod Blocks
+mod CodeLemmas
+mod Decodes
+mod FixupLemmas
+mod Halfwords
+mod FlatLaws
+mod PlainLaws
+mod Readings
+mod Rows
+mod Runs
+mod Spellings
+mod Windows

@@ -11,7 +11,8 @@ use Rattle.pef_reloc.specs.Fixups.{base_below, base_fits, bases_below, fixups_fi
 use Rattle.pef_reloc.specs.Instrs.{instr_fits, instr_length, instrs_fit, program_length, repeat_free}
 use Rattle.pef_reloc.specs.Steps.{Makes, State, added, additions, is_flat, names_below, next_state, start, trace}
 use Rattle.pef_reloc.specs.Plain.{plain_addition, plain_from, plain_program}
-use Rattle.pef_reloc.proofs.FixupLemmas.{both_met, met_both, fixups_fit-parts, fixups_from-first}
+use Rattle.pef_words.proofs.Laws.Tests.{both_met, met_both}
+use Rattle.pef_reloc.proofs.FixupLemmas.{fixups_fit-parts, fixups_from-first}
 
 -- the addition of a base, whichever it is
 record Adds (b : Base) (x : Instr) : Type 0 where

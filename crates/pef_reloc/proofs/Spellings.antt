@@ -2,7 +2,7 @@
 use Rattle.std.proofs.Common.{◌≡◌, ℕ, suc, ◌+◌, ◌<◌, true, List, [], ◌∷◌, ◌++◌, drop, get_or, length, refl, ap, sym, ◌∙◌, arith, drop-cons, append_assoc}
 use Rattle.pef_reloc.specs.declared.instr.Instr.{Instr}
 use Rattle.pef_reloc.specs.Instrs.{halfword_bytes, halfwords_of, instr_fits, instrs_fit, spelled}
-use Rattle.pef_reloc.proofs.FixupLemmas.{met_both}
+use Rattle.pef_words.proofs.Laws.Tests.{met_both}
 
 pub spelled-nothing : spelled [] ≡ []
 unfolding spelled

@@ -9,11 +9,11 @@ mod encoding;
 mod fault;
 mod fixup;
 mod instr;
-mod laws;
 mod machine;
 mod program;
 mod recent;
 mod relocate;
+mod theorems;
 mod words;
 
 pub use encoding::{Spelling, encode};
@@ -22,10 +22,10 @@ pub use fixup::{
     Base, Fixup, MAX_FIXUPS, MAX_IMPORTS, MAX_SECTIONS, OFFSET_LIMIT, WORD, fixups_fit,
 };
 pub use instr::{Instr, Repeat};
-pub use laws::{acts_in_turn, plain_programs, spelled_programs};
 pub use program::{Instrs, Program};
 pub use recent::MAX_STEPS;
 pub use relocate::apply;
+pub use theorems::{acts_in_turn, plain_programs, spelled_programs};
 
 #[cfg(test)]
 mod tests;

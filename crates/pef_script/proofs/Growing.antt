@@ -6,13 +6,13 @@ use Rattle.std.proofs.lemmas.Bool.{ltb-false, ltb-true, lt-ltb}
 use Rattle.std.proofs.lemmas.List.{length-map, length-set, get_or_append_left, get_or-map}
 use Rattle.std.proofs.lemmas.List.Sums.{sum_by-append}
 use Rattle.pef_words.specs.Refusals.{first_met}
-use Rattle.pef_words.proofs.RefusalLemmas.{first_unmet}
+use Rattle.pef_words.proofs.Laws.Refusals.{first_unmet}
 use Rattle.pef_reloc.specs.declared.fixup.Base.{Base}
 use Rattle.pef_reloc.specs.declared.fixup.Base.TheVariants as base
 use Rattle.pef_reloc.specs.declared.fixup.Fixup.{Fixup}
 use Rattle.pef_reloc.specs.declared.fixup.TheConstants.{MAX_FIXUPS}
 use Rattle.pef_reloc.specs.Fixups.{base_fits, fixups_end}
-use Rattle.pef_reloc.proofs.FixupLemmas.{fixups_fit-more, fixups_end-append}
+use Rattle.pef_reloc.proofs.Laws.{fixups_fit-more, fixups_end-append}
 use Rattle.pef_script.specs.declared.fault.LineFault.{LineFault}
 use Rattle.pef_script.specs.declared.fault.LineFault.TheVariants.{RepeatedName, OutOfOrder, Overlap, OutsideSection, TooMany}
 use Rattle.pef_script.specs.declared.limits.TheConstants.{MAX_NAME_BYTES, MAX_SECTIONS, LIBRARY_GROUP}
@@ -21,7 +21,8 @@ use Rattle.pef_script.specs.State.{State, has_no_room, is_repeated, no_section, 
 use Rattle.pef_script.specs.Declarations.{entered_import, section_tests}
 use Rattle.pef_script.specs.Contents.{bytes_tests, fixup_of, fixup_tests, with_contents, with_fixups}
 use Rattle.pef_script.specs.WellFormed.{BaseThere, EntryHolds, ExportHolds, ExportsHold, ImportHolds, ImportsHold, PlaceHolds, ScriptHolds, SectionHolds, SectionsHold, SignedPlaceHolds, bytes_of_names, name_bytes, totals_of}
-use Rattle.pef_script.proofs.ListLemmas.{all-append, all-at, all-set, all-weaker, map-set}
+use Rattle.pef_words.proofs.Laws.Lists.{all-append, all-at, all-set, all-weaker}
+use Rattle.pef_script.proofs.ListLemmas.{map-set}
 
 -- what is true while a script is read
 pub record StateHolds (s : State) : Type 0 where

@@ -6,11 +6,11 @@ use Rattle.std.specs.Str.{bytes_eq}
 use Rattle.std.proofs.lemmas.Bool.{ltb-false}
 use Rattle.std.proofs.lemmas.List.{map-append}
 use Rattle.pef_words.specs.Refusals.{first_met}
-use Rattle.pef_words.proofs.RefusalLemmas.{first_unmet}
+use Rattle.pef_words.proofs.Laws.Refusals.{first_unmet}
 use Rattle.pef_reloc.specs.declared.fixup.Base.TheVariants as base
 use Rattle.pef_reloc.specs.declared.fixup.Fixup.{Fixup}
 use Rattle.pef_reloc.specs.Fixups.{fixups_end}
-use Rattle.pef_reloc.proofs.FixupLemmas.{fixups_end-append, no_fixups_fit}
+use Rattle.pef_reloc.proofs.Laws.{fixups_end-append, no_fixups_fit}
 use Rattle.pef_script.specs.declared.fault.LineFault.{LineFault}
 use Rattle.pef_script.specs.declared.fault.LineFault.TheVariants.{BadLine, OutsideSection}
 use Rattle.pef_script.specs.declared.limits.TheConstants.{MAX_ALIGN, MAX_EXPORTS, MAX_IMPORTS, MAX_LIBRARIES, MAX_NUMBER, MAX_TOTAL, VERSIONS_GROUP, LIBRARY_GROUP, SECTION_GROUP, CONTENT_GROUP, EXPORT_GROUP, MAIN_GROUP, INIT_GROUP, TERM_GROUP}
@@ -23,7 +23,8 @@ use Rattle.pef_script.specs.Exports.{entry_in, export_line, export_tests, init_l
 use Rattle.pef_script.specs.Grammar.{Refusal, after_line, is_skipped, line_by_word, line_of, lines_of, no_lines, read_lines, script_of}
 use Rattle.pef_script.specs.WellFormed.{ExportHolds, ImportHolds, LibraryHolds, PlaceHolds, ScriptHolds, SectionHolds, bytes_of_names, totals_of}
 use Rattle.pef_script.proofs.Leads.{Leads, leads_if, leads_then, leads_unless, led}
-use Rattle.pef_script.proofs.ListLemmas.{all-append, all-map, all-weaker, distinct-more, no_names_apart, rises-more}
+use Rattle.pef_words.proofs.Laws.Lists.{all-append, all-map, all-weaker}
+use Rattle.pef_script.proofs.ListLemmas.{distinct-more, no_names_apart, rises-more}
 use Rattle.pef_script.proofs.WordLemmas.{base_named-is, class_of-is, kind_of-is, next_name-is, number_up_to-is, options_of-is, section_named-is, share_of-is}
 use Rattle.pef_script.proofs.Growing.{StateHolds, name_tests-unmet, section_tests-unmet, bytes_tests-unmet, fixup_tests-unmet, entry-more, exports-more, section-more, sections-more, imports-more, entered_import-some, place_at, names-more, changed, at_section, fixup-more}
 

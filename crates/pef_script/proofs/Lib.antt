@@ -1,11 +1,11 @@
-pub mod Cuts
-pub mod Digits
-pub mod Ends
-pub mod Growing
-pub mod Holds
-pub mod Leads
-pub mod LineLemmas
-pub mod ListLemmas
-pub mod PairLemmas
-pub mod TableLemmas
-pub mod WordLemmas
+mod Cuts
+mod Digits
+mod Ends
+mod Growing
+mod Holds
+mod Leads
+mod LineLemmas
+mod ListLemmas
+mod PairLemmas
+mod TableLemmas
+mod WordLemmas

@@ -1,4 +1,4 @@
--- Lists of which each element has a property, lists of names apart, and lists that rise.
+-- Lists of names apart, and lists that rise.
 use Rattle.std.proofs.Common.{◌≡◌, ℕ, zero, suc, ◌+◌, ◌<◌, ◌≤◌, Bool, true, false, cond, List, [], ◌∷◌, ◌++◌, Option, None, Some, length, map, slice_get, refl, sym, ap, subst, ◌∙◌, true≢false, arith}
 use Rattle.std.specs.Prelude.{slice_index_or, slice_set}
 use Rattle.std.specs.List.{AllByRecursion, IsDistinct, position_from}
@@ -6,37 +6,7 @@ use Rattle.std.specs.Str.{bytes_eq}
 use Rattle.std.proofs.lemmas.Slice.Eq.{bytes_eq-Decides}
 use Rattle.pef_script.specs.State.{number_of_name}
 use Rattle.pef_script.specs.WellFormed.{Rises}
-
-pub all-append : {A : Type 0} (P : A → Type 0) (xs ys : List A) → AllByRecursion P xs → AllByRecursion P ys → AllByRecursion P (xs ++ ys)
-all-append P [] ys left right = right
-all-append P (x ∷ xs) ys left right = (left.0, all-append P xs ys left.1 right)
-
-pub all-set : {A : Type 0} (P : A → Type 0) (xs : List A) (k : ℕ) (y : A) → AllByRecursion P xs → P y → AllByRecursion P (slice_set xs k y)
-all-set P [] k y all here = tt
-all-set P (x ∷ xs) zero y all here = (here, all.1)
-all-set P (x ∷ xs) (suc k) y all here = (all.0, all-set P xs k y all.1 here)
-
-pub all-at : {A : Type 0} (P : A → Type 0) (xs : List A) (k : ℕ) (d : A) → AllByRecursion P xs → k < length xs → P (slice_index_or xs k d)
-all-at P [] k d all under = absurd (omega arith)
-all-at P (x ∷ xs) zero d all under = all.0
-all-at P (x ∷ xs) (suc k) d all under = all-at P xs k d all.1 (omega arith)
-
-abbrev some_or : {A : Type 0} → A → Option A → A
-some_or d None = d
-some_or d (Some x) = x
-
-pub all-get : {A : Type 0} (P : A → Type 0) (xs : List A) (k : ℕ) (x : A) → AllByRecursion P xs → slice_get xs k ≡ Some x → P x
-all-get P [] k x all is = absurd (cc)
-all-get P (y ∷ ys) zero x all is = subst P (ap (some_or y) is) all.0
-all-get P (y ∷ ys) (suc k) x all is = all-get P ys k x all.1 is
-
-pub all-weaker : {A : Type 0} (P Q : A → Type 0) (xs : List A) → ((x : A) → P x → Q x) → AllByRecursion P xs → AllByRecursion Q xs
-all-weaker P Q [] gives all = tt
-all-weaker P Q (x ∷ xs) gives all = (gives x all.0, all-weaker P Q xs gives all.1)
-
-pub all-map : {A B : Type 0} (f : A → B) (P : A → Type 0) (Q : B → Type 0) (xs : List A) → ((x : A) → P x → Q (f x)) → AllByRecursion P xs → AllByRecursion Q (map f xs)
-all-map f P Q [] gives all = tt
-all-map f P Q (x ∷ xs) gives all = (gives x all.0, all-map f P Q xs gives all.1)
+use Rattle.pef_words.proofs.Laws.Lists.{all-append}
 
 -- a list that rises, with one more that is at least all of it
 pub rises-more : (xs : List ℕ) (y : ℕ) → Rises xs → AllByRecursion (λ x. x ≤ y) xs → Rises (xs ++ y ∷ [])

@@ -8,7 +8,7 @@ use Rattle.std.proofs.lemmas.Bool.{ltb-false, ltb-true}
 use Rattle.std.proofs.lemmas.List.{length-map}
 use Rattle.pef_reloc.specs.declared.fixup.Base.{Base}
 use Rattle.pef_reloc.specs.declared.fixup.Base.TheVariants as base
-use Rattle.pef_reloc.proofs.FixupLemmas.{met_both}
+use Rattle.pef_words.proofs.Laws.Tests.{met_both}
 use Rattle.pef_script.specs.declared.fault.LineFault.{LineFault}
 use Rattle.pef_script.specs.declared.fault.LineFault.TheVariants.{BadLine, BadNumber, UnknownName, BadKind}
 use Rattle.pef_script.specs.Words.{below, cut_at, is_word, is_printing, named, next_name, next_word, number_in, number_up_to, word_before}

@@ -12,7 +12,8 @@ use Rattle.pef_reloc.specs.declared.fixup.Fixup.{Fixup}
 use Rattle.pef_reloc.specs.Fixups.{fixup_fits, fixups_end, fixups_from}
 use Rattle.pef_reloc.specs.Steps.{add}
 use Rattle.pef_reloc.specs.Applied.{Addresses, act_fault, address_of, added_at, applied}
-use Rattle.pef_reloc.proofs.FixupLemmas.{fixups_fit-parts, met_both}
+use Rattle.pef_words.proofs.Laws.Tests.{met_both}
+use Rattle.pef_reloc.proofs.Laws.{fixups_fit-parts}
 use Rattle.pef_script.specs.Script.{DescribedSection}
 use Rattle.pef_script.specs.WellFormed.{BaseThere, SectionHolds}
 use Rattle.pef_tool.specs.Described.{with_bases}

@@ -15,9 +15,9 @@ use Rattle.pef_write.specs.Containers.{laid_out, written_sections}
 use Rattle.pef_write.specs.Linked.{AreProgramsFor, IsLinked, LinkedContainer, linked_container, linked_loader, linked_parts, linked_tables, part_of, programs_from, script_tables}
 use Rattle.pef_write.specs.Loaders.{ProgramEntry}
 use Rattle.pef_write.specs.Reading.{loaded_tables, program_read}
-use Rattle.pef_write.proofs.LinkedLaws.{are_sound, read_back, section_is}
-use Rattle.pef_write.proofs.Reading.{tables_loaded}
-use Rattle.pef_write.proofs.ReadingEach.{init_back, main_back, relocs_back, term_back}
+use Rattle.pef_write.proofs.Laws.{are_sound, read_back, section_is}
+use Rattle.pef_write.proofs.Laws.{tables_loaded}
+use Rattle.pef_write.proofs.Laws.{init_back, main_back, relocs_back, term_back}
 use Rattle.pef_tool.specs.Prepared.{HasImage, HasImageAt}
 use Rattle.pef_tool.proofs.ProgramLemmas.{AreHeaders}
 use Rattle.pef_tool.proofs.ShowingLemmas.{IsContainerOf}

@@ -4,7 +4,7 @@ use Rattle.std.proofs.Math.Nat.{div-add-mod, le-max_left, max-le, mod-lt, mul-mo
 use Rattle.std.proofs.lemmas.List.{length-replicate}
 use Rattle.cfm_memory.specs.Instances.{Instance, Layout, with_instance}
 use Rattle.cfm_memory.specs.Placement.{IsFree, IsRoom, end_of, step_of, taken, with_new}
-use Rattle.cfm_memory.proofs.Placing.{taken_most}
+use Rattle.cfm_memory.proofs.Laws.{taken_most}
 use Rattle.pef_tool.specs.Placing.{Extent, LackRoom}
 
 -- all instances end before an address

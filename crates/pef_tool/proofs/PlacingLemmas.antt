@@ -6,7 +6,7 @@ use Rattle.cfm_memory.specs.declared.place.MemoryFault.{MemoryFault}
 use Rattle.cfm_memory.specs.declared.place.MemoryFault.TheVariants.{NoRoom, OutOfMemory}
 use Rattle.cfm_memory.specs.declared.place.Place.{Place}
 use Rattle.cfm_memory.proofs.Laws.{nothing_at_free, placed_here, placed_other}
-use Rattle.cfm_memory.proofs.Placing.{some_taken, within_taken}
+use Rattle.cfm_memory.proofs.Laws.{some_taken, within_taken}
 use Rattle.std.proofs.lemmas.Bool.{cases_lt}
 use Rattle.pef_tool.specs.Placing.{Extent, IsPlaceFor, ArePlaced, HasNoRoomFor, LackRoom, LacksRoom}
 use Rattle.pef_tool.specs.Prepared.{AreApart, Stand, place_at, zeros_at}

@@ -6,11 +6,11 @@ use Rattle.std.proofs.lemmas.Bool.Decides.{eqb_tells}
 use Rattle.std.proofs.lemmas.List.{drop-replicate, get_or_default, length-replicate}
 use Rattle.cfm_memory.specs.Instances.{Instance, Layout, bytes_at, has_length, with_bytes}
 use Rattle.cfm_memory.specs.declared.place.Place.{Place}
-use Rattle.cfm_memory.proofs.Changes.{length-fitted}
+use Rattle.cfm_memory.proofs.Laws.{length-fitted}
 use Rattle.pef_loader.specs.Loader.{Loaded, reloc_of}
 use Rattle.pef_reloc.specs.Applied.{Addresses, Done}
 use Rattle.pef_views.specs.Container.{Contained, IsContainer, Section, section_of}
-use Rattle.pef_views.proofs.Containers.{section_there}
+use Rattle.pef_views.proofs.Laws.{section_there}
 use Rattle.pef_tool.specs.Described.{filled}
 use Rattle.pef_tool.specs.Placing.{ArePlaced, Extent}
 use Rattle.pef_tool.specs.Prepared.{Stand, done_at, filled_at, place_at, section_done, zeros_at}

@@ -8,7 +8,7 @@ use Rattle.pef_reloc.specs.Applied.{Addresses, Done, address_of, applied, unless
 use Rattle.pef_reloc.specs.Instrs.{spelled}
 use Rattle.pef_reloc.specs.Steps.{add, start}
 use Rattle.pef_reloc.specs.Unrolled.{step_limit}
-use Rattle.pef_reloc.proofs.FlatLaws.{applied-trace, program_fault-spelled, relocated-spelled}
+use Rattle.pef_reloc.proofs.Laws.{applied-trace, program_fault-spelled, relocated-spelled}
 use Rattle.pef_script.specs.Script.{DescribedSection}
 use Rattle.pef_write.specs.Loaders.{ProgramEntry}
 use Rattle.pef_tool.specs.Described.{with_bases}

@@ -7,7 +7,7 @@ use Rattle.cfm_memory.specs.declared.place.Place.{Place}
 use Rattle.pef_reloc.specs.Applied.{Addresses, Done, unless_refused}
 use Rattle.pef_reloc.specs.declared.fault.RelocFault.{RelocFault}
 use Rattle.pef_words.specs.Refusals.{first_among}
-use Rattle.pef_words.proofs.RefusalLemmas.{first_among-here, first_among-next, none_among}
+use Rattle.pef_words.proofs.Laws.Refusals.{first_among-here, first_among-next, none_among}
 use Rattle.pef_tool.proofs.PlacingLemmas.{apart_both}
 use Rattle.pef_tool.specs.Prepared.{AreApart, Stand, place_at}
 use Rattle.pef_tool.specs.Relocating.{done_then, first_refusal, header_done, program_done, refusal_at, relocated_by, untouched}

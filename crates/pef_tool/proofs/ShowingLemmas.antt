@@ -12,10 +12,10 @@ use Rattle.pef_reloc.specs.declared.fixup.Fixup.{Fixup}
 use Rattle.pef_reloc.specs.declared.instr.Instr.{Instr}
 use Rattle.pef_reloc.specs.Applied.{Addresses, Done, address_of}
 use Rattle.pef_reloc.specs.Instrs.{program_length, spelled}
-use Rattle.pef_reloc.proofs.CodeLemmas.{some_length}
-use Rattle.pef_reloc.proofs.FixupLemmas.{fixups_fit-parts}
+use Rattle.pef_reloc.proofs.Laws.{some_length}
+use Rattle.pef_reloc.proofs.Laws.{fixups_fit-parts}
 use Rattle.pef_script.specs.Script.{DescribedScript, DescribedSection}
-use Rattle.pef_script.proofs.ListLemmas.{all-get}
+use Rattle.pef_words.proofs.Laws.Lists.{all-get}
 use Rattle.pef_script.specs.WellFormed.{SectionHolds}
 use Rattle.pef_views.specs.Container.{Contained}
 use Rattle.pef_words.specs.Refusals.{first_among}

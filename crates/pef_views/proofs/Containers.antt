@@ -11,7 +11,7 @@ use Rattle.pef_views.specs.Header.{header_of, header_tests}
 use Rattle.pef_views.specs.Section.{section_at, section_tests, is_inside, raw_of}
 use Rattle.pef_views.specs.Container.{Contained, IsAccepted, IsContainer, IsInstantiable, Section, is_instantiated, section_in, section_of, container_of, judged, loader_of, section_refusal, with_loader}
 use Rattle.pef_views.proofs.Sections.{length-raw_of, section_unmet, unmet_inside, unmet_instantiable, unrefused}
-use Rattle.pef_words.proofs.RefusalLemmas.{first_unmet}
+use Rattle.pef_words.proofs.Laws.Refusals.{first_unmet}
 
 unless_ok : {A F : Type 0} (fault : Option F) (r : Result A F) (x : A) → unless fault r ≡ Ok x → (fault ≡ None) × (r ≡ Ok x)
 unless_ok None r x ok = (refl, ok)

@@ -1,3 +1,4 @@
-pub mod Containers
-pub mod Sections
-pub mod Written
+mod Containers
+mod Sections
+mod Written
+pub mod Laws

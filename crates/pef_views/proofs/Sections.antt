@@ -4,7 +4,7 @@ use Rattle.std.specs.Prelude.{◌==◌, ◌&&◌, ◌||◌, IsTrue, nat_le, nat_
 use Rattle.std.proofs.lemmas.Bool.{and_parts, eqb-true, leb-true, ltb-false, or_cases}
 use Rattle.std.specs.Option.{option_map_or}
 use Rattle.pef_words.specs.Refusals.{first_met, first_among}
-use Rattle.pef_words.proofs.RefusalLemmas.{first_unmet, none_among}
+use Rattle.pef_words.proofs.Laws.Refusals.{first_unmet, none_among}
 use Rattle.pef_views.specs.declared.header.Header.{Header}
 use Rattle.pef_views.specs.declared.section.SectionHeader.{SectionHeader}
 use Rattle.pef_views.specs.declared.fault.ViewFault.TheVariants.{TooShort}

@@ -1,3 +1,2 @@
-pub mod Names
-pub mod Numbers
-pub mod RefusalLemmas
+pub mod Laws
+mod Numbers

@@ -6,10 +6,10 @@ use Rattle.std.proofs.lemmas.List.Elements.{All-map}
 use Rattle.std.proofs.lemmas.List.Sums.{sum_by-cons}
 use Rattle.pef_hash.specs.Build.{built, keys_at, names_in, slot_words}
 use Rattle.pef_hash.specs.Word.{hash_word, least_power}
-use Rattle.pef_hash.proofs.Places.{count_before, count_in, count_before-past, slot_words-at}
-use Rattle.pef_hash.proofs.RegularLemmas.{ordered_name}
-use Rattle.pef_hash.proofs.Slots.{least_power-most}
-use Rattle.pef_hash.proofs.SlotLists.{length-in_slots}
+use Rattle.pef_hash.proofs.Laws.{count_before, count_in, count_before-past, slot_words-at}
+use Rattle.pef_hash.proofs.Laws.{ordered_name}
+use Rattle.pef_hash.proofs.Laws.{least_power-most}
+use Rattle.pef_hash.proofs.Laws.{length-in_slots}
 use Rattle.pef_script.specs.Script.{DescribedExport, DescribedScript}
 use Rattle.pef_script.specs.State.{export_names}
 use Rattle.pef_write.proofs.Listing.{finished, mapped-all, none_past}

@@ -18,7 +18,7 @@ use Rattle.pef_reloc.specs.Instrs.{spelled}
 use Rattle.pef_script.specs.Script.{DescribedExport, DescribedImport, DescribedLibrary, DescribedScript, DescribedSection}
 use Rattle.pef_script.specs.State.{export_names}
 use Rattle.pef_script.specs.WellFormed.{EntryHolds, ExportHolds, ImportHolds, LibraryHolds, ScriptHolds, SectionHolds, SignedPlaceHolds, bytes_of_names, is_kind, is_options, is_share, totals_of}
-use Rattle.pef_script.proofs.ListLemmas.{all-at}
+use Rattle.pef_words.proofs.Laws.Lists.{all-at}
 use Rattle.pef_views.specs.Section.{is_instantiable}
 use Rattle.pef_write.specs.Containers.{AreWritable, DescribedPart, IsWritable}
 use Rattle.pef_write.specs.Linked.{AreProgramsFor, IsProgramFor, class_byte, export_of, exports_at, import_of, libraries_from, library_of, linked_loader, linked_parts, linked_tables, no_export, part_of, program_of, programs_from, script_tables, versions_of}

@@ -1,24 +1,25 @@
-pub mod Fields
-pub mod Containers
-pub mod Written
-pub mod Loaders
-pub mod LoaderLaws
-pub mod Entries
-pub mod ReadingParts
-pub mod ReadingEntries
-pub mod ReadingOwners
-pub mod ReadingExports
-pub mod ReadingPlaces
-pub mod ReadingRefusals
-pub mod Reading
-pub mod ReadingEach
-pub mod ReadingTurns
-pub mod Listing
-pub mod Counts
-pub mod Programs
-pub mod ExportNames
-pub mod Fitting
-pub mod LinkedTables
-pub mod LinkedLaws
-pub mod LinkLemmas
-pub mod LinkedImports
+pub mod Laws
+mod Fields
+mod Containers
+mod Written
+mod Loaders
+mod LoaderLaws
+mod Entries
+mod ReadingParts
+mod ReadingEntries
+mod ReadingOwners
+mod ReadingExports
+mod ReadingPlaces
+mod ReadingRefusals
+mod Reading
+mod ReadingEach
+mod ReadingTurns
+mod Listing
+mod Counts
+mod Programs
+mod ExportNames
+mod Fitting
+mod LinkedTables
+mod LinkedLaws
+mod LinkLemmas
+mod LinkedImports

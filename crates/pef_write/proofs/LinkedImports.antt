@@ -8,7 +8,7 @@ use Rattle.pef_loader.specs.Import.{Import}
 use Rattle.pef_loader.specs.Loader as loader
 use Rattle.pef_reloc.specs.declared.instr.Instr.{Instr}
 use Rattle.pef_script.specs.Script.{DescribedImport, DescribedLibrary, DescribedScript}
-use Rattle.pef_script.proofs.ListLemmas.{all-get}
+use Rattle.pef_words.proofs.Laws.Lists.{all-get}
 use Rattle.pef_script.specs.WellFormed.{ImportHolds, ScriptHolds}
 use Rattle.pef_write.specs.Linked.{AreProgramsFor, class_byte, import_of, libraries_from, linked_tables, script_tables}
 use Rattle.pef_write.specs.Reading.{AreInTurn, first_owner, import_read, loaded_tables}

@@ -12,12 +12,12 @@ use Rattle.pef_hash.specs.Word.{hash_word}
 use Rattle.pef_reloc.specs.declared.fixup.Fixup.{Fixup}
 use Rattle.pef_reloc.specs.declared.instr.Instr.{Instr}
 use Rattle.pef_reloc.specs.Instrs.{spelled}
-use Rattle.pef_reloc.proofs.FixupLemmas.{met_both}
+use Rattle.pef_words.proofs.Laws.Tests.{met_both}
 use Rattle.pef_script.specs.Script.{DescribedExport, DescribedImport, DescribedLibrary, DescribedScript, DescribedSection}
 use Rattle.pef_script.specs.State.{export_names}
 use Rattle.pef_script.specs.Words.{is_printing}
 use Rattle.pef_script.specs.WellFormed.{EntryHolds, ExportHolds, ImportHolds, LibraryHolds, Rises, SignedPlaceHolds, totals_of}
-use Rattle.pef_script.proofs.ListLemmas.{all-at}
+use Rattle.pef_words.proofs.Laws.Lists.{all-at}
 use Rattle.pef_write.specs.Reading.{IsOwned}
 use Rattle.pef_write.specs.Linked.{AreProgramsFor, export_of, exports_at, import_of, libraries_from, library_of, no_export, program_of, programs_from}
 use Rattle.pef_write.specs.Loaders.{ExportEntry, ImportEntry, LibraryEntry, ProgramEntry}

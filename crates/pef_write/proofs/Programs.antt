@@ -12,10 +12,11 @@ use Rattle.pef_reloc.specs.Instrs.{halfword_bytes, halfwords_of, instrs_fit, pro
 use Rattle.pef_reloc.specs.Plain.{plain_program}
 use Rattle.pef_reloc.specs.Steps.{Makes}
 use Rattle.pef_reloc.specs.Unrolled.{instrs_of}
-use Rattle.pef_reloc.proofs.FixupLemmas.{both_met, fixups_fit-parts, met_both}
-use Rattle.pef_reloc.proofs.FlatLaws.{instrs_of-spelled, length_spelling}
-use Rattle.pef_reloc.proofs.PlainLaws.{plain-flat, plain-makes, plain-names, plain-short}
-use Rattle.pef_reloc.proofs.Spellings.{spelled-nothing, spelled-one}
+use Rattle.pef_words.proofs.Laws.Tests.{both_met, met_both}
+use Rattle.pef_reloc.proofs.Laws.{fixups_fit-parts}
+use Rattle.pef_reloc.proofs.Laws.{instrs_of-spelled, length_spelling}
+use Rattle.pef_reloc.proofs.Laws.{plain-flat, plain-makes, plain-names, plain-short}
+use Rattle.pef_reloc.proofs.Laws.{spelled-nothing, spelled-one}
 use Rattle.pef_script.specs.Script.{DescribedSection}
 use Rattle.pef_script.specs.WellFormed.{BaseThere, SectionHolds}
 use Rattle.pef_write.specs.Encoded.{filled, filled_from}

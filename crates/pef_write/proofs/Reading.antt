@@ -11,7 +11,7 @@ use Rattle.pef_loader.specs.Import.{import_refusal}
 use Rattle.pef_loader.specs.Export.{export_refusal}
 use Rattle.pef_loader.specs.Reloc.{reloc_refusal}
 use Rattle.pef_loader.specs.Loader.{loaded_of}
-use Rattle.pef_loader.proofs.Loaders.{accepts}
+use Rattle.pef_loader.proofs.Laws.{accepts}
 use Rattle.pef_write.specs.Fields.{Reads}
 use Rattle.pef_write.specs.Loaders.{LoaderTables, entry_section, header_fields, written_loader}
 use Rattle.pef_write.specs.Reading.{AreTables, header_read, loaded_tables, section_read}

@@ -15,7 +15,7 @@ use Rattle.pef_views.specs.declared.section.SectionHeader.{SectionHeader}
 use Rattle.pef_views.specs.Header.{header_of}
 use Rattle.pef_views.specs.Section.{section_at, section_tests, is_inside, is_instantiable, raw_of, sizes_fit}
 use Rattle.pef_views.specs.Container.{Section, container_of, section_of}
-use Rattle.pef_views.proofs.Written.{IsWritten, container_of-written, header_tests-unmet, section_tests-unmet}
+use Rattle.pef_views.proofs.Laws.{IsWritten, container_of-written, header_tests-unmet, section_tests-unmet}
 use Rattle.pef_write.specs.declared.container.Versions.{Versions}
 use Rattle.pef_write.specs.Fields.{AllFit, Reads, padded, spelled}
 use Rattle.pef_write.specs.Containers.{AreWritable, DescribedPart, IsWritable, ReadsBack, contained_in, data_from, header_fields, laid_out, loader_header, part_header, raw_data, section_fields, spelled_headers, written_container, written_header, written_sections}

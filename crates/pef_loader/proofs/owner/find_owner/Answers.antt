@@ -1,6 +1,6 @@
 -- A library without the import is passed over.
 use Rattle.std.proofs.Common.{◌≡◌, ◌<◌, None, refl, sym, ◌∙◌, arith}
-use Rattle.pef_words.proofs.RefusalLemmas.{first_among-next}
+use Rattle.pef_words.proofs.Laws.Refusals.{first_among-next}
 use Rattle.pef_loader.specs.Import.{owner_at}
 use Rattle.pef_loader.proofs.owner.find_owner.Goals as goal
 

@@ -1,7 +1,7 @@
 -- A place without a refusal is passed over, and the first one with a refusal ends the search.
 use Rattle.std.proofs.Common.{◌∙◌, ◌<◌, sym, arith}
 use Rattle.std.proofs.lemmas.Result.{err_from_is_err_and}
-use Rattle.pef_words.proofs.RefusalLemmas.{first_among-here, first_among-next}
+use Rattle.pef_words.proofs.Laws.Refusals.{first_among-here, first_among-next}
 use Rattle.pef_loader.specs.Reloc.{reloc_refusal}
 use Rattle.pef_loader.proofs.tables.test_relocs.Goals as goal
 

@@ -6,7 +6,7 @@ use Rattle.pef_loader.specs.Loader.{init_of, main_of, reloc_of, term_of}
 use Rattle.pef_loader.specs.Views.{loaded}
 use Rattle.pef_reloc.specs.Applied.{Addresses}
 use Rattle.pef_views.specs.Views.{contained}
-use Rattle.pef_views.proofs.Containers.{counts}
+use Rattle.pef_views.proofs.Laws.{counts}
 use Rattle.pef_tool.specs.Placing.{ArePlaced, extent_of}
 use Rattle.pef_tool.specs.Prepared.{Stand, addresses_of, done_at, entry_address, filled_at}
 use Rattle.pef_tool.specs.Relocating.{first_refusal, relocated_by}

@@ -1,6 +1,6 @@
 -- A place without a loader section is passed over.
 use Rattle.std.proofs.Common.{◌∙◌, ◌<◌, sym, arith}
-use Rattle.pef_words.proofs.RefusalLemmas.{first_among-next}
+use Rattle.pef_words.proofs.Laws.Refusals.{first_among-next}
 use Rattle.pef_views.specs.Container.{loader_here}
 use Rattle.pef_views.proofs.container.find_loader.Goals as goal
 

@@ -1,7 +1,7 @@
 -- A section that isn't refused is passed over, and the first one that is ends the tests.
 use Rattle.std.proofs.Common.{◌∙◌, ◌<◌, sym, arith}
 use Rattle.std.proofs.lemmas.Result.{err_from_is_err_and}
-use Rattle.pef_words.proofs.RefusalLemmas.{first_among-here, first_among-next}
+use Rattle.pef_words.proofs.Laws.Refusals.{first_among-here, first_among-next}
 use Rattle.pef_views.specs.Container.{section_refusal}
 use Rattle.pef_views.proofs.container.test_sections.Goals as goal
 

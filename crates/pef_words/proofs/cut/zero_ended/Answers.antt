@@ -1,7 +1,7 @@
 -- Where the search finds no zero byte there is no name, and else the name ends where it finds the first.
 use Rattle.std.proofs.Common.{sym, eq-eqb, arith}
 use Rattle.std.proofs.lemmas.Bool.{eqb-true}
-use Rattle.pef_words.proofs.Names.{before_zero-none, before_zero-some}
+use Rattle.pef_words.proofs.Laws.Names.{before_zero-none, before_zero-some}
 use Rattle.pef_words.proofs.cut.zero_ended.Goals as goal
 
 pub returns-in_err-end : goal.returns-in_err-end

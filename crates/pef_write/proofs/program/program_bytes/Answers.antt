@@ -2,8 +2,8 @@
 use Rattle.std.proofs.Common.{ap, ◌∙◌}
 use Rattle.pef_reloc.specs.Instrs.{instrs_fit, repeat_free}
 use Rattle.pef_reloc.specs.Plain.{plain_program}
-use Rattle.pef_reloc.proofs.FixupLemmas.{met_both}
-use Rattle.pef_reloc.proofs.PlainLaws.{plain-flat}
+use Rattle.pef_words.proofs.Laws.Tests.{met_both}
+use Rattle.pef_reloc.proofs.Laws.{plain-flat}
 use Rattle.pef_write.proofs.program.program_bytes.Goals as goal
 
 pub encode-requires : goal.encode-requires

@@ -5,7 +5,7 @@ use Rattle.std.proofs.lemmas.List.{length-map, map-append}
 use Rattle.std.proofs.lemmas.Option.{get_or_from_slice_get}
 use Rattle.pef_script.specs.Script.{DescribedSection}
 use Rattle.pef_script.specs.WellFormed.{ExportHolds, totals_of}
-use Rattle.pef_script.proofs.ListLemmas.{all-get}
+use Rattle.pef_words.proofs.Laws.Lists.{all-get}
 use Rattle.pef_write.specs.Described.{export_entry}
 use Rattle.pef_write.specs.Linked.{export_of, no_export}
 use Rattle.pef_write.specs.Loaders.{ExportEntry}

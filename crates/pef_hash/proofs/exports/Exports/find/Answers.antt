@@ -1,6 +1,6 @@
 -- An export of another name is passed over.
 use Rattle.std.proofs.Common.{◌≡◌, ◌<◌, None, refl, sym, ◌∙◌, arith}
-use Rattle.pef_words.proofs.RefusalLemmas.{first_among-next}
+use Rattle.pef_words.proofs.Laws.Refusals.{first_among-next}
 use Rattle.pef_hash.specs.Exports.{named_at}
 use Rattle.pef_hash.specs.Views.{table_of}
 use Rattle.pef_hash.proofs.exports.Exports.find.Goals as goal

@@ -1,6 +1,6 @@
 -- What is linked is read back.
 use Rattle.pef_write.proofs.LinkedLaws.{read_back, section_is}
-use Rattle.pef_write.proofs.laws.linked_containers.Goals as goal
+use Rattle.pef_write.proofs.theorems.linked_containers.Goals as goal
 
 pub returns-clause-container : goal.returns-clause-container
 returns-clause-container c = read_back
