@@ -1,8 +1,13 @@
 -- The number of each refusal.
-use Rattle.std.specs.Prelude.{ℕ}
+use Rattle.std.specs.Prelude.{ℕ, List, codes}
 use Rattle.cfm_memory.specs.declared.place.MemoryFault.{MemoryFault}
 use Rattle.cfm_memory.specs.declared.place.MemoryFault.TheVariants.{NoRoom, OutOfMemory}
 
-abbrev pub number_of : MemoryFault → ℕ
-number_of NoRoom = 67
-number_of OutOfMemory = 99
+abbrev pub fault_number : MemoryFault → ℕ
+fault_number NoRoom = 67
+fault_number OutOfMemory = 99
+
+-- the names of the refusals, which are their texts
+abbrev pub fault_name : MemoryFault → List ℕ
+fault_name NoRoom = codes "NoRoom"
+fault_name OutOfMemory = codes "OutOfMemory"

@@ -1,7 +1,8 @@
 ghost use Rattle.std.specs.Prelude.{◌≡◌};
-ghost use Rattle.cfm_memory.specs.Faults.{number_of};
+ghost use Rattle.cfm_memory.specs.Faults.{fault_name, fault_number};
 
 use std::alloc::{AllocError, AllocFailed};
+use std::fmt;
 use thiserror::Error;
 
 /// Where an instance lies: its address, and how many bytes it has.
@@ -15,22 +16,36 @@ pub struct Place {
 #[derive(Clone, Copy, Debug, PartialEq, Eq, Error)]
 pub enum MemoryFault {
     /// No address below the limit has room for the instance.
-    #[error("NoRoom")]
     NoRoom,
     /// The machine refused memory for the instance's bytes.
-    #[error("OutOfMemory")]
     OutOfMemory,
 }
 
 impl MemoryFault {
     /// The number of the refusal.
     pub fn number(&self) -> u32
-        ensures { result ≡ number_of self.now }
+        ensures { result ≡ fault_number self.now }
     {
         match self {
             MemoryFault::NoRoom => 67,
             MemoryFault::OutOfMemory => 99,
         }
+    }
+
+    /// The refusal's name, which is its text.
+    pub fn name(&self) -> &'static str
+        ensures { result.now ≡ fault_name self.now }
+    {
+        match self {
+            MemoryFault::NoRoom => "NoRoom",
+            MemoryFault::OutOfMemory => "OutOfMemory",
+        }
+    }
+}
+
+impl fmt::Display for MemoryFault {
+    fn fmt<W: fmt::Write>(&self, f: &mut fmt::Formatter<W>) -> fmt::Result {
+        f.write_str(self.name())
     }
 }
 

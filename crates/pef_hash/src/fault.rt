@@ -1,12 +1,12 @@
-ghost use Rattle.std.specs.Prelude.{◌≡◌};
+ghost use Rattle.std.specs.Prelude.{◌≡◌, codes};
 
 use std::alloc::{AllocError, AllocFailed};
+use std::fmt;
 use thiserror::Error;
 
 /// Why no table was built.
 #[derive(Clone, Copy, Debug, PartialEq, Eq, Error)]
 pub enum HashFault {
-    #[error("OutOfMemory")]
     OutOfMemory,
 }
 
@@ -18,6 +18,21 @@ impl HashFault {
         match self {
             HashFault::OutOfMemory => 99,
         }
+    }
+
+    /// The refusal's name, which is its text.
+    pub fn name(&self) -> &'static str
+        ensures { result.now ≡ codes "OutOfMemory" }
+    {
+        match self {
+            HashFault::OutOfMemory => "OutOfMemory",
+        }
+    }
+}
+
+impl fmt::Display for HashFault {
+    fn fmt<W: fmt::Write>(&self, f: &mut fmt::Formatter<W>) -> fmt::Result {
+        f.write_str(self.name())
     }
 }
 

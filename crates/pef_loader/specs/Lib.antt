@@ -1,5 +1,5 @@
 pub mod Export
-pub mod Fault
+pub mod Faults
 pub mod Header
 pub mod Import
 pub mod Library

@@ -7,21 +7,12 @@ ghost use Rattle.pef_loader.specs.Export.{export_refusal, export_table, export_t
 
 use crate::fault::LoaderFault;
 use crate::header::LoaderHeader;
+use crate::layout::{ABSOLUTE_EXPORT, EXPORT_SIZE, KEY_SIZE, REEXPORTED_IMPORT, SLOT_SIZE};
 use pef_hash::Exports;
 use pef_words::Cut;
 
-/// The sections of an absolute export and of one that is an import.
-const ABSOLUTE: i32 = -2;
-
-const REEXPORTED: i32 = -3;
-
 /// The export table has at most two to this power of slots.
 const GREATEST_POWER: u32 = 30;
-
-/// The sizes of a slot, and of an export with its key.
-const SLOT_SIZE: usize = 4;
-
-const EXPORT_AND_KEY_SIZE: usize = 14;
 
 /// An exported symbol with its name.
 #[derive(Clone, Copy, Debug)]
@@ -55,7 +46,7 @@ pub(crate) fn has_exports(cut: Cut<'_>, header: LoaderHeader) -> bool
         return false;
     }
     let size = (SLOT_SIZE << header.export_power)
-        + EXPORT_AND_KEY_SIZE * header.export_count as usize;
+        + (KEY_SIZE + EXPORT_SIZE) * header.export_count as usize;
     size <= bytes_from(cut, header.export_hash_offset).len()
 }
 
@@ -96,8 +87,8 @@ fn has_section(section: i32, value: u32, header: LoaderHeader, sections: u16) ->
     ensures { result ≡ has_section header sections value section }
 {
     match section {
-        ABSOLUTE => true,
-        REEXPORTED => value < header.import_count,
+        ABSOLUTE_EXPORT => true,
+        REEXPORTED_IMPORT => value < header.import_count,
         _ => section >= 0 && section < i32::from(sections),
     }
 }

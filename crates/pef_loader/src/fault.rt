@@ -1,56 +1,47 @@
 ghost use Rattle.std.specs.Prelude.{◌≡◌};
-ghost use Rattle.pef_loader.specs.Fault.{number_of};
+ghost use Rattle.pef_loader.specs.Faults.{fault_name, fault_number};
 
+use std::fmt;
 use thiserror::Error;
 
 /// The first rule of the format that a loader section breaks. Its text is its name.
 #[derive(Clone, Copy, Debug, PartialEq, Eq, Error)]
 pub enum LoaderFault {
     /// The header passes the end.
-    #[error("LoaderShort")]
     LoaderShort,
 
     /// The libraries, imports and relocation headers pass the end.
-    #[error("BadTableOffset")]
     BadTableOffset,
 
     /// A library or an import has no zero-ended name, or the name of an export passes the end.
-    #[error("BadName")]
     BadName,
 
     /// A library's imports pass the total of imports.
-    #[error("BadLibraryRange")]
     BadLibraryRange,
 
     /// An import belongs to no library.
-    #[error("OrphanImport")]
     OrphanImport,
 
     /// The main, initialization or termination entry is in no instantiated section.
-    #[error("BadEntry")]
     BadEntry,
 
     /// A relocation header names no instantiated section.
-    #[error("BadRelocSection")]
     BadRelocSection,
 
     /// Relocation instructions pass the end.
-    #[error("RelocOutside")]
     RelocOutside,
 
     /// There are exports, and their table passes the end or has more than 2^30 slots.
-    #[error("BadExportTable")]
     BadExportTable,
 
     /// An export is in no instantiated section, isn't absolute, and isn't one of the imports.
-    #[error("BadExportSection")]
     BadExportSection,
 }
 
 impl LoaderFault {
     /// The refusal's number, from 11 to 20, which no refusal of another crate has.
     pub fn number(&self) -> u32
-        ensures { result ≡ number_of self.now }
+        ensures { result ≡ fault_number self.now }
     {
         match self {
             LoaderFault::LoaderShort => 11,
@@ -64,5 +55,29 @@ impl LoaderFault {
             LoaderFault::BadExportTable => 19,
             LoaderFault::BadExportSection => 20,
         }
+    }
+
+    /// The refusal's name, which is its text.
+    pub fn name(&self) -> &'static str
+        ensures { result.now ≡ fault_name self.now }
+    {
+        match self {
+            LoaderFault::LoaderShort => "LoaderShort",
+            LoaderFault::BadTableOffset => "BadTableOffset",
+            LoaderFault::BadName => "BadName",
+            LoaderFault::BadLibraryRange => "BadLibraryRange",
+            LoaderFault::OrphanImport => "OrphanImport",
+            LoaderFault::BadEntry => "BadEntry",
+            LoaderFault::BadRelocSection => "BadRelocSection",
+            LoaderFault::RelocOutside => "RelocOutside",
+            LoaderFault::BadExportTable => "BadExportTable",
+            LoaderFault::BadExportSection => "BadExportSection",
+        }
+    }
+}
+
+impl fmt::Display for LoaderFault {
+    fn fmt<W: fmt::Write>(&self, f: &mut fmt::Formatter<W>) -> fmt::Result {
+        f.write_str(self.name())
     }
 }

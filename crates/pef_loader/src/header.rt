@@ -1,10 +1,10 @@
 ghost use Rattle.std.specs.Prelude.{◌≡◌, ◌<◌, ◌^◌};
 ghost use Rattle.pef_loader.specs.Header.{entry_of, header_of, imports_from, is_entry, relocs_from, tables_end};
 
+use crate::layout::{
+    IMPORT_SIZE, LIBRARY_SIZE, LOADER_HEADER_SIZE, NO_SECTION, RELOCATION_HEADER_SIZE,
+};
 use pef_words::Cut;
-
-/// The size of the loader header.
-pub(crate) const HEADER_SIZE: usize = 56;
 
 /// The offsets of its fields.
 const MAIN_SECTION: usize = 0;
@@ -34,16 +34,6 @@ const EXPORT_HASH_OFFSET: usize = 44;
 const EXPORT_POWER: usize = 48;
 
 const EXPORT_COUNT: usize = 52;
-
-/// The sizes of an imported library, an imported symbol and a relocation header.
-pub(crate) const LIBRARY_SIZE: usize = 24;
-
-pub(crate) const IMPORT_SIZE: usize = 4;
-
-pub(crate) const RELOC_SIZE: usize = 12;
-
-/// The section of an entry that isn't there.
-const NO_SECTION: i32 = -1;
 
 /// The loader header, field by field (PEFLoaderInfoHeader). Offsets count from the first byte of the
 /// loader section.
@@ -78,7 +68,7 @@ impl LoaderHeader {
         ensures value { result ≡ imports_from self.now }
         ensures small { result < 2 ^ 37 }
     {
-        HEADER_SIZE + LIBRARY_SIZE * self.library_count as usize
+        LOADER_HEADER_SIZE + LIBRARY_SIZE * self.library_count as usize
     }
 
     /// Where the relocation headers begin: behind the imported symbols.
@@ -93,7 +83,7 @@ impl LoaderHeader {
     pub(crate) fn end(&self) -> usize
         ensures { result ≡ tables_end self.now }
     {
-        self.relocs() + RELOC_SIZE * self.reloc_count as usize
+        self.relocs() + RELOCATION_HEADER_SIZE * self.reloc_count as usize
     }
 }
 

@@ -5,7 +5,8 @@ ghost use Rattle.pef_loader.specs.Names.{NamesEndAt};
 ghost use Rattle.pef_loader.specs.Import.{import_at, import_refusal, import_tests, owner_of};
 
 use crate::fault::LoaderFault;
-use crate::header::{IMPORT_SIZE, LoaderHeader};
+use crate::header::LoaderHeader;
+use crate::layout::IMPORT_SIZE;
 use pef_words::Cut;
 
 /// Where the class byte stands above the name offset, and its bit of a weak import.

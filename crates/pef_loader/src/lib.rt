@@ -9,6 +9,7 @@ mod export;
 mod fault;
 mod header;
 mod import;
+pub mod layout;
 mod library;
 mod names;
 mod owner;

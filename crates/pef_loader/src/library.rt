@@ -5,7 +5,8 @@ ghost use Rattle.pef_loader.specs.Names.{NamesEndAt};
 ghost use Rattle.pef_loader.specs.Library.{library_at, library_refusal, library_tests};
 
 use crate::fault::LoaderFault;
-use crate::header::{HEADER_SIZE, LIBRARY_SIZE, LoaderHeader};
+use crate::header::LoaderHeader;
+use crate::layout::{LIBRARY_SIZE, LOADER_HEADER_SIZE};
 use pef_words::Cut;
 
 /// The offsets of the fields.
@@ -54,7 +55,7 @@ pub(crate) fn read_library(cut: Cut<'_>, i: usize) -> Option<LibraryEntry>
     requires { i < 2 ^ 32 }
     ensures { result ≡ library_at cut.entry.bytes.now i }
 {
-    let at = HEADER_SIZE + LIBRARY_SIZE * i;
+    let at = LOADER_HEADER_SIZE + LIBRARY_SIZE * i;
     Some(LibraryEntry {
         name_offset: cut.u32_at(at + NAME_OFFSET)?,
         old_imp: cut.u32_at(at + OLD_IMPLEMENTATION)?,

@@ -5,7 +5,8 @@ ghost use Rattle.pef_words.specs.Refusals.{first_among, first_met};
 ghost use Rattle.pef_loader.specs.Reloc.{instructions_of, reloc_at, reloc_refusal, reloc_tests};
 
 use crate::fault::LoaderFault;
-use crate::header::{LoaderHeader, RELOC_SIZE};
+use crate::header::LoaderHeader;
+use crate::layout::RELOCATION_HEADER_SIZE;
 use pef_words::Cut;
 
 /// The offsets of the fields.
@@ -34,7 +35,7 @@ pub(crate) fn read_reloc(cut: Cut<'_>, header: LoaderHeader, k: usize) -> Option
     requires { k < 2 ^ 32 }
     ensures { result ≡ reloc_at cut.entry.bytes.now header k }
 {
-    let at = header.relocs() + RELOC_SIZE * k;
+    let at = header.relocs() + RELOCATION_HEADER_SIZE * k;
     Some(RelocEntry {
         section: cut.u16_at(at + SECTION_INDEX)?,
         count: cut.u32_at(at + COUNT)?,

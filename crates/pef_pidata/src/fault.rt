@@ -1,32 +1,28 @@
 ghost use Rattle.std.specs.Prelude.{◌≡◌};
-ghost use Rattle.pef_pidata.specs.Faults.{number_of};
+ghost use Rattle.pef_pidata.specs.Faults.{fault_name, fault_number};
 
+use std::fmt;
 use thiserror::Error;
 
 /// Why packed bytes don't expand.
 #[derive(Clone, Copy, Debug, PartialEq, Eq, Error)]
 pub enum PackFault {
     /// The packed bytes end inside an instruction.
-    #[error("Truncated")]
     Truncated,
     /// An instruction has no known opcode.
-    #[error("BadOpcode")]
     BadOpcode,
     /// An argument has more than 32 bits or five bytes.
-    #[error("CountTooLarge")]
     CountTooLarge,
     /// An instruction spells more bytes than are left to be written.
-    #[error("TooLong")]
     TooLong,
     /// The packed bytes end before all bytes are written.
-    #[error("TooShort")]
     TooShort,
 }
 
 impl PackFault {
     /// The number of the refusal.
     pub fn number(&self) -> u32
-        ensures { result ≡ number_of self.now }
+        ensures { result ≡ fault_number self.now }
     {
         match self {
             PackFault::Truncated => 21,
@@ -35,5 +31,24 @@ impl PackFault {
             PackFault::TooLong => 24,
             PackFault::TooShort => 25,
         }
+    }
+
+    /// The refusal's name, which is its text.
+    pub fn name(&self) -> &'static str
+        ensures { result.now ≡ fault_name self.now }
+    {
+        match self {
+            PackFault::Truncated => "Truncated",
+            PackFault::BadOpcode => "BadOpcode",
+            PackFault::CountTooLarge => "CountTooLarge",
+            PackFault::TooLong => "TooLong",
+            PackFault::TooShort => "TooShort",
+        }
+    }
+}
+
+impl fmt::Display for PackFault {
+    fn fmt<W: fmt::Write>(&self, f: &mut fmt::Formatter<W>) -> fmt::Result {
+        f.write_str(self.name())
     }
 }

@@ -3,16 +3,16 @@ use Rattle.std.specs.Prelude.{ℕ, ◌+◌, Bool, true, ◌&&◌, nat_lt, nat_le
 use Rattle.pef_reloc.specs.declared.fixup.Base.{Base}
 use Rattle.pef_reloc.specs.declared.fixup.Base.TheVariants.{Section, Import}
 use Rattle.pef_reloc.specs.declared.fixup.Fixup.{Fixup}
-use Rattle.pef_reloc.specs.declared.fixup.TheConstants.{MAX_SECTIONS, MAX_IMPORTS, MAX_FIXUPS, OFFSET_LIMIT}
+use Rattle.pef_reloc.specs.Limits.{most_sections, most_imports, most_fixups, offset_limit}
 
 -- the number of a base is within the limits
 abbrev pub base_fits : Base → Bool
-base_fits (Section section) = nat_lt section MAX_SECTIONS
-base_fits (Import import) = nat_lt import MAX_IMPORTS
+base_fits (Section section) = nat_lt section most_sections
+base_fits (Import import) = nat_lt import most_imports
 
 -- the word and the base of a fixup are within the limits
 abbrev pub fixup_fits : Fixup → Bool
-fixup_fits fixup = nat_le (fixup.offset + 4) OFFSET_LIMIT && base_fits fixup.base
+fixup_fits fixup = nat_le (fixup.offset + 4) offset_limit && base_fits fixup.base
 
 -- the words of the fixups stand at or after an end, each at or after the end of the one before it
 abbrev pub fixups_from : ℕ → List Fixup → Bool
@@ -26,7 +26,7 @@ fixups_end end (fixup ∷ fixups) = fixups_end (fixup.offset + 4) fixups
 
 -- the fixups stand in address order, apart and within the limits
 unfoldable pub fixups_fit : List Fixup → Bool
-fixups_fit fixups = nat_le (length fixups) MAX_FIXUPS && fixups_from 0 fixups
+fixups_fit fixups = nat_le (length fixups) most_fixups && fixups_from 0 fixups
 
 -- the sections of the fixups are numbered below a count
 abbrev pub base_below : ℕ → Base → Bool

@@ -3,6 +3,7 @@ pub mod Decoding
 pub mod Faults
 pub mod Fixups
 pub mod Instrs
+pub mod Limits
 pub mod Machines
 pub mod Plain
 pub mod Readers

@@ -1,41 +1,32 @@
 ghost use Rattle.std.specs.Prelude.{◌≡◌};
-ghost use Rattle.pef_reloc.specs.Faults.{fault_number};
+ghost use Rattle.pef_reloc.specs.Faults.{fault_name, fault_number};
 
 use std::alloc::AllocError;
+use std::fmt;
 use thiserror::Error;
 
 /// Why a relocation program is refused, or stopped.
 #[derive(Clone, Copy, Debug, PartialEq, Eq, Error)]
 pub enum RelocFault {
     /// A halfword that begins no instruction.
-    #[error("BadOpcode")]
     BadOpcode,
     /// The program ends inside an instruction, or inside a halfword.
-    #[error("CutInstruction")]
     CutInstruction,
     /// A repeat reaches back past the program's start.
-    #[error("RepeatTooFar")]
     RepeatTooFar,
     /// A repeat's reach starts inside an instruction.
-    #[error("RepeatCuts")]
     RepeatCuts,
     /// A repeat's reach has a repeat in it.
-    #[error("NestedRepeat")]
     NestedRepeat,
     /// More instructions would be executed than a program may execute.
-    #[error("TooManySteps")]
     TooManySteps,
     /// A word would pass the end of the section.
-    #[error("WordOutside")]
     WordOutside,
     /// An import that isn't there.
-    #[error("ImportOutside")]
     ImportOutside,
     /// A section that isn't there.
-    #[error("SectionOutside")]
     SectionOutside,
     /// No memory was left.
-    #[error("OutOfMemory")]
     OutOfMemory,
 }
 
@@ -56,6 +47,30 @@ impl RelocFault {
             RelocFault::SectionOutside => 39,
             RelocFault::OutOfMemory => 99,
         }
+    }
+
+    /// The refusal's name, which is its text.
+    pub fn name(&self) -> &'static str
+        ensures { result.now ≡ fault_name self.now }
+    {
+        match self {
+            RelocFault::BadOpcode => "BadOpcode",
+            RelocFault::CutInstruction => "CutInstruction",
+            RelocFault::RepeatTooFar => "RepeatTooFar",
+            RelocFault::RepeatCuts => "RepeatCuts",
+            RelocFault::NestedRepeat => "NestedRepeat",
+            RelocFault::TooManySteps => "TooManySteps",
+            RelocFault::WordOutside => "WordOutside",
+            RelocFault::ImportOutside => "ImportOutside",
+            RelocFault::SectionOutside => "SectionOutside",
+            RelocFault::OutOfMemory => "OutOfMemory",
+        }
+    }
+}
+
+impl fmt::Display for RelocFault {
+    fn fmt<W: fmt::Write>(&self, f: &mut fmt::Formatter<W>) -> fmt::Result {
+        f.write_str(self.name())
     }
 }
 

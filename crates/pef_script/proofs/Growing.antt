@@ -10,7 +10,7 @@ use Rattle.pef_words.proofs.Laws.Refusals.{first_unmet}
 use Rattle.pef_reloc.specs.declared.fixup.Base.{Base}
 use Rattle.pef_reloc.specs.declared.fixup.Base.TheVariants as base
 use Rattle.pef_reloc.specs.declared.fixup.Fixup.{Fixup}
-use Rattle.pef_reloc.specs.declared.fixup.TheConstants.{MAX_FIXUPS}
+use Rattle.pef_reloc.specs.Limits.{most_fixups}
 use Rattle.pef_reloc.specs.Fixups.{base_fits, fixups_end}
 use Rattle.pef_reloc.proofs.Laws.{fixups_fit-more, fixups_end-append}
 use Rattle.pef_script.specs.declared.fault.LineFault.{LineFault}
@@ -79,7 +79,7 @@ bytes_tests-unmet s k count unmet =
 
 -- room for more fixups
 pub record FixupRoom (section : DescribedSection) (offset count : ℕ) : Type 0 where
-  pub room : length section.fixups + count ≤ MAX_FIXUPS
+  pub room : length section.fixups + count ≤ most_fixups
   pub inside : offset + 4 * count ≤ section.header.total
   pub after : fixups_end 0 section.fixups ≤ offset
 
@@ -89,7 +89,7 @@ fixup_tests-unmet s k offset count unmet =
     let fixups = section.fixups in
     let third = (nat_lt section.header.total (offset + 4 * count), OutsideSection) ∷ (nat_lt offset (fixups_end 0 fixups), Overlap) ∷ [] in
     let late = nat_lt k s.section || nat_lt (offset + 4) (fixups_end 0 fixups) in
-    let a = first_unmet (nat_lt MAX_FIXUPS (length fixups + count)) TooMany (first_met ((late, OutOfOrder) ∷ third)) unmet in
+    let a = first_unmet (nat_lt most_fixups (length fixups + count)) TooMany (first_met ((late, OutOfOrder) ∷ third)) unmet in
     let b = first_unmet late OutOfOrder (first_met third) a.1 in
     let c = first_unmet (nat_lt section.header.total (offset + 4 * count)) OutsideSection (first_met ((nat_lt offset (fixups_end 0 fixups), Overlap) ∷ [])) b.1 in
     let d = first_unmet (nat_lt offset (fixups_end 0 fixups)) Overlap None c.1 in
@@ -216,7 +216,7 @@ base_within m n (base.Section k) few some there = let under : k < 8 = omega (ari
 base_within m n (base.Import j) few some there = let under : j < 65536 = omega (arith, there) in lt-ltb j 65536 under
 
 -- one more fixup
-pub fixup-more : (m n : ℕ) (s : DescribedSection) (offset : ℕ) (b : Base) → m ≤ 8 → n ≤ 65536 → SectionHolds m n s → length s.fixups < MAX_FIXUPS → offset + 4 ≤ s.header.total → fixups_end 0 s.fixups ≤ offset → BaseThere m n b
+pub fixup-more : (m n : ℕ) (s : DescribedSection) (offset : ℕ) (b : Base) → m ≤ 8 → n ≤ 65536 → SectionHolds m n s → length s.fixups < most_fixups → offset + 4 ≤ s.header.total → fixups_end 0 s.fixups ≤ offset → BaseThere m n b
     → SectionHolds m n (with_fixups s (fixup_of offset b ∷ []))
 fixup-more m n s offset b few some holds room inside after there =
     let f : Fixup = fixup_of offset b in

@@ -6,7 +6,7 @@ use Rattle.pef_words.specs.Refusals.{first_met, unless}
 use Rattle.pef_reloc.specs.declared.fixup.Base.{Base}
 use Rattle.pef_reloc.specs.declared.fixup.Base.TheVariants as base
 use Rattle.pef_reloc.specs.declared.fixup.Fixup.{Fixup}
-use Rattle.pef_reloc.specs.declared.fixup.TheConstants.{MAX_FIXUPS}
+use Rattle.pef_reloc.specs.Limits.{most_fixups}
 use Rattle.pef_reloc.specs.Fixups.{fixups_end}
 use Rattle.pef_script.specs.declared.fault.LineFault.{LineFault}
 use Rattle.pef_script.specs.declared.fault.LineFault.TheVariants.{UnknownName, OutOfOrder, Overlap, OutsideSection, TooMany, BadKind}
@@ -44,7 +44,7 @@ bytes_line s line = do
 
 -- the tests of so many fixups, one behind the other, from an offset in section k
 abbrev pub fixup_tests : State → ℕ → ℕ → ℕ → List (Bool × LineFault)
-fixup_tests s k offset count = (nat_lt MAX_FIXUPS (length (section_at s k).fixups + count), TooMany)
+fixup_tests s k offset count = (nat_lt most_fixups (length (section_at s k).fixups + count), TooMany)
     ∷ (nat_lt k s.section || nat_lt (offset + 4) (fixups_end 0 (section_at s k).fixups), OutOfOrder)
     ∷ (nat_lt (section_at s k).header.total (offset + 4 * count), OutsideSection)
     ∷ (nat_lt offset (fixups_end 0 (section_at s k).fixups), Overlap)

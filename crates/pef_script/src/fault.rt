@@ -1,45 +1,37 @@
 ghost use Rattle.std.specs.Prelude.{◌≡◌};
-ghost use Rattle.pef_script.specs.Faults.{line_of_fault, number_of, script_number_of, stopped_at};
+ghost use Rattle.pef_script.specs.Faults.{fault_name, fault_number, line_of_fault, script_number_of, stopped_at};
 
 use std::alloc::{AllocError, AllocFailed};
+use std::fmt;
 use thiserror::Error;
 
 /// What is wrong with a line of a script.
 #[derive(Clone, Copy, Debug, PartialEq, Eq, Error)]
 pub enum LineFault {
     /// No line of the grammar has this shape: its words, their bytes, a name or hex digits are wrong.
-    #[error("BadLine")]
     BadLine,
     /// A number is spelled in another way, or is too large for its place.
-    #[error("BadNumber")]
     BadNumber,
     /// A section or an import has not been declared.
-    #[error("UnknownName")]
     UnknownName,
     /// A name has been given to another one of its kind.
-    #[error("RepeatedName")]
     RepeatedName,
     /// The line comes after one that it has to come before.
-    #[error("OutOfOrder")]
     OutOfOrder,
     /// A fixup's word overlaps the one before.
-    #[error("Overlap")]
     Overlap,
     /// An image, a fixup's word or an offset passes the end of its section.
-    #[error("OutsideSection")]
     OutsideSection,
     /// There are as many of these as a script may have.
-    #[error("TooMany")]
     TooMany,
     /// A word is none of those that may stand in its place.
-    #[error("BadKind")]
     BadKind,
 }
 
 impl LineFault {
     /// The number of the refusal.
     pub fn number(&self) -> u32
-        ensures { result ≡ number_of self.now }
+        ensures { result ≡ fault_number self.now }
     {
         match self {
             LineFault::BadLine => 41,
@@ -52,6 +44,29 @@ impl LineFault {
             LineFault::TooMany => 48,
             LineFault::BadKind => 49,
         }
+    }
+
+    /// The refusal's name, which is its text.
+    pub fn name(&self) -> &'static str
+        ensures { result.now ≡ fault_name self.now }
+    {
+        match self {
+            LineFault::BadLine => "BadLine",
+            LineFault::BadNumber => "BadNumber",
+            LineFault::UnknownName => "UnknownName",
+            LineFault::RepeatedName => "RepeatedName",
+            LineFault::OutOfOrder => "OutOfOrder",
+            LineFault::Overlap => "Overlap",
+            LineFault::OutsideSection => "OutsideSection",
+            LineFault::TooMany => "TooMany",
+            LineFault::BadKind => "BadKind",
+        }
+    }
+}
+
+impl fmt::Display for LineFault {
+    fn fmt<W: fmt::Write>(&self, f: &mut fmt::Formatter<W>) -> fmt::Result {
+        f.write_str(self.name())
     }
 }
 

@@ -14,7 +14,7 @@ use Rattle.pef_tool.specs.Names.{name_text}
 
 -- the numbers of the refusals
 abbrev pub number_of : Refusal → ℕ
-number_of (Script fault line) = script.number_of fault
+number_of (Script fault line) = script.fault_number fault
 number_of (Reloc fault) = reloc.fault_number fault
 number_of NoRoom = 67
 number_of InputUnreadable = 73

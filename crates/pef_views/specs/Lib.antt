@@ -1,5 +1,5 @@
 pub mod Container
-pub mod Fault
+pub mod Faults
 pub mod Header
 pub mod Section
 pub mod Views

@@ -1,56 +1,47 @@
 ghost use Rattle.std.specs.Prelude.{◌≡◌};
-ghost use Rattle.pef_views.specs.Fault.{number_of};
+ghost use Rattle.pef_views.specs.Faults.{fault_name, fault_number};
 
+use std::fmt;
 use thiserror::Error;
 
 /// The first rule of the format that some bytes break. Its text is its name.
 #[derive(Clone, Copy, Debug, PartialEq, Eq, Error)]
 pub enum ViewFault {
     /// The container header, or the section headers that it counts, pass the end.
-    #[error("TooShort")]
     TooShort,
 
     /// The first eight bytes aren't `Joy!peff`.
-    #[error("BadTag")]
     BadTag,
 
     /// The architecture isn't `pwpc`.
-    #[error("BadArchitecture")]
     BadArchitecture,
 
     /// The format's version isn't 1.
-    #[error("BadFormatVersion")]
     BadFormatVersion,
 
     /// More sections are instantiated than there are.
-    #[error("BadSectionCounts")]
     BadSectionCounts,
 
     /// A section's raw bytes pass the end.
-    #[error("SectionOutside")]
     SectionOutside,
 
     /// An instantiated section isn't code, data, a constant or executable data.
-    #[error("BadSectionKind")]
     BadSectionKind,
 
     /// An instantiated section's image doesn't fit its memory, or its raw bytes are too few for it.
-    #[error("BadSizes")]
     BadSizes,
 
     /// An instantiated section's alignment is above 31.
-    #[error("BadAlignment")]
     BadAlignment,
 
     /// None of the sections that aren't instantiated is a loader section.
-    #[error("NoLoader")]
     NoLoader,
 }
 
 impl ViewFault {
     /// The refusal's number, from 1 to 10, which no refusal of another crate has.
     pub fn number(&self) -> u32
-        ensures { result ≡ number_of self.now }
+        ensures { result ≡ fault_number self.now }
     {
         match self {
             ViewFault::TooShort => 1,
@@ -64,5 +55,29 @@ impl ViewFault {
             ViewFault::BadAlignment => 9,
             ViewFault::NoLoader => 10,
         }
+    }
+
+    /// The refusal's name, which is its text.
+    pub fn name(&self) -> &'static str
+        ensures { result.now ≡ fault_name self.now }
+    {
+        match self {
+            ViewFault::TooShort => "TooShort",
+            ViewFault::BadTag => "BadTag",
+            ViewFault::BadArchitecture => "BadArchitecture",
+            ViewFault::BadFormatVersion => "BadFormatVersion",
+            ViewFault::BadSectionCounts => "BadSectionCounts",
+            ViewFault::SectionOutside => "SectionOutside",
+            ViewFault::BadSectionKind => "BadSectionKind",
+            ViewFault::BadSizes => "BadSizes",
+            ViewFault::BadAlignment => "BadAlignment",
+            ViewFault::NoLoader => "NoLoader",
+        }
+    }
+}
+
+impl fmt::Display for ViewFault {
+    fn fmt<W: fmt::Write>(&self, f: &mut fmt::Formatter<W>) -> fmt::Result {
+        f.write_str(self.name())
     }
 }

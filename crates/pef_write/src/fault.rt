@@ -1,14 +1,14 @@
-ghost use Rattle.std.specs.Prelude.{◌≡◌};
+ghost use Rattle.std.specs.Prelude.{◌≡◌, codes};
 
 use pef_hash::HashFault;
 use std::alloc::{AllocError, AllocFailed};
+use std::fmt;
 use thiserror::Error;
 
 /// Why a script was not linked.
 #[derive(Clone, Copy, Debug, PartialEq, Eq, Error)]
 pub enum LinkFault {
     /// A growth of memory was refused.
-    #[error("OutOfMemory")]
     OutOfMemory,
 }
 
@@ -20,6 +20,21 @@ impl LinkFault {
         match self {
             LinkFault::OutOfMemory => 99,
         }
+    }
+
+    /// The refusal's name, which is its text.
+    pub fn name(&self) -> &'static str
+        ensures { result.now ≡ codes "OutOfMemory" }
+    {
+        match self {
+            LinkFault::OutOfMemory => "OutOfMemory",
+        }
+    }
+}
+
+impl fmt::Display for LinkFault {
+    fn fmt<W: fmt::Write>(&self, f: &mut fmt::Formatter<W>) -> fmt::Result {
+        f.write_str(self.name())
     }
 }
 

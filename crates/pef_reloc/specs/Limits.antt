@@ -1,0 +1,19 @@
+-- The limits of the fixups of a section, which are this project's own. The code has them as constants;
+-- here they stand as plain numbers, so that one checks the other.
+use Rattle.std.specs.Prelude.{ℕ}
+
+-- how many sections may be named
+abbrev pub most_sections : ℕ
+most_sections = 8
+
+-- how many imports may be named
+abbrev pub most_imports : ℕ
+most_imports = 65536
+
+-- how many fixups a section may have
+abbrev pub most_fixups : ℕ
+most_fixups = 16384
+
+-- where the last word may end
+abbrev pub offset_limit : ℕ
+offset_limit = 16777216
