@@ -114,6 +114,3 @@ fn zero_ended(bytes: &[u8]) -> Option<&[u8]>
     let (name, _) = bytes.split_at(end);
     Some(name)
 }
-
-#[cfg(test)]
-mod tests;

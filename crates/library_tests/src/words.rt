@@ -1,4 +1,4 @@
-use super::*;
+use pef_words::Cut;
 
 /// An offset, and what stands there as `u8`, `u16`, `i16`, `u32` and `i32`.
 type Numbers = (

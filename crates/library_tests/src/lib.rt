@@ -1,0 +1,8 @@
+//! Tests of the libraries through their public calls, a file for each library, a table for each call. The
+//! expected values come from the format's documents and worked examples, never from the program.
+//!
+//! They stand together here, since a crate with tests is proved twice.
+#![tactic(auto)]
+
+#[cfg(test)]
+mod words;
