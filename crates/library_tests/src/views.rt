@@ -1,0 +1,235 @@
+use pef_views::Container;
+use std::process::Abort;
+
+/// Two instantiated sections, code of 8 bytes and data of 16, and a loader section of 90.
+///
+/// The section headers stand at 40, 68 and 96, and the section name table at 124.
+const BYTES: [u8; 250] = [
+    0x4A, 0x6F, 0x79, 0x21, 0x70, 0x65, 0x66, 0x66, 0x70, 0x77, 0x70, 0x63, 0x00, 0x00, 0x00, 0x01,
+    0x00, 0x00, 0x00, 0x00, 0x00, 0x00, 0x00, 0x00, 0x00, 0x00, 0x00, 0x00, 0x00, 0x00, 0x00, 0x01,
+    0x00, 0x03, 0x00, 0x02, 0x00, 0x00, 0x00, 0x00, 0xFF, 0xFF, 0xFF, 0xFF, 0x00, 0x00, 0x00, 0x00,
+    0x00, 0x00, 0x00, 0x08, 0x00, 0x00, 0x00, 0x08, 0x00, 0x00, 0x00, 0x08, 0x00, 0x00, 0x00, 0x80,
+    0x00, 0x04, 0x04, 0x00, 0xFF, 0xFF, 0xFF, 0xFF, 0x00, 0x00, 0x00, 0x00, 0x00, 0x00, 0x00, 0x10,
+    0x00, 0x00, 0x00, 0x10, 0x00, 0x00, 0x00, 0x10, 0x00, 0x00, 0x00, 0x90, 0x01, 0x01, 0x04, 0x00,
+    0xFF, 0xFF, 0xFF, 0xFF, 0x00, 0x00, 0x00, 0x00, 0x00, 0x00, 0x00, 0x00, 0x00, 0x00, 0x00, 0x00,
+    0x00, 0x00, 0x00, 0x5A, 0x00, 0x00, 0x00, 0xA0, 0x04, 0x04, 0x04, 0x00, 0x00, 0x00, 0x00, 0x00,
+    0x00, 0x11, 0x22, 0x33, 0x44, 0x55, 0x66, 0x77, 0x00, 0x00, 0x00, 0x00, 0x00, 0x00, 0x00, 0x00,
+    0x00, 0x00, 0x00, 0x00, 0x00, 0x00, 0x00, 0x00, 0x00, 0x00, 0x00, 0x04, 0x00, 0x00, 0x00, 0x00,
+    0x00, 0x00, 0x00, 0x01, 0x00, 0x00, 0x00, 0x00, 0xFF, 0xFF, 0xFF, 0xFF, 0x00, 0x00, 0x00, 0x00,
+    0xFF, 0xFF, 0xFF, 0xFF, 0x00, 0x00, 0x00, 0x00, 0x00, 0x00, 0x00, 0x00, 0x00, 0x00, 0x00, 0x00,
+    0x00, 0x00, 0x00, 0x01, 0x00, 0x00, 0x00, 0x44, 0x00, 0x00, 0x00, 0x46, 0x00, 0x00, 0x00, 0x48,
+    0x00, 0x00, 0x00, 0x00, 0x00, 0x00, 0x00, 0x01, 0x00, 0x01, 0x00, 0x00, 0x00, 0x00, 0x00, 0x01,
+    0x00, 0x00, 0x00, 0x00, 0x46, 0x01, 0x67, 0x6F, 0x00, 0x04, 0x00, 0x00, 0x00, 0x02, 0x00, 0xA1,
+    0x02, 0x00, 0x00, 0x00, 0x00, 0x00, 0x00, 0x00, 0x00, 0x01,
+];
+
+/// Those bytes with other words at some places.
+fn changed(rt: &impl Abort, words: &[(usize, u32)]) -> [u8; 250] {
+    let mut bytes = BYTES;
+    for (at, word) in words {
+        assert!(rt; *at <= 246);
+        bytes[*at..*at + 4].copy_from_slice(&word.to_be_bytes());
+    }
+    bytes
+}
+
+/// The refusal's number, or 0 for a container.
+fn answer(bytes: &[u8]) -> u32 {
+    match Container::read(bytes) {
+        Ok(_) => 0,
+        Err(fault) => fault.number(),
+    }
+}
+
+#[test]
+fn read(rt: HostRuntime) {
+    for len in 0..=BYTES.len() {
+        let want = match len {
+            0..124 => 1,
+            124..250 => 6,
+            _ => 0,
+        };
+        assert_eq!(rt; answer(&BYTES[..len]), want, "the first {len} bytes");
+    }
+    let rows: [(&[(usize, u32)], u32); 37] = [
+        (&[(0, 0x4A6F_7920)], 2),
+        (&[(4, 0x7065_6667)], 2),
+        (&[(0, 0), (8, 0)], 2),
+        (&[(8, 0x6D36_386B)], 3),
+        (&[(8, 0), (12, 0)], 3),
+        (&[(12, 0)], 4),
+        (&[(12, 2), (32, 0x0003_0004)], 4),
+        (&[(32, 0x0003_0004)], 5),
+        (&[(32, 0x0008_0009)], 5),
+        // Eight headers end at 264, seven at 236.
+        (&[(32, 0x0008_0002)], 1),
+        (&[(32, 0x0007_0002)], 6),
+        (&[(32, 0x0004_0002)], 0),
+        // Sections that aren't instantiated may have any kind, share kind and alignment.
+        (&[(32, 0x0004_0002), (148, 0x09FF_FFFF)], 0),
+        // Raw bytes past the end, and no raw bytes.
+        (&[(60, 0xFFFF_FFFF)], 6),
+        (&[(112, 0x0000_005B)], 6),
+        (&[(112, 0)], 0),
+        (&[(52, 0), (56, 0), (60, 0xFFFF_FFFF)], 0),
+        // Kinds of instantiated sections.
+        (&[(64, 0x0304_0400)], 0),
+        (&[(64, 0x0604_0400)], 0),
+        (&[(64, 0x0404_0400)], 7),
+        (&[(64, 0x0504_0400)], 7),
+        (&[(64, 0x0704_0400)], 7),
+        (&[(32, 0x0003_0003)], 7),
+        // Sizes, and those of pattern-initialized data.
+        (&[(80, 17)], 8),
+        (&[(84, 15)], 8),
+        (&[(84, 17)], 0),
+        (&[(92, 0x0201_0400)], 0),
+        (&[(92, 0x0201_0400), (80, 17)], 8),
+        (&[(92, 0x0201_0400), (84, 0)], 0),
+        (&[(92, 0x0101_1F00)], 0),
+        (&[(92, 0x0101_2000)], 9),
+        // All tests of a section come before those of the next.
+        (&[(64, 0x0004_2000), (92, 0x0401_0400)], 9),
+        (&[(64, 0x0404_2000)], 7),
+        (&[(60, 0xFFFF_FFFF), (64, 0x0404_2000)], 6),
+        (&[(80, 17), (92, 0x0101_2000)], 8),
+        (&[(92, 0x0101_2000), (120, 0x0504_0400)], 9),
+        (&[(120, 0x0504_0400)], 10),
+    ];
+    for (i, (words, want)) in rows.iter().enumerate() {
+        assert_eq!(rt; answer(&changed(&rt, words)), *want, "row {i}");
+    }
+}
+
+#[test]
+fn header(rt: HostRuntime) {
+    let words = [
+        (16, 0xB000_0001),
+        (20, 0x0100_0002),
+        (24, 0x0200_0003),
+        (28, 0x0300_0004),
+        (36, 0x0500_0006),
+    ];
+    let bytes = changed(&rt, &words);
+    let header = Container::read(&bytes).expect(&rt, "a container").header();
+    let fields = [
+        header.tag_1,
+        header.tag_2,
+        header.architecture,
+        header.format_version,
+        header.date_time_stamp,
+        header.old_def_version,
+        header.old_imp_version,
+        header.current_version,
+        u32::from(header.section_count),
+        u32::from(header.instantiated_section_count),
+        header.reserved,
+    ];
+    let want = [
+        0x4A6F_7921,
+        0x7065_6666,
+        0x7077_7063,
+        1,
+        0xB000_0001,
+        0x0100_0002,
+        0x0200_0003,
+        0x0300_0004,
+        3,
+        2,
+        0x0500_0006,
+    ];
+    assert_eq!(rt; fields, want);
+}
+
+#[test]
+fn section(rt: HostRuntime) {
+    // Of section 2, which isn't instantiated, all fields are other ones.
+    let words = [
+        (96, 0xFFFF_FFFE),
+        (100, 0x0100_0002),
+        (104, 0x0200_0003),
+        (108, 0x0300_0004),
+        (120, 0x0405_0607),
+    ];
+    let bytes = changed(&rt, &words);
+    let container = Container::read(&bytes).expect(&rt, "a container");
+    // Name offset; default address; sizes: total, unpacked, packed; place; kind, share kind, alignment, reserved.
+    let rows = [
+        (0, -1, [0, 8, 8, 8, 0x80], [0, 4, 4, 0]),
+        (1, -1, [0, 16, 16, 16, 0x90], [1, 1, 4, 0]),
+        (
+            2,
+            -2,
+            [0x0100_0002, 0x0200_0003, 0x0300_0004, 90, 0xA0],
+            [4, 5, 6, 7],
+        ),
+    ];
+    for (i, name_offset, words, bytes) in rows {
+        let section = container.section(i).expect(&rt, "a section");
+        assert_eq!(rt; section.name_offset, name_offset, "section {i}");
+        let found = [
+            section.default_address,
+            section.total_size,
+            section.unpacked_size,
+            section.packed_size,
+            section.container_offset,
+        ];
+        assert_eq!(rt; found, words, "section {i}");
+        let found = [
+            section.section_kind,
+            section.share_kind,
+            section.alignment,
+            section.reserved,
+        ];
+        assert_eq!(rt; found, bytes, "section {i}");
+        assert_eq!(rt; Some(section.raw), container.raw(i), "section {i}");
+    }
+    assert!(rt; container.section(3).is_none());
+}
+
+#[test]
+fn raw_and_loader(rt: HostRuntime) {
+    // What is changed; the raw bytes of section 0; the loader section's.
+    let rows: [(&[(usize, u32)], &[u8], &[u8]); 5] = [
+        (&[], &BYTES[0x80..0x88], &BYTES[160..]),
+        // An image of four bytes: the raw bytes beyond it belong to the section.
+        (&[(52, 4)], &BYTES[0x80..0x88], &BYTES[160..]),
+        // No raw bytes, at the end and far behind it.
+        (&[(52, 0), (56, 0), (60, 250)], &[], &BYTES[160..]),
+        (&[(52, 0), (56, 0), (60, 0xFFFF_FFFF)], &[], &BYTES[160..]),
+        // The first of two loader sections counts.
+        (
+            &[(32, 0x0004_0002), (148, 0x0400_0000)],
+            &BYTES[0x80..0x88],
+            &BYTES[160..],
+        ),
+    ];
+    for (words, raw, loader) in rows {
+        let bytes = changed(&rt, words);
+        let container = Container::read(&bytes).expect(&rt, "a container");
+        assert_eq!(rt; container.raw(0), Some(raw), "{words:?}");
+        assert_eq!(rt; container.loader(), loader, "{words:?}");
+        assert_eq!(rt; container.raw(2), Some(loader), "{words:?}");
+        assert_eq!(rt; container.raw(4), None, "{words:?}");
+    }
+}
+
+#[test]
+fn section_name(rt: HostRuntime) {
+    // The bytes from 129 on are 11 22 33 44 55 66 77 00, and the container's last zero byte is at 248.
+    let rows: [(u32, Option<&[u8]>); 7] = [
+        (0, Some(b"")),
+        (5, Some(b"\x11\x22\x33\x44\x55\x66\x77")),
+        (124, Some(b"")),
+        (125, None),
+        (0x7FFF_FFFF, None),
+        (0x8000_0000, None),
+        (0xFFFF_FFFE, None),
+    ];
+    for (offset, want) in rows {
+        let bytes = changed(&rt, &[(40, offset)]);
+        let container = Container::read(&bytes).expect(&rt, "a container");
+        assert_eq!(rt; container.section_name(0), want, "at {offset}");
+        assert_eq!(rt; container.section_name(3), None);
+    }
+}
