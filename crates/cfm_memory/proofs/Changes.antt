@@ -4,9 +4,10 @@ use Rattle.std.specs.List.{insert, remove}
 use Rattle.std.proofs.Math.ListN.{set}
 use Rattle.std.proofs.lemmas.Bool.Decides.{eqb_tells, leb_tells}
 use Rattle.std.proofs.lemmas.List.{map-append, take-map, drop-map}
+use Rattle.cfm_memory.specs.Limits.{first_address}
 use Rattle.cfm_memory.specs.Instances.{Instance, Layout, bytes_at, has_length, with_instance, without, fitted, with_bytes}
-use Rattle.cfm_memory.specs.Placement.{taken, end_of, IsFree, IsLaidOut}
-use Rattle.cfm_memory.specs.Searches.{index_in, rank_in}
+use Rattle.cfm_memory.specs.Placement.{taken, end_of, IsFree, IsInOrder, IsLaidOut}
+use Rattle.cfm_memory.specs.Kept.Searches.{index_in, rank_in}
 use Rattle.cfm_memory.proofs.Placing.{some_taken}
 
 pub map-insert : {A B : Type 0} (f : A → B) (xs : List A) (i : ℕ) (y : A) → map f (insert xs i y) ≡ insert (map f xs) i (f y)
@@ -114,7 +115,5 @@ laid_out_written from limit (x ∷ xs) address w laid =
     ]
 
 -- what holds of the fields holds of the memory
-pub laid_out_seen : (limit : ℕ) (xs : List Instance) (m : Layout) → record { limit = limit; instances = xs } ≡ m → IsLaidOut 65536 limit xs → IsLaidOut 65536 m.limit m.instances
-laid_out_seen limit xs m view_is laid =
-    let P : Layout → Type 0 = λ k. IsLaidOut 65536 k.limit k.instances in
-    subst P view_is laid
+pub laid_out_seen : (limit : ℕ) (xs : List Instance) (m : Layout) → record { limit = limit; instances = xs } ≡ m → IsLaidOut first_address limit xs → IsInOrder m
+laid_out_seen limit xs m view_is laid = subst IsInOrder view_is laid

@@ -7,8 +7,8 @@ use Rattle.std.proofs.lemmas.List.{map-set}
 use Rattle.cfm_memory.specs.declared.memory.Slot.{Slot}
 use Rattle.cfm_memory.specs.declared.place.Place.{Place}
 use Rattle.cfm_memory.specs.Instances.{Layout, bytes_at, has_length, holds_place, fitted, with_bytes}
-use Rattle.cfm_memory.specs.Searches.{index_in}
-use Rattle.cfm_memory.specs.Seen.{seen}
+use Rattle.cfm_memory.specs.Kept.Searches.{index_in}
+use Rattle.cfm_memory.specs.Kept.Views.{seen}
 use Rattle.cfm_memory.proofs.Changes.{index_under, bytes_here, with_bytes_is}
 
 -- it stands before the end

@@ -1,5 +1,7 @@
 mod Changes
+mod Contents
 mod Held
 pub mod Laws
 mod Placed
 mod Placing
+mod Ranges

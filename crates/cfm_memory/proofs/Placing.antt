@@ -4,7 +4,7 @@ use Rattle.std.proofs.lemmas.Bool.{cases_lt}
 use Rattle.std.proofs.Math.Nat.{mul-le-mul_left}
 use Rattle.cfm_memory.specs.Instances.{Instance}
 use Rattle.cfm_memory.specs.Placement.{taken, end_of, IsFree, IsLaidOut}
-use Rattle.cfm_memory.specs.Searches.{IsFirstFree}
+use Rattle.cfm_memory.specs.Kept.Searches.{IsFirstFree}
 
 -- of two multiples of a number, one that is less than that number above the other isn't above it
 pub no_multiple_between : (a b n : ℕ) → 0 < n → a % n ≡ 0 → b % n ≡ 0 → a < b + n → a ≤ b

@@ -1,6 +1,6 @@
 pub mod Faults
 pub mod Instances
+pub mod Kept
 pub mod Lending
+pub mod Limits
 pub mod Placement
-pub mod Searches
-pub mod Seen

@@ -1,18 +1,21 @@
--- Where an instance may lie: the lowest free address from 00010000 (hex) on that has its alignment.
+-- Where an instance may lie: the lowest free address that has its alignment. The format says how a
+-- section's memory is aligned (Mac OS Runtime Architectures, "PEF Structure", section headers: alignment,
+-- an exponent of two) and leaves open where it lies, so the rest is this project's own rule of placement.
 use Rattle.std.specs.Prelude.{◌≡◌, ℕ, ◌+◌, ◌%◌, ◌^◌, ◌≤◌, ◌⊎◌, max, List, [], ◌∷◌, length, replicate}
 use Rattle.std.specs.Int.{next_multiple_of}
 use Rattle.cfm_memory.specs.Instances.{Instance, Layout, with_instance, with_instances}
 use Rattle.cfm_memory.specs.declared.place.Place.{Place}
 use Rattle.cfm_memory.specs.declared.place.MemoryFault.{MemoryFault}
 use Rattle.cfm_memory.specs.declared.place.MemoryFault.TheVariants.{NoRoom, OutOfMemory}
+use Rattle.cfm_memory.specs.Limits.{first_address, grain}
 
--- the bytes that an instance of some size takes: one at least, and a multiple of 16
+-- the bytes that an instance of some size takes: one at least, rounded up to a multiple of the grain
 unfoldable pub taken : ℕ → ℕ
-taken size = next_multiple_of (max size 1) 16
+taken size = next_multiple_of (max size 1) grain
 
 -- what the address of an instance is a multiple of, from the exponent of its alignment
 unfoldable pub step_of : ℕ → ℕ
-step_of alignment = max 16 (2 ^ alignment)
+step_of alignment = max grain (2 ^ alignment)
 
 -- the address behind the last byte that an instance takes
 abbrev pub end_of : Instance → ℕ
@@ -25,7 +28,7 @@ IsFree address end (x ∷ xs) = ((end ≤ x.address) ⊎ (end_of x ≤ address))
 
 -- an address at which an instance of some size and alignment has room
 pub record IsRoom (m : Layout) (size alignment address : ℕ) : Type 0 where
-  pub from : 65536 ≤ address
+  pub from : first_address ≤ address
   pub aligned : address % step_of alignment ≡ 0
   pub inside : address + taken size ≤ m.limit
   pub free : IsFree address (address + taken size) m.instances
@@ -48,3 +51,7 @@ MayRefuse m size alignment OutOfMemory = (address : ℕ) × IsRoom m size alignm
 abbrev pub IsLaidOut : ℕ → ℕ → List Instance → Type 0
 IsLaidOut from limit [] = Unit {0}
 IsLaidOut from limit (x ∷ xs) = (from ≤ x.address) × (end_of x ≤ limit) × IsLaidOut (end_of x) limit xs
+
+-- the instances of a memory lie in the order of their addresses, and none meets another
+abbrev pub IsInOrder : Layout → Type 0
+IsInOrder m = IsLaidOut first_address m.limit m.instances

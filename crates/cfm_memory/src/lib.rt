@@ -1,10 +1,12 @@
-//! Where the instances of sections lie in memory, and their bytes.
+//! Placed memory: where the instances of sections lie, and their bytes.
+//!
+//! An instance is a section that was given memory. [`Memory::place`] finds the lowest free address for
+//! one. The format says how a section is aligned (Mac OS Runtime Architectures, "PEF Structure", section
+//! headers) and leaves open where it lies.
 #![tactic(auto)]
 
 mod memory;
 mod place;
-#[cfg(test)]
-mod tests;
 
 pub use memory::Memory;
 pub use place::{MemoryFault, Place};

@@ -4,9 +4,10 @@ ghost use Rattle.std.specs.Result.{IfErr, OnErr};
 ghost use Rattle.std.specs.Borrow.{sem};
 ghost use Rattle.cfm_memory.specs.Instances.{bytes_at, holds_place, range_at, range_in, with_instances, without};
 ghost use Rattle.cfm_memory.specs.Lending.{LendsPart};
-ghost use Rattle.cfm_memory.specs.Placement.{end_of, taken, step_of, IsLaidOut, IsLowest, IsRoom, MayRefuse, with_new};
-ghost use Rattle.cfm_memory.specs.Seen.{seen};
-ghost use Rattle.cfm_memory.specs.Searches.{index_in, rank_in, IsFirstFree};
+ghost use Rattle.cfm_memory.specs.Limits.{first_address};
+ghost use Rattle.cfm_memory.specs.Placement.{end_of, taken, step_of, IsInOrder, IsLaidOut, IsLowest, IsRoom, MayRefuse, with_new};
+ghost use Rattle.cfm_memory.specs.Kept.Views.{seen};
+ghost use Rattle.cfm_memory.specs.Kept.Searches.{index_in, rank_in, IsFirstFree};
 
 use crate::place::{MemoryFault, Place};
 use std::alloc::{AllocError, Global};
@@ -15,9 +16,10 @@ use std::marker::Model;
 /// The lowest address of an instance.
 const FIRST_ADDRESS: u64 = 0x0001_0000;
 
-/// The least distance of two instances' addresses.
+/// The addresses of instances, and how many bytes each takes, are multiples of this.
 const GRAIN: u64 = 16;
 
+/// An instance as it is kept: where it begins, and its readable bytes.
 #[derive(Drop)]
 struct Slot {
     address: u32,
@@ -25,10 +27,13 @@ struct Slot {
 }
 
 /// Memory that holds instances of sections, each at an address of its own.
+///
+/// Addresses have 32 bits, and sizes count bytes.
 #[derive(Drop)]
 pub struct Memory {
     alloc: Global,
     limit: u32,
+    /// In the order of their addresses.
     slots: Vec<Slot>,
 }
 
@@ -38,12 +43,13 @@ impl Model for Memory {
     ghost Value = { Layout };
 
     ghost use Rattle.std.specs.Prelude.{map};
-    ghost use Rattle.cfm_memory.specs.Seen.{layout, seen};
+    ghost use Rattle.cfm_memory.specs.Kept.Views.{layout, seen};
+    ghost use Rattle.cfm_memory.specs.Limits.{first_address};
     ghost use Rattle.cfm_memory.specs.Placement.{IsLaidOut};
 
     ghost view = { layout };
 
-    ghost invariant = { λ m. IsLaidOut 65536 m.limit (map seen m.slots.items) };
+    ghost invariant = { λ m. IsLaidOut first_address m.limit (map seen m.slots.items) };
 }
 
 impl Memory {
@@ -61,12 +67,13 @@ impl Memory {
     /// Places a new instance of `size` zero bytes at the lowest address that has room for it.
     ///
     /// An instance takes one byte at least, rounded up to a multiple of 16, and its address is a
-    /// multiple of 16 and of 2^`alignment`, from 00010000 (hex) on. The memory is unchanged by a refusal.
+    /// multiple of 16 and of 2^`alignment`, from 00010000 (hex) on. `alignment` is an exponent of two,
+    /// at most 31, as a section header has it.
     ///
     /// # Errors
     ///
     /// `NoRoom` where no address has room below the limit; else `OutOfMemory` where the machine
-    /// refuses memory.
+    /// refuses memory. Neither changes the memory.
     #[tactic(auto, using(crate::proofs::Changes::laid_out_seen))]
     pub fn place(&mut self, size: u32, alignment: u8) -> Result<Place, MemoryFault>
         requires { alignment ≤ 31 }
@@ -75,7 +82,7 @@ impl Memory {
         ensures placed { IfOk result (λ place. self.new ≡ with_new self.old place) }
         ensures refused { IfErr result (λ fault. MayRefuse self.old size alignment fault) }
         ensures unchanged { OnErr result (self.new ≡ self.old) }
-        ensures laid_out { IsLaidOut 65536 self.old.limit self.old.instances }
+        ensures laid_out { IsInOrder self.old }
     {
         let address = match self.lowest_room(size, alignment) {
             Some(address) => address,
@@ -101,11 +108,11 @@ impl Memory {
         Some(address as u32)
     }
 
-    /// Whether an instance has this address and size.
+    /// Whether an instance has just this address and size.
     #[tactic(auto, using(crate::proofs::Changes::laid_out_seen))]
     pub fn holds(&self, place: Place) -> bool
         ensures held { result ≡ holds_place self.now place }
-        ensures laid_out { IsLaidOut 65536 self.now.limit self.now.instances }
+        ensures laid_out { IsInOrder self.now }
     {
         let index = index_of(&self.slots, place.address);
         index < self.slots.len() && self.slots[index].bytes.len() == place.size as usize
@@ -117,7 +124,7 @@ impl Memory {
         requires { IsTrue (holds_place self.now place) }
         ensures bytes { bytes_at self.now.instances place.address ≡ Some result.now }
         ensures len { length result.now ≡ place.size }
-        ensures laid_out { IsLaidOut 65536 self.now.limit self.now.instances }
+        ensures laid_out { IsInOrder self.now }
     {
         let index = index_of(&self.slots, place.address);
         let slot = &self.slots[index];
@@ -141,18 +148,18 @@ impl Memory {
     pub fn give_back(&mut self, place: Place)
         requires { IsTrue (holds_place self.old place) }
         ensures given_back { self.new ≡ with_instances self.old (without self.old.instances place.address) }
-        ensures laid_out { IsLaidOut 65536 self.old.limit self.old.instances }
+        ensures laid_out { IsInOrder self.old }
     {
         let index = index_of(&self.slots, place.address);
         self.slots.remove(index);
     }
 
-    /// The `len` bytes from `address` on, where they lie inside one instance; no bytes at either end
-    /// of one lie inside it.
+    /// The `len` bytes from `address` on, or `None` where they don't lie inside one instance. An empty
+    /// range may also stand at an instance's end.
     #[tactic(auto, using(crate::proofs::Changes::laid_out_seen))]
     pub fn at(&self, address: u32, len: u32) -> Option<&[u8]>
         ensures range { option_copied result ≡ range_at self.now.instances address len }
-        ensures laid_out { IsLaidOut 65536 self.now.limit self.now.instances }
+        ensures laid_out { IsInOrder self.now }
     {
         range_of(&self.slots, address, len)
     }
@@ -214,8 +221,8 @@ fn step_by(alignment: u8) -> u64
 fn first_free(slots: &[Slot], taken: u64, step: u64) -> u64
     requires taken { (0 < taken) × (taken ≤ 2 ^ 33) }
     requires step { (0 < step) × (step ≤ 2 ^ 31) }
-    requires laid_out { IsLaidOut 65536 (2 ^ 32) (map seen slots.now) }
-    ensures first { IsFirstFree taken step 65536 (map seen slots.now) result }
+    requires laid_out { IsLaidOut first_address (2 ^ 32) (map seen slots.now) }
+    ensures first { IsFirstFree taken step first_address (map seen slots.now) result }
     ensures bound { result < 2 ^ 33 }
 {
     let mut address = FIRST_ADDRESS.next_multiple_of(step);

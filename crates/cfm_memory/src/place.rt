@@ -5,24 +5,27 @@ use std::alloc::{AllocError, AllocFailed};
 use std::fmt;
 use thiserror::Error;
 
-/// Where an instance lies: its address, and how many bytes it has.
+/// Where an instance lies.
 #[derive(Clone, Copy, Debug, PartialEq, Eq)]
 pub struct Place {
+    /// The address of its first byte.
     pub address: u32,
+    /// How many bytes it has that can be read, which may be fewer than it takes.
     pub size: u32,
 }
 
-/// Why an instance isn't placed.
+/// Why an instance isn't placed. Its text is its name.
 #[derive(Clone, Copy, Debug, PartialEq, Eq, Error)]
 pub enum MemoryFault {
     /// No address below the limit has room for the instance.
     NoRoom,
-    /// The machine refused memory for the instance's bytes.
+    /// An address has room, and the machine refused memory for the instance.
     OutOfMemory,
 }
 
 impl MemoryFault {
-    /// The number of the refusal.
+    /// The refusal's number: 67, which no refusal of another crate has, or 99, which is want of memory
+    /// in all crates.
     pub fn number(&self) -> u32
         ensures { result ≡ fault_number self.now }
     {
@@ -44,6 +47,11 @@ impl MemoryFault {
 }
 
 impl fmt::Display for MemoryFault {
+    ghost use Rattle.std.specs.Prelude.{Some};
+    ghost use Rattle.cfm_memory.specs.Faults.{fault_name};
+
+    ghost output = { λ fault. Some (fault_name fault) };
+
     fn fmt<W: fmt::Write>(&self, f: &mut fmt::Formatter<W>) -> fmt::Result {
         f.write_str(self.name())
     }

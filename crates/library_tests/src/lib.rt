@@ -5,4 +5,10 @@
 #![tactic(auto)]
 
 #[cfg(test)]
+mod memory;
+#[cfg(test)]
+mod pidata;
+#[cfg(test)]
+mod views;
+#[cfg(test)]
 mod words;

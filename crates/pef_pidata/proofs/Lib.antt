@@ -1,4 +1,5 @@
 pub mod Laws
+mod Lengths
 mod Repeats
 mod Steps
 mod Weaves

@@ -1,7 +1,7 @@
 -- Blocks that stand one behind another.
 use Rattle.std.proofs.Common.{◌≡◌, ℕ, zero, suc, ◌+◌, ◌-◌, ◌*◌, ◌<◌, ◌≤◌, List, [], ◌∷◌, ◌++◌, length, take, refl, sym, ap, ◌∙◌, arith, append_assoc, length-append, min, inl, inr}
-use Rattle.std.proofs.Math.Seq.{take-append_seam}
-use Rattle.std.proofs.Math.Seq.{take-length}
+use Rattle.std.proofs.Math.Seq.{take-append_seam, take-length}
+use Rattle.std.proofs.lemmas.List.{nil_from_length}
 use Rattle.std.proofs.Math.Nat.{mul-le-mul_left, le_of_mul-le-mul_left}
 use Rattle.std.proofs.lemmas.Bool.{cases_lt}
 use Rattle.pef_pidata.specs.Pattern.{repeated}
@@ -17,43 +17,44 @@ pub record IsWhole (block : List ℕ) (len : ℕ) : Type 0 where
   pub times : ℕ
   pub len_is : len ≡ length block * times
 
+-- how long a repeated block is
 pub length-repeated : (n : ℕ) (block : List ℕ) → length (repeated n block) ≡ length block * n
 length-repeated zero block = omega arith
 length-repeated (suc n) block = omega (arith, length-append block (repeated n block), length-repeated n block)
 
+-- a block some times, and some times more
 pub repeated-add : (m n : ℕ) (block : List ℕ) → repeated (m + n) block ≡ repeated m block ++ repeated n block
 repeated-add zero n block = (let e : 0 + n ≡ n = omega arith in rw e refl)
 repeated-add (suc m) n block = (let e : suc m + n ≡ suc (m + n) = omega arith in rw (e, append_assoc) (ap (λ xs. block ++ xs) (repeated-add m n block)))
 
+-- the front of a repeated block
 pub take-repeated : (m n : ℕ) (block : List ℕ) → take (length block * m) (repeated (m + n) block) ≡ repeated m block
 take-repeated m n block =
     rw (repeated-add m n block, ← length-repeated m block) (take-append_seam (repeated m block) (repeated n block))
 
+-- lists without elements are equal
 pub both_empty : (xs ys : List ℕ) → length xs ≡ 0 → length ys ≡ 0 → xs ≡ ys
-both_empty [] [] a b = refl
-both_empty [] (y ∷ ys) a b = absurd (omega arith)
-both_empty (x ∷ xs) ys a b = absurd (omega arith)
+both_empty xs ys a b = nil_from_length xs a ∙ sym (nil_from_length ys b)
 
 -- some block times is longer than none, so the block is
 pub some_block : (block : List ℕ) (n : ℕ) (m : ℕ) → m < length block * n → 0 < length block
 some_block [] n m less = absurd (omega arith)
 some_block (b ∷ block) n m less = omega arith
 
--- the next piece: no longer than the one that is copied, nor than what is left
-pub next_whole : (block target : List ℕ) (done piece n : ℕ) → IsBegun block target done → IsWhole block piece → length target ≡ length block * n → done < length target → IsWhole block (min piece (length target - done))
-next_whole block target done piece n begun whole len_is under =
+-- the next piece is all that is written, or what is left
+pub next_whole : (block target : List ℕ) (done n more : ℕ) → IsBegun block target done → length target ≡ length block * n → done < length target → more ≡ min done (length target - done) → IsWhole block more
+next_whole block target done n more begun len_is under is =
     let done_is = begun.done_is in
-    elim (cases_lt piece (length target - done)) as (λ _. IsWhole block (min piece (length target - done))) [
-      | inl less ↦ (let e : min piece (length target - done) ≡ piece = omega arith in rw e whole)
+    elim (cases_lt done (length target - done)) as (λ _. IsWhole block more) [
+      | inl less ↦ record { times = begun.times; len_is = omega arith }
       | inr le ↦
-          (let e : min piece (length target - done) ≡ length target - done = omega arith in
-          let more : begun.times ≤ n = elim (cases_lt n begun.times) as (λ _. begun.times ≤ n) [
+          (let enough : begun.times ≤ n = elim (cases_lt n begun.times) as (λ _. begun.times ≤ n) [
             | inl less ↦ (let up : n ≤ begun.times = omega arith in absurd (omega (arith, mul-le-mul_left (length block) up)))
             | inr le ↦ le
           ] in
           let apart : n ≡ begun.times + (n - begun.times) = omega arith in
           let parts : length block * n ≡ length block * (begun.times + (n - begun.times)) = ap (λ k. length block * k) apart in
-          rw e (record { times = n - begun.times; len_is = omega arith }))
+          record { times = n - begun.times; len_is = omega arith })
     ]
 
 -- a piece of what is written goes behind it

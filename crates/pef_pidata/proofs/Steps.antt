@@ -6,7 +6,7 @@ use borrow.Rule.Slice.PartMut.{put_mid}
 use Rattle.pef_words.specs.Refusals.{result_map}
 use Rattle.pef_pidata.specs.declared.fault.PackFault.{PackFault}
 use Rattle.pef_pidata.specs.declared.fault.PackFault.TheVariants.{TooShort}
-use Rattle.pef_pidata.specs.Reading.{next_instruction}
+use Rattle.pef_pidata.specs.Instructions.{next_instruction}
 use Rattle.pef_pidata.specs.Pattern.{pattern, pattern_text, next_output}
 
 -- what is written and what the packed bytes that are left spell is what all of them spell

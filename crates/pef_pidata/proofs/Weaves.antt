@@ -6,6 +6,7 @@ use Rattle.std.proofs.lemmas.Slice.{take-put_mid}
 use borrow.Rule.Slice.PartMut.{put_mid}
 use Rattle.pef_pidata.specs.Pattern.{woven}
 
+-- how long woven parts are
 pub length-woven : (n size : ℕ) (common parts : List ℕ) → length parts ≡ size * n → length (woven n size common parts) ≡ length common * (n + 1) + size * n
 length-woven zero size common parts len = omega arith
 length-woven (suc n) size common parts len =

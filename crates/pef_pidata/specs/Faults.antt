@@ -1,8 +1,9 @@
--- The number of each refusal.
+-- The refusals of packed data, their numbers and their names. They are this project's own.
 use Rattle.std.specs.Prelude.{ℕ, List, codes}
 use Rattle.pef_pidata.specs.declared.fault.PackFault.{PackFault}
 use Rattle.pef_pidata.specs.declared.fault.PackFault.TheVariants.{Truncated, BadOpcode, CountTooLarge, TooLong, TooShort}
 
+-- the numbers
 abbrev pub fault_number : PackFault → ℕ
 fault_number Truncated = 21
 fault_number BadOpcode = 22

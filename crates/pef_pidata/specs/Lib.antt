@@ -1,4 +1,4 @@
 pub mod Faults
+pub mod Instructions
+pub mod Kept
 pub mod Pattern
-pub mod Reading
-pub mod Seen

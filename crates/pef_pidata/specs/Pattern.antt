@@ -1,4 +1,6 @@
--- Pattern text: what packed bytes spell (Mac OS Runtime Architectures, "Pattern-Initialized Data").
+-- Pattern text: what packed bytes spell (Mac OS Runtime Architectures, "PEF Structure", pattern-initialized
+-- data). Which refusal comes first, and that what is left of the packed bytes doesn't matter, is this project's
+-- own choice.
 use Rattle.std.specs.Prelude.{ℕ, zero, suc, ◌+◌, ◌-◌, ◌*◌, ◌==◌, List, [], ◌++◌, Result, Ok, Err, if◌then◌else◌, nat_lt, length, take, drop, replicate}
 use Rattle.pef_words.specs.Refusals.{result_map}
 use Rattle.pef_pidata.specs.declared.fault.PackFault.{PackFault}
@@ -6,19 +8,19 @@ use Rattle.pef_pidata.specs.declared.fault.PackFault.TheVariants.{Truncated, Too
 use Rattle.pef_pidata.specs.declared.instruction.Woven.{Woven}
 use Rattle.pef_pidata.specs.declared.instruction.Instruction.{Instruction}
 use Rattle.pef_pidata.specs.declared.instruction.Instruction.TheVariants.{Zeros, Block, Repeat, Weave, WeaveZeros}
-use Rattle.pef_pidata.specs.Reading.{Read, ◌>>=◌, next_instruction}
+use Rattle.pef_pidata.specs.Instructions.{Read, ◌>>=◌, next_instruction}
 
--- a block some times
+-- a block some times, one behind the other
 abbrev pub repeated : ℕ → List ℕ → List ℕ
 repeated zero block = []
 repeated (suc n) block = block ++ repeated n block
 
--- a common part before each of n parts of some size, and once more at the end
+-- a common part before each of n custom parts of some size, and once more behind the last
 abbrev pub woven : ℕ → ℕ → List ℕ → List ℕ → List ℕ
 woven zero size common parts = common
 woven (suc n) size common parts = common ++ (take size parts ++ woven n size common (drop size parts))
 
--- the length of parts with the common bytes before each and behind the last
+-- the length of custom parts with the common part before each and behind the last
 abbrev pub woven_len : Woven → ℕ
 woven_len w = w.common * (w.parts + 1) + w.custom * w.parts
 
@@ -46,7 +48,8 @@ output (Repeat count repeats) bytes = repeated (repeats + 1) bytes
 output (Weave w) bytes = woven w.parts w.custom (take w.common bytes) (drop w.common bytes)
 output (WeaveZeros w) bytes = woven w.parts w.custom (replicate w.common 0) bytes
 
--- an instruction that was read, where what it spells has room: its output and what follows the bytes that it copies
+-- an instruction that was read, where what it spells has room: its output, and what follows the bytes that it
+-- copies
 unfoldable pub obeyed : ℕ → Instruction × List ℕ → Read (List ℕ)
 obeyed room (instruction, bytes) =
     if nat_lt room (spelled instruction) then Err TooLong
@@ -64,6 +67,7 @@ pattern (suc n) packed room =
     if room == 0 then Ok []
     else (next_output room packed >>= (λ next. result_map (λ more. next.0 ++ more) (pattern n next.1 (room - length next.0))))
 
--- what packed bytes spell at a length, or the first refusal; no instruction is shorter than a byte, so their number bounds the instructions
+-- what packed bytes spell at a length, or the first refusal. No instruction is shorter than a byte, so there are
+-- no more instructions than bytes
 unfoldable pub pattern_text : List ℕ → ℕ → Result (List ℕ) PackFault
 pattern_text packed room = pattern (length packed) packed room

@@ -1,14 +1,14 @@
 ghost use Rattle.std.specs.Prelude.{◌≡◌, ◌≤◌, ◌<◌, ◌^◌, length, IfOk, Ok, Err, nat_lt, if◌then◌else◌};
 ghost use Rattle.pef_words.specs.Refusals.{result_map};
-ghost use Rattle.pef_pidata.specs.Reading.{argument, counted};
-ghost use Rattle.pef_pidata.specs.Seen.{value_seen};
+ghost use Rattle.pef_pidata.specs.Instructions.{argument, counted};
+ghost use Rattle.pef_pidata.specs.Kept.Views.{argument_seen};
 
 use crate::fault::PackFault;
 
 /// The bit that is set in all bytes of an argument but the last, and the number of values below it.
 const MORE: u8 = 0x80;
 
-/// The most bytes that an argument has, less one.
+/// The place of the last byte that an argument may have: it has five at most.
 const LAST: usize = 4;
 
 /// An argument, and the bytes behind it.
@@ -19,9 +19,9 @@ pub(crate) struct Argument<'a> {
 }
 
 /// Reads an argument: seven bits a byte, the highest first.
-#[tactic(auto, unfolding(crate::specs::Reading::argument))]
+#[tactic(auto, unfolding(crate::specs::Instructions::argument))]
 pub(crate) fn read_argument(packed: &[u8]) -> Result<Argument<'_>, PackFault>
-    ensures read { result_map value_seen result ≡ argument packed.now }
+    ensures read { result_map argument_seen result ≡ argument packed.now }
     ensures shorter { IfOk result (λ a. length a.rest.now < length packed.now) }
 {
     let mut value: u64 = 0;
@@ -39,7 +39,7 @@ pub(crate) fn read_argument(packed: &[u8]) -> Result<Argument<'_>, PackFault>
 
 /// An argument whose last byte was read, where its value fits 32 bits.
 fn ended(value: u64, rest: &[u8]) -> Result<Argument<'_>, PackFault>
-    ensures read { result_map value_seen result ≡ (if nat_lt value (2 ^ 32) then Ok (value, rest.now) else Err PackFault.CountTooLarge) }
+    ensures read { result_map argument_seen result ≡ (if nat_lt value (2 ^ 32) then Ok (value, rest.now) else Err PackFault.CountTooLarge) }
     ensures rest { IfOk result (λ a. a.rest.now ≡ rest.now) }
 {
     if value > u64::from(u32::MAX) {
@@ -52,9 +52,9 @@ fn ended(value: u64, rest: &[u8]) -> Result<Argument<'_>, PackFault>
 }
 
 /// Reads an instruction's count: that of its first byte, or an argument where that is 0.
-#[tactic(auto, unfolding(crate::specs::Reading::counted))]
+#[tactic(auto, unfolding(crate::specs::Instructions::counted))]
 pub(crate) fn read_count(low: u8, packed: &[u8]) -> Result<Argument<'_>, PackFault>
-    ensures read { result_map value_seen result ≡ counted low packed.now }
+    ensures read { result_map argument_seen result ≡ counted low packed.now }
     ensures shorter { IfOk result (λ a. length a.rest.now ≤ length packed.now) }
 {
     if low == 0 {

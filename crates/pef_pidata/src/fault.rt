@@ -4,7 +4,7 @@ ghost use Rattle.pef_pidata.specs.Faults.{fault_name, fault_number};
 use std::fmt;
 use thiserror::Error;
 
-/// Why packed bytes don't expand.
+/// Why packed bytes don't expand. Its text is its name.
 #[derive(Clone, Copy, Debug, PartialEq, Eq, Error)]
 pub enum PackFault {
     /// The packed bytes end inside an instruction.
@@ -20,7 +20,7 @@ pub enum PackFault {
 }
 
 impl PackFault {
-    /// The number of the refusal.
+    /// The refusal's number, from 21 to 25, which no refusal of another crate has.
     pub fn number(&self) -> u32
         ensures { result ≡ fault_number self.now }
     {
@@ -48,6 +48,11 @@ impl PackFault {
 }
 
 impl fmt::Display for PackFault {
+    ghost use Rattle.std.specs.Prelude.{Some};
+    ghost use Rattle.pef_pidata.specs.Faults.{fault_name};
+
+    ghost output = { λ fault. Some (fault_name fault) };
+
     fn fmt<W: fmt::Write>(&self, f: &mut fmt::Formatter<W>) -> fmt::Result {
         f.write_str(self.name())
     }

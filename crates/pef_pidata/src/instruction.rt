@@ -1,8 +1,8 @@
 ghost use Rattle.std.specs.Prelude.{◌≡◌, ◌+◌, ◌*◌, ◌<◌, ◌≤◌, ◌^◌, length, IfOk};
 ghost use Rattle.pef_words.specs.Refusals.{result_map};
 ghost use Rattle.pef_pidata.specs.Pattern.{copied, spelled, woven_len};
-ghost use Rattle.pef_pidata.specs.Reading.{by_opcode, next_instruction, woven_arguments};
-ghost use Rattle.pef_pidata.specs.Seen.{instruction_seen};
+ghost use Rattle.pef_pidata.specs.Instructions.{by_opcode, next_instruction, woven_arguments};
+ghost use Rattle.pef_pidata.specs.Kept.Views.{instruction_seen};
 
 use crate::argument::{read_argument, read_count};
 use crate::fault::PackFault;
@@ -10,11 +10,26 @@ use crate::fault::PackFault;
 /// An instruction's first byte has its opcode in the high three bits, and a count below this one in the low.
 const COUNTS: u8 = 32;
 
-/// Parts of some bytes each, with common bytes before the first, between them, and behind the last.
+// The opcodes (kPEFPkDataZero, kPEFPkDataBlock, kPEFPkDataRepeat, kPEFPkDataRepeatBlock and
+// kPEFPkDataRepeatZero).
+const ZERO: u8 = 0;
+
+const BLOCK: u8 = 1;
+
+const REPEAT: u8 = 2;
+
+const REPEAT_BLOCK: u8 = 3;
+
+const REPEAT_ZERO: u8 = 4;
+
+/// Custom parts, with a common part before each and behind the last.
 #[derive(Clone, Copy)]
 pub(crate) struct Woven {
+    /// How many bytes the common part has.
     pub common: u32,
+    /// How many bytes each custom part has.
     pub custom: u32,
+    /// How many custom parts there are.
     pub parts: u32,
 }
 
@@ -27,9 +42,9 @@ pub(crate) enum Instruction {
     Block(u32),
     /// `count` bytes, which follow, and `repeats` more times the same.
     Repeat { count: u32, repeats: u32 },
-    /// Parts and common bytes, which follow, the common ones first.
+    /// The common part follows, and the custom parts behind it.
     Weave(Woven),
-    /// Parts, which follow, and common bytes, which are zeros.
+    /// The custom parts follow, and the common part is zeros.
     WeaveZeros(Woven),
 }
 
@@ -41,7 +56,7 @@ pub(crate) struct Decoded<'a> {
 }
 
 /// Reads the next instruction.
-#[tactic(auto, unfolding(crate::specs::Reading::next_instruction))]
+#[tactic(auto, unfolding(crate::specs::Instructions::next_instruction))]
 pub(crate) fn read_instruction(packed: &[u8]) -> Result<Decoded<'_>, PackFault>
     ensures read { result_map instruction_seen result ≡ next_instruction packed.now }
     ensures shorter { IfOk result (λ d. length d.rest.now < length packed.now) }
@@ -52,21 +67,21 @@ pub(crate) fn read_instruction(packed: &[u8]) -> Result<Decoded<'_>, PackFault>
     }
 }
 
-#[tactic(auto, unfolding(crate::specs::Reading::by_opcode))]
+#[tactic(auto, unfolding(crate::specs::Instructions::by_opcode))]
 fn read_arguments(opcode: u8, low: u8, packed: &[u8]) -> Result<Decoded<'_>, PackFault>
     ensures read { result_map instruction_seen result ≡ by_opcode opcode low packed.now }
     ensures shorter { IfOk result (λ d. length d.rest.now ≤ length packed.now) }
 {
     match opcode {
-        0 => {
+        ZERO => {
             let count = read_count(low, packed)?;
             Ok(with_rest(Instruction::Zeros(count.value), count.rest))
         }
-        1 => {
+        BLOCK => {
             let count = read_count(low, packed)?;
             Ok(with_rest(Instruction::Block(count.value), count.rest))
         }
-        2 => {
+        REPEAT => {
             let count = read_count(low, packed)?;
             let repeats = read_argument(count.rest)?;
             let instruction = Instruction::Repeat {
@@ -75,11 +90,11 @@ fn read_arguments(opcode: u8, low: u8, packed: &[u8]) -> Result<Decoded<'_>, Pac
             };
             Ok(with_rest(instruction, repeats.rest))
         }
-        3 => {
+        REPEAT_BLOCK => {
             let (woven, rest) = read_woven(low, packed)?;
             Ok(with_rest(Instruction::Weave(woven), rest))
         }
-        4 => {
+        REPEAT_ZERO => {
             let (woven, rest) = read_woven(low, packed)?;
             Ok(with_rest(Instruction::WeaveZeros(woven), rest))
         }
@@ -94,7 +109,7 @@ fn with_rest(instruction: Instruction, rest: &[u8]) -> Decoded<'_>
 }
 
 /// Reads the arguments of an instruction with parts.
-#[tactic(auto, unfolding(crate::specs::Reading::woven_arguments))]
+#[tactic(auto, unfolding(crate::specs::Instructions::woven_arguments))]
 fn read_woven(low: u8, packed: &[u8]) -> Result<(Woven, &[u8]), PackFault>
     ensures read { result_map (λ w. (w.0, w.1.now)) result ≡ woven_arguments low packed.now }
     ensures shorter { IfOk result (λ w. length w.1.now ≤ length packed.now) }

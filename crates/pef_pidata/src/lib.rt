@@ -1,14 +1,13 @@
-//! Pattern-initialized data: packed bytes that spell out the contents of a data section.
+//! Pattern-initialized data: packed bytes that spell out the image of a data section.
 //!
-//! The instructions are those of Mac OS Runtime Architectures, "Pattern-Initialized Data".
+//! The instructions are those of Mac OS Runtime Architectures, "PEF Structure", pattern-initialized data, and
+//! of PEFBinaryFormat.h (kPEFPkDataZero and those after it).
 #![tactic(auto)]
 
 mod argument;
 mod fault;
 mod instruction;
 mod packed;
-#[cfg(test)]
-mod tests;
 mod write;
 
 pub use fault::PackFault;

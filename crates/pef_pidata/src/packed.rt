@@ -1,7 +1,7 @@
 ghost use Rattle.std.specs.Prelude.{◌≡◌, ◌<◌, ◌≤◌, length, IfOk};
 ghost use Rattle.pef_words.specs.Refusals.{result_map};
 ghost use Rattle.pef_pidata.specs.Pattern.{copied, next_output, obeyed, pattern_text, spelled};
-ghost use Rattle.pef_pidata.specs.Seen.{instruction_seen, step_seen};
+ghost use Rattle.pef_pidata.specs.Kept.Views.{instruction_seen, step_seen};
 
 use crate::fault::PackFault;
 use crate::instruction::{Decoded, Instruction, read_instruction};

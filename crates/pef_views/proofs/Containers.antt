@@ -3,19 +3,22 @@ use Rattle.std.proofs.Common.{◌≡◌, ℕ, ◌<◌, ◌≤◌, Bool, true, fa
 use Rattle.std.specs.Prelude.{◌==◌, ◌&&◌, if◌then◌else◌, option_map, Result, Ok, Err, IsTrue, length, nat_lt}
 use Rattle.std.proofs.lemmas.Bool.{lt-ltb, ltb-false, ltb-true}
 use Rattle.std.specs.Option.{option_map_or}
-use Rattle.pef_words.specs.Refusals.{first_met, first_among, unless}
+use Rattle.pef_words.specs.Refusals.{first_met, first_among}
 use Rattle.pef_views.specs.declared.header.Header.{Header}
 use Rattle.pef_views.specs.declared.section.SectionHeader.{SectionHeader}
 use Rattle.pef_views.specs.declared.fault.ViewFault.TheVariants.{TooShort}
-use Rattle.pef_views.specs.Header.{header_of, header_tests}
+use Rattle.pef_views.specs.Header.{header_of, header_tests, joy, peff, pwpc, version_1}
 use Rattle.pef_views.specs.Section.{section_at, section_tests, is_inside, raw_of}
-use Rattle.pef_views.specs.Container.{Contained, IsAccepted, IsContainer, IsInstantiable, Section, is_instantiated, section_in, section_of, container_of, judged, loader_of, section_refusal, with_loader}
+use Rattle.pef_views.specs.Container.{Contained, IsContainer, IsInstantiable, Section, is_instantiated, section_in, section_of, container_of, judged, loader_of, section_refusal, with_loader}
 use Rattle.pef_views.proofs.Sections.{length-raw_of, section_unmet, unmet_inside, unmet_instantiable, unrefused}
-use Rattle.pef_words.proofs.Laws.Refusals.{first_unmet}
+use Rattle.pef_words.proofs.Laws.Refusals.{first_unmet, unless_ok}
 
-unless_ok : {A F : Type 0} (fault : Option F) (r : Result A F) (x : A) → unless fault r ≡ Ok x → (fault ≡ None) × (r ≡ Ok x)
-unless_ok None r x ok = (refl, ok)
-unless_ok (Some fault) r x ok = absurd (cc)
+-- that a container's parts are there, and that no test is met
+pub record IsAccepted (c : Contained) : Type 0 where
+  pub header : header_of c.bytes ≡ Some c.header
+  pub tests : first_met (header_tests c.header (length c.bytes)) ≡ None
+  pub sections : first_among (section_refusal c.bytes c.header) 0 c.header.section_count ≡ None
+  pub loader : loader_of c.bytes c.header ≡ Some c.loader
 
 abbrev value_or : {A F : Type 0} → A → Result A F → A
 value_or x (Ok y) = y
@@ -89,9 +92,9 @@ module _ (c : Contained) (i : ℕ) (s : SectionHeader) (ok : IsContainer c) (und
 header_counts : (h : Header) (len : ℕ) → first_met (header_tests h len) ≡ None → h.instantiated_section_count ≤ h.section_count
 unfolding header_tests
 header_counts h len none =
-    let tag = first_unmet (not (h.tag_1 == 0x4A6F7921 && h.tag_2 == 0x70656666)) _ _ none in
-    let architecture = first_unmet (not (h.architecture == 0x70777063)) _ _ tag.1 in
-    let version = first_unmet (not (h.format_version == 1)) _ _ architecture.1 in
+    let tag = first_unmet (not (h.tag_1 == joy && h.tag_2 == peff)) _ _ none in
+    let architecture = first_unmet (not (h.architecture == pwpc)) _ _ tag.1 in
+    let version = first_unmet (not (h.format_version == version_1)) _ _ architecture.1 in
     let counts = first_unmet (nat_lt h.section_count h.instantiated_section_count) _ _ version.1 in
     ltb-false h.section_count h.instantiated_section_count counts.0
 

@@ -1,14 +1,14 @@
 -- What is known of a section that isn't refused.
 use Rattle.std.proofs.Common.{◌≡◌, ◌≢◌, ℕ, ◌+◌, ◌<◌, ◌≤◌, Bool, true, false, not, List, Option, None, Some, length, drop, length-drop, length-take, inl, inr, refl, arith}
 use Rattle.std.specs.Prelude.{◌==◌, ◌&&◌, ◌||◌, IsTrue, nat_le, nat_lt}
-use Rattle.std.proofs.lemmas.Bool.{and_parts, eqb-true, leb-true, ltb-false, or_cases}
+use Rattle.std.proofs.lemmas.Bool.{and_parts, eqb-true, leb-true, ltb-false, not-false, or_cases}
 use Rattle.std.specs.Option.{option_map_or}
 use Rattle.pef_words.specs.Refusals.{first_met, first_among}
 use Rattle.pef_words.proofs.Laws.Refusals.{first_unmet, none_among}
 use Rattle.pef_views.specs.declared.header.Header.{Header}
 use Rattle.pef_views.specs.declared.section.SectionHeader.{SectionHeader}
 use Rattle.pef_views.specs.declared.fault.ViewFault.TheVariants.{TooShort}
-use Rattle.pef_views.specs.Section.{section_at, section_tests, is_inside, is_instantiable, raw_of, sizes_fit}
+use Rattle.pef_views.specs.Section.{section_at, section_tests, is_inside, is_instantiable, raw_of, sizes_fit, pattern_data_section, greatest_alignment}
 use Rattle.pef_views.specs.Container.{IsInstantiable, section_in, section_refusal, is_instantiated}
 
 -- a section that is there and whose tests aren't met
@@ -26,14 +26,10 @@ pub unrefused : (bytes : List ℕ) (h : Header) (i : ℕ) → first_among (secti
 unrefused bytes h i none under =
     unrefused-among bytes h i (section_at bytes i) refl (none_among (section_refusal bytes h) 0 h.section_count i none (omega arith) (omega arith))
 
-true-from_not : (b : Bool) → not b ≡ false → IsTrue b
-true-from_not true e = refl
-true-from_not false e = absurd (cc)
-
 -- a section whose tests aren't met has its raw bytes inside
 pub unmet_inside : (inst : Bool) (s : SectionHeader) (len : ℕ) → first_met (section_tests inst s len) ≡ None → IsTrue (is_inside s len)
 unfolding section_tests
-unmet_inside inst s len none = true-from_not _ (first_unmet _ _ _ none).0
+unmet_inside inst s len none = not-false _ (first_unmet _ _ _ none).0
 
 -- where no section is refused, the tests of each one that is there aren't met
 pub section_unmet : (bytes : List ℕ) (h : Header) (i : ℕ) (s : SectionHeader) → first_among (section_refusal bytes h) 0 h.section_count ≡ None → i < h.section_count → section_at bytes i ≡ Some s → first_met (section_tests (is_instantiated h i) s (length bytes)) ≡ None
@@ -57,12 +53,12 @@ length-raw_of bytes s inside =
     ]
 
 -- sizes that fit, outside of pattern-initialized data
-sizes_are : (kind total unpacked packed : ℕ) → IsTrue (nat_le unpacked total && (kind == 2 || nat_le unpacked packed)) → (unpacked ≤ total) × (kind ≢ 2 → unpacked ≤ packed)
+sizes_are : (kind total unpacked packed : ℕ) → IsTrue (nat_le unpacked total && (kind == pattern_data_section || nat_le unpacked packed)) → (unpacked ≤ total) × (kind ≢ pattern_data_section → unpacked ≤ packed)
 sizes_are kind total unpacked packed fit =
-    let parts = and_parts (nat_le unpacked total) (kind == 2 || nat_le unpacked packed) fit in (
+    let parts = and_parts (nat_le unpacked total) (kind == pattern_data_section || nat_le unpacked packed) fit in (
       leb-true unpacked total parts.0,
-      λ other. elim (or_cases (kind == 2) (nat_le unpacked packed) parts.1) [
-        | inl pattern ↦ absurd (other (eqb-true kind 2 pattern))
+      λ other. elim (or_cases (kind == pattern_data_section) (nat_le unpacked packed) parts.1) [
+        | inl pattern ↦ absurd (other (eqb-true kind pattern_data_section pattern))
         | inr enough ↦ leb-true unpacked packed enough
       ],
     )
@@ -74,12 +70,12 @@ unmet_instantiable bytes s none =
     let inside = first_unmet (not (is_inside s (length bytes))) _ _ none in
     let kind = first_unmet (not (is_instantiable s.section_kind)) _ _ inside.1 in
     let sizes = first_unmet (not (sizes_fit s)) _ _ kind.1 in
-    let alignment = first_unmet (nat_lt 31 s.alignment) _ _ sizes.1 in
-    let fit = sizes_are s.section_kind s.total_size s.unpacked_size s.packed_size (true-from_not _ sizes.0) in
-    let whole = length-raw_of bytes s (true-from_not _ inside.0) in
+    let alignment = first_unmet (nat_lt greatest_alignment s.alignment) _ _ sizes.1 in
+    let fit = sizes_are s.section_kind s.total_size s.unpacked_size s.packed_size (not-false _ sizes.0) in
+    let whole = length-raw_of bytes s (not-false _ inside.0) in
     record {
-      kind = true-from_not _ kind.0;
+      kind = not-false _ kind.0;
       image = fit.0;
       unpacked = λ other. (let enough = fit.1 other in omega (arith, whole, enough));
-      alignment = ltb-false 31 s.alignment alignment.0;
+      alignment = ltb-false greatest_alignment s.alignment alignment.0;
     }

@@ -1,5 +1,5 @@
--- Which bytes are a container and what it consists of, or the first refusal (Mac OS Runtime
--- Architectures, "PEF Structure").
+-- Which bytes are a container and what it consists of, or the first refusal (Mac OS Runtime Architectures,
+-- "PEF Structure", container header, section headers, section name table and section contents).
 use Rattle.std.specs.Prelude.{◌≡◌, ◌≢◌, ℕ, ℤ, pos, negsuc, ◌+◌, ◌≤◌, ◌==◌, Bool, List, Option, None, Some, option_map, Result, Ok, Err, IsTrue, nat_lt, length, if◌then◌else◌}
 use Rattle.std.specs.Option.{option_map_or}
 use Rattle.pef_words.specs.Bytes.{name_at}
@@ -9,7 +9,7 @@ use Rattle.pef_views.specs.declared.section.SectionHeader.{SectionHeader}
 use Rattle.pef_views.specs.declared.fault.ViewFault.{ViewFault}
 use Rattle.pef_views.specs.declared.fault.ViewFault.TheVariants.{TooShort, NoLoader}
 use Rattle.pef_views.specs.Header.{header_of, header_tests, names_from}
-use Rattle.pef_views.specs.Section.{section_at, section_tests, is_instantiable, raw_of}
+use Rattle.pef_views.specs.Section.{section_at, section_tests, is_instantiable, raw_of, pattern_data_section, loader_section, greatest_alignment}
 
 -- a container: its bytes, its header and the raw bytes of its loader section
 pub record Contained : Type 0 where
@@ -17,7 +17,7 @@ pub record Contained : Type 0 where
   pub header : Header
   pub loader : List ℕ
 
--- the first instantiated_section_count sections are instantiated
+-- the first instantiated_section_count sections are instantiated (instSectionCount)
 abbrev pub is_instantiated : Header → ℕ → Bool
 is_instantiated h i = nat_lt i h.instantiated_section_count
 
@@ -30,12 +30,13 @@ section_refusal bytes h i =
 abbrev pub loader_here : List ℕ → Header → ℕ → Option (List ℕ)
 loader_here bytes h i =
     if is_instantiated h i then None
-    else section_at bytes i >>= (λ s. if s.section_kind == 4 then Some (raw_of bytes s) else None)
+    else section_at bytes i >>= (λ s. if s.section_kind == loader_section then Some (raw_of bytes s) else None)
 
 -- the first of the loader sections that aren't instantiated
 abbrev pub loader_of : List ℕ → Header → Option (List ℕ)
 loader_of bytes h = first_among (loader_here bytes h) 0 h.section_count
 
+-- what the container consists of, if it has a loader section
 abbrev pub with_loader : List ℕ → Header → Option (List ℕ) → Result Contained ViewFault
 with_loader bytes h None = Err NoLoader
 with_loader bytes h (Some loader) = Ok (record { bytes = bytes; header = h; loader = loader })
@@ -55,13 +56,6 @@ container_of bytes = option_map_or (judged bytes) (header_of bytes) (Err TooShor
 abbrev pub IsContainer : Contained → Type 0
 IsContainer c = container_of c.bytes ≡ Ok c
 
--- `IsContainer` in other words: the parts are there and no test is met
-pub record IsAccepted (c : Contained) : Type 0 where
-  pub header : header_of c.bytes ≡ Some c.header
-  pub tests : first_met (header_tests c.header (length c.bytes)) ≡ None
-  pub sections : first_among (section_refusal c.bytes c.header) 0 c.header.section_count ≡ None
-  pub loader : loader_of c.bytes c.header ≡ Some c.loader
-
 -- a section: its header and its raw bytes
 pub record Section : Type 0 where
   pub header : SectionHeader
@@ -78,7 +72,7 @@ section_of c i =
     then option_map (section_in c.bytes) (section_at c.bytes i)
     else None
 
--- the zero-ended name at an offset into the table of names; none at a negative offset
+-- the zero-ended name at an offset into the section name table; none at a negative offset
 abbrev pub name_in : Contained → ℤ → Option (List ℕ)
 name_in c (pos offset) = name_at c.bytes (names_from c.header + offset)
 name_in c (negsuc _) = None
@@ -87,9 +81,10 @@ name_in c (negsuc _) = None
 abbrev pub section_name_of : Contained → ℕ → Option (List ℕ)
 section_name_of c i = section_of c i >>= (λ s. name_in c s.header.name_offset)
 
--- what every instantiated section meets
+-- what every instantiated section meets: it has a kind that may be, its image fits its memory and can come of
+-- its raw bytes, and its alignment can be placed
 pub record IsInstantiable (s : Section) : Type 0 where
   pub kind : IsTrue (is_instantiable s.header.section_kind)
   pub image : s.header.unpacked_size ≤ s.header.total_size
-  pub unpacked : s.header.section_kind ≢ 2 → s.header.unpacked_size ≤ length s.raw
-  pub alignment : s.header.alignment ≤ 31
+  pub unpacked : s.header.section_kind ≢ pattern_data_section → s.header.unpacked_size ≤ length s.raw
+  pub alignment : s.header.alignment ≤ greatest_alignment

@@ -1,26 +1,28 @@
--- A section header: 28 bytes, the first right after the container header (Mac OS Runtime
--- Architectures, "PEF Structure", section headers; PEFSectionHeader of PEFBinaryFormat.h).
+-- A section: its header of 28 bytes, and its contents (Mac OS Runtime Architectures, "PEF Structure", section
+-- headers and section contents; PEFSectionHeader of PEFBinaryFormat.h). The order of its tests is this
+-- project's own.
 use Rattle.std.specs.Prelude.{ℕ, ◌+◌, ◌*◌, ◌==◌, ◌&&◌, ◌||◌, Bool, not, List, [], ◌∷◌, Option, Some, nat_lt, nat_le, take, drop}
 use Rattle.std.specs.Int.{w32}
 use Rattle.pef_words.specs.Bytes.{number_at, signed_at}
 use Rattle.pef_words.specs.Refusals.{◌>>=◌}
+use Rattle.pef_views.specs.Header.{section_header_from}
 use Rattle.pef_views.specs.declared.section.SectionHeader.{SectionHeader}
 use Rattle.pef_views.specs.declared.fault.ViewFault.{ViewFault}
 use Rattle.pef_views.specs.declared.fault.ViewFault.TheVariants.{SectionOutside, BadSectionKind, BadSizes, BadAlignment}
 
--- the header of section i; none where it passes the end
+-- the header of section i, field by field; none where it passes the end
 unfoldable pub section_at : List ℕ → ℕ → Option SectionHeader
 section_at bytes i = do
-  name ← signed_at w32 4 bytes (40 + 28 * i)
-  address ← number_at 4 bytes (40 + 28 * i + 4)
-  total ← number_at 4 bytes (40 + 28 * i + 8)
-  unpacked ← number_at 4 bytes (40 + 28 * i + 12)
-  packed ← number_at 4 bytes (40 + 28 * i + 16)
-  offset ← number_at 4 bytes (40 + 28 * i + 20)
-  kind ← number_at 1 bytes (40 + 28 * i + 24)
-  share ← number_at 1 bytes (40 + 28 * i + 25)
-  alignment ← number_at 1 bytes (40 + 28 * i + 26)
-  reserved ← number_at 1 bytes (40 + 28 * i + 27)
+  name ← signed_at w32 4 bytes (section_header_from i)
+  address ← number_at 4 bytes (section_header_from i + 4)
+  total ← number_at 4 bytes (section_header_from i + 8)
+  unpacked ← number_at 4 bytes (section_header_from i + 12)
+  packed ← number_at 4 bytes (section_header_from i + 16)
+  offset ← number_at 4 bytes (section_header_from i + 20)
+  kind ← number_at 1 bytes (section_header_from i + 24)
+  share ← number_at 1 bytes (section_header_from i + 25)
+  alignment ← number_at 1 bytes (section_header_from i + 26)
+  reserved ← number_at 1 bytes (section_header_from i + 27)
   Some (record {
     name_offset = name;
     default_address = address;
@@ -38,22 +40,34 @@ section_at bytes i = do
 abbrev pub is_inside : SectionHeader → ℕ → Bool
 is_inside s len = s.packed_size == 0 || nat_le (s.container_offset + s.packed_size) len
 
--- code, unpacked data, pattern-initialized data, a constant, or executable data
+-- the kinds of pattern-initialized data and of loader sections (kPEFPatternDataSection, kPEFLoaderSection)
+abbrev pub pattern_data_section : ℕ
+pattern_data_section = 2
+
+abbrev pub loader_section : ℕ
+loader_section = 4
+
+-- the kinds that may be instantiated: code, unpacked data, pattern-initialized data, constant, executable data
+-- (kPEFCodeSection, kPEFUnpackedDataSection, kPEFPatternDataSection, kPEFConstantSection, kPEFExecDataSection)
 abbrev pub is_instantiable : ℕ → Bool
-is_instantiable kind = kind == 0 || kind == 1 || kind == 2 || kind == 3 || kind == 6
+is_instantiable kind = kind == 0 || kind == 1 || kind == pattern_data_section || kind == 3 || kind == 6
 
 -- the image fits the memory, and the raw bytes of all but pattern-initialized data are enough for it
 abbrev pub sizes_fit : SectionHeader → Bool
-sizes_fit s = nat_le s.unpacked_size s.total_size && (s.section_kind == 2 || nat_le s.unpacked_size s.packed_size)
+sizes_fit s = nat_le s.unpacked_size s.total_size && (s.section_kind == pattern_data_section || nat_le s.unpacked_size s.packed_size)
+
+-- the greatest alignment of an instantiated section, as an exponent of two: addresses have 32 bits
+abbrev pub greatest_alignment : ℕ
+greatest_alignment = 31
 
 -- the tests of a section, which is instantiated or isn't, in a container of some length, in order
 unfoldable pub section_tests : Bool → SectionHeader → ℕ → List (Bool × ViewFault)
 section_tests instantiated s len = (not (is_inside s len), SectionOutside)
     ∷ (instantiated && not (is_instantiable s.section_kind), BadSectionKind)
     ∷ (instantiated && not (sizes_fit s), BadSizes)
-    ∷ (instantiated && nat_lt 31 s.alignment, BadAlignment)
+    ∷ (instantiated && nat_lt greatest_alignment s.alignment, BadAlignment)
     ∷ []
 
--- the raw bytes: packedSize bytes at containerOffset
+-- the raw bytes of a section, its contents: packedSize bytes at containerOffset
 abbrev pub raw_of : List ℕ → SectionHeader → List ℕ
 raw_of bytes s = take s.packed_size (drop s.container_offset bytes)

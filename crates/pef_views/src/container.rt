@@ -5,8 +5,8 @@ ghost use Rattle.pef_words.specs.Refusals.{first_among, result_map};
 ghost use Rattle.pef_views.specs.Container.{IsInstantiable, container_of, loader_here, loader_of, section_refusal, section_name_of, section_of};
 
 use crate::fault::ViewFault;
-use crate::header::{Header, read_header, test_header};
-use crate::layout::{CONTAINER_HEADER_SIZE, LOADER_SECTION, SECTION_HEADER_SIZE};
+use crate::header::{Header, names_at, read_header, test_header};
+use crate::layout::LOADER_SECTION;
 use crate::section::{SectionView, raw_bytes, read_section, test_section};
 use pef_words::Cut;
 
@@ -100,9 +100,7 @@ impl<'a> Container<'a> {
         ensures { option_copied result ≡ section_name_of (contained self.now) i }
     {
         let offset = usize::try_from(self.section(i)?.name_offset).ok()?;
-        let names = CONTAINER_HEADER_SIZE
-            + SECTION_HEADER_SIZE * usize::from(self.header.section_count);
-        self.cut.name_at(names + offset)
+        self.cut.name_at(names_at(self.header) + offset)
     }
 }
 
@@ -157,6 +155,3 @@ fn loader_at<'a>(cut: Cut<'a>, header: Header, i: usize) -> Option<&'a [u8]>
     }
     Some(raw_bytes(cut, section))
 }
-
-#[cfg(test)]
-mod tests;

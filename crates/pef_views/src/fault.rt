@@ -77,6 +77,11 @@ impl ViewFault {
 }
 
 impl fmt::Display for ViewFault {
+    ghost use Rattle.std.specs.Prelude.{Some};
+    ghost use Rattle.pef_views.specs.Faults.{fault_name};
+
+    ghost output = { λ fault. Some (fault_name fault) };
+
     fn fmt<W: fmt::Write>(&self, f: &mut fmt::Formatter<W>) -> fmt::Result {
         f.write_str(self.name())
     }

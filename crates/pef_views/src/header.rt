@@ -1,18 +1,20 @@
-ghost use Rattle.std.specs.Prelude.{◌≡◌};
+ghost use Rattle.std.specs.Prelude.{◌≡◌, ◌<◌, ◌^◌};
 ghost use Rattle.std.specs.Result.{result_err};
 ghost use Rattle.pef_words.specs.Refusals.{first_met};
-ghost use Rattle.pef_views.specs.Header.{header_of, header_tests};
+ghost use Rattle.pef_views.specs.Header.{header_of, header_tests, names_from, section_header_from};
 
 use crate::fault::ViewFault;
 use crate::layout::{
     ARCHITECTURE_AT, CONTAINER_HEADER_SIZE, CONTAINER_RESERVED_AT, CURRENT_VERSION_AT,
     DATE_TIME_STAMP_AT, FORMAT_VERSION, FORMAT_VERSION_AT, INSTANTIATED_SECTION_COUNT_AT,
-    OLD_DEFINITION_VERSION_AT, OLD_IMPLEMENTATION_VERSION_AT, POWERPC, SECTION_COUNT_AT,
-    SECTION_HEADER_SIZE, TAG_1, TAG_1_AT, TAG_2, TAG_2_AT,
+    OLD_DEF_VERSION_AT, OLD_IMP_VERSION_AT, POWERPC, SECTION_COUNT_AT, SECTION_HEADER_SIZE, TAG_1,
+    TAG_1_AT, TAG_2, TAG_2_AT,
 };
 use pef_words::Cut;
 
 /// The container header, field by field (PEFContainerHeader).
+///
+/// Reserved fields aren't tested, nor is the time.
 #[derive(Clone, Copy, Debug, PartialEq, Eq)]
 pub struct Header {
     pub tag_1: u32,
@@ -22,10 +24,12 @@ pub struct Header {
     /// Seconds since the first of January 1904.
     pub date_time_stamp: u32,
     /// The oldest version of the library's definition that this implementation still serves.
-    pub old_definition_version: u32,
+    pub old_def_version: u32,
     /// The oldest version of the library's implementation that a client built with it still takes.
-    pub old_implementation_version: u32,
+    pub old_imp_version: u32,
+    /// The version of this container.
     pub current_version: u32,
+    /// How many section headers follow.
     pub section_count: u16,
     /// How many sections, from the first on, get memory.
     pub instantiated_section_count: u16,
@@ -42,8 +46,8 @@ pub(crate) fn read_header(cut: Cut<'_>) -> Option<Header>
         architecture: cut.u32_at(ARCHITECTURE_AT)?,
         format_version: cut.u32_at(FORMAT_VERSION_AT)?,
         date_time_stamp: cut.u32_at(DATE_TIME_STAMP_AT)?,
-        old_definition_version: cut.u32_at(OLD_DEFINITION_VERSION_AT)?,
-        old_implementation_version: cut.u32_at(OLD_IMPLEMENTATION_VERSION_AT)?,
+        old_def_version: cut.u32_at(OLD_DEF_VERSION_AT)?,
+        old_imp_version: cut.u32_at(OLD_IMP_VERSION_AT)?,
         current_version: cut.u32_at(CURRENT_VERSION_AT)?,
         section_count: cut.u16_at(SECTION_COUNT_AT)?,
         instantiated_section_count: cut.u16_at(INSTANTIATED_SECTION_COUNT_AT)?,
@@ -68,8 +72,24 @@ pub(crate) fn test_header(header: Header, len: usize) -> Result<(), ViewFault>
     if header.instantiated_section_count > header.section_count {
         return Err(ViewFault::BadSectionCounts);
     }
-    if len < CONTAINER_HEADER_SIZE + SECTION_HEADER_SIZE * usize::from(header.section_count) {
+    if len < names_at(header) {
         return Err(ViewFault::TooShort);
     }
     Ok(())
+}
+
+/// Where the header of section `i` begins.
+pub(crate) fn section_header_at(i: usize) -> usize
+    requires { i < 2 ^ 16 }
+    ensures { result ≡ section_header_from i }
+{
+    CONTAINER_HEADER_SIZE + SECTION_HEADER_SIZE * i
+}
+
+/// Where the section name table begins.
+pub(crate) fn names_at(header: Header) -> usize
+    ensures value { result ≡ names_from header }
+    ensures bound { result < 2 ^ 32 }
+{
+    section_header_at(usize::from(header.section_count))
 }

@@ -4,19 +4,23 @@ ghost use Rattle.pef_words.specs.Refusals.{first_met};
 ghost use Rattle.pef_views.specs.Section.{is_inside, is_instantiable, raw_of, section_at, section_tests, sizes_fit};
 
 use crate::fault::ViewFault;
+use crate::header::section_header_at;
 use crate::layout::{
-    ALIGNMENT_AT, CODE_SECTION, CONSTANT_SECTION, CONTAINER_HEADER_SIZE, CONTAINER_OFFSET_AT,
-    DEFAULT_ADDRESS_AT, EXECUTABLE_DATA_SECTION, MAX_ALIGNMENT, NAME_OFFSET_AT, PACKED_SIZE_AT,
-    PATTERN_DATA_SECTION, SECTION_HEADER_SIZE, SECTION_KIND_AT, SECTION_RESERVED_AT, SHARE_KIND_AT,
-    TOTAL_SIZE_AT, UNPACKED_DATA_SECTION, UNPACKED_SIZE_AT,
+    ALIGNMENT_AT, CODE_SECTION, CONSTANT_SECTION, CONTAINER_OFFSET_AT, DEFAULT_ADDRESS_AT,
+    EXECUTABLE_DATA_SECTION, MAX_ALIGNMENT, NAME_OFFSET_AT, PACKED_SIZE_AT, PATTERN_DATA_SECTION,
+    SECTION_KIND_AT, SECTION_RESERVED_AT, SHARE_KIND_AT, TOTAL_SIZE_AT, UNPACKED_DATA_SECTION,
+    UNPACKED_SIZE_AT,
 };
 use pef_words::Cut;
 
 /// A section header, field by field (PEFSectionHeader).
+///
+/// Lengths count bytes. The share kind and the reserved field aren't tested.
 #[derive(Clone, Copy, Debug, PartialEq, Eq)]
 pub struct SectionHeader {
-    /// Where the name begins in the table of names, or a negative number for none.
+    /// Where the name begins in the section name table, or a negative number for none.
     pub name_offset: i32,
+    /// The address that the linker preferred. Nothing rests on it.
     pub default_address: u32,
     /// The length of the section's memory.
     pub total_size: u32,
@@ -26,6 +30,7 @@ pub struct SectionHeader {
     pub packed_size: u32,
     /// Where the raw bytes begin, counted from the container's first byte.
     pub container_offset: u32,
+    /// One of the kinds of [`layout`](crate::layout), if the section is instantiated.
     pub section_kind: u8,
     pub share_kind: u8,
     /// The memory's alignment, as an exponent of two.
@@ -33,7 +38,7 @@ pub struct SectionHeader {
     pub reserved: u8,
 }
 
-/// A section: the fields of its [`SectionHeader`], and its raw bytes in the container.
+/// A section: the fields of its [`SectionHeader`], and its raw bytes in the container, its contents.
 #[derive(Clone, Copy, Debug)]
 pub struct SectionView<'a> {
     pub name_offset: i32,
@@ -77,7 +82,7 @@ pub(crate) fn read_section(cut: Cut<'_>, i: usize) -> Option<SectionHeader>
     requires { i < 2 ^ 16 }
     ensures { result ≡ section_at cut.entry.bytes.now i }
 {
-    let at = CONTAINER_HEADER_SIZE + SECTION_HEADER_SIZE * i;
+    let at = section_header_at(i);
     Some(SectionHeader {
         name_offset: cut.i32_at(at + NAME_OFFSET_AT)?,
         default_address: cut.u32_at(at + DEFAULT_ADDRESS_AT)?,
@@ -146,16 +151,15 @@ fn has_fitting_sizes(section: SectionHeader) -> bool
             || section.unpacked_size <= section.packed_size)
 }
 
-/// A section's raw bytes.
+/// A section's raw bytes. Where it has none and its place passes the end, they are the empty slice at
+/// the end.
 pub(crate) fn raw_bytes<'a>(cut: Cut<'a>, section: SectionHeader) -> &'a [u8]
     requires { IsTrue (is_inside section (length cut.bytes.now)) }
     ensures { result.now ≡ raw_of cut.entry.bytes.now section }
 {
-    // A section without raw bytes may have any offset.
-    if section.packed_size == 0 {
-        return &[];
-    }
-    let (_, rest) = cut.bytes().split_at(section.container_offset as usize);
+    let bytes = cut.bytes();
+    let from = bytes.len().min(section.container_offset as usize);
+    let (_, rest) = bytes.split_at(from);
     let (raw, _) = rest.split_at(section.packed_size as usize);
     raw
 }

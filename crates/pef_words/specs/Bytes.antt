@@ -1,18 +1,20 @@
--- What stands at a place of a byte string. Every number of a PEF container is big-endian (Mac OS
--- Runtime Architectures, "PEF Structure"), and a name ends before its first zero byte.
+-- What stands at a place of a byte string (Mac OS Runtime Architectures, "PEF Structure"): every number of
+-- a container is big-endian, and the names in its section name table and in its loader string table end
+-- with a zero byte.
 use Rattle.std.specs.Prelude.{ℕ, ℤ, ◌+◌, ◌==◌, List, [], ◌∷◌, Option, None, Some, option_map, length, take, drop, nat_le, if◌then◌else◌}
 use Rattle.std.specs.Int.{Width, cast_signed}
 use Rattle.byteorder.specs.Endian.{big_number}
 
--- the number in the n bytes from a place, the highest byte first; none where it would pass the end
+-- the number in the n bytes from a place, the highest byte first; none where it would pass the end (the
+-- unsigned fields of PEFBinaryFormat.h: UInt8, UInt16, UInt32)
 unfoldable pub number_at : ℕ → List ℕ → ℕ → Option ℕ
 number_at n bytes at = if nat_le (at + n) (length bytes) then Some (big_number n (drop at bytes)) else None
 
--- the same, read as two's complement
+-- the same, read as two's complement (its signed fields: SInt16, SInt32)
 abbrev pub signed_at : Width → ℕ → List ℕ → ℕ → Option ℤ
 signed_at w n bytes at = option_map (cast_signed w) (number_at n bytes at)
 
--- the len bytes from a place; none where they would pass the end
+-- the len bytes from a place; none where they would pass the end (a table, or a section's contents)
 unfoldable pub part_of : List ℕ → ℕ → ℕ → Option (List ℕ)
 part_of bytes from len = if nat_le (from + len) (length bytes) then Some (take len (drop from bytes)) else None
 
@@ -21,6 +23,7 @@ abbrev pub before_zero : List ℕ → Option (List ℕ)
 before_zero [] = None
 before_zero (b ∷ bytes) = if b == 0 then Some [] else option_map (λ name. b ∷ name) (before_zero bytes)
 
--- the zero-ended name at a place, without its zero byte
+-- the zero-ended name at a place, without its zero byte (a name of the section name table, or of the
+-- loader string table)
 unfoldable pub name_at : List ℕ → ℕ → Option (List ℕ)
 name_at bytes from = before_zero (drop from bytes)

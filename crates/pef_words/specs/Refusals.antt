@@ -1,4 +1,6 @@
--- The words in which a grammar says which of its refusals comes first, and what is read where none does.
+-- The words in which a grammar says which of its refusals comes first, and what is read where there is
+-- none. The format says what is wrong, and not what is told first: the order of the tests is this
+-- project's own, and stands in each grammar as a list.
 use Rattle.std.specs.Prelude.{ℕ, zero, suc, ◌+◌, Bool, List, [], ◌∷◌, Option, None, Some, Result, Ok, Err, if◌then◌else◌}
 use Rattle.std.specs.Option.{option_or}
 

@@ -8,14 +8,16 @@ use memchr::memchr;
 
 /// A view of some bytes, which it borrows.
 ///
-/// Numbers are big-endian, and offsets are whole numbers that may pass the end: the answer is then
-/// `None`.
+/// Numbers are big-endian, as all of a PEF container are (Mac OS Runtime Architectures, "PEF
+/// Structure"). Offsets and lengths count bytes. They may pass the end: the answer is then `None`, and
+/// nothing wraps.
 #[derive(Clone, Copy, Debug)]
 pub struct Cut<'a> {
     bytes: &'a [u8],
 }
 
 impl<'a> Cut<'a> {
+    /// A view of all of `bytes`.
     pub fn new(bytes: &'a [u8]) -> Cut<'a>
         ensures { result.bytes.now ≡ bytes.entry.now }
     {
@@ -29,19 +31,21 @@ impl<'a> Cut<'a> {
         self.bytes
     }
 
+    /// How many bytes there are.
     pub fn len(self) -> usize
         ensures { result ≡ length self.entry.bytes.now }
     {
         self.bytes.len()
     }
 
+    /// Whether there are no bytes.
     pub fn is_empty(self) -> bool
         ensures { result ≡ (length self.entry.bytes.now == 0) }
     {
         self.bytes.is_empty()
     }
 
-    /// The unsigned byte at `at`.
+    /// The byte at `at`, or `None` where there is none.
     #[tactic(auto, using(crate::proofs::Numbers::number_in_part), unfolding(crate::specs::Bytes::number_at, crate::specs::Bytes::part_of))]
     pub fn u8_at(self, at: usize) -> Option<u8>
         ensures { result ≡ number_at 1 self.entry.bytes.now at }
@@ -49,7 +53,7 @@ impl<'a> Cut<'a> {
         self.bytes.get(at).copied()
     }
 
-    /// The unsigned number in the two bytes from `at`.
+    /// The unsigned number in the two bytes from `at`, or `None` where they pass the end.
     #[tactic(auto, using(crate::proofs::Numbers::number_in_part), unfolding(crate::specs::Bytes::number_at, crate::specs::Bytes::part_of))]
     pub fn u16_at(self, at: usize) -> Option<u16>
         ensures { result ≡ number_at 2 self.entry.bytes.now at }
@@ -58,14 +62,14 @@ impl<'a> Cut<'a> {
         Some(BigEndian::read_u16(bytes))
     }
 
-    /// The two's complement number in the two bytes from `at`.
+    /// The same two bytes as a two's complement number.
     pub fn i16_at(self, at: usize) -> Option<i16>
         ensures { result ≡ signed_at w16 2 self.entry.bytes.now at }
     {
         Some(self.u16_at(at)?.cast_signed())
     }
 
-    /// The unsigned number in the four bytes from `at`.
+    /// The unsigned number in the four bytes from `at`, or `None` where they pass the end.
     #[tactic(auto, using(crate::proofs::Numbers::number_in_part), unfolding(crate::specs::Bytes::number_at, crate::specs::Bytes::part_of))]
     pub fn u32_at(self, at: usize) -> Option<u32>
         ensures { result ≡ number_at 4 self.entry.bytes.now at }
@@ -74,7 +78,7 @@ impl<'a> Cut<'a> {
         Some(BigEndian::read_u32(bytes))
     }
 
-    /// The two's complement number in the four bytes from `at`.
+    /// The same four bytes as a two's complement number.
     pub fn i32_at(self, at: usize) -> Option<i32>
         ensures { result ≡ signed_at w32 4 self.entry.bytes.now at }
     {
@@ -94,7 +98,8 @@ impl<'a> Cut<'a> {
         })
     }
 
-    /// The bytes from `from` up to the first zero byte at or after it, or `None` where there is none.
+    /// The zero-ended name at `from`: the bytes up to the first zero byte at or after it, without that
+    /// byte, or `None` where there is no such byte.
     pub fn name_at(self, from: usize) -> Option<&'a [u8]>
         ensures { option_copied result ≡ name_at self.entry.bytes.now from }
     {

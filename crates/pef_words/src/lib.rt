@@ -1,6 +1,7 @@
 //! Borrowed parts of a byte string, and the big-endian numbers and zero-ended names in it.
 //!
-//! Every reader of the workspace takes its bytes through a [`Cut`].
+//! The readers of containers, loader sections, export tables and relocation programs take their numbers,
+//! tables and names through a [`Cut`].
 #![tactic(auto)]
 
 mod cut;

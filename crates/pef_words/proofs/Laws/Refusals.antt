@@ -1,8 +1,9 @@
--- The first of the answers at some places, and the first test of a table.
+-- The first of the answers at some places, the first test of a table, and what is read unless refused.
 use Rattle.std.proofs.Common.{◌≡◌, ℕ, zero, suc, ◌+◌, ◌-◌, ◌<◌, ◌≤◌, ◌⊎◌, Bool, true, false, cond, Option, None, Some, refl, subst, inl, inr, arith}
+use Rattle.std.specs.Prelude.{Result, Ok}
 use Rattle.std.specs.Option.{option_or}
 use Rattle.std.proofs.lemmas.Bool.Decides.{eqb_tells}
-use Rattle.pef_words.specs.Refusals.{first_among}
+use Rattle.pef_words.specs.Refusals.{first_among, unless}
 
 -- a place without an answer is passed over
 pub first_among-next : {F : Type 0} (answer : ℕ → Option F) (i n : ℕ) → i < n → answer i ≡ None → first_among answer i (n - i) ≡ first_among answer (i + 1) (n - (i + 1))
@@ -23,7 +24,7 @@ first_among-end answer i n past =
     rw e refl
 
 -- of two answers of which there is none, both are none
-pub neither : {F : Type 0} (a b : Option F) → option_or a b ≡ None → (a ≡ None) × (b ≡ None)
+neither : {F : Type 0} (a b : Option F) → option_or a b ≡ None → (a ≡ None) × (b ≡ None)
 neither None b none = (refl, none)
 neither (Some x) b none = (none, absurd (cc))
 
@@ -37,6 +38,24 @@ none_among {F} answer from (suc n) k none low high =
       | inr other ↦ (let apart = other.1 in none_among answer (from + 1) n k both.1 (omega arith) (omega arith))
     ]
 
+-- where no place has an answer, there is no first one
+pub first_among-none : {F : Type 0} (answer : ℕ → Option F) (from n : ℕ) → ((k : ℕ) → from ≤ k → k < from + n → answer k ≡ None) → first_among answer from n ≡ None
+first_among-none answer from zero none = refl
+first_among-none answer from (suc n) none =
+    let later = first_among-none answer (from + 1) n (λ k low high. none k (omega arith) (omega arith)) in
+    rw (none from (omega arith) (omega arith), later) refl
+
+-- where no place before k has an answer, that of k is the first
+pub first_among-at : {F : Type 0} (answer : ℕ → Option F) (from n k : ℕ) (x : F) → k < n → ((j : ℕ) → from ≤ j → j < from + k → answer j ≡ None) → answer (from + k) ≡ Some x → first_among answer from n ≡ Some x
+first_among-at answer from zero k x under none here = absurd (omega arith)
+first_among-at answer from (suc n) zero x under none here =
+    let e : from + 0 ≡ from = omega arith in
+    rw (rw e at here) refl
+first_among-at answer from (suc n) (suc k) x under none here =
+    let e : from + suc k ≡ from + 1 + k = omega arith in
+    let later = first_among-at answer (from + 1) n k x (omega arith) (λ j low high. none j (omega arith) (omega arith)) (rw e at here) in
+    rw (none from (omega arith) (omega arith), later) refl
+
 -- a place with its answer
 pub record AnswersAt {F : Type 0} (answer : ℕ → Option F) (from n : ℕ) (x : F) : Type 0 where
   pub at : ℕ
@@ -45,7 +64,7 @@ pub record AnswersAt {F : Type 0} (answer : ℕ → Option F) (from n : ℕ) (x 
   pub is : answer at ≡ Some x
 
 -- of two answers, the first is one of them
-pub either_is : {F : Type 0} (a b : Option F) (x : F) → option_or a b ≡ Some x → (a ≡ Some x) ⊎ (b ≡ Some x)
+either_is : {F : Type 0} (a b : Option F) (x : F) → option_or a b ≡ Some x → (a ≡ Some x) ⊎ (b ≡ Some x)
 either_is None b x some = inr some
 either_is (Some y) b x some = inl some
 
@@ -62,3 +81,8 @@ some_among answer from (suc n) x some =
 pub first_unmet : {F : Type 0} (b : Bool) (x : F) (others : Option F) → cond b (Some x) others ≡ None → (b ≡ false) × (others ≡ None)
 first_unmet true x others none = absurd (cc)
 first_unmet false x others none = (refl, none)
+
+-- what is read unless there is a refusal was read where there is none
+pub unless_ok : {A F : Type 0} (fault : Option F) (r : Result A F) (x : A) → unless fault r ≡ Ok x → (fault ≡ None) × (r ≡ Ok x)
+unless_ok None r x ok = (refl, ok)
+unless_ok (Some fault) r x ok = absurd (cc)

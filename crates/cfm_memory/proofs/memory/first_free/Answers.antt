@@ -1,8 +1,9 @@
 -- The search goes on behind an instance that is in the way, and ends before one that isn't.
 use Rattle.std.proofs.Common.{◌≡◌, ℕ, ◌+◌, ◌%◌, ◌<◌, ◌≤◌, ◌^◌, max, List, ◌∷◌, length, drop, drop-cons, get_or, map, refl, subst, inl, inr, add-one, arith}
 use Rattle.std.proofs.lemmas.Bool.{cases_lt}
+use Rattle.cfm_memory.specs.Limits.{first_address}
 use Rattle.cfm_memory.specs.declared.memory.Slot.{Slot}
-use Rattle.cfm_memory.specs.Seen.{seen}
+use Rattle.cfm_memory.specs.Kept.Views.{seen}
 use Rattle.cfm_memory.specs.Placement.{end_of}
 use Rattle.cfm_memory.proofs.Placing.{no_multiple_between, first_before, first_behind, first_from}
 use Rattle.cfm_memory.proofs.memory.first_free.Goals as goal
@@ -22,7 +23,7 @@ pub loop-slot-init : goal.loop-slot-init
 loop-slot-init c = record {
   aligned = c.next_multiple_of-address.ensures.multiple;
   bound = omega arith;
-  laid_out = (65536, c.requires.laid_out);
+  laid_out = (first_address, c.requires.laid_out);
   rest = λ r h. first_from _ _ _ _ _ r c.next_multiple_of-address.ensures.lower_bound
       (λ b low aligned. no_multiple_between _ b c.args.step (omega arith) c.next_multiple_of-address.ensures.multiple aligned (omega arith)) h;
 }

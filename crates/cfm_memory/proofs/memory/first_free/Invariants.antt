@@ -1,8 +1,9 @@
 -- The first free address behind the instances so far is the first of all.
 use Rattle.std.proofs.Common.{◌≡◌, ℕ, ◌%◌, ◌^◌, ◌<◌, drop, map}
+use Rattle.cfm_memory.specs.Limits.{first_address}
 use Rattle.cfm_memory.specs.Placement.{IsLaidOut}
-use Rattle.cfm_memory.specs.Seen.{seen}
-use Rattle.cfm_memory.specs.Searches.{IsFirstFree}
+use Rattle.cfm_memory.specs.Kept.Views.{seen}
+use Rattle.cfm_memory.specs.Kept.Searches.{IsFirstFree}
 use Rattle.cfm_memory.proofs.memory.first_free.Given as goal
 
 abbrev pub invariant-loop-slot : goal.invariant-loop-slot
@@ -10,5 +11,5 @@ invariant-loop-slot l = record {
   aligned : l.address % l.step ≡ 0;
   bound : l.address < 2 ^ 33;
   laid_out : (from : ℕ) × IsLaidOut from (2 ^ 32) (map seen (drop l.slot-index l.slots));
-  rest : (r : ℕ) → IsFirstFree l.taken l.step l.address (map seen (drop l.slot-index l.slots)) r → IsFirstFree l.taken l.step 65536 (map seen l.slots) r;
+  rest : (r : ℕ) → IsFirstFree l.taken l.step l.address (map seen (drop l.slot-index l.slots)) r → IsFirstFree l.taken l.step first_address (map seen l.slots) r;
 }

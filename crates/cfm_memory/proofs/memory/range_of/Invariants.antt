@@ -1,7 +1,7 @@
 -- What is left of the instances answers as all of them do.
 use Rattle.std.proofs.Common.{◌≡◌, drop, map}
 use Rattle.cfm_memory.specs.Instances.{range_at}
-use Rattle.cfm_memory.specs.Seen.{seen}
+use Rattle.cfm_memory.specs.Kept.Views.{seen}
 use Rattle.cfm_memory.proofs.memory.range_of.Given as goal
 
 abbrev pub invariant-loop-slot : goal.invariant-loop-slot

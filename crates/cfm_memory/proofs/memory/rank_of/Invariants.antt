@@ -1,7 +1,7 @@
 -- The place lies as far behind the passed ones as it lies among those that are left.
 use Rattle.std.proofs.Common.{◌≡◌, ◌+◌, drop, map}
-use Rattle.cfm_memory.specs.Seen.{seen}
-use Rattle.cfm_memory.specs.Searches.{rank_in}
+use Rattle.cfm_memory.specs.Kept.Views.{seen}
+use Rattle.cfm_memory.specs.Kept.Searches.{rank_in}
 use Rattle.cfm_memory.proofs.memory.rank_of.Given as goal
 
 abbrev pub invariant-loop-i : goal.invariant-loop-i

@@ -2,7 +2,7 @@
 use Rattle.std.proofs.Common.{◌≡◌, ◌≢◌, ℕ, suc, ◌+◌, ◌*◌, ◌%◌, ◌≤◌, List, ◌∷◌, drop, drop-cons, get_or, refl, sym, ap, ◌∙◌, inl, inr, add-one, arith}
 use Rattle.std.proofs.lemmas.Nat.{pow-add}
 use Rattle.std.proofs.lemmas.Bool.Decides.{eqb_tells, leb_tells}
-use Rattle.pef_pidata.specs.Reading.{argument_from}
+use Rattle.pef_pidata.specs.Instructions.{argument_from}
 use Rattle.pef_pidata.proofs.argument.read_argument.Goals as goal
 
 passed : (i value b : ℕ) (rest : List ℕ) → 128 ≤ b → i ≢ 4 → argument_from i value (b ∷ rest) ≡ argument_from (i + 1) (value * 128 + b % 128) rest

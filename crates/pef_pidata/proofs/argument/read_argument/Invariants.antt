@@ -1,6 +1,6 @@
 -- The bytes that are left continue the argument, and each byte has added seven bits.
 use Rattle.std.proofs.Common.{◌≡◌, ◌*◌, ◌^◌, ◌<◌, ◌≤◌, drop}
-use Rattle.pef_pidata.specs.Reading.{argument_from}
+use Rattle.pef_pidata.specs.Instructions.{argument_from}
 use Rattle.pef_pidata.proofs.argument.read_argument.Given as goal
 
 abbrev pub invariant-loop-i : goal.invariant-loop-i

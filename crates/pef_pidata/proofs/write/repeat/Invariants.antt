@@ -1,14 +1,12 @@
--- What is written is whole blocks, and so is the piece of it that is copied next.
+-- What is written is whole blocks.
 use Rattle.std.proofs.Common.{◌≡◌, ◌+◌, ◌-◌, ◌*◌, ◌≤◌, length}
-use Rattle.pef_pidata.proofs.Repeats.{IsBegun, IsWhole}
+use Rattle.pef_pidata.proofs.Repeats.{IsBegun}
 use Rattle.pef_pidata.proofs.write.repeat.Given as goal
 
 abbrev pub invariant-loop-done : goal.invariant-loop-done
 invariant-loop-done l = record {
   begun : IsBegun l.block l.target l.done;
-  whole : IsWhole l.block l.piece;
-  least : length l.block ≤ l.piece;
-  most : l.piece ≤ l.done;
+  least : length l.block ≤ l.done;
   inside : l.done ≤ length l.target;
   len : length l.target ≡ length l.block * (l.repeats + 1);
 }

@@ -3,8 +3,8 @@ use Rattle.std.proofs.Common.{◌≡◌, ℕ, List, length, map, refl, sym, ap, 
 use Rattle.std.specs.List.{remove}
 use Rattle.cfm_memory.specs.declared.memory.Slot.{Slot}
 use Rattle.cfm_memory.specs.Instances.{without}
-use Rattle.cfm_memory.specs.Searches.{index_in}
-use Rattle.cfm_memory.specs.Seen.{seen}
+use Rattle.cfm_memory.specs.Kept.Searches.{index_in}
+use Rattle.cfm_memory.specs.Kept.Views.{seen}
 use Rattle.cfm_memory.proofs.Changes.{without_is, laid_out_without, map-remove}
 use Rattle.cfm_memory.proofs.Held.{held_under}
 use Rattle.cfm_memory.proofs.memory.Memory.give_back.Goals as goal

@@ -2,8 +2,8 @@
 use Rattle.std.proofs.Common.{suc, inl, inr, ◌≤◌, length, map, refl, sym, ap, ◌∙◌, arith}
 use Rattle.std.proofs.lemmas.Bool.Decides.{leb_tells}
 use Rattle.std.proofs.lemmas.List.{length-map}
-use Rattle.cfm_memory.specs.Searches.{index_in}
-use Rattle.cfm_memory.specs.Seen.{seen}
+use Rattle.cfm_memory.specs.Kept.Searches.{index_in}
+use Rattle.cfm_memory.specs.Kept.Views.{seen}
 use Rattle.cfm_memory.proofs.Changes.{bytes_nowhere}
 use Rattle.cfm_memory.proofs.Held.{held_slot}
 use Rattle.cfm_memory.proofs.memory.Memory.holds.Goals as goal

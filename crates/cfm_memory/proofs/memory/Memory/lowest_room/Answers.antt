@@ -1,5 +1,6 @@
 -- What an instance takes and where the instances end are small enough for the search.
 use Rattle.std.proofs.Common.{◌^◌, arith}
+use Rattle.cfm_memory.specs.Limits.{first_address}
 use Rattle.cfm_memory.proofs.Changes.{laid_out_to}
 use Rattle.cfm_memory.proofs.Placing.{some_taken, taken_most}
 use Rattle.cfm_memory.proofs.memory.Memory.lowest_room.Goals as goal
@@ -11,7 +12,7 @@ first_free-address-requires-clause-taken c =
     (omega arith, omega arith)
 
 pub first_free-address-requires-clause-laid_out : goal.first_free-address-requires-clause-laid_out
-first_free-address-requires-clause-laid_out c = rw c.deref.ensures.value (laid_out_to 65536 c.self.inside.limit (2 ^ 32) _ (omega arith) c.self.invariant)
+first_free-address-requires-clause-laid_out c = rw c.deref.ensures.value (laid_out_to first_address c.self.inside.limit (2 ^ 32) _ (omega arith) c.self.invariant)
 
 pub overflow_add-address : goal.overflow_add-address
 overflow_add-address c =

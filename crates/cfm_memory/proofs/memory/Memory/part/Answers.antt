@@ -1,7 +1,7 @@
 -- The slot at that place has the bytes of the instance.
 use Rattle.std.proofs.Common.{length, map, sym, ap, ◌∙◌, arith}
-use Rattle.cfm_memory.specs.Searches.{index_in}
-use Rattle.cfm_memory.specs.Seen.{seen}
+use Rattle.cfm_memory.specs.Kept.Searches.{index_in}
+use Rattle.cfm_memory.specs.Kept.Views.{seen}
 use Rattle.cfm_memory.proofs.Changes.{laid_out_seen}
 use Rattle.cfm_memory.proofs.Held.{held_under, held_slot, held_length}
 use Rattle.cfm_memory.proofs.memory.Memory.part.Goals as goal

@@ -1,8 +1,9 @@
 -- What is left behind the part is in that slot alone.
 use Rattle.std.proofs.Common.{length, map, refl, sym, ap, ◌∙◌, arith}
 use Rattle.std.specs.Vec.{with_items}
-use Rattle.cfm_memory.specs.Searches.{index_in}
-use Rattle.cfm_memory.specs.Seen.{seen}
+use Rattle.cfm_memory.specs.Limits.{first_address}
+use Rattle.cfm_memory.specs.Kept.Searches.{index_in}
+use Rattle.cfm_memory.specs.Kept.Views.{seen}
 use Rattle.cfm_memory.proofs.Changes.{laid_out_written}
 use Rattle.cfm_memory.proofs.Held.{held_under, held_slot, held_length, slot_written}
 use Rattle.cfm_memory.proofs.memory.Memory.part_mut.Goals as goal
@@ -20,7 +21,7 @@ invariant_of-self-lent c = λ w.
     let is = c.index_of-index.ensures ∙ ap (λ s. index_in (map seen s) c.args.place.address) c.deref.ensures.value in
     let written = slot_written c.self.inside.slots.items c.args.place.address c.index_of-index.result c.index_mut-slot.result.now (record { address = c.index_mut-slot.result.now.address; bytes = with_items c.index_mut-slot.result.now.bytes w }) w
     is (omega arith) c.index_mut-slot.ensures.value (rw (c.index_mut-slot.result.now.bytes.ok.0) refl) in
-    rw written (laid_out_written 65536 c.self.inside.limit _ c.args.place.address w c.self.invariant)
+    rw written (laid_out_written first_address c.self.inside.limit _ c.args.place.address w c.self.invariant)
 
 pub returns : goal.returns
 returns c =

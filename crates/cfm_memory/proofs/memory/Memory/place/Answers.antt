@@ -1,8 +1,8 @@
 -- The new slot stands at its rank, and its bytes are zeros.
 use Rattle.std.proofs.Common.{length, map, refl, sym, ap, ◌∙◌, arith}
 use Rattle.std.proofs.lemmas.List.{length-replicate}
-use Rattle.cfm_memory.specs.Searches.{rank_in}
-use Rattle.cfm_memory.specs.Seen.{seen}
+use Rattle.cfm_memory.specs.Kept.Searches.{rank_in}
+use Rattle.cfm_memory.specs.Kept.Views.{seen}
 use Rattle.cfm_memory.proofs.Placed.{placed_laid_out, placed_slots, rank_inside}
 use Rattle.cfm_memory.proofs.memory.Memory.place.Goals as goal
 

@@ -1,7 +1,9 @@
-use super::*;
+use pef_views::Container;
 use std::process::Abort;
 
 /// Two instantiated sections, code of 8 bytes and data of 16, and a loader section of 90.
+///
+/// The section headers stand at 40, 68 and 96, and the section name table at 124.
 const BYTES: [u8; 250] = [
     0x4A, 0x6F, 0x79, 0x21, 0x70, 0x65, 0x66, 0x66, 0x70, 0x77, 0x70, 0x63, 0x00, 0x00, 0x00, 0x01,
     0x00, 0x00, 0x00, 0x00, 0x00, 0x00, 0x00, 0x00, 0x00, 0x00, 0x00, 0x00, 0x00, 0x00, 0x00, 0x01,
@@ -40,7 +42,7 @@ fn answer(bytes: &[u8]) -> u32 {
 }
 
 #[test]
-fn refuses_by_the_first_rule_that_is_broken(rt: HostRuntime) {
+fn read(rt: HostRuntime) {
     for len in 0..=BYTES.len() {
         let want = match len {
             0..124 => 1,
@@ -49,7 +51,6 @@ fn refuses_by_the_first_rule_that_is_broken(rt: HostRuntime) {
         };
         assert_eq!(rt; answer(&BYTES[..len]), want, "the first {len} bytes");
     }
-    // Section 0's header stands at 40, section 1's at 68, section 2's at 96, and a fourth's would at 124.
     let rows: [(&[(usize, u32)], u32); 37] = [
         (&[(0, 0x4A6F_7920)], 2),
         (&[(4, 0x7065_6667)], 2),
@@ -101,46 +102,121 @@ fn refuses_by_the_first_rule_that_is_broken(rt: HostRuntime) {
 }
 
 #[test]
-fn shows_its_parts(rt: HostRuntime) {
-    let container = Container::read(&BYTES).expect(&rt, "a container");
-    let header = container.header();
-    assert_eq!(rt;
-        (header.section_count, header.instantiated_section_count),
-        (3, 2)
-    );
-    assert_eq!(rt; (header.current_version, header.date_time_stamp), (1, 0));
-    assert_eq!(rt; container.loader(), &BYTES[160..250]);
-
-    let data = container.section(1).expect(&rt, "section 1");
-    assert_eq!(rt; (data.name_offset, data.default_address), (-1, 0));
-    assert_eq!(rt;
-        (data.total_size, data.unpacked_size, data.packed_size),
-        (16, 16, 16)
-    );
-    assert_eq!(rt; data.container_offset, 0x90);
-    assert_eq!(rt;
-        (data.section_kind, data.share_kind, data.alignment),
-        (1, 1, 4)
-    );
-    assert_eq!(rt; data.raw, &BYTES[0x90..0xA0]);
-    assert_eq!(rt; container.raw(0), Some(&BYTES[0x80..0x88]));
-    assert_eq!(rt; container.raw(2), Some(&BYTES[160..250]));
-    assert_eq!(rt; container.raw(3), None);
-    assert!(rt; container.section(3).is_none());
-    assert_eq!(rt; container.section_name(0), None);
-    assert_eq!(rt; container.section_name(3), None);
-
-    // Raw bytes beyond the image belong to the section, and the first of two loader sections counts.
-    let bytes = changed(&rt, &[(52, 4), (32, 0x0004_0002), (148, 0x0400_0000)]);
-    let container = Container::read(&bytes).expect(&rt, "a container");
-    assert_eq!(rt; container.raw(0), Some(&BYTES[0x80..0x88]));
-    assert_eq!(rt; container.loader(), &BYTES[160..250]);
+fn header(rt: HostRuntime) {
+    let words = [
+        (16, 0xB000_0001),
+        (20, 0x0100_0002),
+        (24, 0x0200_0003),
+        (28, 0x0300_0004),
+        (36, 0x0500_0006),
+    ];
+    let bytes = changed(&rt, &words);
+    let header = Container::read(&bytes).expect(&rt, "a container").header();
+    let fields = [
+        header.tag_1,
+        header.tag_2,
+        header.architecture,
+        header.format_version,
+        header.date_time_stamp,
+        header.old_def_version,
+        header.old_imp_version,
+        header.current_version,
+        u32::from(header.section_count),
+        u32::from(header.instantiated_section_count),
+        header.reserved,
+    ];
+    let want = [
+        0x4A6F_7921,
+        0x7065_6666,
+        0x7077_7063,
+        1,
+        0xB000_0001,
+        0x0100_0002,
+        0x0200_0003,
+        0x0300_0004,
+        3,
+        2,
+        0x0500_0006,
+    ];
+    assert_eq!(rt; fields, want);
 }
 
 #[test]
-fn names_sections(rt: HostRuntime) {
-    // The table of names begins at 124. The bytes from 129 on are 11 22 33 44 55 66 77 00, and the
-    // last zero byte of the container is at 248.
+fn section(rt: HostRuntime) {
+    // Of section 2, which isn't instantiated, all fields are other ones.
+    let words = [
+        (96, 0xFFFF_FFFE),
+        (100, 0x0100_0002),
+        (104, 0x0200_0003),
+        (108, 0x0300_0004),
+        (120, 0x0405_0607),
+    ];
+    let bytes = changed(&rt, &words);
+    let container = Container::read(&bytes).expect(&rt, "a container");
+    // Name offset; default address; sizes: total, unpacked, packed; place; kind, share kind, alignment, reserved.
+    let rows = [
+        (0, -1, [0, 8, 8, 8, 0x80], [0, 4, 4, 0]),
+        (1, -1, [0, 16, 16, 16, 0x90], [1, 1, 4, 0]),
+        (
+            2,
+            -2,
+            [0x0100_0002, 0x0200_0003, 0x0300_0004, 90, 0xA0],
+            [4, 5, 6, 7],
+        ),
+    ];
+    for (i, name_offset, words, bytes) in rows {
+        let section = container.section(i).expect(&rt, "a section");
+        assert_eq!(rt; section.name_offset, name_offset, "section {i}");
+        let found = [
+            section.default_address,
+            section.total_size,
+            section.unpacked_size,
+            section.packed_size,
+            section.container_offset,
+        ];
+        assert_eq!(rt; found, words, "section {i}");
+        let found = [
+            section.section_kind,
+            section.share_kind,
+            section.alignment,
+            section.reserved,
+        ];
+        assert_eq!(rt; found, bytes, "section {i}");
+        assert_eq!(rt; Some(section.raw), container.raw(i), "section {i}");
+    }
+    assert!(rt; container.section(3).is_none());
+}
+
+#[test]
+fn raw_and_loader(rt: HostRuntime) {
+    // What is changed; the raw bytes of section 0; the loader section's.
+    let rows: [(&[(usize, u32)], &[u8], &[u8]); 5] = [
+        (&[], &BYTES[0x80..0x88], &BYTES[160..]),
+        // An image of four bytes: the raw bytes beyond it belong to the section.
+        (&[(52, 4)], &BYTES[0x80..0x88], &BYTES[160..]),
+        // No raw bytes, at the end and far behind it.
+        (&[(52, 0), (56, 0), (60, 250)], &[], &BYTES[160..]),
+        (&[(52, 0), (56, 0), (60, 0xFFFF_FFFF)], &[], &BYTES[160..]),
+        // The first of two loader sections counts.
+        (
+            &[(32, 0x0004_0002), (148, 0x0400_0000)],
+            &BYTES[0x80..0x88],
+            &BYTES[160..],
+        ),
+    ];
+    for (words, raw, loader) in rows {
+        let bytes = changed(&rt, words);
+        let container = Container::read(&bytes).expect(&rt, "a container");
+        assert_eq!(rt; container.raw(0), Some(raw), "{words:?}");
+        assert_eq!(rt; container.loader(), loader, "{words:?}");
+        assert_eq!(rt; container.raw(2), Some(loader), "{words:?}");
+        assert_eq!(rt; container.raw(4), None, "{words:?}");
+    }
+}
+
+#[test]
+fn section_name(rt: HostRuntime) {
+    // The bytes from 129 on are 11 22 33 44 55 66 77 00, and the container's last zero byte is at 248.
     let rows: [(u32, Option<&[u8]>); 7] = [
         (0, Some(b"")),
         (5, Some(b"\x11\x22\x33\x44\x55\x66\x77")),
@@ -154,5 +230,6 @@ fn names_sections(rt: HostRuntime) {
         let bytes = changed(&rt, &[(40, offset)]);
         let container = Container::read(&bytes).expect(&rt, "a container");
         assert_eq!(rt; container.section_name(0), want, "at {offset}");
+        assert_eq!(rt; container.section_name(3), None);
     }
 }

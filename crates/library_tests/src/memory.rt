@@ -1,24 +1,29 @@
-use super::{Memory, MemoryFault, Place};
+use cfm_memory::{Memory, MemoryFault, Place};
 use std::alloc::Global;
 use std::process::Abort;
 
-/// Places instances in turn; an address of 0 stands for the refusal `NoRoom`.
+fn placed(rt: &impl Abort, memory: &mut Memory, size: u32, alignment: u8) -> Place {
+    assert!(rt; alignment <= 31);
+    match memory.place(size, alignment) {
+        Ok(place) => place,
+        Err(fault) => panic!(rt; "size {size}, alignment {alignment}: {fault}"),
+    }
+}
+
+/// Places instances in turn: size, alignment and address. An address of 0 stands for the refusal `NoRoom`.
 fn place_all(rt: &impl Abort, memory: &mut Memory, rows: &[(u32, u8, u32)]) {
     for (size, alignment, address) in rows {
         assert!(rt; *alignment <= 31);
-        match memory.place(*size, *alignment) {
+        let (size, address) = (*size, *address);
+        match memory.place(size, *alignment) {
             Ok(place) => {
-                assert_eq!(rt;
-                    place.address,
-                    *address,
-                    "size {size}, alignment {alignment}"
-                );
-                assert_eq!(rt; place.size, *size);
+                let want = Place { address, size };
+                assert_eq!(rt; place, want, "size {size}, alignment {alignment}");
                 assert!(rt; memory.holds(place));
             }
             Err(fault) => {
                 assert_eq!(rt; fault, MemoryFault::NoRoom);
-                assert_eq!(rt; *address, 0, "size {size}, alignment {alignment}");
+                assert_eq!(rt; address, 0, "size {size}, alignment {alignment}");
             }
         }
     }
@@ -32,7 +37,7 @@ fn give_back(rt: &impl Abort, memory: &mut Memory, address: u32, size: u32) {
 }
 
 #[test]
-fn takes_the_lowest_free_address(rt: HostRuntime) {
+fn place_and_give_back(rt: HostRuntime) {
     let alloc = rt.alloc();
     let mut memory = Memory::new(alloc, 0x0100_0000);
     place_all(
@@ -58,6 +63,7 @@ fn takes_the_lowest_free_address(rt: HostRuntime) {
         &mut memory,
         &[(17, 0, 0x1_0060), (16, 5, 0x1_0080), (16, 4, 0x1_0030)],
     );
+    // What ends at the limit, or fills a gap, has just room.
     place_all(
         &rt,
         &mut memory,
@@ -68,42 +74,62 @@ fn takes_the_lowest_free_address(rt: HostRuntime) {
             (0, 31, 0),
         ],
     );
-
-    let mut small = Memory::new(alloc, 0x1_0020);
-    place_all(&rt, &mut small, &[(17, 4, 0x1_0000), (0, 4, 0)]);
-    place_all(
-        &rt,
-        &mut Memory::new(alloc, 0x1_000F),
-        &[(0, 0, 0), (15, 0, 0)],
-    );
-    place_all(
-        &rt,
-        &mut Memory::new(alloc, 0x1_0010),
-        &[(0, 17, 0), (16, 16, 0x1_0000), (0, 0, 0)],
-    );
-    place_all(
-        &rt,
-        &mut Memory::new(alloc, 0xFFFF_FFFF),
-        &[(4, 31, 0x8000_0000), (4, 31, 0), (0xFFFF_FFFF, 0, 0)],
-    );
-
-    assert_eq!(rt; MemoryFault::NoRoom.number(), 67);
-    assert_eq!(rt; MemoryFault::OutOfMemory.number(), 99);
 }
 
-fn placed(rt: &impl Abort, memory: &mut Memory, size: u32) -> Place {
-    match memory.place(size, 4) {
-        Ok(place) => place,
-        Err(fault) => panic!(rt; "refused {fault}"),
+#[test]
+fn place_below_a_limit(rt: HostRuntime) {
+    let alloc = rt.alloc();
+    let rows: [(u32, &[(u32, u8, u32)]); 5] = [
+        (0, &[(0, 0, 0)]),
+        (0x1_000F, &[(0, 0, 0), (15, 0, 0)]),
+        (0x1_0010, &[(0, 17, 0), (16, 16, 0x1_0000), (0, 0, 0)]),
+        (0x1_0020, &[(17, 4, 0x1_0000), (0, 4, 0)]),
+        (
+            0xFFFF_FFFF,
+            &[(4, 31, 0x8000_0000), (4, 31, 0), (0xFFFF_FFFF, 0, 0)],
+        ),
+    ];
+    for (limit, places) in rows {
+        place_all(&rt, &mut Memory::new(alloc, limit), places);
+    }
+}
+
+/// Want of memory isn't told where there is memory.
+#[test]
+fn place_much(rt: HostRuntime) {
+    let alloc = rt.alloc();
+    // How many instances, the size and the alignment of each, and the distance of their addresses: 64 MiB
+    // and more in one piece and in many, and all that the sections of a script may have.
+    let rows = [
+        (1, 0x0400_0001, 31, 0),
+        (8, 0x0100_0000, 12, 0x0100_0000),
+        (1_025, 0x0001_0000, 4, 0x0001_0000),
+    ];
+    for (count, size, alignment, distance) in rows {
+        let mut memory = Memory::new(alloc, 0xFFFF_FFFF);
+        let first = placed(&rt, &mut memory, size, alignment).address;
+        let mut address = first;
+        for _ in 1..count {
+            address = address.wrapping_add(distance);
+            let place = placed(&rt, &mut memory, size, alignment);
+            assert_eq!(rt; place, Place { address, size }, "{count} of {size}");
+        }
+        for address in [first, address] {
+            let place = Place { address, size };
+            assert!(rt; memory.holds(place));
+            let part = memory.part(place);
+            assert_eq!(rt; part.len(), size as usize);
+            assert_eq!(rt; (part.first(), part.last()), (Some(&0), Some(&0)));
+        }
     }
 }
 
 /// A memory with instances of 16, 20 and 0 bytes, of which the second is written to.
 fn written(rt: &impl Abort, alloc: Global) -> Memory {
     let mut memory = Memory::new(alloc, 0x2_0000);
-    placed(rt, &mut memory, 16);
-    let middle = placed(rt, &mut memory, 20);
-    placed(rt, &mut memory, 0);
+    placed(rt, &mut memory, 16, 4);
+    let middle = placed(rt, &mut memory, 20, 4);
+    placed(rt, &mut memory, 0, 4);
     assert!(rt; memory.holds(middle));
     let part = memory.part_mut(middle);
     assert_eq!(rt; part.len(), 20);
@@ -112,7 +138,7 @@ fn written(rt: &impl Abort, alloc: Global) -> Memory {
 }
 
 #[test]
-fn keeps_bytes_apart(rt: HostRuntime) {
+fn holds_and_part(rt: HostRuntime) {
     let memory = written(&rt, rt.alloc());
     for (address, size, byte) in [(0x1_0000, 16, 0), (0x1_0010, 20, 7), (0x1_0030, 0, 0)] {
         let place = Place { address, size };
@@ -124,8 +150,13 @@ fn keeps_bytes_apart(rt: HostRuntime) {
     for (address, size) in [(0x1_0000, 20), (0x1_0010, 16), (0x1_0020, 4), (0x1_0040, 0)] {
         assert!(rt; !memory.holds(Place { address, size }));
     }
+}
+
+#[test]
+fn at(rt: HostRuntime) {
+    let memory = written(&rt, rt.alloc());
     // Address, length, and the sum of the bytes there, where they lie inside one instance.
-    let ranges = [
+    let rows = [
         (0x1_0000, 16, Some(0)),
         (0x1_0008, 9, None),
         (0x1_0010, 20, Some(140)),
@@ -139,7 +170,7 @@ fn keeps_bytes_apart(rt: HostRuntime) {
         (0x0_FFFF, 1, None),
         (0xFFFF_FFFF, 0xFFFF_FFFF, None),
     ];
-    for (address, len, sum) in ranges {
+    for (address, len, sum) in rows {
         let found = memory.at(address, len).map(|range| range
             .iter()
             .fold(0u64, |s, b| s.saturating_add(u64::from(*b))));

@@ -1,5 +1,7 @@
--- How an instruction of pattern-initialized data is read (Mac OS Runtime Architectures, "Pattern-Initialized Data"):
--- its first byte has an opcode in the high three bits and a count in the low five, and arguments may follow.
+-- How an instruction of pattern-initialized data is read (Mac OS Runtime Architectures, "PEF Structure",
+-- pattern-initialized data; kPEFPkDataZero and what stands beside it in PEFBinaryFormat.h): its first byte has
+-- an opcode in the high three bits and a count in the low five, and arguments may follow. Which refusal comes
+-- first is this project's own choice.
 use Rattle.std.specs.Prelude.{ℕ, ◌+◌, ◌*◌, ◌/◌, ◌%◌, ◌^◌, ◌==◌, List, [], ◌∷◌, Result, Ok, Err, if◌then◌else◌, nat_lt}
 use Rattle.pef_pidata.specs.declared.fault.PackFault.{PackFault}
 use Rattle.pef_pidata.specs.declared.fault.PackFault.TheVariants.{Truncated, BadOpcode, CountTooLarge, TooShort}
@@ -17,15 +19,20 @@ abbrev pub ◌>>=◌ : {A B : Type 0} → Result A PackFault → (A → Result B
 (Ok x) >>= f = f x
 (Err fault) >>= f = Err fault
 
--- an argument of which some bytes were read: seven bits a byte, the highest first, and the top bit is set in all but the last.
--- A fifth byte is the last, and the value is below 2 ^ 32
+-- the value of an argument with one more byte: each has seven bits of it, the highest first
+abbrev pub with_byte : ℕ → ℕ → ℕ
+with_byte value b = value * 128 + b % 128
+
+-- an argument of which some bytes were read. The top bit is set in all bytes but the last; a fifth byte is
+-- the last, and the value is below 2 ^ 32
 abbrev pub argument_from : ℕ → ℕ → List ℕ → Read ℕ
 argument_from read value [] = Err Truncated
 argument_from read value (b ∷ rest) =
     if nat_lt b 128
-    then (if nat_lt (value * 128 + b % 128) (2 ^ 32) then Ok (value * 128 + b % 128, rest) else Err CountTooLarge)
-    else (if read == 4 then Err CountTooLarge else argument_from (read + 1) (value * 128 + b % 128) rest)
+    then (if nat_lt (with_byte value b) (2 ^ 32) then Ok (with_byte value b, rest) else Err CountTooLarge)
+    else (if read == 4 then Err CountTooLarge else argument_from (read + 1) (with_byte value b) rest)
 
+-- an argument, and the bytes behind it
 unfoldable pub argument : List ℕ → Read ℕ
 argument bytes = argument_from 0 0 bytes
 
@@ -33,7 +40,8 @@ argument bytes = argument_from 0 0 bytes
 unfoldable pub counted : ℕ → List ℕ → Read ℕ
 counted count bytes = if count == 0 then argument bytes else Ok (count, bytes)
 
--- the arguments of an instruction with parts
+-- the arguments of an instruction with parts: how many bytes the common part has, how many each custom part,
+-- and how many custom parts there are
 unfoldable pub woven_arguments : ℕ → List ℕ → Read Woven
 woven_arguments low bytes = do
   common ← counted low bytes
@@ -41,7 +49,9 @@ woven_arguments low bytes = do
   parts ← argument custom.1
   Ok (record { common = common.0; custom = custom.0; parts = parts.0 }, parts.1)
 
--- an instruction by its opcode, from its count on
+-- an instruction by its opcode, from its count on: zero, block copy, repeated block, and repeated block or
+-- zeros interleaved with custom parts (kPEFPkDataZero, kPEFPkDataBlock, kPEFPkDataRepeat,
+-- kPEFPkDataRepeatBlock, kPEFPkDataRepeatZero)
 unfoldable pub by_opcode : ℕ → ℕ → List ℕ → Read Instruction
 by_opcode opcode low bytes =
     if opcode == 0 then (do

@@ -1,0 +1,10 @@
+-- The numbers of placement. The format leaves open where a section lies, so they are this project's own.
+use Rattle.std.specs.Prelude.{ℕ}
+
+-- the lowest address of an instance (00010000 in hex)
+abbrev pub first_address : ℕ
+first_address = 65536
+
+-- the addresses of instances, and how many bytes each takes, are multiples of this
+abbrev pub grain : ℕ
+grain = 16

@@ -1,7 +1,0 @@
--- What is written and what the parts that are left spell is what all parts spell.
-use Rattle.std.proofs.Common.{◌≡◌, ◌-◌, ◌*◌, ◌++◌, take, drop, replicate}
-use Rattle.pef_pidata.specs.Pattern.{woven}
-use Rattle.pef_pidata.proofs.write.weave_zeros.Given as goal
-
-abbrev pub invariant-loop-i : goal.invariant-loop-i
-invariant-loop-i l = take (l.i * l.step) l.target ++ woven (l.count - l.i) l.size (replicate l.common 0) (drop (l.i * l.size) l.parts) ≡ woven l.count l.size (replicate l.common 0) l.parts
