@@ -5,4 +5,6 @@
 #![tactic(auto)]
 
 #[cfg(test)]
+mod reloc;
+#[cfg(test)]
 mod words;

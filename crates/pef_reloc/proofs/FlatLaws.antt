@@ -12,7 +12,8 @@ use Rattle.pef_reloc.specs.declared.instr.Repeat.{Repeat}
 use Rattle.pef_reloc.specs.Instrs.{halfword_bytes, halfwords_of, instr_fits, instr_length, instrs_fit, repeat_free, repeat_of, spelled}
 use Rattle.pef_reloc.specs.Decoding.{Code, code_more, code_of}
 use Rattle.pef_reloc.specs.Steps.{State, Act, add, need, acts_from, additions, all_below, is_flat, named_sections, names_below, next_state, start, trace}
-use Rattle.pef_reloc.specs.Unrolled.{first_fault, instrs_of, program_fault, step_limit, unrolled, unrolled_after}
+use Rattle.pef_reloc.specs.Limits.{step_limit}
+use Rattle.pef_reloc.specs.Unrolled.{first_fault, instrs_of, program_fault, unrolled, unrolled_after}
 use Rattle.pef_reloc.specs.Applied.{Addresses, Done, applied, relocated, then_done, unless_refused}
 use Rattle.pef_reloc.proofs.Acts.{need-there}
 use Rattle.pef_reloc.proofs.ActLists.{applied-append}

@@ -10,6 +10,7 @@ mod fault;
 mod fixup;
 mod instr;
 mod machine;
+mod opcode;
 mod program;
 mod recent;
 mod relocate;
@@ -26,6 +27,3 @@ pub use program::{Instrs, Program};
 pub use recent::MAX_STEPS;
 pub use relocate::apply;
 pub use theorems::{acts_in_turn, plain_programs, spelled_programs};
-
-#[cfg(test)]
-mod tests;

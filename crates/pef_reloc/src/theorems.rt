@@ -5,7 +5,8 @@ ghost use Rattle.pef_reloc.specs.Fixups.{bases_below, fixups_fit};
 ghost use Rattle.pef_reloc.specs.Instrs.{instrs_fit, program_length, spelled};
 ghost use Rattle.pef_reloc.specs.Plain.{plain_program};
 ghost use Rattle.pef_reloc.specs.Steps.{Act, Makes, State, acts_from, add, is_flat, names_below, start, trace};
-ghost use Rattle.pef_reloc.specs.Unrolled.{instrs_of, program_fault, step_limit};
+ghost use Rattle.pef_reloc.specs.Limits.{step_limit};
+ghost use Rattle.pef_reloc.specs.Unrolled.{instrs_of, program_fault};
 ghost use Rattle.pef_reloc.specs.declared.fixup.Fixup.{Fixup};
 ghost use Rattle.pef_reloc.specs.declared.instr.Instr.{Instr};
 
