@@ -1,7 +1,9 @@
+pub mod Additions
 pub mod Applied
 pub mod Decoding
 pub mod Faults
 pub mod Fixups
+pub mod Headers
 pub mod Instrs
 pub mod Kept
 pub mod Limits
