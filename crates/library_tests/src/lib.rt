@@ -9,6 +9,8 @@ mod memory;
 #[cfg(test)]
 mod pidata;
 #[cfg(test)]
+mod reloc;
+#[cfg(test)]
 mod views;
 #[cfg(test)]
 mod words;

@@ -5,8 +5,9 @@ use Rattle.pef_reloc.specs.declared.fault.RelocFault.TheVariants.{WordOutside, I
 use Rattle.pef_reloc.specs.declared.fixup.Base.{Base}
 use Rattle.pef_reloc.specs.declared.fixup.Base.TheVariants.{Section, Import}
 use Rattle.pef_reloc.specs.Steps.{Act, add, need, added}
-use Rattle.pef_reloc.specs.Applied.{Addresses, address_of, Done, added_at, applied, unless_refused, word_added}
-use Rattle.pef_reloc.specs.Machines.{Stands}
+use Rattle.pef_reloc.specs.Applied.{Addresses, address_of, Done, added_at, applied, unless_refused}
+use Rattle.pef_reloc.specs.Kept.Rows.{word_added}
+use Rattle.pef_reloc.specs.Kept.Rows.{Stands}
 
 abbrev memory_of : Done → List ℕ
 memory_of d = d.memory

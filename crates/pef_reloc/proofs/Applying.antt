@@ -10,13 +10,15 @@ use Rattle.pef_reloc.specs.declared.machine.Machine.{Machine}
 use Rattle.pef_reloc.specs.Instrs.{instr_length, repeat_of}
 use Rattle.pef_reloc.specs.Decoding.{Code, code_of, first_instr}
 use Rattle.pef_reloc.specs.Steps.{start}
-use Rattle.pef_reloc.specs.Unrolled.{code_fault, executed, instrs_of, program_fault, repeat_fault, step_limit, steps_as, steps_fault, unrolled, unrolled_after}
+use Rattle.pef_reloc.specs.Limits.{step_limit}
+use Rattle.pef_reloc.specs.Unrolled.{code_fault, executed, instrs_of, program_fault, repeat_fault, steps_as, steps_fault, unrolled, unrolled_after}
 use Rattle.pef_reloc.specs.Applied.{Addresses, relocated}
-use Rattle.pef_reloc.specs.Machines.{Before, Holds, Leaves, Moves, Runs}
+use Rattle.pef_reloc.specs.Kept.Machines.{Holds, Moves, Runs}
+use Rattle.pef_reloc.specs.Kept.Places.{Before}
 use Rattle.pef_reloc.proofs.Blocks.{repeat-reach}
 use Rattle.pef_reloc.proofs.CodeLemmas.{code-end, code-next}
 use Rattle.pef_reloc.proofs.Readings.{fault-none}
-use Rattle.pef_reloc.proofs.Runs.{leaves-all, leaves-more, leaves-fault, leaves-none}
+use Rattle.pef_reloc.proofs.Runs.{Leaves, leaves-all, leaves-more, leaves-fault, leaves-none}
 
 -- what is left to apply
 pub record ApplyLeft (bytes : List ℕ) (a : Addresses) (at : ℕ) (m : Machine) (memory whole : List ℕ) : Type 0 where

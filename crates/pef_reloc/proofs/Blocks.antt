@@ -11,9 +11,10 @@ use Rattle.pef_reloc.specs.Instrs.{instr_length}
 use Rattle.pef_reloc.specs.Steps.{State}
 use Rattle.pef_reloc.specs.Unrolled.{reached, repeated, block_of, block_fault, repeat_fault}
 use Rattle.pef_reloc.specs.Applied.{Addresses}
-use Rattle.pef_reloc.specs.Machines.{Before, Holds, Leaves, Moves, Runs, Spans}
+use Rattle.pef_reloc.specs.Kept.Machines.{Holds, Moves, Runs}
+use Rattle.pef_reloc.specs.Kept.Places.{Before, Spans}
 use Rattle.pef_reloc.proofs.CodeLemmas.{some_length}
-use Rattle.pef_reloc.proofs.Runs.{leaves-all, leaves-more, leaves-fault, leaves-none, leaves-holds}
+use Rattle.pef_reloc.proofs.Runs.{Leaves, leaves-all, leaves-more, leaves-fault, leaves-none, leaves-holds}
 
 -- the place that instructions end at isn't before the one that they begin at
 pub spans-order : (bytes : List ℕ) (from : ℕ) (instrs : List Instr) (to : ℕ) → Spans bytes from instrs to → from ≤ to

@@ -12,7 +12,8 @@ use Rattle.pef_reloc.specs.declared.instr.Repeat.{Repeat}
 use Rattle.pef_reloc.specs.Instrs.{halfword_bytes, halfwords_of, instr_fits, instr_length, instrs_fit, repeat_free, repeat_of, spelled}
 use Rattle.pef_reloc.specs.Decoding.{Code, code_more, code_of}
 use Rattle.pef_reloc.specs.Steps.{State, Act, add, need, acts_from, additions, all_below, is_flat, named_sections, names_below, next_state, start, trace}
-use Rattle.pef_reloc.specs.Unrolled.{first_fault, instrs_of, program_fault, step_limit, unrolled, unrolled_after}
+use Rattle.pef_reloc.specs.Limits.{step_limit}
+use Rattle.pef_reloc.specs.Unrolled.{first_fault, instrs_of, program_fault, unrolled, unrolled_after}
 use Rattle.pef_reloc.specs.Applied.{Addresses, Done, applied, relocated, then_done, unless_refused}
 use Rattle.pef_reloc.proofs.Acts.{need-there}
 use Rattle.pef_reloc.proofs.ActLists.{applied-append}
@@ -44,7 +45,8 @@ length_spelling (LgBySection k) = refl
 length_spelling (LgSetSectC k) = refl
 length_spelling (LgSetSectD k) = refl
 
-behind : (x : Instr) (rest : List ℕ) → drop (2 * instr_length x) (halfword_bytes (halfwords_of x) ++ rest) ≡ rest
+-- what stands behind the bytes of an instruction
+pub behind : (x : Instr) (rest : List ℕ) → drop (2 * instr_length x) (halfword_bytes (halfwords_of x) ++ rest) ≡ rest
 behind x rest =
     ap (λ n. drop n (halfword_bytes (halfwords_of x) ++ rest)) (sym (length_spelling x))
     ∙ drop-append_seam (halfword_bytes (halfwords_of x)) rest
@@ -109,7 +111,8 @@ needs_met a (k ∷ sections) acts memory below =
 unless_same : (f : Option RelocFault) (m : List ℕ) (x y : Done) → x ≡ y → unless_refused f m x ≡ unless_refused f m y
 unless_same f m x y e = ap (unless_refused f m) e
 
-then_same : (d : Done) (f g : List ℕ → Done) → ((m : List ℕ) → f m ≡ g m) → then_done d f ≡ then_done d g
+-- what is done next in two ways that come to the same
+pub then_same : (d : Done) (f g : List ℕ → Done) → ((m : List ℕ) → f m ≡ g m) → then_done d f ≡ then_done d g
 then_same d f g e = unless_same d.fault d.memory (f d.memory) (g d.memory) (e d.memory)
 
 -- instructions that name sections that are there do their additions, and no other refusal comes

@@ -1,6 +1,7 @@
 pub mod Laws
 mod ActLists
 mod Acts
+mod AdditionLaws
 mod Applying
 mod Blocks
 mod CodeLemmas
@@ -8,7 +9,9 @@ mod Decodes
 mod FixupLemmas
 mod Halfwords
 mod FlatLaws
+mod HeaderLaws
 mod PlainLaws
+mod Readback
 mod Readings
 mod Rows
 mod Runs

@@ -10,6 +10,7 @@ use Rattle.pef_reloc.specs.declared.instr.Instr.TheVariants.{SetPosition, SmByIm
 use Rattle.pef_reloc.specs.Fixups.{base_below, base_fits, bases_below, fixups_fit, fixups_from}
 use Rattle.pef_reloc.specs.Instrs.{instr_fits, instr_length, instrs_fit, program_length, repeat_free}
 use Rattle.pef_reloc.specs.Steps.{Makes, State, added, additions, is_flat, names_below, next_state, start, trace}
+use Rattle.pef_reloc.specs.Limits.{most_imports, most_sections}
 use Rattle.pef_reloc.specs.Plain.{plain_addition, plain_from, plain_program}
 use Rattle.pef_words.proofs.Laws.Tests.{both_met, met_both}
 use Rattle.pef_reloc.proofs.FixupLemmas.{fixups_fit-parts, fixups_from-first}
@@ -67,13 +68,13 @@ move_fits : (here : Bool) (o : ℕ) (xs : List Instr) → o < 0x4000000 → inst
 move_fits true o xs under = refl
 move_fits false o xs under = rw (lt-ltb o 0x4000000 under) refl
 
-import_fits : (j : ℕ) (small : Bool) → nat_lt j 512 ≡ small → j < 65536 → instr_fits (cond small (SmByImport j) (LgByImport j)) ≡ true
+import_fits : (j : ℕ) (small : Bool) → nat_lt j 512 ≡ small → j < most_imports → instr_fits (cond small (SmByImport j) (LgByImport j)) ≡ true
 import_fits j true e under = e
 import_fits j false e under = lt-ltb j 0x4000000 (omega arith)
 
 addition_fits : (b : Base) → base_fits b ≡ true → instr_fits (plain_addition b) ≡ true
-addition_fits (Section k) fits = let under = ltb-true k 8 fits in lt-ltb k 512 (omega arith)
-addition_fits (Import j) fits = import_fits j (nat_lt j 512) refl (ltb-true j 65536 fits)
+addition_fits (Section k) fits = let under = ltb-true k most_sections fits in lt-ltb k 512 (omega arith)
+addition_fits (Import j) fits = import_fits j (nat_lt j 512) refl (ltb-true j most_imports fits)
 
 plain_from-fits : (end p : ℕ) (fs : List Fixup) → fixups_from end fs ≡ true → instrs_fit (plain_from p fs) ≡ true
 plain_from-fits end p [] apart = refl

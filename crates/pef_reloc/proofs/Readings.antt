@@ -6,8 +6,8 @@ use Rattle.pef_reloc.specs.declared.instr.Instr.{Instr}
 use Rattle.pef_reloc.specs.declared.recent.Reader.{Reader}
 use Rattle.pef_reloc.specs.Instrs.{instr_length, repeat_of}
 use Rattle.pef_reloc.specs.Decoding.{code_of, first_instr}
-use Rattle.pef_reloc.specs.Machines.{Before}
-use Rattle.pef_reloc.specs.Readers.{Marks, Passes}
+use Rattle.pef_reloc.specs.Kept.Places.{Before}
+use Rattle.pef_reloc.specs.Kept.Readers.{Marks, Passes}
 use Rattle.pef_reloc.specs.Unrolled.{code_fault, instr_fault, program_fault, steps_as}
 use Rattle.pef_reloc.proofs.CodeLemmas.{code-end, code-next, code-fault}
 

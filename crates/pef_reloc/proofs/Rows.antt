@@ -5,8 +5,9 @@ use Rattle.pef_reloc.specs.declared.fault.RelocFault.TheVariants.{ImportOutside}
 use Rattle.pef_reloc.specs.declared.fixup.Base.{Base}
 use Rattle.pef_reloc.specs.declared.fixup.Base.TheVariants.{Import}
 use Rattle.pef_reloc.specs.Steps.{add, added, row, pairs, numbered}
-use Rattle.pef_reloc.specs.Applied.{Addresses, applied, word_added}
-use Rattle.pef_reloc.specs.Machines.{Stands}
+use Rattle.pef_reloc.specs.Applied.{Addresses, applied}
+use Rattle.pef_reloc.specs.Kept.Rows.{word_added}
+use Rattle.pef_reloc.specs.Kept.Rows.{Stands}
 use Rattle.pef_reloc.proofs.Acts.{word-next, word-fault, import-fault}
 
 -- no additions are left

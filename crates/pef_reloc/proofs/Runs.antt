@@ -6,7 +6,7 @@ use Rattle.pef_reloc.specs.declared.instr.Instr.{Instr}
 use Rattle.pef_reloc.specs.declared.machine.Machine.{Machine}
 use Rattle.pef_reloc.specs.Steps.{State, acts_of, acts_from, state_after}
 use Rattle.pef_reloc.specs.Applied.{Addresses, Done, applied, then_done}
-use Rattle.pef_reloc.specs.Machines.{Holds, Leaves, Runs, Stepped}
+use Rattle.pef_reloc.specs.Kept.Machines.{Holds, Runs, Stepped}
 use Rattle.pef_reloc.proofs.ActLists.{applied-append, acts_from-append, state_after-append}
 use Rattle.pef_reloc.proofs.Rows.{nothing_done}
 
@@ -16,6 +16,13 @@ runs-one a old new before now instr answer step = record {
   does = λ s h. record { is = rw (append-nil (acts_of instr s)) (step.does s h).is };
   holds = step.holds;
 }
+
+-- what is left to do does what all would have done
+pub record Leaves (a : Addresses) (m : Machine) (memory : List ℕ) (left : List Instr) (whole : List ℕ) (all : List Instr) (begin : State) : Type 0 where
+  pub state : State
+  pub holds : Holds a m state
+  pub rest : applied a (acts_from left state) memory ≡ applied a (acts_from all begin) whole
+  pub after : state_after left state ≡ state_after all begin
 
 -- before anything ran all is left
 pub leaves-all : (a : Addresses) (m : Machine) (memory : List ℕ) (all : List Instr) (s : State) → Holds a m s → Leaves a m memory all memory all s

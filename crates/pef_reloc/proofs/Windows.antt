@@ -10,8 +10,8 @@ use Rattle.pef_reloc.specs.declared.instr.Instr.{Instr}
 use Rattle.pef_reloc.specs.declared.instr.Repeat.{Repeat}
 use Rattle.pef_reloc.specs.Decoding.{first_instr}
 use Rattle.pef_reloc.specs.Instrs.{instr_length, program_length, repeat_free, repeat_of}
-use Rattle.pef_reloc.specs.Machines.{Before, Spans}
-use Rattle.pef_reloc.specs.Readers.{Marks, flat_count}
+use Rattle.pef_reloc.specs.Kept.Places.{Before, Spans}
+use Rattle.pef_reloc.specs.Kept.Readers.{Marks, flat_count}
 use Rattle.pef_reloc.specs.Unrolled.{block_of, reached, repeat_fault, repeated, steps_as}
 use Rattle.pef_reloc.proofs.Blocks.{begins, reach, spans-order}
 use Rattle.pef_reloc.proofs.CodeLemmas.{some_length}

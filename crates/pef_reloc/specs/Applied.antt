@@ -28,12 +28,6 @@ pub record Done : Type 0 where
   pub memory : List ℕ
   pub fault : Option RelocFault
 
--- memory with an address added to a word, where the word is inside
-abbrev pub word_added : List ℕ → ℕ → ℕ → Done
-word_added memory at address =
-    if nat_le (at + 4) (length memory) then record { memory = added_at memory at address; fault = None }
-    else record { memory = memory; fault = Some WordOutside }
-
 -- an import that isn't there; a section that isn't there is no refusal of an addition
 abbrev pub is_missing : Addresses → Base → Bool
 is_missing a (Section k) = false

@@ -1,12 +1,13 @@
+pub mod Additions
 pub mod Applied
 pub mod Decoding
 pub mod Faults
 pub mod Fixups
+pub mod Headers
 pub mod Instrs
+pub mod Kept
 pub mod Limits
-pub mod Machines
 pub mod Plain
-pub mod Readers
 pub mod Steps
 pub mod Unrolled
 pub mod Views

@@ -1,5 +1,5 @@
--- The limits of the fixups of a section, which are this project's own. The code has them as constants;
--- here they stand as plain numbers, so that one checks the other.
+-- The limits of fixups and programs, which are this project's own. The code has them as constants; here
+-- they stand as plain numbers, so that one checks the other.
 use Rattle.std.specs.Prelude.{ℕ}
 
 -- how many sections may be named
@@ -17,3 +17,7 @@ most_fixups = 16384
 -- where the last word may end
 abbrev pub offset_limit : ℕ
 offset_limit = 16777216
+
+-- how many instructions a program may execute, each pass and each repeat counted
+abbrev pub step_limit : ℕ
+step_limit = 16777216

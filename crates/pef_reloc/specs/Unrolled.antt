@@ -9,6 +9,7 @@ use Rattle.pef_reloc.specs.declared.instr.Instr.{Instr}
 use Rattle.pef_reloc.specs.declared.instr.Repeat.{Repeat}
 use Rattle.pef_reloc.specs.Instrs.{instr_length, repeat_free, repeat_of}
 use Rattle.pef_reloc.specs.Decoding.{Code, code_of}
+pub use Rattle.pef_reloc.specs.Limits.{step_limit}
 
 -- the instructions of the last n halfwords, in front of others: of those before, the last one stands
 -- first
@@ -44,10 +45,6 @@ unrolled_after before (instr ∷ instrs) = executed before instr ++ unrolled_aft
 -- what a program executes
 abbrev pub unrolled : List Instr → List Instr
 unrolled instrs = unrolled_after [] instrs
-
--- how many instructions a program may execute, each pass and each repeat counted
-abbrev pub step_limit : ℕ
-step_limit = 0x1000000
 
 -- the steps at an instruction: what it executes, and a repeat itself
 abbrev pub steps_as : List Instr → Option Repeat → ℕ

@@ -4,51 +4,12 @@ ghost use Rattle.pef_reloc.specs.Decoding.{first_instr, long_instr, opcode_instr
 
 use crate::fault::RelocFault;
 use crate::instr::Instr;
+use crate::opcode::{
+    BY_SECT_C, BY_SECT_D, IMPORT_RUN, INCR_POSITION, LG_BY_IMPORT, LG_BY_SECTION, LG_REPEAT,
+    LG_SET_OR_BY_SECTION, LG_SET_SECT_C, LG_SET_SECT_D, SET_POSITION, SKIP_END, SM_BY_IMPORT,
+    SM_BY_SECTION, SM_REPEAT, SM_SET_SECT_C, SM_SET_SECT_D, T_VECTOR_8, T_VECTOR_12, V_TABLE_8,
+};
 use pef_words::Cut;
-
-/// The kinds that the high four bits of a halfword tell.
-const SKIP_END: u16 = 0x4;
-
-const INCR_POSITION: u16 = 0x8;
-
-const SM_REPEAT: u16 = 0x9;
-
-/// The kinds that the high seven bits tell, with a nine-bit number behind them.
-const BY_SECT_C: u16 = 0x20;
-
-const BY_SECT_D: u16 = 0x21;
-
-const T_VECTOR_12: u16 = 0x22;
-
-const T_VECTOR_8: u16 = 0x23;
-
-const V_TABLE_8: u16 = 0x24;
-
-const IMPORT_RUN: u16 = 0x25;
-
-const SM_BY_IMPORT: u16 = 0x30;
-
-const SM_SET_SECT_C: u16 = 0x31;
-
-const SM_SET_SECT_D: u16 = 0x32;
-
-const SM_BY_SECTION: u16 = 0x33;
-
-/// The kinds of two halfwords, which the high six bits of the first one tell.
-const SET_POSITION: u16 = 0x28;
-
-const LG_BY_IMPORT: u16 = 0x29;
-
-const LG_REPEAT: u16 = 0x2C;
-
-const LG_SET_OR_BY_SECTION: u16 = 0x2D;
-
-/// What the four bits behind the last of them tell.
-const LG_BY_SECTION: u16 = 0;
-
-const LG_SET_SECT_C: u16 = 1;
-
-const LG_SET_SECT_D: u16 = 2;
 
 /// The instruction that begins the bytes.
 ///

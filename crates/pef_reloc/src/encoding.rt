@@ -1,4 +1,4 @@
-ghost use Rattle.std.specs.Prelude.{◌≡◌, ◌≤◌, ◌<◌, ◌+◌, ◌/◌, ◌%◌, ◌∷◌, ◌++◌, [], IfOk, None, Some, true};
+ghost use Rattle.std.specs.Prelude.{◌≡◌, ◌≤◌, ◌<◌, ◌+◌, ◌*◌, ◌/◌, ◌%◌, ◌∷◌, ◌++◌, [], IfOk, None, Some, true};
 ghost use Rattle.std.specs.Option.{option_to_list};
 ghost use Rattle.std.specs.Result.{IfErr, OnOk};
 ghost use Rattle.pef_reloc.specs.Instrs.{halfword_bytes, halfwords_of, instr_fits, instrs_fit, spelled};
@@ -6,6 +6,11 @@ ghost use Rattle.pef_reloc.specs.declared.fault.RelocFault.TheVariants.{OutOfMem
 
 use crate::fault::RelocFault;
 use crate::instr::Instr;
+use crate::opcode::{
+    BY_SECT_C, BY_SECT_D, IMPORT_RUN, INCR_POSITION, LG_BY_IMPORT, LG_BY_SECTION, LG_REPEAT,
+    LG_SET_OR_BY_SECTION, LG_SET_SECT_C, LG_SET_SECT_D, SET_POSITION, SM_BY_IMPORT, SM_BY_SECTION,
+    SM_REPEAT, SM_SET_SECT_C, SM_SET_SECT_D, T_VECTOR_8, T_VECTOR_12, V_TABLE_8,
+};
 use std::alloc::{AllocError, Global};
 
 /// The halfwords of an instruction.
@@ -26,15 +31,44 @@ impl Spelling {
         }
     }
 
-    /// An opcode with the high bits of a number beside it, and the low bits behind it.
-    fn two(opcode: u32, number: u32) -> Spelling
-        requires { opcode + number / 0x10000 < 0x10000 }
-        ensures { result ≡ record { first = opcode + number / 0x10000; second = Some (number % 0x10000) } }
+    /// A seven-bit opcode and a nine-bit number.
+    fn small(opcode: u16, number: u32) -> Spelling
+        requires opcode { opcode < 128 }
+        requires number { number < 512 }
+        ensures { result ≡ record { first = opcode * 512 + number; second = None } }
+    {
+        Spelling::one(u32::from(opcode) * 512 + number)
+    }
+
+    /// A six-bit opcode with a number of 26 bits.
+    fn large(opcode: u16, number: u32) -> Spelling
+        requires opcode { opcode < 64 }
+        requires number { number < 0x4000000 }
+        ensures { result ≡ record { first = opcode * 1024 + number / 0x10000; second = Some (number % 0x10000) } }
     {
         Spelling {
-            first: (opcode + number / 0x1_0000) as u16,
+            first: opcode * 1024 + (number / 0x1_0000) as u16,
             second: Some((number % 0x1_0000) as u16),
         }
+    }
+
+    /// A six-bit opcode, four bits that tell more, and a number of 22 bits.
+    fn parted(opcode: u16, four: u32, number: u32) -> Spelling
+        requires opcode { opcode < 64 }
+        requires four { four < 16 }
+        requires number { number < 0x400000 }
+        ensures { result ≡ record { first = opcode * 1024 + four * 64 + number / 0x10000; second = Some (number % 0x10000) } }
+    {
+        Spelling::large(opcode, four * 0x40_0000 + number)
+    }
+
+    /// What the four bits tell of the instructions on a section, and the section.
+    fn section(four: u16, section: u32) -> Spelling
+        requires four { four < 16 }
+        requires section { section < 0x400000 }
+        ensures { result ≡ record { first = 0xB400 + four * 64 + section / 0x10000; second = Some (section % 0x10000) } }
+    {
+        Spelling::parted(LG_SET_OR_BY_SECTION, u32::from(four), section)
     }
 }
 
@@ -47,26 +81,28 @@ impl Instr {
     {
         match self {
             Instr::BySectDWithSkip { skip, count } => Spelling::one(skip * 64 + count),
-            Instr::BySectC(count) => Spelling::one(0x4000 + (count - 1)),
-            Instr::BySectD(count) => Spelling::one(0x4200 + (count - 1)),
-            Instr::TVector12(count) => Spelling::one(0x4400 + (count - 1)),
-            Instr::TVector8(count) => Spelling::one(0x4600 + (count - 1)),
-            Instr::VTable8(count) => Spelling::one(0x4800 + (count - 1)),
-            Instr::ImportRun(count) => Spelling::one(0x4A00 + (count - 1)),
-            Instr::SmByImport(index) => Spelling::one(0x6000 + index),
-            Instr::SmSetSectC(index) => Spelling::one(0x6200 + index),
-            Instr::SmSetSectD(index) => Spelling::one(0x6400 + index),
-            Instr::SmBySection(index) => Spelling::one(0x6600 + index),
-            Instr::IncrPosition(bytes) => Spelling::one(0x8000 + (bytes - 1)),
-            Instr::SmRepeat { blocks, count } => {
-                Spelling::one(0x9000 + (blocks - 1) * 256 + (count - 1))
+            Instr::BySectC(count) => Spelling::small(BY_SECT_C, count - 1),
+            Instr::BySectD(count) => Spelling::small(BY_SECT_D, count - 1),
+            Instr::TVector12(count) => Spelling::small(T_VECTOR_12, count - 1),
+            Instr::TVector8(count) => Spelling::small(T_VECTOR_8, count - 1),
+            Instr::VTable8(count) => Spelling::small(V_TABLE_8, count - 1),
+            Instr::ImportRun(count) => Spelling::small(IMPORT_RUN, count - 1),
+            Instr::SmByImport(index) => Spelling::small(SM_BY_IMPORT, index),
+            Instr::SmSetSectC(index) => Spelling::small(SM_SET_SECT_C, index),
+            Instr::SmSetSectD(index) => Spelling::small(SM_SET_SECT_D, index),
+            Instr::SmBySection(index) => Spelling::small(SM_BY_SECTION, index),
+            Instr::IncrPosition(bytes) => {
+                Spelling::one(u32::from(INCR_POSITION) * 4096 + (bytes - 1))
             }
-            Instr::SetPosition(offset) => Spelling::two(0xA000, offset),
-            Instr::LgByImport(index) => Spelling::two(0xA400, index),
-            Instr::LgRepeat { blocks, count } => Spelling::two(0xB000 + (blocks - 1) * 64, count),
-            Instr::LgBySection(index) => Spelling::two(0xB400, index),
-            Instr::LgSetSectC(index) => Spelling::two(0xB440, index),
-            Instr::LgSetSectD(index) => Spelling::two(0xB480, index),
+            Instr::SmRepeat { blocks, count } => {
+                Spelling::one(u32::from(SM_REPEAT) * 4096 + (blocks - 1) * 256 + (count - 1))
+            }
+            Instr::SetPosition(offset) => Spelling::large(SET_POSITION, offset),
+            Instr::LgByImport(index) => Spelling::large(LG_BY_IMPORT, index),
+            Instr::LgRepeat { blocks, count } => Spelling::parted(LG_REPEAT, blocks - 1, count),
+            Instr::LgBySection(index) => Spelling::section(LG_BY_SECTION, index),
+            Instr::LgSetSectC(index) => Spelling::section(LG_SET_SECT_C, index),
+            Instr::LgSetSectD(index) => Spelling::section(LG_SET_SECT_D, index),
         }
     }
 }

@@ -10,6 +10,7 @@ mod fault;
 mod fixup;
 mod instr;
 mod machine;
+mod opcode;
 mod program;
 mod recent;
 mod relocate;
@@ -25,7 +26,6 @@ pub use instr::{Instr, Repeat};
 pub use program::{Instrs, Program};
 pub use recent::MAX_STEPS;
 pub use relocate::apply;
-pub use theorems::{acts_in_turn, plain_programs, spelled_programs};
-
-#[cfg(test)]
-mod tests;
+pub use theorems::{
+    acts_in_turn, additions_inside, plain_programs, readable_programs, spelled_programs,
+};

@@ -4,14 +4,16 @@ ghost use Rattle.pef_reloc.specs.Applied.{address_of};
 ghost use Rattle.pef_reloc.specs.Instrs.{instr_fits, repeat_of};
 ghost use Rattle.pef_reloc.specs.Unrolled.{executed, repeat_fault, repeated};
 ghost use Rattle.pef_reloc.specs.declared.instr.Instr.{Instr};
-ghost use Rattle.pef_reloc.specs.Machines.{Before, Does, DoesNumbered, DoesPairs, DoesRow, FindsImport, FindsSection, Holds, Moves, Near, Runs, SetsC, SetsD, Spans, Stepped, known, machine_after};
+ghost use Rattle.pef_reloc.specs.Kept.Machines.{Holds, Moves, Near, Runs, SetsC, SetsD, Stepped, known, machine_after};
+ghost use Rattle.pef_reloc.specs.Kept.Places.{Before, Spans};
+ghost use Rattle.pef_reloc.specs.Kept.Rows.{Does, DoesNumbered, DoesPairs, DoesRow, FindsImport, FindsSection};
 ghost use Rattle.pef_reloc.specs.Steps.{add, added, need, start};
 ghost use Rattle.pef_reloc.specs.declared.fixup.Base.TheVariants.{Section, Import};
 
 use crate::decode::instr_from;
 use crate::fault::RelocFault;
 use crate::instr::Instr;
-use crate::words::{WORD, add_pairs, add_row, add_word};
+use crate::words::{NEXT, add_pairs, add_row, add_word};
 
 /// The addresses that a program adds: of the fragment's sections, and of its imports' targets.
 #[derive(Clone, Copy, Debug)]
@@ -61,8 +63,8 @@ impl<'a> Targets<'a> {
 
 /// The registers of a relocation program, with addresses in place of section numbers.
 ///
-/// The position is in bytes. Neither number can wrap: a program has at most 2^24 instructions, each of
-/// which moves on by less than 2^39, its repeats counted in.
+/// The position is in bytes. Neither number can wrap: a program executes at most `MAX_STEPS`
+/// instructions, each of which moves on by less than 2^39, its passes counted in.
 #[derive(Clone, Copy, Debug)]
 pub(crate) struct Machine {
     position: u64,
@@ -104,13 +106,13 @@ impl Machine {
         let (position, c, d) = (self.position, self.section_c, self.section_d);
         match instr {
             Instr::BySectDWithSkip { skip, count } => {
-                self.row(memory, position + WORD * u64::from(skip), WORD, count, d)
+                self.row(memory, position + NEXT * u64::from(skip), NEXT, count, d)
             }
-            Instr::BySectC(count) => self.row(memory, position, WORD, count, c),
-            Instr::BySectD(count) => self.row(memory, position, WORD, count, d),
-            Instr::VTable8(count) => self.row(memory, position, 2 * WORD, count, d),
-            Instr::TVector12(count) => self.pairs(memory, 3 * WORD, count),
-            Instr::TVector8(count) => self.pairs(memory, 2 * WORD, count),
+            Instr::BySectC(count) => self.row(memory, position, NEXT, count, c),
+            Instr::BySectD(count) => self.row(memory, position, NEXT, count, d),
+            Instr::VTable8(count) => self.row(memory, position, 2 * NEXT, count, d),
+            Instr::TVector12(count) => self.pairs(memory, 3 * NEXT, count),
+            Instr::TVector8(count) => self.pairs(memory, 2 * NEXT, count),
             Instr::ImportRun(count) => self.import_run(memory, count, targets),
             Instr::SmByImport(index) | Instr::LgByImport(index) => {
                 self.import_word(memory, index, targets)
@@ -118,12 +120,8 @@ impl Machine {
             Instr::SmBySection(section) | Instr::LgBySection(section) => {
                 self.section_word(memory, section, targets)
             }
-            Instr::SmSetSectC(section) | Instr::LgSetSectC(section) => {
-                self.set_section_c(section, targets)
-            }
-            Instr::SmSetSectD(section) | Instr::LgSetSectD(section) => {
-                self.set_section_d(section, targets)
-            }
+            Instr::SmSetSectC(section) | Instr::LgSetSectC(section) => self.set_c(section, targets),
+            Instr::SmSetSectD(section) | Instr::LgSetSectD(section) => self.set_d(section, targets),
             Instr::IncrPosition(bytes) => {
                 self.position = position + u64::from(bytes);
                 Ok(())
@@ -257,7 +255,7 @@ impl Machine {
         ensures after { self.new ≡ machine_after (result_err result) self.old (record self.old { position = self.old.position + 4 * count; import_index = self.old.import_index + count }) }
     {
         add_imports(memory, self.position, count, self.import_index, targets)?;
-        self.position += WORD * u64::from(count);
+        self.position += NEXT * u64::from(count);
         self.import_index += u64::from(count);
         Ok(())
     }
@@ -276,7 +274,7 @@ impl Machine {
     {
         let import = u64::from(import);
         add_imports(memory, self.position, 1, import, targets)?;
-        self.position += WORD;
+        self.position += NEXT;
         self.import_index = import + 1;
         Ok(())
     }
@@ -294,12 +292,12 @@ impl Machine {
     {
         let address = targets.section(section)?;
         add_word(memory, self.position, address)?;
-        self.position += WORD;
+        self.position += NEXT;
         Ok(())
     }
 
     /// Makes a section section C.
-    fn set_section_c(&mut self, section: u32, targets: Targets) -> Result<(), RelocFault>
+    fn set_c(&mut self, section: u32, targets: Targets) -> Result<(), RelocFault>
         ensures { SetsC (known targets.entry) self.old self.new section (result_err result) }
     {
         self.section_c = targets.section(section)?;
@@ -307,7 +305,7 @@ impl Machine {
     }
 
     /// Makes a section section D.
-    fn set_section_d(&mut self, section: u32, targets: Targets) -> Result<(), RelocFault>
+    fn set_d(&mut self, section: u32, targets: Targets) -> Result<(), RelocFault>
         ensures { SetsD (known targets.entry) self.old self.new section (result_err result) }
     {
         self.section_d = targets.section(section)?;
@@ -333,7 +331,7 @@ fn add_imports(
     'words: for _ in 0..count {
         let address = targets.import(import)?;
         add_word(memory, at, address)?;
-        at += WORD;
+        at += NEXT;
         import += 1;
     }
     Ok(())

@@ -1,6 +1,6 @@
-ghost use Rattle.std.specs.Prelude.{◌≡◌, None};
+ghost use Rattle.std.specs.Prelude.{◌≡◌, IfSome, None, true};
 ghost use Rattle.pef_reloc.specs.Decoding.{starting};
-ghost use Rattle.pef_reloc.specs.Instrs.{repeat_free};
+ghost use Rattle.pef_reloc.specs.Instrs.{instr_fits, repeat_free};
 ghost use Rattle.pef_reloc.specs.Unrolled.{instrs_of, program_fault};
 
 use crate::decode::instr_from;
@@ -60,7 +60,8 @@ impl<'a> Program<'a> {
     /// The instruction that starts at a halfword, and `None` where none starts there, in time linear
     /// in the halfwords before it.
     pub fn instr_at(&self, halfword: usize) -> Option<Instr>
-        ensures { result ≡ starting (instrs_of (program_bytes self.now)) halfword }
+        ensures value { result ≡ starting (instrs_of (program_bytes self.now)) halfword }
+        ensures fits { IfSome result (λ instr. instr_fits instr ≡ true) }
     {
         let mut instrs = self.instrs();
         let mut ahead = halfword;
@@ -102,7 +103,8 @@ impl<'a> Instrs<'a> {
 
     /// The next instruction, which the walk then is behind, and `None` at the end.
     pub fn next_instr(&mut self) -> Option<Instr>
-        ensures { TakesFirst (listed self.old) result (listed self.new) }
+        ensures takes { TakesFirst (listed self.old) result (listed self.new) }
+        ensures fits { IfSome result (λ instr. instr_fits instr ≡ true) }
     {
         if self.at >= self.bytes.len() {
             return None;

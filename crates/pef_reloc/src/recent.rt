@@ -2,9 +2,10 @@ ghost use Rattle.std.specs.Prelude.{◌≡◌, ◌≤◌, ◌<◌, ◌+◌, ◌*
 ghost use Rattle.std.specs.Result.{result_err};
 ghost use Rattle.pef_words.specs.Refusals.{unless};
 ghost use Rattle.pef_reloc.specs.Instrs.{instr_fits, program_length};
-ghost use Rattle.pef_reloc.specs.Machines.{Before, Spans};
-ghost use Rattle.pef_reloc.specs.Readers.{Marks, Passes, flat_count};
-ghost use Rattle.pef_reloc.specs.Unrolled.{repeat_fault, step_limit, steps_as};
+ghost use Rattle.pef_reloc.specs.Kept.Places.{Before, Spans};
+ghost use Rattle.pef_reloc.specs.Kept.Readers.{Marks, Passes, flat_count};
+ghost use Rattle.pef_reloc.specs.Limits.{step_limit};
+ghost use Rattle.pef_reloc.specs.Unrolled.{repeat_fault, steps_as};
 ghost use Rattle.pef_reloc.specs.declared.instr.Instr.{Instr};
 
 use crate::decode::instr_from;

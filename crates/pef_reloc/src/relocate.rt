@@ -1,7 +1,7 @@
 ghost use Rattle.std.specs.Prelude.{◌≡◌, None};
 ghost use Rattle.std.specs.Result.{result_err};
 ghost use Rattle.pef_reloc.specs.Applied.{relocated};
-ghost use Rattle.pef_reloc.specs.Machines.{known};
+ghost use Rattle.pef_reloc.specs.Kept.Machines.{known};
 ghost use Rattle.pef_reloc.specs.Unrolled.{program_fault};
 ghost use Rattle.pef_reloc.specs.Views.{program_bytes};
 

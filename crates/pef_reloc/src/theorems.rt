@@ -1,11 +1,13 @@
 //! Laws of the definitions, for the proofs of crates that write programs. The functions do nothing.
-ghost use Rattle.std.specs.Prelude.{◌≡◌, ◌≤◌, ◌*◌, ◌++◌, ℕ, List, None, length, map, true};
-ghost use Rattle.pef_reloc.specs.Applied.{Addresses, applied, relocated, then_done};
+ghost use Rattle.std.specs.Prelude.{◌≡◌, ◌≤◌, ◌<◌, ◌*◌, ◌++◌, ℕ, List, None, length, map, slice_index, true};
+ghost use Rattle.pef_reloc.specs.Additions.{AreInside, all_added, with_bases};
+ghost use Rattle.pef_reloc.specs.Applied.{Addresses, address_of, applied, relocated, then_done};
 ghost use Rattle.pef_reloc.specs.Fixups.{bases_below, fixups_fit};
 ghost use Rattle.pef_reloc.specs.Instrs.{instrs_fit, program_length, spelled};
 ghost use Rattle.pef_reloc.specs.Plain.{plain_program};
 ghost use Rattle.pef_reloc.specs.Steps.{Act, Makes, State, acts_from, add, is_flat, names_below, start, trace};
-ghost use Rattle.pef_reloc.specs.Unrolled.{instrs_of, program_fault, step_limit};
+ghost use Rattle.pef_reloc.specs.Limits.{step_limit};
+ghost use Rattle.pef_reloc.specs.Unrolled.{instrs_of, program_fault};
 ghost use Rattle.pef_reloc.specs.declared.fixup.Fixup.{Fixup};
 ghost use Rattle.pef_reloc.specs.declared.instr.Instr.{Instr};
 
@@ -22,6 +24,19 @@ pub fn spelled_programs()
 pub fn acts_in_turn()
     ensures behind { (a : Addresses) (acts others : List Act) (memory : List ℕ) → applied a (acts ++ others) memory ≡ then_done (applied a acts memory) (applied a others) }
     ensures additions { (a : Addresses) (instrs : List Instr) (s : State) (memory : List ℕ) → names_below (length a.sections) instrs ≡ true → applied a (acts_from instrs s) memory ≡ applied a (map add (trace instrs s)) memory }
+{}
+
+/// The bytes of a readable program are those that spell its instructions, and these fit.
+pub fn readable_programs()
+    ensures spelled { (bytes : List ℕ) → ((k : ℕ) → slice_index bytes k < 256) → program_fault bytes ≡ None → spelled (instrs_of bytes) ≡ bytes }
+    ensures fit { (bytes : List ℕ) → ((k : ℕ) → slice_index bytes k < 256) → program_fault bytes ≡ None → instrs_fit (instrs_of bytes) ≡ true }
+{}
+
+/// Additions whose words lie inside memory and whose bases are there are all done, and none is refused;
+/// and those of fixups in address order make of memory just what the fixups describe.
+pub fn additions_inside()
+    ensures done { (a : Addresses) (fixups : List Fixup) (memory : List ℕ) → AreInside a (length memory) fixups → applied a (map add fixups) memory ≡ record { memory = all_added a fixups memory; fault = None } }
+    ensures described { (a : Addresses) (fixups : List Fixup) (memory : List ℕ) → fixups_fit fixups ≡ true → AreInside a (length memory) fixups → all_added a fixups memory ≡ with_bases (address_of a) 0 fixups memory }
 {}
 
 /// The plain program of some fixups makes them, fits where they fit, has at most four halfwords and

@@ -1,13 +1,15 @@
 ghost use Rattle.std.specs.Prelude.{◌≡◌, ◌+◌, ◌*◌, ◌^◌, ◌≤◌, ◌<◌, length};
 ghost use Rattle.std.specs.Result.{result_err};
-ghost use Rattle.pef_reloc.specs.Applied.{added_at, word_added};
-ghost use Rattle.pef_reloc.specs.Machines.{DoesPairs, DoesRow};
+ghost use Rattle.pef_reloc.specs.Applied.{added_at};
+ghost use Rattle.pef_reloc.specs.Kept.Rows.{word_added};
+ghost use Rattle.pef_reloc.specs.Kept.Rows.{DoesPairs, DoesRow};
 
 use crate::fault::RelocFault;
+use crate::fixup::WORD;
 use byteorder::{BigEndian, ByteOrder};
 
-/// The bytes of a word.
-pub(crate) const WORD: u64 = 4;
+/// How far on the next word is, in bytes, as positions are counted.
+pub(crate) const NEXT: u64 = WORD as u64;
 
 /// Adds `address` to `count` words, `stride` bytes apart, up to the first that passes the end.
 pub(crate) fn add_row(
@@ -44,7 +46,7 @@ pub(crate) fn add_pairs(
     let mut at = position;
     'words: for _ in 0..count {
         add_word(memory, at, first)?;
-        add_word(memory, at + WORD, second)?;
+        add_word(memory, at + NEXT, second)?;
         at += stride;
     }
     Ok(())
@@ -59,7 +61,7 @@ pub(crate) fn add_word(memory: &mut [u8], at: u64, address: u32) -> Result<(), R
     requires { at + 4 < 2 ^ 64 }
     ensures { word_added memory.old at address ≡ record { memory = memory.new; fault = result_err result } }
 {
-    if at + WORD > memory.len() as u64 {
+    if at + NEXT > memory.len() as u64 {
         return Err(RelocFault::WordOutside);
     }
     add_at(memory, at as usize, address);

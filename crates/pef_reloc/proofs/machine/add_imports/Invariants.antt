@@ -1,7 +1,7 @@
 use Rattle.std.proofs.Common.{◌≡◌, ◌+◌, ◌*◌, ◌-◌, map}
 use Rattle.pef_reloc.specs.Steps.{add, numbered}
 use Rattle.pef_reloc.specs.Applied.{applied}
-use Rattle.pef_reloc.specs.Machines.{known}
+use Rattle.pef_reloc.specs.Kept.Machines.{known}
 use Rattle.pef_reloc.proofs.machine.add_imports.Given as goal
 
 abbrev pub invariant-words : goal.invariant-words

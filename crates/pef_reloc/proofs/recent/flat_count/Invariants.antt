@@ -1,6 +1,6 @@
 use Rattle.std.proofs.Common.{◌+◌, ◌-◌, ◌*◌, ◌≤◌, List, length}
 use Rattle.pef_reloc.specs.declared.instr.Instr.{Instr}
-use Rattle.pef_reloc.specs.Machines.{Spans}
+use Rattle.pef_reloc.specs.Kept.Places.{Spans}
 use Rattle.pef_reloc.proofs.Windows.{CountLeft}
 use Rattle.pef_reloc.proofs.recent.flat_count.Given as goal
 

@@ -1,5 +1,5 @@
 use Rattle.std.proofs.Common.{◌≤◌, ◌-◌, length}
-use Rattle.pef_reloc.specs.Machines.{known}
+use Rattle.pef_reloc.specs.Kept.Machines.{known}
 use Rattle.pef_reloc.proofs.Applying.{ApplyLeft}
 use Rattle.pef_reloc.proofs.relocate.run.Given as goal
 

@@ -2,7 +2,7 @@ use Rattle.std.proofs.Common.{◌≡◌, ◌+◌, ◌*◌, ◌-◌, map}
 use Rattle.pef_reloc.specs.declared.fixup.Base.{Base}
 use Rattle.pef_reloc.specs.Steps.{add, row}
 use Rattle.pef_reloc.specs.Applied.{Addresses, applied}
-use Rattle.pef_reloc.specs.Machines.{Stands}
+use Rattle.pef_reloc.specs.Kept.Rows.{Stands}
 use Rattle.pef_reloc.proofs.words.add_row.Given as goal
 
 abbrev pub invariant-words : goal.invariant-words

@@ -1,6 +1,7 @@
 use Rattle.std.proofs.Common.{◌*◌, ◌^◌, List}
 use Rattle.pef_reloc.specs.declared.instr.Instr.{Instr}
-use Rattle.pef_reloc.specs.Machines.{Moves, Spans, known}
+use Rattle.pef_reloc.specs.Kept.Machines.{Moves, known}
+use Rattle.pef_reloc.specs.Kept.Places.{Spans}
 use Rattle.pef_reloc.proofs.Blocks.{PassesLeft}
 use Rattle.pef_reloc.proofs.machine.Machine.repeat.Given as goal
 

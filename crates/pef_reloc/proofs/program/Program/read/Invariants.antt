@@ -1,5 +1,5 @@
 use Rattle.std.proofs.Common.{◌≤◌, ◌-◌, length}
-use Rattle.pef_reloc.specs.Unrolled.{step_limit}
+use Rattle.pef_reloc.specs.Limits.{step_limit}
 use Rattle.pef_reloc.proofs.Readings.{ReadLeft}
 use Rattle.pef_reloc.proofs.program.Program.read.Given as goal
 

@@ -2,7 +2,7 @@ use Rattle.std.proofs.Common.{refl, ◌∙◌}
 use Rattle.std.proofs.lemmas.Result.{err_from_is_err_and}
 use Rattle.pef_reloc.proofs.Acts.{need-there, need-fault}
 use Rattle.pef_reloc.proofs.Rows.{nothing_done}
-use Rattle.pef_reloc.proofs.machine.Machine.set_section_c.Goals as goal
+use Rattle.pef_reloc.proofs.machine.Machine.set_d.Goals as goal
 
 pub returns-in_err-self : goal.returns-in_err-self
 returns-in_err-self c =

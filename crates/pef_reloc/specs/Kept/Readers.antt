@@ -5,7 +5,8 @@ use Rattle.pef_reloc.specs.declared.fault.RelocFault.TheVariants.{NestedRepeat}
 use Rattle.pef_reloc.specs.declared.instr.Instr.{Instr}
 use Rattle.pef_reloc.specs.declared.recent.Reader.{Reader}
 use Rattle.pef_reloc.specs.Instrs.{program_length, repeat_free, repeat_of}
-use Rattle.pef_reloc.specs.Unrolled.{instr_fault, reached, step_limit, steps_as}
+use Rattle.pef_reloc.specs.Limits.{step_limit}
+use Rattle.pef_reloc.specs.Unrolled.{instr_fault, reached, steps_as}
 
 -- how many instructions a block has, where none of them is a repeat
 abbrev pub flat_count : List Instr → Result ℕ RelocFault

@@ -1,0 +1,404 @@
+ghost use Rattle.std.specs.Prelude.{◌≡◌, IfOk, true};
+ghost use Rattle.pef_reloc.specs.Instrs.{instr_fits, instrs_fit};
+
+use pef_reloc::{Base, Fixup, Instr, MAX_FIXUPS, Program, RelocFault, apply, encode, fixups_fit};
+use std::alloc::{AllocError, Global};
+use std::test::Fail;
+
+/// The number of the refusal that a program is read with, and 0 where it is read.
+fn read_number(bytes: &[u8]) -> u32 {
+    match Program::read(bytes) {
+        Ok(_) => 0,
+        Err(fault) => fault.number(),
+    }
+}
+
+/// The number of the refusal that a program is read or applied with, and 0 where it is done.
+fn apply_number(bytes: &[u8], memory: &mut [u8], sections: &[u32], imports: &[u32]) -> u32 {
+    match Program::read(bytes) {
+        Ok(program) => match apply(&program, memory, sections, imports) {
+            Ok(()) => 0,
+            Err(fault) => fault.number(),
+        },
+        Err(fault) => fault.number(),
+    }
+}
+
+#[test]
+fn programs_read(rt: HostRuntime) {
+    let rows: [(&[u8], u32); 20] = [
+        (&[], 0),
+        (&[0x42, 0x00], 0),
+        (&[0x42, 0x00, 0x90, 0x01], 0),
+        (&[0x42, 0x00, 0xB0, 0x00, 0x00, 0x00], 0),
+        (&[0x4C, 0x00], 31),
+        (&[0xB4, 0xC0, 0x00, 0x00], 31),
+        (&[0xB4, 0xC0], 31),
+        (&[0xC0, 0x00], 31),
+        (&[0x4C], 32),
+        (&[0x42, 0x00, 0x42], 32),
+        (&[0xA0, 0x00], 32),
+        (&[0xA0, 0x00, 0x00], 32),
+        (&[0x90, 0x00], 33),
+        (&[0x42, 0x00, 0x91, 0x00], 33),
+        (&[0xA0, 0x00, 0x00, 0x00, 0x90, 0x00], 34),
+        (&[0x42, 0x00, 0xA0, 0x00, 0x00, 0x00, 0x92, 0x00], 0),
+        (&[0x42, 0x00, 0x90, 0x01, 0x90, 0x01], 35),
+        (&[0x42, 0x00, 0x90, 0x01, 0x42, 0x00, 0x90, 0x01], 0),
+        // Four instructions, 4,194,303 times four more, and the repeat itself: 16,777,217 steps.
+        (
+            &[
+                0x80, 0x00, 0x80, 0x00, 0x80, 0x00, 0x80, 0x00, 0xB0, 0xFF, 0xFF, 0xFF,
+            ],
+            36,
+        ),
+        (
+            &[
+                0x80, 0x00, 0x80, 0x00, 0x80, 0x00, 0x80, 0x00, 0xB0, 0xFF, 0xFF, 0xFE,
+            ],
+            0,
+        ),
+    ];
+    for (bytes, want) in rows {
+        assert_eq!(rt; read_number(bytes), want, "{bytes:?}");
+    }
+}
+
+/// The bytes of a program, a halfword, the instruction that starts there, and the words that the program
+/// makes of zeros, where the sections lie at 1, 2 and 3 and the imports at 5, 6 and 7.
+type Kind = (&'static [u8], u8, Instr, [u32; 6]);
+
+#[test]
+fn kinds_applied(rt: HostRuntime) -> Result<(), Fail> {
+    let skip = Instr::BySectDWithSkip { skip: 1, count: 2 };
+    let short = Instr::SmRepeat {
+        blocks: 1,
+        count: 2,
+    };
+    let long = Instr::LgRepeat {
+        blocks: 1,
+        count: 4,
+    };
+    let kinds: [Kind; 19] = [
+        (&[0x00, 0x42], 0, skip, [0, 2, 2, 0, 0, 0]),
+        (&[0x40, 1], 0, Instr::BySectC(2), [1, 1, 0, 0, 0, 0]),
+        (&[0x42, 2], 0, Instr::BySectD(3), [2, 2, 2, 0, 0, 0]),
+        (&[0x44, 1], 0, Instr::TVector12(2), [1, 2, 0, 1, 2, 0]),
+        (&[0x46, 1], 0, Instr::TVector8(2), [1, 2, 1, 2, 0, 0]),
+        (&[0x48, 2], 0, Instr::VTable8(3), [2, 0, 2, 0, 2, 0]),
+        (&[0x4A, 2], 0, Instr::ImportRun(3), [5, 6, 7, 0, 0, 0]),
+        (
+            &[0x60, 0, 0x4A, 1],
+            0,
+            Instr::SmByImport(0),
+            [5, 6, 7, 0, 0, 0],
+        ),
+        (
+            &[0x62, 2, 0x40, 0],
+            0,
+            Instr::SmSetSectC(2),
+            [3, 0, 0, 0, 0, 0],
+        ),
+        (
+            &[0x64, 2, 0x42, 0],
+            0,
+            Instr::SmSetSectD(2),
+            [3, 0, 0, 0, 0, 0],
+        ),
+        (&[0x66, 2], 0, Instr::SmBySection(2), [3, 0, 0, 0, 0, 0]),
+        (
+            &[0x80, 7, 0x42, 0],
+            0,
+            Instr::IncrPosition(8),
+            [0, 0, 2, 0, 0, 0],
+        ),
+        (&[0x42, 0, 0x90, 1], 1, short, [2, 2, 2, 0, 0, 0]),
+        (
+            &[0xA0, 0, 0, 0x14, 0x42, 0],
+            0,
+            Instr::SetPosition(20),
+            [0, 0, 0, 0, 0, 2],
+        ),
+        (
+            &[0xA4, 0, 0, 1, 0x4A, 0],
+            0,
+            Instr::LgByImport(1),
+            [6, 7, 0, 0, 0, 0],
+        ),
+        (&[0x42, 0, 0xB0, 0, 0, 4], 1, long, [2, 2, 2, 2, 2, 0]),
+        (
+            &[0xB4, 0, 0, 2],
+            0,
+            Instr::LgBySection(2),
+            [3, 0, 0, 0, 0, 0],
+        ),
+        (
+            &[0xB4, 0x40, 0, 2, 0x40, 0],
+            0,
+            Instr::LgSetSectC(2),
+            [3, 0, 0, 0, 0, 0],
+        ),
+        (
+            &[0xB4, 0x80, 0, 2, 0x42, 0],
+            0,
+            Instr::LgSetSectD(2),
+            [3, 0, 0, 0, 0, 0],
+        ),
+    ];
+    for (bytes, halfword, instr, words) in kinds {
+        let at = usize::from(halfword);
+        assert_eq!(rt;
+            Program::read(bytes)?.instr_at(at),
+            Some(instr),
+            "{bytes:?}"
+        );
+        assert!(rt; instr.fits(), "{bytes:?}");
+        let spelled = encode(rt.alloc(), &[instr])?;
+        assert_eq!(rt; spelled.len() / 2, instr.length(), "{bytes:?}");
+        let rest = bytes.get(2 * at..).unwrap_or_default();
+        assert!(rt; rest.starts_with(spelled.as_slice()), "{bytes:?}");
+        let mut memory = [0; 24];
+        assert_eq!(rt;
+            apply_number(bytes, &mut memory, &[1, 2, 3], &[5, 6, 7]),
+            0,
+            "{bytes:?}"
+        );
+        for (i, word) in words.iter().enumerate() {
+            let made = memory.get(4 * i..4 * i + 4);
+            assert!(rt;
+                made == Some(word.to_be_bytes().as_slice()),
+                "word {i} of {bytes:?}"
+            );
+        }
+    }
+    Ok(())
+}
+
+#[test]
+fn instructions_walked(rt: HostRuntime) -> Result<(), Fail> {
+    let bytes = [0x42, 0x00, 0xB0, 0x00, 0x00, 0x00, 0x40, 0x01];
+    let repeat = Instr::LgRepeat {
+        blocks: 1,
+        count: 0,
+    };
+    let program = Program::read(&bytes)?;
+    assert_eq!(rt; program.bytes(), bytes.as_slice());
+    let starts = [
+        Some(Instr::BySectD(1)),
+        Some(repeat),
+        None,
+        Some(Instr::BySectC(2)),
+        None,
+    ];
+    for (halfword, instr) in starts.iter().enumerate() {
+        assert_eq!(rt; program.instr_at(halfword), *instr, "halfword {halfword}");
+    }
+    let mut walk = program.instrs();
+    for instr in [
+        Some(Instr::BySectD(1)),
+        Some(repeat),
+        Some(Instr::BySectC(2)),
+        None,
+        None,
+    ] {
+        assert_eq!(rt; walk.next_instr(), instr);
+    }
+    let flat: [(&[u8], bool); 4] = [
+        (&[], true),
+        (&[0x42, 0x00, 0x40, 0x00], true),
+        (&[0x42, 0x00, 0x90, 0x00], false),
+        (&bytes, false),
+    ];
+    for (bytes, want) in flat {
+        assert_eq!(rt; Program::read(bytes)?.flat(), want, "{bytes:?}");
+    }
+    Ok(())
+}
+
+/// A program's bytes, memory, the addresses of sections and of imports, and then the number of the
+/// refusal, 0 for none, and memory.
+type Applied = (
+    &'static [u8],
+    [u8; 12],
+    &'static [u32],
+    &'static [u32],
+    u32,
+    [u8; 12],
+);
+
+#[test]
+fn programs_applied(rt: HostRuntime) {
+    let zeros = [0; 12];
+    let rows: [Applied; 12] = [
+        (
+            &[0x42, 0x00, 0x90, 0x01],
+            zeros,
+            &[0x100, 0x200],
+            &[],
+            0,
+            [0, 0, 2, 0, 0, 0, 2, 0, 0, 0, 2, 0],
+        ),
+        (
+            &[0x42, 0x00, 0xB0, 0x00, 0x00, 0x00],
+            zeros,
+            &[0x100, 0x200],
+            &[],
+            0,
+            [0, 0, 2, 0, 0, 0, 0, 0, 0, 0, 0, 0],
+        ),
+        // The additions before a refusal stand.
+        (
+            &[0x42, 0x00, 0xB0, 0x3F, 0xFF, 0xFF],
+            zeros,
+            &[0x100, 0x200],
+            &[],
+            37,
+            [0, 0, 2, 0, 0, 0, 2, 0, 0, 0, 2, 0],
+        ),
+        (
+            &[0x40, 0x00, 0x66, 0x07],
+            zeros,
+            &[0x100, 0x200],
+            &[],
+            39,
+            [0, 0, 1, 0, 0, 0, 0, 0, 0, 0, 0, 0],
+        ),
+        (
+            &[0x40, 0x00, 0x62, 0x07],
+            zeros,
+            &[0x100, 0x200],
+            &[],
+            39,
+            [0, 0, 1, 0, 0, 0, 0, 0, 0, 0, 0, 0],
+        ),
+        (
+            &[0x4A, 0x01],
+            zeros,
+            &[],
+            &[7],
+            38,
+            [0, 0, 0, 7, 0, 0, 0, 0, 0, 0, 0, 0],
+        ),
+        (&[0x80, 0x08, 0x40, 0x00], zeros, &[0x100], &[], 37, zeros),
+        // Of several refusals at one addition a missing section comes first, then a missing import.
+        (&[0x80, 0x0B, 0x66, 0x01], zeros, &[], &[], 39, zeros),
+        (&[0x80, 0x0B, 0x60, 0x00], zeros, &[], &[], 38, zeros),
+        // A register with its start value adds 0 where there is no such section.
+        (
+            &[0x42, 0x00, 0x40, 0x00],
+            [1, 2, 3, 4, 5, 6, 7, 8, 0, 0, 0, 0],
+            &[],
+            &[],
+            0,
+            [1, 2, 3, 4, 5, 6, 7, 8, 0, 0, 0, 0],
+        ),
+        // An addition is modulo 2^32, and a word need not be aligned.
+        (
+            &[0x80, 0x00, 0x40, 0x00],
+            [0, 0xFF, 0xFF, 0xFF, 0xFF, 9, 0, 0, 0, 0, 0, 0],
+            &[2],
+            &[],
+            0,
+            [0, 0, 0, 0, 1, 9, 0, 0, 0, 0, 0, 0],
+        ),
+        (
+            &[0xA0, 0x00, 0x00, 0x04, 0x66, 0x00],
+            [0x11, 0x22, 0x33, 0x44, 0, 0, 0, 8, 1, 2, 0, 0],
+            &[0x1_0000],
+            &[],
+            0,
+            [0x11, 0x22, 0x33, 0x44, 0, 1, 0, 8, 1, 2, 0, 0],
+        ),
+    ];
+    for (bytes, mut memory, sections, imports, want, after) in rows {
+        assert_eq!(rt;
+            apply_number(bytes, &mut memory, sections, imports),
+            want,
+            "{bytes:?}"
+        );
+        assert_eq!(rt; memory, after, "{bytes:?}");
+    }
+    assert_eq!(rt; apply_number(&[0x40, 0x00], &mut [0; 3], &[0x100], &[]), 37);
+    // Four instructions, 4,194,302 times four more, and the repeat itself: 16,777,213 steps.
+    let most = [
+        0x80, 0x00, 0x80, 0x00, 0x80, 0x00, 0x80, 0x00, 0xB0, 0xFF, 0xFF, 0xFE,
+    ];
+    assert_eq!(rt; apply_number(&most, &mut [], &[], &[]), 0);
+}
+
+#[test]
+fn fixups_that_fit(rt: HostRuntime) {
+    let section = Base::Section(7);
+    let import = Base::Import(65_535);
+    let rows: [(&[(u32, Base)], bool); 10] = [
+        (&[], true),
+        (&[(0, section)], true),
+        (&[(4, section), (0xFF_FFFC, import)], true),
+        (&[(0xFF_FFFC, import), (4, section)], false),
+        (&[(4, section), (8, section)], true),
+        (&[(4, section), (7, section)], false),
+        (&[(4, section), (4, section)], false),
+        (&[(0xFF_FFFD, section)], false),
+        (&[(0, Base::Section(8))], false),
+        (&[(0, Base::Import(65_536))], false),
+    ];
+    for (fixups, want) in rows {
+        let mut list = [Fixup {
+            offset: 0,
+            base: section,
+        }; 2];
+        for (slot, (offset, base)) in list.iter_mut().zip(fixups) {
+            *slot = Fixup {
+                offset: *offset,
+                base: *base,
+            };
+        }
+        assert_eq!(rt; fixups_fit(&list[..fixups.len()]), want, "{fixups:?}");
+    }
+}
+
+#[test]
+fn most_fixups(rt: HostRuntime) -> Result<(), Fail> {
+    let mut fixups = Vec::with_capacity(rt.alloc(), MAX_FIXUPS + 1)?;
+    for i in 0..MAX_FIXUPS as u32 {
+        fixups.push(Fixup {
+            offset: 8 * i,
+            base: Base::Import(i),
+        })?;
+    }
+    assert!(rt; fixups_fit(&fixups));
+    fixups.push(Fixup {
+        offset: 0xFF_FFFC,
+        base: Base::Import(0),
+    })?;
+    assert!(rt; !fixups_fit(&fixups));
+    Ok(())
+}
+
+/// So many instructions alike.
+fn alike(alloc: Global, instr: Instr, count: usize) -> Result<Vec<Instr>, AllocError>
+    requires { instr_fits instr ≡ true }
+    ensures { IfOk result (λ instrs. instrs_fit instrs.items ≡ true) }
+{
+    let instrs = vec![in alloc; instr; count]?;
+    Ok(instrs)
+}
+
+/// A million instructions are encoded, read, and applied to sixteen million bytes.
+#[test]
+fn a_million_instructions(rt: HostRuntime) -> Result<(), Fail> {
+    let instrs = alike(rt.alloc(), Instr::TVector8(2), 1_000_000)?;
+    let bytes = encode(rt.alloc(), &instrs)?;
+    assert_eq!(rt; bytes.len(), 2_000_000);
+    let program = Program::read(&bytes)?;
+    assert!(rt; program.flat());
+    assert_eq!(rt; program.instr_at(999_999), Some(Instr::TVector8(2)));
+    assert_eq!(rt; program.instr_at(1_000_000), None);
+    let mut memory = vec![in rt.alloc(); 1; 16_000_004]?;
+    apply(&program, &mut memory, &[0x0100_0000, 0x0200_0000], &[])?;
+    for words in memory.chunks_exact(8) {
+        assert!(rt; words == [2, 1, 1, 1, 3, 1, 1, 1].as_slice());
+    }
+    assert!(rt; memory.ends_with(&[1; 4]));
+    Ok(())
+}
