@@ -1,6 +1,6 @@
 -- What stands at a place of a byte string. Every number of a PEF container is big-endian (Mac OS
 -- Runtime Architectures, "PEF Structure"), and a name ends before its first zero byte.
-use Rattle.std.specs.Prelude.{ℕ, ℤ, ◌+◌, ◌==◌, List, [], ◌∷◌, Option, None, Some, option_map, length, take, drop, nat_le, if◌then◌else◌}
+use Rattle.std.specs.Prelude.{ℕ, ℤ, ◌+◌, ◌==◌, List, [], ◌∷◌, Option, None, Some, option_map, length, take, drop, replicate, nat_le, if◌then◌else◌, ◌-◌, ◌++◌}
 use Rattle.std.specs.Int.{Width, cast_signed}
 use Rattle.byteorder.specs.Endian.{big_number}
 
@@ -24,3 +24,8 @@ before_zero (b ∷ bytes) = if b == 0 then Some [] else option_map (λ name. b �
 -- the zero-ended name at a place, without its zero byte
 unfoldable pub name_at : List ℕ → ℕ → Option (List ℕ)
 name_at bytes from = before_zero (drop from bytes)
+
+-- an image and zeros behind it up to a length (Mac OS Runtime Architectures, "PEF Structure": what a
+-- section's total length leaves behind its initialized bytes is filled with zeros)
+abbrev pub filled : List ℕ → ℕ → List ℕ
+filled image total = image ++ replicate (total - length image) 0
