@@ -10,22 +10,22 @@ use Rattle.pef_words.proofs.Laws.Refusals.{first_unmet}
 use Rattle.pef_reloc.specs.declared.fixup.Base.{Base}
 use Rattle.pef_reloc.specs.declared.fixup.Base.TheVariants as base
 use Rattle.pef_reloc.specs.declared.fixup.Fixup.{Fixup}
-use Rattle.pef_reloc.specs.Limits.{most_fixups}
+use Rattle.pef_reloc.specs.Limits.{most_fixups, most_imports, most_sections}
 use Rattle.pef_reloc.specs.Fixups.{base_fits, fixups_end}
 use Rattle.pef_reloc.proofs.Laws.{fixups_fit-more, fixups_end-append}
 use Rattle.pef_script.specs.declared.fault.LineFault.{LineFault}
 use Rattle.pef_script.specs.declared.fault.LineFault.TheVariants.{RepeatedName, OutOfOrder, Overlap, OutsideSection, TooMany}
-use Rattle.pef_script.specs.declared.limits.TheConstants.{MAX_NAME_BYTES, MAX_SECTIONS, LIBRARY_GROUP}
-use Rattle.pef_script.specs.Script.{DescribedExport, DescribedImport, DescribedLibrary, DescribedSection}
-use Rattle.pef_script.specs.State.{State, has_no_room, is_repeated, no_section, number_of_name, section_at, section_names}
-use Rattle.pef_script.specs.Declarations.{entered_import, section_tests}
+use Rattle.pef_script.specs.Limits.{greatest_total, most_name_bytes}
+use Rattle.pef_script.specs.Script.{DescribedExport, DescribedImport, DescribedLibrary, DescribedSection, section_names}
+use Rattle.pef_script.specs.SoFar.{ScriptSoFar, counted_name_tests, has_no_room, is_repeated, library_group, name_tests, no_section, number_of_name, section_at}
+use Rattle.pef_script.specs.Declarations.{entered_import}
 use Rattle.pef_script.specs.Contents.{bytes_tests, fixup_of, fixup_tests, with_contents, with_fixups}
 use Rattle.pef_script.specs.WellFormed.{BaseThere, EntryHolds, ExportHolds, ExportsHold, ImportHolds, ImportsHold, PlaceHolds, ScriptHolds, SectionHolds, SectionsHold, SignedPlaceHolds, bytes_of_names, name_bytes, totals_of}
 use Rattle.pef_words.proofs.Laws.Lists.{all-append, all-at, all-set, all-weaker}
 use Rattle.pef_script.proofs.ListLemmas.{map-set}
 
 -- what is true while a script is read
-pub record StateHolds (s : State) : Type 0 where
+pub record StateHolds (s : ScriptSoFar) : Type 0 where
   pub script : ScriptHolds s.script
   pub names : s.names ≡ name_bytes s.script
 
@@ -45,32 +45,30 @@ below_limit count limit unmet = by (nat_lt count limit) refl unmet
     by true is unmet = ltb-true _ _ is
     by false is unmet = absurd (cc)
 
--- room for one more name among a count of others
-pub record NameRoom (s : State) (names : List (List ℕ)) (count limit : ℕ) (name : List ℕ) : Type 0 where
+-- room for one more name among others, of which there may be so many
+pub record NameRoom (names : List (List ℕ)) (limit : ℕ) (name : List ℕ) : Type 0 where
   pub new : number_of_name names name ≡ None
-  pub room : count < limit
-  pub bytes : s.names + (length name + 1) ≤ MAX_NAME_BYTES
+  pub room : length names < limit
 
-pub name_tests-unmet : (s : State) (names : List (List ℕ)) (count limit : ℕ) (name : List ℕ) (others : List (Bool × LineFault))
-    → first_met ((is_repeated names name, RepeatedName) ∷ (not (nat_lt count limit), TooMany) ∷ (has_no_room s name, TooMany) ∷ others) ≡ None
-    → NameRoom s names count limit name × (first_met others ≡ None)
-name_tests-unmet s names count limit name others unmet =
-    let a = first_unmet (is_repeated names name) RepeatedName (first_met ((not (nat_lt count limit), TooMany) ∷ (has_no_room s name, TooMany) ∷ others)) unmet in
-    let b = first_unmet (not (nat_lt count limit)) TooMany (first_met ((has_no_room s name, TooMany) ∷ others)) a.1 in
-    let c = first_unmet (has_no_room s name) TooMany (first_met others) b.1 in
-    (record { new = new_name names name a.0; room = below_limit count limit b.0; bytes = ltb-false _ _ c.0 }, c.1)
+pub name_tests-unmet : (names : List (List ℕ)) (limit : ℕ) (name : List ℕ) (others : List (Bool × LineFault)) → first_met (name_tests names limit name ++ others) ≡ None → NameRoom names limit name × (first_met others ≡ None)
+name_tests-unmet names limit name others unmet =
+    let a = first_unmet (is_repeated names name) RepeatedName (first_met ((not (nat_lt (length names) limit), TooMany) ∷ others)) unmet in
+    let b = first_unmet (not (nat_lt (length names) limit)) TooMany (first_met others) a.1 in
+    (record { new = new_name names name a.0; room = below_limit (length names) limit b.0 }, b.1)
 
-pub record SectionRoom (s : State) (name : List ℕ) : Type 0 where
-  pub new : number_of_name (section_names s.script) name ≡ None
-  pub room : length s.script.sections < MAX_SECTIONS
+-- .. and whose bytes count
+pub record CountedRoom (s : ScriptSoFar) (names : List (List ℕ)) (limit : ℕ) (name : List ℕ) : Type 0 where
+  pub new : number_of_name names name ≡ None
+  pub room : length names < limit
+  pub bytes : s.names + (length name + 1) ≤ most_name_bytes
 
-pub section_tests-unmet : (s : State) (name : List ℕ) → first_met (section_tests s name) ≡ None → SectionRoom s name
-section_tests-unmet s name unmet =
-    let a = first_unmet (is_repeated (section_names s.script) name) RepeatedName (first_met ((not (nat_lt (length s.script.sections) MAX_SECTIONS), TooMany) ∷ [])) unmet in
-    let b = first_unmet (not (nat_lt (length s.script.sections) MAX_SECTIONS)) TooMany None a.1 in
-    record { new = new_name (section_names s.script) name a.0; room = below_limit (length s.script.sections) MAX_SECTIONS b.0 }
+pub counted_tests-unmet : (s : ScriptSoFar) (names : List (List ℕ)) (limit : ℕ) (name : List ℕ) (others : List (Bool × LineFault)) → first_met (counted_name_tests s names limit name ++ others) ≡ None → CountedRoom s names limit name × (first_met others ≡ None)
+counted_tests-unmet s names limit name others unmet =
+    let a = name_tests-unmet names limit name ((has_no_room s name, TooMany) ∷ others) unmet in
+    let b = first_unmet (has_no_room s name) TooMany (first_met others) a.1 in
+    (record { new = a.0.new; room = a.0.room; bytes = ltb-false _ _ b.0 }, b.1)
 
-pub bytes_tests-unmet : (s : State) (k count : ℕ) → first_met (bytes_tests s k count) ≡ None → length (section_at s k).image + count ≤ (section_at s k).header.total
+pub bytes_tests-unmet : (s : ScriptSoFar) (k count : ℕ) → first_met (bytes_tests s k count) ≡ None → length (section_at s k).image + count ≤ (section_at s k).header.total
 bytes_tests-unmet s k count unmet =
     let section = section_at s k in
     let a = first_unmet (nat_lt k s.section) OutOfOrder (first_met ((nat_lt section.header.total (length section.image + count), OutsideSection) ∷ [])) unmet in
@@ -83,7 +81,7 @@ pub record FixupRoom (section : DescribedSection) (offset count : ℕ) : Type 0 
   pub inside : offset + 4 * count ≤ section.header.total
   pub after : fixups_end 0 section.fixups ≤ offset
 
-pub fixup_tests-unmet : (s : State) (k offset count : ℕ) → first_met (fixup_tests s k offset count) ≡ None → FixupRoom (section_at s k) offset count
+pub fixup_tests-unmet : (s : ScriptSoFar) (k offset count : ℕ) → first_met (fixup_tests s k offset count) ≡ None → FixupRoom (section_at s k) offset count
 fixup_tests-unmet s k offset count unmet =
     let section = section_at s k in
     let fixups = section.fixups in
@@ -160,16 +158,16 @@ imports-more n imports holds = record {
 }
 
 -- an import stands behind a library
-pub entered_import-some : (s : State) (group : ℕ) → entered_import s ≡ Ok group → 1 ≤ length s.script.libraries
-entered_import-some s group is = by (nat_lt LIBRARY_GROUP s.reached) s.script.libraries is
+pub entered_import-some : (s : ScriptSoFar) (group : ℕ) → entered_import s ≡ Ok group → 1 ≤ length s.script.libraries
+entered_import-some s group is = by (nat_lt library_group s.reached) s.script.libraries is
   where
-    by : (late : Bool) (libraries : List DescribedLibrary) → cond (late || (length libraries == 0)) (Err OutOfOrder) (Ok LIBRARY_GROUP) ≡ Ok group → 1 ≤ length libraries
+    by : (late : Bool) (libraries : List DescribedLibrary) → cond (late || (length libraries == 0)) (Err OutOfOrder) (Ok library_group) ≡ Ok group → 1 ≤ length libraries
     by true libraries is = absurd (cc)
     by false [] is = absurd (cc)
     by false (l ∷ libraries) is = omega arith
 
 -- a place in section k
-pub place_at : (s : State) (k offset : ℕ) → k < length s.script.sections → offset ≤ (section_at s k).header.total → PlaceHolds (totals_of s.script.sections) k offset
+pub place_at : (s : ScriptSoFar) (k offset : ℕ) → k < length s.script.sections → offset ≤ (section_at s k).header.total → PlaceHolds (totals_of s.script.sections) k offset
 place_at s k offset under inside =
     let count : length (totals_of s.script.sections) ≡ length s.script.sections = simp length-map in
     record { there = omega (arith, count, under); inside = rw (get_or-map (λ (x : DescribedSection). x.header.total) s.script.sections k no_section 0 under) inside }
@@ -181,7 +179,7 @@ names-more names name = let more = sum_by-append (λ (n : List ℕ). length n + 
 
 -- a section that is changed, but for its line
 
-pub changed : (s : State) (k : ℕ) (section : DescribedSection) → StateHolds s → section.header ≡ (section_at s k).header → SectionHolds (length s.script.sections) (length s.script.imports) section → StateHolds (with_contents s k section)
+pub changed : (s : ScriptSoFar) (k : ℕ) (section : DescribedSection) → StateHolds s → section.header ≡ (section_at s k).header → SectionHolds (length s.script.sections) (length s.script.imports) section → StateHolds (with_contents s k section)
 changed s k section holds same fits =
     let sections = s.script.sections in
     let was = holds.script in
@@ -207,16 +205,16 @@ changed s k section holds same fits =
       names = holds.names;
     }
 
-pub at_section : (s : State) (k : ℕ) → StateHolds s → k < length s.script.sections → SectionHolds (length s.script.sections) (length s.script.imports) (section_at s k)
+pub at_section : (s : ScriptSoFar) (k : ℕ) → StateHolds s → k < length s.script.sections → SectionHolds (length s.script.sections) (length s.script.imports) (section_at s k)
 at_section s k holds under = all-at (SectionHolds (length s.script.sections) (length s.script.imports)) s.script.sections k no_section holds.script.sections.each under
 
 -- a base that is there is within the limits of bases
-base_within : (m n : ℕ) (b : Base) → m ≤ 8 → n ≤ 65536 → BaseThere m n b → base_fits b ≡ true
-base_within m n (base.Section k) few some there = let under : k < 8 = omega (arith, there) in lt-ltb k 8 under
-base_within m n (base.Import j) few some there = let under : j < 65536 = omega (arith, there) in lt-ltb j 65536 under
+base_within : (m n : ℕ) (b : Base) → m ≤ most_sections → n ≤ most_imports → BaseThere m n b → base_fits b ≡ true
+base_within m n (base.Section k) few some there = let under : k < most_sections = omega (arith, there) in lt-ltb k most_sections under
+base_within m n (base.Import j) few some there = let under : j < most_imports = omega (arith, there) in lt-ltb j most_imports under
 
 -- one more fixup
-pub fixup-more : (m n : ℕ) (s : DescribedSection) (offset : ℕ) (b : Base) → m ≤ 8 → n ≤ 65536 → SectionHolds m n s → length s.fixups < most_fixups → offset + 4 ≤ s.header.total → fixups_end 0 s.fixups ≤ offset → BaseThere m n b
+pub fixup-more : (m n : ℕ) (s : DescribedSection) (offset : ℕ) (b : Base) → m ≤ most_sections → n ≤ most_imports → SectionHolds m n s → length s.fixups < most_fixups → offset + 4 ≤ s.header.total → fixups_end 0 s.fixups ≤ offset → BaseThere m n b
     → SectionHolds m n (with_fixups s (fixup_of offset b ∷ []))
 fixup-more m n s offset b few some holds room inside after there =
     let f : Fixup = fixup_of offset b in

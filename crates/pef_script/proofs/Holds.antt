@@ -4,7 +4,7 @@ use Rattle.std.specs.Prelude.{codes, nat_lt}
 use Rattle.std.specs.List.{AllByRecursion}
 use Rattle.std.specs.Str.{bytes_eq}
 use Rattle.std.proofs.lemmas.Bool.{ltb-false}
-use Rattle.std.proofs.lemmas.List.{map-append}
+use Rattle.std.proofs.lemmas.List.{length-map, map-append}
 use Rattle.pef_words.specs.Refusals.{first_met}
 use Rattle.pef_words.proofs.Laws.Refusals.{first_unmet}
 use Rattle.pef_reloc.specs.declared.fixup.Base.TheVariants as base
@@ -13,22 +13,23 @@ use Rattle.pef_reloc.specs.Fixups.{fixups_end}
 use Rattle.pef_reloc.proofs.Laws.{fixups_end-append, no_fixups_fit}
 use Rattle.pef_script.specs.declared.fault.LineFault.{LineFault}
 use Rattle.pef_script.specs.declared.fault.LineFault.TheVariants.{BadLine, OutsideSection}
-use Rattle.pef_script.specs.declared.limits.TheConstants.{MAX_ALIGN, MAX_EXPORTS, MAX_IMPORTS, MAX_LIBRARIES, MAX_NUMBER, MAX_TOTAL, VERSIONS_GROUP, LIBRARY_GROUP, SECTION_GROUP, CONTENT_GROUP, EXPORT_GROUP, MAIN_GROUP, INIT_GROUP, TERM_GROUP}
-use Rattle.pef_script.specs.Script.{DescribedExport, DescribedImport, DescribedLibrary, DescribedSection, DescribedScript}
+use Rattle.pef_reloc.specs.Limits.{most_imports, most_sections}
+use Rattle.pef_script.specs.Limits.{greatest_align, greatest_number, greatest_total, most_exports, most_libraries}
+use Rattle.pef_script.specs.Script.{DescribedExport, DescribedImport, DescribedLibrary, DescribedSection, DescribedScript, export_names, import_names, library_names, section_names}
 use Rattle.pef_script.specs.Words.{image_of, last_name, last_word, next_name, next_word, number_up_to}
-use Rattle.pef_script.specs.State.{State, entered, entered_once, export_names, import_names, library_names, section_at, section_named, section_names}
-use Rattle.pef_script.specs.Declarations.{class_of, entered_import, import_line, import_tests, is_weak_word, kind_of, library_line, library_tests, options_of, section_line, section_tests, share_of, versions_line}
+use Rattle.pef_script.specs.SoFar.{ScriptSoFar, content_group, counted_name_tests, entered, entered_once, export_group, init_group, library_group, main_group, name_tests, section_at, section_group, section_named, term_group, versions_group}
+use Rattle.pef_script.specs.Declarations.{class_of, entered_import, import_line, is_weak_word, kind_of, library_line, options_of, section_line, share_of, versions_line}
 use Rattle.pef_script.specs.Contents.{base_named, bytes_line, bytes_tests, fix_line, fixup_of, fixup_tests, is_section_word, tvector_line, with_fixups, with_image}
-use Rattle.pef_script.specs.Exports.{entry_in, export_line, export_tests, init_line, main_line, term_line}
+use Rattle.pef_script.specs.Exports.{entry_in, export_line, init_line, main_line, place_tests, term_line}
 use Rattle.pef_script.specs.Grammar.{Refusal, after_line, is_skipped, line_by_word, line_of, lines_of, no_lines, read_lines, script_of}
 use Rattle.pef_script.specs.WellFormed.{ExportHolds, ImportHolds, LibraryHolds, PlaceHolds, ScriptHolds, SectionHolds, bytes_of_names, totals_of}
 use Rattle.pef_script.proofs.Leads.{Leads, leads_if, leads_then, leads_unless, led}
 use Rattle.pef_words.proofs.Laws.Lists.{all-append, all-map, all-weaker}
 use Rattle.pef_script.proofs.ListLemmas.{distinct-more, no_names_apart, rises-more}
 use Rattle.pef_script.proofs.WordLemmas.{base_named-is, class_of-is, kind_of-is, next_name-is, number_up_to-is, options_of-is, section_named-is, share_of-is}
-use Rattle.pef_script.proofs.Growing.{StateHolds, name_tests-unmet, section_tests-unmet, bytes_tests-unmet, fixup_tests-unmet, entry-more, exports-more, section-more, sections-more, imports-more, entered_import-some, place_at, names-more, changed, at_section, fixup-more}
+use Rattle.pef_script.proofs.Growing.{StateHolds, name_tests-unmet, counted_tests-unmet, bytes_tests-unmet, fixup_tests-unmet, entry-more, exports-more, section-more, sections-more, imports-more, entered_import-some, place_at, names-more, changed, at_section, fixup-more}
 
-module _ (s : State) (holds : StateHolds s) (line : List ℕ) where
+module _ (s : ScriptSoFar) (holds : StateHolds s) (line : List ℕ) where
   abbrev was : ScriptHolds s.script
   was = holds.script
 
@@ -38,16 +39,16 @@ module _ (s : State) (holds : StateHolds s) (line : List ℕ) where
       leads_then StateHolds (next_word line) _ (λ current_word current_word_is.
       leads_then StateHolds (next_word current_word.1) _ (λ old_def_word old_def_word_is.
       leads_then StateHolds (last_word old_def_word.1) _ (λ old_imp_word old_imp_word_is.
-      leads_then StateHolds (entered_once s VERSIONS_GROUP) _ (λ group group_is.
-      leads_then StateHolds (number_up_to MAX_NUMBER current_word.0) _ (λ current current_is.
-      leads_then StateHolds (number_up_to MAX_NUMBER old_def_word.0) _ (λ old_def old_def_is.
-      leads_then StateHolds (number_up_to MAX_NUMBER old_imp_word) _ (λ old_imp old_imp_is.
+      leads_then StateHolds (entered_once s versions_group) _ (λ group group_is.
+      leads_then StateHolds (number_up_to greatest_number current_word.0) _ (λ current current_is.
+      leads_then StateHolds (number_up_to greatest_number old_def_word.0) _ (λ old_def old_def_is.
+      leads_then StateHolds (number_up_to greatest_number old_imp_word) _ (λ old_imp old_imp_is.
       record {
         script = record {
           versions = record {
-            current = number_up_to-is MAX_NUMBER current_word.0 current current_is;
-            old_def = number_up_to-is MAX_NUMBER old_def_word.0 old_def old_def_is;
-            old_imp = number_up_to-is MAX_NUMBER old_imp_word old_imp old_imp_is;
+            current = number_up_to-is greatest_number current_word.0 current current_is;
+            old_def = number_up_to-is greatest_number old_def_word.0 old_def old_def_is;
+            old_imp = number_up_to-is greatest_number old_imp_word old_imp old_imp_is;
           };
           libraries = was.libraries;
           imports = was.imports;
@@ -68,12 +69,12 @@ module _ (s : State) (holds : StateHolds s) (line : List ℕ) where
       leads_then StateHolds (next_word name.1) _ (λ current_word current_word_is.
       leads_then StateHolds (next_word current_word.1) _ (λ old_imp_word old_imp_word_is.
       leads_then StateHolds (last_word old_imp_word.1) _ (λ option option_is.
-      leads_then StateHolds (entered s LIBRARY_GROUP) _ (λ group group_is.
+      leads_then StateHolds (entered s library_group) _ (λ group group_is.
       leads_then StateHolds (options_of option) _ (λ options options_is.
-      leads_then StateHolds (number_up_to MAX_NUMBER current_word.0) _ (λ current current_is.
-      leads_then StateHolds (number_up_to MAX_NUMBER old_imp_word.0) _ (λ old_imp old_imp_is.
-      leads_unless StateHolds (first_met (library_tests s name.0)) _ (λ unmet.
-      let room = (name_tests-unmet s (library_names s.script) (length s.script.libraries) MAX_LIBRARIES name.0 [] unmet).0 in
+      leads_then StateHolds (number_up_to greatest_number current_word.0) _ (λ current current_is.
+      leads_then StateHolds (number_up_to greatest_number old_imp_word.0) _ (λ old_imp old_imp_is.
+      leads_unless StateHolds (first_met (counted_name_tests s (library_names s.script) most_libraries name.0)) _ (λ unmet.
+      let room = (counted_tests-unmet s (library_names s.script) most_libraries name.0 [] unmet).0 in
       let libraries = s.script.libraries in
       let library : DescribedLibrary = record { name = name.0; current = current; old_imp = old_imp; options = options } in
       let count : length (libraries ++ library ∷ []) ≡ length libraries + 1 = length-append libraries (library ∷ []) in
@@ -83,12 +84,12 @@ module _ (s : State) (holds : StateHolds s) (line : List ℕ) where
         script = record {
           versions = was.versions;
           libraries = record {
-            count = omega (arith, count, room.room);
+            count = omega (arith, count, room.room, length-map libraries (λ (l : DescribedLibrary). l.name));
             each = all-append LibraryHolds libraries (library ∷ []) was.libraries.each (
               record {
                 name = next_name-is line name name_is;
-                current = number_up_to-is MAX_NUMBER current_word.0 current current_is;
-                old_imp = number_up_to-is MAX_NUMBER old_imp_word.0 old_imp old_imp_is;
+                current = number_up_to-is greatest_number current_word.0 current current_is;
+                old_imp = number_up_to-is greatest_number old_imp_word.0 old_imp old_imp_is;
                 options = options_of-is option options options_is;
               },
               tt,
@@ -115,8 +116,8 @@ module _ (s : State) (holds : StateHolds s) (line : List ℕ) where
       leads_then StateHolds (entered_import s) _ (λ group group_is.
       leads_then StateHolds (class_of class_word.0) _ (λ class class_is.
       leads_then StateHolds (is_weak_word strength) _ (λ weak weak_is.
-      leads_unless StateHolds (first_met (import_tests s name.0)) _ (λ unmet.
-      let room = (name_tests-unmet s (import_names s.script) (length s.script.imports) MAX_IMPORTS name.0 [] unmet).0 in
+      leads_unless StateHolds (first_met (counted_name_tests s (import_names s.script) most_imports name.0)) _ (λ unmet.
+      let room = (counted_tests-unmet s (import_names s.script) most_imports name.0 [] unmet).0 in
       let some = entered_import-some s group group_is in
       let imports = s.script.imports in
       let n = length s.script.libraries in
@@ -130,7 +131,7 @@ module _ (s : State) (holds : StateHolds s) (line : List ℕ) where
           versions = was.versions;
           libraries = was.libraries;
           imports = record {
-            count = omega (arith, count, room.room);
+            count = omega (arith, count, room.room, length-map imports (λ (i : DescribedImport). i.name));
             each = all-append (ImportHolds n) imports (symbol ∷ []) was.imports.each (
               record {
                 name = next_name-is line name name_is;
@@ -161,13 +162,13 @@ module _ (s : State) (holds : StateHolds s) (line : List ℕ) where
       leads_then StateHolds (next_word kind_word.1) _ (λ share_word share_word_is.
       leads_then StateHolds (next_word share_word.1) _ (λ align_word align_word_is.
       leads_then StateHolds (last_word align_word.1) _ (λ total_word total_word_is.
-      leads_then StateHolds (entered s SECTION_GROUP) _ (λ group group_is.
+      leads_then StateHolds (entered s section_group) _ (λ group group_is.
       leads_then StateHolds (kind_of kind_word.0) _ (λ kind kind_is.
       leads_then StateHolds (share_of share_word.0) _ (λ share share_is.
-      leads_then StateHolds (number_up_to MAX_ALIGN align_word.0) _ (λ align align_is.
-      leads_then StateHolds (number_up_to MAX_TOTAL total_word) _ (λ total total_is.
-      leads_unless StateHolds (first_met (section_tests s name.0)) _ (λ unmet.
-      let room = section_tests-unmet s name.0 unmet in
+      leads_then StateHolds (number_up_to greatest_align align_word.0) _ (λ align align_is.
+      leads_then StateHolds (number_up_to greatest_total total_word) _ (λ total total_is.
+      leads_unless StateHolds (first_met (name_tests (section_names s.script) most_sections name.0)) _ (λ unmet.
+      let room = (name_tests-unmet (section_names s.script) most_sections name.0 [] unmet).0 in
       let sections = s.script.sections in
       let n = length sections in
       let i = length s.script.imports in
@@ -183,14 +184,14 @@ module _ (s : State) (holds : StateHolds s) (line : List ℕ) where
           libraries = was.libraries;
           imports = was.imports;
           sections = record {
-            count = omega (arith, count, room.room);
+            count = omega (arith, count, room.room, length-map sections (λ (x : DescribedSection). x.header.name));
             each = rw count (all-append (SectionHolds (n + 1) i) sections (section ∷ []) others (
               record {
                 name = next_name-is line name name_is;
                 kind = kind_of-is kind_word.0 kind kind_is;
                 share = share_of-is share_word.0 share share_is;
-                align = number_up_to-is MAX_ALIGN align_word.0 align align_is;
-                total = number_up_to-is MAX_TOTAL total_word total total_is;
+                align = number_up_to-is greatest_align align_word.0 align align_is;
+                total = number_up_to-is greatest_total total_word total total_is;
                 image = omega arith;
                 fixups = no_fixups_fit;
                 inside = omega arith;
@@ -215,7 +216,7 @@ module _ (s : State) (holds : StateHolds s) (line : List ℕ) where
       leads_then StateHolds (next_name line) _ (λ name name_is.
       leads_then StateHolds (last_word name.1) _ (λ digits digits_is.
       leads_then StateHolds (image_of digits) _ (λ bytes bytes_is.
-      leads_then StateHolds (entered s CONTENT_GROUP) _ (λ group group_is.
+      leads_then StateHolds (entered s content_group) _ (λ group group_is.
       leads_then StateHolds (section_named s name.0) _ (λ k k_is.
       leads_unless StateHolds (first_met (bytes_tests s k (length bytes))) _ (λ unmet.
       let under = section_named-is s name.0 k k_is in
@@ -240,9 +241,9 @@ module _ (s : State) (holds : StateHolds s) (line : List ℕ) where
       leads_then StateHolds (next_word name.1) _ (λ offset_word offset_word_is.
       leads_then StateHolds (next_word offset_word.1) _ (λ kind_word kind_word_is.
       leads_then StateHolds (last_name kind_word.1) _ (λ target_name target_name_is.
-      leads_then StateHolds (entered s CONTENT_GROUP) _ (λ group group_is.
+      leads_then StateHolds (entered s content_group) _ (λ group group_is.
       leads_then StateHolds (is_section_word kind_word.0) _ (λ is_section is_section_is.
-      leads_then StateHolds (number_up_to MAX_NUMBER offset_word.0) _ (λ offset offset_is.
+      leads_then StateHolds (number_up_to greatest_number offset_word.0) _ (λ offset offset_is.
       leads_then StateHolds (section_named s name.0) _ (λ k k_is.
       leads_then StateHolds (base_named s is_section target_name) _ (λ target target_is.
       leads_unless StateHolds (first_met (fixup_tests s k offset 1)) _ (λ unmet.
@@ -259,8 +260,8 @@ module _ (s : State) (holds : StateHolds s) (line : List ℕ) where
       leads_then StateHolds (next_word name.1) _ (λ offset_word offset_word_is.
       leads_then StateHolds (next_name offset_word.1) _ (λ code_name code_name_is.
       leads_then StateHolds (last_name code_name.1) _ (λ data_name data_name_is.
-      leads_then StateHolds (entered s CONTENT_GROUP) _ (λ group group_is.
-      leads_then StateHolds (number_up_to MAX_NUMBER offset_word.0) _ (λ offset offset_is.
+      leads_then StateHolds (entered s content_group) _ (λ group group_is.
+      leads_then StateHolds (number_up_to greatest_number offset_word.0) _ (λ offset offset_is.
       leads_then StateHolds (section_named s name.0) _ (λ k k_is.
       leads_then StateHolds (section_named s code_name.0) _ (λ code code_is.
       leads_then StateHolds (section_named s data_name) _ (λ data_section data_section_is.
@@ -269,8 +270,8 @@ module _ (s : State) (holds : StateHolds s) (line : List ℕ) where
       let room = fixup_tests-unmet s k offset 2 unmet in
       let m = length s.script.sections in
       let n = length s.script.imports in
-      let few : m ≤ 8 = omega (arith, was.sections.count) in
-      let some : n ≤ 65536 = omega (arith, was.imports.count) in
+      let few : m ≤ most_sections = omega (arith, was.sections.count) in
+      let some : n ≤ most_imports = omega (arith, was.imports.count) in
       let section = section_at s k in
       let a = fixup_of offset (base.Section code) in
       let b = fixup_of (offset + 4) (base.Section data_section) in
@@ -288,12 +289,12 @@ module _ (s : State) (holds : StateHolds s) (line : List ℕ) where
       leads_then StateHolds (next_word name.1) _ (λ class_word class_word_is.
       leads_then StateHolds (next_name class_word.1) _ (λ section_name section_name_is.
       leads_then StateHolds (last_word section_name.1) _ (λ offset_word offset_word_is.
-      leads_then StateHolds (entered s EXPORT_GROUP) _ (λ group group_is.
+      leads_then StateHolds (entered s export_group) _ (λ group group_is.
       leads_then StateHolds (class_of class_word.0) _ (λ class class_is.
-      leads_then StateHolds (number_up_to MAX_NUMBER offset_word) _ (λ offset offset_is.
+      leads_then StateHolds (number_up_to greatest_number offset_word) _ (λ offset offset_is.
       leads_then StateHolds (section_named s section_name.0) _ (λ k k_is.
-      leads_unless StateHolds (first_met (export_tests s name.0 k offset)) _ (λ unmet.
-      let tests = name_tests-unmet s (export_names s.script) (length s.script.exports) MAX_EXPORTS name.0 ((nat_lt (section_at s k).header.total offset, OutsideSection) ∷ []) unmet in
+      leads_unless StateHolds (first_met (counted_name_tests s (export_names s.script) most_exports name.0 ++ place_tests s k offset)) _ (λ unmet.
+      let tests = counted_tests-unmet s (export_names s.script) most_exports name.0 (place_tests s k offset) unmet in
       let room = tests.0 in
       let inside = ltb-false _ _ (first_unmet (nat_lt (section_at s k).header.total offset) OutsideSection None tests.1).0 in
       let exports = s.script.exports in
@@ -308,7 +309,7 @@ module _ (s : State) (holds : StateHolds s) (line : List ℕ) where
           imports = was.imports;
           sections = was.sections;
           exports = record {
-            count = omega (arith, count, room.room);
+            count = omega (arith, count, room.room, length-map exports (λ (e : DescribedExport). e.name));
             each = all-append (ExportHolds (totals_of s.script.sections)) exports (symbol ∷ []) was.exports.each (
               record {
                 name = next_name-is line name name_is;
@@ -334,13 +335,13 @@ module _ (s : State) (holds : StateHolds s) (line : List ℕ) where
       leads_then P (next_name line) _ (λ name name_is.
       leads_then P (last_word name.1) _ (λ offset_word offset_word_is.
       leads_then P (entered_once s group) _ (λ reached reached_is.
-      leads_then P (number_up_to MAX_NUMBER offset_word) _ (λ offset offset_is.
+      leads_then P (number_up_to greatest_number offset_word) _ (λ offset offset_is.
       leads_then P (section_named s name.0) _ (λ k k_is.
-      leads_unless P (first_met ((nat_lt (section_at s k).header.total offset, OutsideSection) ∷ [])) _ (λ unmet.
+      leads_unless P (first_met (place_tests s k offset)) _ (λ unmet.
       place_at s k offset (section_named-is s name.0 k k_is) (ltb-false _ _ (first_unmet (nat_lt (section_at s k).header.total offset) OutsideSection None unmet).0)))))))
 
   main_line-holds : Leads StateHolds (main_line s line)
-  main_line-holds = leads_then StateHolds (entry_in s MAIN_GROUP line) _ (λ entry entry_is. record {
+  main_line-holds = leads_then StateHolds (entry_in s main_group line) _ (λ entry entry_is. record {
     script = record {
       versions = was.versions;
       libraries = was.libraries;
@@ -350,13 +351,13 @@ module _ (s : State) (holds : StateHolds s) (line : List ℕ) where
       init = was.init;
       term = was.term;
       names = was.names;
-      main = led (λ (e : ℕ × ℕ). PlaceHolds (totals_of s.script.sections) e.0 e.1) (entry_in s MAIN_GROUP line) entry entry_is (entry_in-holds MAIN_GROUP);
+      main = led (λ (e : ℕ × ℕ). PlaceHolds (totals_of s.script.sections) e.0 e.1) (entry_in s main_group line) entry entry_is (entry_in-holds main_group);
     };
     names = holds.names;
   })
 
   init_line-holds : Leads StateHolds (init_line s line)
-  init_line-holds = leads_then StateHolds (entry_in s INIT_GROUP line) _ (λ entry entry_is. record {
+  init_line-holds = leads_then StateHolds (entry_in s init_group line) _ (λ entry entry_is. record {
     script = record {
       versions = was.versions;
       libraries = was.libraries;
@@ -366,13 +367,13 @@ module _ (s : State) (holds : StateHolds s) (line : List ℕ) where
       main = was.main;
       term = was.term;
       names = was.names;
-      init = led (λ (e : ℕ × ℕ). PlaceHolds (totals_of s.script.sections) e.0 e.1) (entry_in s INIT_GROUP line) entry entry_is (entry_in-holds INIT_GROUP);
+      init = led (λ (e : ℕ × ℕ). PlaceHolds (totals_of s.script.sections) e.0 e.1) (entry_in s init_group line) entry entry_is (entry_in-holds init_group);
     };
     names = holds.names;
   })
 
   term_line-holds : Leads StateHolds (term_line s line)
-  term_line-holds = leads_then StateHolds (entry_in s TERM_GROUP line) _ (λ entry entry_is. record {
+  term_line-holds = leads_then StateHolds (entry_in s term_group line) _ (λ entry entry_is. record {
     script = record {
       versions = was.versions;
       libraries = was.libraries;
@@ -382,12 +383,12 @@ module _ (s : State) (holds : StateHolds s) (line : List ℕ) where
       main = was.main;
       init = was.init;
       names = was.names;
-      term = led (λ (e : ℕ × ℕ). PlaceHolds (totals_of s.script.sections) e.0 e.1) (entry_in s TERM_GROUP line) entry entry_is (entry_in-holds TERM_GROUP);
+      term = led (λ (e : ℕ × ℕ). PlaceHolds (totals_of s.script.sections) e.0 e.1) (entry_in s term_group line) entry entry_is (entry_in-holds term_group);
     };
     names = holds.names;
   })
 
-line_by_word-holds : (s : State) (p : List ℕ × List ℕ) → StateHolds s → Leads StateHolds (line_by_word s p)
+line_by_word-holds : (s : ScriptSoFar) (p : List ℕ × List ℕ) → StateHolds s → Leads StateHolds (line_by_word s p)
 unfolding line_by_word
 line_by_word-holds s p holds =
     leads_if StateHolds (bytes_eq p.0 (codes "versions")) (versions_line s p.1) _ (λ met. versions_line-holds s holds p.1) (λ unmet.
@@ -402,7 +403,7 @@ line_by_word-holds s p holds =
     leads_if StateHolds (bytes_eq p.0 (codes "init")) (init_line s p.1) _ (λ met. init_line-holds s holds p.1) (λ unmet.
     leads_if StateHolds (bytes_eq p.0 (codes "term")) (term_line s p.1) (Err BadLine) (λ met. term_line-holds s holds p.1) (λ unmet. tt)))))))))))
 
-line_of-holds : (s : State) (line : List ℕ) → StateHolds s → Leads StateHolds (line_of s line)
+line_of-holds : (s : ScriptSoFar) (line : List ℕ) → StateHolds s → Leads StateHolds (line_of s line)
 unfolding line_of
 line_of-holds s line holds =
     leads_if StateHolds (is_skipped line) (Ok s) _ (λ skipped. holds) (λ not_skipped.
@@ -413,11 +414,11 @@ abbrev OkHolds : Result DescribedScript Refusal → Type 0
 OkHolds (Ok script) = ScriptHolds script
 OkHolds (Err refusal) = Unit {0}
 
-read_lines-holds : (lines : List (List ℕ)) (s : State) (number : ℕ) → StateHolds s → OkHolds (read_lines s number lines)
+read_lines-holds : (lines : List (List ℕ)) (s : ScriptSoFar) (number : ℕ) → StateHolds s → OkHolds (read_lines s number lines)
 read_lines-holds [] s number holds = holds.script
 read_lines-holds (line ∷ lines) s number holds = by (line_of s line) (line_of-holds s line holds) (λ next fits. read_lines-holds lines next (number + 1) fits)
   where
-    by : (r : Result State LineFault) → Leads StateHolds r → ((next : State) → StateHolds next → OkHolds (read_lines next (number + 1) lines)) → OkHolds (after_line r number (λ next. read_lines next (number + 1) lines))
+    by : (r : Result ScriptSoFar LineFault) → Leads StateHolds r → ((next : ScriptSoFar) → StateHolds next → OkHolds (read_lines next (number + 1) lines)) → OkHolds (after_line r number (λ next. read_lines next (number + 1) lines))
     by (Ok next) fits others = others next fits
     by (Err fault) fits others = tt
 

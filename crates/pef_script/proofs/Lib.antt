@@ -1,4 +1,5 @@
 mod Cuts
+mod Described
 mod Digits
 mod Ends
 mod Growing

@@ -4,9 +4,9 @@ use Rattle.pef_script.specs.declared.fault.ScriptFault.{ScriptFault}
 use Rattle.pef_script.specs.declared.fault.ScriptFault.TheVariants as fault
 use Rattle.pef_script.specs.Words.{cut_at}
 use Rattle.pef_script.specs.Grammar.{line_of, lines_of, longer_first, read_lines}
-use Rattle.pef_script.specs.Reader.{Fails}
-use Rattle.pef_script.specs.State.{State}
-use Rattle.pef_script.specs.Steps.{FailsAt}
+use Rattle.pef_script.specs.Views.{Fails}
+use Rattle.pef_script.specs.SoFar.{ScriptSoFar}
+use Rattle.pef_script.specs.Kept.Steps.{FailsAt}
 
 -- the two parts of a cut
 abbrev front : Option (List ℕ × List ℕ) → List ℕ
@@ -62,6 +62,6 @@ cut_at-shorter byte (b ∷ bytes) line behind cut = by (b == byte) (cut_at byte 
         omega (arith, ap length r, others p.0 p.1 refl)
 
 -- a line that fails ends the reading
-pub read_lines-fails : (failed : ScriptFault) (s : State) (number : ℕ) (line : List ℕ) (lines : List (List ℕ)) → FailsAt failed number (line_of s line) → Fails failed (read_lines s number (line ∷ lines))
+pub read_lines-fails : (failed : ScriptFault) (s : ScriptSoFar) (number : ℕ) (line : List ℕ) (lines : List (List ℕ)) → FailsAt failed number (line_of s line) → Fails failed (read_lines s number (line ∷ lines))
 read_lines-fails (fault.Refused what at) s number line lines fails = rw (fails.0, fails.1) refl
 read_lines-fails fault.OutOfMemory s number line lines fails = tt

@@ -4,7 +4,7 @@ use Rattle.std.specs.Prelude.{slice_index_or, slice_set}
 use Rattle.std.specs.List.{AllByRecursion, IsDistinct, position_from}
 use Rattle.std.specs.Str.{bytes_eq}
 use Rattle.std.proofs.lemmas.Slice.Eq.{bytes_eq-Decides}
-use Rattle.pef_script.specs.State.{number_of_name}
+use Rattle.pef_script.specs.SoFar.{number_of_name}
 use Rattle.pef_script.specs.WellFormed.{Rises}
 use Rattle.pef_words.proofs.Laws.Lists.{all-append}
 

@@ -8,8 +8,8 @@ use Rattle.std.proofs.lemmas.Iterator.Adapters.{position_from-zero}
 use Rattle.pef_script.specs.declared.parts.ExportData.{ExportData}
 use Rattle.pef_script.specs.declared.parts.ImportData.{ImportData}
 use Rattle.pef_script.specs.declared.parts.LibraryData.{LibraryData}
-use Rattle.pef_script.specs.Seen.{export_of, import_of, library_of}
-use Rattle.pef_script.specs.State.{number_of_name}
+use Rattle.pef_script.specs.Kept.Reader.{export_of, import_of, library_of}
+use Rattle.pef_script.specs.SoFar.{number_of_name}
 
 -- a place in a list is that in the list seen in another way
 position_from-map : {A B : Type 0} (f : A → B) (test : B → Bool) (at : ℕ) (xs : List A) → position_from test at (map f xs) ≡ position_from (λ x. test (f x)) at xs

@@ -12,7 +12,9 @@ use Rattle.pef_words.proofs.Laws.Tests.{met_both}
 use Rattle.pef_script.specs.declared.fault.LineFault.{LineFault}
 use Rattle.pef_script.specs.declared.fault.LineFault.TheVariants.{BadLine, BadNumber, UnknownName, BadKind}
 use Rattle.pef_script.specs.Words.{below, cut_at, is_word, is_printing, named, next_name, next_word, number_in, number_up_to, word_before}
-use Rattle.pef_script.specs.State.{State, import_names, number_of_name, section_named, section_names}
+use Rattle.pef_script.specs.Limits.{longest_name}
+use Rattle.pef_script.specs.Script.{import_names, section_names}
+use Rattle.pef_script.specs.SoFar.{ScriptSoFar, number_of_name, section_named}
 use Rattle.pef_script.specs.Declarations.{class_of, kind_of, options_of, share_of}
 use Rattle.pef_script.specs.Contents.{base_named, import_named}
 use Rattle.pef_script.specs.WellFormed.{BaseThere, IsName, is_kind, is_options, is_share}
@@ -23,14 +25,14 @@ word_before-is : (cut : Option (List ℕ × List ℕ)) → Leads (λ p. is_word 
 word_before-is None = tt
 word_before-is (Some p) = leads_if (λ (q : List ℕ × List ℕ). is_word q.0 ≡ true) (is_word p.0) (Ok p) (Err BadLine) (λ is. is) (λ isnt. tt)
 
--- a word of at most 255 bytes is a name
-name_if : (word : List ℕ) → is_word word ≡ true → length word ≤ 255 → IsName word
+-- a word that is not too long is a name
+name_if : (word : List ℕ) → is_word word ≡ true → length word ≤ longest_name → IsName word
 name_if [] is most = absurd (cc)
 name_if (b ∷ bytes) is most = record { least = omega arith; most = most; bytes = (met_both (not (length (b ∷ bytes) == 0)) (list_all is_printing (b ∷ bytes)) is).1 }
 
 named-is : (r : Result (List ℕ × List ℕ) LineFault) → Leads (λ p. is_word p.0 ≡ true) r → Leads (λ p. IsName p.0) (named (λ p. p.0) r)
 named-is (Err fault) word = tt
-named-is (Ok p) word = leads_if (λ (q : List ℕ × List ℕ). IsName q.0) (nat_lt 255 (length p.0)) (Err BadLine) (Ok p) (λ over. tt) (λ within. name_if p.0 word (ltb-false _ _ within))
+named-is (Ok p) word = leads_if (λ (q : List ℕ × List ℕ). IsName q.0) (nat_lt longest_name (length p.0)) (Err BadLine) (Ok p) (λ over. tt) (λ within. name_if p.0 word (ltb-false _ _ within))
 
 pub next_name-is : (line : List ℕ) (p : List ℕ × List ℕ) → next_name line ≡ Ok p → IsName p.0
 unfolding next_name next_word
@@ -103,19 +105,19 @@ found_under names name k is = by (number_of_name names name) refl is
     by None found is = absurd (cc)
     by (Some j) found is = (let e : j ≡ k = cc in let under = position_from-under (bytes_eq name) 0 names j found in omega (arith, under))
 
-pub section_named-is : (s : State) (name : List ℕ) (k : ℕ) → section_named s name ≡ Ok k → k < length s.script.sections
+pub section_named-is : (s : ScriptSoFar) (name : List ℕ) (k : ℕ) → section_named s name ≡ Ok k → k < length s.script.sections
 section_named-is s name k is =
     let under = found_under (section_names s.script) name k is in
     let count : length (section_names s.script) ≡ length s.script.sections = simp length-map in
     omega (arith, under, count)
 
-import_named-is : (s : State) (name : List ℕ) (j : ℕ) → import_named s name ≡ Ok j → j < length s.script.imports
+import_named-is : (s : ScriptSoFar) (name : List ℕ) (j : ℕ) → import_named s name ≡ Ok j → j < length s.script.imports
 import_named-is s name j is =
     let under = found_under (import_names s.script) name j is in
     let count : length (import_names s.script) ≡ length s.script.imports = simp length-map in
     omega (arith, under, count)
 
-pub base_named-is : (s : State) (is_section : Bool) (name : List ℕ) (b : Base) → base_named s is_section name ≡ Ok b → BaseThere (length s.script.sections) (length s.script.imports) b
+pub base_named-is : (s : ScriptSoFar) (is_section : Bool) (name : List ℕ) (b : Base) → base_named s is_section name ≡ Ok b → BaseThere (length s.script.sections) (length s.script.imports) b
 base_named-is s true name b is =
     let P : Base → Type 0 = BaseThere (length s.script.sections) (length s.script.imports) in
     led P (base_named s true name) b is (leads_then P (section_named s name) (λ k. Ok (base.Section k)) (λ k found. section_named-is s name k found))

@@ -1,58 +1,54 @@
--- The lines that say what a container exports and where it is entered, each behind its first word.
-use Rattle.std.specs.Prelude.{ℕ, pos, ◌+◌, not, Bool, List, [], ◌∷◌, ◌++◌, Some, Result, Ok, length, nat_lt}
+-- The lines that say what a container exports and where it is entered, each behind its first word
+-- (docs/SCRIPTS.md, "Lines").
+use Rattle.std.specs.Prelude.{ℕ, pos, Bool, List, [], ◌∷◌, ◌++◌, Some, Result, Ok, nat_lt}
 use Rattle.pef_words.specs.Refusals.{first_met, unless}
 use Rattle.pef_script.specs.declared.fault.LineFault.{LineFault}
-use Rattle.pef_script.specs.declared.fault.LineFault.TheVariants.{RepeatedName, OutsideSection, TooMany}
-use Rattle.pef_script.specs.declared.limits.TheConstants.{MAX_EXPORTS, MAX_NUMBER, EXPORT_GROUP, MAIN_GROUP, INIT_GROUP, TERM_GROUP}
-use Rattle.pef_script.specs.Script.{DescribedExport}
+use Rattle.pef_script.specs.declared.fault.LineFault.TheVariants.{OutsideSection}
+use Rattle.pef_script.specs.Limits.{greatest_number, most_exports}
+use Rattle.pef_script.specs.Script.{DescribedExport, export_names}
 use Rattle.pef_script.specs.Declarations.{class_of}
-use Rattle.pef_script.specs.State.{◌>>=◌, State, entered, entered_once, export_names, has_no_room, is_repeated, section_at, section_named}
+use Rattle.pef_script.specs.SoFar.{◌>>=◌, ScriptSoFar, counted_name_tests, entered, entered_once, export_group, init_group, main_group, section_at, section_named, term_group, with_name}
 use Rattle.pef_script.specs.Words.{next_word, last_word, next_name, number_up_to}
+
+-- the test of an offset in section k, which may be its end
+abbrev pub place_tests : ScriptSoFar → ℕ → ℕ → List (Bool × LineFault)
+place_tests s k offset = (nat_lt (section_at s k).header.total offset, OutsideSection) ∷ []
 
 -- `export NAME CLASS SECTION OFFSET`
 
-abbrev pub export_tests : State → List ℕ → ℕ → ℕ → List (Bool × LineFault)
-export_tests s name k offset = (is_repeated (export_names s.script) name, RepeatedName)
-    ∷ (not (nat_lt (length s.script.exports) MAX_EXPORTS), TooMany)
-    ∷ (has_no_room s name, TooMany)
-    ∷ (nat_lt (section_at s k).header.total offset, OutsideSection)
-    ∷ []
+-- an export in section k with a name that is new and has room
+abbrev pub with_export : ScriptSoFar → ℕ → DescribedExport → Result ScriptSoFar LineFault
+with_export s k symbol = unless (first_met (counted_name_tests s (export_names s.script) most_exports symbol.name ++ place_tests s k symbol.value))
+    (Ok (with_name s export_group symbol.name (record s.script { exports = s.script.exports ++ symbol ∷ [] })))
 
-abbrev pub with_export : State → DescribedExport → State
-with_export s symbol = record s {
-  reached = EXPORT_GROUP;
-  names = s.names + (length symbol.name + 1);
-  script = record s.script { exports = s.script.exports ++ symbol ∷ [] };
-}
-
-unfoldable pub export_line : State → List ℕ → Result State LineFault
+unfoldable pub export_line : ScriptSoFar → List ℕ → Result ScriptSoFar LineFault
 export_line s line = do
   name ← next_name line
   class ← next_word name.1
   section ← next_name class.1
   offset ← last_word section.1
-  group ← entered s EXPORT_GROUP
+  group ← entered s export_group
   class ← class_of class.0
-  offset ← number_up_to MAX_NUMBER offset
+  offset ← number_up_to greatest_number offset
   k ← section_named s section.0
-  unless (first_met (export_tests s name.0 k offset)) (Ok (with_export s (record { name = name.0; class = class; section = pos k; value = offset })))
+  with_export s k (record { name = name.0; class = class; section = pos k; value = offset })
 
 -- `main SECTION OFFSET`, `init SECTION OFFSET` and `term SECTION OFFSET`
 
-unfoldable pub entry_in : State → ℕ → List ℕ → Result (ℕ × ℕ) LineFault
+unfoldable pub entry_in : ScriptSoFar → ℕ → List ℕ → Result (ℕ × ℕ) LineFault
 entry_in s group line = do
   section ← next_name line
   offset ← last_word section.1
   group ← entered_once s group
-  offset ← number_up_to MAX_NUMBER offset
+  offset ← number_up_to greatest_number offset
   k ← section_named s section.0
-  unless (first_met ((nat_lt (section_at s k).header.total offset, OutsideSection) ∷ [])) (Ok (k, offset))
+  unless (first_met (place_tests s k offset)) (Ok (k, offset))
 
-abbrev pub main_line : State → List ℕ → Result State LineFault
-main_line s line = entry_in s MAIN_GROUP line >>= λ entry. Ok (record s { reached = MAIN_GROUP; script = record s.script { main = Some entry } })
+abbrev pub main_line : ScriptSoFar → List ℕ → Result ScriptSoFar LineFault
+main_line s line = entry_in s main_group line >>= λ entry. Ok (record s { reached = main_group; script = record s.script { main = Some entry } })
 
-abbrev pub init_line : State → List ℕ → Result State LineFault
-init_line s line = entry_in s INIT_GROUP line >>= λ entry. Ok (record s { reached = INIT_GROUP; script = record s.script { init = Some entry } })
+abbrev pub init_line : ScriptSoFar → List ℕ → Result ScriptSoFar LineFault
+init_line s line = entry_in s init_group line >>= λ entry. Ok (record s { reached = init_group; script = record s.script { init = Some entry } })
 
-abbrev pub term_line : State → List ℕ → Result State LineFault
-term_line s line = entry_in s TERM_GROUP line >>= λ entry. Ok (record s { reached = TERM_GROUP; script = record s.script { term = Some entry } })
+abbrev pub term_line : ScriptSoFar → List ℕ → Result ScriptSoFar LineFault
+term_line s line = entry_in s term_group line >>= λ entry. Ok (record s { reached = term_group; script = record s.script { term = Some entry } })

@@ -1,11 +1,9 @@
--- The numbers of the refusals of a script.
+-- The numbers and the names of the refusals of a script (docs/REFUSALS.md), which are this project's own.
 use Rattle.std.specs.Prelude.{ℕ, Option, None, Some, List, codes}
 use Rattle.pef_script.specs.declared.fault.LineFault.{LineFault}
 use Rattle.pef_script.specs.declared.fault.LineFault.TheVariants.{BadLine, BadNumber, UnknownName, RepeatedName, OutOfOrder, Overlap, OutsideSection, TooMany, BadKind}
 use Rattle.pef_script.specs.declared.fault.ScriptFault.{ScriptFault}
 use Rattle.pef_script.specs.declared.fault.ScriptFault.TheVariants as fault
-use Rattle.pef_script.specs.declared.fault.Stop.{Stop}
-use Rattle.pef_script.specs.declared.fault.Stop.TheVariants as stop
 
 abbrev pub fault_number : LineFault → ℕ
 fault_number BadLine = 41
@@ -18,7 +16,6 @@ fault_number OutsideSection = 47
 fault_number TooMany = 48
 fault_number BadKind = 49
 
--- the names of the refusals, which are their texts
 abbrev pub fault_name : LineFault → List ℕ
 fault_name BadLine = codes "BadLine"
 fault_name BadNumber = codes "BadNumber"
@@ -30,15 +27,16 @@ fault_name OutsideSection = codes "OutsideSection"
 fault_name TooMany = codes "TooMany"
 fault_name BadKind = codes "BadKind"
 
-abbrev pub script_number_of : ScriptFault → ℕ
-script_number_of (fault.Refused what line) = fault_number what
-script_number_of fault.OutOfMemory = 99
+-- the same of a text that is no script, and the number of its line
 
-abbrev pub line_of_fault : ScriptFault → Option ℕ
-line_of_fault (fault.Refused what line) = Some line
-line_of_fault fault.OutOfMemory = None
+abbrev pub script_fault_number : ScriptFault → ℕ
+script_fault_number (fault.Refused what line) = fault_number what
+script_fault_number fault.OutOfMemory = 99
 
--- a fault with the number of its line
-abbrev pub stopped_at : ℕ → Stop → ScriptFault
-stopped_at line (stop.Refused what) = fault.Refused what line
-stopped_at line stop.OutOfMemory = fault.OutOfMemory
+abbrev pub script_fault_name : ScriptFault → List ℕ
+script_fault_name (fault.Refused what line) = fault_name what
+script_fault_name fault.OutOfMemory = codes "OutOfMemory"
+
+abbrev pub script_fault_line : ScriptFault → Option ℕ
+script_fault_line (fault.Refused what line) = Some line
+script_fault_line fault.OutOfMemory = None

@@ -1,4 +1,4 @@
--- The grammar of link scripts, line by line. Each line is refused by its first fault, or leads from what
+-- The grammar of link scripts, line by line (docs/SCRIPTS.md). Each line is refused by its first fault, or leads from what
 -- was read so far to more. Lines come in groups, and none stands behind one of a later group.
 use Rattle.std.specs.Prelude.{ℕ, true, ◌+◌, ◌==◌, Bool, List, [], ◌∷◌, None, Result, Ok, Err, codes, if◌then◌else◌}
 use Rattle.std.specs.Str.{bytes_eq}
@@ -6,14 +6,14 @@ use Rattle.pef_script.specs.declared.fault.LineFault.{LineFault}
 use Rattle.pef_script.specs.declared.fault.LineFault.TheVariants.{BadLine}
 use Rattle.pef_script.specs.declared.parts.Versions.{Versions}
 use Rattle.pef_script.specs.Script.{DescribedScript}
-use Rattle.pef_script.specs.State.{◌>>=◌, State}
+use Rattle.pef_script.specs.SoFar.{◌>>=◌, ScriptSoFar}
 use Rattle.pef_script.specs.Declarations.{versions_line, library_line, import_line, section_line}
 use Rattle.pef_script.specs.Contents.{bytes_line, fix_line, tvector_line}
 use Rattle.pef_script.specs.Exports.{export_line, main_line, init_line, term_line}
 use Rattle.pef_script.specs.Words.{next_word}
 
 -- the first word of a line and what stands behind it
-unfoldable pub line_by_word : State → List ℕ × List ℕ → Result State LineFault
+unfoldable pub line_by_word : ScriptSoFar → List ℕ × List ℕ → Result ScriptSoFar LineFault
 line_by_word s p =
     if bytes_eq p.0 (codes "versions") then versions_line s p.1
     else if bytes_eq p.0 (codes "library") then library_line s p.1
@@ -34,7 +34,7 @@ is_skipped [] = true
 is_skipped (b ∷ bytes) = b == 0x23
 
 -- what a line leads to
-unfoldable pub line_of : State → List ℕ → Result State LineFault
+unfoldable pub line_of : ScriptSoFar → List ℕ → Result ScriptSoFar LineFault
 line_of s line = if is_skipped line then Ok s else next_word line >>= line_by_word s
 
 -- the lines of a text: each ends with a line feed, which the last may lack
@@ -52,12 +52,12 @@ pub record Refusal : Type 0 where
   pub line : ℕ
 
 -- a line's fault, or what the lines behind it say
-abbrev pub after_line : Result State LineFault → ℕ → (State → Result DescribedScript Refusal) → Result DescribedScript Refusal
+abbrev pub after_line : Result ScriptSoFar LineFault → ℕ → (ScriptSoFar → Result DescribedScript Refusal) → Result DescribedScript Refusal
 after_line (Ok s) number others = others s
 after_line (Err fault) number others = Err (record { fault = fault; line = number })
 
 -- the lines from a number on
-abbrev pub read_lines : State → ℕ → List (List ℕ) → Result DescribedScript Refusal
+abbrev pub read_lines : ScriptSoFar → ℕ → List (List ℕ) → Result DescribedScript Refusal
 read_lines s number [] = Ok s.script
 read_lines s number (line ∷ lines) = after_line (line_of s line) number (λ next. read_lines next (number + 1) lines)
 
@@ -68,7 +68,7 @@ no_versions = record { current = 0; old_def = 0; old_imp = 0 }
 abbrev pub no_script : DescribedScript
 no_script = record { versions = no_versions; libraries = []; imports = []; sections = []; exports = []; main = None; init = None; term = None }
 
-abbrev pub no_lines : State
+abbrev pub no_lines : ScriptSoFar
 no_lines = record { script = no_script; reached = 0; section = 0; names = 0 }
 
 -- the script that a text is, or the first refusal

@@ -1,12 +1,13 @@
 pub mod Contents
 pub mod Declarations
+pub mod Described
 pub mod Exports
 pub mod Faults
 pub mod Grammar
-pub mod Reader
+pub mod Kept
+pub mod Limits
 pub mod Script
-pub mod Seen
-pub mod State
-pub mod Steps
+pub mod SoFar
+pub mod Views
 pub mod WellFormed
 pub mod Words

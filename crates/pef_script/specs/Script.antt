@@ -1,9 +1,12 @@
--- What a script describes: the parts of a container, by their names and numbers.
-use Rattle.std.specs.Prelude.{ℕ, ℤ, Bool, List, Option}
+-- What a script describes: the parts of a container, by their names and numbers. Kinds, shares, options
+-- and classes have the numbers of PEFBinaryFormat.h; the language of scripts is this project's own
+-- (docs/SCRIPTS.md).
+use Rattle.std.specs.Prelude.{ℕ, ℤ, Bool, List, Option, map}
 use Rattle.pef_reloc.specs.declared.fixup.Fixup.{Fixup}
 use Rattle.pef_script.specs.declared.parts.Versions.{Versions}
 
--- a section's line: kind and share by their numbers in the container, the alignment as a power of two
+-- a section's line (the fields of PEFSectionHeader): kind and share by their numbers, the alignment as a
+-- power of two
 pub record DescribedHeader : Type 0 where
   pub name : List ℕ
   pub kind : ℕ
@@ -17,21 +20,22 @@ pub record DescribedSection : Type 0 where
   pub image : List ℕ
   pub fixups : List Fixup
 
--- a library to import from; of the options, 80 (hex) is for one that initializes before and 40 for a weak one
+-- a library to import from (PEFImportedLibrary); of the options, 80 (hex) is for one that initializes
+-- before and 40 for a weak one
 pub record DescribedLibrary : Type 0 where
   pub name : List ℕ
   pub current : ℕ
   pub old_imp : ℕ
   pub options : ℕ
 
--- an imported symbol, of a library by its number
+-- an imported symbol (PEFImportedSymbol), of a library by its number
 pub record DescribedImport : Type 0 where
   pub name : List ℕ
   pub class : ℕ
   pub weak : Bool
   pub library : ℕ
 
--- an exported symbol: an offset in a section, by its number
+-- an exported symbol (PEFExportedSymbol): an offset in a section, by its number
 pub record DescribedExport : Type 0 where
   pub name : List ℕ
   pub class : ℕ
@@ -48,3 +52,17 @@ pub record DescribedScript : Type 0 where
   pub main : Option (ℕ × ℕ)
   pub init : Option (ℕ × ℕ)
   pub term : Option (ℕ × ℕ)
+
+-- the names that it has of each kind
+
+abbrev pub library_names : DescribedScript → List (List ℕ)
+library_names script = map (λ library. library.name) script.libraries
+
+abbrev pub import_names : DescribedScript → List (List ℕ)
+import_names script = map (λ symbol. symbol.name) script.imports
+
+abbrev pub section_names : DescribedScript → List (List ℕ)
+section_names script = map (λ section. section.header.name) script.sections
+
+abbrev pub export_names : DescribedScript → List (List ℕ)
+export_names script = map (λ symbol. symbol.name) script.exports

@@ -1,4 +1,4 @@
--- What is true of every script that was read.
+-- What is true of every script that the grammar gives (docs/SCRIPTS.md, "Lines" and "Limits").
 use Rattle.std.specs.Prelude.{◌≡◌, ℕ, ℤ, pos, negsuc, ◌+◌, ◌<◌, ◌≤◌, ◌==◌, ◌||◌, Bool, true, List, [], ◌∷◌, Option, None, Some, length, map, slice_index}
 use Rattle.std.specs.List.{AllByRecursion, IsDistinct, list_all, sum_by}
 use Rattle.std.specs.Str.{bytes_eq}
@@ -6,16 +6,16 @@ use Rattle.pef_reloc.specs.declared.fixup.Base.{Base}
 use Rattle.pef_reloc.specs.declared.fixup.Base.TheVariants as base
 use Rattle.pef_reloc.specs.declared.fixup.Fixup.{Fixup}
 use Rattle.pef_reloc.specs.Fixups.{fixups_fit, fixups_end}
-use Rattle.pef_script.specs.declared.limits.TheConstants.{MAX_ALIGN, MAX_EXPORTS, MAX_IMPORTS, MAX_LIBRARIES, MAX_NAME_BYTES, MAX_NUMBER, MAX_SECTIONS, MAX_TOTAL}
+use Rattle.pef_reloc.specs.Limits.{most_imports, most_sections}
+use Rattle.pef_script.specs.Limits.{greatest_align, greatest_number, greatest_total, longest_name, most_exports, most_libraries, most_name_bytes}
 use Rattle.pef_script.specs.declared.parts.Versions.{Versions}
-use Rattle.pef_script.specs.Script.{DescribedExport, DescribedImport, DescribedLibrary, DescribedSection, DescribedScript}
-use Rattle.pef_script.specs.State.{export_names, import_names, library_names}
+use Rattle.pef_script.specs.Script.{DescribedExport, DescribedImport, DescribedLibrary, DescribedSection, DescribedScript, export_names, import_names, library_names}
 use Rattle.pef_script.specs.Words.{is_printing}
 
 -- a name has 1 to 255 bytes, each from 21 to 7E (hex)
 pub record IsName (name : List ℕ) : Type 0 where
   pub least : 1 ≤ length name
-  pub most : length name ≤ 255
+  pub most : length name ≤ longest_name
   pub bytes : list_all is_printing name ≡ true
 
 -- each is at most those behind it
@@ -24,9 +24,9 @@ Rises [] = Unit {0}
 Rises (x ∷ xs) = AllByRecursion (λ y. x ≤ y) xs × Rises xs
 
 pub record VersionsHold (v : Versions) : Type 0 where
-  pub current : v.current ≤ MAX_NUMBER
-  pub old_def : v.old_def ≤ MAX_NUMBER
-  pub old_imp : v.old_imp ≤ MAX_NUMBER
+  pub current : v.current ≤ greatest_number
+  pub old_def : v.old_def ≤ greatest_number
+  pub old_imp : v.old_imp ≤ greatest_number
 
 -- the options of a library, by their bits
 abbrev pub is_options : ℕ → Bool
@@ -34,12 +34,12 @@ is_options options = options == 0 || options == 0x40 || options == 0x80 || optio
 
 pub record LibraryHolds (l : DescribedLibrary) : Type 0 where
   pub name : IsName l.name
-  pub current : l.current ≤ MAX_NUMBER
-  pub old_imp : l.old_imp ≤ MAX_NUMBER
+  pub current : l.current ≤ greatest_number
+  pub old_imp : l.old_imp ≤ greatest_number
   pub options : is_options l.options ≡ true
 
 pub record LibrariesHold (libraries : List DescribedLibrary) : Type 0 where
-  pub count : length libraries ≤ MAX_LIBRARIES
+  pub count : length libraries ≤ most_libraries
   pub each : AllByRecursion LibraryHolds libraries
   pub apart : IsDistinct bytes_eq (map (λ library. library.name) libraries)
 
@@ -51,7 +51,7 @@ pub record ImportHolds (libraries : ℕ) (i : DescribedImport) : Type 0 where
 
 -- imports stand library by library
 pub record ImportsHold (libraries : ℕ) (imports : List DescribedImport) : Type 0 where
-  pub count : length imports ≤ MAX_IMPORTS
+  pub count : length imports ≤ most_imports
   pub each : AllByRecursion (ImportHolds libraries) imports
   pub apart : IsDistinct bytes_eq (map (λ symbol. symbol.name) imports)
   pub grouped : Rises (map (λ symbol. symbol.library) imports)
@@ -73,15 +73,15 @@ pub record SectionHolds (sections imports : ℕ) (s : DescribedSection) : Type 0
   pub name : IsName s.header.name
   pub kind : is_kind s.header.kind ≡ true
   pub share : is_share s.header.share ≡ true
-  pub align : s.header.align ≤ MAX_ALIGN
-  pub total : s.header.total ≤ MAX_TOTAL
+  pub align : s.header.align ≤ greatest_align
+  pub total : s.header.total ≤ greatest_total
   pub image : length s.image ≤ s.header.total
   pub fixups : fixups_fit s.fixups ≡ true
   pub inside : fixups_end 0 s.fixups ≤ s.header.total
   pub bases : AllByRecursion (λ (fixup : Fixup). BaseThere sections imports fixup.base) s.fixups
 
 pub record SectionsHold (imports : ℕ) (sections : List DescribedSection) : Type 0 where
-  pub count : length sections ≤ MAX_SECTIONS
+  pub count : length sections ≤ most_sections
   pub each : AllByRecursion (SectionHolds (length sections) imports) sections
   pub apart : IsDistinct bytes_eq (map (λ section. section.header.name) sections)
 
@@ -105,7 +105,7 @@ pub record ExportHolds (totals : List ℕ) (e : DescribedExport) : Type 0 where
   pub place : SignedPlaceHolds totals e.section e.value
 
 pub record ExportsHold (totals : List ℕ) (exports : List DescribedExport) : Type 0 where
-  pub count : length exports ≤ MAX_EXPORTS
+  pub count : length exports ≤ most_exports
   pub each : AllByRecursion (ExportHolds totals) exports
   pub apart : IsDistinct bytes_eq (map (λ symbol. symbol.name) exports)
 
@@ -130,4 +130,4 @@ pub record ScriptHolds (s : DescribedScript) : Type 0 where
   pub main : EntryHolds (totals_of s.sections) s.main
   pub init : EntryHolds (totals_of s.sections) s.init
   pub term : EntryHolds (totals_of s.sections) s.term
-  pub names : name_bytes s ≤ MAX_NAME_BYTES
+  pub names : name_bytes s ≤ most_name_bytes

@@ -1,10 +1,12 @@
--- The words of a line: bytes 21 to 7E (hex), with one space between two words. A number is decimal
--- without a leading zero, or `0x` and one to eight hex digits. An image is spelled by pairs of hex digits.
+-- The words of a line (docs/SCRIPTS.md, "Text"): bytes 21 to 7E (hex), with one space between two words. A
+-- number is decimal without a leading zero, or `0x` and one to eight hex digits. An image is spelled by
+-- pairs of hex digits.
 use Rattle.std.specs.Prelude.{◌≡◌, ℕ, ◌+◌, ◌*◌, ◌-◌, ◌^◌, ◌==◌, ◌&&◌, ◌||◌, not, Bool, List, [], ◌∷◌, Option, None, Some, Result, Ok, Err, option_map, length, nat_le, nat_lt, if◌then◌else◌}
 use Rattle.std.specs.List.{list_all}
 use Rattle.std.specs.Option.{option_and_then, ok_or, is_some}
 use Rattle.pef_script.specs.declared.fault.LineFault.{LineFault}
 use Rattle.pef_script.specs.declared.fault.LineFault.TheVariants.{BadLine, BadNumber}
+use Rattle.pef_script.specs.Limits.{longest_name}
 
 -- what stands before the first such byte and what behind it; none where there is no such byte
 abbrev pub cut_at : ℕ → List ℕ → Option (List ℕ × List ℕ)
@@ -32,9 +34,9 @@ word_before (Some p) = if is_word p.0 then Ok p else Err BadLine
 unfoldable pub next_word : List ℕ → Result (List ℕ × List ℕ) LineFault
 next_word line = word_before (cut_at 0x20 line)
 
--- a word that is a name has at most 255 bytes
+-- a word that is a name is not longer than names are
 abbrev pub named : {A : Type 0} → (A → List ℕ) → Result A LineFault → Result A LineFault
-named name (Ok x) = if nat_lt 255 (length (name x)) then Err BadLine else Ok x
+named name (Ok x) = if nat_lt longest_name (length (name x)) then Err BadLine else Ok x
 named name (Err fault) = Err fault
 
 -- the next word of a line where it is a name, and what follows the space behind it
@@ -95,13 +97,6 @@ pairs_of [] = Some []
 pairs_of (high ∷ []) = None
 pairs_of (high ∷ low ∷ digits) = option_and_then (λ byte. option_map (λ bytes. byte ∷ bytes) (pairs_of digits)) (pair_of high low)
 
-abbrev pub is_hex : ℕ → Bool
-is_hex b = is_some (hex_digit b)
-
+-- the bytes of an image that a word spells
 unfoldable pub image_of : List ℕ → Result (List ℕ) LineFault
 image_of word = ok_or (pairs_of word) BadLine
-
--- how many bytes pairs of hex digits spell
-abbrev pub Counts : Result ℕ LineFault → Result (List ℕ) LineFault → Type 0
-Counts (Ok count) image = (bytes : List ℕ) × (image ≡ Ok bytes) × (length bytes ≡ count)
-Counts (Err fault) image = image ≡ Err fault

@@ -2,15 +2,15 @@ ghost use Rattle.std.specs.Prelude.{◌≡◌, true, ◌+◌, ◌*◌, ◌^◌, 
 ghost use Rattle.std.specs.Result.{result_err};
 ghost use Rattle.pef_words.specs.Refusals.{first_met};
 ghost use Rattle.pef_script.specs.Contents.{base_named, bytes_line, bytes_tests, fix_line, fixup_tests, import_named, tvector_line};
-ghost use Rattle.pef_script.specs.Reader.{state_of};
-ghost use Rattle.pef_script.specs.Steps.{Steps};
+ghost use Rattle.pef_script.specs.Kept.Reader.{so_far};
+ghost use Rattle.pef_script.specs.Kept.Steps.{Steps};
 
 use crate::LineFault;
 use crate::fault::Stop;
 use crate::kinds::is_section_word;
 use crate::limits::{CONTENT_GROUP, MAX_NUMBER};
 use crate::numbers::read_number;
-use crate::pairs::count_pairs;
+use crate::pairs::Pairs;
 use crate::reader::Reader;
 use crate::tables::number_of_name;
 use crate::words::{last_name, last_word, next_name, next_word};
@@ -20,16 +20,15 @@ impl<'a> Reader<'a> {
     /// `bytes SECTION HEX`, behind its first word.
     #[tactic(auto, unfolding(crate::specs::Contents::bytes_line))]
     pub fn read_bytes(&mut self, line: &[u8]) -> Result<(), Stop>
-        ensures { Steps result (state_of self.new) (bytes_line (state_of self.old) line.now) }
+        ensures { Steps result (so_far self.new) (bytes_line (so_far self.old) line.now) }
     {
         let (name, rest) = next_name(line)?;
-        let digits = last_word(rest)?;
-        let count = count_pairs(digits)?;
+        let pairs = Pairs::read(last_word(rest)?)?;
         self.enter(CONTENT_GROUP)?;
         let k = self.section_named(name)?;
-        self.test_bytes(k, count)?;
+        self.test_bytes(k, pairs.count())?;
         let parts = &mut self.parts;
-        parts.sections[k].append(digits)?;
+        parts.sections[k].append(pairs)?;
         self.reached = CONTENT_GROUP;
         self.section = k;
         Ok(())
@@ -38,7 +37,7 @@ impl<'a> Reader<'a> {
     /// `fix SECTION OFFSET section NAME` or `fix SECTION OFFSET import NAME`, behind its first word.
     #[tactic(auto, unfolding(crate::specs::Contents::fix_line))]
     pub fn read_fix(&mut self, line: &[u8]) -> Result<(), Stop>
-        ensures { Steps result (state_of self.new) (fix_line (state_of self.old) line.now) }
+        ensures { Steps result (so_far self.new) (fix_line (so_far self.old) line.now) }
     {
         let (name, rest) = next_name(line)?;
         let (offset, rest) = next_word(rest)?;
@@ -60,7 +59,7 @@ impl<'a> Reader<'a> {
     /// `tvector SECTION OFFSET CODE DATA`, behind its first word.
     #[tactic(auto, unfolding(crate::specs::Contents::tvector_line))]
     pub fn read_tvector(&mut self, line: &[u8]) -> Result<(), Stop>
-        ensures { Steps result (state_of self.new) (tvector_line (state_of self.old) line.now) }
+        ensures { Steps result (so_far self.new) (tvector_line (so_far self.old) line.now) }
     {
         let (name, rest) = next_name(line)?;
         let (offset, rest) = next_word(rest)?;
@@ -86,7 +85,7 @@ impl<'a> Reader<'a> {
 
     /// The section with a name, as a base.
     fn section_base(&self, name: &[u8]) -> Result<Base, LineFault>
-        ensures { result ≡ base_named (state_of self.now) true name.now }
+        ensures { result ≡ base_named (so_far self.now) true name.now }
     {
         let k = self.section_named(name)?;
         Ok(Base::Section(k as u32))
@@ -95,7 +94,7 @@ impl<'a> Reader<'a> {
     /// The number of the import with a name.
     #[tactic(auto, using(crate::proofs::TableLemmas::imports_seen))]
     fn import_named(&self, name: &[u8]) -> Result<usize, LineFault>
-        ensures found { result ≡ import_named (state_of self.now) name.now }
+        ensures found { result ≡ import_named (so_far self.now) name.now }
         ensures below { IfOk result (λ j. j < 2 ^ 32) }
     {
         number_of_name(&self.parts.imports, name).ok_or(LineFault::UnknownName)
@@ -103,7 +102,7 @@ impl<'a> Reader<'a> {
 
     /// The section or the import with a name, as a base.
     fn base_named(&self, is_section: bool, name: &[u8]) -> Result<Base, LineFault>
-        ensures { result ≡ base_named (state_of self.now) is_section name.now }
+        ensures { result ≡ base_named (so_far self.now) is_section name.now }
     {
         if is_section {
             return self.section_base(name);
@@ -115,7 +114,7 @@ impl<'a> Reader<'a> {
     /// Refuses more bytes of an earlier section, or past the section's end.
     fn test_bytes(&self, k: usize, count: usize) -> Result<(), LineFault>
         requires { k < vec_len self.now.parts.sections }
-        ensures { result_err result ≡ first_met (bytes_tests (state_of self.now) k count) }
+        ensures { result_err result ≡ first_met (bytes_tests (so_far self.now) k count) }
     {
         if k < self.section {
             return Err(LineFault::OutOfOrder);
@@ -132,7 +131,7 @@ impl<'a> Reader<'a> {
     /// Refuses so many fixups, one behind the other, from an offset in section `k`.
     fn test_fixups(&self, k: usize, offset: u32, count: u8) -> Result<(), LineFault>
         requires { k < vec_len self.now.parts.sections }
-        ensures tests { result_err result ≡ first_met (fixup_tests (state_of self.now) k offset count) }
+        ensures tests { result_err result ≡ first_met (fixup_tests (so_far self.now) k offset count) }
         ensures inside { OnOk result (offset + 4 * count < 2 ^ 32) }
     {
         let section = &self.parts.sections[k];

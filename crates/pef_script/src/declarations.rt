@@ -1,30 +1,29 @@
-ghost use Rattle.std.specs.Prelude.{◌≡◌, ◌+◌, ◌≤◌, ◌<◌, None, map, length, vec_len, IfOk, OnOk};
+ghost use Rattle.std.specs.Prelude.{◌≡◌, ◌+◌, IfOk};
 ghost use Rattle.std.specs.Result.{result_err};
 ghost use Rattle.indexmap.specs.IndexMap.{index_map_len};
-ghost use Rattle.pef_words.specs.Refusals.{first_met};
-ghost use Rattle.pef_script.specs.Declarations.{entered_import, import_line, import_tests, library_line, library_tests, section_line, section_tests, versions_line};
-ghost use Rattle.pef_script.specs.Reader.{state_of};
-ghost use Rattle.pef_script.specs.State.{number_of_name};
-ghost use Rattle.pef_script.specs.Steps.{Steps};
+ghost use Rattle.pef_script.specs.Declarations.{entered_import, import_line, library_line, section_line, versions_line, with_import, with_library, with_section};
+ghost use Rattle.pef_script.specs.Kept.Reader.{import_of, library_of, so_far};
+ghost use Rattle.pef_script.specs.Kept.Steps.{Steps};
+ghost use Rattle.pef_script.specs.Views.{header_in};
 
 use crate::LineFault;
 use crate::fault::Stop;
 use crate::kinds::{class_of, is_weak_word, kind_of, options_of, share_of};
 use crate::limits::{
-    LIBRARY_GROUP, MAX_ALIGN, MAX_IMPORTS, MAX_LIBRARIES, MAX_NAME_BYTES, MAX_NUMBER, MAX_SECTIONS,
-    MAX_TOTAL, SECTION_GROUP, VERSIONS_GROUP,
+    LIBRARY_GROUP, MAX_ALIGN, MAX_IMPORTS, MAX_LIBRARIES, MAX_NUMBER, MAX_SECTIONS, MAX_TOTAL,
+    SECTION_GROUP, VERSIONS_GROUP,
 };
 use crate::numbers::read_number;
 use crate::parts::{ImportData, LibraryData, Section, SectionHeader, Versions};
 use crate::reader::{Reader, section_number};
-use crate::tables::{declare, number_of_name};
+use crate::tables::declare;
 use crate::words::{last_word, next_name, next_word};
 
 impl<'a> Reader<'a> {
     /// `versions CURRENT OLDDEF OLDIMP`, behind its first word.
     #[tactic(auto, unfolding(crate::specs::Declarations::versions_line))]
     pub fn read_versions(&mut self, line: &[u8]) -> Result<(), Stop>
-        ensures { Steps result (state_of self.new) (versions_line (state_of self.old) line.now) }
+        ensures { Steps result (so_far self.new) (versions_line (so_far self.old) line.now) }
     {
         let (current, rest) = next_word(line)?;
         let (old_def, rest) = next_word(rest)?;
@@ -45,7 +44,7 @@ impl<'a> Reader<'a> {
     /// `library NAME CURRENT OLDIMP OPTION`, behind its first word.
     #[tactic(auto, unfolding(crate::specs::Declarations::library_line))]
     pub fn read_library(&mut self, line: &'a [u8]) -> Result<(), Stop>
-        ensures { Steps result (state_of self.new) (library_line (state_of self.old) line.entry.now) }
+        ensures { Steps result (so_far self.new) (library_line (so_far self.old) line.entry.now) }
     {
         let (name, rest) = next_name(line)?;
         let (current, rest) = next_word(rest)?;
@@ -55,23 +54,18 @@ impl<'a> Reader<'a> {
         let options = options_of(option)?;
         let current = read_number(MAX_NUMBER, current)?;
         let old_imp = read_number(MAX_NUMBER, old_imp)?;
-        self.test_library(name)?;
-        let parts = &mut self.parts;
         let library = LibraryData {
             current,
             old_imp,
             options,
         };
-        declare(&mut parts.libraries, name, library)?;
-        self.names += name.len() + 1;
-        self.reached = LIBRARY_GROUP;
-        Ok(())
+        self.add_library(name, library)
     }
 
     /// `import NAME CLASS STRENGTH`, behind its first word.
     #[tactic(auto, unfolding(crate::specs::Declarations::import_line))]
     pub fn read_import(&mut self, line: &'a [u8]) -> Result<(), Stop>
-        ensures { Steps result (state_of self.new) (import_line (state_of self.old) line.entry.now) }
+        ensures { Steps result (so_far self.new) (import_line (so_far self.old) line.entry.now) }
     {
         let (name, rest) = next_name(line)?;
         let (class, rest) = next_word(rest)?;
@@ -79,23 +73,18 @@ impl<'a> Reader<'a> {
         let library = self.enter_import()?;
         let class = class_of(class)?;
         let weak = is_weak_word(strength)?;
-        self.test_import(name)?;
-        let parts = &mut self.parts;
         let import = ImportData {
             class,
             weak,
             library,
         };
-        declare(&mut parts.imports, name, import)?;
-        self.names += name.len() + 1;
-        self.reached = LIBRARY_GROUP;
-        Ok(())
+        self.add_import(name, import)
     }
 
     /// `section NAME KIND SHARE ALIGN TOTAL`, behind its first word.
     #[tactic(auto, unfolding(crate::specs::Declarations::section_line))]
     pub fn read_section(&mut self, line: &'a [u8]) -> Result<(), Stop>
-        ensures { Steps result (state_of self.new) (section_line (state_of self.old) line.entry.now) }
+        ensures { Steps result (so_far self.new) (section_line (so_far self.old) line.entry.now) }
     {
         let (name, rest) = next_name(line)?;
         let (kind, rest) = next_word(rest)?;
@@ -107,16 +96,55 @@ impl<'a> Reader<'a> {
         let share = share_of(share)?;
         let align = read_number(MAX_ALIGN, align)? as u8;
         let total = read_number(MAX_TOTAL, total)?;
-        self.test_section(name)?;
+        let header = SectionHeader {
+            name,
+            kind,
+            share,
+            align,
+            total,
+        };
+        self.add_section(header)
+    }
+
+    /// Adds a library, unless its name is another's or passes the limits.
+    #[tactic(auto, using(crate::proofs::TableLemmas::libraries_seen))]
+    fn add_library(&mut self, name: &'a [u8], library: LibraryData) -> Result<(), Stop>
+        ensures { Steps result (so_far self.new) (with_library (so_far self.old) (library_of (name.entry, library))) }
+    {
+        self.test_name(&self.parts.libraries, MAX_LIBRARIES, name)?;
+        let parts = &mut self.parts;
+        declare(&mut parts.libraries, name, library)?;
+        self.names += name.len() + 1;
+        self.reached = LIBRARY_GROUP;
+        Ok(())
+    }
+
+    /// Adds an import, unless its name is another's or passes the limits.
+    #[tactic(auto, using(crate::proofs::TableLemmas::imports_seen))]
+    fn add_import(&mut self, name: &'a [u8], import: ImportData) -> Result<(), Stop>
+        ensures { Steps result (so_far self.new) (with_import (so_far self.old) (import_of (name.entry, import))) }
+    {
+        self.test_name(&self.parts.imports, MAX_IMPORTS, name)?;
+        let parts = &mut self.parts;
+        declare(&mut parts.imports, name, import)?;
+        self.names += name.len() + 1;
+        self.reached = LIBRARY_GROUP;
+        Ok(())
+    }
+
+    /// Adds a section without bytes or fixups, unless its name is another's or passes the limit.
+    fn add_section(&mut self, header: SectionHeader<'a>) -> Result<(), Stop>
+        ensures { Steps result (so_far self.new) (with_section (so_far self.old) (header_in header.entry)) }
+    {
+        if section_number(&self.parts.sections, header.name).is_some() {
+            return Err(Stop::Refused(LineFault::RepeatedName));
+        }
+        if self.parts.sections.len() >= MAX_SECTIONS {
+            return Err(Stop::Refused(LineFault::TooMany));
+        }
         let parts = &mut self.parts;
         parts.sections.push(Section {
-            header: SectionHeader {
-                name,
-                kind,
-                share,
-                align,
-                total,
-            },
+            header,
             image: Vec::new(self.alloc),
             fixups: Vec::new(self.alloc),
         })?;
@@ -124,29 +152,9 @@ impl<'a> Reader<'a> {
         Ok(())
     }
 
-    /// Refuses a library whose name is another's, or past the limits.
-    #[tactic(auto, using(crate::proofs::TableLemmas::libraries_seen))]
-    fn test_library(&self, name: &[u8]) -> Result<(), LineFault>
-        ensures tests { result_err result ≡ first_met (library_tests (state_of self.now) name.now) }
-        ensures new { OnOk result (number_of_name (map (λ entry. entry.0.now) self.now.parts.libraries.entries) name.now ≡ None) }
-        ensures room { OnOk result (index_map_len self.now.parts.libraries < MAX_LIBRARIES) }
-        ensures bytes { OnOk result (self.now.names + (length name.now + 1) ≤ MAX_NAME_BYTES) }
-    {
-        if number_of_name(&self.parts.libraries, name).is_some() {
-            return Err(LineFault::RepeatedName);
-        }
-        if self.parts.libraries.len() >= MAX_LIBRARIES {
-            return Err(LineFault::TooMany);
-        }
-        if self.has_no_room(name) {
-            return Err(LineFault::TooMany);
-        }
-        Ok(())
-    }
-
     /// The number of the last library, to which an import belongs.
     fn enter_import(&self) -> Result<u32, LineFault>
-        ensures order { result_err result ≡ result_err (entered_import (state_of self.now)) }
+        ensures order { result_err result ≡ result_err (entered_import (so_far self.now)) }
         ensures last { IfOk result (λ library. library + 1 ≡ index_map_len self.now.parts.libraries) }
     {
         self.enter(LIBRARY_GROUP)?;
@@ -154,39 +162,5 @@ impl<'a> Reader<'a> {
             Some(library) => Ok(library as u32),
             None => Err(LineFault::OutOfOrder),
         }
-    }
-
-    /// Refuses an import whose name is another's, or past the limits.
-    #[tactic(auto, using(crate::proofs::TableLemmas::imports_seen))]
-    fn test_import(&self, name: &[u8]) -> Result<(), LineFault>
-        ensures tests { result_err result ≡ first_met (import_tests (state_of self.now) name.now) }
-        ensures new { OnOk result (number_of_name (map (λ entry. entry.0.now) self.now.parts.imports.entries) name.now ≡ None) }
-        ensures room { OnOk result (index_map_len self.now.parts.imports < MAX_IMPORTS) }
-        ensures bytes { OnOk result (self.now.names + (length name.now + 1) ≤ MAX_NAME_BYTES) }
-    {
-        if number_of_name(&self.parts.imports, name).is_some() {
-            return Err(LineFault::RepeatedName);
-        }
-        if self.parts.imports.len() >= MAX_IMPORTS {
-            return Err(LineFault::TooMany);
-        }
-        if self.has_no_room(name) {
-            return Err(LineFault::TooMany);
-        }
-        Ok(())
-    }
-
-    /// Refuses a section whose name is another's, or past the limit.
-    fn test_section(&self, name: &[u8]) -> Result<(), LineFault>
-        ensures tests { result_err result ≡ first_met (section_tests (state_of self.now) name.now) }
-        ensures room { OnOk result (vec_len self.now.parts.sections < MAX_SECTIONS) }
-    {
-        if section_number(&self.parts.sections, name).is_some() {
-            return Err(LineFault::RepeatedName);
-        }
-        if self.parts.sections.len() >= MAX_SECTIONS {
-            return Err(LineFault::TooMany);
-        }
-        Ok(())
     }
 }

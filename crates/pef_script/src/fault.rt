@@ -1,5 +1,6 @@
 ghost use Rattle.std.specs.Prelude.{◌≡◌};
-ghost use Rattle.pef_script.specs.Faults.{fault_name, fault_number, line_of_fault, script_number_of, stopped_at};
+ghost use Rattle.pef_script.specs.Faults.{fault_name, fault_number, script_fault_line, script_fault_name, script_fault_number};
+ghost use Rattle.pef_script.specs.Kept.Steps.{stopped_at};
 
 use std::alloc::{AllocError, AllocFailed};
 use std::fmt;
@@ -74,17 +75,15 @@ impl fmt::Display for LineFault {
 #[derive(Clone, Copy, Debug, PartialEq, Eq, Error)]
 pub enum ScriptFault {
     /// The first fault of the first line that has one; lines count from 1.
-    #[error("{fault} line {line}")]
     Refused { fault: LineFault, line: usize },
     /// A growth of memory was refused.
-    #[error("OutOfMemory")]
     OutOfMemory,
 }
 
 impl ScriptFault {
     /// The number of the refusal.
     pub fn number(&self) -> u32
-        ensures { result ≡ script_number_of self.now }
+        ensures { result ≡ script_fault_number self.now }
     {
         match self {
             ScriptFault::Refused { fault, .. } => fault.number(),
@@ -92,13 +91,33 @@ impl ScriptFault {
         }
     }
 
+    /// The refusal's name.
+    pub fn name(&self) -> &'static str
+        ensures { result.now ≡ script_fault_name self.now }
+    {
+        match self {
+            ScriptFault::Refused { fault, .. } => fault.name(),
+            ScriptFault::OutOfMemory => "OutOfMemory",
+        }
+    }
+
     /// The number of the line that was refused, from 1.
     pub fn line(&self) -> Option<usize>
-        ensures { result ≡ line_of_fault self.now }
+        ensures { result ≡ script_fault_line self.now }
     {
         match self {
             ScriptFault::Refused { line, .. } => Some(*line),
             ScriptFault::OutOfMemory => None,
+        }
+    }
+}
+
+impl fmt::Display for ScriptFault {
+    fn fmt<W: fmt::Write>(&self, f: &mut fmt::Formatter<W>) -> fmt::Result {
+        f.write_str(self.name())?;
+        match self.line() {
+            Some(line) => write!(f, " line {line}"),
+            None => Ok(()),
         }
     }
 }

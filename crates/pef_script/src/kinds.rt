@@ -2,9 +2,20 @@ ghost use Rattle.std.specs.Prelude.{◌≡◌, map};
 ghost use Rattle.std.specs.Str.{bytes_eq};
 ghost use Rattle.pef_script.specs.Contents.{is_section_word};
 ghost use Rattle.pef_script.specs.Declarations.{class_of, is_weak_word, kind_of, options_of, share_of};
-ghost use Rattle.pef_script.specs.State.{word_in, word_of};
+ghost use Rattle.pef_script.specs.SoFar.{word_in, word_of};
 
 use crate::LineFault;
+use pef_loader::layout::{
+    CODE_SYMBOL, DATA_SYMBOL, GLUE_SYMBOL, INIT_BEFORE, TOC_SYMBOL, TRANSITION_VECTOR_SYMBOL,
+    WEAK_LIBRARY,
+};
+use pef_views::layout::{
+    CODE_SECTION, CONSTANT_SECTION, EXECUTABLE_DATA_SECTION, GLOBAL_SHARE, PROCESS_SHARE,
+    PROTECTED_SHARE, UNPACKED_DATA_SECTION,
+};
+
+/// A library that has to be there, and is initialized when it may be.
+const NO_OPTIONS: u8 = 0;
 
 /// Whether a word is this text.
 pub fn spells(word: &[u8], text: &str) -> bool
@@ -25,15 +36,15 @@ fn word_of(table: &[(&str, u8)], word: &[u8]) -> Result<u8, LineFault>
     Err(LineFault::BadKind)
 }
 
-/// A library's options: 80 (hex) initializes before, 40 is weak.
+/// A library's options.
 pub fn options_of(word: &[u8]) -> Result<u8, LineFault>
     ensures { result ≡ options_of word.now }
 {
     let options = [
-        ("-", 0),
-        ("weak", 0x40),
-        ("before", 0x80),
-        ("weak,before", 0xC0),
+        ("-", NO_OPTIONS),
+        ("weak", WEAK_LIBRARY),
+        ("before", INIT_BEFORE),
+        ("weak,before", WEAK_LIBRARY | INIT_BEFORE),
     ];
     word_of(&options, word)
 }
@@ -43,11 +54,11 @@ pub fn class_of(word: &[u8]) -> Result<u8, LineFault>
     ensures { result ≡ class_of word.now }
 {
     let classes = [
-        ("code", 0),
-        ("data", 1),
-        ("tvector", 2),
-        ("toc", 3),
-        ("glue", 4),
+        ("code", CODE_SYMBOL),
+        ("data", DATA_SYMBOL),
+        ("tvector", TRANSITION_VECTOR_SYMBOL),
+        ("toc", TOC_SYMBOL),
+        ("glue", GLUE_SYMBOL),
     ];
     word_of(&classes, word)
 }
@@ -69,7 +80,12 @@ pub fn is_weak_word(word: &[u8]) -> Result<bool, LineFault>
 pub fn kind_of(word: &[u8]) -> Result<u8, LineFault>
     ensures { result ≡ kind_of word.now }
 {
-    let kinds = [("code", 0), ("data", 1), ("const", 3), ("exec", 6)];
+    let kinds = [
+        ("code", CODE_SECTION),
+        ("data", UNPACKED_DATA_SECTION),
+        ("const", CONSTANT_SECTION),
+        ("exec", EXECUTABLE_DATA_SECTION),
+    ];
     word_of(&kinds, word)
 }
 
@@ -77,7 +93,11 @@ pub fn kind_of(word: &[u8]) -> Result<u8, LineFault>
 pub fn share_of(word: &[u8]) -> Result<u8, LineFault>
     ensures { result ≡ share_of word.now }
 {
-    let shares = [("process", 1), ("global", 4), ("protected", 5)];
+    let shares = [
+        ("process", PROCESS_SHARE),
+        ("global", GLOBAL_SHARE),
+        ("protected", PROTECTED_SHARE),
+    ];
     word_of(&shares, word)
 }
 

@@ -15,10 +15,10 @@ mod parts;
 mod reader;
 mod script;
 mod tables;
-#[cfg(test)]
-mod tests;
+mod theorems;
 mod words;
 
 pub use fault::{LineFault, ScriptFault};
 pub use parts::{Export, Import, Library, SectionHeader, Versions};
 pub use script::Script;
+pub use theorems::{described_bytes, scripts_hold};

@@ -1,17 +1,22 @@
-/// How many sections a script can have.
-pub const MAX_SECTIONS: usize = 8;
+//! The limits of a script, and the groups of its lines (docs/SCRIPTS.md).
+
+/// How many sections a script can have: those that a fixup can name.
+pub const MAX_SECTIONS: usize = pef_reloc::MAX_SECTIONS as usize;
+
+/// How many imports a script can have: those that a fixup can name.
+pub const MAX_IMPORTS: usize = pef_reloc::MAX_IMPORTS as usize;
 
 /// How many libraries a script can have.
 pub const MAX_LIBRARIES: usize = 4096;
-
-/// How many imports a script can have.
-pub const MAX_IMPORTS: usize = 65_536;
 
 /// How many exports a script can have.
 pub const MAX_EXPORTS: usize = 16_383;
 
 /// How many bytes the names of libraries, imports and exports can have, with one more for each.
 pub const MAX_NAME_BYTES: usize = 8_388_608;
+
+/// How many bytes a name can have.
+pub const MAX_NAME: usize = 255;
 
 /// The greatest alignment of a section, as a power of two.
 pub const MAX_ALIGN: u32 = 12;

@@ -1,56 +1,79 @@
-ghost use Rattle.std.specs.Prelude.{◌≡◌, ◌++◌, is_some, ◌==◌, ◌&&◌, ◌%◌, length};
+ghost use Rattle.std.specs.Prelude.{◌≡◌, ◌++◌, ◌%◌, ◌*◌, ◌≤◌, length, OnOk};
 ghost use Rattle.std.specs.List.{list_all};
 ghost use Rattle.pef_words.specs.Refusals.{result_map};
-ghost use Rattle.pef_script.specs.Words.{Counts, image_of, is_hex, pair_of};
-ghost use Rattle.pef_script.specs.Steps.{Steps};
+ghost use Rattle.pef_script.specs.Kept.Pairs.{digit_value, is_hex, spelled};
+ghost use Rattle.pef_script.specs.Words.{image_of};
 
 use crate::LineFault;
-use crate::fault::Stop;
 use crate::numbers::hex_digit;
+use std::alloc::AllocError;
 
-/// How many bytes pairs of hex digits spell.
-#[tactic(auto, unfolding(crate::specs::Words::image_of))]
-pub fn count_pairs(digits: &[u8]) -> Result<usize, LineFault>
-    ensures { Counts result (image_of digits.now) }
-{
-    if digits.len() % 2 != 0 {
-        return Err(LineFault::BadLine);
-    }
-    if !all_hex(digits) {
-        return Err(LineFault::BadLine);
-    }
-    Ok(digits.len() / 2)
+/// Pairs of hex digits, each of which spells a byte.
+#[derive(Clone, Copy)]
+pub struct Pairs<'a> {
+    digits: &'a [u8],
+    ghost even: { length digits.now % 2 ≡ 0 },
 }
+
+impl<'a> Pairs<'a> {
+    /// The pairs that a word has.
+    pub fn read(word: &'a [u8]) -> Result<Pairs<'a>, LineFault>
+        ensures { result_map (λ pairs. spelled pairs.digits.now) result ≡ image_of word.entry.now }
+    {
+        if word.len() % 2 != 0 {
+            return Err(LineFault::BadLine);
+        }
+        if !all_hex(word) {
+            return Err(LineFault::BadLine);
+        }
+        Ok(Pairs { digits: word })
+    }
+
+    /// How many bytes they spell.
+    pub fn count(self) -> usize
+        ensures { result ≡ length (spelled self.entry.digits.now) }
+    {
+        self.digits.len() / 2
+    }
+
+    /// Appends the bytes that they spell.
+    pub fn append_to(self, bytes: &mut Vec<u8>) -> Result<(), AllocError>
+        ensures { OnOk result (bytes.new.items ≡ bytes.old.items ++ spelled self.entry.digits.now) }
+    {
+        let start = bytes.len();
+        bytes.resize(start + self.count(), 0)?;
+        let (_, added) = bytes.split_at_mut(start);
+        spell(self.digits, added);
+        Ok(())
+    }
+}
+
+// The loops below look at every digit, whatever they found before, so that many are done at a time.
 
 fn all_hex(digits: &[u8]) -> bool
     ensures { result ≡ list_all is_hex digits.now }
 {
-    digits.iter().all(|digit| hex_digit(*digit).is_some())
+    let mut all = true;
+    for digit in digits {
+        all &= hex_digit(*digit).is_some();
+    }
+    all
 }
 
-/// The byte that a pair of hex digits spells.
-fn pair(high: u8, low: u8) -> Option<u8>
-    ensures { result ≡ pair_of high low }
+/// The value of a hex digit, and 0 of another byte.
+fn digit_value(digit: u8) -> u8
+    ensures value { result ≡ digit_value digit }
+    ensures most { result ≤ 15 }
 {
-    let high = hex_digit(high)?;
-    let low = hex_digit(low)?;
-    Some(high * 16 + low)
+    hex_digit(digit).unwrap_or(0)
 }
 
-/// Appends the bytes that pairs of hex digits spell.
-#[tactic(auto, unfolding(crate::specs::Words::image_of))]
-pub fn append_pairs(image: &mut Vec<u8>, digits: &[u8]) -> Result<(), Stop>
-    ensures { Steps result image.new.items (result_map (λ bytes. image.old.items ++ bytes) (image_of digits.now)) }
+/// Writes the bytes that pairs of hex digits spell.
+fn spell(digits: &[u8], bytes: &mut [u8])
+    requires { length digits.now ≡ 2 * length bytes.old }
+    ensures { bytes.new ≡ spelled digits.now }
 {
-    if digits.len() % 2 != 0 {
-        return Err(Stop::Refused(LineFault::BadLine));
+    for i in 0..bytes.len() {
+        bytes[i] = digit_value(digits[2 * i]) * 16 + digit_value(digits[2 * i + 1]);
     }
-    image.reserve(digits.len() / 2)?;
-    for i in 0..digits.len() / 2 {
-        match pair(digits[2 * i], digits[2 * i + 1]) {
-            Some(byte) => image.push(byte)?,
-            None => return Err(Stop::Refused(LineFault::BadLine)),
-        }
-    }
-    Ok(())
 }

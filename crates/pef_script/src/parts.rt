@@ -1,10 +1,9 @@
 ghost use Rattle.std.specs.Prelude.{◌≤◌, vec_len};
 ghost use Rattle.indexmap.specs.IndexMap.{index_map_len};
-ghost use Rattle.pef_script.specs.declared.limits.TheConstants.{MAX_IMPORTS, MAX_LIBRARIES, MAX_SECTIONS};
+ghost use Rattle.pef_reloc.specs.Limits.{most_imports, most_sections};
+ghost use Rattle.pef_script.specs.Limits.{most_libraries};
 
-use crate::fault::Stop;
-use crate::limits::{MAX_IMPORTS, MAX_LIBRARIES, MAX_SECTIONS};
-use crate::pairs::append_pairs;
+use crate::pairs::Pairs;
 use indexmap::IndexMap;
 use pef_reloc::{Fixup, WORD};
 use std::alloc::AllocError;
@@ -99,7 +98,7 @@ pub struct Section<'a> {
 
 impl<'a> Model for Section<'a> {
     ghost use Rattle.pef_script.specs.Script.{DescribedSection};
-    ghost use Rattle.pef_script.specs.Seen.{header_in};
+    ghost use Rattle.pef_script.specs.Views.{header_in};
 
     ghost Value = { DescribedSection };
 
@@ -112,11 +111,9 @@ impl<'a> Model for Section<'a> {
 
 impl<'a> Section<'a> {
     ghost use Rattle.std.specs.Prelude.{◌≡◌, OnOk};
-    ghost use Rattle.pef_words.specs.Refusals.{result_map};
     ghost use Rattle.pef_reloc.specs.Fixups.{fixups_end};
     ghost use Rattle.pef_script.specs.Contents.{with_fixups, with_image};
-    ghost use Rattle.pef_script.specs.Words.{image_of};
-    ghost use Rattle.pef_script.specs.Steps.{Steps};
+    ghost use Rattle.pef_script.specs.Kept.Pairs.{spelled};
 
     /// Where the last fixup's word ends, and 0 without fixups.
     pub fn fixups_end(&self) -> u64
@@ -129,10 +126,10 @@ impl<'a> Section<'a> {
     }
 
     /// Appends the bytes that pairs of hex digits spell to the image.
-    pub fn append(&mut self, digits: &[u8]) -> Result<(), Stop>
-        ensures { Steps result self.new (result_map (with_image self.old) (image_of digits.now)) }
+    pub fn append(&mut self, pairs: Pairs) -> Result<(), AllocError>
+        ensures { OnOk result (self.new ≡ with_image self.old (spelled pairs.entry.digits.now)) }
     {
-        append_pairs(&mut self.image, digits)
+        pairs.append_to(&mut self.image)
     }
 
     /// Appends fixups, which come behind those that are there.
@@ -154,7 +151,7 @@ pub struct Parts<'a> {
     pub main: Option<(u32, u32)>,
     pub init: Option<(u32, u32)>,
     pub term: Option<(u32, u32)>,
-    ghost few_libraries: { index_map_len libraries ≤ MAX_LIBRARIES },
-    ghost few_imports: { index_map_len imports ≤ MAX_IMPORTS },
-    ghost few_sections: { vec_len sections ≤ MAX_SECTIONS },
+    ghost few_libraries: { index_map_len libraries ≤ most_libraries },
+    ghost few_imports: { index_map_len imports ≤ most_imports },
+    ghost few_sections: { vec_len sections ≤ most_sections },
 }

@@ -1,15 +1,18 @@
-ghost use Rattle.std.specs.Prelude.{◌≡◌, ◌+◌, ◌≤◌, ◌<◌, map, vec_len, length, IfOk, IfSome, OnOk};
+ghost use Rattle.std.specs.Prelude.{◌≡◌, ◌+◌, ◌≤◌, ◌<◌, None, map, vec_len, length, IfOk, IfSome, OnOk};
 ghost use Rattle.std.specs.Result.{result_err};
-ghost use Rattle.pef_script.specs.declared.limits.TheConstants.{MAX_NAME_BYTES};
+ghost use Rattle.indexmap.specs.IndexMap.{index_map_len};
+ghost use Rattle.pef_words.specs.Refusals.{first_met};
 ghost use Rattle.pef_script.specs.Grammar.{is_skipped, line_by_word, line_of, no_lines};
-ghost use Rattle.pef_script.specs.Reader.{script_in, state_of};
-ghost use Rattle.pef_script.specs.State.{entered, entered_once, has_no_room, number_of_name, section_named};
-ghost use Rattle.pef_script.specs.Steps.{NumberedSteps, Steps};
+ghost use Rattle.pef_script.specs.Kept.Reader.{names_in, script_in, so_far};
+ghost use Rattle.pef_script.specs.Kept.Steps.{NumberedSteps, Steps};
+ghost use Rattle.pef_script.specs.Limits.{most_name_bytes};
+ghost use Rattle.pef_script.specs.SoFar.{counted_name_tests, entered, entered_once, number_of_name, section_named};
 
 use crate::fault::Stop;
 use crate::kinds::spells;
 use crate::limits::MAX_NAME_BYTES;
 use crate::parts::{Parts, Section, Versions};
+use crate::tables::number_of_name;
 use crate::words::next_word;
 use crate::{LineFault, ScriptFault};
 use indexmap::IndexMap;
@@ -52,7 +55,7 @@ pub fn section_number(sections: &[Section], name: &[u8]) -> Option<usize>
 impl<'a> Reader<'a> {
     /// A reader of no lines.
     pub fn new(alloc: Global) -> Reader<'a>
-        ensures { state_of result ≡ no_lines }
+        ensures { so_far result ≡ no_lines }
     {
         Reader {
             alloc,
@@ -78,14 +81,14 @@ impl<'a> Reader<'a> {
 
     /// What was read.
     pub fn into_parts(self) -> Parts<'a>
-        ensures { script_in result ≡ (state_of self.entry).script }
+        ensures { script_in result ≡ (so_far self.entry).script }
     {
         self.parts
     }
 
     /// Reads the line with a number.
     pub fn read_numbered(&mut self, line: &'a [u8], number: usize) -> Result<(), ScriptFault>
-        ensures { NumberedSteps result (state_of self.new) number (line_of (state_of self.old) line.entry.now) }
+        ensures { NumberedSteps result (so_far self.new) number (line_of (so_far self.old) line.entry.now) }
     {
         match self.read_line(line) {
             Ok(()) => Ok(()),
@@ -96,7 +99,7 @@ impl<'a> Reader<'a> {
     /// Reads a line.
     #[tactic(auto, unfolding(crate::specs::Grammar::line_of))]
     fn read_line(&mut self, line: &'a [u8]) -> Result<(), Stop>
-        ensures { Steps result (state_of self.new) (line_of (state_of self.old) line.entry.now) }
+        ensures { Steps result (so_far self.new) (line_of (so_far self.old) line.entry.now) }
     {
         if is_skipped(line) {
             return Ok(());
@@ -108,7 +111,7 @@ impl<'a> Reader<'a> {
     /// Reads a line by its first word and what stands behind it.
     #[tactic(auto, unfolding(crate::specs::Grammar::line_by_word))]
     fn read_by_word(&mut self, word: &[u8], rest: &'a [u8]) -> Result<(), Stop>
-        ensures { Steps result (state_of self.new) (line_by_word (state_of self.old) (word.now, rest.entry.now)) }
+        ensures { Steps result (so_far self.new) (line_by_word (so_far self.old) (word.now, rest.entry.now)) }
     {
         if spells(word, "versions") {
             self.read_versions(rest)
@@ -139,7 +142,7 @@ impl<'a> Reader<'a> {
 
     /// Refuses a line of a group behind one of a later group.
     pub fn enter(&self, group: u8) -> Result<(), LineFault>
-        ensures { result_err result ≡ result_err (entered (state_of self.now) group) }
+        ensures { result_err result ≡ result_err (entered (so_far self.now) group) }
     {
         if group < self.reached {
             return Err(LineFault::OutOfOrder);
@@ -149,7 +152,7 @@ impl<'a> Reader<'a> {
 
     /// Refuses a line that may stand once behind one of its own or a later group.
     pub fn enter_once(&self, group: u8) -> Result<(), LineFault>
-        ensures { result_err result ≡ result_err (entered_once (state_of self.now) group) }
+        ensures { result_err result ≡ result_err (entered_once (so_far self.now) group) }
     {
         if group <= self.reached {
             return Err(LineFault::OutOfOrder);
@@ -159,16 +162,33 @@ impl<'a> Reader<'a> {
 
     /// The number of the section with a name.
     pub fn section_named(&self, name: &[u8]) -> Result<usize, LineFault>
-        ensures found { result ≡ section_named (state_of self.now) name.now }
+        ensures found { result ≡ section_named (so_far self.now) name.now }
         ensures below { IfOk result (λ k. k < vec_len self.now.parts.sections) }
     {
         section_number(&self.parts.sections, name).ok_or(LineFault::UnknownName)
     }
 
-    /// Whether the names have too many bytes with one more.
-    pub fn has_no_room(&self, name: &[u8]) -> bool
-        ensures { result ≡ has_no_room (state_of self.now) name.now }
+    /// Refuses a name that another one of a table has, or that passes the limits.
+    pub fn test_name<T>(
+        &self,
+        table: &IndexMap<&[u8], T>,
+        limit: usize,
+        name: &[u8],
+    ) -> Result<(), LineFault>
+        ensures tests { result_err result ≡ first_met (counted_name_tests (so_far self.now) (names_in table.now.entries) limit name.now) }
+        ensures new { OnOk result (number_of_name (names_in table.now.entries) name.now ≡ None) }
+        ensures room { OnOk result (index_map_len table.now < limit) }
+        ensures bytes { OnOk result (self.now.names + (length name.now + 1) ≤ most_name_bytes) }
     {
-        self.names > MAX_NAME_BYTES || name.len() + 1 > MAX_NAME_BYTES - self.names
+        if number_of_name(table, name).is_some() {
+            return Err(LineFault::RepeatedName);
+        }
+        if table.len() >= limit {
+            return Err(LineFault::TooMany);
+        }
+        if self.names > MAX_NAME_BYTES || name.len() + 1 > MAX_NAME_BYTES - self.names {
+            return Err(LineFault::TooMany);
+        }
+        Ok(())
     }
 }

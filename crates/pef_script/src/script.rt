@@ -2,8 +2,9 @@ ghost use Rattle.std.specs.Prelude.{◌≡◌, IfSome, length, option_map, slice
 ghost use Rattle.std.specs.Option.{option_copied};
 ghost use Rattle.pef_reloc.specs.Fixups.{fixups_fit};
 ghost use Rattle.pef_script.specs.Grammar.{script_of};
-ghost use Rattle.pef_script.specs.Reader.{Reads, script_in};
-ghost use Rattle.pef_script.specs.Seen.{export_in, header_in, import_in, library_in};
+ghost use Rattle.pef_words.specs.Refusals.{result_map};
+ghost use Rattle.pef_script.specs.Kept.Reader.{script_in};
+ghost use Rattle.pef_script.specs.Views.{Reads, export_in, header_in, import_in, library_in};
 ghost use Rattle.pef_script.specs.WellFormed.{ScriptHolds};
 
 use crate::ScriptFault;
@@ -23,7 +24,7 @@ pub struct Script<'a> {
 }
 
 impl<'a> Model for Script<'a> {
-    ghost use Rattle.pef_script.specs.Reader.{script_in};
+    ghost use Rattle.pef_script.specs.Kept.Reader.{script_in};
     ghost use Rattle.pef_script.specs.Script.{DescribedScript};
     ghost use Rattle.pef_script.specs.WellFormed.{ScriptHolds};
 
@@ -40,7 +41,7 @@ impl<'a> Script<'a> {
     /// # Errors
     /// The first fault of the first line that has one, or that a growth of memory was refused.
     pub fn read(alloc: Global, text: &'a [u8]) -> Result<Script<'a>, ScriptFault>
-        ensures { Reads (λ script. script) result (script_of text.entry.now) }
+        ensures { Reads result (script_of text.entry.now) }
     {
         let parts = read_parts(alloc, text)?;
         Ok(Script { parts })
@@ -173,7 +174,7 @@ impl<'a> Script<'a> {
 
 /// Reads the lines of a script.
 fn read_parts<'a>(alloc: Global, text: &'a [u8]) -> Result<Parts<'a>, ScriptFault>
-    ensures { Reads script_in result (script_of text.entry.now) }
+    ensures { Reads (result_map script_in result) (script_of text.entry.now) }
 {
     let mut reader = Reader::new(alloc);
     let mut rest = text;

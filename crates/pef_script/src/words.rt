@@ -4,10 +4,8 @@ ghost use Rattle.pef_words.specs.Refusals.{result_map};
 ghost use Rattle.pef_script.specs.Words.{cut_at, is_printing, is_word, last_name, last_word, next_name, next_word};
 
 use crate::LineFault;
+use crate::limits::MAX_NAME;
 use memchr::memchr;
-
-/// The most bytes of a name.
-const MAX_NAME: usize = 255;
 
 /// What stands before the first such byte and what behind it, or `None` where there is no such byte.
 pub fn cut_at(byte: u8, bytes: &[u8]) -> Option<(&[u8], &[u8])>
@@ -26,10 +24,15 @@ fn is_word(bytes: &[u8]) -> bool
     !bytes.is_empty() && all_printing(bytes)
 }
 
+/// Whether all are printing bytes, and no space. It looks at each, so that many are done at a time.
 fn all_printing(bytes: &[u8]) -> bool
     ensures { result ≡ list_all is_printing bytes.now }
 {
-    bytes.iter().all(|byte| matches!(*byte, 0x21..=0x7E))
+    let mut all = true;
+    for byte in bytes {
+        all &= matches!(*byte, 0x21..=0x7E);
+    }
+    all
 }
 
 /// The one word that is left of a line.

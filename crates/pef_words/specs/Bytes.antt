@@ -1,7 +1,7 @@
 -- What stands at a place of a byte string (Mac OS Runtime Architectures, "PEF Structure"): every number of
 -- a container is big-endian, and the names in its section name table and in its loader string table end
 -- with a zero byte.
-use Rattle.std.specs.Prelude.{ℕ, ℤ, ◌+◌, ◌==◌, List, [], ◌∷◌, Option, None, Some, option_map, length, take, drop, nat_le, if◌then◌else◌}
+use Rattle.std.specs.Prelude.{ℕ, ℤ, ◌+◌, ◌==◌, List, [], ◌∷◌, Option, None, Some, option_map, length, take, drop, replicate, nat_le, if◌then◌else◌, ◌-◌, ◌++◌}
 use Rattle.std.specs.Int.{Width, cast_signed}
 use Rattle.byteorder.specs.Endian.{big_number}
 
@@ -27,3 +27,8 @@ before_zero (b ∷ bytes) = if b == 0 then Some [] else option_map (λ name. b �
 -- loader string table)
 unfoldable pub name_at : List ℕ → ℕ → Option (List ℕ)
 name_at bytes from = before_zero (drop from bytes)
+
+-- an image and zeros behind it up to a length (Mac OS Runtime Architectures, "PEF Structure": what a
+-- section's total length leaves behind its initialized bytes is filled with zeros)
+abbrev pub filled : List ℕ → ℕ → List ℕ
+filled image total = image ++ replicate (total - length image) 0

@@ -1,9 +1,9 @@
 -- The first of the answers at some places, the first test of a table, and what is read unless refused.
-use Rattle.std.proofs.Common.{◌≡◌, ℕ, zero, suc, ◌+◌, ◌-◌, ◌<◌, ◌≤◌, ◌⊎◌, Bool, true, false, cond, Option, None, Some, refl, subst, inl, inr, arith}
+use Rattle.std.proofs.Common.{◌≡◌, ℕ, zero, suc, ◌+◌, ◌-◌, ◌<◌, ◌≤◌, ◌⊎◌, Bool, true, false, cond, List, [], ◌∷◌, ◌++◌, Option, None, Some, refl, subst, inl, inr, arith}
 use Rattle.std.specs.Prelude.{Result, Ok}
 use Rattle.std.specs.Option.{option_or}
 use Rattle.std.proofs.lemmas.Bool.Decides.{eqb_tells}
-use Rattle.pef_words.specs.Refusals.{first_among, unless}
+use Rattle.pef_words.specs.Refusals.{first_among, first_met, unless}
 
 -- a place without an answer is passed over
 pub first_among-next : {F : Type 0} (answer : ℕ → Option F) (i n : ℕ) → i < n → answer i ≡ None → first_among answer i (n - i) ≡ first_among answer (i + 1) (n - (i + 1))
@@ -86,3 +86,10 @@ first_unmet false x others none = (refl, none)
 pub unless_ok : {A F : Type 0} (fault : Option F) (r : Result A F) (x : A) → unless fault r ≡ Ok x → (fault ≡ None) × (r ≡ Ok x)
 unless_ok None r x ok = (refl, ok)
 unless_ok (Some fault) r x ok = absurd (cc)
+
+-- tests behind tests that are not met
+pub first_met-behind : {F : Type 0} (tests others : List (Bool × F)) → first_met tests ≡ None → first_met (tests ++ others) ≡ first_met others
+first_met-behind [] others none = refl
+first_met-behind (test ∷ tests) others none =
+    let p = first_unmet test.0 test.1 (first_met tests) none in
+    rw p.0 (first_met-behind tests others p.1)

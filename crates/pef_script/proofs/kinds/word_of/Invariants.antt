@@ -1,5 +1,5 @@
 use Rattle.std.proofs.Common.{◌≡◌, drop, map}
-use Rattle.pef_script.specs.State.{word_in}
+use Rattle.pef_script.specs.SoFar.{word_in}
 use Rattle.pef_script.proofs.kinds.word_of.Given as goal
 
 -- the entries that are left have the answer

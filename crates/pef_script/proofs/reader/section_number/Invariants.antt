@@ -1,7 +1,7 @@
 use Rattle.std.proofs.Common.{◌≡◌, drop, map}
 use Rattle.std.specs.List.{position_from}
 use Rattle.std.specs.Str.{bytes_eq}
-use Rattle.pef_script.specs.State.{number_of_name}
+use Rattle.pef_script.specs.SoFar.{number_of_name}
 use Rattle.pef_script.proofs.reader.section_number.Given as goal
 
 -- the sections that are left have the answer

@@ -2,7 +2,8 @@
 use Rattle.std.proofs.Common.{◌≡◌, ◌+◌, [], ◌∷◌, Ok, subst, sym, ap, refl, ◌∙◌, arith}
 use Rattle.std.proofs.lemmas.Result.{err_from_is_err_and}
 use Rattle.pef_script.specs.Grammar.{after_line, lines_of, read_lines, script_of}
-use Rattle.pef_script.specs.Reader.{Fails, state_of}
+use Rattle.pef_script.specs.Views.{Fails}
+use Rattle.pef_script.specs.Kept.Reader.{so_far}
 use Rattle.pef_script.proofs.LineLemmas.{lines_of-last, lines_of-cut, cut_at-shorter, read_lines-fails}
 use Rattle.pef_script.proofs.script.read_parts.Goals as goal
 
@@ -14,9 +15,9 @@ pub returns-in_err-read_numbered : goal.returns-in_err-read_numbered
 returns-in_err-read_numbered c =
     let p = err_from_is_err_and c.from_residual.result c.from_residual.ensures.1 in
     let cut = lines_of-cut c.lines.rest.now c.in-Some.line.now c.in-Some.behind.now (sym c.in-Some.ensures) in
-    let whole : read_lines (state_of c.lines.reader) c.lines.number (c.in-Some.line.now ∷ lines_of c.in-Some.behind.now) ≡ script_of c.args.text.now =
-    ap (read_lines (state_of c.lines.reader) c.lines.number) (sym cut) ∙ c.lines.invariant.whole in
-    rw (p.1, p.2) (subst (Fails c.in_err-read_numbered.field-0.0) whole (read_lines-fails c.in_err-read_numbered.field-0.0 (state_of c.lines.reader) c.lines.number c.in-Some.line.now (lines_of c.in-Some.behind.now) c.in_err-read_numbered.ensures))
+    let whole : read_lines (so_far c.lines.reader) c.lines.number (c.in-Some.line.now ∷ lines_of c.in-Some.behind.now) ≡ script_of c.args.text.now =
+    ap (read_lines (so_far c.lines.reader) c.lines.number) (sym cut) ∙ c.lines.invariant.whole in
+    rw (p.1, p.2) (subst (Fails c.in_err-read_numbered.field-0.0) whole (read_lines-fails c.in_err-read_numbered.field-0.0 (so_far c.lines.reader) c.lines.number c.in-Some.line.now (lines_of c.in-Some.behind.now) c.in_err-read_numbered.ensures))
 
 pub lines-smaller : goal.lines-smaller
 lines-smaller c =
@@ -31,21 +32,21 @@ lines-preserved c =
     record {
       small = omega (arith, shorter);
       whole = ap (λ r. after_line r c.lines.number (λ next. read_lines next (c.lines.number + 1) (lines_of c.in-Some.behind.now))) (sym step)
-          ∙ ap (read_lines (state_of c.lines.reader) c.lines.number) (sym cut) ∙ c.lines.invariant.whole;
+          ∙ ap (read_lines (so_far c.lines.reader) c.lines.number) (sym cut) ∙ c.lines.invariant.whole;
     }
 
 pub returns-in_err-read_numbered-2 : goal.returns-in_err-read_numbered-2
 returns-in_err-read_numbered-2 c =
     let p = err_from_is_err_and c.from_residual-in_err-read_numbered-2.result c.from_residual-in_err-read_numbered-2.ensures.1 in
     let last = lines_of-last c.lines.rest.now (sym c.in_default.ensures) in
-    let whole : read_lines (state_of c.lines.reader) c.lines.number (c.lines.rest.now ∷ []) ≡ script_of c.args.text.now =
-    ap (read_lines (state_of c.lines.reader) c.lines.number) (sym last) ∙ c.lines.invariant.whole in
-    rw (p.1, p.2) (subst (Fails c.in_err-read_numbered-2.field-0.0) whole (read_lines-fails c.in_err-read_numbered-2.field-0.0 (state_of c.lines.reader) c.lines.number c.lines.rest.now [] c.in_err-read_numbered-2.ensures))
+    let whole : read_lines (so_far c.lines.reader) c.lines.number (c.lines.rest.now ∷ []) ≡ script_of c.args.text.now =
+    ap (read_lines (so_far c.lines.reader) c.lines.number) (sym last) ∙ c.lines.invariant.whole in
+    rw (p.1, p.2) (subst (Fails c.in_err-read_numbered-2.field-0.0) whole (read_lines-fails c.in_err-read_numbered-2.field-0.0 (so_far c.lines.reader) c.lines.number c.lines.rest.now [] c.in_err-read_numbered-2.ensures))
 
 pub returns : goal.returns
 returns c =
     let last = lines_of-last c.lines.rest.now (sym c.in_default.ensures) in
     sym c.lines.invariant.whole
-    ∙ ap (read_lines (state_of c.lines.reader) c.lines.number) last
+    ∙ ap (read_lines (so_far c.lines.reader) c.lines.number) last
     ∙ ap (λ r. after_line r c.lines.number (λ next. Ok next.script)) c.in_ok-read_numbered-2.ensures
     ∙ ap Ok (sym c.into_parts.ensures)

@@ -1,13 +1,13 @@
 use Rattle.std.proofs.Common.{◌≡◌, ◌+◌, ◌≤◌, length}
 use Rattle.pef_script.specs.Grammar.{lines_of, read_lines, script_of}
-use Rattle.pef_script.specs.Reader.{state_of}
+use Rattle.pef_script.specs.Kept.Reader.{so_far}
 use Rattle.pef_script.proofs.script.read_parts.Given as goal
 
 -- the lines that are left make the state so far the script of them all
 abbrev pub invariant-lines : goal.invariant-lines
 invariant-lines l = record {
   small : l.number + length l.rest ≤ length l.text + 1;
-  whole : read_lines (state_of l.reader) l.number (lines_of l.rest) ≡ script_of l.text;
+  whole : read_lines (so_far l.reader) l.number (lines_of l.rest) ≡ script_of l.text;
 }
 
 abbrev pub decreases-lines : goal.decreases-lines

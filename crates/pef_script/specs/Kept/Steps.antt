@@ -8,19 +8,24 @@ use Rattle.pef_script.specs.declared.fault.Stop.TheVariants as stop
 
 -- a step that stopped has the fault that it was to have, where it had memory
 abbrev pub Stops : {A : Type 0} → Stop → Result A LineFault → Type 0
-Stops (stop.Refused fault) expected = expected ≡ Err fault
-Stops stop.OutOfMemory expected = Unit {0}
+Stops (stop.Refused fault) wanted = wanted ≡ Err fault
+Stops stop.OutOfMemory wanted = Unit {0}
 
 -- a step led to what it was to lead to, or stopped as it was to
 abbrev pub Steps : {A : Type 0} → Result (Unit {0}) Stop → A → Result A LineFault → Type 0
-Steps (Ok done) now expected = expected ≡ Ok now
-Steps (Err stopped) now expected = Stops stopped expected
+Steps (Ok done) now wanted = wanted ≡ Ok now
+Steps (Err stopped) now wanted = Stops stopped wanted
+
+-- why a step stopped, with the number of its line
+abbrev pub stopped_at : ℕ → Stop → ScriptFault
+stopped_at line (stop.Refused what) = fault.Refused what line
+stopped_at line stop.OutOfMemory = fault.OutOfMemory
 
 -- the same of a line with a number
 abbrev pub FailsAt : {A : Type 0} → ScriptFault → ℕ → Result A LineFault → Type 0
-FailsAt (fault.Refused what line) number expected = (expected ≡ Err what) × (line ≡ number)
-FailsAt fault.OutOfMemory number expected = Unit {0}
+FailsAt (fault.Refused what line) number wanted = (wanted ≡ Err what) × (line ≡ number)
+FailsAt fault.OutOfMemory number wanted = Unit {0}
 
 abbrev pub NumberedSteps : {A : Type 0} → Result (Unit {0}) ScriptFault → A → ℕ → Result A LineFault → Type 0
-NumberedSteps (Ok done) now number expected = expected ≡ Ok now
-NumberedSteps (Err failed) now number expected = FailsAt failed number expected
+NumberedSteps (Ok done) now number wanted = wanted ≡ Ok now
+NumberedSteps (Err failed) now number wanted = FailsAt failed number wanted

@@ -1,0 +1,16 @@
+-- The room behind the bytes that are there is just that of the pairs.
+use Rattle.std.proofs.Common.{◌/◌, length, arith}
+use Rattle.pef_script.proofs.PairLemmas.{length-spelled}
+use Rattle.pef_script.proofs.pairs.Pairs.append_to.Goals as goal
+
+pub overflow_add-start : goal.overflow_add-start
+overflow_add-start c =
+    let digits = c.args.self.digits.now in
+    let count = length-spelled (length digits / 2) digits (omega arith) in
+    omega (arith, count)
+
+pub spell-requires : goal.spell-requires
+spell-requires c =
+    let digits = c.args.self.digits.now in
+    let count = length-spelled (length digits / 2) digits (omega arith) in
+    omega (arith, count, c.in_ok-resize.ensures.len, c.deref_mut.ensures.len, c.split_at_mut-added.ensures.back_len)

@@ -1,0 +1,11 @@
+-- The names of the table are those of the script, and what is declared stands behind the others.
+use Rattle.std.proofs.Common.{refl}
+use Rattle.std.proofs.lemmas.List.{map-append}
+use Rattle.pef_script.specs.Kept.Reader.{import_of}
+use Rattle.pef_script.proofs.TableLemmas.{names_of_imports}
+use Rattle.pef_script.proofs.reader.Reader.add_import.Goals as goal
+
+pub returns : goal.returns
+returns c =
+    let entries = c.args.self.now.parts.imports.entries in
+    rw (names_of_imports entries, ← c.in_ok-test_name.ensures.tests, c.in_ok-declare.ensures.ok, map-append import_of) refl
