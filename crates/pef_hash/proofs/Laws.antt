@@ -8,3 +8,5 @@ pub use Rattle.pef_hash.proofs.RegularLemmas.{ordered_name}
 pub use Rattle.pef_hash.proofs.Slots.{least_power-most}
 -- the order of the slots names each place once
 pub use Rattle.pef_hash.proofs.SlotLists.{length-in_slots}
+-- in a table that is built of distinct names each is found, and no other name
+pub use Rattle.pef_hash.proofs.RegularLemmas.{built_has_no_other, built_has_own}

@@ -6,15 +6,17 @@ use Rattle.std.proofs.lemmas.List.{drop_more, drop_all, length-map}
 use Rattle.pef_views.specs.declared.header.Header.{Header}
 use Rattle.pef_views.specs.declared.section.SectionHeader.{SectionHeader}
 use Rattle.pef_views.specs.Container.{Section}
-use Rattle.pef_write.specs.declared.container.Part.{Part}
-use Rattle.pef_write.specs.declared.container.Versions.{Versions}
+use Rattle.pef_reloc.specs.Limits.{most_sections, offset_limit}
+use Rattle.pef_script.specs.declared.parts.Versions.{Versions}
+use Rattle.pef_write.specs.declared.parts.Part.{Part}
 use Rattle.pef_write.specs.Fields.{padded, spelled}
-use Rattle.pef_write.specs.Containers.{DescribedPart, data_from, described, header_fields, laid_out, loader_header, part_header, raw_data, section_fields, spelled_headers, written_container, written_header, written_sections}
+use Rattle.pef_write.specs.Containers.{DescribedPart, data_from, header_fields, laid_out, loader_header, part_header, raw_data, section_fields, spelled_headers, written_container, written_header, written_sections}
+use Rattle.pef_write.specs.Kept.Views.{described}
 use Rattle.pef_write.proofs.Fields.{length-padded}
 
 -- what stands for a part past the last one
 abbrev pub no_part : Part
-no_part = record { kind = 0; share = 0; alignment = 0; total = 0; image = record { ref_ptr = (0, 0); now = [] } }
+no_part = record { kind = 0; share = 0; align = 0; total = 0; image = record { ref_ptr = (0, 0); now = [] } }
 
 -- one part, and those behind it
 pub raw_data-more : (parts : List Part) (loader : List ℕ) (i : ℕ) → i < length parts
@@ -95,8 +97,8 @@ unfolding written_container
 length-written_container v parts loader =
     length-append (padded 16 (fronts v parts loader)) (raw_data parts loader) ∙ ap (λ n. n + length (raw_data parts loader)) (length-front v parts loader)
 
--- parts of at most 2^24 bytes each
-length-raw_data-bound : (parts : List DescribedPart) (loader : List ℕ) → All (λ p. length p.image ≤ 2 ^ 24) parts → length (raw_data parts loader) ≤ 2 ^ 24 * length parts + length loader
+-- parts whose images are no longer than fixups reach
+length-raw_data-bound : (parts : List DescribedPart) (loader : List ℕ) → All (λ p. length p.image ≤ offset_limit) parts → length (raw_data parts loader) ≤ offset_limit * length parts + length loader
 unfolding raw_data
 length-raw_data-bound [] loader each = omega arith
 length-raw_data-bound (p ∷ parts) loader each =
@@ -107,6 +109,6 @@ length-raw_data-bound (p ∷ parts) loader each =
     omega (arith, own, later, joined, padding)
 
 -- a container of few and small sections is no longer than its fields can say
-pub container_size : (v : Versions) (parts : List DescribedPart) (loader : List ℕ) → length parts ≤ 16 → All (λ p. length p.image ≤ 2 ^ 24) parts → length loader < 2 ^ 31 → length (written_container v parts loader) < 2 ^ 32
+pub container_size : (v : Versions) (parts : List DescribedPart) (loader : List ℕ) → length parts ≤ most_sections → All (λ p. length p.image ≤ offset_limit) parts → length loader < 2 ^ 31 → length (written_container v parts loader) < 2 ^ 32
 container_size v parts loader few each small =
     omega (arith, length-written_container v parts loader, length-raw_data-bound parts loader each)

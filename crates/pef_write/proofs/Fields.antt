@@ -8,7 +8,8 @@ use Rattle.byteorder.specs.Endian.{big_bytes}
 use Rattle.byteorder.specs.Numbers.{big_number-reads_back, length-bytes_high_first}
 use Rattle.pef_words.specs.Bytes.{number_at}
 use Rattle.pef_write.specs.declared.field.Field.{Field}
-use Rattle.pef_write.specs.Fields.{AllFit, Reads, field_bytes, padded, spelled, value, width}
+use Rattle.pef_write.specs.Fields.{field_bytes, padded, spelled, value, width}
+use Rattle.pef_write.specs.Kept.Fits.{AllFit, Reads}
 
 -- the next multiple is as far as what lies before it and the gap
 next_from : (n multiple : ℕ) → n + (next_multiple_of n multiple - n) ≡ next_multiple_of n multiple
@@ -54,6 +55,12 @@ spelled-more fields i d under = ap spelled (drop_more fields i d under)
 pub spelled-end : (fields : List Field) (i : ℕ) → length fields ≤ i → spelled (drop i fields) ≡ []
 unfolding spelled
 spelled-end fields i past = ap spelled (drop_all i fields past)
+
+-- fields behind fields are spelled behind them
+pub spelled-append : (xs ys : List Field) → spelled (xs ++ ys) ≡ spelled xs ++ spelled ys
+unfolding spelled
+spelled-append [] ys = refl
+spelled-append (x ∷ xs) ys = ap (λ z. field_bytes x ++ z) (spelled-append xs ys) ∙ sym (append_assoc (field_bytes x) (spelled xs) (spelled ys))
 
 -- a number behind some bytes
 number_here : (n x : ℕ) (before rest : List ℕ) → x < 256 ^ n → number_at n (before ++ (big_bytes n x ++ rest)) (length before) ≡ Some x
@@ -121,3 +128,9 @@ reads-at bytes from off from' off' [] same all = tt
 reads-at bytes from off from' off' (x ∷ xs) same all =
     let P : ℕ → Type 0 = λ at. number_at (width x) bytes at ≡ Some (value x) in
     (subst P same all.0, reads-at bytes from (off + width x) from' (off' + width x) xs (omega arith) all.1)
+
+-- fields in three parts that are written one behind the other
+pub in_three : (before : List ℕ) (xs ys zs : List Field) (first second third : List ℕ) → first ≡ before ++ spelled xs → second ≡ first ++ spelled ys → third ≡ second ++ spelled zs → third ≡ before ++ spelled (xs ++ (ys ++ zs))
+in_three before xs ys zs first second third a b d =
+    let all : spelled (xs ++ (ys ++ zs)) ≡ spelled xs ++ (spelled ys ++ spelled zs) = spelled-append xs (ys ++ zs) ∙ ap (λ z. spelled xs ++ z) (spelled-append ys zs) in
+    rw (all, d, b, a) (simp append_assoc)

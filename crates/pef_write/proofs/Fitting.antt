@@ -1,41 +1,45 @@
 -- The tables and the parts of a script fit: their numbers fit their fields, and the container is small.
-use Rattle.std.proofs.Common.{◌≡◌, ◌∙◌, ℕ, suc, zero, ◌+◌, ◌*◌, ◌==◌, ◌^◌, ◌<◌, ◌≤◌, Bool, true, false, List, [], ◌∷◌, ◌++◌, Option, None, Some, ℤ, pos, negsuc, length, map, get_or, length-append, append-nil, refl, ap, arith, IsTrue}
+-- What bounds them are the limits of scripts.
+use Rattle.std.proofs.Common.{◌≡◌, ◌∙◌, ℕ, suc, zero, ◌+◌, ◌*◌, ◌==◌, ◌^◌, ◌<◌, ◌≤◌, true, List, [], ◌∷◌, ◌++◌, Option, None, Some, ℤ, pos, negsuc, length, map, get_or, length-append, append-nil, refl, ap, arith, IsTrue}
 use Rattle.std.specs.Prelude.{nat_lt}
-use Rattle.std.specs.Int.{w16, w32, cast_signed, cast_unsigned}
+use Rattle.std.specs.Int.{w16, cast_unsigned}
 use Rattle.std.specs.List.{All, AllByRecursion, flat_map}
 use Rattle.std.proofs.Math.Nat.{pow-le-pow_right}
 use Rattle.std.proofs.lemmas.Bool.Decides.{nat_tests}
 use Rattle.std.proofs.lemmas.Grind.{flat_map-append}
-use Rattle.std.proofs.lemmas.Int.{to_z-of_z}
 use Rattle.std.proofs.lemmas.List.{length-map}
 use Rattle.std.proofs.lemmas.List.Concat.{length-flat_map}
 use Rattle.std.proofs.lemmas.List.Elements.{All-cons, All-map}
 use Rattle.std.proofs.lemmas.List.Sums.{count_by-le-length, sum_by-cons, sum_by-le}
 use Rattle.pef_hash.specs.Build.{built}
+use Rattle.pef_loader.specs.Export.{Export}
+use Rattle.pef_loader.specs.Import.{Import}
 use Rattle.pef_reloc.specs.declared.fixup.Fixup.{Fixup}
 use Rattle.pef_reloc.specs.declared.instr.Instr.{Instr}
 use Rattle.pef_reloc.specs.Instrs.{spelled}
+use Rattle.pef_reloc.specs.Limits.{most_fixups, offset_limit}
 use Rattle.pef_script.specs.Script.{DescribedExport, DescribedImport, DescribedLibrary, DescribedScript, DescribedSection}
 use Rattle.pef_script.specs.State.{export_names}
 use Rattle.pef_script.specs.WellFormed.{EntryHolds, ExportHolds, ImportHolds, LibraryHolds, ScriptHolds, SectionHolds, SignedPlaceHolds, bytes_of_names, is_kind, is_options, is_share, totals_of}
 use Rattle.pef_words.proofs.Laws.Lists.{all-at}
 use Rattle.pef_views.specs.Section.{is_instantiable}
-use Rattle.pef_write.specs.Containers.{AreWritable, DescribedPart, IsWritable}
-use Rattle.pef_write.specs.Linked.{AreProgramsFor, IsProgramFor, class_byte, export_of, exports_at, import_of, libraries_from, library_of, linked_loader, linked_parts, linked_tables, no_export, part_of, program_of, programs_from, script_tables, versions_of}
-use Rattle.pef_write.specs.Loaders.{EntryFits, ExportEntry, ExportFits, ImportEntry, LibraryFits, LoaderTables, ProgramEntry, ProgramFits, TablesFit, program_bytes, strings_of, written_loader, zero_ended}
+use Rattle.pef_write.specs.Containers.{DescribedPart}
+use Rattle.pef_write.specs.Linked.{AreProgramsFor, IsProgramFor, exports_at, libraries_from, linked_export, linked_import, linked_library, linked_loader, linked_parts, linked_tables, no_export, part_of, program_of, programs_from, script_tables}
+use Rattle.pef_write.specs.Loaders.{LoaderTables, ProgramEntry, program_bytes, strings_of, written_loader, zero_ended}
+use Rattle.pef_write.specs.Kept.Fits.{AreWritable, EntryFits, ExportFits, IsWritable, LibraryFits, ProgramFits, TablesFit}
 use Rattle.pef_write.proofs.Containers.{container_size}
 use Rattle.pef_write.proofs.ExportNames.{keys_small, length-keys, length-order, length-slots, order_below, power_small, slots_small}
 use Rattle.pef_write.proofs.Loaders.{length-table_fields, length-written_loader}
 use Rattle.pef_write.proofs.Programs.{length-spelled, short_program}
 
 -- how many bytes each section has
-totals_small : (n j : ℕ) (sections : List DescribedSection) (k : ℕ) → AllByRecursion (SectionHolds n j) sections → get_or (totals_of sections) k 0 ≤ 2 ^ 24
+totals_small : (n j : ℕ) (sections : List DescribedSection) (k : ℕ) → AllByRecursion (SectionHolds n j) sections → get_or (totals_of sections) k 0 < 2 ^ 32
 totals_small n j [] k each = omega arith
-totals_small n j (s ∷ sections) zero each = each.0.total
+totals_small n j (s ∷ sections) zero each = omega (arith, each.0.total)
 totals_small n j (s ∷ sections) (suc k) each = totals_small n j sections k each.1
 
 -- an entry is in one of few sections
-entry_fits : (sections : List DescribedSection) (n j : ℕ) (entry : Option (ℕ × ℕ)) → AllByRecursion (SectionHolds n j) sections → length sections ≤ 8 → EntryHolds (totals_of sections) entry → EntryFits entry
+entry_fits : (sections : List DescribedSection) (n j : ℕ) (entry : Option (ℕ × ℕ)) → AllByRecursion (SectionHolds n j) sections → length sections < 2 ^ 15 → EntryHolds (totals_of sections) entry → EntryFits entry
 entry_fits sections n j None each few holds = (omega arith, omega arith)
 entry_fits sections n j (Some entry) each few holds =
     (omega (arith, holds.there, length-map sections (λ (section : DescribedSection). section.header.total)), omega (arith, holds.inside, totals_small n j sections entry.0 each))
@@ -43,26 +47,22 @@ entry_fits sections n j (Some entry) each few holds =
 options_small : (options : ℕ) → is_options options ≡ true → options < 2 ^ 8
 options_small options is = grind (arith, nat_tests)
 
-libraries_fit : (imports : List DescribedImport) (k : ℕ) (libraries : List DescribedLibrary) → length imports ≤ 65536 → AllByRecursion LibraryHolds libraries → All LibraryFits (libraries_from imports k libraries)
+libraries_fit : (imports : List DescribedImport) (k : ℕ) (libraries : List DescribedLibrary) → length imports < 2 ^ 32 → AllByRecursion LibraryHolds libraries → All LibraryFits (libraries_from imports k libraries)
 libraries_fit imports k [] few each = λ i d under. absurd (omega arith)
 libraries_fit imports k (l ∷ libraries) few each =
     let holds = each.0 in
-    All-cons LibraryFits (library_of imports k l) (libraries_from imports (k + 1) libraries) (record {
-      old_implementation = omega (arith, holds.old_imp);
+    All-cons LibraryFits (linked_library imports k l) (libraries_from imports (k + 1) libraries) (record {
+      old_imp = omega (arith, holds.old_imp);
       current = omega (arith, holds.current);
       count = omega (arith, count_by-le-length (λ (i : DescribedImport). i.library == k) imports);
       first = omega (arith, count_by-le-length (λ (i : DescribedImport). nat_lt i.library k) imports);
       options = options_small l.options holds.options;
     }) (libraries_fit imports (k + 1) libraries few each.1)
 
-class_small : (weak : Bool) (class : ℕ) → class ≤ 4 → class_byte weak class < 2 ^ 8
-class_small true class few = omega arith
-class_small false class few = omega arith
-
-imports_fit : (n : ℕ) (imports : List DescribedImport) → AllByRecursion (ImportHolds n) imports → All (λ (i : ImportEntry). i.class < 2 ^ 8) (map import_of imports)
+imports_fit : (n : ℕ) (imports : List DescribedImport) → AllByRecursion (ImportHolds n) imports → All (λ (i : Import). i.class < 16) (map linked_import imports)
 imports_fit n [] each = λ i d under. absurd (omega arith)
 imports_fit n (i ∷ imports) each =
-    All-cons (λ (i : ImportEntry). i.class < 2 ^ 8) (import_of i) (map import_of imports) (class_small i.weak i.class each.0.class) (imports_fit n imports each.1)
+    All-cons (λ (i : Import). i.class < 16) (linked_import i) (map linked_import imports) (omega (arith, each.0.class)) (imports_fit n imports each.1)
 
 -- the programs of at most 2^16 sections
 one_fits : (k : ℕ) (s : DescribedSection) (instrs : List Instr) (others : List ProgramEntry) → k < 2 ^ 16 → All ProgramFits others → All ProgramFits (program_of k s.fixups instrs ++ others)
@@ -79,12 +79,12 @@ programs_fit n k (s ∷ sections) [] few are = absurd are
 programs_fit n k (s ∷ sections) (instrs ∷ programs) few are =
     one_fits k s instrs (programs_from (k + 1) sections programs) (omega arith) (programs_fit n (k + 1) sections programs (omega arith) are.1)
 
--- how long programs are, and how many
+-- how long programs are, and how many: at most eight bytes a fixup
 program_size : (n m j k : ℕ) (s : DescribedSection) (instrs : List Instr) → SectionHolds m j s → IsProgramFor n s.fixups instrs
-    → (length (program_of k s.fixups instrs) ≤ 1) × (length (program_bytes (program_of k s.fixups instrs)) ≤ 2 ^ 17)
+    → (length (program_of k s.fixups instrs) ≤ 1) × (length (program_bytes (program_of k s.fixups instrs)) ≤ 8 * most_fixups)
 program_size n m j k s instrs holds is = by s.fixups
   where
-    by : (fixups : List Fixup) → (length (program_of k fixups instrs) ≤ 1) × (length (program_bytes (program_of k fixups instrs)) ≤ 2 ^ 17)
+    by : (fixups : List Fixup) → (length (program_of k fixups instrs) ≤ 1) × (length (program_bytes (program_of k fixups instrs)) ≤ 8 * most_fixups)
     by [] = (omega arith, omega arith)
     by (f ∷ fixups) = (omega arith, omega (arith, ap length (append-nil (spelled instrs)), short_program n m j s instrs holds is))
 
@@ -92,7 +92,7 @@ program_bytes-append : (xs ys : List ProgramEntry) → program_bytes (xs ++ ys) 
 program_bytes-append xs ys = flat_map-append (λ (p : ProgramEntry). p.bytes) xs ys
 
 programs_size : (n m j k : ℕ) (sections : List DescribedSection) (programs : List (List Instr)) → AllByRecursion (SectionHolds m j) sections → AreProgramsFor n sections programs
-    → (length (programs_from k sections programs) ≤ length sections) × (length (program_bytes (programs_from k sections programs)) ≤ 2 ^ 17 * length sections)
+    → (length (programs_from k sections programs) ≤ length sections) × (length (program_bytes (programs_from k sections programs)) ≤ 8 * most_fixups * length sections)
 programs_size n m j k [] [] each are = (omega arith, omega arith)
 programs_size n m j k [] (instrs ∷ programs) each are = absurd are
 programs_size n m j k (s ∷ sections) [] each are = absurd are
@@ -105,39 +105,33 @@ programs_size n m j k (s ∷ sections) (instrs ∷ programs) each are =
       omega (arith, here.1, later.1, ap length (program_bytes-append first others), length-append (program_bytes first) (program_bytes others)),
     )
 
--- an export is in one of few sections
-section_small : (totals : List ℕ) (section : ℤ) (value : ℕ) → length totals ≤ 8 → SignedPlaceHolds totals section value → cast_unsigned w16 section < 2 ^ 16
-section_small totals (pos k) value few holds = omega (arith, holds.there)
-section_small totals (negsuc k) value few holds = absurd holds
-
--- .. whose number is the same in 16 bits as in 32
-pub section-cast : (totals : List ℕ) (section : ℤ) (value : ℕ) → length totals ≤ 8 → SignedPlaceHolds totals section value → cast_signed w16 (cast_unsigned w16 (cast_signed w32 (cast_unsigned w32 section))) ≡ section
-section-cast totals (pos k) value few holds =
-    ap (λ z. cast_signed w16 (cast_unsigned w16 z)) (to_z-of_z w32 (pos k) (omega (arith, holds.there))) ∙ to_z-of_z w16 (pos k) (omega (arith, holds.there))
-section-cast totals (negsuc k) value few holds = absurd holds
-
-value_small : (totals : List ℕ) (section : ℤ) (value : ℕ) → ((k : ℕ) → get_or totals k 0 ≤ 2 ^ 24) → SignedPlaceHolds totals section value → value ≤ 2 ^ 24
+-- exports at places fit their fields, and have short names
+value_small : (totals : List ℕ) (section : ℤ) (value : ℕ) → ((k : ℕ) → get_or totals k 0 < 2 ^ 32) → SignedPlaceHolds totals section value → value < 2 ^ 32
 value_small totals (pos k) value small holds = omega (arith, holds.inside, small k)
 value_small totals (negsuc k) value small holds = absurd holds
 
-export_fits : (totals : List ℕ) (e : DescribedExport) → length totals ≤ 8 → ((k : ℕ) → get_or totals k 0 ≤ 2 ^ 24) → ExportHolds totals e → ExportFits (export_of e)
-export_fits totals e few small holds = record {
-  class = omega (arith, holds.class);
-  value = omega (arith, value_small totals e.section e.value small holds.place);
-  section = section_small totals e.section e.value few holds.place;
-}
+section_small : (totals : List ℕ) (section : ℤ) (value : ℕ) → length totals < 2 ^ 15 → SignedPlaceHolds totals section value → cast_unsigned w16 section < 2 ^ 16
+section_small totals (pos k) value few holds = omega (arith, holds.there)
+section_small totals (negsuc k) value few holds = absurd holds
 
-exports_fit : (totals : List ℕ) (exports : List DescribedExport) (order : List ℕ) → length totals ≤ 8 → ((k : ℕ) → get_or totals k 0 ≤ 2 ^ 24) → AllByRecursion (ExportHolds totals) exports → All (λ e. e < length exports) order → All ExportFits (exports_at exports order)
+exports_fit : (totals : List ℕ) (exports : List DescribedExport) (order : List ℕ) → length totals < 2 ^ 15 → ((k : ℕ) → get_or totals k 0 < 2 ^ 32) → AllByRecursion (ExportHolds totals) exports → All (λ e. e < length exports) order → All ExportFits (exports_at exports order)
 exports_fit totals exports order few small each below =
-    All-map ExportFits (λ e. export_of (get_or exports e no_export)) order
-    (λ k d under. let e = get_or order k d in
-    export_fits totals (get_or exports e no_export) few small (all-at (ExportHolds totals) exports e no_export each (below k d under)))
+    All-map ExportFits (λ e. linked_export (get_or exports e no_export)) order
+    (λ k d under. let e = get_or exports (get_or order k d) no_export in
+    let holds = all-at (ExportHolds totals) exports (get_or order k d) no_export each (below k d under) in
+    record { class = omega (arith, holds.class); value = value_small totals e.section e.value small holds.place; section = section_small totals e.section e.value few holds.place })
 
--- the names of a script are short
 names_short : (totals : List ℕ) (exports : List DescribedExport) → AllByRecursion (ExportHolds totals) exports → All (λ name. length name ≤ 255) (map (λ symbol. symbol.name) exports)
 names_short totals [] each = λ k d under. absurd (omega arith)
 names_short totals (e ∷ exports) each =
     All-cons (λ (name : List ℕ). length name ≤ 255) e.name (map (λ symbol. symbol.name) exports) each.0.name.most (names_short totals exports each.1)
+
+export_names-size : (totals : List ℕ) (exports : List DescribedExport) (order : List ℕ) → AllByRecursion (ExportHolds totals) exports → All (λ e. e < length exports) order
+    → length (flat_map (λ e. e.name) (exports_at exports order)) ≤ length order * 255
+export_names-size totals exports order each below =
+    let short = All-map (λ (e : Export). length e.name ≤ 255) (λ e. linked_export (get_or exports e no_export)) order
+    (λ k d under. (all-at (ExportHolds totals) exports (get_or order k d) no_export each (below k d under)).name.most) in
+    omega (arith, length-flat_map (λ (e : Export). e.name) (exports_at exports order), sum_by-le (λ (e : Export). length e.name) 255 (exports_at exports order) short, length-map order (λ e. linked_export (get_or exports e no_export)))
 
 -- the names in the string table are those of the script
 
@@ -145,7 +139,7 @@ pub library_names-are : (imports : List DescribedImport) (k : ℕ) (libraries : 
 library_names-are imports k [] = refl
 library_names-are imports k (l ∷ libraries) = ap (λ names. l.name ∷ names) (library_names-are imports (k + 1) libraries)
 
-pub import_names-are : (imports : List DescribedImport) → map (λ i. i.name) (map import_of imports) ≡ map (λ symbol. symbol.name) imports
+pub import_names-are : (imports : List DescribedImport) → map (λ i. i.name) (map linked_import imports) ≡ map (λ symbol. symbol.name) imports
 import_names-are [] = refl
 import_names-are (i ∷ imports) = ap (λ names. i.name ∷ names) (import_names-are imports)
 
@@ -154,80 +148,68 @@ length-zero_ended [] = refl
 length-zero_ended (name ∷ names) =
     omega (arith, length-append (name ++ 0 ∷ []) (zero_ended names), length-append name (0 ∷ []), sum_by-cons (λ (n : List ℕ). length n + 1) name names, length-zero_ended names)
 
-export_names-size : (totals : List ℕ) (exports : List DescribedExport) (order : List ℕ) → AllByRecursion (ExportHolds totals) exports → All (λ e. e < length exports) order
-    → length (flat_map (λ e. e.name) (exports_at exports order)) ≤ length order * 255
-export_names-size totals exports order each below =
-    let short = All-map (λ (e : ExportEntry). length e.name ≤ 255) (λ e. export_of (get_or exports e no_export)) order
-    (λ k d under. (all-at (ExportHolds totals) exports (get_or order k d) no_export each (below k d under)).name.most) in
-    omega (arith, length-flat_map (λ (e : ExportEntry). e.name) (exports_at exports order), sum_by-le (λ (e : ExportEntry). length e.name) 255 (exports_at exports order) short, length-map order (λ e. export_of (get_or exports e no_export)))
-
 -- as many libraries as in the script
-length-libraries : (imports : List DescribedImport) (k : ℕ) (libraries : List DescribedLibrary) → length (libraries_from imports k libraries) ≡ length libraries
+pub length-libraries : (imports : List DescribedImport) (k : ℕ) (libraries : List DescribedLibrary) → length (libraries_from imports k libraries) ≡ length libraries
 length-libraries imports k [] = refl
 length-libraries imports k (l ∷ libraries) = ap suc (length-libraries imports (k + 1) libraries)
 
--- few and short tables
-record AreFew (t : LoaderTables) : Type 0 where
-  libraries : length t.libraries ≤ 4096
-  imports : length t.imports ≤ 65536
-  programs : length t.programs ≤ 8
-  bytes : length (program_bytes t.programs) ≤ 2 ^ 20
-  slots : length t.slots ≤ 2 ^ 16
-  keys : length t.keys ≤ 16383
-  exports : length t.exports ≤ 16383
-  own_names : length (zero_ended (map (λ l. l.name) t.libraries)) + length (zero_ended (map (λ i. i.name) t.imports)) ≤ 8388608
-  export_names : length (flat_map (λ e. e.name) t.exports) ≤ 4177665
-
--- the length of three lists
-three_lists : (a b c : List ℕ) (n m : ℕ) → length a + length b ≤ n → length c ≤ m → length ((a ++ b) ++ c) ≤ n + m
-three_lists a b c n m first last = omega (arith, length-append (a ++ b) c, length-append a b)
-
-strings_small : (t : LoaderTables) → AreFew t → length (strings_of t) ≤ 12566273
-strings_small t few =
-    three_lists (zero_ended (map (λ l. l.name) t.libraries)) (zero_ended (map (λ i. i.name) t.imports)) (flat_map (λ e. e.name) t.exports) 8388608 4177665 few.own_names few.export_names
-
-loader_small : (t : LoaderTables) → AreFew t → length (written_loader t) < 2 ^ 31
-loader_small t few =
-    omega (arith, length-written_loader t, length-table_fields t, strings_small t few, few.libraries, few.imports, few.programs, few.bytes, few.slots, few.keys, few.exports)
+-- .. and as many exports
+pub length-exports : (s : DescribedScript) → length (exports_at s.exports (built (export_names s)).order) ≡ length s.exports
+length-exports s =
+    let order = (built (export_names s)).order in
+    length-map order (λ e. linked_export (get_or s.exports e no_export)) ∙ length-order (export_names s) ∙ length-map s.exports (λ (symbol : DescribedExport). symbol.name)
 
 power_at_most : (power : ℕ) → power ≤ 16 → 2 ^ power ≤ 2 ^ 16
 power_at_most power small = pow-le-pow_right {n = 2} (omega arith) small
 
-names_small : (s : DescribedScript) → ScriptHolds s → length (zero_ended (map (λ l. l.name) (libraries_from s.imports 0 s.libraries))) + length (zero_ended (map (λ i. i.name) (map import_of s.imports))) ≤ 8388608
-names_small s holds =
-    let libraries = ap (λ names. length (zero_ended names)) (library_names-are s.imports 0 s.libraries) ∙ length-zero_ended (map (λ library. library.name) s.libraries) in
-    let imports = ap (λ names. length (zero_ended names)) (import_names-are s.imports) ∙ length-zero_ended (map (λ symbol. symbol.name) s.imports) in
-    omega (arith, libraries, imports, holds.names)
+three_lists : (a b c : List ℕ) → length ((a ++ b) ++ c) ≡ length a + length b + length c
+three_lists a b c = omega (arith, length-append (a ++ b) c, length-append a b)
 
-are_few : (s : DescribedScript) (programs : List ProgramEntry) → ScriptHolds s → length programs ≤ 8 → length (program_bytes programs) ≤ 2 ^ 20 → AreFew (script_tables s programs)
+-- how long the strings and the loader section are
+pub record SizesOf (t : LoaderTables) : Type 0 where
+  pub strings : length (strings_of t) < 2 ^ 24
+  pub loader : length (written_loader t) < 2 ^ 31
+
+table_sizes : (s : DescribedScript) (programs : List ProgramEntry) → ScriptHolds s → length programs ≤ length s.sections → length (program_bytes programs) ≤ 8 * most_fixups * length s.sections → SizesOf (script_tables s programs)
 unfolding script_tables
-are_few s programs holds few short =
+table_sizes s programs holds few short =
+    let t = script_tables s programs in
     let names = export_names s in
     let count : length names ≡ length s.exports = length-map s.exports (λ (symbol : DescribedExport). symbol.name) in
     let order = (built names).order in
-    let exports = length-map order (λ e. export_of (get_or s.exports e no_export)) in
+    let libraries = ap (λ names. length (zero_ended names)) (library_names-are s.imports 0 s.libraries) ∙ length-zero_ended (map (λ library. library.name) s.libraries) in
+    let imports = ap (λ names. length (zero_ended names)) (import_names-are s.imports) ∙ length-zero_ended (map (λ symbol. symbol.name) s.imports) in
+    let exports = export_names-size (totals_of s.sections) s.exports order holds.exports.each (order_below s) in
+    let all = three_lists (zero_ended (map (λ l. l.name) t.libraries)) (zero_ended (map (λ i. i.name) t.imports)) (flat_map (λ (e : Export). e.name) t.exports) in
+    let strings : length (strings_of t) < 2 ^ 24 = omega (arith, all, libraries, imports, exports, holds.names, holds.exports.count, length-order names, count) in
     record {
-      libraries = omega (arith, length-libraries s.imports 0 s.libraries, holds.libraries.count);
-      imports = omega (arith, length-map s.imports import_of, holds.imports.count);
-      programs = few;
-      bytes = short;
-      slots = omega (arith, length-slots names, power_at_most (built names).power (power_small names));
-      keys = omega (arith, length-keys names, count, holds.exports.count);
-      exports = omega (arith, exports, length-order names, count, holds.exports.count);
-      own_names = names_small s holds;
-      export_names = omega (arith, export_names-size (totals_of s.sections) s.exports order holds.exports.each (order_below s), length-order names, count, holds.exports.count);
+      strings = strings;
+      loader = omega (
+        arith,
+        strings,
+        few,
+        short,
+        holds.sections.count,
+        holds.libraries.count,
+        holds.imports.count,
+        holds.exports.count,
+        count,
+        length-written_loader t,
+        length-table_fields t,
+        length-libraries s.imports 0 s.libraries,
+        length-map s.imports linked_import,
+        length-slots names,
+        power_at_most (built names).power (power_small names),
+        length-keys names,
+        length-exports s,
+      );
     }
 
--- .. and with programs for its sections
-pub record SizesOf (s : DescribedScript) (programs : List (List Instr)) : Type 0 where
-  pub strings : length (strings_of (linked_tables s programs)) < 2 ^ 24
-  pub loader : length (written_loader (linked_tables s programs)) < 2 ^ 31
-
-pub sizes_of : (s : DescribedScript) (programs : List (List Instr)) → ScriptHolds s → AreProgramsFor (length s.sections) s.sections programs → SizesOf s programs
+-- .. with programs for the sections
+pub sizes_of : (s : DescribedScript) (programs : List (List Instr)) → ScriptHolds s → AreProgramsFor (length s.sections) s.sections programs → SizesOf (linked_tables s programs)
 sizes_of s programs holds are =
     let sizes = programs_size (length s.sections) (length s.sections) (length s.imports) 0 s.sections programs holds.sections.each are in
-    let few = are_few s (programs_from 0 s.sections programs) holds (omega (arith, sizes.0, holds.sections.count)) (omega (arith, sizes.1, holds.sections.count)) in
-    record { strings = omega (arith, strings_small (linked_tables s programs) few); loader = loader_small (linked_tables s programs) few }
+    table_sizes s (programs_from 0 s.sections programs) holds sizes.0 sizes.1
 
 pub tables_fit : (s : DescribedScript) (programs : List (List Instr)) → ScriptHolds s → AreProgramsFor (length s.sections) s.sections programs → TablesFit (linked_tables s programs)
 unfolding script_tables
@@ -235,20 +217,19 @@ tables_fit s programs holds are =
     let sections = holds.sections in
     let names = export_names s in
     let count : length names ≡ length s.exports = length-map s.exports (λ (symbol : DescribedExport). symbol.name) in
-    let few : length (totals_of s.sections) ≤ 8 = omega (arith, length-map s.sections (λ (section : DescribedSection). section.header.total), sections.count) in
-    let small : (k : ℕ) → get_or (totals_of s.sections) k 0 ≤ 2 ^ 24 = λ k. totals_small (length s.sections) (length s.imports) s.sections k sections.each in
+    let few : length s.sections < 2 ^ 15 = omega (arith, sections.count) in
     let sizes = sizes_of s programs holds are in
     record {
-      main = entry_fits s.sections (length s.sections) (length s.imports) s.main sections.each sections.count holds.main;
-      init = entry_fits s.sections (length s.sections) (length s.imports) s.init sections.each sections.count holds.init;
-      term = entry_fits s.sections (length s.sections) (length s.imports) s.term sections.each sections.count holds.term;
-      libraries = libraries_fit s.imports 0 s.libraries holds.imports.count holds.libraries.each;
+      main = entry_fits s.sections (length s.sections) (length s.imports) s.main sections.each few holds.main;
+      init = entry_fits s.sections (length s.sections) (length s.imports) s.init sections.each few holds.init;
+      term = entry_fits s.sections (length s.sections) (length s.imports) s.term sections.each few holds.term;
+      libraries = libraries_fit s.imports 0 s.libraries (omega (arith, holds.imports.count)) holds.libraries.each;
       imports = imports_fit (length s.libraries) s.imports holds.imports.each;
-      programs = programs_fit (length s.sections) 0 s.sections programs (omega (arith, sections.count)) are;
+      programs = programs_fit (length s.sections) 0 s.sections programs (omega (arith, few)) are;
       power = omega (arith, power_small names);
       slots = slots_small names (omega (arith, count, holds.exports.count));
       keys = keys_small names (names_short (totals_of s.sections) s.exports holds.exports.each);
-      exports = exports_fit (totals_of s.sections) s.exports (built names).order few small holds.exports.each (order_below s);
+      exports = exports_fit (totals_of s.sections) s.exports (built names).order (omega (arith, few, length-map s.sections (λ (section : DescribedSection). section.header.total))) (λ k. totals_small (length s.sections) (length s.imports) s.sections k sections.each) holds.exports.each (order_below s);
       strings = sizes.strings;
       size = omega (arith, sizes.loader);
     }
@@ -265,7 +246,7 @@ part_writable : (n j : ℕ) (s : DescribedSection) → SectionHolds n j s → Is
 part_writable n j s holds = record {
   kind = kind_instantiable s.header.kind holds.kind;
   share = share_small s.header.share holds.share;
-  alignment = omega (arith, holds.align);
+  align = omega (arith, holds.align);
   total = omega (arith, holds.total);
   image = holds.image;
 }
@@ -275,12 +256,13 @@ parts_writable n j [] each = λ k d under. absurd (omega arith)
 parts_writable n j (s ∷ sections) each =
     All-cons IsWritable (part_of s) (map part_of sections) (part_writable n j s each.0) (parts_writable n j sections each.1)
 
-images_small : (n j : ℕ) (sections : List DescribedSection) → AllByRecursion (SectionHolds n j) sections → All (λ (p : DescribedPart). length p.image ≤ 2 ^ 24) (map part_of sections)
+-- an image is no longer than fixups reach
+images_small : (n j : ℕ) (sections : List DescribedSection) → AllByRecursion (SectionHolds n j) sections → All (λ (p : DescribedPart). length p.image ≤ offset_limit) (map part_of sections)
 images_small n j [] each = λ k d under. absurd (omega arith)
 images_small n j (s ∷ sections) each =
-    All-cons (λ (p : DescribedPart). length p.image ≤ 2 ^ 24) (part_of s) (map part_of sections) (omega (arith, each.0.image, each.0.total)) (images_small n j sections each.1)
+    All-cons (λ (p : DescribedPart). length p.image ≤ offset_limit) (part_of s) (map part_of sections) (omega (arith, each.0.image, each.0.total)) (images_small n j sections each.1)
 
-pub parts_fit : (s : DescribedScript) (programs : List (List Instr)) → ScriptHolds s → AreProgramsFor (length s.sections) s.sections programs → AreWritable (versions_of s) (linked_parts s) (linked_loader s programs)
+pub parts_fit : (s : DescribedScript) (programs : List (List Instr)) → ScriptHolds s → AreProgramsFor (length s.sections) s.sections programs → AreWritable s.versions (linked_parts s) (linked_loader s programs)
 unfolding linked_loader
 parts_fit s programs holds are =
     let n = length s.sections in
@@ -288,9 +270,9 @@ parts_fit s programs holds are =
     let count : length (linked_parts s) ≡ n = length-map s.sections part_of in
     record {
       current = omega (arith, holds.versions.current);
-      old_definition = omega (arith, holds.versions.old_def);
-      old_implementation = omega (arith, holds.versions.old_imp);
+      old_def = omega (arith, holds.versions.old_def);
+      old_imp = omega (arith, holds.versions.old_imp);
       count = omega (arith, count, holds.sections.count);
       each = parts_writable n j s.sections holds.sections.each;
-      size = container_size (versions_of s) (linked_parts s) (linked_loader s programs) (omega (arith, count, holds.sections.count)) (images_small n j s.sections holds.sections.each) (sizes_of s programs holds are).loader;
+      size = container_size s.versions (linked_parts s) (linked_loader s programs) (omega (arith, count, holds.sections.count)) (images_small n j s.sections holds.sections.each) (sizes_of s programs holds are).loader;
     }

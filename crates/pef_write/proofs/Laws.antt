@@ -1,8 +1,13 @@
--- What this crate offers to the proofs of others: facts of written containers, as `specs/` defines them.
+-- What this crate offers to the proofs of others: facts of linked containers, as `specs/` defines them.
 
--- a linked container is read back, with sound tables, and each section as the script's
-pub use Rattle.pef_write.proofs.LinkedLaws.{are_sound, read_back, section_is}
--- written tables are a loader section
-pub use Rattle.pef_write.proofs.Reading.{tables_loaded}
--- its entries and relocation programs are read back
-pub use Rattle.pef_write.proofs.ReadingEach.{init_back, main_back, term_back, relocs_back}
+-- what is linked is read back: its container and its loader section are the script's
+pub use Rattle.pef_write.proofs.LinkedLaws.{is_read_back}
+-- each of its relocation programs relocates its section, and isn't refused
+pub use Rattle.pef_write.proofs.LinkedPrograms.{relocates, section_programs}
+-- its export table is the one that is built of the names of the exports
+pub use Rattle.pef_write.proofs.LinkedLaws.{spells}
+-- a script's container with programs is read back, and each section is the script's
+pub use Rattle.pef_write.proofs.LinkedLaws.{read_back, section_is}
+-- its tables are a loader section's; such tables are read back, with entries and relocation programs
+pub use Rattle.pef_write.proofs.LinkedTables.{are_sound}
+pub use Rattle.pef_write.proofs.TablesRead.{tables_loaded, init_back, main_back, term_back, relocs_back}

@@ -1,28 +1,34 @@
--- What is true of the tables of a script: their names end before a zero byte, each import is a library's,
+-- What is true of the tables of a script: names end before a zero byte, each import is of its own library,
 -- and the export table has its keys.
-use Rattle.std.proofs.Common.{◌≡◌, ◌≢◌, ◌∙◌, ℕ, suc, zero, ℤ, pos, negsuc, ◌+◌, ◌/◌, ◌^◌, ◌<◌, ◌≤◌, true, false, List, [], ◌∷◌, ◌++◌, Option, None, Some, length, map, get_or, slice_get, refl, ap, subst, arith}
+use Rattle.std.proofs.Common.{◌≡◌, ◌≢◌, ◌∙◌, ℕ, suc, zero, ℤ, pos, negsuc, ◌+◌, ◌/◌, ◌^◌, ◌<◌, ◌≤◌, true, List, [], ◌∷◌, ◌++◌, Option, None, Some, length, map, get_or, slice_get, ap, arith}
 use Rattle.std.specs.Prelude.{IfSome, nat_lt}
-use Rattle.std.specs.Int.{w16, cast_unsigned}
-use Rattle.std.specs.List.{All, AllByRecursion, AllZip, list_all}
+use Rattle.std.specs.List.{All, AllByRecursion, AllZip, list_all, position_from}
+use Rattle.std.proofs.lemmas.Bool.{le-leb, le-ltb, lt-ltb}
+use Rattle.std.proofs.lemmas.Iterator.Adapters.{position_from-zero}
 use Rattle.std.proofs.lemmas.List.{get_or-map, length-map}
 use Rattle.std.proofs.lemmas.List.Elements.{All-cons, All-map}
 use Rattle.std.proofs.lemmas.List.Sums.{count_by-le-length}
 use Rattle.pef_hash.specs.Build.{built, keys_at}
 use Rattle.pef_hash.specs.Word.{hash_word}
+use Rattle.pef_loader.specs.Export.{Export}
+use Rattle.pef_loader.specs.Import.{Import}
+use Rattle.pef_loader.specs.Library.{Library}
 use Rattle.pef_reloc.specs.declared.fixup.Fixup.{Fixup}
 use Rattle.pef_reloc.specs.declared.instr.Instr.{Instr}
 use Rattle.pef_reloc.specs.Instrs.{spelled}
-use Rattle.pef_words.proofs.Laws.Tests.{met_both}
 use Rattle.pef_script.specs.Script.{DescribedExport, DescribedImport, DescribedLibrary, DescribedScript, DescribedSection}
 use Rattle.pef_script.specs.State.{export_names}
 use Rattle.pef_script.specs.Words.{is_printing}
-use Rattle.pef_script.specs.WellFormed.{EntryHolds, ExportHolds, ImportHolds, LibraryHolds, Rises, SignedPlaceHolds, totals_of}
-use Rattle.pef_words.proofs.Laws.Lists.{all-at}
-use Rattle.pef_write.specs.Reading.{IsOwned}
-use Rattle.pef_write.specs.Linked.{AreProgramsFor, export_of, exports_at, import_of, libraries_from, library_of, no_export, program_of, programs_from}
-use Rattle.pef_write.specs.Loaders.{ExportEntry, ImportEntry, LibraryEntry, ProgramEntry}
-use Rattle.pef_write.proofs.Counts.{before-next, counted-here, counted-past}
-use Rattle.pef_write.proofs.ExportNames.{order_below}
+use Rattle.pef_script.specs.WellFormed.{EntryHolds, ExportHolds, ImportHolds, LibraryHolds, Rises, ScriptHolds, SignedPlaceHolds, totals_of}
+use Rattle.pef_words.proofs.Laws.Lists.{all-at, all-get}
+use Rattle.pef_words.proofs.Laws.Tests.{met_both}
+use Rattle.pef_write.specs.Linked.{AreProgramsFor, exports_at, libraries_from, linked_export, linked_import, linked_library, linked_tables, no_export, program_of, programs_from, script_tables}
+use Rattle.pef_write.specs.Loaders.{ProgramEntry}
+use Rattle.pef_write.specs.Kept.Tables.{AreTables, IsBelow, first_owner, has_import}
+use Rattle.pef_write.proofs.Counts.{before-next, counted-found, past-found}
+use Rattle.pef_write.proofs.ExportNames.{length-slots, order_below, power_small}
+use Rattle.pef_write.proofs.Fitting.{tables_fit}
+use Rattle.pef_write.proofs.Listing.{gotten}
 
 -- a name has no zero byte
 no_zero : (name : List ℕ) → list_all is_printing name ≡ true → All (λ b. b ≢ 0) name
@@ -35,69 +41,54 @@ no_zero (b ∷ name) printing =
     printing_some zero printing = absurd (cc)
     printing_some (suc b) printing = λ is. absurd (omega arith)
 
-pub library_names-end : (imports : List DescribedImport) (k : ℕ) (libraries : List DescribedLibrary) → AllByRecursion LibraryHolds libraries → All (λ (l : LibraryEntry). All (λ b. b ≢ 0) l.name) (libraries_from imports k libraries)
+library_names-end : (imports : List DescribedImport) (k : ℕ) (libraries : List DescribedLibrary) → AllByRecursion LibraryHolds libraries → All (λ (l : Library). All (λ b. b ≢ 0) l.name) (libraries_from imports k libraries)
 library_names-end imports k [] each = λ i d under. absurd (omega arith)
 library_names-end imports k (l ∷ libraries) each =
-    All-cons (λ (l : LibraryEntry). All (λ b. b ≢ 0) l.name) (library_of imports k l) (libraries_from imports (k + 1) libraries) (no_zero l.name each.0.name.bytes) (library_names-end imports (k + 1) libraries each.1)
+    All-cons (λ (l : Library). All (λ b. b ≢ 0) l.name) (linked_library imports k l) (libraries_from imports (k + 1) libraries) (no_zero l.name each.0.name.bytes) (library_names-end imports (k + 1) libraries each.1)
 
-pub import_names-end : (n : ℕ) (imports : List DescribedImport) → AllByRecursion (ImportHolds n) imports → All (λ (i : ImportEntry). All (λ b. b ≢ 0) i.name) (map import_of imports)
+import_names-end : (n : ℕ) (imports : List DescribedImport) → AllByRecursion (ImportHolds n) imports → All (λ (i : Import). All (λ b. b ≢ 0) i.name) (map linked_import imports)
 import_names-end n [] each = λ i d under. absurd (omega arith)
 import_names-end n (i ∷ imports) each =
-    All-cons (λ (i : ImportEntry). All (λ b. b ≢ 0) i.name) (import_of i) (map import_of imports) (no_zero i.name each.0.name.bytes) (import_names-end n imports each.1)
+    All-cons (λ (i : Import). All (λ b. b ≢ 0) i.name) (linked_import i) (map linked_import imports) (no_zero i.name each.0.name.bytes) (import_names-end n imports each.1)
 
 -- a library's imports are there
-pub ranges_inside : (imports : List DescribedImport) (k : ℕ) (libraries : List DescribedLibrary) → All (λ (l : LibraryEntry). l.first + l.count ≤ length imports) (libraries_from imports k libraries)
+ranges_inside : (imports : List DescribedImport) (k : ℕ) (libraries : List DescribedLibrary) → All (λ (l : Library). l.first + l.count ≤ length imports) (libraries_from imports k libraries)
 ranges_inside imports k [] = λ i d under. absurd (omega arith)
 ranges_inside imports k (l ∷ libraries) =
-    All-cons (λ (l : LibraryEntry). l.first + l.count ≤ length imports) (library_of imports k l) (libraries_from imports (k + 1) libraries)
+    All-cons (λ (l : Library). l.first + l.count ≤ length imports) (linked_library imports k l) (libraries_from imports (k + 1) libraries)
     (omega (arith, before-next k imports, count_by-le-length (λ (i : DescribedImport). nat_lt i.library (k + 1)) imports)) (ranges_inside imports (k + 1) libraries)
 
--- library i, where libraries are numbered from a number on
-library_there : (imports : List DescribedImport) (k : ℕ) (libraries : List DescribedLibrary) (i : ℕ) (d : DescribedLibrary) → i < length libraries → slice_get (libraries_from imports k libraries) i ≡ Some (library_of imports (k + i) (get_or libraries i d))
-library_there imports k [] i d under = absurd (omega arith)
-library_there imports k (l ∷ libraries) zero d under = let e : k + 0 ≡ k = omega arith in rw e refl
-library_there imports k (l ∷ libraries) (suc i) d under =
-    let e : k + suc i ≡ k + 1 + i = omega arith in
-    rw e (library_there imports (k + 1) libraries i d (omega arith))
+-- imports stand library by library, so the first library that has an import is its own
+owner-from : (imports : List DescribedImport) (k at : ℕ) (libraries : List DescribedLibrary) (i j : ℕ) (x : DescribedImport) → Rises (map (λ symbol. symbol.library) imports) → slice_get imports j ≡ Some x → x.library ≡ k + i → i < length libraries
+    → position_from (has_import j) at (libraries_from imports k libraries) ≡ Some (at + i)
+owner-from imports k at [] i j x rises there own under = absurd (omega arith)
+owner-from imports k at (l ∷ libraries) zero j x rises there own under =
+    let low = past-found k imports j x rises there (omega (arith, own)) in
+    let high = counted-found (k + 1) imports j x rises there (omega (arith, own)) in
+    let e : at ≡ at + 0 = omega arith in
+    let own_library = linked_library imports k l in
+    rw (le-leb own_library.first j low, lt-ltb j (own_library.first + own_library.count) (omega (arith, high, before-next k imports))) (ap Some e)
+owner-from imports k at (l ∷ libraries) (suc i) j x rises there own under =
+    let low = past-found k imports j x rises there (omega (arith, own)) in
+    let past = past-found (k + 1) imports j x rises there (omega (arith, own)) in
+    let other = linked_library imports k l in
+    let e : at + 1 + i ≡ at + suc i = omega arith in
+    rw (le-leb other.first j low, le-ltb j (other.first + other.count) (omega (arith, past, before-next k imports)))
+    (owner-from imports (k + 1) (at + 1) libraries i j x rises there (omega (arith, own)) (omega (arith, under)) ∙ ap Some e)
 
--- what stands past the last
-abbrev no_import : DescribedImport
-no_import = record { name = []; class = 0; weak = false; library = 0 }
-
-abbrev no_library : DescribedLibrary
-no_library = record { name = []; current = 0; old_imp = 0; options = 0 }
-
--- an import is one of the library's at a place
-pub record IsOwnedAt (libraries : List LibraryEntry) (at j : ℕ) : Type 0 where
-  pub library : LibraryEntry
-  pub there : slice_get libraries at ≡ Some library
-  pub low : library.first ≤ j
-  pub high : j < library.first + library.count
-
--- imports stand library by library, so each is one of its library's
-pub own_library : (imports : List DescribedImport) (libraries : List DescribedLibrary) (j : ℕ) (d : DescribedImport) → AllByRecursion (ImportHolds (length libraries)) imports → Rises (map (λ symbol. symbol.library) imports) → j < length imports
-    → IsOwnedAt (libraries_from imports 0 libraries) (get_or imports j d).library j
-own_library imports libraries j d each rises under =
-    let l = (get_or imports j d).library in
-    let inside = (all-at (ImportHolds (length libraries)) imports j d each under).library in
-    let same : 0 + l ≡ l = omega arith in
-    let low = counted-past l imports j d rises under (omega arith) in
-    let high = counted-here (l + 1) imports j d rises under (omega arith) in
-    record {
-      library = library_of imports l (get_or libraries l no_library);
-      there = subst (λ n. slice_get (libraries_from imports 0 libraries) l ≡ Some (library_of imports n (get_or libraries l no_library))) same (library_there imports 0 libraries l no_library inside);
-      low = low;
-      high = omega (arith, high, before-next l imports);
-    }
-
-pub has_owner : (imports : List DescribedImport) (libraries : List DescribedLibrary) (j : ℕ) → AllByRecursion (ImportHolds (length libraries)) imports → Rises (map (λ symbol. symbol.library) imports) → j < length imports → IsOwned (libraries_from imports 0 libraries) j
-has_owner imports libraries j each rises under =
-    let own = own_library imports libraries j no_import each rises under in
-    record { at = (get_or imports j no_import).library; library = own.library; there = own.there; low = own.low; high = own.high }
+own_library : (s : DescribedScript) (j : ℕ) (i : Import) → ScriptHolds s → slice_get (map linked_import s.imports) j ≡ Some i → first_owner (libraries_from s.imports 0 s.libraries) j ≡ Some i.library
+own_library s j i holds there =
+    let found = gotten linked_import s.imports j i there in
+    let x = found.0 in
+    let inside = (all-get (ImportHolds (length s.libraries)) s.imports j x holds.imports.each found.1).library in
+    let e : 0 + x.library ≡ x.library = omega arith in
+    position_from-zero (has_import j) (libraries_from s.imports 0 s.libraries)
+    ∙ owner-from s.imports 0 0 s.libraries x.library j x holds.imports.grouped found.1 (omega arith) inside
+    ∙ ap Some e ∙ ap (λ (y : Import). Some y.library) found.2
 
 -- entries, programs and exports are of sections that are there
 
-pub entry_there : (sections : List DescribedSection) (entry : Option (ℕ × ℕ)) → EntryHolds (totals_of sections) entry → IfSome entry (λ e. e.0 < length sections)
+entry_there : (sections : List DescribedSection) (entry : Option (ℕ × ℕ)) → EntryHolds (totals_of sections) entry → IfSome entry (λ e. e.0 < length sections)
 entry_there sections None holds = tt
 entry_there sections (Some entry) holds = omega (arith, holds.there, length-map sections (λ (section : DescribedSection). section.header.total))
 
@@ -108,22 +99,32 @@ one_there n k s instrs others low fit = by s.fixups
     by [] = fit
     by (f ∷ fixups) = All-cons (λ (p : ProgramEntry). p.section < n) (record { section = k; bytes = spelled instrs }) others low fit
 
-pub programs_there : (m n k : ℕ) (sections : List DescribedSection) (programs : List (List Instr)) → k + length sections ≤ n → AreProgramsFor m sections programs → All (λ (p : ProgramEntry). p.section < n) (programs_from k sections programs)
+programs_there : (m n k : ℕ) (sections : List DescribedSection) (programs : List (List Instr)) → k + length sections ≤ n → AreProgramsFor m sections programs → All (λ (p : ProgramEntry). p.section < n) (programs_from k sections programs)
 programs_there m n k [] [] few are = λ i d under. absurd (omega arith)
 programs_there m n k [] (instrs ∷ programs) few are = absurd are
 programs_there m n k (s ∷ sections) [] few are = absurd are
 programs_there m n k (s ∷ sections) (instrs ∷ programs) few are =
     one_there n k s instrs (programs_from (k + 1) sections programs) (omega arith) (programs_there m n (k + 1) sections programs (omega arith) are.1)
 
-export_there : (totals : List ℕ) (section : ℤ) (value : ℕ) → length totals ≤ 8 → SignedPlaceHolds totals section value → cast_unsigned w16 section < length totals
-export_there totals (pos k) value few holds = omega (arith, holds.there)
-export_there totals (negsuc k) value few holds = absurd holds
+export_there : (totals : List ℕ) (section : ℤ) (value : ℕ) → SignedPlaceHolds totals section value → IsBelow (length totals) section
+export_there totals (pos k) value holds = holds.there
+export_there totals (negsuc k) value holds = absurd holds
 
-pub exports_there : (totals : List ℕ) (exports : List DescribedExport) (order : List ℕ) → length totals ≤ 8 → AllByRecursion (ExportHolds totals) exports → All (λ e. e < length exports) order → All (λ (e : ExportEntry). e.section < length totals) (exports_at exports order)
-exports_there totals exports order few each below =
-    All-map (λ (e : ExportEntry). e.section < length totals) (λ e. export_of (get_or exports e no_export)) order
+-- .. whose number has few bits
+below_more : (n m : ℕ) (section : ℤ) → n ≤ m → IsBelow n section → IsBelow m section
+below_more n m (pos k) few below = omega (arith, few, below)
+below_more n m (negsuc k) few below = absurd below
+
+pub export_below : (s : DescribedScript) (e : ℕ) (x : DescribedExport) → ScriptHolds s → slice_get s.exports e ≡ Some x → IsBelow (2 ^ 15) x.section
+export_below s e x holds found =
+    let place = (all-get (ExportHolds (totals_of s.sections)) s.exports e x holds.exports.each found).place in
+    below_more (length (totals_of s.sections)) (2 ^ 15) x.section (omega (arith, length-map s.sections (λ (section : DescribedSection). section.header.total), holds.sections.count)) (export_there (totals_of s.sections) x.section x.value place)
+
+exports_there : (totals : List ℕ) (exports : List DescribedExport) (order : List ℕ) → AllByRecursion (ExportHolds totals) exports → All (λ e. e < length exports) order → All (λ (e : Export). IsBelow (length totals) e.section) (exports_at exports order)
+exports_there totals exports order each below =
+    All-map (λ (e : Export). IsBelow (length totals) e.section) (λ e. linked_export (get_or exports e no_export)) order
     (λ k d under. let e = get_or exports (get_or order k d) no_export in
-    export_there totals e.section e.value few (all-at (ExportHolds totals) exports (get_or order k d) no_export each (below k d under)).place)
+    export_there totals e.section e.value (all-at (ExportHolds totals) exports (get_or order k d) no_export each (below k d under)).place)
 
 -- a key has the length of its export's name
 
@@ -131,7 +132,7 @@ hash_length : (name : List ℕ) → hash_word name / 2 ^ 16 ≡ length name
 unfolding hash_word
 hash_length name = omega arith
 
-key_here : (exports : List DescribedExport) (i : ℕ) → i < length exports → get_or (map hash_word (map (λ symbol. symbol.name) exports)) i 0 / 2 ^ 16 ≡ length (export_of (get_or exports i no_export)).name
+key_here : (exports : List DescribedExport) (i : ℕ) → i < length exports → get_or (map hash_word (map (λ symbol. symbol.name) exports)) i 0 / 2 ^ 16 ≡ length (linked_export (get_or exports i no_export)).name
 key_here exports i under =
     let names = map (λ symbol. symbol.name) exports in
     let inside : i < length names = omega (arith, under, length-map exports (λ (symbol : DescribedExport). symbol.name)) in
@@ -140,12 +141,37 @@ key_here exports i under =
     ap (λ w. w / 2 ^ 16) word ∙ hash_length (get_or names i []) ∙ ap length name
 
 keys_at_places : (exports : List DescribedExport) (order : List ℕ) → All (λ e. e < length exports) order
-    → AllZip (λ key (e : ExportEntry). key / 2 ^ 16 ≡ length e.name) (map (λ i. get_or (map hash_word (map (λ symbol. symbol.name) exports)) i 0) order) (exports_at exports order)
+    → AllZip (λ key (e : Export). key / 2 ^ 16 ≡ length e.name) (map (λ i. get_or (map hash_word (map (λ symbol. symbol.name) exports)) i 0) order) (exports_at exports order)
 keys_at_places exports [] below = tt
 keys_at_places exports (i ∷ order) below =
     (key_here exports i (below 0 0 (omega arith)), keys_at_places exports order (λ k d under. below (suc k) d (omega arith)))
 
-pub keys_match : (s : DescribedScript) → AllZip (λ key (e : ExportEntry). key / 2 ^ 16 ≡ length e.name) (built (export_names s)).keys (exports_at s.exports (built (export_names s)).order)
+keys_match : (s : DescribedScript) → AllZip (λ key (e : Export). key / 2 ^ 16 ≡ length e.name) (built (export_names s)).keys (exports_at s.exports (built (export_names s)).order)
 unfolding built keys_at
 keys_match s =
     keys_at_places s.exports (built (export_names s)).order (order_below s)
+
+-- the tables of a script are a loader section's
+pub are_sound : (s : DescribedScript) (programs : List (List Instr)) → ScriptHolds s → AreProgramsFor (length s.sections) s.sections programs → AreTables (length s.sections) (linked_tables s programs)
+unfolding script_tables
+are_sound s programs holds are =
+    let names = export_names s in
+    let totals : length (totals_of s.sections) ≡ length s.sections = length-map s.sections (λ (section : DescribedSection). section.header.total) in
+    let imports : length (map linked_import s.imports) ≡ length s.imports = length-map s.imports linked_import in
+    let exports = exports_there (totals_of s.sections) s.exports (built names).order holds.exports.each (order_below s) in
+    record {
+      fit = tables_fit s programs holds are;
+      few = omega (arith, holds.sections.count);
+      main = entry_there s.sections s.main holds.main;
+      init = entry_there s.sections s.init holds.init;
+      term = entry_there s.sections s.term holds.term;
+      library_names = library_names-end s.imports 0 s.libraries holds.libraries.each;
+      import_names = import_names-end (length s.libraries) s.imports holds.imports.each;
+      ranges = rw imports (ranges_inside s.imports 0 s.libraries);
+      owned = λ j i there. own_library s j i holds there;
+      programs = programs_there (length s.sections) (length s.sections) 0 s.sections programs (omega arith) are;
+      power = omega (arith, power_small names);
+      slots = length-slots names;
+      keys = keys_match s;
+      exports = rw (← totals) exports;
+    }

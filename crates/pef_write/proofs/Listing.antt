@@ -1,6 +1,6 @@
 -- Lists that are made one element after the other.
 use Rattle.std.proofs.Common.{◌≡◌, ◌∙◌, ℕ, zero, suc, ◌+◌, ◌<◌, ◌≤◌, List, [], ◌∷◌, ◌++◌, Option, None, Some, option_map, slice_get, length, drop, get_or, map, length-append, append_assoc, append-nil, refl, subst, sym, ap, arith}
-use Rattle.std.specs.List.{All}
+use Rattle.std.specs.List.{All, AllZip}
 use Rattle.std.proofs.lemmas.List.{drop_more, drop_all, get_or-map, length-map, map-append}
 use Rattle.std.proofs.lemmas.Option.{get_or_from_slice_get, slice_get-map, slice_get_within}
 
@@ -63,3 +63,27 @@ all-seen P f xs all k d under =
 pub map-twice : {A B C : Type 0} (f : B → C) (g : A → B) (xs : List A) → map (λ x. f (g x)) xs ≡ map f (map g xs)
 map-twice f g [] = refl
 map-twice f g (x ∷ xs) = ap (λ ys. f (g x) ∷ ys) (map-twice f g xs)
+
+-- what is there in both of two lists at a place
+pub zip-at : {A B : Type 0} (R : A → B → Type 0) (xs : List A) (ys : List B) (i : ℕ) (y : B) → AllZip R xs ys → slice_get ys i ≡ Some y → (x : A) × (slice_get xs i ≡ Some x) × R x y
+zip-at R [] [] i y each there = absurd (cc)
+zip-at R [] (y' ∷ ys) i y each there = absurd each
+zip-at R (x ∷ xs) [] i y each there = absurd each
+zip-at {A} {B} R (x ∷ xs) (y' ∷ ys) zero y each there =
+    let same : y' ≡ y = cc in
+    let P : B → Type 0 = λ y. R x y in
+    (x, refl, subst P same each.0)
+zip-at R (x ∷ xs) (y' ∷ ys) (suc i) y each there = zip-at R xs ys i y each.1 there
+
+-- .. which are as long
+pub zip-length : {A B : Type 0} (R : A → B → Type 0) (xs : List A) (ys : List B) → AllZip R xs ys → length xs ≡ length ys
+zip-length R [] [] each = refl
+zip-length R [] (y ∷ ys) each = absurd each
+zip-length R (x ∷ xs) [] each = absurd each
+zip-length R (x ∷ xs) (y ∷ ys) each = ap suc (zip-length R xs ys each.1)
+
+-- what is found of a mapped list is that of an element
+pub gotten : {A B : Type 0} (f : A → B) (xs : List A) (n : ℕ) (y : B) → slice_get (map f xs) n ≡ Some y → (x : A) × (slice_get xs n ≡ Some x) × (f x ≡ y)
+gotten f [] n y there = absurd (cc)
+gotten f (x ∷ xs) zero y there = (x, refl, cc)
+gotten f (x ∷ xs) (suc n) y there = gotten f xs n y there

@@ -1,56 +1,26 @@
--- Lengths and steps of the tables of a loader section.
-use Rattle.std.proofs.Common.{◌≡◌, ◌∙◌, ℕ, ◌+◌, ◌*◌, ◌/◌, ◌<◌, ◌≤◌, List, [], ◌∷◌, ◌++◌, length, drop, get_or, map, length-append, append_assoc, refl, sym, ap, arith}
-use Rattle.std.proofs.lemmas.List.{drop_more, drop_all}
-use Rattle.pef_write.specs.declared.loader.SectionProgram.{SectionProgram}
-use Rattle.pef_write.specs.declared.field.Field.{Field}
-use Rattle.pef_write.specs.declared.field.Field.TheVariants.{Half, Word}
-use Rattle.pef_write.specs.Fields.{field_bytes, padded, spelled}
+-- How long the parts of a loader section are.
+use Rattle.std.proofs.Common.{◌≡◌, ◌∙◌, ℕ, ◌+◌, ◌*◌, List, [], ◌∷◌, ◌++◌, length, map, length-append, refl, ap, arith}
 use Rattle.std.specs.Int.{next_multiple_of}
-use Rattle.pef_write.specs.Loaders.{ExportEntry, ImportEntry, LibraryEntry, LoaderTables, ProgramEntry, export_fields, export_names_from, exports_from, front_fields, header_fields, import_fields, import_names_from, library_fields, program_bytes, program_fields, program_tables, programs_from, strings_from, strings_of, table_fields, written_loader}
-use Rattle.pef_write.specs.Described.{program_entry}
-use Rattle.pef_write.proofs.Fields.{length-padded}
+use Rattle.pef_loader.specs.Export.{Export}
+use Rattle.pef_loader.specs.Import.{Import}
+use Rattle.pef_loader.specs.Library.{Library}
+use Rattle.pef_write.specs.declared.field.Field.TheVariants.{Word}
+use Rattle.pef_write.specs.Fields.{padded, spelled}
+use Rattle.pef_write.specs.Loaders.{LoaderTables, ProgramEntry, entry_fields, export_fields, export_names_from, exports_from, front_fields, header_fields, import_fields, import_names_from, library_fields, program_bytes, program_fields, programs_from, strings_from, strings_of, table_fields, written_loader}
+use Rattle.pef_write.proofs.Fields.{length-padded, spelled-append}
 
--- what stands for a program past the last one
-abbrev pub no_program : SectionProgram
-no_program = record { section = 0; bytes = record { ref_ptr = (0, 0); now = [] } }
-
--- fields behind fields are spelled behind them
-pub spelled-append : (xs ys : List Field) → spelled (xs ++ ys) ≡ spelled xs ++ spelled ys
-unfolding spelled
-spelled-append [] ys = refl
-spelled-append (x ∷ xs) ys = ap (λ z. field_bytes x ++ z) (spelled-append xs ys) ∙ sym (append_assoc (field_bytes x) (spelled xs) (spelled ys))
-
--- fields in three parts that are written one behind the other
-pub in_three : (before : List ℕ) (xs ys zs : List Field) (first second third : List ℕ) → first ≡ before ++ spelled xs → second ≡ first ++ spelled ys → third ≡ second ++ spelled zs → third ≡ before ++ spelled (xs ++ (ys ++ zs))
-in_three before xs ys zs first second third a b d =
-    let all : spelled (xs ++ (ys ++ zs)) ≡ spelled xs ++ (spelled ys ++ spelled zs) = spelled-append xs (ys ++ zs) ∙ ap (λ z. spelled xs ++ z) (spelled-append ys zs) in
-    rw (all, d, b, a) (simp append_assoc)
-
--- one program, and those behind it
-pub program_bytes-more : (programs : List SectionProgram) (i : ℕ) → i < length programs
-    → program_bytes (map program_entry (drop i programs)) ≡ (get_or programs i no_program).bytes.now ++ program_bytes (map program_entry (drop (i + 1) programs))
-program_bytes-more programs i under = ap (λ rest. program_bytes (map program_entry rest)) (drop_more programs i no_program under)
-
-pub program_bytes-end : (programs : List SectionProgram) (i : ℕ) → length programs ≤ i → program_bytes (map program_entry (drop i programs)) ≡ []
-program_bytes-end programs i past = ap (λ rest. program_bytes (map program_entry rest)) (drop_all i programs past)
-
-pub length-program_bytes-more : (programs : List SectionProgram) (i : ℕ) → i < length programs
-    → length (program_bytes (map program_entry (drop i programs))) ≡ length (get_or programs i no_program).bytes.now + length (program_bytes (map program_entry (drop (i + 1) programs)))
-length-program_bytes-more programs i under = ap length (program_bytes-more programs i under) ∙ length-append (get_or programs i no_program).bytes.now (program_bytes (map program_entry (drop (i + 1) programs)))
-
--- how many bytes the tables have
 pub length-loader_header : (t : LoaderTables) → length (spelled (header_fields t)) ≡ 56
 unfolding spelled header_fields
 length-loader_header t = refl
 
-pub length-library_fields : (at : ℕ) (libraries : List LibraryEntry) → length (spelled (library_fields at libraries)) ≡ 24 * length libraries
+pub length-library_fields : (at : ℕ) (libraries : List Library) → length (spelled (library_fields at libraries)) ≡ 24 * length libraries
 unfolding spelled library_fields
 length-library_fields at [] = refl
 length-library_fields at (l ∷ libraries) =
     let later = length-library_fields (at + (length l.name + 1)) libraries in
     omega (arith, later)
 
-pub length-import_fields : (at : ℕ) (imports : List ImportEntry) → length (spelled (import_fields at imports)) ≡ 4 * length imports
+pub length-import_fields : (at : ℕ) (imports : List Import) → length (spelled (import_fields at imports)) ≡ 4 * length imports
 unfolding spelled import_fields
 length-import_fields at [] = refl
 length-import_fields at (i ∷ imports) =
@@ -64,16 +34,21 @@ length-program_fields at (p ∷ programs) =
     let later = length-program_fields (at + length p.bytes) programs in
     omega (arith, later)
 
--- all that stands before the programs is as long as they are far
-pub length-front_fields : (t : LoaderTables) → length (spelled (front_fields t)) ≡ programs_from t
-length-front_fields t =
+-- the entries, which stand between the header and the programs
+pub length-entry_fields : (t : LoaderTables) → length (spelled (entry_fields t)) + 56 ≡ programs_from t
+length-entry_fields t =
     let libraries = library_fields 0 t.libraries in
     let imports = import_fields (import_names_from t) t.imports in
     let programs = program_fields 0 t.programs in
-    let a = ap length (spelled-append (header_fields t) (libraries ++ (imports ++ programs))) ∙ length-append (spelled (header_fields t)) (spelled (libraries ++ (imports ++ programs))) in
-    let b = ap length (spelled-append libraries (imports ++ programs)) ∙ length-append (spelled libraries) (spelled (imports ++ programs)) in
-    let d = ap length (spelled-append imports programs) ∙ length-append (spelled imports) (spelled programs) in
-    omega (arith, a, b, d, length-loader_header t, length-library_fields 0 t.libraries, length-import_fields (import_names_from t) t.imports, length-program_fields 0 t.programs)
+    let a = ap length (spelled-append libraries (imports ++ programs)) ∙ length-append (spelled libraries) (spelled (imports ++ programs)) in
+    let b = ap length (spelled-append imports programs) ∙ length-append (spelled imports) (spelled programs) in
+    omega (arith, a, b, length-library_fields 0 t.libraries, length-import_fields (import_names_from t) t.imports, length-program_fields 0 t.programs)
+
+-- all that stands before the programs is as long as they are far
+pub length-front_fields : (t : LoaderTables) → length (spelled (front_fields t)) ≡ programs_from t
+length-front_fields t =
+    let all = ap length (spelled-append (header_fields t) (entry_fields t)) ∙ length-append (spelled (header_fields t)) (spelled (entry_fields t)) in
+    omega (arith, all, length-loader_header t, length-entry_fields t)
 
 -- all that stands before the export table
 abbrev pub front_of : LoaderTables → List ℕ
@@ -95,7 +70,7 @@ length-words (w ∷ words) =
     let later = length-words words in
     omega (arith, later)
 
-pub length-export_fields : (at : ℕ) (exports : List ExportEntry) → length (spelled (export_fields at exports)) ≡ 10 * length exports
+pub length-export_fields : (at : ℕ) (exports : List Export) → length (spelled (export_fields at exports)) ≡ 10 * length exports
 unfolding spelled export_fields
 length-export_fields at [] = refl
 length-export_fields at (e ∷ exports) =
@@ -114,21 +89,3 @@ length-table_fields t =
 pub length-written_loader : (t : LoaderTables) → length (written_loader t) ≡ exports_from t + length (spelled (table_fields t))
 unfolding written_loader
 length-written_loader t = length-append (padded 4 (front_of t)) (spelled (table_fields t)) ∙ ap (λ n. n + length (spelled (table_fields t))) (length-front_of t)
-
--- one relocation header, and those behind it
-pub program_fields-more : (at : ℕ) (programs : List SectionProgram) (i : ℕ) → i < length programs
-    → let p = get_or programs i no_program in
-    spelled (program_fields at (map program_entry (drop i programs)))
-    ≡ spelled (Half p.section ∷ Half 0 ∷ Word (length p.bytes.now / 2) ∷ Word at ∷ []) ++ spelled (program_fields (at + length p.bytes.now) (map program_entry (drop (i + 1) programs)))
-unfolding program_fields spelled
-program_fields-more at programs i under = ap (λ rest. spelled (program_fields at (map program_entry rest))) (drop_more programs i no_program under)
-
-pub program_fields-end : (at : ℕ) (programs : List SectionProgram) (i : ℕ) → length programs ≤ i → spelled (program_fields at (map program_entry (drop i programs))) ≡ []
-unfolding program_fields spelled
-program_fields-end at programs i past = ap (λ rest. spelled (program_fields at (map program_entry rest))) (drop_all i programs past)
-
--- the loader section of some programs alone is little longer than they are
-pub length-program_tables : (programs : List ProgramEntry) → length (written_loader (program_tables programs)) ≤ 64 + 12 * length programs + length (program_bytes programs)
-length-program_tables programs =
-    let t = program_tables programs in
-    omega (arith, length-written_loader t, length-table_fields t)

@@ -1,5 +1,5 @@
 -- The programs of a script's sections: their lengths, and those that have bytes.
-use Rattle.std.proofs.Common.{◌≡◌, ◌∙◌, ℕ, ◌+◌, ◌*◌, ◌/◌, ◌^◌, ◌≤◌, true, List, [], ◌∷◌, ◌++◌, length, map, length-append, refl, sym, ap, ap₂, subst, arith}
+use Rattle.std.proofs.Common.{◌≡◌, ◌∙◌, ℕ, ◌+◌, ◌*◌, ◌/◌, ◌≤◌, true, List, [], ◌∷◌, ◌++◌, length, map, length-append, refl, sym, ap, ap₂, subst, arith}
 use Rattle.std.specs.List.{All, AllByRecursion}
 use Rattle.std.proofs.lemmas.Bool.{lt-ltb}
 use Rattle.std.proofs.lemmas.List.Elements.{All-cons}
@@ -9,6 +9,7 @@ use Rattle.pef_reloc.specs.declared.fixup.Fixup.{Fixup}
 use Rattle.pef_reloc.specs.declared.instr.Instr.{Instr}
 use Rattle.pef_reloc.specs.Fixups.{base_below, bases_below}
 use Rattle.pef_reloc.specs.Instrs.{halfword_bytes, halfwords_of, instrs_fit, program_length, repeat_free, spelled}
+use Rattle.pef_reloc.specs.Limits.{most_fixups}
 use Rattle.pef_reloc.specs.Plain.{plain_program}
 use Rattle.pef_reloc.specs.Steps.{Makes}
 use Rattle.pef_reloc.specs.Unrolled.{instrs_of}
@@ -19,8 +20,8 @@ use Rattle.pef_reloc.proofs.Laws.{plain-flat, plain-makes, plain-names, plain-sh
 use Rattle.pef_reloc.proofs.Laws.{spelled-nothing, spelled-one}
 use Rattle.pef_script.specs.Script.{DescribedSection}
 use Rattle.pef_script.specs.WellFormed.{BaseThere, SectionHolds}
-use Rattle.pef_write.specs.Encoded.{filled, filled_from}
 use Rattle.pef_write.specs.Linked.{AreProgramsFor, IsProgramFor, program_of, programs_from}
+use Rattle.pef_write.specs.Kept.Encoded.{nonempty, nonempty_from}
 
 -- each instruction has one or two halfwords, of two bytes each
 pub length-spelled : (instrs : List Instr) → length (spelled instrs) ≡ 2 * program_length instrs
@@ -48,20 +49,20 @@ some_bytes n f fixups instrs is = by (spelled instrs) refl
     by (b ∷ bytes) some = omega arith
 
 -- a section's program has bytes where the section has fixups
-filled-is : (n k : ℕ) (fixups : List Fixup) (instrs : List Instr) → IsProgramFor n fixups instrs → program_of k fixups instrs ≡ filled k (spelled instrs)
-filled-is n k [] instrs is = ap (filled k) (sym (no_bytes n instrs is))
-filled-is n k (f ∷ fixups) instrs is = by (spelled instrs) (some_bytes n f fixups instrs is)
+own_program-is : (n k : ℕ) (fixups : List Fixup) (instrs : List Instr) → IsProgramFor n fixups instrs → program_of k fixups instrs ≡ nonempty k (spelled instrs)
+own_program-is n k [] instrs is = ap (nonempty k) (sym (no_bytes n instrs is))
+own_program-is n k (f ∷ fixups) instrs is = by (spelled instrs) (some_bytes n f fixups instrs is)
   where
-    by : (bytes : List ℕ) → 1 ≤ length bytes → record { section = k; bytes = bytes } ∷ [] ≡ filled k bytes
+    by : (bytes : List ℕ) → 1 ≤ length bytes → record { section = k; bytes = bytes } ∷ [] ≡ nonempty k bytes
     by [] some = absurd (omega arith)
     by (b ∷ bytes) some = refl
 
-pub filled_from-is : (n k : ℕ) (sections : List DescribedSection) (programs : List (List Instr)) → AreProgramsFor n sections programs → programs_from k sections programs ≡ filled_from k (map spelled programs)
-filled_from-is n k [] [] are = refl
-filled_from-is n k [] (instrs ∷ programs) are = absurd are
-filled_from-is n k (s ∷ sections) [] are = absurd are
-filled_from-is n k (s ∷ sections) (instrs ∷ programs) are =
-    ap₂ (λ a b. a ++ b) (filled-is n k s.fixups instrs are.0) (filled_from-is n (k + 1) sections programs are.1)
+pub own_programs-are : (n k : ℕ) (sections : List DescribedSection) (programs : List (List Instr)) → AreProgramsFor n sections programs → programs_from k sections programs ≡ nonempty_from k (map spelled programs)
+own_programs-are n k [] [] are = refl
+own_programs-are n k [] (instrs ∷ programs) are = absurd are
+own_programs-are n k (s ∷ sections) [] are = absurd are
+own_programs-are n k (s ∷ sections) (instrs ∷ programs) are =
+    ap₂ (λ a b. a ++ b) (own_program-is n k s.fixups instrs are.0) (own_programs-are n (k + 1) sections programs are.1)
 
 -- as many programs as sections
 pub length-programs : (n : ℕ) (sections : List DescribedSection) (programs : List (List Instr)) → AreProgramsFor n sections programs → length programs ≡ length sections
@@ -78,16 +79,16 @@ halves-are (instrs ∷ programs) =
     ap₂ (λ a b. a ∷ b) here (halves-are programs)
 
 -- a program is short
-pub short_program : (n m j : ℕ) (s : DescribedSection) (instrs : List Instr) → SectionHolds m j s → IsProgramFor n s.fixups instrs → length (spelled instrs) ≤ 2 ^ 17
+pub short_program : (n m j : ℕ) (s : DescribedSection) (instrs : List Instr) → SectionHolds m j s → IsProgramFor n s.fixups instrs → length (spelled instrs) ≤ 8 * most_fixups
 short_program n m j s instrs holds is =
     omega (arith, length-spelled instrs, is.short, (fixups_fit-parts s.fixups holds.fixups).count)
 
-pub short_programs : (n m j : ℕ) (sections : List DescribedSection) (programs : List (List Instr)) → AllByRecursion (SectionHolds m j) sections → AreProgramsFor n sections programs → All (λ bytes. length bytes ≤ 2 ^ 17) (map spelled programs)
+pub short_programs : (n m j : ℕ) (sections : List DescribedSection) (programs : List (List Instr)) → AllByRecursion (SectionHolds m j) sections → AreProgramsFor n sections programs → All (λ bytes. length bytes ≤ 8 * most_fixups) (map spelled programs)
 short_programs n m j [] [] holds are = λ k d under. absurd (omega arith)
 short_programs n m j [] (instrs ∷ programs) holds are = absurd are
 short_programs n m j (s ∷ sections) [] holds are = absurd are
 short_programs n m j (s ∷ sections) (instrs ∷ programs) holds are =
-    All-cons (λ (bytes : List ℕ). length bytes ≤ 2 ^ 17) (spelled instrs) (map spelled programs) (short_program n m j s instrs holds.0 are.0) (short_programs n m j sections programs holds.1 are.1)
+    All-cons (λ (bytes : List ℕ). length bytes ≤ 8 * most_fixups) (spelled instrs) (map spelled programs) (short_program n m j s instrs holds.0 are.0) (short_programs n m j sections programs holds.1 are.1)
 
 -- plain programs are programs for their sections
 

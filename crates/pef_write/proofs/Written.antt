@@ -16,9 +16,11 @@ use Rattle.pef_views.specs.Header.{header_of}
 use Rattle.pef_views.specs.Section.{section_at, section_tests, is_inside, is_instantiable, raw_of, sizes_fit}
 use Rattle.pef_views.specs.Container.{Section, container_of, section_of}
 use Rattle.pef_views.proofs.Laws.{IsWritten, container_of-written, header_tests-unmet, section_tests-unmet}
-use Rattle.pef_write.specs.declared.container.Versions.{Versions}
-use Rattle.pef_write.specs.Fields.{AllFit, Reads, padded, spelled}
-use Rattle.pef_write.specs.Containers.{AreWritable, DescribedPart, IsWritable, ReadsBack, contained_in, data_from, header_fields, laid_out, loader_header, part_header, raw_data, section_fields, spelled_headers, written_container, written_header, written_sections}
+use Rattle.pef_script.specs.declared.parts.Versions.{Versions}
+use Rattle.pef_write.specs.Fields.{padded, spelled}
+use Rattle.pef_write.specs.Containers.{DescribedPart, data_from, header_fields, laid_out, loader_header, part_header, raw_data, section_fields, spelled_headers, written_container, written_header, written_sections}
+use Rattle.pef_write.specs.Kept.Fits.{AllFit, AreWritable, IsWritable, Reads}
+use Rattle.pef_write.specs.Kept.Tables.{ReadsBack, contained_in}
 use Rattle.pef_write.proofs.Fields.{length-padded, reads}
 use Rattle.pef_write.proofs.Containers.{fronts, length-front, length-header, length-headers, length-laid_out, length-written_container}
 
@@ -125,7 +127,7 @@ part_sound before rest p writable small =
     let whole = length-padded 16 p.image in
     let total = writable.total in
     let image = writable.image in
-    let alignment = writable.alignment in
+    let align = writable.align in
     let share = writable.share in
     let kind = kind_fits p.kind writable.kind in
     let header = part_header p (length before) in
@@ -134,7 +136,7 @@ part_sound before rest p writable small =
       fields = (omega arith, (omega arith, (omega arith, (omega arith, (omega arith, (omega arith, (omega arith, (omega arith, (omega arith, (omega arith, tt))))))))));
       name = refl;
       raw = ap (take (length p.image)) (drop_at before (padded 16 p.image ++ rest) (length before) refl ∙ append_assoc p.image zeros rest) ∙ take_at p.image (zeros ++ rest) (length p.image) refl;
-      unmet = section_tests-unmet true header len (inside_if header len (omega arith)) (λ h. (writable.kind, sizes_if header image refl, alignment));
+      unmet = section_tests-unmet true header len (inside_if header len (omega arith)) (λ h. (writable.kind, sizes_if header image refl, align));
     }
 
 -- what is known of each section
@@ -197,8 +199,8 @@ module _ (v : Versions) (parts : List DescribedPart) (loader : List ℕ) (w : Ar
   header_there =
       let h = written_header v (length parts) in
       let current = w.current in
-      let old_definition = w.old_definition in
-      let old_implementation = w.old_implementation in
+      let old_def = w.old_def in
+      let old_imp = w.old_imp in
       let count = w.count in
       let fits : AllFit (header_fields h) = (omega arith, (omega arith, (omega arith, (omega arith, (omega arith, (omega arith, (omega arith, (omega arith, (omega arith, (omega arith, (omega arith, tt))))))))))) in
       let all = regroup (spelled (header_fields h)) (spelled_headers (written_sections parts loader)) (front_zeros v parts loader) (raw_data parts loader) in

@@ -1,14 +1,12 @@
 -- Which bytes are written for some sections and a loader section (Mac OS Runtime Architectures, "PEF
--- Structure"; where they lie and which optional fields are left empty is this project's own choice).
-use Rattle.std.specs.Prelude.{◌≡◌, ℕ, ◌+◌, ◌*◌, ◌^◌, ◌<◌, ◌≤◌, negsuc, IsTrue, Ok, Some, List, [], ◌∷◌, ◌++◌, length, slice_get}
-use Rattle.std.specs.List.{All}
+-- Structure"). Where the raw bytes lie, and which optional fields are left empty, is this project's own
+-- choice.
+use Rattle.std.specs.Prelude.{◌≡◌, ℕ, ◌+◌, ◌*◌, negsuc, Some, List, [], ◌∷◌, ◌++◌, length}
 use Rattle.std.specs.Int.{w32, cast_unsigned, next_multiple_of}
+use Rattle.pef_script.specs.declared.parts.Versions.{Versions}
 use Rattle.pef_views.specs.declared.header.Header.{Header}
 use Rattle.pef_views.specs.declared.section.SectionHeader.{SectionHeader}
-use Rattle.pef_views.specs.Container.{Contained, Section, container_of, section_of}
-use Rattle.pef_views.specs.Section.{is_instantiable}
-use Rattle.pef_write.specs.declared.container.Part.{Part}
-use Rattle.pef_write.specs.declared.container.Versions.{Versions}
+use Rattle.pef_views.specs.Container.{Contained, Section, section_of}
 use Rattle.pef_write.specs.declared.field.Field.{Field}
 use Rattle.pef_write.specs.declared.field.Field.TheVariants.{Byte, Half, Word}
 use Rattle.pef_write.specs.Fields.{padded, spelled}
@@ -17,15 +15,11 @@ use Rattle.pef_write.specs.Fields.{padded, spelled}
 pub record DescribedPart : Type 0 where
   pub kind : ℕ
   pub share : ℕ
-  pub alignment : ℕ
+  pub align : ℕ
   pub total : ℕ
   pub image : List ℕ
 
--- the section that a part describes
-abbrev pub described : Part → DescribedPart
-described p = record { kind = p.kind; share = p.share; alignment = p.alignment; total = p.total; image = p.image.now }
-
--- the fields of the container header, in order
+-- the fields of the container header, in order (PEFContainerHeader of PEFBinaryFormat.h)
 unfoldable pub header_fields : Header → List Field
 header_fields h = Word h.tag_1
     ∷ Word h.tag_2
@@ -40,7 +34,7 @@ header_fields h = Word h.tag_1
     ∷ Word h.reserved
     ∷ []
 
--- the fields of a section header, in order
+-- the fields of a section header, in order (PEFSectionHeader)
 unfoldable pub section_fields : SectionHeader → List Field
 section_fields s = Word (cast_unsigned w32 s.name_offset)
     ∷ Word s.default_address
@@ -54,7 +48,8 @@ section_fields s = Word (cast_unsigned w32 s.name_offset)
     ∷ Byte s.reserved
     ∷ []
 
--- the header of a container with n instantiated sections and a loader section
+-- the header of a container with n instantiated sections and a loader section: the tags are `Joy!` and
+-- `peff`, the architecture is `pwpc`, and there is no time stamp
 abbrev pub written_header : Versions → ℕ → Header
 written_header v n = record {
   tag_1 = 0x4A6F7921;
@@ -62,15 +57,15 @@ written_header v n = record {
   architecture = 0x70777063;
   format_version = 1;
   date_time_stamp = 0;
-  old_definition_version = v.old_definition;
-  old_implementation_version = v.old_implementation;
+  old_definition_version = v.old_def;
+  old_implementation_version = v.old_imp;
   current_version = v.current;
   section_count = n + 1;
   instantiated_section_count = n;
   reserved = 0;
 }
 
--- the header of a part whose image lies at a place
+-- the header of a part whose image lies at a place: no name, and the raw bytes are the image
 abbrev pub part_header : DescribedPart → ℕ → SectionHeader
 part_header p at = record {
   name_offset = negsuc 0;
@@ -81,7 +76,7 @@ part_header p at = record {
   container_offset = at;
   section_kind = p.kind;
   share_kind = p.share;
-  alignment = p.alignment;
+  alignment = p.align;
   reserved = 0;
 }
 
@@ -117,7 +112,8 @@ unfoldable pub raw_data : List DescribedPart → List ℕ → List ℕ
 raw_data [] loader = loader
 raw_data (p ∷ parts) loader = padded 16 p.image ++ raw_data parts loader
 
--- where the raw bytes of n parts begin: behind the container header and n + 1 section headers
+-- where the raw bytes of n parts begin: behind the container header of 40 bytes and n + 1 section headers
+-- of 28 bytes each
 abbrev pub data_from : ℕ → ℕ
 data_from n = next_multiple_of (40 + 28 * (n + 1)) 16
 
@@ -130,36 +126,6 @@ unfoldable pub written_container : Versions → List DescribedPart → List ℕ 
 written_container v parts loader =
     padded 16 (spelled (header_fields (written_header v (length parts))) ++ spelled_headers (written_sections parts loader))
     ++ raw_data parts loader
-
--- a part that a container can have
-pub record IsWritable (p : DescribedPart) : Type 0 where
-  pub kind : IsTrue (is_instantiable p.kind)
-  pub share : p.share < 256
-  pub alignment : p.alignment ≤ 31
-  pub total : p.total < 2 ^ 32
-  pub image : length p.image ≤ p.total
-
--- versions, parts and a loader section that are a container's
-pub record AreWritable (v : Versions) (parts : List DescribedPart) (loader : List ℕ) : Type 0 where
-  pub current : v.current < 2 ^ 32
-  pub old_definition : v.old_definition < 2 ^ 32
-  pub old_implementation : v.old_implementation < 2 ^ 32
-  pub count : length parts + 1 < 2 ^ 16
-  pub each : All IsWritable parts
-  pub size : length (written_container v parts loader) < 2 ^ 32
-
--- the container that they are
-abbrev pub contained_in : Versions → List DescribedPart → List ℕ → Contained
-contained_in v parts loader = record {
-  bytes = written_container v parts loader;
-  header = written_header v (length parts);
-  loader = loader;
-}
-
--- what is read of bytes: the header, the loader section, and each section with its image
-pub record ReadsBack (v : Versions) (parts : List DescribedPart) (loader : List ℕ) (bytes : List ℕ) : Type 0 where
-  pub container : container_of bytes ≡ Ok (contained_in v parts loader)
-  pub sections : (k : ℕ) → section_of (contained_in v parts loader) k ≡ slice_get (written_sections parts loader) k
 
 -- section k of a container is a part: its header says what the part does, and its raw bytes are the image
 pub record IsPart (c : Contained) (k : ℕ) (p : DescribedPart) : Type 0 where

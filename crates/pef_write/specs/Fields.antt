@@ -1,9 +1,8 @@
 -- Numbers as containers have them: big-endian, in one, two or four bytes (Mac OS Runtime Architectures,
 -- "PEF Structure").
-use Rattle.std.specs.Prelude.{◌≡◌, ℕ, ◌+◌, ◌-◌, ◌<◌, ◌^◌, Some, List, [], ◌∷◌, ◌++◌, length, replicate}
+use Rattle.std.specs.Prelude.{ℕ, ◌-◌, List, [], ◌∷◌, ◌++◌, length, replicate}
 use Rattle.std.specs.Int.{next_multiple_of}
 use Rattle.byteorder.specs.Endian.{big_bytes}
-use Rattle.pef_words.specs.Bytes.{number_at}
 use Rattle.pef_write.specs.declared.field.Field.{Field}
 use Rattle.pef_write.specs.declared.field.Field.TheVariants.{Byte, Half, Word}
 
@@ -31,14 +30,3 @@ spelled (field ∷ fields) = field_bytes field ++ spelled fields
 -- some bytes, with zeros behind them up to the next multiple of a number
 unfoldable pub padded : ℕ → List ℕ → List ℕ
 padded multiple bytes = bytes ++ replicate (next_multiple_of (length bytes) multiple - length bytes) 0
-
--- each number fits its field
-abbrev pub AllFit : List Field → Type 0
-AllFit [] = Unit {0}
-AllFit (field ∷ fields) = (value field < 256 ^ width field) × AllFit fields
-
--- at a place and behind it stand these fields, in their order
-abbrev pub Reads : List ℕ → ℕ → ℕ → List Field → Type 0
-Reads bytes from off [] = Unit {0}
-Reads bytes from off (field ∷ fields) =
-    (number_at (width field) bytes (from + off) ≡ Some (value field)) × Reads bytes from (off + width field) fields

@@ -1,19 +1,21 @@
 -- What the linker writes for a script: a container of its sections, and a loader section with its
--- libraries, imports and exports, its entries, and a relocation program for each section that has fixups.
-use Rattle.std.specs.Prelude.{◌≡◌, ℕ, true, false, pos, ◌+◌, ◌*◌, ◌≤◌, ◌==◌, Bool, List, [], ◌∷◌, ◌++◌, length, map, nat_lt, slice_index_or}
-use Rattle.std.specs.Int.{w16, cast_unsigned}
+-- libraries, imports and exports, its entries, and a relocation program for each section that has fixups
+-- (Mac OS Runtime Architectures, "PEF Structure").
+use Rattle.std.specs.Prelude.{◌≡◌, ℕ, true, pos, ◌+◌, ◌*◌, ◌≤◌, ◌==◌, List, [], ◌∷◌, ◌++◌, length, map, nat_lt, slice_index_or}
 use Rattle.std.specs.List.{count_by}
 use Rattle.pef_hash.specs.Build.{built}
+use Rattle.pef_loader.specs.Export.{Export}
+use Rattle.pef_loader.specs.Import.{Import}
+use Rattle.pef_loader.specs.Library.{Library}
 use Rattle.pef_reloc.specs.declared.fixup.Fixup.{Fixup}
 use Rattle.pef_reloc.specs.declared.instr.Instr.{Instr}
 use Rattle.pef_reloc.specs.Instrs.{program_length, spelled}
 use Rattle.pef_reloc.specs.Steps.{Makes, is_flat, names_below}
 use Rattle.pef_script.specs.Script.{DescribedExport, DescribedImport, DescribedLibrary, DescribedScript, DescribedSection}
 use Rattle.pef_script.specs.State.{export_names}
-use Rattle.pef_write.specs.declared.container.Versions.{Versions}
-use Rattle.pef_views.specs.Container.{Contained}
-use Rattle.pef_write.specs.Containers.{DescribedPart, contained_in, written_container}
-use Rattle.pef_write.specs.Loaders.{ExportEntry, ImportEntry, LibraryEntry, LoaderTables, ProgramEntry, written_loader}
+use Rattle.pef_script.specs.WellFormed.{ScriptHolds}
+use Rattle.pef_write.specs.Containers.{DescribedPart, written_container}
+use Rattle.pef_write.specs.Loaders.{LoaderTables, ProgramEntry, written_loader}
 
 -- instructions that are a program for some fixups among so many sections: without a repeat, they make
 -- the fixups, each once and in order, name no other sections, and have at most four halfwords for each
@@ -30,41 +32,28 @@ AreProgramsFor count [] (instrs ∷ programs) = ⊥
 AreProgramsFor count (s ∷ sections) [] = ⊥
 AreProgramsFor count (s ∷ sections) (instrs ∷ programs) = IsProgramFor count s.fixups instrs × AreProgramsFor count sections programs
 
--- the versions of a script, as the container header has them
-abbrev pub versions_of : DescribedScript → Versions
-versions_of s = record {
-  current = s.versions.current;
-  old_definition = s.versions.old_def;
-  old_implementation = s.versions.old_imp;
-}
-
 -- the part of the container that a section becomes
 abbrev pub part_of : DescribedSection → DescribedPart
-part_of s = record { kind = s.header.kind; share = s.header.share; alignment = s.header.align; total = s.header.total; image = s.image }
+part_of s = record { kind = s.header.kind; share = s.header.share; align = s.header.align; total = s.header.total; image = s.image }
 
--- a library and its imports: how many imports are its own, and how many are of the libraries before it
-abbrev pub library_of : List DescribedImport → ℕ → DescribedLibrary → LibraryEntry
-library_of imports k l = record {
+-- library k with its imports: how many of them are its own, and how many are of the libraries before it
+abbrev pub linked_library : List DescribedImport → ℕ → DescribedLibrary → Library
+linked_library imports k l = record {
   name = l.name;
-  old_implementation = l.old_imp;
   current = l.current;
+  old_imp = l.old_imp;
   count = count_by (λ i. i.library == k) imports;
   first = count_by (λ i. nat_lt i.library k) imports;
   options = l.options;
 }
 
 -- libraries, numbered from a number on
-abbrev pub libraries_from : List DescribedImport → ℕ → List DescribedLibrary → List LibraryEntry
+abbrev pub libraries_from : List DescribedImport → ℕ → List DescribedLibrary → List Library
 libraries_from imports k [] = []
-libraries_from imports k (l ∷ libraries) = library_of imports k l ∷ libraries_from imports (k + 1) libraries
+libraries_from imports k (l ∷ libraries) = linked_library imports k l ∷ libraries_from imports (k + 1) libraries
 
--- the class byte of an import: its class, with the highest bit for a weak one
-abbrev pub class_byte : Bool → ℕ → ℕ
-class_byte true class = class + 0x80
-class_byte false class = class
-
-abbrev pub import_of : DescribedImport → ImportEntry
-import_of i = record { name = i.name; class = class_byte i.weak i.class }
+abbrev pub linked_import : DescribedImport → Import
+linked_import i = record { name = i.name; class = i.class; weak = i.weak; library = i.library }
 
 -- the relocation program of section k, where it has fixups
 abbrev pub program_of : ℕ → List Fixup → List Instr → List ProgramEntry
@@ -76,16 +65,16 @@ abbrev pub programs_from : ℕ → List DescribedSection → List (List Instr) �
 programs_from k (s ∷ sections) (instrs ∷ programs) = program_of k s.fixups instrs ++ programs_from (k + 1) sections programs
 programs_from k sections programs = []
 
-abbrev pub export_of : DescribedExport → ExportEntry
-export_of e = record { name = e.name; class = e.class; value = e.value; section = cast_unsigned w16 e.section }
+abbrev pub linked_export : DescribedExport → Export
+linked_export e = record { name = e.name; class = e.class; section = e.section; value = e.value }
 
 -- what stands for an export past the last one
 abbrev pub no_export : DescribedExport
 no_export = record { name = []; class = 0; section = pos 0; value = 0 }
 
 -- the exports at some places, in the order of the places
-abbrev pub exports_at : List DescribedExport → List ℕ → List ExportEntry
-exports_at exports order = map (λ e. export_of (slice_index_or exports e no_export)) order
+abbrev pub exports_at : List DescribedExport → List ℕ → List Export
+exports_at exports order = map (λ e. linked_export (slice_index_or exports e no_export)) order
 
 -- the tables of the loader section of a script, with some relocation programs; keys and exports are in
 -- the order of the export table
@@ -95,7 +84,7 @@ script_tables s programs = record {
   init = s.init;
   term = s.term;
   libraries = libraries_from s.imports 0 s.libraries;
-  imports = map import_of s.imports;
+  imports = map linked_import s.imports;
   programs = programs;
   power = (built (export_names s)).power;
   slots = (built (export_names s)).slots;
@@ -117,19 +106,17 @@ linked_parts s = map part_of s.sections
 
 -- the container of a script, with programs for its sections
 unfoldable pub linked_bytes : DescribedScript → List (List Instr) → List ℕ
-linked_bytes s programs = written_container (versions_of s) (linked_parts s) (linked_loader s programs)
-
--- the container that these bytes are
-abbrev pub linked_container : DescribedScript → List (List Instr) → Contained
-linked_container s programs = contained_in (versions_of s) (linked_parts s) (linked_loader s programs)
+linked_bytes s programs = written_container s.versions (linked_parts s) (linked_loader s programs)
 
 -- what was linked: the container, and for each section the length of its program, in halfwords
 pub record LinkedContainer : Type 0 where
   pub bytes : List ℕ
   pub lengths : List ℕ
 
--- what was linked of a script: its container with some programs for its sections, and their lengths
+-- what was linked of a script, which keeps the limits: its container with some programs for its sections,
+-- and their lengths
 pub record IsLinked (script : DescribedScript) (l : LinkedContainer) : Type 0 where
+  pub holds : ScriptHolds script
   pub programs : List (List Instr)
   pub are : AreProgramsFor (length script.sections) script.sections programs
   pub bytes : l.bytes ≡ linked_bytes script programs

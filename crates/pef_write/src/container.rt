@@ -1,8 +1,11 @@
 ghost use Rattle.std.specs.Prelude.{◌≡◌, ◌+◌, ◌*◌, ◌-◌, ◌++◌, ◌<◌, ◌≤◌, ◌^◌, OnOk, IfOk, length, map};
 ghost use Rattle.pef_write.specs.Fields.{padded, spelled};
-ghost use Rattle.pef_write.specs.Containers.{AreWritable, ReadsBack, data_from, described, header_fields, laid_out, loader_header, part_header, raw_data, section_fields, spelled_headers, written_container, written_header, written_sections};
+ghost use Rattle.pef_write.specs.Containers.{data_from, header_fields, loader_header, part_header, raw_data, section_fields, spelled_headers, written_container, written_header, written_sections};
+ghost use Rattle.pef_write.specs.Kept.Views.{described};
 
 use crate::field::{Field, put_fields};
+use crate::parts::Part;
+use pef_script::Versions;
 use pef_views::layout::{
     CONTAINER_HEADER_SIZE, FORMAT_VERSION, GLOBAL_SHARE, LOADER_SECTION, NO_NAME, POWERPC,
     SECTION_HEADER_SIZE, TAG_1, TAG_2,
@@ -11,42 +14,15 @@ use pef_views::{Header, SectionHeader};
 use std::alloc::{AllocError, Global};
 
 /// The raw bytes of each section begin at a multiple of this.
-pub const DATA_ALIGNMENT: usize = 16;
+const DATA_ALIGNMENT: usize = 16;
 
 /// The alignment that a loader section's header states, as an exponent of two.
 const LOADER_ALIGNMENT: u8 = 4;
 
-/// A library's versions, as the container header has them.
-#[derive(Clone, Copy, Debug, PartialEq, Eq)]
-pub struct Versions {
-    pub current: u32,
-    /// The oldest version of the definition that this implementation still serves.
-    pub old_definition: u32,
-    /// The oldest version of the implementation that a client built with this one still takes.
-    pub old_implementation: u32,
-}
-
-/// An instantiated section without a name.
-#[derive(Clone, Copy, Debug)]
-pub struct Part<'a> {
-    pub kind: u8,
-    pub share: u8,
-    /// The memory's alignment, as an exponent of two.
-    pub alignment: u8,
-    /// The length of the section's memory.
-    pub total: u32,
-    /// The bytes that the memory begins with; zeros follow.
-    pub image: &'a [u8],
-}
-
 /// The container of `parts`, in their order, and of a loader section behind them.
 ///
 /// It has no time stamp. All raw bytes begin at a multiple of [`DATA_ALIGNMENT`].
-///
-/// # Errors
-///
-/// Want of memory.
-pub fn write_container(
+pub(crate) fn write_container(
     alloc: Global,
     versions: Versions,
     parts: &[Part<'_>],
@@ -54,8 +30,7 @@ pub fn write_container(
 ) -> Result<Vec<u8>, AllocError>
     requires count { length parts.now + 1 < 2 ^ 16 }
     requires fits { length (written_container versions (map described parts.now) loader.now) < 2 ^ 32 }
-    ensures bytes { IfOk result (λ bytes. bytes.items ≡ written_container versions (map described parts.now) loader.now) }
-    ensures read_back { AreWritable versions (map described parts.now) loader.now → IfOk result (λ bytes. ReadsBack versions (map described parts.now) loader.now bytes.items) }
+    ensures { IfOk result (λ bytes. bytes.items ≡ written_container versions (map described parts.now) loader.now) }
 {
     let mut out = Vec::with_capacity(alloc, container_length(parts, loader))?;
     put_headers(&mut out, versions, parts, loader)?;
@@ -148,8 +123,8 @@ fn container_header(versions: Versions, count: u16) -> Header
         architecture: POWERPC,
         format_version: FORMAT_VERSION,
         date_time_stamp: 0,
-        old_definition_version: versions.old_definition,
-        old_implementation_version: versions.old_implementation,
+        old_definition_version: versions.old_def,
+        old_implementation_version: versions.old_imp,
         current_version: versions.current,
         section_count: count + 1,
         instantiated_section_count: count,
@@ -171,7 +146,7 @@ fn part_header(part: Part<'_>, at: u32) -> SectionHeader
         container_offset: at,
         section_kind: part.kind,
         share_kind: part.share,
-        alignment: part.alignment,
+        alignment: part.align,
         reserved: 0,
     }
 }

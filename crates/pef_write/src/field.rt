@@ -1,12 +1,12 @@
-ghost use Rattle.std.specs.Prelude.{◌≡◌, ◌++◌, ◌<◌, ◌^◌, OnOk, length};
-ghost use Rattle.pef_write.specs.Fields.{field_bytes, padded, spelled};
+ghost use Rattle.std.specs.Prelude.{◌≡◌, ◌++◌, OnOk};
+ghost use Rattle.pef_write.specs.Fields.{field_bytes, spelled};
 
 use byteorder::{BigEndian, ByteOrder};
 use std::alloc::AllocError;
 
 /// A number as a container has it: big-endian, in one, two or four bytes.
 #[derive(Clone, Copy, Debug, PartialEq, Eq)]
-pub enum Field {
+pub(crate) enum Field {
     Byte(u8),
     Half(u16),
     Word(u32),
@@ -34,12 +34,8 @@ impl Field {
 }
 
 /// Appends the bytes of `fields`, one after the other.
-///
-/// # Errors
-///
-/// Want of memory, which may leave some of them behind.
 #[tactic(auto, unfolding(crate::specs::Fields::spelled))]
-pub fn put_fields(out: &mut Vec<u8>, fields: &[Field]) -> Result<(), AllocError>
+pub(crate) fn put_fields(out: &mut Vec<u8>, fields: &[Field]) -> Result<(), AllocError>
     ensures { OnOk result (out.new.items ≡ out.old.items ++ spelled fields.now) }
 {
     for field in fields {

@@ -1,28 +1,23 @@
-//! PEF containers as bytes.
+//! The linker: the container of a script.
 //!
-//! The format is that of Mac OS Runtime Architectures, "PEF Structure", and of PEFBinaryFormat.h. What
-//! is written is what `pef_views` reads: its parts are those that were handed in.
+//! The format is that of Mac OS Runtime Architectures, "PEF Structure", and of PEFBinaryFormat.h.
+//! [`link`] takes a script and gives its container, with a relocation program for each section that
+//! has fixups. What it gives is read back as the script: see [`linked_containers`] and
+//! [`linked_programs`].
 #![tactic(auto)]
 
 mod container;
+mod entries;
+mod export_table;
 mod fault;
 mod field;
 mod linking;
 mod loader;
+mod parts;
 mod program;
-mod reading_laws;
-mod symbols;
-mod tables;
+mod relocations;
 mod theorems;
 
-pub use container::{DATA_ALIGNMENT, Part, Versions, write_container};
 pub use fault::LinkFault;
-pub use field::{Field, put_fields};
 pub use linking::{Linked, link};
-pub use loader::{SectionProgram, Tables, write_loader};
-pub use reading_laws::{libraries_in_turn, read_back};
-pub use symbols::{Export, Import, Library};
-pub use theorems::{linked_containers, linked_imports, linked_tables_are_sound};
-
-#[cfg(test)]
-mod tests;
+pub use theorems::{linked_containers, linked_programs};

@@ -1,15 +1,15 @@
-ghost use Rattle.std.specs.Prelude.{◌≡◌, ◌<◌, ◌≤◌, ◌^◌, IfOk, length, map, slice_get};
-ghost use Rattle.pef_write.specs.Encoded.{filled_from};
-ghost use Rattle.pef_write.specs.Linked.{IsLinked, script_tables, versions_of};
-ghost use Rattle.pef_write.specs.Loaders.{strings_of, written_loader};
+ghost use Rattle.std.specs.Prelude.{◌≡◌, ◌/◌, ◌<◌, ◌^◌, IfOk, length, map, slice_get};
+ghost use Rattle.std.specs.List.{All};
+ghost use Rattle.pef_write.specs.Linked.{IsLinked};
 
-use crate::container::{Versions, write_container};
+use crate::container::write_container;
 use crate::fault::LinkFault;
-use crate::loader::{Tables, write_loader};
-use crate::program::{halfwords, plain_programs, section_programs};
-use crate::tables::{export_table, exports, imports, libraries, parts};
+use crate::loader::write_loader;
+use crate::parts::parts;
+use crate::program::programs;
+use crate::relocations::{HALFWORD, section_programs};
 use pef_script::Script;
-use std::alloc::Global;
+use std::alloc::{AllocError, Global};
 use std::marker::Model;
 
 /// A container that was linked of a script.
@@ -58,53 +58,23 @@ impl Linked {
 pub fn link(alloc: Global, script: &Script<'_>) -> Result<Linked, LinkFault>
     ensures { IfOk result (λ l. IsLinked script.now l) }
 {
-    let programs = plain_programs(alloc, script)?;
+    let programs = programs(alloc, script)?;
     let lengths = halfwords(alloc, &programs)?;
-    let loader = link_loader(alloc, script, &programs)?;
+    let own = section_programs(alloc, &programs)?;
+    let loader = write_loader(alloc, script, &own)?;
     let parts = parts(alloc, script)?;
-    let bytes = write_container(alloc, versions(script), &parts, &loader)?;
+    let bytes = write_container(alloc, script.versions(), &parts, &loader)?;
     Ok(Linked { bytes, lengths })
 }
 
-/// The versions of a script, as the container header has them.
-fn versions(script: &Script<'_>) -> Versions
-    ensures { result ≡ versions_of script.now }
+/// How many halfwords each of `programs` has.
+fn halfwords(alloc: Global, programs: &[Vec<u8>]) -> Result<Vec<u32>, AllocError>
+    requires { All (λ p. length p.items < 2 ^ 32) programs.now }
+    ensures { IfOk result (λ lengths. lengths.items ≡ map (λ p. length p.items / 2) programs.now) }
 {
-    let versions = script.versions();
-    Versions {
-        current: versions.current,
-        old_definition: versions.old_def,
-        old_implementation: versions.old_imp,
+    let mut lengths = Vec::with_capacity(alloc, programs.len())?;
+    for program in programs {
+        lengths.push((program.len() / HALFWORD) as u32)?;
     }
-}
-
-/// The loader section of a script, with the relocation programs of its sections.
-fn link_loader(
-    alloc: Global,
-    script: &Script<'_>,
-    programs: &[Vec<u8>],
-) -> Result<Vec<u8>, LinkFault>
-    requires few { length programs.now ≤ 2 ^ 16 }
-    requires fits { length (written_loader (script_tables script.now (filled_from 0 (map (λ p. p.items) programs.now)))) < 2 ^ 32 }
-    requires strings { length (strings_of (script_tables script.now (filled_from 0 (map (λ p. p.items) programs.now)))) < 2 ^ 24 }
-    ensures { IfOk result (λ loader. loader.items ≡ written_loader (script_tables script.now (filled_from 0 (map (λ p. p.items) programs.now)))) }
-{
-    let libraries = libraries(alloc, script)?;
-    let imports = imports(alloc, script)?;
-    let programs = section_programs(alloc, programs)?;
-    let table = export_table(alloc, script)?;
-    let exports = exports(alloc, script, table.order())?;
-    let tables = Tables {
-        main: script.main(),
-        init: script.init(),
-        term: script.term(),
-        libraries: &libraries,
-        imports: &imports,
-        programs: &programs,
-        power: table.power(),
-        slots: table.slots(),
-        keys: table.keys(),
-        exports: &exports,
-    };
-    Ok(write_loader(alloc, tables)?)
+    Ok(lengths)
 }

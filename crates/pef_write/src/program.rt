@@ -1,24 +1,17 @@
-ghost use Rattle.std.specs.Prelude.{◌≡◌, ◌/◌, ◌<◌, ◌≤◌, ◌^◌, ◌++◌, IfOk, OnOk, length, map, true};
-ghost use Rattle.std.specs.List.{All};
+//! The relocation programs of a script's sections: plain ones, until there is a planner. What the rest
+//! of the linker needs of them is that they are programs for the sections' fixups.
+ghost use Rattle.std.specs.Prelude.{◌≡◌, ◌++◌, IfOk, OnOk, map, true};
 ghost use Rattle.pef_reloc.specs.Fixups.{fixups_fit};
 ghost use Rattle.pef_reloc.specs.Instrs.{spelled};
 ghost use Rattle.pef_reloc.specs.Plain.{plain_addition, plain_move, plain_program};
-ghost use Rattle.pef_write.specs.Described.{program_entry};
-ghost use Rattle.pef_write.specs.Encoded.{AreEncoded, filled_from};
+ghost use Rattle.pef_write.specs.Kept.Encoded.{AreEncoded};
 
-use crate::loader::SectionProgram;
 use pef_reloc::{Base, Fixup, Instr, WORD, encode};
 use pef_script::Script;
 use std::alloc::{AllocError, Global};
 
-/// The greatest import that a short instruction names.
-const MAX_SHORT_IMPORT: u32 = 511;
-
-/// The bytes of a halfword.
-const HALFWORD: usize = 2;
-
-/// The bytes of the plain program of each section of `script`: none for one without fixups.
-pub(crate) fn plain_programs(alloc: Global, script: &Script<'_>) -> Result<Vec<Vec<u8>>, AllocError>
+/// The bytes of the relocation program of each section of `script`: none for one without fixups.
+pub(crate) fn programs(alloc: Global, script: &Script<'_>) -> Result<Vec<Vec<u8>>, AllocError>
     ensures { IfOk result (λ programs. AreEncoded script.now (map (λ p. p.items) programs.items)) }
 {
     let mut programs = Vec::with_capacity(alloc, script.sections())?;
@@ -65,45 +58,19 @@ fn push_move(program: &mut Vec<Instr>, position: u64, offset: u32) -> Result<(),
     Ok(())
 }
 
-/// The addition of a base.
+/// The addition of a base, by the short instruction where its number fits one.
 fn addition(base: Base) -> Instr
     ensures { result ≡ plain_addition base }
 {
     match base {
         Base::Section(section) => Instr::SmBySection(section),
-        Base::Import(import) if import <= MAX_SHORT_IMPORT => Instr::SmByImport(import),
-        Base::Import(import) => Instr::LgByImport(import),
-    }
-}
-
-/// How many halfwords each of `programs` has.
-pub(crate) fn halfwords(alloc: Global, programs: &[Vec<u8>]) -> Result<Vec<u32>, AllocError>
-    requires { All (λ p. length p.items < 2 ^ 32) programs.now }
-    ensures { IfOk result (λ lengths. lengths.items ≡ map (λ p. length p.items / 2) programs.now) }
-{
-    let mut lengths = Vec::with_capacity(alloc, programs.len())?;
-    for program in programs {
-        lengths.push((program.len() / HALFWORD) as u32)?;
-    }
-    Ok(lengths)
-}
-
-/// Those of `programs` that have bytes, each with the number of its section.
-pub(crate) fn section_programs<'p>(
-    alloc: Global,
-    programs: &'p [Vec<u8>],
-) -> Result<Vec<SectionProgram<'p>>, AllocError>
-    requires { length programs.now ≤ 2 ^ 16 }
-    ensures { IfOk result (λ filled. map program_entry filled.items ≡ filled_from 0 (map (λ p. p.items) programs.entry.now)) }
-{
-    let mut filled = Vec::with_capacity(alloc, programs.len())?;
-    for (section, program) in programs.iter().enumerate() {
-        if !program.is_empty() {
-            filled.push(SectionProgram {
-                section: section as u16,
-                bytes: program.as_slice(),
-            })?;
+        Base::Import(import) => {
+            let short = Instr::SmByImport(import);
+            if short.fits() {
+                short
+            } else {
+                Instr::LgByImport(import)
+            }
         }
     }
-    Ok(filled)
 }

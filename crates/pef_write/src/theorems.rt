@@ -1,27 +1,18 @@
-//! Laws of the definitions, for the proofs of crates that read what is linked. The functions do nothing.
-ghost use Rattle.std.specs.Prelude.{◌≡◌, ℕ, List, Some, length, slice_get};
-ghost use Rattle.pef_loader.specs.Loader.{import_of};
-ghost use Rattle.pef_reloc.specs.declared.instr.Instr.{Instr};
-ghost use Rattle.pef_script.specs.Script.{DescribedImport, DescribedScript, DescribedSection};
-ghost use Rattle.pef_script.specs.WellFormed.{ScriptHolds};
-ghost use Rattle.pef_write.specs.Containers.{IsPart, ReadsBack};
-ghost use Rattle.pef_write.specs.Linked.{AreProgramsFor, linked_bytes, linked_container, linked_loader, linked_parts, linked_tables, part_of, versions_of};
-ghost use Rattle.pef_write.specs.Reading.{AreTables, loaded_tables};
+//! Laws of what is linked, for the proofs of crates that read it. The functions do nothing.
+ghost use Rattle.std.specs.Prelude.{◌≡◌, ℕ, Some, slice_get};
+ghost use Rattle.pef_script.specs.Script.{DescribedScript};
+ghost use Rattle.pef_write.specs.Linked.{IsLinked, LinkedContainer, programs_from};
+ghost use Rattle.pef_write.specs.Loaders.{ProgramEntry};
+ghost use Rattle.pef_write.specs.ReadBack.{IsReadBack, IsSectionProgram};
 
-/// The container of a script, with programs for its sections, is read back as its sections and its
-/// loader section.
+/// What is linked is read back: its bytes are a container, and that has a loader section, with the
+/// sections and the tables of the script.
 pub fn linked_containers()
-    ensures container { (s : DescribedScript) (programs : List (List Instr)) → ScriptHolds s → AreProgramsFor (length s.sections) s.sections programs → ReadsBack (versions_of s) (linked_parts s) (linked_loader s programs) (linked_bytes s programs) }
-    ensures sections { (s : DescribedScript) (programs : List (List Instr)) (k : ℕ) (section : DescribedSection) → ScriptHolds s → AreProgramsFor (length s.sections) s.sections programs → slice_get s.sections k ≡ Some section → IsPart (linked_container s programs) k (part_of section) }
+    ensures { (s : DescribedScript) (l : LinkedContainer) (linked : IsLinked s l) → IsReadBack s l linked }
 {}
 
-/// The tables of a script, with programs for its sections, are a loader section's.
-pub fn linked_tables_are_sound()
-    ensures { (s : DescribedScript) (programs : List (List Instr)) → ScriptHolds s → AreProgramsFor (length s.sections) s.sections programs → AreTables (length s.sections) (linked_tables s programs) }
-{}
-
-/// The imports of that loader section are the script's, each with its own library.
-pub fn linked_imports()
-    ensures { (s : DescribedScript) (programs : List (List Instr)) (j : ℕ) (i : DescribedImport) → ScriptHolds s → AreProgramsFor (length s.sections) s.sections programs → slice_get s.imports j ≡ Some i
-        → import_of (loaded_tables (length s.sections) (linked_tables s programs)) j ≡ Some (record { name = i.name; class = i.class; weak = i.weak; library = i.library }) }
+/// Each relocation program of what is linked relocates its section as the fixups say, and isn't refused
+/// where sections and imports have addresses.
+pub fn linked_programs()
+    ensures { (s : DescribedScript) (l : LinkedContainer) (linked : IsLinked s l) (i : ℕ) (p : ProgramEntry) → slice_get (programs_from 0 s.sections linked.programs) i ≡ Some p → IsSectionProgram s p }
 {}

@@ -1,7 +1,8 @@
 -- One header more is written, and at the end that of the loader section.
 use Rattle.std.proofs.Common.{◌≡◌, ◌∙◌, ◌<◌, ◌≤◌, ◌++◌, append-nil, get_or, length, ap, arith}
 use Rattle.pef_write.specs.Fields.{spelled}
-use Rattle.pef_write.specs.Containers.{described, loader_header, part_header, section_fields, spelled_headers}
+use Rattle.pef_write.specs.Containers.{loader_header, part_header, section_fields, spelled_headers}
+use Rattle.pef_write.specs.Kept.Views.{described}
 use Rattle.pef_write.proofs.Fields.{all_written, on_ok, one_more}
 use Rattle.pef_write.proofs.Containers.{length-raw_data-more, laid_out-more, laid_out-end, no_part, raw_data-end, sections-are}
 use Rattle.pef_write.proofs.container.put_section_headers.Goals as goal

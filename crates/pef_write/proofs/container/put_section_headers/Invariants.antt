@@ -1,6 +1,7 @@
 -- What is written and what is left make the whole.
 use Rattle.std.proofs.Common.{◌≡◌, ◌+◌, ◌++◌, drop, length, map}
-use Rattle.pef_write.specs.Containers.{data_from, described, laid_out, raw_data, spelled_headers}
+use Rattle.pef_write.specs.Containers.{data_from, laid_out, raw_data, spelled_headers}
+use Rattle.pef_write.specs.Kept.Views.{described}
 use Rattle.pef_write.proofs.container.put_section_headers.Given as goal
 
 abbrev pub invariant-loop-part : goal.invariant-loop-part

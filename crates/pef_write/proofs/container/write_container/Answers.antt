@@ -2,10 +2,10 @@
 use Rattle.std.proofs.Common.{◌≡◌, ◌∙◌, ◌<◌, ◌≤◌, ◌++◌, length-append, drop, length, map, ap, arith}
 use Rattle.std.proofs.lemmas.List.{length-map}
 use Rattle.pef_write.specs.Fields.{padded}
-use Rattle.pef_write.specs.Containers.{described, raw_data, written_container}
+use Rattle.pef_write.specs.Containers.{raw_data, written_container}
+use Rattle.pef_write.specs.Kept.Views.{described}
 use Rattle.pef_write.proofs.Fields.{all_written, from_nothing, one_more, resized}
 use Rattle.pef_write.proofs.Containers.{fronts, fronts-are, length-raw_data-more, length-written_container, raw_data-end, raw_data-more}
-use Rattle.pef_write.proofs.Written.{reads_back}
 use Rattle.pef_write.proofs.container.write_container.Goals as goal
 
 pub container_length-requires-clause-fits : goal.container_length-requires-clause-fits
@@ -36,10 +36,7 @@ loop-part-preserved c =
     let under : c.loop-part.part-index < length c.args.parts.now = omega arith in
     one_more c.loop-part.out.items _ _ _ _ _ c.in_ok-put_padded.ensures (raw_data-more c.args.parts.now c.args.loader.now c.loop-part.part-index under) c.loop-part.invariant
 
-pub returns-clause-bytes : goal.returns-clause-bytes
-returns-clause-bytes c =
+pub returns : goal.returns
+returns c =
     let past : length c.args.parts.now ≤ c.loop-part.part-index = omega arith in
     all_written c.loop-part.out.items _ _ _ _ c.in_ok-extend_from_slice.ensures.items (raw_data-end c.args.parts.now c.args.loader.now c.loop-part.part-index past) c.loop-part.invariant
-
-pub returns-clause-read_back : goal.returns-clause-read_back
-returns-clause-read_back c = reads_back c.args.versions (map described c.args.parts.now) c.args.loader.now c.extend_from_slice.new.self.items (returns-clause-bytes c)

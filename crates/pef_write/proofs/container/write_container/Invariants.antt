@@ -1,6 +1,7 @@
 -- What is written and what is left make the whole.
 use Rattle.std.proofs.Common.{◌≡◌, ◌++◌, drop, map}
-use Rattle.pef_write.specs.Containers.{described, raw_data, written_container}
+use Rattle.pef_write.specs.Containers.{raw_data, written_container}
+use Rattle.pef_write.specs.Kept.Views.{described}
 use Rattle.pef_write.proofs.container.write_container.Given as goal
 
 abbrev pub invariant-loop-part : goal.invariant-loop-part

@@ -1,49 +1,62 @@
--- The lengths fit, and table after table is written.
-use Rattle.std.proofs.Common.{◌≡◌, ◌∙◌, ◌++◌, append_assoc, length, map, ap, sym, arith}
-use Rattle.std.specs.Int.{next_multiple_of}
-use Rattle.std.proofs.lemmas.List.{length-map}
-use Rattle.pef_write.specs.Fields.{padded, spelled}
-use Rattle.pef_write.specs.Loaders.{entry_fields, header_fields, program_bytes, strings_of, table_fields, written_loader}
-use Rattle.pef_write.specs.Described.{export_entry, program_entry, tables_of}
-use Rattle.pef_write.proofs.Fields.{from_nothing, resized}
-use Rattle.pef_write.proofs.Loaders.{front_of, length-table_fields, length-unpadded, length-written_loader, spelled-append}
-use Rattle.pef_write.proofs.LoaderLaws.{reads_back}
+-- There is room for what is gathered, and it makes the pieces.
+use Rattle.std.proofs.Common.{◌∙◌, ◌<◌, ◌++◌, length, map, length-append, refl, ap, ap₂, subst, sym, arith}
+use Rattle.std.specs.List.{All, flat_map}
+use Rattle.pef_hash.specs.Build.{BuiltTable}
+use Rattle.pef_loader.specs.Export.{Export}
+use Rattle.pef_script.specs.State.{import_names, library_names}
+use Rattle.pef_write.specs.declared.field.Field.TheVariants.{Word}
+use Rattle.pef_write.specs.Fields.{spelled}
+use Rattle.pef_write.specs.Linked.{exports_at, libraries_from, script_tables}
+use Rattle.pef_write.specs.Loaders.{export_fields, library_fields, zero_ended}
+use Rattle.pef_write.specs.Kept.Views.{program_entry}
+use Rattle.pef_write.proofs.ExportNames.{order_below}
+use Rattle.pef_write.proofs.GatherLemmas.{entries_are, programs_room, strings_are, strings_room, table_is}
 use Rattle.pef_write.proofs.loader.write_loader.Goals as goal
 
-pub find_places-places-requires : goal.find_places-places-requires
-find_places-places-requires c = omega (arith, length-written_loader (tables_of c.args.tables), c.requires.fits)
+pub put_libraries-requires-clause-strings : goal.put_libraries-requires-clause-strings
+put_libraries-requires-clause-strings c =
+    omega (arith, ap length c.new-strings.ensures.items, strings_room c.args.script.now (map program_entry c.args.programs.now) c.requires.strings)
 
-pub overflow_add-table_len-2 : goal.overflow_add-table_len-2
-overflow_add-table_len-2 c = omega (arith, length-written_loader (tables_of c.args.tables), length-table_fields (tables_of c.args.tables), length-map c.args.tables.exports.now export_entry, c.requires.fits)
+pub put_imports-requires-clause-strings : goal.put_imports-requires-clause-strings
+put_imports-requires-clause-strings c =
+    let names = c.in_ok-put_libraries.ensures.names ∙ ap (λ z. z ++ zero_ended (library_names c.args.script.now)) c.new-strings.ensures.items in
+    omega (arith, ap length names, strings_room c.args.script.now (map program_entry c.args.programs.now) c.requires.strings)
 
-pub overflow_add-places : goal.overflow_add-places
-overflow_add-places c = omega (arith, length-written_loader (tables_of c.args.tables), length-table_fields (tables_of c.args.tables), length-map c.args.tables.exports.now export_entry, c.requires.fits, c.find_places-places.ensures.exports)
+pub put_relocations-requires : goal.put_relocations-requires
+put_relocations-requires c = programs_room c.args.script.now (map program_entry c.args.programs.now) c.requires.fits
 
-pub header_fields-requires-clause-fits : goal.header_fields-requires-clause-fits
-header_fields-requires-clause-fits c = omega (arith, length-written_loader (tables_of c.args.tables), c.requires.fits)
+pub put_exports-requires-clause-order : goal.put_exports-requires-clause-order
+put_exports-requires-clause-order c =
+    let s = c.args.script.now in
+    subst (All (λ e. e < length s.exports)) (sym (c.order.ensures ∙ ap (λ (t : BuiltTable). t.order) c.in_ok-hash.ensures)) (order_below s)
 
-pub header_fields-requires-clause-table : goal.header_fields-requires-clause-table
-header_fields-requires-clause-table c = omega (arith, length-written_loader (tables_of c.args.tables), c.requires.fits)
+pub put_exports-requires-clause-strings : goal.put_exports-requires-clause-strings
+put_exports-requires-clause-strings c =
+    let s = c.args.script.now in
+    let libraries = c.in_ok-put_libraries.ensures.names ∙ ap (λ z. z ++ zero_ended (library_names s)) c.new-strings.ensures.items in
+    let names = c.in_ok-put_imports.ensures.names ∙ ap (λ z. z ++ zero_ended (import_names s)) libraries in
+    let order = c.order.ensures ∙ ap (λ (t : BuiltTable). t.order) c.in_ok-hash.ensures in
+    omega (arith, ap length names, length-append (zero_ended (library_names s)) (zero_ended (import_names s)), ap (λ o. length (flat_map (λ (e : Export). e.name) (exports_at s.exports o))) order, strings_room s (map program_entry c.args.programs.now) c.requires.strings)
 
-pub put_entries-requires-clause-fits : goal.put_entries-requires-clause-fits
-put_entries-requires-clause-fits c = omega (arith, length-written_loader (tables_of c.args.tables), c.requires.fits)
-
-pub returns-clause-bytes : goal.returns-clause-bytes
-unfolding written_loader
-returns-clause-bytes c =
-    let t = tables_of c.args.tables in
-    let programs = map program_entry c.args.tables.programs.now in
-    let header : c.put_fields.new.out.items ≡ spelled (header_fields t) =
-    from_nothing c.in_ok-out.out.items _ _ c.in_ok-put_fields.ensures c.in_ok-out.ensures.items ∙ ap spelled c.header_fields.ensures in
-    let fields : c.put_entries.new.out.items ≡ spelled (header_fields t ++ entry_fields t) =
-    c.in_ok-put_entries.ensures ∙ ap (λ z. z ++ spelled (entry_fields t)) header ∙ sym (spelled-append (header_fields t) (entry_fields t)) in
-    let front : c.put_strings.new.out.items ≡ front_of t =
-    c.in_ok-put_strings.ensures ∙ ap (λ z. z ++ strings_of t) (c.in_ok-put_programs.ensures ∙ ap (λ z. z ++ program_bytes programs) fields) ∙ append_assoc (spelled (header_fields t ++ entry_fields t)) (program_bytes programs) (strings_of t) in
-    let far : c.find_places-places.result.exports ≡ next_multiple_of (length c.put_strings.new.out.items) 4 =
-    c.find_places-places.ensures.exports ∙ ap (λ n. next_multiple_of n 4) (sym (ap length front ∙ length-unpadded t)) in
-    let whole : c.resize.new.self.items ≡ padded 4 (front_of t) =
-    c.in_ok-resize.ensures.items ∙ resized 4 c.find_places-places.result.exports c.put_strings.new.out.len c.put_strings.new.out.items far (omega arith) ∙ ap (padded 4) front in
-    c.in_ok-put_export_table.ensures ∙ ap (λ z. z ++ spelled (table_fields t)) whole
-
-pub returns-clause-read_back : goal.returns-clause-read_back
-returns-clause-read_back c = reads_back (tables_of c.args.tables) c.put_export_table.new.out.items (returns-clause-bytes c)
+pub join-requires-clause-pieces : goal.join-requires-clause-pieces
+unfolding script_tables
+join-requires-clause-pieces c =
+    let s = c.args.script.now in
+    let programs = map program_entry c.args.programs.now in
+    let table = c.in_ok-hash.ensures in
+    let order = c.order.ensures ∙ ap (λ (t : BuiltTable). t.order) table in
+    let none = ap length c.new-strings.ensures.items in
+    let libraries = c.in_ok-put_libraries.ensures.names ∙ ap (λ z. z ++ zero_ended (library_names s)) c.new-strings.ensures.items in
+    let imports = c.in_ok-put_imports.ensures.names in
+    let exports = c.in_ok-put_exports.ensures.names ∙ ap (λ o. c.put_imports.new.strings.items ++ flat_map (λ (e : Export). e.name) (exports_at s.exports o)) order in
+    let first = c.in_ok-put_libraries.ensures.entries ∙ ap₂ (λ z n. z ++ spelled (library_fields n (libraries_from s.imports 0 s.libraries))) c.new-entries.ensures.items none in
+    let slots = c.in_ok-put_words.ensures ∙ ap₂ (λ z words. z ++ spelled (map Word words)) c.new-table.ensures.items (c.slots.ensures ∙ ap (λ (t : BuiltTable). t.slots) table) in
+    let keys = c.in_ok-put_words-2.ensures ∙ ap (λ words. c.put_words.new.out.items ++ spelled (map Word words)) (c.keys.ensures ∙ ap (λ (t : BuiltTable). t.keys) table) in
+    let last = c.in_ok-put_exports.ensures.entries ∙ ap (λ o. c.put_words-2.new.out.items ++ spelled (export_fields (length c.put_imports.new.strings.items) (exports_at s.exports o))) order in
+    record {
+      entries = c.deref.ensures.value ∙ entries_are s programs c.put_libraries.new.strings.items c.put_libraries.new.out.items c.put_imports.new.out.items c.put_relocations.new.out.items libraries first c.in_ok-put_imports.ensures.entries c.in_ok-put_relocations.ensures;
+      programs = refl;
+      strings = c.deref-2.ensures.value ∙ strings_are s programs c.put_libraries.new.strings.items c.put_imports.new.strings.items c.put_exports.new.strings.items libraries imports exports;
+      power = c.power.ensures ∙ ap (λ (t : BuiltTable). t.power) table;
+      table = c.deref-3.ensures.value ∙ table_is s programs c.put_libraries.new.strings.items c.put_imports.new.strings.items c.put_words.new.out.items c.put_words-2.new.out.items c.put_exports.new.out.items libraries imports slots keys last;
+    }

@@ -1,8 +1,0 @@
--- What is counted and what is left make the whole.
-use Rattle.std.proofs.Common.{◌≡◌, ◌+◌, drop, length, map}
-use Rattle.pef_write.specs.Loaders.{program_bytes}
-use Rattle.pef_write.specs.Described.{program_entry}
-use Rattle.pef_write.proofs.loader.programs_len.Given as goal
-
-abbrev pub invariant-loop-program : goal.invariant-loop-program
-invariant-loop-program l = l.len + length (program_bytes (map program_entry (drop l.program-index l.programs))) ≡ length (program_bytes (map program_entry l.programs))

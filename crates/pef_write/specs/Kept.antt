@@ -1,0 +1,5 @@
+pub mod Encoded
+pub mod Fits
+pub mod Pieces
+pub mod Tables
+pub mod Views

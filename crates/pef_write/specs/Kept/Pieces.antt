@@ -1,0 +1,21 @@
+-- The pieces of a loader section, as the code holds them, and where they begin.
+use Rattle.std.specs.Prelude.{◌≡◌, map}
+use Rattle.pef_write.specs.declared.loader.Pieces.{Pieces}
+use Rattle.pef_write.specs.declared.loader.Places.{Places}
+use Rattle.pef_write.specs.Fields.{spelled}
+use Rattle.pef_write.specs.Loaders.{LoaderTables, entry_fields, exports_from, programs_from, strings_from, strings_of, table_fields}
+use Rattle.pef_write.specs.Kept.Views.{program_entry}
+
+-- the pieces of some tables' loader section
+pub record ArePieces (t : LoaderTables) (p : Pieces) : Type 0 where
+  pub entries : p.entries.now ≡ spelled (entry_fields t)
+  pub programs : map program_entry p.programs.now ≡ t.programs
+  pub strings : p.strings.now ≡ strings_of t
+  pub power : p.power ≡ t.power
+  pub table : p.table.now ≡ spelled (table_fields t)
+
+-- the places where they begin
+pub record ArePlaces (t : LoaderTables) (p : Places) : Type 0 where
+  pub programs : p.programs ≡ programs_from t
+  pub strings : p.strings ≡ strings_from t
+  pub exports : p.exports ≡ exports_from t

@@ -1,0 +1,166 @@
+ghost use Rattle.std.specs.Prelude.{◌≡◌, ◌+◌, ◌++◌, ◌<◌, ◌≤◌, ◌^◌, [], ◌∷◌, OnOk, length, map, nat_lt};
+ghost use Rattle.std.specs.List.{All, count_by, flat_map};
+ghost use Rattle.pef_script.specs.Seen.{export_in, import_in, library_in};
+ghost use Rattle.pef_script.specs.State.{import_names, library_names};
+ghost use Rattle.pef_script.specs.WellFormed.{ScriptHolds};
+ghost use Rattle.pef_write.specs.Fields.{spelled};
+ghost use Rattle.pef_write.specs.Linked.{exports_at, libraries_from, linked_export, linked_import};
+ghost use Rattle.pef_write.specs.Loaders.{class_byte, export_entry, export_fields, import_entry, import_fields, library_entry, library_fields, zero_ended};
+ghost use Rattle.pef_write.specs.Kept.Tables.{IsBelow};
+
+use crate::fault::LinkFault;
+use crate::field::{Field, put_fields};
+use pef_loader::layout::WEAK_IMPORT;
+use pef_script::{Export, Import, Library, Script};
+
+/// The byte behind the name of a library or an import.
+const NAME_END: u8 = 0;
+
+/// What a class byte counts for in a word of class and name offset.
+const CLASS_UNIT: u32 = 0x0100_0000;
+
+/// Appends the entries of the libraries of `script`, and their names to the strings.
+pub(crate) fn put_libraries(
+    out: &mut Vec<u8>,
+    strings: &mut Vec<u8>,
+    script: &Script<'_>,
+) -> Result<(), LinkFault>
+    requires holds { ScriptHolds script.now }
+    requires strings { length strings.old.items + length (zero_ended (library_names script.now)) < 2 ^ 32 }
+    ensures entries { OnOk result (out.new.items ≡ out.old.items ++ spelled (library_fields (length strings.old.items) (libraries_from script.now.imports 0 script.now.libraries))) }
+    ensures names { OnOk result (strings.new.items ≡ strings.old.items ++ zero_ended (library_names script.now)) }
+{
+    let mut k = 0;
+    let mut first = 0;
+    'libraries: while let Some(library) = script.library(k) {
+        let end = imports_end(script, k as u32, first);
+        let at = strings.len() as u32;
+        put_fields(
+            out,
+            &library_entry(library, at, first as u32, (end - first) as u32),
+        )?;
+        put_name(strings, library.name)?;
+        k += 1;
+        first = end;
+    }
+    Ok(())
+}
+
+/// Where the imports of library `l` end, and those of later libraries begin. Those of earlier ones
+/// end at `from`.
+fn imports_end(script: &Script<'_>, l: u32, from: usize) -> usize
+    requires holds { ScriptHolds script.now }
+    requires from { from ≤ count_by (λ i. nat_lt i.library (l + 1)) script.now.imports }
+    ensures { result ≡ count_by (λ i. nat_lt i.library (l + 1)) script.now.imports }
+{
+    let mut end = from;
+    'imports: while let Some(import) = script.import(end) {
+        if import.library > l {
+            break;
+        }
+        end += 1;
+    }
+    end
+}
+
+/// Appends the entries of the imports of `script`, and their names to the strings.
+pub(crate) fn put_imports(
+    out: &mut Vec<u8>,
+    strings: &mut Vec<u8>,
+    script: &Script<'_>,
+) -> Result<(), LinkFault>
+    requires holds { ScriptHolds script.now }
+    requires strings { length strings.old.items + length (zero_ended (import_names script.now)) < 2 ^ 24 }
+    ensures entries { OnOk result (out.new.items ≡ out.old.items ++ spelled (import_fields (length strings.old.items) (map linked_import script.now.imports))) }
+    ensures names { OnOk result (strings.new.items ≡ strings.old.items ++ zero_ended (import_names script.now)) }
+{
+    let mut j = 0;
+    'imports: while let Some(import) = script.import(j) {
+        put_fields(out, &import_entry(import, strings.len() as u32))?;
+        put_name(strings, import.name)?;
+        j += 1;
+    }
+    Ok(())
+}
+
+/// Appends a name and the byte that ends it.
+fn put_name(strings: &mut Vec<u8>, name: &[u8]) -> Result<(), LinkFault>
+    ensures { OnOk result (strings.new.items ≡ strings.old.items ++ (name.now ++ 0 ∷ [])) }
+{
+    strings.extend_from_slice(name)?;
+    strings.push(NAME_END)?;
+    Ok(())
+}
+
+/// Appends the entries of the exports of `script` at some places, in the order of the places, and their
+/// names to the strings.
+pub(crate) fn put_exports(
+    out: &mut Vec<u8>,
+    strings: &mut Vec<u8>,
+    script: &Script<'_>,
+    order: &[u32],
+) -> Result<(), LinkFault>
+    requires holds { ScriptHolds script.now }
+    requires order { All (λ e. e < length script.now.exports) order.now }
+    requires strings { length strings.old.items + length (flat_map (λ e. e.name) (exports_at script.now.exports order.now)) < 2 ^ 24 }
+    ensures entries { OnOk result (out.new.items ≡ out.old.items ++ spelled (export_fields (length strings.old.items) (exports_at script.now.exports order.now))) }
+    ensures names { OnOk result (strings.new.items ≡ strings.old.items ++ flat_map (λ e. e.name) (exports_at script.now.exports order.now)) }
+{
+    for place in order {
+        let Some(export) = script.export(*place as usize) else {
+            unreachable!()
+        };
+        put_fields(out, &export_entry(export, strings.len() as u32))?;
+        strings.extend_from_slice(export.name)?;
+    }
+    Ok(())
+}
+
+/// The fields of a library whose name stands at `at`, and whose imports are `count` ones from number
+/// `first` on (PEFImportedLibrary).
+fn library_entry(library: Library<'_>, at: u32, first: u32, count: u32) -> [Field; 8]
+    ensures { let l = library_in library.entry in result ≡ library_entry at (record { name = l.name; current = l.current; old_imp = l.old_imp; count = count; first = first; options = l.options }) }
+{
+    [
+        Field::Word(at),
+        Field::Word(library.old_imp),
+        Field::Word(library.current),
+        Field::Word(count),
+        Field::Word(first),
+        Field::Byte(library.options),
+        Field::Byte(0),
+        Field::Half(0),
+    ]
+}
+
+/// The fields of an import whose name stands at `at` (PEFImportedSymbol).
+fn import_entry(import: Import<'_>, at: u32) -> [Field; 1]
+    requires class { import.class ≤ 4 }
+    requires at { at < 2 ^ 24 }
+    ensures { result ≡ import_entry at (linked_import (import_in import.entry)) }
+{
+    let class = class_byte(import.weak, import.class);
+    [Field::Word(u32::from(class) * CLASS_UNIT + at)]
+}
+
+/// The class byte of an import.
+fn class_byte(weak: bool, class: u8) -> u8
+    requires { class ≤ 4 }
+    ensures { result ≡ class_byte weak class }
+{
+    if weak { class + WEAK_IMPORT } else { class }
+}
+
+/// The fields of an export whose name stands at `at` (PEFExportedSymbol).
+fn export_entry(export: Export<'_>, at: u32) -> [Field; 3]
+    requires class { export.class ≤ 4 }
+    requires section { IsBelow (2 ^ 15) export.section }
+    requires at { at < 2 ^ 24 }
+    ensures { result ≡ export_entry at (linked_export (export_in export.entry)) }
+{
+    [
+        Field::Word(u32::from(export.class) * CLASS_UNIT + at),
+        Field::Word(export.value),
+        Field::Half((export.section as i16).cast_unsigned()),
+    ]
+}

@@ -1,0 +1,21 @@
+ghost use Rattle.std.specs.Prelude.{◌≡◌, IfOk};
+ghost use Rattle.pef_hash.specs.Build.{built};
+ghost use Rattle.pef_script.specs.State.{export_names};
+
+use crate::fault::LinkFault;
+use pef_hash::{Table, build};
+use pef_script::Script;
+use std::alloc::Global;
+
+/// The hash table of the names of the exports of `script`.
+pub(crate) fn export_table(alloc: Global, script: &Script<'_>) -> Result<Table, LinkFault>
+    ensures { IfOk result (λ table. table ≡ built (export_names script.now)) }
+{
+    let mut names = Vec::new(alloc);
+    let mut lengths = Vec::with_capacity(alloc, script.exports())?;
+    'exports: while let Some(export) = script.export(lengths.len()) {
+        names.extend_from_slice(export.name)?;
+        lengths.push(export.name.len() as u8)?;
+    }
+    Ok(build(alloc, &names, &lengths)?)
+}
