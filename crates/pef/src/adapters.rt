@@ -1,8 +1,8 @@
 //! Files and streams of the system, behind the ports of the tool. They tell no bytes, and count their
 //! failures.
 
-ghost use Rattle.std.specs.Prelude.{◌≤◌, IfErr};
-ghost use Rattle.pef_tool.specs.Ports.{MayFail};
+ghost use Rattle.std.specs.Prelude.{◌≡◌, IfErr, OnOk};
+ghost use Rattle.pef_ports.specs.Ports.{counted};
 
 use pef_tool::{FileFault, Files, Sink, Source, StreamFault};
 use std::alloc::Global;
@@ -14,6 +14,7 @@ use std::{fs, rt, str};
 pub struct Input<R: Read + Drop> {
     reader: R,
     failures: u64,
+    failed: bool,
 }
 
 impl<R: Read + Drop> Input<R> {
@@ -21,6 +22,7 @@ impl<R: Read + Drop> Input<R> {
         Input {
             reader,
             failures: 0,
+            failed: false,
         }
     }
 }
@@ -28,15 +30,17 @@ impl<R: Read + Drop> Input<R> {
 impl<R: Read + Drop> Source for Input<R> {
     ghost use Rattle.std.specs.Prelude.{None};
 
-    ghost coming = { λ _. None };
-
-    ghost failures = { λ input. input.failures };
+    ghost stream = { λ input. record { bytes = None; failures = input.failures; failed = input.failed } };
 
     fn read(&mut self, buffer: &mut [u8]) -> Result<usize, StreamFault> {
         match self.reader.read(buffer) {
-            Ok(count) => Ok(count),
+            Ok(count) => {
+                self.failed = false;
+                Ok(count)
+            }
             Err(_) => {
                 self.failures = self.failures.saturating_add(1);
+                self.failed = true;
                 Err(StreamFault)
             }
         }
@@ -48,6 +52,7 @@ impl<R: Read + Drop> Source for Input<R> {
 pub struct Output<W: Write + Drop> {
     writer: W,
     failures: u64,
+    failed: bool,
 }
 
 impl<W: Write + Drop> Output<W> {
@@ -55,6 +60,7 @@ impl<W: Write + Drop> Output<W> {
         Output {
             writer,
             failures: 0,
+            failed: false,
         }
     }
 }
@@ -62,16 +68,18 @@ impl<W: Write + Drop> Output<W> {
 impl<W: Write + Drop> Sink for Output<W> {
     ghost use Rattle.std.specs.Prelude.{None};
 
-    ghost written = { λ _. None };
-
-    ghost failures = { λ out. out.failures };
+    ghost stream = { λ out. record { bytes = None; failures = out.failures; failed = out.failed } };
 
     fn write(&mut self, bytes: &[u8]) -> Result<usize, StreamFault> {
         match self.writer.write(bytes) {
             // A write that takes nothing of some bytes would be asked for again without end.
-            Ok(count) if count > 0 || bytes.is_empty() => Ok(count),
+            Ok(count) if count > 0 || bytes.is_empty() => {
+                self.failed = false;
+                Ok(count)
+            }
             _ => {
                 self.failures = self.failures.saturating_add(1);
+                self.failed = true;
                 Err(StreamFault)
             }
         }
@@ -92,8 +100,8 @@ impl<'a, R: rt::Files + AllocGlobal> DiskFiles<'a, R> {
 
     /// What a call on a file answered, with a failure counted.
     fn told<T: Drop>(&mut self, answer: io::Result<T>) -> Result<T, FileFault>
-        ensures fails { IfErr result (λ fault. MayFail fault self.old.failures self.new.failures) }
-        ensures counted { self.old.failures ≤ self.new.failures }
+        ensures done { OnOk result (self.new.failures ≡ self.old.failures) }
+        ensures fails { IfErr result (λ fault. self.new.failures ≡ counted fault self.old.failures) }
     {
         match answer {
             Ok(value) => Ok(value),
@@ -103,8 +111,7 @@ impl<'a, R: rt::Files + AllocGlobal> DiskFiles<'a, R> {
     }
 
     fn failed(&mut self) -> FileFault
-        ensures fails { MayFail result self.old.failures self.new.failures }
-        ensures counted { self.old.failures ≤ self.new.failures }
+        ensures { self.new.failures ≡ counted result self.old.failures }
     {
         self.failures = self.failures.saturating_add(1);
         FileFault::Failed
@@ -114,9 +121,7 @@ impl<'a, R: rt::Files + AllocGlobal> DiskFiles<'a, R> {
 impl<'a, R: rt::Files + AllocGlobal> Files for DiskFiles<'a, R> {
     ghost use Rattle.std.specs.Prelude.{None};
 
-    ghost contents = { λ _. None };
-
-    ghost failures = { λ files. files.failures };
+    ghost state = { λ files. record { contents = None; failures = files.failures } };
 
     fn read(&mut self, _alloc: Global, path: &[u8]) -> Result<Vec<u8>, FileFault> {
         match str::from_utf8(path) {

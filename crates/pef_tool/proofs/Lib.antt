@@ -1,14 +1,10 @@
-pub mod DescribedLemmas
-pub mod InputLemmas
-pub mod LineLemmas
-pub mod LinkedLemmas
-pub mod PlacedLemmas
-pub mod PlacingLemmas
-pub mod PreparedLemmas
-pub mod ProgramLemmas
-pub mod RelocatingLemmas
-pub mod SendingLemmas
-pub mod SentLemmas
-pub mod ShowingLemmas
-pub mod ShownLemmas
-pub mod TextLemmas
+mod DescribedLemmas
+mod LinkLemmas
+mod LinkedLemmas
+mod PlacedLemmas
+mod PlacingLemmas
+mod PreparedLemmas
+mod ProgramLemmas
+mod RefusalLemmas
+mod RelocatingLemmas
+mod ShowingLemmas

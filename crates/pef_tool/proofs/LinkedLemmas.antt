@@ -18,7 +18,7 @@ use Rattle.pef_write.specs.Reading.{loaded_tables, program_read}
 use Rattle.pef_write.proofs.Laws.{are_sound, read_back, section_is}
 use Rattle.pef_write.proofs.Laws.{tables_loaded}
 use Rattle.pef_write.proofs.Laws.{init_back, main_back, relocs_back, term_back}
-use Rattle.pef_tool.specs.Prepared.{HasImage, HasImageAt}
+use Rattle.pef_tool.specs.Kept.Prepared.{HasImage, HasImageAt}
 use Rattle.pef_tool.proofs.ProgramLemmas.{AreHeaders}
 use Rattle.pef_tool.proofs.ShowingLemmas.{IsContainerOf}
 

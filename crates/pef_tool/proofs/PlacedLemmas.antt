@@ -5,7 +5,8 @@ use Rattle.std.proofs.lemmas.List.{length-replicate}
 use Rattle.cfm_memory.specs.Instances.{Instance, Layout, with_instance}
 use Rattle.cfm_memory.specs.Placement.{IsFree, IsRoom, end_of, step_of, taken, with_new}
 use Rattle.cfm_memory.proofs.Laws.{taken_most}
-use Rattle.pef_tool.specs.Placing.{Extent, LackRoom}
+use Rattle.pef_tool.specs.Kept.Lacking.{LackRoom}
+use Rattle.pef_tool.specs.Placing.{Extent}
 
 -- all instances end before an address
 abbrev pub EndBy : ℕ → List Instance → Type 0

@@ -8,8 +8,9 @@ use Rattle.cfm_memory.specs.declared.place.Place.{Place}
 use Rattle.cfm_memory.proofs.Laws.{nothing_at_free, placed_here, placed_other}
 use Rattle.cfm_memory.proofs.Laws.{some_taken, within_taken}
 use Rattle.std.proofs.lemmas.Bool.{cases_lt}
-use Rattle.pef_tool.specs.Placing.{Extent, IsPlaceFor, ArePlaced, HasNoRoomFor, LackRoom, LacksRoom}
-use Rattle.pef_tool.specs.Prepared.{AreApart, Stand, place_at, zeros_at}
+use Rattle.pef_tool.specs.Kept.Lacking.{HasNoRoomFor, LackRoom, LacksRoom}
+use Rattle.pef_tool.specs.Kept.Prepared.{AreApart, zeros_at}
+use Rattle.pef_tool.specs.Placing.{Extent, IsPlaceFor, ArePlaced, Stand, place_at}
 
 -- what stands for a place past the last one
 abbrev nowhere : Place

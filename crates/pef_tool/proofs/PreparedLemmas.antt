@@ -12,10 +12,10 @@ use Rattle.pef_reloc.specs.Applied.{Addresses, Done}
 use Rattle.pef_views.specs.Container.{Contained, IsContainer, Section, section_of}
 use Rattle.pef_views.proofs.Laws.{section_there}
 use Rattle.pef_tool.specs.Described.{filled}
-use Rattle.pef_tool.specs.Placing.{ArePlaced, Extent}
-use Rattle.pef_tool.specs.Prepared.{Stand, done_at, filled_at, place_at, section_done, zeros_at}
-use Rattle.pef_tool.specs.Relocating.{first_refusal, relocated_by}
-use Rattle.pef_tool.specs.Shown.{IsHeld}
+use Rattle.pef_tool.specs.Kept.Held.{IsHeld}
+use Rattle.pef_tool.specs.Kept.Prepared.{done_at, filled_at, section_done, zeros_at}
+use Rattle.pef_tool.specs.Kept.Relocating.{first_refusal, relocated_by}
+use Rattle.pef_tool.specs.Placing.{ArePlaced, Extent, Stand, place_at}
 use Rattle.pef_tool.proofs.PlacingLemmas.{is_held, placed_below, placed_stand}
 use Rattle.pef_tool.proofs.RelocatingLemmas.{unrefused_sound}
 

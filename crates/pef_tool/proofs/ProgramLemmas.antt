@@ -12,7 +12,7 @@ use Rattle.pef_reloc.proofs.Laws.{applied-trace, program_fault-spelled, relocate
 use Rattle.pef_script.specs.Script.{DescribedSection}
 use Rattle.pef_write.specs.Loaders.{ProgramEntry}
 use Rattle.pef_tool.specs.Described.{with_bases}
-use Rattle.pef_tool.specs.Relocating.{done_then, header_done, program_done, relocated_by, untouched}
+use Rattle.pef_tool.specs.Kept.Relocating.{done_then, header_done, program_done, relocated_by, untouched}
 use Rattle.pef_tool.proofs.DescribedLemmas.{AreInside, additions_applied}
 use Rattle.pef_write.specs.Linked.{AreProgramsFor, IsProgramFor, program_of, programs_from}
 

@@ -9,8 +9,9 @@ use Rattle.pef_reloc.specs.declared.fault.RelocFault.{RelocFault}
 use Rattle.pef_words.specs.Refusals.{first_among}
 use Rattle.pef_words.proofs.Laws.Refusals.{first_among-here, first_among-next, none_among}
 use Rattle.pef_tool.proofs.PlacingLemmas.{apart_both}
-use Rattle.pef_tool.specs.Prepared.{AreApart, Stand, place_at}
-use Rattle.pef_tool.specs.Relocating.{done_then, first_refusal, header_done, program_done, refusal_at, relocated_by, untouched}
+use Rattle.pef_tool.specs.Kept.Prepared.{AreApart}
+use Rattle.pef_tool.specs.Kept.Relocating.{done_then, first_refusal, header_done, program_done, refusal_at, relocated_by, untouched}
+use Rattle.pef_tool.specs.Placing.{Stand, place_at}
 
 -- what is done after nothing that is left to do
 done_whole : (d : Done) → done_then d untouched ≡ d

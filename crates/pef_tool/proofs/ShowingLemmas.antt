@@ -23,13 +23,14 @@ use Rattle.pef_write.specs.Containers.{IsPart, part_header}
 use Rattle.pef_write.specs.Loaders.{ProgramEntry}
 use Rattle.pef_tool.specs.declared.prepare.PrepareFault.{PrepareFault}
 use Rattle.pef_tool.specs.declared.prepare.PrepareFault.TheVariants.{Memory, Reloc}
-use Rattle.pef_tool.specs.declared.shown.Prepared.{Prepared}
+use Rattle.pef_tool.specs.declared.prepared.Prepared.{Prepared}
 use Rattle.cfm_memory.specs.declared.place.MemoryFault.TheVariants.{NoRoom, OutOfMemory}
 use Rattle.pef_tool.specs.Described.{described_at, described_extent, described_memory, filled}
-use Rattle.pef_tool.specs.Placing.{ArePlaced, Extent, HasNoRoomFor, IsPlaceFor, LackRoom, extent_in, extent_of}
-use Rattle.pef_tool.specs.Prepared.{IsPrepared, MayNotPrepare, entry_address, addresses_of, done_at, filled_at, filled_in, no_instances, section_done}
-use Rattle.pef_tool.specs.Relocating.{program_done, refusal_at, relocated_by, untouched}
-use Rattle.pef_tool.specs.Showing.{IsShown}
+use Rattle.pef_tool.specs.Kept.Lacking.{HasNoRoomFor, LackRoom}
+use Rattle.pef_tool.specs.Kept.Prepared.{extent_in, extent_of, IsPrepared, MayNotPrepare, done_at, filled_at, filled_in, section_done}
+use Rattle.pef_tool.specs.Kept.Relocating.{program_done, refusal_at, relocated_by, untouched}
+use Rattle.pef_tool.specs.Placing.{ArePlaced, Extent, IsPlaceFor, entry_address, addresses_of, no_instances}
+use Rattle.pef_tool.specs.Show.{IsShown}
 use Rattle.pef_tool.proofs.DescribedLemmas.{AreInside, fixups_inside}
 use Rattle.pef_tool.proofs.PlacedLemmas.{IsSmall, none_lacks}
 use Rattle.pef_tool.proofs.PlacingLemmas.{length-placed}

@@ -1,21 +1,21 @@
-ghost use Rattle.std.specs.Prelude.{◌≡◌, Some, map, string_bytes};
-ghost use Rattle.pef_tool.specs.CommandLine.{asked_by, asked_of};
-ghost use Rattle.pef_tool.specs.Ports.{files_met};
-ghost use Rattle.pef_tool.specs.Reply.{Delivers, MayAnswer, answer_of};
+ghost use Rattle.std.specs.Prelude.{Some, map, string_bytes};
+ghost use Rattle.pef_request.specs.CommandLine.{asked_by};
+ghost use Rattle.pef_request.specs.Requests.{asked_of};
+ghost use Rattle.pef_tool.specs.Run.{Delivers, RunAnswers, answer_of};
 ghost use Rattle.pef_tool.specs.declared.reply.Reply.{Reply};
 
-use crate::command_line::{LineFault, Request, read_words};
-use crate::link_file::link_file;
-use crate::ports::{Files, Sink, Source};
+use crate::link::link_files;
 use crate::refusal::Refusal;
 use crate::reply::Reply;
-use crate::show::{ShowFault, show};
+use crate::show::show;
+use pef_ports::{Files, Sink, Source};
+use pef_request::{Request, WordsFault, read_words};
 use std::alloc::Global;
 
 /// Runs the command that the words ask for, of which the first is the program's name.
 ///
 /// The status is 0 where the command is done, 1 where it is refused or the output fails, and 2 where the
-/// words are no line of this program.
+/// words ask for no command of this program.
 pub fn run<F: Files, R: Source, W: Sink>(
     alloc: Global,
     words: &[String],
@@ -24,9 +24,8 @@ pub fn run<F: Files, R: Source, W: Sink>(
     out: &mut W,
 ) -> u8
     ensures { (reply : Reply)
-        × MayAnswer (asked_by (map string_bytes words.now)) (R.coming input.old) (R.failures input.old) (R.failures input.new)
-        (files_met (F.contents files.old) (F.contents files.new) (F.failures files.old) (F.failures files.new)) reply
-        × Delivers (W.written out.old) (W.written out.new) (W.failures out.old) (W.failures out.new) (answer_of reply) result }
+        × RunAnswers (record { state = F.state; was_read = F.was_read; was_written = F.was_written }) R.stream (asked_by (map string_bytes words.now)) files.old files.new input.old input.new reply
+        × Delivers (W.stream out.old) (W.stream out.new) (answer_of reply) result }
 {
     let reply = answer(alloc, words, files, input);
     reply.deliver(out)
@@ -39,13 +38,12 @@ fn answer<'a, F: Files, R: Source>(
     files: &mut F,
     input: &mut R,
 ) -> Reply<'a>
-    ensures { MayAnswer (asked_by (map string_bytes words.entry.now)) (R.coming input.old) (R.failures input.old) (R.failures input.new)
-        (files_met (F.contents files.old) (F.contents files.new) (F.failures files.old) (F.failures files.new)) result }
+    ensures { RunAnswers (record { state = F.state; was_read = F.was_read; was_written = F.was_written }) R.stream (asked_by (map string_bytes words.entry.now)) files.old files.new input.old input.new result }
 {
     match read_words(alloc, words) {
         Ok(request) => answer_request(alloc, request, files, input),
-        Err(LineFault::Usage) => Reply::Usage,
-        Err(LineFault::OutOfMemory) => Reply::Refused(Refusal::OutOfMemory),
+        Err(WordsFault::Usage) => Reply::Usage,
+        Err(WordsFault::OutOfMemory) => Reply::Refused(Refusal::OutOfMemory),
     }
 }
 
@@ -56,17 +54,12 @@ fn answer_request<'a, F: Files, R: Source>(
     files: &mut F,
     input: &mut R,
 ) -> Reply<'a>
-    ensures { MayAnswer (Some (asked_of request.entry)) (R.coming input.old) (R.failures input.old) (R.failures input.new)
-        (files_met (F.contents files.old) (F.contents files.new) (F.failures files.old) (F.failures files.new)) result }
+    ensures { RunAnswers (record { state = F.state; was_read = F.was_read; was_written = F.was_written }) R.stream (Some (asked_of request.entry)) files.old files.new input.old input.new result }
 {
     match request {
-        Request::Show => match show(alloc, input) {
-            Ok(prepared) => Reply::Shown(prepared),
-            Err(ShowFault::Refused(refusal)) => Reply::Refused(refusal),
-            Err(ShowFault::LibraryMissing(name)) => Reply::LibraryMissing(name),
-        },
+        Request::Show => show(alloc, input),
         Request::Link { script, out } => {
-            link_file(alloc, files, script.as_bytes(), out.as_bytes())
+            link_files(alloc, files, script.as_bytes(), out.as_bytes())
         }
     }
 }

@@ -1,26 +1,19 @@
 //! The commands of `pef`, over any files, input and output.
+//!
+//! A command is one file: a function from what it is handed to a `Reply`, whose clause says what it
+//! answers. `run` chooses the command by the words, and sends the reply.
 #![tactic(auto)]
 
-mod command_line;
 mod commands;
-mod dump;
 mod entries;
-mod input;
-mod line;
-mod link_file;
-mod linked;
-mod name;
-mod page;
-mod ports;
+mod fragment;
+mod link;
 mod prepare;
+mod prepared;
 mod refusal;
 mod relocation;
 mod reply;
 mod show;
-mod shown;
 
 pub use commands::run;
-pub use ports::{FileFault, Files, Sink, Source, StreamFault};
-
-#[cfg(test)]
-mod tests;
+pub use pef_ports::{FileFault, Files, Sink, Source, StreamFault};

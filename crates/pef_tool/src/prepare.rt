@@ -3,13 +3,14 @@ ghost use Rattle.cfm_memory.specs.Instances.{bytes_at};
 ghost use Rattle.cfm_memory.specs.declared.place.MemoryFault.TheVariants.{OutOfMemory};
 ghost use Rattle.pef_loader.specs.Views.{loaded};
 ghost use Rattle.pef_views.specs.Views.{contained, seen};
-ghost use Rattle.pef_tool.specs.Prepared.{AreApart, HasImage, HasImageAt, IsPrepared, MayNotPrepare, Stand, filled_at, filled_in, image_in, place_at, zeros_at};
-ghost use Rattle.pef_tool.specs.Placing.{ArePlaced, LacksRoom, extent_of};
-ghost use Rattle.pef_tool.specs.Shown.{IsHeld};
+ghost use Rattle.pef_tool.specs.Kept.Held.{IsHeld};
+ghost use Rattle.pef_tool.specs.Kept.Lacking.{LacksRoom};
+ghost use Rattle.pef_tool.specs.Kept.Prepared.{AreApart, HasImage, HasImageAt, IsPrepared, MayNotPrepare, extent_of, filled_at, filled_in, image_in, zeros_at};
+ghost use Rattle.pef_tool.specs.Placing.{ArePlaced, Stand, place_at};
 
 use crate::entries::find_entries;
+use crate::prepared::Prepared;
 use crate::relocation::relocate_sections;
-use crate::shown::Prepared;
 use cfm_memory::{Memory, MemoryFault, Place};
 use pef_loader::Loader;
 use pef_reloc::RelocFault;

@@ -1,12 +1,10 @@
 ghost use Rattle.std.specs.Prelude.{◌≡◌, ◌≤◌, ◌+◌, ◌++◌, length};
 ghost use Rattle.arrayvec.specs.ArrayVec.{array_vec_len};
-ghost use Rattle.pef_tool.specs.Refusal.{refused_name, named_refusal_start, named_refusal_text, line_fault_name, name_of, number_of, name_end, place_of, refusal_text, reloc_fault_name};
-ghost use Rattle.pef_tool.specs.Sent.{Sends};
+ghost use Rattle.pef_ports.specs.Sent.{Sends};
+ghost use Rattle.pef_tool.specs.Refusals.{name_end, name_of, named_refusal_start, named_refusal_text, number_of, place_of, refusal_text, refused_name};
 
-use crate::line::{Line, push_number, push_text};
-use crate::name::print_name;
-use crate::page::{Page, send};
-use crate::ports::{Sink, StreamFault};
+use cfm_memory::MemoryFault;
+use pef_ports::{Line, Page, Sink, StreamFault, print_name, push_number, push_text, send};
 use pef_reloc::RelocFault;
 use pef_script::LineFault;
 
@@ -35,7 +33,7 @@ impl Refusal {
         match self {
             Refusal::Script { fault, .. } => fault.number(),
             Refusal::Reloc(fault) => fault.number(),
-            Refusal::NoRoom => 67,
+            Refusal::NoRoom => MemoryFault::NoRoom.number(),
             Refusal::InputUnreadable => 73,
             Refusal::InputTooLong => 74,
             Refusal::OutOfMemory => 99,
@@ -43,17 +41,18 @@ impl Refusal {
     }
 
     /// The name of the refusal.
-    fn name(&self) -> &'static [u8]
+    #[tactic(auto, using(crate::proofs::RefusalLemmas::short_name))]
+    fn name(&self) -> &'static str
         ensures name { result.now ≡ name_of self.now }
         ensures short { length result.now ≤ 16 }
     {
         match self {
-            Refusal::Script { fault, .. } => line_fault_name(*fault),
-            Refusal::Reloc(fault) => reloc_fault_name(*fault),
-            Refusal::NoRoom => b"NoRoom",
-            Refusal::InputUnreadable => b"InputUnreadable",
-            Refusal::InputTooLong => b"InputTooLong",
-            Refusal::OutOfMemory => b"OutOfMemory",
+            Refusal::Script { fault, .. } => fault.name(),
+            Refusal::Reloc(fault) => fault.name(),
+            Refusal::NoRoom => MemoryFault::NoRoom.name(),
+            Refusal::InputUnreadable => "InputUnreadable",
+            Refusal::InputTooLong => "InputTooLong",
+            Refusal::OutOfMemory => "OutOfMemory",
         }
     }
 
@@ -81,7 +80,7 @@ impl Refusal {
         push_text(&mut line, b"refused ");
         push_number(&mut line, u64::from(self.number()));
         push_text(&mut line, b" ");
-        push_text(&mut line, self.name());
+        push_text(&mut line, self.name().as_bytes());
         self.push_place(&mut line);
         push_text(&mut line, b"\n");
         line
@@ -124,7 +123,7 @@ impl<'a> NamedRefusal<'a> {
 
     /// Prints the line that ends the run.
     pub fn print<W: Sink>(&self, out: &mut W, page: &mut Page) -> Result<(), StreamFault>
-        ensures { Sends result (W.written out.old) (W.written out.new) (W.failures out.old) (W.failures out.new) page.old.items page.new.items (named_refusal_text self.now) }
+        ensures { Sends result (W.stream out.old) (W.stream out.new) page.old.items page.new.items (named_refusal_text self.now) }
     {
         send(out, page, self.start())?;
         print_name_end(out, page, self.name())
@@ -133,45 +132,8 @@ impl<'a> NamedRefusal<'a> {
 
 /// Prints a name, and ends its line.
 fn print_name_end<W: Sink>(out: &mut W, page: &mut Page, name: &[u8]) -> Result<(), StreamFault>
-    ensures { Sends result (W.written out.old) (W.written out.new) (W.failures out.old) (W.failures out.new) page.old.items page.new.items (name_end name.now) }
+    ensures { Sends result (W.stream out.old) (W.stream out.new) page.old.items page.new.items (name_end name.now) }
 {
     print_name(out, page, name)?;
     send(out, page, b"\n")
-}
-
-/// The name of a line's fault.
-fn line_fault_name(fault: LineFault) -> &'static [u8]
-    ensures name { result.now ≡ line_fault_name fault }
-    ensures short { length result.now ≤ 16 }
-{
-    match fault {
-        LineFault::BadLine => b"BadLine",
-        LineFault::BadNumber => b"BadNumber",
-        LineFault::UnknownName => b"UnknownName",
-        LineFault::RepeatedName => b"RepeatedName",
-        LineFault::OutOfOrder => b"OutOfOrder",
-        LineFault::Overlap => b"Overlap",
-        LineFault::OutsideSection => b"OutsideSection",
-        LineFault::TooMany => b"TooMany",
-        LineFault::BadKind => b"BadKind",
-    }
-}
-
-/// The name of a fault of relocation.
-fn reloc_fault_name(fault: RelocFault) -> &'static [u8]
-    ensures name { result.now ≡ reloc_fault_name fault }
-    ensures short { length result.now ≤ 16 }
-{
-    match fault {
-        RelocFault::BadOpcode => b"BadOpcode",
-        RelocFault::CutInstruction => b"CutInstruction",
-        RelocFault::RepeatTooFar => b"RepeatTooFar",
-        RelocFault::RepeatCuts => b"RepeatCuts",
-        RelocFault::NestedRepeat => b"NestedRepeat",
-        RelocFault::TooManySteps => b"TooManySteps",
-        RelocFault::WordOutside => b"WordOutside",
-        RelocFault::ImportOutside => b"ImportOutside",
-        RelocFault::SectionOutside => b"SectionOutside",
-        RelocFault::OutOfMemory => b"OutOfMemory",
-    }
 }

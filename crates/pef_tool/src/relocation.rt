@@ -3,9 +3,10 @@ ghost use Rattle.std.specs.Result.{result_err};
 ghost use Rattle.cfm_memory.specs.Instances.{bytes_at};
 ghost use Rattle.pef_loader.specs.Loader.{reloc_of};
 ghost use Rattle.pef_loader.specs.Views.{loaded};
-ghost use Rattle.pef_tool.specs.Prepared.{AreApart, Stand};
-ghost use Rattle.pef_tool.specs.Relocating.{first_refusal, program_done, relocated_by};
-ghost use Rattle.pef_tool.specs.Shown.{IsHeld};
+ghost use Rattle.pef_tool.specs.Kept.Held.{IsHeld};
+ghost use Rattle.pef_tool.specs.Kept.Prepared.{AreApart};
+ghost use Rattle.pef_tool.specs.Kept.Relocating.{first_refusal, program_done, relocated_by};
+ghost use Rattle.pef_tool.specs.Placing.{Stand};
 
 use cfm_memory::{Memory, Place};
 use pef_loader::Loader;

@@ -1,12 +1,12 @@
 ghost use Rattle.std.specs.Prelude.{◌≡◌, OnOk, []};
-ghost use Rattle.pef_tool.specs.Reply.{Delivers, answer_of};
-ghost use Rattle.pef_tool.specs.Sent.{Sends};
+ghost use Rattle.pef_ports.specs.Sent.{Sends};
+ghost use Rattle.pef_tool.specs.Run.{Delivers, answer_of};
 
-use crate::linked::print_linked;
-use crate::page::{Page, flush, send};
-use crate::ports::{Sink, StreamFault};
+use crate::fragment::print_fragment;
+use crate::link::print_linked;
+use crate::prepared::Prepared;
 use crate::refusal::{NamedRefusal, Refusal};
-use crate::shown::Prepared;
+use pef_ports::{Page, Sink, StreamFault, flush, send};
 use pef_write::Linked;
 
 /// What a run answers.
@@ -40,13 +40,13 @@ impl<'a> Reply<'a> {
 
     /// Prints the reply through the page.
     fn print<W: Sink>(&self, out: &mut W, page: &mut Page) -> Result<(), StreamFault>
-        ensures { Sends result (W.written out.old) (W.written out.new) (W.failures out.old) (W.failures out.new) page.old.items page.new.items (answer_of self.now).text }
+        ensures { Sends result (W.stream out.old) (W.stream out.new) page.old.items page.new.items (answer_of self.now).text }
     {
         match self {
             Reply::Usage => send(out, page, b"usage\n"),
             Reply::Refused(refusal) => send(out, page, refusal.line().as_slice()),
             Reply::RefusedFile(refusal) => refusal.print(out, page),
-            Reply::Shown(prepared) => prepared.print(out, page),
+            Reply::Shown(prepared) => print_fragment(out, page, prepared),
             Reply::LibraryMissing(name) => {
                 NamedRefusal::LibraryMissing(name.as_slice()).print(out, page)
             }
@@ -56,7 +56,7 @@ impl<'a> Reply<'a> {
 
     /// Sends the reply, and says the status that the run ends with.
     pub fn deliver<W: Sink>(&self, out: &mut W) -> u8
-        ensures { Delivers (W.written out.old) (W.written out.new) (W.failures out.old) (W.failures out.new) (answer_of self.now) result }
+        ensures { Delivers (W.stream out.old) (W.stream out.new) (answer_of self.now) result }
     {
         match self.print_whole(out) {
             Ok(()) => self.status(),
@@ -66,7 +66,7 @@ impl<'a> Reply<'a> {
 
     /// Prints the reply, and leaves nothing in a page.
     fn print_whole<W: Sink>(&self, out: &mut W) -> Result<(), StreamFault>
-        ensures { Sends result (W.written out.old) (W.written out.new) (W.failures out.old) (W.failures out.new) [] [] (answer_of self.now).text }
+        ensures { Sends result (W.stream out.old) (W.stream out.new) [] [] (answer_of self.now).text }
     {
         let mut page = Page::new();
         self.print(out, &mut page)?;

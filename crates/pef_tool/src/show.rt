@@ -1,17 +1,16 @@
 ghost use Rattle.std.specs.Prelude.{◌≡◌, ◌<◌, IfErr, IfOk, length};
 ghost use Rattle.pef_script.specs.WellFormed.{ScriptHolds};
-ghost use Rattle.pef_tool.specs.Input.{IsWhole, MayNotRead};
-ghost use Rattle.pef_tool.specs.Reply.{MayNotBeShown, MayShow};
-ghost use Rattle.pef_tool.specs.Showing.{IsShown, MayNotShow};
+ghost use Rattle.pef_tool.specs.Kept.Showing.{ScriptAnswers, input_refusal};
+ghost use Rattle.pef_tool.specs.Show.{IsShown, ShowAnswers};
 ghost use Rattle.pef_tool.specs.declared.refusal.Refusal.TheVariants.{OutOfMemory};
 
-use crate::input::{InputFault, read_input};
-use crate::ports::Source;
 use crate::prepare::{PrepareFault, prepare};
+use crate::prepared::Prepared;
 use crate::refusal::Refusal;
-use crate::shown::Prepared;
+use crate::reply::Reply;
 use cfm_memory::MemoryFault;
 use pef_loader::Loader;
+use pef_ports::{InputFault, Source, read_input};
 use pef_script::{Script, ScriptFault};
 use pef_views::Container;
 use pef_write::link;
@@ -20,63 +19,45 @@ use std::alloc::Global;
 /// How many bytes of an input are read.
 const INPUT_LIMIT: usize = 536_870_912;
 
-/// Why a script isn't shown.
-#[derive(Drop)]
-pub enum ShowFault {
-    /// The run is refused.
-    Refused(Refusal),
-    /// A library isn't there; this is its name.
-    LibraryMissing(Vec<u8>),
-}
-
-impl From<Refusal> for ShowFault {
-    ghost use Rattle.std.specs.Prelude.{◌≡◌};
-    ghost use Rattle.pef_tool.specs.declared.show.ShowFault.TheVariants as show_fault;
-
-    ghost from_gives = { λ refusal e. e ≡ show_fault.Refused refusal };
-
-    fn from(refusal: Refusal) -> ShowFault {
-        ShowFault::Refused(refusal)
-    }
-}
-
-/// Links the script on the input, and prepares it alone.
-pub fn show<R: Source>(alloc: Global, input: &mut R) -> Result<Prepared, ShowFault>
-    ensures shown { IfOk result (λ p. MayShow (R.coming input.old) p) }
-    ensures refused { IfErr result (λ fault. MayNotBeShown (R.coming input.old) (R.failures input.old) (R.failures input.new) fault) }
+/// Links the script on the input, prepares it alone, and shows its memory.
+pub fn show<'a, R: Source>(alloc: Global, input: &mut R) -> Reply<'a>
+    ensures { ShowAnswers (R.stream input.old) (R.stream input.new) result }
 {
-    let text = read_text(alloc, input)?;
+    let text = match read_input(alloc, input, INPUT_LIMIT) {
+        Ok(text) => text,
+        Err(fault) => return Reply::Refused(input_refusal(fault)),
+    };
     match Script::read(alloc, text.as_slice()) {
         Ok(script) => show_script(alloc, &script),
         Err(ScriptFault::Refused { fault, line }) => {
-            Err(ShowFault::Refused(Refusal::Script { fault, line }))
+            Reply::Refused(Refusal::Script { fault, line })
         }
-        Err(ScriptFault::OutOfMemory) => Err(ShowFault::Refused(Refusal::OutOfMemory)),
+        Err(ScriptFault::OutOfMemory) => Reply::Refused(Refusal::OutOfMemory),
     }
 }
 
-/// Reads the whole input.
-fn read_text<R: Source>(alloc: Global, input: &mut R) -> Result<Vec<u8>, Refusal>
-    ensures read { IfOk result (λ text. IsWhole (R.coming input.old) text.items) }
-    ensures refused { IfErr result (λ refusal. MayNotRead (R.coming input.old) (R.failures input.old) (R.failures input.new) refusal) }
+/// What a fault of reading the input is told as.
+fn input_refusal(fault: InputFault) -> Refusal
+    ensures { result ≡ input_refusal fault }
 {
-    match read_input(alloc, input, INPUT_LIMIT) {
-        Ok(text) => Ok(text),
-        Err(InputFault::Unreadable) => Err(Refusal::InputUnreadable),
-        Err(InputFault::TooLong) => Err(Refusal::InputTooLong),
-        Err(InputFault::OutOfMemory) => Err(Refusal::OutOfMemory),
+    match fault {
+        InputFault::Unreadable => Refusal::InputUnreadable,
+        InputFault::TooLong => Refusal::InputTooLong,
+        InputFault::OutOfMemory => Refusal::OutOfMemory,
     }
 }
 
 /// Links a script, and prepares it alone; a script with a library isn't shown.
-fn show_script(alloc: Global, script: &Script<'_>) -> Result<Prepared, ShowFault>
-    ensures shown { IfOk result (λ p. IsShown script.now p) }
-    ensures refused { IfErr result (λ fault. MayNotShow script.now fault) }
+fn show_script<'a>(alloc: Global, script: &Script<'_>) -> Reply<'a>
+    ensures { ScriptAnswers script.now result }
 {
     if script.libraries() > 0 {
-        return Err(missing_library(alloc, script));
+        return missing_library(alloc, script);
     }
-    Ok(prepare_script(alloc, script)?)
+    match prepare_script(alloc, script) {
+        Ok(prepared) => Reply::Shown(prepared),
+        Err(refusal) => Reply::Refused(refusal),
+    }
 }
 
 /// Links a script without libraries, and prepares it alone. Of the faults of `prepare` only want of
@@ -106,15 +87,15 @@ fn prepare_script(alloc: Global, script: &Script<'_>) -> Result<Prepared, Refusa
 
 /// The first library of a script isn't there. Its name is copied: the script's text is gone by the time
 /// that the line is printed.
-fn missing_library(alloc: Global, script: &Script<'_>) -> ShowFault
+fn missing_library<'a>(alloc: Global, script: &Script<'_>) -> Reply<'a>
     requires { 0 < length script.now.libraries }
-    ensures { MayNotShow script.now result }
+    ensures { ScriptAnswers script.now result }
 {
     let Some(library) = script.library(0) else {
         unreachable!()
     };
     match Vec::from_slice(alloc, library.name) {
-        Ok(name) => ShowFault::LibraryMissing(name),
-        Err(_) => ShowFault::Refused(Refusal::OutOfMemory),
+        Ok(name) => Reply::LibraryMissing(name),
+        Err(_) => Reply::Refused(Refusal::OutOfMemory),
     }
 }

@@ -3,7 +3,7 @@ use Rattle.std.proofs.Common.{◌≡◌, ℕ, List, ◌++◌, Some, length, drop
 use Rattle.cfm_memory.proofs.Laws.{written_here, written_other, fitted_same}
 use Rattle.pef_views.specs.Views.{seen}
 use Rattle.pef_tool.specs.Described.{filled}
-use Rattle.pef_tool.specs.Prepared.{filled_in, image_in}
+use Rattle.pef_tool.specs.Kept.Prepared.{filled_in, image_in}
 use Rattle.pef_tool.proofs.PreparedLemmas.{filled_zeros, some_same, written_holds}
 use Rattle.pef_tool.proofs.prepare.fill_section.Goals as goal
 

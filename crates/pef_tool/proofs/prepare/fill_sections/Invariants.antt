@@ -2,8 +2,9 @@ use Rattle.std.proofs.Common.{◌≡◌, ◌<◌, ◌≤◌, ℕ, Some, length}
 use Rattle.cfm_memory.specs.Instances.{bytes_at}
 use Rattle.pef_views.specs.Views.{contained}
 use Rattle.std.specs.List.{All}
-use Rattle.pef_tool.specs.Shown.{IsHeld}
-use Rattle.pef_tool.specs.Prepared.{filled_at, place_at, zeros_at}
+use Rattle.pef_tool.specs.Kept.Held.{IsHeld}
+use Rattle.pef_tool.specs.Kept.Prepared.{filled_at, zeros_at}
+use Rattle.pef_tool.specs.Placing.{place_at}
 use Rattle.pef_tool.proofs.prepare.fill_sections.Given as goal
 
 abbrev pub invariant-loop-k : goal.invariant-loop-k

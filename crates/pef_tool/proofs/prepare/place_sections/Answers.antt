@@ -6,7 +6,9 @@ use Rattle.cfm_memory.specs.Instances.{Layout}
 use Rattle.cfm_memory.specs.Placement.{MayRefuse}
 use Rattle.cfm_memory.specs.declared.place.Place.{Place}
 use Rattle.pef_views.specs.Views.{contained}
-use Rattle.pef_tool.specs.Placing.{ArePlaced, Extent, IsPlaceFor, LackRoom, LacksRoom, extent_in, extent_of}
+use Rattle.pef_tool.specs.Kept.Lacking.{LackRoom, LacksRoom}
+use Rattle.pef_tool.specs.Kept.Prepared.{extent_in, extent_of}
+use Rattle.pef_tool.specs.Placing.{ArePlaced, Extent, IsPlaceFor}
 use Rattle.pef_tool.proofs.PlacingLemmas.{lacking_more, lacks_room, placed_more, placed_none}
 use Rattle.pef_tool.proofs.prepare.place_sections.Goals as goal
 

@@ -2,7 +2,9 @@ use Rattle.std.proofs.Common.{◌-◌, List, ◌++◌}
 use Rattle.cfm_memory.specs.Instances.{Layout}
 use Rattle.cfm_memory.specs.declared.place.Place.{Place}
 use Rattle.pef_views.specs.Views.{contained}
-use Rattle.pef_tool.specs.Placing.{ArePlaced, LackRoom, extent_of}
+use Rattle.pef_tool.specs.Kept.Lacking.{LackRoom}
+use Rattle.pef_tool.specs.Kept.Prepared.{extent_of}
+use Rattle.pef_tool.specs.Placing.{ArePlaced}
 use Rattle.pef_tool.proofs.prepare.place_sections.Given as goal
 
 abbrev pub invariant-loop-i : goal.invariant-loop-i

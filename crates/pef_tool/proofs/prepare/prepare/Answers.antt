@@ -7,9 +7,9 @@ use Rattle.pef_loader.specs.Views.{loaded}
 use Rattle.pef_reloc.specs.Applied.{Addresses}
 use Rattle.pef_views.specs.Views.{contained}
 use Rattle.pef_views.proofs.Laws.{counts}
-use Rattle.pef_tool.specs.Placing.{ArePlaced, extent_of}
-use Rattle.pef_tool.specs.Prepared.{Stand, addresses_of, done_at, entry_address, filled_at}
-use Rattle.pef_tool.specs.Relocating.{first_refusal, relocated_by}
+use Rattle.pef_tool.specs.Kept.Prepared.{extent_of, done_at, filled_at}
+use Rattle.pef_tool.specs.Kept.Relocating.{first_refusal, relocated_by}
+use Rattle.pef_tool.specs.Placing.{ArePlaced, Stand, addresses_of, entry_address}
 use Rattle.pef_tool.proofs.PlacingLemmas.{length-placed, placed_are_apart, placed_size, placed_stand}
 use Rattle.pef_tool.proofs.PreparedLemmas.{placed_held, prepared_sound, prepared_stand}
 use Rattle.pef_tool.proofs.prepare.prepare.Goals as goal

@@ -2,7 +2,7 @@
 use Rattle.std.proofs.Common.{◌≡◌, ℕ, List, [], Some, length, sym, ap, ◌∙◌, arith}
 use Rattle.cfm_memory.proofs.Laws.{written_here, written_other, fitted_same}
 use Rattle.pef_reloc.specs.Applied.{Addresses, Done}
-use Rattle.pef_tool.specs.Relocating.{program_done}
+use Rattle.pef_tool.specs.Kept.Relocating.{program_done}
 use Rattle.pef_tool.proofs.PreparedLemmas.{some_same, written_holds}
 use Rattle.pef_tool.proofs.relocation.relocate_section.Goals as goal
 

@@ -2,8 +2,8 @@ use Rattle.std.proofs.Common.{ℕ, List, []}
 use Rattle.std.specs.List.{All}
 use Rattle.pef_loader.specs.Loader.{reloc_of}
 use Rattle.pef_loader.specs.Views.{loaded}
-use Rattle.pef_tool.specs.Prepared.{Stand}
-use Rattle.pef_tool.specs.Shown.{IsHeld}
+use Rattle.pef_tool.specs.Kept.Held.{IsHeld}
+use Rattle.pef_tool.specs.Placing.{Stand}
 use Rattle.pef_tool.proofs.RelocatingLemmas.{HaveRun}
 use Rattle.pef_tool.proofs.relocation.relocate_sections.Given as goal
 

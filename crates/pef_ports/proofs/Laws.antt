@@ -1,0 +1,2 @@
+-- What this crate offers to the proofs of others: facts of its definitions.
+pub mod Sending

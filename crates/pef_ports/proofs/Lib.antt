@@ -1,0 +1,3 @@
+mod InputLemmas
+pub mod Laws
+mod TextLemmas

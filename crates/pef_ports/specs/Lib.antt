@@ -1,0 +1,6 @@
+pub mod Input
+pub mod Kept
+pub mod Names
+pub mod Ports
+pub mod Sent
+pub mod Text

@@ -1,0 +1,67 @@
+ghost use Rattle.std.specs.Prelude.{◌<◌, length};
+ghost use Rattle.pef_ports.specs.Input.{ReadsInput};
+ghost use Rattle.pef_ports.specs.Kept.Chunks.{ReadsChunk};
+
+use crate::ports::{Source, StreamFault};
+use std::alloc::{AllocError, Global};
+use thiserror::Error;
+
+/// How many bytes are asked for at a time.
+const CHUNK: usize = 65536;
+
+/// Why an input could not be read whole.
+#[derive(Clone, Copy, Debug, PartialEq, Eq, Error)]
+pub enum InputFault {
+    /// The input failed.
+    #[error("InputUnreadable")]
+    Unreadable,
+    /// The input has more bytes than the limit.
+    #[error("InputTooLong")]
+    TooLong,
+    /// A growth of memory was refused.
+    #[error("OutOfMemory")]
+    OutOfMemory,
+}
+
+impl From<AllocError> for InputFault {
+    ghost use Rattle.std.specs.Prelude.{◌≡◌};
+    ghost use Rattle.pef_ports.specs.declared.input.InputFault.TheVariants.{OutOfMemory};
+
+    ghost from_gives = { λ _ e. e ≡ OutOfMemory };
+
+    fn from(_error: AllocError) -> InputFault {
+        InputFault::OutOfMemory
+    }
+}
+
+/// Reads an input to its end, where it has no more than `limit` bytes.
+pub fn read_input<R: Source>(
+    alloc: Global,
+    input: &mut R,
+    limit: usize,
+) -> Result<Vec<u8>, InputFault>
+    ensures { ReadsInput result (R.stream input.old) (R.stream input.new) limit }
+{
+    let mut bytes = Vec::new(alloc);
+    let mut chunk = [0; CHUNK];
+    loop {
+        let count = read_chunk(input, &mut chunk, limit - bytes.len())?;
+        if count == 0 {
+            return Ok(bytes);
+        }
+        let (next, _) = chunk.split_at(count);
+        bytes.extend_from_slice(next)?;
+    }
+}
+
+/// Reads the next bytes of an input, of which no more than `room` may come. It takes no memory, so its
+/// two faults are told as they are.
+fn read_chunk<R: Source>(input: &mut R, chunk: &mut [u8], room: usize) -> Result<usize, InputFault>
+    ensures { ReadsChunk result (R.stream input.old) (R.stream input.new) chunk.new room }
+{
+    match input.read(chunk) {
+        Ok(count) if count <= room => Ok(count),
+        Ok(_) => Err(InputFault::TooLong),
+        Err(StreamFault) => Err(InputFault::Unreadable),
+    }
+}

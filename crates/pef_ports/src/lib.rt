@@ -1,0 +1,17 @@
+//! The ports of the tool, which are its files, its input and its output; reading a whole input; and what
+//! commands print in common: text through a page, lines, names, and memory in hex.
+#![tactic(auto)]
+
+mod dump;
+mod input;
+mod line;
+mod name;
+mod page;
+mod ports;
+
+pub use dump::print_memory;
+pub use input::{InputFault, read_input};
+pub use line::{Line, push_hex, push_number, push_text, push_word};
+pub use name::print_name;
+pub use page::{Page, flush, send};
+pub use ports::{FileFault, Files, Sink, Source, StreamFault};

@@ -1,0 +1,47 @@
+ghost use Rattle.std.specs.Prelude.{◌≡◌, ◌≤◌, ◌<◌, length, OnOk, []};
+ghost use Rattle.pef_ports.specs.Sent.{Sends};
+
+use crate::ports::{Sink, StreamFault};
+use arrayvec::ArrayVec;
+
+/// How many bytes wait before they go out together.
+const PAGE: usize = 8192;
+
+/// The bytes of an output that wait to go out.
+pub type Page = ArrayVec<u8, PAGE>;
+
+/// Sends `bytes` behind what waits in the page.
+pub fn send<W: Sink>(out: &mut W, page: &mut Page, bytes: &[u8]) -> Result<(), StreamFault>
+    ensures { Sends result (W.stream out.old) (W.stream out.new) page.old.items page.new.items bytes.now }
+{
+    if page.try_extend_from_slice(bytes).is_ok() {
+        return Ok(());
+    }
+    flush(out, page)?;
+    if page.try_extend_from_slice(bytes).is_ok() {
+        return Ok(());
+    }
+    write_all(out, bytes)
+}
+
+/// Sends what waits in the page, which is empty then.
+pub fn flush<W: Sink>(out: &mut W, page: &mut Page) -> Result<(), StreamFault>
+    ensures sends { Sends result (W.stream out.old) (W.stream out.new) page.old.items page.new.items [] }
+    ensures empty { OnOk result (page.new.items ≡ []) }
+{
+    write_all(out, page.as_slice())?;
+    page.clear();
+    Ok(())
+}
+
+/// Sends all of `bytes`, with no page between.
+fn write_all<W: Sink>(out: &mut W, bytes: &[u8]) -> Result<(), StreamFault>
+    ensures { Sends result (W.stream out.old) (W.stream out.new) [] [] bytes.now }
+{
+    let mut at = 0;
+    while at < bytes.len() {
+        let (_, rest) = bytes.split_at(at);
+        at += out.write(rest)?;
+    }
+    Ok(())
+}

@@ -1,0 +1,48 @@
+-- What the words of a command line ask for, by `clap`'s own function of the words at this program's
+-- commands.
+use Rattle.std.specs.Prelude.{true, List, [], ◌∷◌, Option, None, Some, codes, if◌then◌else◌, option_and_then, option_map}
+use Rattle.std.specs.Str.{bytes_eq}
+use Rattle.clap.specs.Walk.{Row, Rule, Text, first_of}
+use Rattle.clap.specs.Words.{App, Kinds, new_app, new_rule, with_rule, with_subcommand, fault_of, subcommand_of}
+use Rattle.pef_request.specs.Requests.{Asked, link, show}
+
+-- an operand that has to be there
+abbrev pub operand : Text → Rule
+operand name = record (new_rule name) { required = true }
+
+-- `show`, which has no operands
+abbrev pub show_command : App
+show_command = new_app (codes "show")
+
+-- `link SCRIPT OUT`
+abbrev pub link_command : App
+link_command = with_rule (with_rule (new_app (codes "link")) (operand (codes "SCRIPT"))) (operand (codes "OUT"))
+
+-- the program, which wants a command and has no help
+abbrev pub top_command : App
+top_command =
+    let plain = new_app (codes "pef") in
+    record plain { top = record plain.top { subcommand_required = true; disable_help_flag = true; disable_help_subcommand = true } }
+
+-- the program's commands
+unfoldable pub pef : App
+pef = with_subcommand (with_subcommand top_command show_command.top) link_command.top
+
+-- what the operands of `link` ask for
+abbrev pub link_asked : List Row → Option Asked
+link_asked rows = option_and_then (λ script. option_map (link script) (first_of (codes "OUT") rows)) (first_of (codes "SCRIPT") rows)
+
+-- what a command's name and operands ask for
+abbrev pub command_asked : Text → List Row → Option Asked
+command_asked name rows =
+    if bytes_eq name (codes "show") then Some show
+    else if bytes_eq name (codes "link") then link_asked rows else None
+
+-- a line without a fault asks for what its command asks for
+abbrev pub asked_at : Kinds → Option (Text × List Row) → Option Asked
+asked_at [] found = option_and_then (λ f. command_asked f.0 f.1) found
+asked_at (k ∷ ks) found = None
+
+-- what the words ask for, where they are a good line
+unfoldable pub asked_by : List Text → Option Asked
+asked_by words = asked_at (fault_of pef words) (subcommand_of pef words)

@@ -1,0 +1,4 @@
+pub mod CommandLine
+pub mod Kept
+pub mod Plain
+pub mod Requests

@@ -1,0 +1,112 @@
+ghost use Rattle.std.specs.Prelude.{◌≡◌, IfOk, false, map, string_bytes};
+ghost use Rattle.clap.specs.Words.{app_of, found_of, rows_of};
+ghost use Rattle.clap.specs.declared.builder.command.Command.TheViews.{out-Command};
+ghost use Rattle.pef_request.specs.CommandLine.{asked_by, command_asked, link_asked, link_command, pef};
+ghost use Rattle.pef_request.specs.Kept.Kinds.{fault_of_kind};
+ghost use Rattle.pef_request.specs.Requests.{AnswersWords};
+
+use clap::error::ErrorKind;
+use clap::{Arg, ArgMatches, Command};
+use std::alloc::{AllocError, Global};
+
+/// What a command line asks for.
+#[derive(Clone, Copy, Debug, PartialEq, Eq)]
+pub enum Request<'a> {
+    /// Link the script on the input, prepare it, and print its memory.
+    Show,
+    /// Link the script at a path, and write the container to another.
+    Link { script: &'a str, out: &'a str },
+}
+
+/// Why a command line asks for nothing.
+#[derive(Clone, Copy, Debug, PartialEq, Eq)]
+pub enum WordsFault {
+    /// The words are no line of this program.
+    Usage,
+    /// A growth of memory was refused.
+    OutOfMemory,
+}
+
+impl From<AllocError> for WordsFault {
+    ghost use Rattle.std.specs.Prelude.{◌≡◌};
+    ghost use Rattle.pef_request.specs.declared.command_line.WordsFault.TheVariants.{OutOfMemory};
+
+    ghost from_gives = { λ _ e. e ≡ OutOfMemory };
+
+    fn from(_error: AllocError) -> WordsFault {
+        WordsFault::OutOfMemory
+    }
+}
+
+/// Reads the words of a command line, of which the first is the program's name.
+pub fn read_words<'a>(alloc: Global, words: &'a [String]) -> Result<Request<'a>, WordsFault>
+    ensures { AnswersWords result (asked_by (map string_bytes words.entry.now)) }
+{
+    let command = command(alloc)?;
+    let matches = match command.try_get_matches_from(words) {
+        Ok(matches) => matches,
+        Err(error) => return Err(words_fault(error.kind())),
+    };
+    match matches.subcommand() {
+        Some((name, operands)) => command_request(name, operands),
+        None => Err(WordsFault::Usage),
+    }
+}
+
+/// The program's commands.
+fn command<'a>(alloc: Global) -> Result<Command<'a>, AllocError>
+    ensures app { IfOk result (λ c. app_of c ≡ pef) }
+{
+    let show = Command::new(alloc, "show");
+    let link = link_command(alloc)?;
+    let top = Command::new(alloc, "pef")
+        .subcommand_required(true)
+        .disable_help_flag(true)
+        .disable_help_subcommand(true);
+    top.subcommand(show)?.subcommand(link)
+}
+
+/// The command `link SCRIPT OUT`.
+fn link_command<'a>(alloc: Global) -> Result<Command<'a>, AllocError>
+    ensures app { IfOk result (λ c. app_of c ≡ link_command) }
+    ensures local { IfOk result (λ c. (out-Command c).has_globals ≡ false) }
+{
+    let script = Arg::new(alloc, "SCRIPT").required(true);
+    let out = Arg::new(alloc, "OUT").required(true);
+    Command::new(alloc, "link").arg(script)?.arg(out)
+}
+
+/// The request of a command's name and operands.
+fn command_request<'a>(name: &str, operands: &ArgMatches<'a>) -> Result<Request<'a>, WordsFault>
+    ensures { AnswersWords result (command_asked name.now (rows_of (found_of operands.now))) }
+{
+    match name {
+        "show" => Ok(Request::Show),
+        "link" => link_request(operands),
+        _ => Err(WordsFault::Usage),
+    }
+}
+
+/// The request of the operands of `link`.
+#[tactic(auto, using(crate::proofs::LineLemmas::first_in_rows))]
+fn link_request<'a>(operands: &ArgMatches<'a>) -> Result<Request<'a>, WordsFault>
+    ensures { AnswersWords result (link_asked (rows_of (found_of operands.now))) }
+{
+    let Some(script) = operands.get_str("SCRIPT") else {
+        return Err(WordsFault::Usage);
+    };
+    let Some(out) = operands.get_str("OUT") else {
+        return Err(WordsFault::Usage);
+    };
+    Ok(Request::Link { script, out })
+}
+
+/// Why `clap` refused a line.
+fn words_fault(kind: ErrorKind) -> WordsFault
+    ensures { result ≡ fault_of_kind kind }
+{
+    match kind {
+        ErrorKind::OutOfMemory => WordsFault::OutOfMemory,
+        _ => WordsFault::Usage,
+    }
+}

@@ -1,0 +1,8 @@
+//! Which command the words of a command line ask for.
+#![tactic(auto)]
+
+mod command_line;
+mod theorems;
+
+pub use command_line::{Request, WordsFault, read_words};
+pub use theorems::plain_words;

@@ -1,0 +1,76 @@
+-- What `link SCRIPT OUT` answers: it reads SCRIPT, links it, and writes its whole container to OUT. No other call is
+-- made on files.
+use Rattle.std.specs.Prelude.{◌≡◌, ◌⊎◌, ℕ, ◌+◌, List, [], ◌∷◌, ◌++◌, Result, Ok, Err, codes, decimal, length}
+use Rattle.pef_ports.specs.Ports.{FilesPort, Reads, Writes}
+use Rattle.pef_ports.specs.declared.ports.FileFault.{FileFault}
+use Rattle.pef_ports.specs.declared.ports.FileFault.TheVariants as file_fault
+use Rattle.pef_script.specs.Grammar.{script_of}
+use Rattle.pef_script.specs.Script.{DescribedScript}
+use Rattle.pef_script.specs.declared.fault.LineFault.{LineFault}
+use Rattle.pef_tool.specs.declared.refusal.NamedRefusal.{NamedRefusal}
+use Rattle.pef_tool.specs.declared.refusal.NamedRefusal.TheVariants.{FileUnreadable, FileUnwritable}
+use Rattle.pef_tool.specs.declared.refusal.Refusal.{Refusal}
+use Rattle.pef_tool.specs.declared.refusal.Refusal.TheVariants.{Script, OutOfMemory}
+use Rattle.pef_tool.specs.declared.reply.Reply.{Reply}
+use Rattle.pef_tool.specs.declared.reply.Reply.TheVariants.{Linked, Refused, RefusedFile}
+use Rattle.pef_write.specs.Linked.{IsLinked, LinkedContainer}
+
+-- SCRIPT was read; it is no script, by its first refusal
+pub record RefusesFile {F : Type 0} (port : FilesPort F) (before after : F) (path : List ℕ) (fault : LineFault) (line : ℕ) : Type 0 where
+  pub text : List ℕ
+  pub read : Reads port before after path (Ok text)
+  pub refused : script_of text ≡ Err (record { fault = fault; line = line })
+
+-- SCRIPT was read, its script linked, and the whole container written to OUT, with this answer
+pub record WritesLinked {F : Type 0} (port : FilesPort F) (before after : F) (path out : List ℕ) (l : LinkedContainer) (answer : Result (Unit {0}) FileFault) : Type 0 where
+  pub text : List ℕ
+  pub between : F
+  pub read : Reads port before between path (Ok text)
+  pub script : DescribedScript
+  pub is_script : script_of text ≡ Ok script
+  pub linked : IsLinked script l
+  pub written : Writes port between after out l.bytes answer
+
+-- memory was refused: before SCRIPT was read, or by reading it, or behind that, or by writing the whole container
+abbrev pub LinkLacksMemory : {F : Type 0} → FilesPort F → F → F → List ℕ → List ℕ → Type 0
+LinkLacksMemory port before after script out =
+    (after ≡ before)
+    ⊎ Reads port before after script (Err file_fault.OutOfMemory)
+    ⊎ ((text : List ℕ) × Reads port before after script (Ok text))
+    ⊎ ((l : LinkedContainer) × WritesLinked port before after script out l (Err file_fault.OutOfMemory))
+
+-- why `link` is refused without a path
+abbrev pub LinkRefuses : {F : Type 0} → FilesPort F → F → F → List ℕ → List ℕ → Refusal → Type 0
+LinkRefuses port before after script out (Script fault line) = RefusesFile port before after script fault line
+LinkRefuses port before after script out OutOfMemory = LinkLacksMemory port before after script out
+LinkRefuses port before after script out _ = ⊥
+
+-- .. and with a path: reading SCRIPT failed, or writing OUT
+abbrev pub LinkRefusesFile : {F : Type 0} → FilesPort F → F → F → List ℕ → List ℕ → NamedRefusal → Type 0
+LinkRefusesFile port before after script out (FileUnreadable path) = (path.now ≡ script) × Reads port before after script (Err file_fault.Failed)
+LinkRefusesFile port before after script out (FileUnwritable path) = (path.now ≡ out) × ((l : LinkedContainer) × WritesLinked port before after script out l (Err file_fault.Failed))
+LinkRefusesFile port before after script out _ = ⊥
+
+-- what `link` answers, by how the files stood and stand
+abbrev pub LinkAnswers : {F : Type 0} → FilesPort F → F → F → List ℕ → List ℕ → Reply → Type 0
+LinkAnswers port before after script out (Linked l) = WritesLinked port before after script out l (Ok tt)
+LinkAnswers port before after script out (Refused refusal) = LinkRefuses port before after script out refusal
+LinkAnswers port before after script out (RefusedFile refusal) = LinkRefusesFile port before after script out refusal
+LinkAnswers port before after script out _ = ⊥
+
+-- the line of a container's size in bytes
+unfoldable pub size_text : ℕ → List ℕ
+size_text size = codes "linked " ++ decimal size ++ codes " bytes\n"
+
+-- the line of the length of section k's program in halfwords
+unfoldable pub length_text : ℕ → ℕ → List ℕ
+length_text k len = codes "section " ++ decimal k ++ codes " length " ++ decimal len ++ 10 ∷ []
+
+-- the lines of sections, numbered from a number on
+abbrev pub lengths_text : ℕ → List ℕ → List ℕ
+lengths_text k [] = []
+lengths_text k (len ∷ lengths) = length_text k len ++ lengths_text (k + 1) lengths
+
+-- what is printed of what was linked: the container's size, then the length of each section's program
+abbrev pub linked_text : LinkedContainer → List ℕ
+linked_text l = size_text (length l.bytes) ++ lengths_text 0 l.lengths
