@@ -11,6 +11,8 @@ mod pidata;
 #[cfg(test)]
 mod reloc;
 #[cfg(test)]
+mod script;
+#[cfg(test)]
 mod views;
 #[cfg(test)]
 mod words;

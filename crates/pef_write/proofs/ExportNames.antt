@@ -11,7 +11,7 @@ use Rattle.pef_hash.proofs.Laws.{ordered_name}
 use Rattle.pef_hash.proofs.Laws.{least_power-most}
 use Rattle.pef_hash.proofs.Laws.{length-in_slots}
 use Rattle.pef_script.specs.Script.{DescribedExport, DescribedScript}
-use Rattle.pef_script.specs.State.{export_names}
+use Rattle.pef_script.specs.Script.{export_names}
 use Rattle.pef_write.proofs.Listing.{finished, mapped-all, none_past}
 
 -- the bytes of some names, one after the other

@@ -4,7 +4,7 @@ use Rattle.std.specs.List.{flat_map}
 use Rattle.pef_hash.specs.Build.{built}
 use Rattle.pef_loader.specs.Export.{Export}
 use Rattle.pef_script.specs.Script.{DescribedScript}
-use Rattle.pef_script.specs.State.{export_names, import_names, library_names}
+use Rattle.pef_script.specs.Script.{export_names, import_names, library_names}
 use Rattle.pef_write.specs.declared.field.Field.TheVariants.{Word}
 use Rattle.pef_write.specs.Fields.{spelled}
 use Rattle.pef_write.specs.Linked.{exports_at, libraries_from, linked_import, script_tables}

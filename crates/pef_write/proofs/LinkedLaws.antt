@@ -14,7 +14,7 @@ use Rattle.pef_loader.specs.Export.{export_table}
 use Rattle.pef_loader.specs.Loader.{export_of, loaded_of, named_of}
 use Rattle.pef_reloc.specs.declared.instr.Instr.{Instr}
 use Rattle.pef_script.specs.Script.{DescribedExport, DescribedImport, DescribedLibrary, DescribedScript, DescribedSection}
-use Rattle.pef_script.specs.State.{export_names}
+use Rattle.pef_script.specs.Script.{export_names}
 use Rattle.pef_script.specs.WellFormed.{ScriptHolds}
 use Rattle.pef_views.specs.Container.{Section, container_of, section_of}
 use Rattle.pef_write.specs.Containers.{DescribedPart, IsPart, data_from, laid_out, loader_header, part_header, written_sections}

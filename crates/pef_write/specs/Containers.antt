@@ -26,8 +26,8 @@ header_fields h = Word h.tag_1
     ∷ Word h.architecture
     ∷ Word h.format_version
     ∷ Word h.date_time_stamp
-    ∷ Word h.old_definition_version
-    ∷ Word h.old_implementation_version
+    ∷ Word h.old_def_version
+    ∷ Word h.old_imp_version
     ∷ Word h.current_version
     ∷ Half h.section_count
     ∷ Half h.instantiated_section_count
@@ -57,8 +57,8 @@ written_header v n = record {
   architecture = 0x70777063;
   format_version = 1;
   date_time_stamp = 0;
-  old_definition_version = v.old_def;
-  old_implementation_version = v.old_imp;
+  old_def_version = v.old_def;
+  old_imp_version = v.old_imp;
   current_version = v.current;
   section_count = n + 1;
   instantiated_section_count = n;

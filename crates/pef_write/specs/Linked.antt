@@ -12,7 +12,7 @@ use Rattle.pef_reloc.specs.declared.instr.Instr.{Instr}
 use Rattle.pef_reloc.specs.Instrs.{program_length, spelled}
 use Rattle.pef_reloc.specs.Steps.{Makes, is_flat, names_below}
 use Rattle.pef_script.specs.Script.{DescribedExport, DescribedImport, DescribedLibrary, DescribedScript, DescribedSection}
-use Rattle.pef_script.specs.State.{export_names}
+use Rattle.pef_script.specs.Script.{export_names}
 use Rattle.pef_script.specs.WellFormed.{ScriptHolds}
 use Rattle.pef_write.specs.Containers.{DescribedPart, written_container}
 use Rattle.pef_write.specs.Loaders.{LoaderTables, ProgramEntry, written_loader}

@@ -9,7 +9,7 @@ use Rattle.pef_reloc.specs.declared.instr.Instr.{Instr}
 use Rattle.pef_reloc.specs.Steps.{add}
 use Rattle.pef_reloc.specs.Unrolled.{program_fault}
 use Rattle.pef_script.specs.Script.{DescribedExport, DescribedScript, DescribedSection}
-use Rattle.pef_script.specs.State.{export_names}
+use Rattle.pef_script.specs.Script.{export_names}
 use Rattle.pef_views.specs.Container.{Contained, container_of, section_of}
 use Rattle.pef_write.specs.Containers.{IsPart, loader_header}
 use Rattle.pef_write.specs.Linked.{IsLinked, LinkedContainer, linked_export, linked_import, linked_library, no_export, part_of, programs_from}
@@ -18,8 +18,8 @@ use Rattle.pef_write.specs.Loaders.{ProgramEntry}
 -- a container with a script's versions and sections, and its loader section behind these
 pub record HasSections (s : DescribedScript) (c : Contained) : Type 0 where
   pub current : c.header.current_version ≡ s.versions.current
-  pub old_def : c.header.old_definition_version ≡ s.versions.old_def
-  pub old_imp : c.header.old_implementation_version ≡ s.versions.old_imp
+  pub old_def : c.header.old_def_version ≡ s.versions.old_def
+  pub old_imp : c.header.old_imp_version ≡ s.versions.old_imp
   pub instantiated : c.header.instantiated_section_count ≡ length s.sections
   pub count : c.header.section_count ≡ length s.sections + 1
   pub each : (k : ℕ) (section : DescribedSection) → slice_get s.sections k ≡ Some section → IsPart c k (part_of section)

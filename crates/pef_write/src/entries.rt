@@ -1,7 +1,7 @@
 ghost use Rattle.std.specs.Prelude.{◌≡◌, ◌+◌, ◌++◌, ◌<◌, ◌≤◌, ◌^◌, [], ◌∷◌, OnOk, length, map, nat_lt};
 ghost use Rattle.std.specs.List.{All, count_by, flat_map};
-ghost use Rattle.pef_script.specs.Seen.{export_in, import_in, library_in};
-ghost use Rattle.pef_script.specs.State.{import_names, library_names};
+ghost use Rattle.pef_script.specs.Views.{export_in, import_in, library_in};
+ghost use Rattle.pef_script.specs.Script.{import_names, library_names};
 ghost use Rattle.pef_script.specs.WellFormed.{ScriptHolds};
 ghost use Rattle.pef_write.specs.Fields.{spelled};
 ghost use Rattle.pef_write.specs.Linked.{exports_at, libraries_from, linked_export, linked_import};

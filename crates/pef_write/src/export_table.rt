@@ -1,6 +1,6 @@
 ghost use Rattle.std.specs.Prelude.{◌≡◌, IfOk};
 ghost use Rattle.pef_hash.specs.Build.{built};
-ghost use Rattle.pef_script.specs.State.{export_names};
+ghost use Rattle.pef_script.specs.Script.{export_names};
 
 use crate::fault::LinkFault;
 use pef_hash::{Table, build};

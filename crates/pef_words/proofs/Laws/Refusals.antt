@@ -24,7 +24,7 @@ first_among-end answer i n past =
     rw e refl
 
 -- of two answers of which there is none, both are none
-neither : {F : Type 0} (a b : Option F) → option_or a b ≡ None → (a ≡ None) × (b ≡ None)
+pub neither : {F : Type 0} (a b : Option F) → option_or a b ≡ None → (a ≡ None) × (b ≡ None)
 neither None b none = (refl, none)
 neither (Some x) b none = (none, absurd (cc))
 

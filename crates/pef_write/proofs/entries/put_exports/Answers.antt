@@ -2,7 +2,7 @@
 use Rattle.std.proofs.Common.{◌≡◌, ◌∙◌, ◌+◌, ◌<◌, ◌≤◌, ◌^◌, ◌++◌, get_or, length, length-append, ap, sym, arith}
 use Rattle.std.proofs.lemmas.Option.{get_or_from_slice_get}
 use Rattle.pef_script.specs.Script.{DescribedExport}
-use Rattle.pef_script.specs.Seen.{export_in}
+use Rattle.pef_script.specs.Views.{export_in}
 use Rattle.pef_script.specs.WellFormed.{ExportHolds, totals_of}
 use Rattle.pef_words.proofs.Laws.Lists.{all-get}
 use Rattle.pef_write.specs.Fields.{spelled}

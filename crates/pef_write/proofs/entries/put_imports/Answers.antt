@@ -2,8 +2,8 @@
 use Rattle.std.proofs.Common.{◌≡◌, ◌∙◌, ◌^◌, ◌++◌, length, ap, sym, arith}
 use Rattle.std.proofs.lemmas.Option.{slice_get_within}
 use Rattle.pef_script.specs.Script.{DescribedImport}
-use Rattle.pef_script.specs.Seen.{import_in}
-use Rattle.pef_script.specs.State.{import_names}
+use Rattle.pef_script.specs.Views.{import_in}
+use Rattle.pef_script.specs.Script.{import_names}
 use Rattle.pef_script.specs.WellFormed.{ImportHolds}
 use Rattle.pef_words.proofs.Laws.Lists.{all-get}
 use Rattle.pef_write.specs.Fields.{spelled}

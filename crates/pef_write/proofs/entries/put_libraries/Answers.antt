@@ -4,8 +4,8 @@ use Rattle.std.proofs.Common.{◌≡◌, ◌∙◌, ℕ, ◌-◌, ◌^◌, ◌++
 use Rattle.std.proofs.lemmas.Option.{slice_get_within}
 use Rattle.pef_loader.specs.Library.{Library}
 use Rattle.pef_script.specs.Script.{DescribedLibrary}
-use Rattle.pef_script.specs.Seen.{library_in}
-use Rattle.pef_script.specs.State.{library_names}
+use Rattle.pef_script.specs.Views.{library_in}
+use Rattle.pef_script.specs.Script.{library_names}
 use Rattle.pef_write.specs.Fields.{spelled}
 use Rattle.pef_write.specs.Loaders.{library_entry, zero_ended}
 use Rattle.pef_write.proofs.Counts.{before-next, count_before, count_of, from_within, none_before}

@@ -3,7 +3,7 @@ use Rattle.std.proofs.Common.{◌≡◌, ◌∙◌, ◌+◌, ◌∷◌, [], leng
 use Rattle.std.specs.List.{sum}
 use Rattle.pef_hash.specs.Build.{built, names_in}
 use Rattle.pef_script.specs.Script.{DescribedExport}
-use Rattle.pef_script.specs.State.{export_names}
+use Rattle.pef_script.specs.Script.{export_names}
 use Rattle.pef_write.proofs.ExportNames.{all_joined, joined, names_in-joined, sum-joined}
 use Rattle.pef_write.proofs.Fields.{one_more}
 use Rattle.pef_write.proofs.Listing.{drop-here, found-as}

@@ -1,6 +1,6 @@
 -- What is listed and what is left make the whole.
 use Rattle.std.proofs.Common.{◌≡◌, ◌++◌, ◌-◌, drop, length, map}
-use Rattle.pef_script.specs.State.{export_names}
+use Rattle.pef_script.specs.Script.{export_names}
 use Rattle.pef_write.proofs.ExportNames.{joined}
 use Rattle.pef_write.proofs.export_table.export_table.Given as goal
 

@@ -2,7 +2,7 @@
 use Rattle.std.proofs.Common.{◌≡◌, ◌∙◌, length, map, refl, sym, ap}
 use Rattle.std.proofs.lemmas.List.{length-map}
 use Rattle.pef_hash.specs.Build.{built}
-use Rattle.pef_script.specs.State.{export_names}
+use Rattle.pef_script.specs.Script.{export_names}
 use Rattle.pef_write.specs.Linked.{exports_at, libraries_from, linked_import, script_tables}
 use Rattle.pef_write.specs.Loaders.{entry_offset, entry_section, header_fields}
 use Rattle.pef_write.specs.Kept.Views.{program_entry}

@@ -3,7 +3,7 @@ use Rattle.std.proofs.Common.{◌∙◌, ◌<◌, ◌++◌, length, map, length-
 use Rattle.std.specs.List.{All, flat_map}
 use Rattle.pef_hash.specs.Build.{BuiltTable}
 use Rattle.pef_loader.specs.Export.{Export}
-use Rattle.pef_script.specs.State.{import_names, library_names}
+use Rattle.pef_script.specs.Script.{import_names, library_names}
 use Rattle.pef_write.specs.declared.field.Field.TheVariants.{Word}
 use Rattle.pef_write.specs.Fields.{spelled}
 use Rattle.pef_write.specs.Linked.{exports_at, libraries_from, script_tables}
