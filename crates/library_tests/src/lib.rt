@@ -5,4 +5,8 @@
 #![tactic(auto)]
 
 #[cfg(test)]
+mod hash;
+#[cfg(test)]
+mod loader;
+#[cfg(test)]
 mod words;

@@ -1,0 +1,244 @@
+use pef_loader::Loader;
+use pef_loader::layout::{
+    ABSOLUTE_EXPORT, DATA_SYMBOL, GLUE_SYMBOL, INIT_BEFORE, TRANSITION_VECTOR_SYMBOL, WEAK_LIBRARY,
+};
+use pef_views::Container;
+use std::process::Abort;
+
+/// Two instantiated sections, and a loader section of 90 bytes from byte 160 on with one relocation
+/// header and the export `go`.
+const GO: [u8; 250] = [
+    0x4A, 0x6F, 0x79, 0x21, 0x70, 0x65, 0x66, 0x66, 0x70, 0x77, 0x70, 0x63, 0x00, 0x00, 0x00, 0x01,
+    0x00, 0x00, 0x00, 0x00, 0x00, 0x00, 0x00, 0x00, 0x00, 0x00, 0x00, 0x00, 0x00, 0x00, 0x00, 0x01,
+    0x00, 0x03, 0x00, 0x02, 0x00, 0x00, 0x00, 0x00, 0xFF, 0xFF, 0xFF, 0xFF, 0x00, 0x00, 0x00, 0x00,
+    0x00, 0x00, 0x00, 0x08, 0x00, 0x00, 0x00, 0x08, 0x00, 0x00, 0x00, 0x08, 0x00, 0x00, 0x00, 0x80,
+    0x00, 0x04, 0x04, 0x00, 0xFF, 0xFF, 0xFF, 0xFF, 0x00, 0x00, 0x00, 0x00, 0x00, 0x00, 0x00, 0x10,
+    0x00, 0x00, 0x00, 0x10, 0x00, 0x00, 0x00, 0x10, 0x00, 0x00, 0x00, 0x90, 0x01, 0x01, 0x04, 0x00,
+    0xFF, 0xFF, 0xFF, 0xFF, 0x00, 0x00, 0x00, 0x00, 0x00, 0x00, 0x00, 0x00, 0x00, 0x00, 0x00, 0x00,
+    0x00, 0x00, 0x00, 0x5A, 0x00, 0x00, 0x00, 0xA0, 0x04, 0x04, 0x04, 0x00, 0x00, 0x00, 0x00, 0x00,
+    0x00, 0x11, 0x22, 0x33, 0x44, 0x55, 0x66, 0x77, 0x00, 0x00, 0x00, 0x00, 0x00, 0x00, 0x00, 0x00,
+    0x00, 0x00, 0x00, 0x00, 0x00, 0x00, 0x00, 0x00, 0x00, 0x00, 0x00, 0x04, 0x00, 0x00, 0x00, 0x00,
+    0x00, 0x00, 0x00, 0x01, 0x00, 0x00, 0x00, 0x00, 0xFF, 0xFF, 0xFF, 0xFF, 0x00, 0x00, 0x00, 0x00,
+    0xFF, 0xFF, 0xFF, 0xFF, 0x00, 0x00, 0x00, 0x00, 0x00, 0x00, 0x00, 0x00, 0x00, 0x00, 0x00, 0x00,
+    0x00, 0x00, 0x00, 0x01, 0x00, 0x00, 0x00, 0x44, 0x00, 0x00, 0x00, 0x46, 0x00, 0x00, 0x00, 0x48,
+    0x00, 0x00, 0x00, 0x00, 0x00, 0x00, 0x00, 0x01, 0x00, 0x01, 0x00, 0x00, 0x00, 0x00, 0x00, 0x01,
+    0x00, 0x00, 0x00, 0x00, 0x46, 0x01, 0x67, 0x6F, 0x00, 0x04, 0x00, 0x00, 0x00, 0x02, 0x00, 0xA1,
+    0x02, 0x00, 0x00, 0x00, 0x00, 0x00, 0x00, 0x00, 0x00, 0x01,
+];
+
+/// A loader section of 127 bytes from byte 68 on. Library `L` has imports 0 and 1, `v` and the weak
+/// `w`, and library `M` has imports 1 and 2, `w` and `xy`.
+const LIBRARIES: [u8; 195] = [
+    0x4A, 0x6F, 0x79, 0x21, 0x70, 0x65, 0x66, 0x66, 0x70, 0x77, 0x70, 0x63, 0x00, 0x00, 0x00, 0x01,
+    0x00, 0x00, 0x00, 0x00, 0x00, 0x00, 0x00, 0x00, 0x00, 0x00, 0x00, 0x00, 0x00, 0x00, 0x00, 0x00,
+    0x00, 0x01, 0x00, 0x00, 0x00, 0x00, 0x00, 0x00, 0xFF, 0xFF, 0xFF, 0xFF, 0x00, 0x00, 0x00, 0x00,
+    0x00, 0x00, 0x00, 0x00, 0x00, 0x00, 0x00, 0x00, 0x00, 0x00, 0x00, 0x7F, 0x00, 0x00, 0x00, 0x44,
+    0x04, 0x04, 0x04, 0x00, 0xFF, 0xFF, 0xFF, 0xFF, 0x00, 0x00, 0x00, 0x00, 0xFF, 0xFF, 0xFF, 0xFF,
+    0x00, 0x00, 0x00, 0x00, 0xFF, 0xFF, 0xFF, 0xFF, 0x00, 0x00, 0x00, 0x00, 0x00, 0x00, 0x00, 0x02,
+    0x00, 0x00, 0x00, 0x03, 0x00, 0x00, 0x00, 0x00, 0x00, 0x00, 0x00, 0x74, 0x00, 0x00, 0x00, 0x74,
+    0x00, 0x00, 0x00, 0x7F, 0x00, 0x00, 0x00, 0x00, 0x00, 0x00, 0x00, 0x00, 0x00, 0x00, 0x00, 0x00,
+    0x00, 0x00, 0x00, 0x03, 0x00, 0x00, 0x00, 0x05, 0x00, 0x00, 0x00, 0x02, 0x00, 0x00, 0x00, 0x00,
+    0x40, 0x00, 0x00, 0x00, 0x00, 0x00, 0x00, 0x02, 0x00, 0x00, 0x00, 0x00, 0x00, 0x00, 0x00, 0x01,
+    0x00, 0x00, 0x00, 0x02, 0x00, 0x00, 0x00, 0x01, 0x80, 0x00, 0x00, 0x00, 0x01, 0x00, 0x00, 0x04,
+    0x82, 0x00, 0x00, 0x06, 0x14, 0x00, 0x00, 0x08, 0x4C, 0x00, 0x4D, 0x00, 0x76, 0x00, 0x77, 0x00,
+    0x78, 0x79, 0x00,
+];
+
+/// Those bytes with other words at some places.
+fn changed<const N: usize>(rt: &impl Abort, bytes: &[u8; N], words: &[(usize, u32)]) -> [u8; N] {
+    let mut bytes = *bytes;
+    for (at, word) in words {
+        assert!(rt; *at < 1000 && *at + 4 <= N);
+        let all = &mut bytes[..];
+        all[*at..*at + 4].copy_from_slice(&word.to_be_bytes());
+    }
+    bytes
+}
+
+/// The number of the refusal, or 0 for a loader section.
+fn answer(bytes: &[u8]) -> u32 {
+    match Container::read(bytes) {
+        Ok(container) => match Loader::read(&container) {
+            Ok(_) => 0,
+            Err(fault) => fault.number(),
+        },
+        Err(fault) => fault.number(),
+    }
+}
+
+#[test]
+fn read(rt: HostRuntime) {
+    // The loader header stands at 160, the relocation header at 216, the slot at 232, the key at 236
+    // and the export at 240.
+    let rows: [(&[(usize, u32)], u32); 37] = [
+        (&[], 0),
+        (&[(112, 0)], 11),
+        (&[(112, 55)], 11),
+        (&[(112, 67)], 12),
+        (&[(184, 0xFFFF_FFFF)], 12),
+        (&[(192, 3)], 12),
+        (&[(184, 0xFFFF_FFFF), (160, 2)], 12),
+        // The entries.
+        (&[(160, 2)], 16),
+        (&[(160, 0xFFFF_FFFE)], 16),
+        (&[(168, 2)], 16),
+        (&[(176, 0x8000_0000)], 16),
+        (&[(160, 0xFFFF_FFFF), (168, 0), (176, 1)], 0),
+        (&[(160, 2), (216, 0x0002_0000)], 16),
+        // The relocation header.
+        (&[(216, 0x0002_0000)], 17),
+        (&[(216, 0x0002_0000), (220, 0xFFFF_FFFF)], 17),
+        (&[(220, 0xFFFF_FFFF)], 18),
+        (&[(224, 0xFFFF_FFFF)], 18),
+        (&[(220, 0), (224, 0xFFFF_FFFF)], 18),
+        (&[(220, 11)], 0),
+        (&[(220, 12)], 18),
+        (&[(220, 0), (224, 22)], 0),
+        (&[(220, 0), (224, 23)], 18),
+        (&[(220, 12), (208, 31)], 18),
+        // The export table.
+        (&[(208, 31)], 19),
+        (&[(208, 30)], 19),
+        (&[(208, 1)], 19),
+        (&[(212, 2)], 19),
+        (&[(212, 0), (208, 31), (204, 0xFFFF_FFFF)], 0),
+        // The export.
+        (&[(200, 0xFFFF_FFFF)], 13),
+        (&[(200, 0xFFFF_FFFF), (236, 0)], 13),
+        (&[(236, 0x0014_0000)], 0),
+        (&[(236, 0x0015_0000)], 13),
+        (&[(236, 0x0015_0000), (246, 0xFFFF)], 13),
+        (&[(246, 0xFFFF)], 20),
+        (&[(246, 0xFFFC)], 20),
+        (&[(246, 0xFFFD)], 20),
+        (&[(246, 0xFFFE)], 0),
+    ];
+    for (i, (words, want)) in rows.iter().enumerate() {
+        assert_eq!(rt; answer(&changed(&rt, &GO, words)), *want, "row {i}");
+    }
+    // The loader header stands at 68, the libraries at 124 and 148, the imports at 172, 176 and 180,
+    // the strings at 184.
+    let rows: [(&[(usize, u32)], u32); 20] = [
+        (&[], 0),
+        (&[(124, 10)], 0),
+        (&[(124, 11)], 13),
+        (&[(124, 0xFFFF_FFFF)], 13),
+        (&[(164, 2)], 14),
+        (&[(164, 0xFFFF_FFFF)], 14),
+        (&[(160, 0), (164, 4)], 14),
+        (&[(136, 4), (148, 11)], 14),
+        (&[(148, 11), (164, 2)], 13),
+        (&[(172, 0x0100_000A)], 0),
+        (&[(172, 0x0100_000B)], 13),
+        (&[(160, 1)], 15),
+        (&[(160, 1), (180, 0x0100_000B)], 13),
+        (&[(140, 1), (176, 0x0100_000B)], 15),
+        (&[(191, 0x0078_7901)], 13),
+        (&[(136, 4), (172, 0x0100_000B)], 14),
+        (&[(160, 1), (68, 0)], 15),
+        // Ranges that follow one another, without and with a gap, and none.
+        (&[(160, 1), (164, 2)], 0),
+        (&[(136, 1), (160, 1), (164, 2)], 15),
+        (&[(96, 0), (124, 11)], 13),
+    ];
+    for (i, (words, want)) in rows.iter().enumerate() {
+        assert_eq!(rt;
+            answer(&changed(&rt, &LIBRARIES, words)),
+            *want,
+            "library row {i}"
+        );
+    }
+}
+
+#[test]
+fn relocs_exports_and_entries(rt: HostRuntime) {
+    let container = Container::read(&GO).expect(&rt, "a container");
+    let loader = Loader::read(&container).expect(&rt, "a loader section");
+    assert_eq!(rt; (loader.libraries(), loader.imports()), (0, 0));
+    assert_eq!(rt; (loader.relocs(), loader.exports()), (1, 1));
+    assert_eq!(rt; loader.reloc(0), Some((1, &GO[228..230])));
+    assert_eq!(rt; loader.reloc(1), None);
+    let export = loader.export(0).expect(&rt, "an export");
+    assert_eq!(rt; export.name, &GO[230..232]);
+    assert_eq!(rt;
+        (export.class, export.section, export.value),
+        (TRANSITION_VECTOR_SYMBOL, 1, 0)
+    );
+    assert!(rt; loader.export(1).is_none());
+    assert_eq!(rt; loader.main(), Some((1, 0)));
+    assert_eq!(rt; (loader.init(), loader.term()), (None, None));
+    // Other entries, and an absolute export.
+    let words = [
+        (160, 0xFFFF_FFFF),
+        (168, 0),
+        (172, 4),
+        (176, 1),
+        (180, 12),
+        (246, 0xFFFE),
+    ];
+    let bytes = changed(&rt, &GO, &words);
+    let container = Container::read(&bytes).expect(&rt, "a container");
+    let loader = Loader::read(&container).expect(&rt, "a loader section");
+    assert_eq!(rt;
+        (loader.main(), loader.init(), loader.term()),
+        (None, Some((0, 4)), Some((1, 12)))
+    );
+    let export = loader.export(0).expect(&rt, "an export");
+    assert_eq!(rt; (export.section, export.value), (ABSOLUTE_EXPORT, 0));
+}
+
+#[test]
+fn export_named(rt: HostRuntime) {
+    let rows: [(&[(usize, u32)], &[u8], Option<usize>); 5] = [
+        (&[], b"go", Some(0)),
+        // Another hash word, and a slot without keys.
+        (&[(236, 0x0002_00A2)], b"go", Some(0)),
+        (&[(232, 0)], b"go", Some(0)),
+        (&[(236, 0x0001_00A1)], b"go", None),
+        (&[], b"g", None),
+    ];
+    for (i, (words, name, want)) in rows.iter().enumerate() {
+        let bytes = changed(&rt, &GO, words);
+        let container = Container::read(&bytes).expect(&rt, "a container");
+        let loader = Loader::read(&container).expect(&rt, "a loader section");
+        assert_eq!(rt; loader.export_named(name), *want, "row {i}");
+    }
+}
+
+#[test]
+fn libraries_and_imports(rt: HostRuntime) {
+    let container = Container::read(&LIBRARIES).expect(&rt, "a container");
+    let loader = Loader::read(&container).expect(&rt, "a loader section");
+    assert_eq!(rt; (loader.libraries(), loader.imports()), (2, 3));
+    let libraries: [(&[u8], u32, u32, u32, u32, u8); 2] = [
+        (b"L", 5, 3, 2, 0, WEAK_LIBRARY),
+        (b"M", 1, 0, 2, 1, INIT_BEFORE),
+    ];
+    for (i, (name, current, old_imp, count, first, options)) in libraries.iter().enumerate() {
+        let library = loader.library(i).expect(&rt, "a library");
+        assert_eq!(rt; library.name, *name, "library {i}");
+        assert_eq!(rt; (library.current, library.old_imp), (*current, *old_imp));
+        assert_eq!(rt; (library.count, library.first), (*count, *first));
+        assert_eq!(rt; library.options, *options);
+    }
+    assert!(rt; loader.library(2).is_none());
+    // Import 1 is in both ranges, and belongs to the first.
+    let imports: [(&[u8], u8, bool, usize); 3] = [
+        (b"v", DATA_SYMBOL, false, 0),
+        (b"w", TRANSITION_VECTOR_SYMBOL, true, 0),
+        (b"xy", GLUE_SYMBOL, false, 1),
+    ];
+    for (j, (name, class, weak, library)) in imports.iter().enumerate() {
+        let import = loader.import(j).expect(&rt, "an import");
+        assert_eq!(rt; import.name, *name, "import {j}");
+        assert_eq!(rt; (import.class, import.weak), (*class, *weak));
+        assert_eq!(rt; import.library, *library);
+    }
+    assert!(rt; loader.import(3).is_none());
+    assert_eq!(rt;
+        (loader.main(), loader.init(), loader.term()),
+        (None, None, None)
+    );
+    assert_eq!(rt; (loader.relocs(), loader.exports()), (0, 0));
+    assert_eq!(rt; loader.export_named(b""), None);
+}
