@@ -5,6 +5,10 @@
 #![tactic(auto)]
 
 #[cfg(test)]
+mod hash;
+#[cfg(test)]
+mod loader;
+#[cfg(test)]
 mod memory;
 #[cfg(test)]
 mod pidata;

@@ -1,8 +1,14 @@
 -- What this crate offers to the proofs of others: facts of export tables, as `specs/` defines them.
 
--- how many slot words are in a slot, among some and before a place
-pub use Rattle.pef_hash.proofs.Places.{count_before, count_in, count_before-past, slot_words-at}
--- a built table has its names in the order of its slots
+-- what is found by a name is the first export that has it; where none is found, none has it
+pub use Rattle.pef_hash.proofs.NamedExports.{IsFirstNamed, export_named-none, export_named-some}
+-- how many slots, keys and places a built table has
+pub use Rattle.pef_hash.proofs.BuiltLemmas.{BuiltLengths, built_lengths}
+-- its order names only names that there are
+pub use Rattle.pef_hash.proofs.BuiltLemmas.{built_order}
+-- its slot words and its keys have 32 bits
+pub use Rattle.pef_hash.proofs.BuiltLemmas.{built_keys, built_slots}
+-- each place of the order is that of a name
 pub use Rattle.pef_hash.proofs.RegularLemmas.{ordered_name}
 -- the power of a table is at most the greatest
 pub use Rattle.pef_hash.proofs.Slots.{least_power-most}
@@ -10,3 +16,6 @@ pub use Rattle.pef_hash.proofs.Slots.{least_power-most}
 pub use Rattle.pef_hash.proofs.SlotLists.{length-in_slots}
 -- in a table that is built of distinct names each is found, and no other name
 pub use Rattle.pef_hash.proofs.RegularLemmas.{built_has_no_other, built_has_own}
+-- a slot word says how many words are in its slot and in those before it
+pub use Rattle.pef_hash.proofs.Places.{count_before-past, slot_words-at}
+pub use Rattle.pef_hash.specs.Kept.Counts.{count_before, count_in}

@@ -1,6 +1,8 @@
 pub mod Laws
-mod RegularLemmas
+mod BuiltLemmas
+mod NamedExports
 mod Places
+mod RegularLemmas
 mod SlotLists
 mod Slots
 mod Tables

@@ -1,5 +1,5 @@
 -- Which word stands at which place of the order, and which places a slot has.
-use Rattle.std.proofs.Common.{◌≡◌, ◌≢◌, ℕ, zero, suc, ◌+◌, ◌-◌, ◌*◌, ◌^◌, ◌<◌, ◌≤◌, ◌⊎◌, inl, inr, List, [], ◌∷◌, length, get_or, drop, refl, sym, ◌∙◌, ap, arith, length-append, drop-cons, eq-eqb, true, false}
+use Rattle.std.proofs.Common.{◌≡◌, ◌≢◌, ℕ, zero, suc, ◌+◌, ◌-◌, ◌<◌, ◌≤◌, ◌⊎◌, inl, inr, List, [], ◌∷◌, length, get_or, drop, refl, sym, ◌∙◌, ap, arith, length-append, drop-cons, eq-eqb, true, false}
 use Rattle.std.specs.Prelude.{nat_eq as eqb}
 use Rattle.std.proofs.Math.ListN.{get_or-append}
 use Rattle.std.proofs.Math.Seq.{get_or-append_right}
@@ -7,15 +7,9 @@ use Rattle.std.proofs.lemmas.Bool.Decides.{eqb_tells, leb_tells}
 use Rattle.std.proofs.lemmas.List.{get_or-append-add}
 use Rattle.pef_hash.specs.Word.{slot}
 use Rattle.pef_hash.specs.Build.{in_slot, in_slots, slot_words}
+use Rattle.pef_hash.specs.Exports.{slot_word}
+use Rattle.pef_hash.specs.Kept.Counts.{count_before, count_in}
 use Rattle.pef_hash.proofs.SlotLists.{at_drop, drop_behind}
-
--- how many words are in slot s
-abbrev pub count_in : ℕ → List ℕ → ℕ → ℕ
-count_in power words s = length (in_slot power s 0 words)
-
--- how many words are in the n slots from slot s on
-abbrev pub count_before : ℕ → List ℕ → ℕ → ℕ → ℕ
-count_before power words s n = length (in_slots power words s n)
 
 -- a place that a slot lists is that of a word in the slot
 pub record IsInSlot (power s from j : ℕ) (all : List ℕ) : Type 0 where
@@ -132,7 +126,7 @@ count_before-past power words a b under =
     omega arith
 
 -- slot word s + k
-pub slot_words-at : (power : ℕ) (words : List ℕ) (s first n k : ℕ) → k < n → get_or (slot_words power words s first n) k 0 ≡ count_in power words (s + k) * 2 ^ 18 + (first + count_before power words s k)
+pub slot_words-at : (power : ℕ) (words : List ℕ) (s first n k : ℕ) → k < n → get_or (slot_words power words s first n) k 0 ≡ slot_word (count_in power words (s + k)) (first + count_before power words s k)
 slot_words-at power words s first zero k under = absurd (omega arith)
 slot_words-at power words s first (suc n) zero under =
     let e : s + 0 ≡ s = omega arith in

@@ -1,20 +1,18 @@
 -- A table that is written for some names is regular, and has each name's own key and no other.
-use Rattle.std.proofs.Common.{◌≡◌, ◌≢◌, ℕ, ◌+◌, ◌-◌, ◌*◌, ◌/◌, ◌%◌, ◌^◌, ◌<◌, ◌≤◌, ◌↔◌, inl, inr, cond, List, [], length, get_or, map, Option, Some, None, Bool, true, false, refl, sym, ◌∙◌, ap, arith}
+use Rattle.std.proofs.Common.{◌≡◌, ◌≢◌, ℕ, ◌+◌, ◌-◌, ◌^◌, ◌<◌, ◌≤◌, inl, inr, cond, List, [], length, get_or, map, Option, Some, None, Bool, true, false, refl, sym, ◌∙◌, ap, arith}
 use Rattle.std.proofs.lemmas.Bool.{ltb-true}
 use Rattle.std.proofs.lemmas.Bool.Decides.{eqb_tells, leb_tells}
 use Rattle.std.proofs.lemmas.List.{get_or-map, length-map}
 use Rattle.std.proofs.lemmas.Nat.{div-mul-add}
-use Rattle.std.proofs.lemmas.Slice.Eq.{bytes_eq-Decides}
 use Rattle.std.proofs.Math.Nat.{mul-add-mod_self_right, mod-eq_of_lt}
-use Rattle.std.specs.Option.{option_map_or}
-use Rattle.std.specs.Str.{bytes_eq}
-use Rattle.pef_words.specs.Refusals.{first_among}
-use Rattle.pef_words.proofs.Laws.Refusals.{none_among, some_among}
 use Rattle.pef_hash.specs.Word.{hash_word, slot}
 use Rattle.pef_hash.specs.Build.{built, in_slots, keys_at, slot_words}
-use Rattle.pef_hash.specs.Exports.{ExportTable, export_named, key_of, name_of, named_at, slot_word_of}
-use Rattle.pef_hash.specs.Regular.{AreDistinct, BuiltHasNoOther, BuiltHasOwn, BuiltIsRegular, Spells}
-use Rattle.pef_hash.proofs.Places.{count_before, count_before-more, count_before-past, count_in, in_slot-member, in_slots-at, listed, located, slot_words-at}
+use Rattle.pef_hash.specs.Exports.{ExportTable, export_named, key_of, name_of, slot_count, slot_first, slot_word, slot_word_of}
+use Rattle.pef_hash.specs.Kept.Counts.{count_before, count_in}
+use Rattle.pef_hash.specs.Limits.{index_limit, names_limit}
+use Rattle.pef_hash.specs.Regular.{AreDistinct, BuiltHasNoOther, BuiltHasOwn, BuiltIsRegular, IsCounted, RegularEndsInside, Spells}
+use Rattle.pef_hash.proofs.NamedExports.{export_named-none, export_named-some}
+use Rattle.pef_hash.proofs.Places.{count_before-more, count_before-past, in_slot-member, in_slots-at, listed, located, slot_words-at}
 use Rattle.pef_hash.proofs.Slots.{slot_below}
 use Rattle.pef_hash.proofs.SlotLists.{length-in_slots}
 
@@ -75,28 +73,42 @@ before-most power s words under =
     let all = length-in_slots power words in
     omega arith
 
--- a slot word delimits the keys of its slot
-pub delimited_at : (power s w i k : ℕ) (words : List ℕ) → length words < 2 ^ 14 → s < 2 ^ power → i < length words
-    → w ≡ get_or (slot_words power words 0 0 (2 ^ power)) s 0 → k ≡ get_or words (get_or (in_slots power words 0 (2 ^ power)) i 0) 0
-    → (slot k power ≡ s) ↔ ((w % 2 ^ 18 ≤ i) × (i < w % 2 ^ 18 + w / 2 ^ 18))
-delimited_at power s w i k words few under inside w_is k_is =
+-- a slot word counts the words of its slot, from behind those of the slots before it
+pub counts : (power s w : ℕ) (words : List ℕ) → length words < names_limit → s < 2 ^ power → w ≡ get_or (slot_words power words 0 0 (2 ^ power)) s 0
+    → (slot_count w ≡ count_in power words s) × (slot_first w ≡ count_before power words 0 s)
+counts power s w words few under w_is =
     let most = before-most power s words under in
     let e : 0 + s ≡ s = omega arith in
     let f : 0 + count_before power words 0 s ≡ count_before power words 0 s = omega arith in
-    let spelled : w ≡ count_in power words s * 2 ^ 18 + count_before power words 0 s = w_is ∙ slot_words-at power words 0 0 (2 ^ power) s under ∙ rw (e, f) refl in
-    let count : w / 2 ^ 18 ≡ count_in power words s = ap (λ x. x / 2 ^ 18) spelled ∙ div-mul-add (count_in power words s) (2 ^ 18) (count_before power words 0 s) (omega arith) in
-    let small : count_before power words 0 s < 2 ^ 18 = omega arith in
-    let first : w % 2 ^ 18 ≡ count_before power words 0 s = ap (λ x. x % 2 ^ 18) spelled ∙ mul-add-mod_self_right (count_in power words s) (2 ^ 18) (count_before power words 0 s) ∙ mod-eq_of_lt small in
-    let p = placed power i words inside in
-    let here : slot k power ≡ p.s = ap (λ x. slot x power) k_is ∙ p.is in
-    let low = p.low in
-    let high = p.high in (
-      (λ is. let at : p.s ≡ s = sym here ∙ is in
-          let l : count_before power words 0 s ≤ i = rw at at low in
-          let h : i < count_before power words 0 s + count_in power words s = rw at at high in
-          (omega arith, omega arith)),
-      (λ within. here ∙ same_slot power words p.s s i low high (let l = within.0 in omega arith) (let h = within.1 in omega arith)),
+    let spelled : w ≡ slot_word (count_in power words s) (count_before power words 0 s) = w_is ∙ slot_words-at power words 0 0 (2 ^ power) s under ∙ rw (e, f) refl in
+    let small : count_before power words 0 s < index_limit = omega arith in (
+      ap slot_count spelled ∙ div-mul-add (count_in power words s) index_limit (count_before power words 0 s) small,
+      ap slot_first spelled ∙ mul-add-mod_self_right (count_in power words s) index_limit (count_before power words 0 s) ∙ mod-eq_of_lt small,
     )
+
+-- the places that it counts have words of the slot
+pub counted-here : (power s w i : ℕ) (words : List ℕ) → length words < names_limit → s < 2 ^ power → w ≡ get_or (slot_words power words 0 0 (2 ^ power)) s 0 → IsCounted w i
+    → (i < length words) × (slot (get_or words (get_or (in_slots power words 0 (2 ^ power)) i 0) 0) power ≡ s)
+counted-here power s w i words few under w_is counted =
+    let are = counts power s w words few under w_is in
+    let low : count_before power words 0 s ≤ i = let l = counted.low in omega (arith, are.1) in
+    let high : i < count_before power words 0 s + count_in power words s = let h = counted.high in omega (arith, are.0, are.1) in
+    let past = count_before-past power words s (2 ^ power) under in
+    let all = length-in_slots power words in
+    let inside : i < length words = omega arith in
+    let p = placed power i words inside in
+    (inside, p.is ∙ same_slot power words p.s s i p.low p.high low high)
+
+-- and each word of the slot stands at such a place
+pub here-counted : (power s w i : ℕ) (words : List ℕ) → length words < names_limit → s < 2 ^ power → w ≡ get_or (slot_words power words 0 0 (2 ^ power)) s 0 → i < length words
+    → slot (get_or words (get_or (in_slots power words 0 (2 ^ power)) i 0) 0) power ≡ s → IsCounted w i
+here-counted power s w i words few under w_is inside here =
+    let are = counts power s w words few under w_is in
+    let p = placed power i words inside in
+    let at : p.s ≡ s = sym p.is ∙ here in
+    let low : count_before power words 0 s ≤ i = rw at at p.low in
+    let high : i < count_before power words 0 s + count_in power words s = rw at at p.high in
+    record { low = omega (arith, are.1); high = omega (arith, are.0, are.1) }
 
 -- a place with a word of its key
 pub key-is : (power i : ℕ) (names : List (List ℕ)) → i < length names
@@ -108,10 +120,11 @@ key-is power i names under =
     get_or-map (λ j. get_or (map hash_word names) j 0) (in_slots power (map hash_word names) 0 (2 ^ power)) i 0 0 (omega arith)
 
 -- what a choice gives, it gives where the test is met
-chosen : {A : Type 0} (b : Bool) (x : Option A) (y : A) → cond b x None ≡ Some y → b ≡ true
-chosen true x y is = refl
-chosen false x y is = absurd (cc)
+chosen : (b : Bool) (o : Option ℕ) (x : ℕ) → cond b o None ≡ Some x → b ≡ true
+chosen true o x is = refl
+chosen false o x is = absurd (cc)
 
+-- a key that is there is below the count, and a slot word below the number of slots
 pub key_inside : (t : ExportTable) (i k : ℕ) → key_of t i ≡ Some k → i < t.count
 unfolding key_of
 key_inside t i k is = ltb-true i t.count (chosen _ _ k is)
@@ -163,27 +176,30 @@ built_is_regular names t few spells =
           let two : slot l t.power ≡ q.s = ap (λ x. slot x t.power) second.1 ∙ ap (λ x. slot (get_or words (get_or (built names).order j 0) 0) x) spells.power ∙ q.is in
           let rise = rising_slots (built names).power words i j p q before in
           omega arith;
-      delimited = λ s w i k s_is k_is. let key = spelled_key names t i k spells k_is in
-          let under : s < 2 ^ (built names).power = rw spells.power at (slot_inside t s w s_is) in
+      delimited = λ s w i there. let under : s < 2 ^ (built names).power = rw spells.power at (slot_inside t s w there) in
           let word = spells.slots s under in
-          let same : w ≡ get_or (built names).slots s 0 = cc in
-          rw spells.power (delimited_at (built names).power s w i k words (omega arith) under (let u = key.0 in omega arith) same key.1);
+          let same : w ≡ get_or (built names).slots s 0 = cc in (
+            (λ counted. let is = counted-here (built names).power s w i words (omega arith) under same counted in
+                let inside : i < length names = let u = is.0 in omega arith in
+                record {
+                  key = get_or (built names).keys i 0;
+                  is = spells.keys i inside;
+                  here = rw spells.power (ap (λ k. slot k (built names).power) (key-is (built names).power i names inside) ∙ is.1);
+                }),
+            (λ at. let key = spelled_key names t i at.key spells at.is in
+                let here : slot (get_or words (get_or (built names).order i 0) 0) (built names).power ≡ s = ap (λ k. slot k (built names).power) (sym key.1) ∙ rw spells.power at at.here in
+                here-counted (built names).power s w i words (omega arith) under same (let u = key.0 in omega arith) here),
+          );
     }
 
--- an export of a name is found at its place
-named_here : (t : ExportTable) (name : List ℕ) (i : ℕ) → name_of t i ≡ Some name → named_at t name i ≡ Some i
-named_here t name i is =
-    let same = (bytes_eq-Decides name name).1 refl in
-    rw (is, same) refl
-
--- and what is found at a place is an export of that name
-named_only : (o : Option (List ℕ)) (name : List ℕ) (i x : ℕ) → cond (option_map_or (λ found. bytes_eq found name) o false) (Some i) None ≡ Some x → (x ≡ i) × (o ≡ Some name)
-named_only None name i x is = absurd (cc)
-named_only (Some found) name i x is =
-    let yes = chosen (bytes_eq found name) (Some i) x is in
-    let same = (bytes_eq-Decides found name).0 yes in
-    let here : Some i ≡ Some x = rw yes at is in
-    (cc, ap Some same)
+-- a slot that counts a key ends inside
+pub regular_ends_inside : RegularEndsInside
+regular_ends_inside t s w regular there some =
+    let last : ℕ = slot_first w + slot_count w - 1 in
+    let counted : IsCounted w last = record { low = omega arith; high = omega arith } in
+    let at = (regular.delimited s w last there).0 counted in
+    let under = key_inside t last at.key at.is in
+    omega arith
 
 -- the place of a name
 pub record HasPlace (power j : ℕ) (words : List ℕ) : Type 0 where
@@ -218,45 +234,40 @@ name_place names j under =
     let place = has_place (built names).power j (map hash_word names) (omega arith) in
     record { i = place.i; under = let u = place.under in omega arith; is = place.is }
 
--- the first export of a name
+-- each of distinct names has its own key
 own_found : (names : List (List ℕ)) (t : ExportTable) (j i : ℕ) (first : Option ℕ) → Spells t (built names) names → AreDistinct names → j < length names
-    → i < length names → get_or (built names).order i 0 ≡ j → first_among (named_at t (get_or names j [])) 0 t.count ≡ first
+    → i < length names → get_or (built names).order i 0 ≡ j → export_named t (get_or names j []) ≡ first
     → (x : ℕ) × (first ≡ Some x) × (x < length names) × (get_or (built names).order x 0 ≡ j)
 own_found names t j i None spells distinct under inside at none =
     let count = spells.count in
     let name : name_of t i ≡ Some (get_or names j []) = rw at at (spells.ordered i inside) in
-    let missed = none_among (named_at t (get_or names j [])) 0 t.count i none (omega arith) (omega arith) in
-    let here = named_here t (get_or names j []) i name in
-    absurd (cc)
+    absurd (export_named-none t (get_or names j []) i none (omega arith) name)
 own_found names t j i (Some x) spells distinct under inside at some =
     let count = spells.count in
-    let r = some_among (named_at t (get_or names j [])) 0 t.count x some in
-    let low : r.at < length names = let high = r.high in omega arith in
-    let only = named_only (name_of t r.at) (get_or names j []) r.at x r.is in
-    let ordered = spells.ordered r.at low in
-    let same : get_or names (get_or (built names).order r.at 0) [] ≡ get_or names j [] = let o = only.1 in cc in
-    let is : get_or (built names).order r.at 0 ≡ j = distinct (get_or (built names).order r.at 0) j (ordered_name names r.at low) under same in
-    let x_is : x ≡ r.at = only.0 in
-    (x, refl, rw x_is low, rw x_is is)
+    let found = export_named-some t (get_or names j []) x some in
+    let low : x < length names = let high = found.below in omega arith in
+    let ordered = spells.ordered x low in
+    let named = found.named in
+    let same : get_or names (get_or (built names).order x 0) [] ≡ get_or names j [] = cc in
+    (x, refl, low, distinct (get_or (built names).order x 0) j (ordered_name names x low) under same)
 
 pub built_has_own : BuiltHasOwn
-unfolding export_named
 built_has_own names t j few spells distinct under =
     let place = name_place names j under in
-    own_found names t j place.i (first_among (named_at t (get_or names j [])) 0 t.count) spells distinct under place.under place.is refl
+    own_found names t j place.i (export_named t (get_or names j [])) spells distinct under place.under place.is refl
 
+-- and no other name has one
 none_found : (names : List (List ℕ)) (t : ExportTable) (other : List ℕ) (first : Option ℕ) → Spells t (built names) names
-    → ((j : ℕ) → j < length names → get_or names j [] ≢ other) → first_among (named_at t other) 0 t.count ≡ first → first ≡ None
+    → ((j : ℕ) → j < length names → get_or names j [] ≢ other) → export_named t other ≡ first → first ≡ None
 none_found names t other None spells apart is = refl
 none_found names t other (Some x) spells apart some =
     let count = spells.count in
-    let r = some_among (named_at t other) 0 t.count x some in
-    let low : r.at < length names = let high = r.high in omega arith in
-    let only = named_only (name_of t r.at) other r.at x r.is in
-    let ordered = spells.ordered r.at low in
-    let same : get_or names (get_or (built names).order r.at 0) [] ≡ other = let o = only.1 in cc in
-    absurd (apart (get_or (built names).order r.at 0) (ordered_name names r.at low) same)
+    let found = export_named-some t other x some in
+    let low : x < length names = let high = found.below in omega arith in
+    let ordered = spells.ordered x low in
+    let named = found.named in
+    let same : get_or names (get_or (built names).order x 0) [] ≡ other = cc in
+    absurd (apart (get_or (built names).order x 0) (ordered_name names x low) same)
 
 pub built_has_no_other : BuiltHasNoOther
-unfolding export_named
-built_has_no_other names t other few spells apart = none_found names t other (first_among (named_at t other) 0 t.count) spells apart refl
+built_has_no_other names t other few spells apart = none_found names t other (export_named t other) spells apart refl

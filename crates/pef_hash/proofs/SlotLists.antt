@@ -1,13 +1,14 @@
 -- The words of a slot: the first of them, the next of them, and how many there are in all.
-use Rattle.std.proofs.Common.{◌≡◌, ℕ, zero, suc, ◌+◌, ◌-◌, ◌*◌, ◌^◌, ◌<◌, ◌≤◌, inl, inr, List, [], ◌∷◌, ◌++◌, length, get_or, drop, refl, sym, ◌∙◌, ap, arith, append_assoc, length-append, drop-cons, add-one}
+use Rattle.std.proofs.Common.{◌≡◌, ℕ, zero, suc, ◌+◌, ◌-◌, ◌^◌, ◌<◌, ◌≤◌, inl, inr, List, [], ◌∷◌, ◌++◌, length, get_or, drop, refl, sym, ◌∙◌, ap, arith, append_assoc, append-nil, length-append, drop-cons, add-one}
 use Rattle.std.proofs.Math.ListN.{drop_of_length-le}
 use Rattle.std.proofs.lemmas.Bool.{ne_eqb}
 use Rattle.std.proofs.lemmas.Bool.Decides.{eqb_tells}
 use Rattle.std.proofs.Common.{eq-eqb}
 use Rattle.pef_hash.specs.Word.{slot}
 use Rattle.std.proofs.lemmas.List.{get_or_default, map-append}
-use Rattle.pef_hash.specs.Build.{in_slot, in_slots, keys_at, names_in, slot_words}
-use Rattle.pef_hash.specs.Chains.{IsChained, first_in}
+use Rattle.pef_hash.specs.Build.{in_slot, in_slots, keys_at, names_in, of_words, slot_words}
+use Rattle.pef_hash.specs.Exports.{slot_word}
+use Rattle.pef_hash.specs.Kept.Chains.{IsChained, first_in}
 use Rattle.pef_hash.proofs.Slots.{slot_below}
 
 -- what is left behind one more item
@@ -128,10 +129,33 @@ in_slots-next power s n words order all under is =
     rw append_assoc (rw e at is)
 
 pub slot_words-next : (power s n first : ℕ) (words slots all : List ℕ) → s < n → slots ++ slot_words power words s first (n - s) ≡ all
-    → (slots ++ (length (in_slot power s 0 words) * 2 ^ 18 + first) ∷ []) ++ slot_words power words (s + 1) (first + length (in_slot power s 0 words)) (n - (s + 1)) ≡ all
+    → (slots ++ slot_word (length (in_slot power s 0 words)) first ∷ []) ++ slot_words power words (s + 1) (first + length (in_slot power s 0 words)) (n - (s + 1)) ≡ all
 slot_words-next power s n first words slots all under is =
     let e : n - s ≡ suc (n - (s + 1)) = omega arith in
     rw append_assoc (rw e at is)
+
+-- the order with the words of one more slot: what is left behind it, and how long it is
+pub record HasGrown (power s : ℕ) (words old new : List ℕ) : Type 0 where
+  pub left : new ++ in_slots power words (s + 1) (2 ^ power - (s + 1)) ≡ in_slots power words 0 (2 ^ power)
+  pub more : length new ≡ length old + length (in_slot power s 0 words)
+  pub within : length new ≤ length words
+
+pub has_grown : (power s : ℕ) (words old new : List ℕ) → s < 2 ^ power → old ++ in_slots power words s (2 ^ power - s) ≡ in_slots power words 0 (2 ^ power)
+    → new ≡ old ++ in_slot power s 0 words → HasGrown power s words old new
+has_grown power s words old new under left is =
+    let next = rw (← is) at (in_slots-next power s (2 ^ power) words old _ under left) in
+    record { left = next; more = ap length is ∙ length-append old (in_slot power s 0 words); within = length-before power (s + 1) words new next }
+
+-- behind the last slot the table is laid out
+pub laid_out : (power s : ℕ) (words slots keys order : List ℕ) → 2 ^ power ≤ s
+    → slots ++ slot_words power words s (length order) (2 ^ power - s) ≡ slot_words power words 0 0 (2 ^ power) → keys ≡ keys_at words order
+    → order ++ in_slots power words s (2 ^ power - s) ≡ in_slots power words 0 (2 ^ power)
+    → record { power = power; slots = slots; keys = keys; order = order } ≡ of_words power words
+laid_out power s words slots keys order past slots_are keys_are order_is =
+    let none : 2 ^ power - s ≡ 0 = omega arith in
+    let ordered : order ≡ in_slots power words 0 (2 ^ power) = rw (none, append-nil) at order_is in
+    let slotted : slots ≡ slot_words power words 0 0 (2 ^ power) = rw (none, append-nil) at slots_are in
+    rw (keys_are, slotted, ordered) refl
 
 -- a place is that of a word of the slot, or behind all words
 pub record Leads (power s at : ℕ) (words : List ℕ) : Type 0 where

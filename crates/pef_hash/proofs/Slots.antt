@@ -5,6 +5,7 @@ use Rattle.std.proofs.lemmas.Bool.{cond_both, lt-ltb, le-ltb}
 use Rattle.std.proofs.lemmas.Nat.{and_mask, pow_pos, pow_below, and_le_r}
 use Rattle.std.specs.Int.Bits.{xor_zero_r}
 use Rattle.std.specs.Prelude.{bit_xor, nat_lt as ltb}
+use Rattle.pef_hash.specs.Limits.{exports_a_slot}
 use Rattle.pef_hash.specs.Word.{least_power, slot}
 
 -- a word is below the number of slots of a power past all its bits
@@ -37,17 +38,17 @@ power_below power small =
     rw same (mod-eq_of_lt under)
 
 -- the least power is looked for from the first on
-pub least_power-here : (count power n : ℕ) → power < n → count / 2 ^ power < 10 → least_power count power (n - power) ≡ power
+pub least_power-here : (count power n : ℕ) → power < n → count / 2 ^ power < exports_a_slot → least_power count power (n - power) ≡ power
 unfolding least_power
 least_power-here count power n under few =
     let e : n - power ≡ suc (n - (power + 1)) = omega arith in
-    rw (e, lt-ltb (count / 2 ^ power) 10 few) refl
+    rw (e, lt-ltb (count / 2 ^ power) exports_a_slot few) refl
 
-pub least_power-next : (count power n : ℕ) → power < n → 10 ≤ count / 2 ^ power → least_power count power (n - power) ≡ least_power count (power + 1) (n - (power + 1))
+pub least_power-next : (count power n : ℕ) → power < n → exports_a_slot ≤ count / 2 ^ power → least_power count power (n - power) ≡ least_power count (power + 1) (n - (power + 1))
 unfolding least_power
 least_power-next count power n under many =
     let e : n - power ≡ suc (n - (power + 1)) = omega arith in
-    rw (e, le-ltb (count / 2 ^ power) 10 many) refl
+    rw (e, le-ltb (count / 2 ^ power) exports_a_slot many) refl
 
 pub least_power-end : (count power n : ℕ) → n ≤ power → least_power count power (n - power) ≡ power
 unfolding least_power
@@ -61,4 +62,4 @@ unfolding least_power
 least_power-most count power zero = omega arith
 least_power-most count power (suc n) =
     let later = least_power-most count (power + 1) n in
-    cond_both (ltb (count / 2 ^ power) 10) power (least_power count (power + 1) n) (λ x. x ≤ power + suc n) (λ few. omega arith) (λ many. omega arith)
+    cond_both (ltb (count / 2 ^ power) exports_a_slot) power (least_power count (power + 1) n) (λ x. x ≤ power + suc n) (λ few. omega arith) (λ many. omega arith)

@@ -1,8 +1,8 @@
--- The table that is written for some names. Which power it has is this project's own choice; keys
--- in order of slot and the slot words are those of Mac OS Runtime Architectures, "PEF Structure",
--- "Export Hash Table".
-use Rattle.std.specs.Prelude.{ℕ, zero, suc, ◌+◌, ◌*◌, ◌^◌, ◌==◌, List, [], ◌∷◌, ◌++◌, length, map, take, drop, slice_index, if◌then◌else◌}
-use Rattle.pef_hash.specs.Word.{hash_word, least_power, slot}
+-- The table that is written for some names (Mac OS Runtime Architectures, "PEF Structure", "Export Hash
+-- Table"). Which power it has, and the order of the keys within a slot, are this project's own.
+use Rattle.std.specs.Prelude.{ℕ, zero, suc, ◌+◌, ◌^◌, ◌==◌, List, [], ◌∷◌, ◌++◌, length, map, take, drop, slice_index, if◌then◌else◌}
+use Rattle.pef_hash.specs.Exports.{slot_word}
+use Rattle.pef_hash.specs.Word.{hash_word, power_of, slot}
 
 -- 2^power slot words, a key for each name, and for each key the name that it is of
 pub record BuiltTable : Type 0 where
@@ -31,7 +31,7 @@ in_slots power words s (suc n) = in_slot power s 0 words ++ in_slots power words
 abbrev pub slot_words : ℕ → List ℕ → ℕ → ℕ → ℕ → List ℕ
 slot_words power words s first zero = []
 slot_words power words s first (suc n) =
-    (length (in_slot power s 0 words) * 2 ^ 18 + first) ∷ slot_words power words (s + 1) (first + length (in_slot power s 0 words)) n
+    slot_word (length (in_slot power s 0 words)) first ∷ slot_words power words (s + 1) (first + length (in_slot power s 0 words)) n
 
 -- the words at some places
 unfoldable pub keys_at : List ℕ → List ℕ → List ℕ
@@ -48,4 +48,4 @@ of_words power words = record {
 
 -- the table of some names
 unfoldable pub built : List (List ℕ) → BuiltTable
-built names = of_words (least_power (length names) 0 16) (map hash_word names)
+built names = of_words (power_of (length names)) (map hash_word names)

@@ -1,16 +1,28 @@
 -- Tables whose slots lead to their keys (Mac OS Runtime Architectures, "PEF Structure", "Export Hash
 -- Table"), as they are written for some names. A container may hold any other table.
-use Rattle.std.specs.Prelude.{◌≡◌, ◌≢◌, ℕ, ◌+◌, ◌/◌, ◌%◌, ◌^◌, ◌<◌, ◌≤◌, ◌↔◌, List, [], length, None, Some, slice_index, slice_index_or}
+use Rattle.std.specs.Prelude.{◌≡◌, ◌≢◌, ℕ, ◌+◌, ◌^◌, ◌<◌, ◌≤◌, ◌↔◌, List, [], length, None, Some, slice_index, slice_index_or}
 use Rattle.pef_hash.specs.Build.{BuiltTable, built}
-use Rattle.pef_hash.specs.Exports.{ExportTable, export_named, key_of, name_of, slot_word_of}
+use Rattle.pef_hash.specs.Exports.{ExportTable, export_named, key_of, name_of, slot_count, slot_first, slot_word_of}
+use Rattle.pef_hash.specs.Limits.{names_limit}
 use Rattle.pef_hash.specs.Word.{hash_word, slot}
 
--- each key is the hash word of its name, keys stand in order of slot, and each slot's count and first index delimit exactly its keys
+-- key i is there, and in slot s
+pub record IsKeyOf (t : ExportTable) (s i : ℕ) : Type 0 where
+  pub key : ℕ
+  pub is : key_of t i ≡ Some key
+  pub here : slot key t.power ≡ s
+
+-- place i is one of as many places as a slot word counts, from its first index on
+pub record IsCounted (word i : ℕ) : Type 0 where
+  pub low : slot_first word ≤ i
+  pub high : i < slot_first word + slot_count word
+
+-- each key is the hash word of its name, keys stand in order of slot, and each slot word counts exactly the keys of its slot:
+-- all of them, no key of another slot, and no place without a key
 pub record IsRegular (t : ExportTable) : Type 0 where
   pub keyed : (i : ℕ) → i < t.count → (name : List ℕ) × (name_of t i ≡ Some name) × (key_of t i ≡ Some (hash_word name))
   pub ordered : (i j k l : ℕ) → i < j → key_of t i ≡ Some k → key_of t j ≡ Some l → slot k t.power ≤ slot l t.power
-  pub delimited : (s w i k : ℕ) → slot_word_of t s ≡ Some w → key_of t i ≡ Some k
-      → (slot k t.power ≡ s) ↔ ((w % 2 ^ 18 ≤ i) × (i < w % 2 ^ 18 + w / 2 ^ 18))
+  pub delimited : (s word i : ℕ) → slot_word_of t s ≡ Some word → IsCounted word i ↔ IsKeyOf t s i
 
 -- a table has the power, slots and keys of a built one, and the names in its order
 pub record Spells (t : ExportTable) (b : BuiltTable) (names : List (List ℕ)) : Type 0 where
@@ -26,14 +38,19 @@ AreDistinct names = (i j : ℕ) → i < length names → j < length names → sl
 
 -- a table that is written for some names is regular
 abbrev pub BuiltIsRegular : Type 0
-BuiltIsRegular = (names : List (List ℕ)) (t : ExportTable) → length names < 2 ^ 14 → Spells t (built names) names → IsRegular t
+BuiltIsRegular = (names : List (List ℕ)) (t : ExportTable) → length names < names_limit → Spells t (built names) names → IsRegular t
 
 -- in it each of distinct names has its own key, the one that the order gives it
 abbrev pub BuiltHasOwn : Type 0
-BuiltHasOwn = (names : List (List ℕ)) (t : ExportTable) (j : ℕ) → length names < 2 ^ 14 → Spells t (built names) names → AreDistinct names → j < length names
+BuiltHasOwn = (names : List (List ℕ)) (t : ExportTable) (j : ℕ) → length names < names_limit → Spells t (built names) names → AreDistinct names → j < length names
     → (i : ℕ) × (export_named t (slice_index_or names j []) ≡ Some i) × (i < length names) × (slice_index (built names).order i ≡ j)
 
 -- and any other name has none
 abbrev pub BuiltHasNoOther : Type 0
-BuiltHasNoOther = (names : List (List ℕ)) (t : ExportTable) (other : List ℕ) → length names < 2 ^ 14 → Spells t (built names) names
+BuiltHasNoOther = (names : List (List ℕ)) (t : ExportTable) (other : List ℕ) → length names < names_limit → Spells t (built names) names
     → ((j : ℕ) → j < length names → slice_index_or names j [] ≢ other) → export_named t other ≡ None
+
+-- a slot of a regular table that counts a key doesn't count past the last key
+abbrev pub RegularEndsInside : Type 0
+RegularEndsInside = (t : ExportTable) (s word : ℕ) → IsRegular t → slot_word_of t s ≡ Some word → 0 < slot_count word
+    → slot_first word + slot_count word ≤ t.count

@@ -1,6 +1,8 @@
--- Hash words and slots (Mac OS Runtime Architectures, "PEF Structure", "Export Hash Table").
+-- Hash words, slots and the power of a table (Mac OS Runtime Architectures, "PEF Structure", "Export Hash
+-- Table"). That the running value is signed, and which power is taken, are this project's own.
 use Rattle.std.specs.Prelude.{ℕ, zero, suc, ◌+◌, ◌-◌, ◌*◌, ◌/◌, ◌%◌, ◌^◌, ℤ, pos, List, fold, length, nat_lt, if◌then◌else◌, bit_and, bit_xor}
 use Rattle.std.specs.Int.{w32, cast_unsigned, int_bit_xor, int_shl, int_shr, int_wrapping_sub}
+use Rattle.pef_hash.specs.Limits.{exports_a_slot, most_written_power}
 
 -- the running value h after one more byte b, ((h << 1) - (h >> 16)) xor b: a signed number of 32 bits that wraps
 unfoldable pub hash_step : ℤ → ℕ → ℤ
@@ -20,7 +22,11 @@ hash_word name =
 unfoldable pub slot : ℕ → ℕ → ℕ
 slot word power = bit_and (bit_xor word (word / 2 ^ power)) (2 ^ power - 1)
 
--- the first of the n powers from a power on with fewer than 10 exports a slot, and the power behind them where there is none
+-- the first of the n powers from a power on with few exports a slot, and the power behind them where there is none
 unfoldable pub least_power : ℕ → ℕ → ℕ → ℕ
 least_power count power zero = power
-least_power count power (suc n) = if nat_lt (count / 2 ^ power) 10 then power else least_power count (power + 1) n
+least_power count power (suc n) = if nat_lt (count / 2 ^ power) exports_a_slot then power else least_power count (power + 1) n
+
+-- the power of the table that is written for some exports
+abbrev pub power_of : ℕ → ℕ
+power_of count = least_power count 0 most_written_power

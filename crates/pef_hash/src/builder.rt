@@ -1,15 +1,14 @@
 ghost use Rattle.std.specs.Prelude.{◌≡◌, ℕ, ◌+◌, ◌^◌, ◌<◌, ◌≤◌, ◌++◌, List, length, map, sum, IfOk, OnOk};
 ghost use Rattle.pef_hash.specs.Word.{hash_word};
-ghost use Rattle.pef_hash.specs.Chains.{IsChained};
+ghost use Rattle.pef_hash.specs.Kept.Chains.{IsChained};
 ghost use Rattle.pef_hash.specs.Build.{BuiltTable, built, in_slot, in_slots, keys_at, names_in, of_words, slot_words};
+ghost use Rattle.pef_hash.specs.Limits.{most_written_power, names_limit};
 
 use crate::fault::HashFault;
+use crate::layout::SLOT_COUNT_SHIFT;
 use crate::word::{hash_word, power_for, slot};
 use std::alloc::{AllocError, Global};
 use std::marker::Model;
-
-/// A slot word has the index of its first key below this bit, and the number of its keys above it.
-const COUNT_SHIFT: u32 = 18;
 
 /// The hash table of some names.
 #[derive(Debug, Drop)]
@@ -61,7 +60,7 @@ impl Table {
 /// may be 0.
 pub fn build(alloc: Global, names: &[u8], lengths: &[u8]) -> Result<Table, HashFault>
     requires whole { sum lengths.now ≡ length names.now }
-    requires few { length lengths.now < 2 ^ 14 }
+    requires few { length lengths.now < names_limit }
     ensures { IfOk result (λ t. t ≡ built (names_in names.now lengths.now)) }
 {
     let words = hash_words(alloc, names, lengths)?;
@@ -74,7 +73,7 @@ fn hash_words(alloc: Global, names: &[u8], lengths: &[u8]) -> Result<Vec<u32>, A
     requires { sum lengths.now ≡ length names.now }
     ensures { IfOk result (λ words. words.items ≡ map hash_word (names_in names.now lengths.now)) }
 {
-    let mut words = Vec::new(alloc);
+    let mut words = Vec::with_capacity(alloc, lengths.len())?;
     let mut rest = names;
     for length in lengths {
         let (name, others) = rest.split_at(*length as usize);
@@ -86,19 +85,19 @@ fn hash_words(alloc: Global, names: &[u8], lengths: &[u8]) -> Result<Vec<u32>, A
 
 /// The table of these hash words.
 fn lay_out(alloc: Global, words: &[u32], power: u32) -> Result<Table, AllocError>
-    requires few { length words.now < 2 ^ 14 }
-    requires small { power ≤ 16 }
+    requires few { length words.now < names_limit }
+    requires small { power ≤ most_written_power }
     ensures { IfOk result (λ t. t ≡ of_words power words.now) }
 {
     let chains = Chains::new(alloc, words, power)?;
-    let mut slots = Vec::new(alloc);
-    let mut keys = Vec::new(alloc);
-    let mut order = Vec::new(alloc);
+    let mut slots = Vec::with_capacity(alloc, 1 << power)?;
+    let mut keys = Vec::with_capacity(alloc, words.len())?;
+    let mut order = Vec::with_capacity(alloc, words.len())?;
     for slot in 0..1 << power {
         let first = order.len() as u32;
         chains.follow(slot, &mut keys, &mut order)?;
         let count = order.len() as u32 - first;
-        slots.push(count * (1 << COUNT_SHIFT) + first)?;
+        slots.push(count * (1 << SLOT_COUNT_SHIFT) + first)?;
     }
     Ok(Table {
         power,
@@ -121,8 +120,8 @@ struct Chains<'a> {
 
 impl<'a> Chains<'a> {
     fn new(alloc: Global, words: &'a [u32], power: u32) -> Result<Chains<'a>, AllocError>
-        requires few { length words.now < 2 ^ 14 }
-        requires small { power ≤ 16 }
+        requires few { length words.now < names_limit }
+        requires small { power ≤ most_written_power }
         ensures words { IfOk result (λ c. c.words.now ≡ words.entry.now) }
         ensures power { IfOk result (λ c. c.power ≡ power) }
     {

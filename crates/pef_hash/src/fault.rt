@@ -1,4 +1,5 @@
-ghost use Rattle.std.specs.Prelude.{◌≡◌, codes};
+ghost use Rattle.std.specs.Prelude.{◌≡◌};
+ghost use Rattle.pef_hash.specs.Faults.{fault_name, fault_number};
 
 use std::alloc::{AllocError, AllocFailed};
 use std::fmt;
@@ -7,13 +8,14 @@ use thiserror::Error;
 /// Why no table was built.
 #[derive(Clone, Copy, Debug, PartialEq, Eq, Error)]
 pub enum HashFault {
+    /// A growth of memory was refused.
     OutOfMemory,
 }
 
 impl HashFault {
     /// The number of the refusal.
     pub fn number(&self) -> u32
-        ensures { result ≡ 99 }
+        ensures { result ≡ fault_number self.now }
     {
         match self {
             HashFault::OutOfMemory => 99,
@@ -22,7 +24,7 @@ impl HashFault {
 
     /// The refusal's name, which is its text.
     pub fn name(&self) -> &'static str
-        ensures { result.now ≡ codes "OutOfMemory" }
+        ensures { result.now ≡ fault_name self.now }
     {
         match self {
             HashFault::OutOfMemory => "OutOfMemory",

@@ -5,14 +5,12 @@
 mod builder;
 mod exports;
 mod fault;
+pub mod layout;
 mod regular;
 mod word;
 
 pub use builder::{Table, build};
 pub use exports::{Entry, Exports};
 pub use fault::HashFault;
-pub use regular::built_tables_are_regular;
+pub use regular::{built_tables_are_regular, regular_slots_end_inside};
 pub use word::{hash_word, power_for, slot};
-
-#[cfg(test)]
-mod tests;

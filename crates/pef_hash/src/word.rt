@@ -1,13 +1,15 @@
 ghost use Rattle.std.specs.Prelude.{◌≡◌, ◌^◌, ◌<◌, length};
-ghost use Rattle.pef_hash.specs.Word.{hash_step, hash_value, hash_word, least_power, slot};
+ghost use Rattle.pef_hash.specs.Word.{hash_step, hash_value, hash_word, power_of, slot};
 
-/// The bits of the hash in a hash word. The bits above them have the length of the name.
-const HASH_BITS: u32 = 16;
+use crate::layout::KEY_LENGTH_SHIFT;
 
-/// The power of a table never passes this one.
-const GREATEST_POWER: u32 = 16;
+/// How far the running value is shifted right, so that its high bits count too.
+const HASH_SHIFT: u32 = 16;
 
-/// A table has fewer than this many exports a slot, rounded down, where its power allows it.
+/// A table is written with at most two to this power of slots.
+const MOST_WRITTEN_POWER: u32 = 16;
+
+/// It has fewer than this many exports a slot, rounded down, where that power allows it.
 const EXPORTS_A_SLOT: u32 = 10;
 
 /// The hash word of a name of at most 65,535 bytes: its length in the high 16 bits, and 16 bits of
@@ -18,9 +20,9 @@ pub fn hash_word(name: &[u8]) -> u32
     ensures { result ≡ hash_word name.now }
 {
     let hash = hash_value(name);
-    let folded = (hash ^ (hash >> HASH_BITS)).cast_unsigned();
-    let low = folded % (1 << HASH_BITS);
-    name.len() as u32 * (1 << HASH_BITS) + low
+    let folded = (hash ^ (hash >> HASH_SHIFT)).cast_unsigned();
+    let low = folded % (1 << KEY_LENGTH_SHIFT);
+    name.len() as u32 * (1 << KEY_LENGTH_SHIFT) + low
 }
 
 /// The running value after the bytes of a name.
@@ -39,7 +41,7 @@ fn hash_value(name: &[u8]) -> i32
 fn hash_step(hash: i32, byte: u8) -> i32
     ensures { result ≡ hash_step hash byte }
 {
-    (hash << 1).wrapping_sub(hash >> HASH_BITS) ^ i32::from(byte)
+    (hash << 1).wrapping_sub(hash >> HASH_SHIFT) ^ i32::from(byte)
 }
 
 /// The slot of a hash word in a table of `2^power` slots. Every power has one.
@@ -57,12 +59,12 @@ pub fn slot(word: u32, power: u32) -> u32
 /// The power of the table that is written for `count` exports: the least that leaves fewer than 10
 /// exports a slot, and 16 where none does.
 pub fn power_for(count: u32) -> u32
-    ensures { result ≡ least_power count 0 16 }
+    ensures { result ≡ power_of count }
 {
-    for power in 0..GREATEST_POWER {
+    for power in 0..MOST_WRITTEN_POWER {
         if count >> power < EXPORTS_A_SLOT {
             return power;
         }
     }
-    GREATEST_POWER
+    MOST_WRITTEN_POWER
 }

@@ -1,14 +1,14 @@
 -- What the acceptance of a loader section says, and what it takes.
-use Rattle.std.proofs.Common.{◌≡◌, ℕ, ◌+◌, ◌*◌, ◌<◌, ◌≤◌, Bool, true, false, cond, not, List, Option, None, Some, length, drop, take, refl, sym, ◌∙◌, ap, subst, arith}
-use Rattle.std.specs.Prelude.{◌&&◌, ◌||◌, Result, Ok, Err, IsTrue, IfSome, nat_lt, nat_le, ℤ, pos, negsuc}
+use Rattle.std.proofs.Common.{◌≡◌, ℕ, ◌+◌, ◌*◌, ◌<◌, ◌≤◌, Bool, true, false, not, List, Option, None, Some, length, drop, take, refl, sym, ◌∙◌, ap, subst, arith}
+use Rattle.std.specs.Prelude.{◌&&◌, ◌||◌, Result, Ok, Err, IsTrue, IfSome, nat_lt, nat_le}
 use Rattle.std.specs.Option.{is_none, option_map_or}
-use Rattle.std.specs.Str.{bytes_eq}
-use Rattle.std.proofs.lemmas.Slice.Eq.{bytes_eq-Decides}
-use Rattle.std.proofs.lemmas.Bool.{and_parts, lt-ltb, le-leb, leb-false, ltb-false, ltb-true}
+use Rattle.std.proofs.lemmas.Option.{cond_some}
+use Rattle.std.proofs.lemmas.Bool.{not-false, and_parts, lt-ltb, le-leb, leb-false, ltb-false}
 use Rattle.pef_words.specs.Bytes.{name_at, part_of}
 use Rattle.pef_words.specs.Refusals.{first_among, first_met, unless}
 use Rattle.pef_words.proofs.Laws.Refusals.{first_unmet, none_among, some_among}
-use Rattle.pef_hash.specs.Exports.{entry_of, export_named, name_of, named_at}
+use Rattle.pef_hash.specs.Exports.{entry_of, name_of}
+use Rattle.pef_hash.proofs.Laws.{export_named-some}
 use Rattle.pef_hash.specs.declared.exports.Entry.{Entry}
 use Rattle.pef_loader.specs.declared.header.LoaderHeader.{LoaderHeader}
 use Rattle.pef_loader.specs.declared.library.LibraryEntry.{LibraryEntry}
@@ -16,12 +16,13 @@ use Rattle.pef_loader.specs.declared.import.ImportEntry.{ImportEntry}
 use Rattle.pef_loader.specs.declared.reloc.RelocEntry.{RelocEntry}
 use Rattle.pef_loader.specs.declared.fault.LoaderFault.{LoaderFault}
 use Rattle.pef_loader.specs.declared.fault.LoaderFault.TheVariants.{LoaderShort, BadTableOffset, BadEntry, BadExportTable}
-use Rattle.pef_loader.specs.Header.{entry_of as header_entry, header_of, is_entry, tables_end}
+use Rattle.pef_loader.specs.Header.{header_of, is_entry, tables_end}
 use Rattle.pef_loader.specs.Library.{Library, library_at, library_in, library_refusal, library_tests, owns}
 use Rattle.pef_loader.specs.Import.{Import, import_at, import_in, import_refusal, import_tests, owner_at, owner_of}
 use Rattle.pef_loader.specs.Reloc.{instructions_of, reloc_at, reloc_in, reloc_refusal, reloc_tests}
 use Rattle.pef_loader.specs.Export.{Export, export_in, export_refusal, export_table, export_tests, has_exports, has_section}
-use Rattle.pef_loader.specs.Loader.{IsAccepted, IsLoader, Loaded, export_of, fault_if, has_entries, import_of, judged, library_of, loaded_of, named_of, reloc_of}
+use Rattle.pef_loader.specs.Kept.Accepted.{IsAccepted}
+use Rattle.pef_loader.specs.Loader.{IsLoader, Loaded, export_of, fault_if, has_entries, import_of, judged, library_of, loaded_of, named_of, reloc_of}
 
 unless_ok : {A F : Type 0} (fault : Option F) (r : Result A F) (x : A) → unless fault r ≡ Ok x → (fault ≡ None) × (r ≡ Ok x)
 unless_ok None r x ok = (refl, ok)
@@ -63,17 +64,22 @@ fault_unmet : (test : Bool) (fault : LoaderFault) → fault_if test fault ≡ No
 fault_unmet true fault none = absurd (cc)
 fault_unmet false fault none = refl
 
-true-from_not : (b : Bool) → not b ≡ false → IsTrue b
-true-from_not true e = refl
-true-from_not false e = absurd (cc)
-
 -- the export table is whole
 pub exports_whole : (l : Loaded) → IsLoader l → IsTrue (has_exports l.bytes l.header)
-exports_whole l ok = true-from_not _ (fault_unmet _ BadExportTable (accepted l ok).table)
+exports_whole l ok = not-false _ (fault_unmet _ BadExportTable (accepted l ok).table)
 
 -- each entry is in an instantiated section or isn't there
-pub entries_sound : (l : Loaded) → IsLoader l → IsTrue (has_entries l.sections l.header)
-entries_sound l ok = true-from_not _ (fault_unmet _ BadEntry (accepted l ok).entries)
+pub record HasEntries (l : Loaded) : Type 0 where
+  pub main : IsTrue (is_entry l.sections l.header.main_section)
+  pub init : IsTrue (is_entry l.sections l.header.init_section)
+  pub term : IsTrue (is_entry l.sections l.header.term_section)
+
+pub entries_are : (l : Loaded) → IsLoader l → HasEntries l
+entries_are l ok =
+    let is = is_entry l.sections in
+    let all = and_parts (is l.header.main_section && is l.header.init_section) (is l.header.term_section) (not-false _ (fault_unmet _ BadEntry (accepted l ok).entries)) in
+    let two = and_parts (is l.header.main_section) (is l.header.init_section) all.0 in
+    record { main = two.0; init = two.1; term = all.1 }
 
 -- a part that isn't refused is there, and none of its tests is met
 refused_not : {E : Type 0} (part : Option E) (tests : E → List (Bool × LoaderFault)) (fault : LoaderFault) → option_map_or (λ e. first_met (tests e)) part (Some fault) ≡ None → (e : E) × (part ≡ Some e) × (first_met (tests e) ≡ None)
@@ -101,13 +107,15 @@ library_is l i ok under =
     (part.0, part.1, record { name = there.0; named = there.1; range = ltb-false l.header.import_count _ range.0 })
 
 -- .. so library i is there for each i below their count
-pub library_there : (l : Loaded) (i : ℕ) → IsLoader l → i < l.header.library_count → (x : Library) × (library_of l i ≡ Some x)
+pub library_there : (l : Loaded) (i : ℕ) → IsLoader l → i < l.header.library_count
+    → (x : Library) × (library_of l i ≡ Some x) × (x.first + x.count ≤ l.header.import_count)
 unfolding library_of library_in
 library_there l i ok under =
     let is = library_is l i ok under in
     let e = is.0 in (
       record { name = is.2.name; current = e.current; old_imp = e.old_imp; count = e.count; first = e.first; options = e.options },
       rw (lt-ltb i l.header.library_count under, is.1, is.2.named) refl,
+      is.2.range,
     )
 
 -- each import is there, with a name
@@ -115,20 +123,11 @@ pub record IsImport (l : Loaded) (entry : ImportEntry) : Type 0 where
   pub name : List ℕ
   pub named : name_at l.bytes (l.header.strings_offset + entry.name_offset) ≡ Some name
 
--- what a choice gives, it gives of what it chose
-chosen : {A : Type 0} (b : Bool) (x y : A) → cond b (Some x) None ≡ Some y → x ≡ y
-chosen true x y is = cc
-chosen false x y is = absurd (cc)
-
-met_where : {A : Type 0} (b : Bool) (o : Option A) (y : A) → cond b o None ≡ Some y → b ≡ true
-met_where true o y is = refl
-met_where false o y is = absurd (cc)
-
 -- the owner of an import is one of the libraries
 pub owner-below : (bytes : List ℕ) (h : LoaderHeader) (j x : ℕ) → owner_of bytes h j ≡ Some x → x < h.library_count
 owner-below bytes h j x is =
     let r = some_among (owner_at bytes j) 0 h.library_count x is in
-    let same : r.at ≡ x = chosen (owns bytes j r.at) r.at x r.is in
+    let same = (cond_some (owns bytes j r.at) r.at x r.is).1 in
     let high = r.high in
     omega arith
 
@@ -148,13 +147,15 @@ import_owned l j ok under =
     let name = first_unmet (is_none (name_at l.bytes (l.header.strings_offset + part.0.name_offset))) _ _ part.2 in
     some_if _ (first_unmet (is_none (owner_of l.bytes l.header j)) _ _ name.1).0
 
-pub import_there : (l : Loaded) (j : ℕ) → IsLoader l → j < l.header.import_count → (x : Import) × (import_of l j ≡ Some x)
+pub import_there : (l : Loaded) (j : ℕ) → IsLoader l → j < l.header.import_count
+    → (x : Import) × (import_of l j ≡ Some x) × (x.library < l.header.library_count)
 unfolding import_of import_in
 import_there l j ok under =
     let is = import_is l j ok under in
     let owner = import_owned l j ok under in (
       record { name = is.2.name; class = is.0.class; weak = is.0.weak; library = owner.0 },
       rw (lt-ltb j l.header.import_count under, is.1, is.2.named, owner.1) refl,
+      owner-below l.bytes l.header j owner.0 owner.1,
     )
 
 -- each relocation header is there, of an instantiated section, and its instructions lie inside
@@ -181,12 +182,14 @@ reloc_is l k ok under =
       },
     )
 
-pub reloc_there : (l : Loaded) (k : ℕ) → IsLoader l → k < l.header.reloc_count → (x : ℕ × List ℕ) × (reloc_of l k ≡ Some x)
+pub reloc_there : (l : Loaded) (k : ℕ) → IsLoader l → k < l.header.reloc_count
+    → (x : ℕ × List ℕ) × (reloc_of l k ≡ Some x) × (x.0 < l.sections)
 unfolding reloc_of reloc_in
 reloc_there l k ok under =
     let is = reloc_is l k ok under in (
       (is.0.section, is.2.instructions),
       rw (lt-ltb k l.header.reloc_count under, is.1, is.2.are) refl,
+      is.2.section,
     )
 
 -- each export is there, with a name, in a section that it may be in
@@ -207,14 +210,16 @@ export_is l i ok under =
     let name = first_unmet (nat_lt (length l.bytes) l.header.strings_offset || is_none (name_of (export_table l.bytes l.header) i)) _ _ part.2 in
     let section = first_unmet (not (has_section l.header l.sections part.0.value part.0.section)) _ _ name.1 in
     let there = some_if _ (second_unmet _ _ name.0) in
-    (part.0, part.1, record { name = there.0; named = there.1; section = true-from_not _ section.0 })
+    (part.0, part.1, record { name = there.0; named = there.1; section = not-false _ section.0 })
 
-pub export_there : (l : Loaded) (i : ℕ) → IsLoader l → i < l.header.export_count → (x : Export) × (export_of l i ≡ Some x)
+pub export_there : (l : Loaded) (i : ℕ) → IsLoader l → i < l.header.export_count
+    → (x : Export) × (export_of l i ≡ Some x) × IsTrue (has_section l.header l.sections x.value x.section)
 unfolding export_of export_in
 export_there l i ok under =
     let is = export_is l i ok under in (
       record { name = is.2.name; class = is.0.class; section = is.0.section; value = is.0.value },
       rw (is.1, is.2.named) refl,
+      is.2.section,
     )
 
 some_same : {A : Type 0} (x y : A) → Some x ≡ Some y → x ≡ y
@@ -245,13 +250,6 @@ export_with l i e ok under at =
     let P : Entry → Type 0 = λ e. IsExport l e i in
     subst P (some_same is.0 e (sym is.1 ∙ at)) is.2
 
--- an entry that is there is in an instantiated section
-pub entry-section : (sections : ℕ) (section : ℤ) (offset : ℕ) (e : ℕ × ℕ) → IsTrue (is_entry sections section) → header_entry section offset ≡ Some e → e.0 < sections
-entry-section sections (pos section) offset e sound is =
-    let same : section ≡ e.0 = ap (λ o. option_map_or (λ x. x.0) o section) is in
-    rw (sym same) (ltb-true section sections sound)
-entry-section sections (negsuc n) offset e sound is = absurd (cc)
-
 parts_of : (sections : ℕ) (bytes : List ℕ) (l : Loaded) (h : Option LoaderHeader) → option_map_or (judged sections bytes) h (Err LoaderShort) ≡ Ok l → (sections ≡ l.sections) × (bytes ≡ l.bytes)
 parts_of sections bytes l None ok = absurd (cc)
 parts_of sections bytes l (Some h) ok =
@@ -270,64 +268,28 @@ unfolding loaded_of
 loaded_of-parts sections bytes l ok = parts_of sections bytes l (header_of bytes) ok
 
 -- and is a loader section
-pub loaded_of-ok : (sections : ℕ) (bytes : List ℕ) (l : Loaded) → loaded_of sections bytes ≡ Ok l → IsLoader l
+pub loaded_of-ok : (sections : ℕ) (bytes : List ℕ) (l : Loaded) → loaded_of sections bytes ≡ Ok l → IsLoader l × (sections ≡ l.sections) × (bytes ≡ l.bytes)
 loaded_of-ok sections bytes l ok =
     let same = loaded_of-parts sections bytes l ok in
     let P : ℕ → Type 0 = λ n. loaded_of n l.bytes ≡ Ok l in
     let Q : List ℕ → Type 0 = λ xs. loaded_of sections xs ≡ Ok l in
-    subst P same.0 (subst Q same.1 ok)
+    (subst P same.0 (subst Q same.1 ok), same.0, same.1)
 
--- the same of each entry
-within_sections : (sections : ℕ) (section : ℤ) (offset : ℕ) (o : Option (ℕ × ℕ)) → IsTrue (is_entry sections section) → header_entry section offset ≡ o → IfSome o (λ e. e.0 < sections)
-within_sections sections section offset None sound is = tt
-within_sections sections section offset (Some e) sound is = entry-section sections section offset e sound is
-
-pub main_sound : (l : Loaded) (o : Option (ℕ × ℕ)) → IsLoader l → header_entry l.header.main_section l.header.main_offset ≡ o → IfSome o (λ e. e.0 < l.sections)
-main_sound l o ok is =
-    let all = and_parts (is_entry l.sections l.header.main_section && is_entry l.sections l.header.init_section) (is_entry l.sections l.header.term_section) (entries_sound l ok) in
-    let two = and_parts (is_entry l.sections l.header.main_section) (is_entry l.sections l.header.init_section) all.0 in
-    within_sections l.sections l.header.main_section l.header.main_offset o two.0 is
-
-pub init_sound : (l : Loaded) (o : Option (ℕ × ℕ)) → IsLoader l → header_entry l.header.init_section l.header.init_offset ≡ o → IfSome o (λ e. e.0 < l.sections)
-init_sound l o ok is =
-    let all = and_parts (is_entry l.sections l.header.main_section && is_entry l.sections l.header.init_section) (is_entry l.sections l.header.term_section) (entries_sound l ok) in
-    let two = and_parts (is_entry l.sections l.header.main_section) (is_entry l.sections l.header.init_section) all.0 in
-    within_sections l.sections l.header.init_section l.header.init_offset o two.1 is
-
-pub term_sound : (l : Loaded) (o : Option (ℕ × ℕ)) → IsLoader l → header_entry l.header.term_section l.header.term_offset ≡ o → IfSome o (λ e. e.0 < l.sections)
-term_sound l o ok is =
-    let all = and_parts (is_entry l.sections l.header.main_section && is_entry l.sections l.header.init_section) (is_entry l.sections l.header.term_section) (entries_sound l ok) in
-    within_sections l.sections l.header.term_section l.header.term_offset o all.1 is
-
--- the first export of a name is one of the exports, and has the name
-pub record IsNamed (l : Loaded) (name : List ℕ) (i : ℕ) : Type 0 where
-  pub below : i < l.header.export_count
-  pub named : name_of (export_table l.bytes l.header) i ≡ Some name
-
-named_there : (o : Option (List ℕ)) (name : List ℕ) (i x : ℕ) → cond (option_map_or (λ found. bytes_eq found name) o false) (Some i) None ≡ Some x → (x ≡ i) × (o ≡ Some name)
-named_there None name i x is = absurd (cc)
-named_there (Some found) name i x is =
-    let same = chosen (bytes_eq found name) i x is in
-    let met = met_where (bytes_eq found name) (Some i) x is in
-    (sym same, ap Some ((bytes_eq-Decides found name).0 met))
-
-pub named_is : (l : Loaded) (name : List ℕ) (i : ℕ) → named_of l name ≡ Some i → IsNamed l name i
-unfolding named_of export_named
-named_is l name i is =
-    let r = some_among (named_at (export_table l.bytes l.header) name) 0 l.header.export_count i is in
-    let there = named_there (name_of (export_table l.bytes l.header) r.at) name r.at i r.is in
-    let high = r.high in
-    let same : i ≡ r.at = there.0 in
-    record { below = omega arith; named = rw same there.1 }
-
+-- what is found by a name is one of the exports
 pub named-below : (l : Loaded) (name : List ℕ) (o : Option ℕ) → named_of l name ≡ o → IfSome o (λ i. i < l.header.export_count)
+unfolding named_of
 named-below l name None is = tt
-named-below l name (Some i) is = (named_is l name i is).below
+named-below l name (Some i) is = (export_named-some (export_table l.bytes l.header) name i is).below
 
--- .. so what is found by its name is there and has it
-pub named_export : (l : Loaded) (name : List ℕ) (i : ℕ) → IsLoader l → named_of l name ≡ Some i → (x : Export) × (export_of l i ≡ Some x) × (x.name ≡ name)
-unfolding export_of export_in
-named_export l name i ok found =
-    let named = named_is l name i found in
-    let is = export_is l i ok named.below in
-    (record { name = name; class = is.0.class; section = is.0.section; value = is.0.value }, rw (is.1, named.named) refl, refl)
+-- .. so it is there, and has the name
+pub named_there : (l : Loaded) (name : List ℕ) (i : ℕ) → IsLoader l → named_of l name ≡ Some i
+    → (x : Export) × (export_of l i ≡ Some x) × (x.name ≡ name) × IsTrue (has_section l.header l.sections x.value x.section)
+unfolding named_of export_of export_in
+named_there l name i ok found =
+    let named = export_named-some (export_table l.bytes l.header) name i found in
+    let is = export_is l i ok named.below in (
+      record { name = name; class = is.0.class; section = is.0.section; value = is.0.value },
+      rw (is.1, named.named) refl,
+      refl,
+      is.2.section,
+    )

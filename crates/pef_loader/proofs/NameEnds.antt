@@ -7,7 +7,7 @@ use Rattle.std.proofs.lemmas.Bool.Decides.{eqb_tells, leb_tells}
 use Rattle.std.proofs.lemmas.List.{get_or-drop}
 use Rattle.pef_words.specs.Bytes.{before_zero, name_at}
 use Rattle.pef_words.proofs.Laws.Names.{before_zero-none}
-use Rattle.pef_loader.specs.Names.{NamesEndAt}
+use Rattle.pef_loader.specs.Kept.Names.{NamesEndAt}
 
 -- a name is there whatever stands before it
 is_none-cons : (b : ℕ) (o : Option (List ℕ)) → is_none (option_map (λ name. b ∷ name) o) ≡ is_none o

@@ -3,12 +3,12 @@ use Rattle.std.proofs.Common.{◌≡◌, ℕ, zero, suc, ◌+◌, ◌-◌, ◌<�
 use Rattle.std.specs.Prelude.{◌&&◌, nat_le, nat_lt}
 use Rattle.std.specs.Option.{option_map_or}
 use Rattle.std.proofs.lemmas.Bool.Decides.{leb_tells, nat_tests}
-use Rattle.pef_words.specs.Refusals.{first_among}
+use Rattle.pef_words.proofs.Laws.Refusals.{first_among-at, first_among-none}
 use Rattle.pef_loader.specs.declared.header.LoaderHeader.{LoaderHeader}
 use Rattle.pef_loader.specs.declared.library.LibraryEntry.{LibraryEntry}
 use Rattle.pef_loader.specs.Import.{owner_at, owner_of}
 use Rattle.pef_loader.specs.Library.{library_at, owns}
-use Rattle.pef_loader.specs.Ranges.{AreInOrder, IsFirstPast, end_of, first_of}
+use Rattle.pef_loader.specs.Kept.Ranges.{AreInOrder, IsFirstPast, end_of, first_of}
 
 -- a range's first import isn't past its end
 first-end-of : (e : Option LibraryEntry) → option_map_or (λ e. e.first) e 0 ≤ option_map_or (λ e. e.first + e.count) e 0
@@ -17,6 +17,14 @@ first-end-of (Some e) = omega arith
 
 pub first-end : (bytes : List ℕ) (i : ℕ) → first_of bytes i ≤ end_of bytes i
 first-end bytes i = first-end-of (library_at bytes i)
+
+-- a library has the imports within its range
+owns-of : (j : ℕ) (e : Option LibraryEntry) → (nat_le (option_map_or (λ e. e.first) e 0) j && nat_lt j (option_map_or (λ e. e.first + e.count) e 0)) ≡ option_map_or (λ e. nat_le e.first j && nat_lt j (e.first + e.count)) e false
+owns-of j None = grind (arith, nat_tests)
+owns-of j (Some e) = refl
+
+pub owns_is : (bytes : List ℕ) (j i : ℕ) → (nat_le (first_of bytes i) j && nat_lt j (end_of bytes i)) ≡ owns bytes j i
+owns_is bytes j i = owns-of j (library_at bytes i)
 
 -- an import that a range ends before isn't in it
 owns-behind-of : (j : ℕ) (e : Option LibraryEntry) → option_map_or (λ e. e.first + e.count) e 0 ≤ j → option_map_or (λ e. nat_le e.first j && nat_lt j (e.first + e.count)) e false ≡ false
@@ -72,24 +80,6 @@ ends_rise bytes n i k order low under =
           omega arith)
     ]
 
--- no place has an answer
-among-none : {F : Type 0} (answer : ℕ → Option F) (from n : ℕ) → ((k : ℕ) → from ≤ k → k < from + n → answer k ≡ None) → first_among answer from n ≡ None
-among-none answer from zero none = refl
-among-none answer from (suc n) none =
-    let later = among-none answer (from + 1) n (λ k low high. none k (omega arith) (omega arith)) in
-    rw (none from (omega arith) (omega arith), later) refl
-
--- the first place with an answer
-among-at : {F : Type 0} (answer : ℕ → Option F) (from n k : ℕ) (x : F) → k < n → ((j : ℕ) → from ≤ j → j < from + k → answer j ≡ None) → answer (from + k) ≡ Some x → first_among answer from n ≡ Some x
-among-at answer from zero k x under none here = absurd (omega arith)
-among-at answer from (suc n) zero x under none here =
-    let e : from + 0 ≡ from = omega arith in
-    rw (rw e at here) refl
-among-at answer from (suc n) (suc k) x under none here =
-    let e : from + suc k ≡ from + 1 + k = omega arith in
-    let later = among-at answer (from + 1) n k x (omega arith) (λ j low high. none j (omega arith) (omega arith)) (rw e at here) in
-    rw (none from (omega arith) (omega arith), later) refl
-
 unowned : (bytes : List ℕ) (j i : ℕ) → owns bytes j i ≡ false → owner_at bytes j i ≡ None
 unowned bytes j i not = rw not refl
 
@@ -101,7 +91,7 @@ pub owner-past : (bytes : List ℕ) (h : LoaderHeader) (j l : ℕ) → IsFirstPa
 owner-past bytes h j l past under has =
     let behind = past.behind in
     let e : 0 + l ≡ l = omega arith in
-    among-at (owner_at bytes j) 0 h.library_count l l under (λ i low high. unowned bytes j i (owns-behind bytes j i (behind i (omega arith)))) (rw e (owned bytes j l has))
+    first_among-at (owner_at bytes j) 0 h.library_count l l under (λ i low high. unowned bytes j i (owns-behind bytes j i (behind i (omega arith)))) (rw e (owned bytes j l has))
 
 -- an import that this library doesn't own is owned by no other
 not-owned : (bytes : List ℕ) (n j l i : ℕ) → AreInOrder bytes n → IsFirstPast bytes n j l → (l < n → owns bytes j l ≡ false) → i < n → owns bytes j i ≡ false
@@ -124,4 +114,4 @@ not-owned bytes n j l i order past not under =
 -- or no library does
 pub owner-none : (bytes : List ℕ) (h : LoaderHeader) (j l : ℕ) → AreInOrder bytes h.library_count → IsFirstPast bytes h.library_count j l → (l < h.library_count → owns bytes j l ≡ false) → owner_of bytes h j ≡ None
 owner-none bytes h j l order past not =
-    among-none (owner_at bytes j) 0 h.library_count (λ i low high. unowned bytes j i (not-owned bytes h.library_count j l i order past not (omega arith)))
+    first_among-none (owner_at bytes j) 0 h.library_count (λ i low high. unowned bytes j i (not-owned bytes h.library_count j l i order past not (omega arith)))

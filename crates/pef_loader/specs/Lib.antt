@@ -2,9 +2,8 @@ pub mod Export
 pub mod Faults
 pub mod Header
 pub mod Import
+pub mod Kept
 pub mod Library
 pub mod Loader
-pub mod Names
-pub mod Ranges
 pub mod Reloc
 pub mod Views

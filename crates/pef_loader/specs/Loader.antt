@@ -48,17 +48,6 @@ loaded_of sections bytes = option_map_or (judged sections bytes) (header_of byte
 abbrev pub IsLoader : Loaded → Type 0
 IsLoader l = loaded_of l.sections l.bytes ≡ Ok l
 
--- `IsLoader` in other words: the header is there and no test is met
-pub record IsAccepted (l : Loaded) : Type 0 where
-  pub header : header_of l.bytes ≡ Some l.header
-  pub tables : fault_if (nat_lt (length l.bytes) (tables_end l.header)) BadTableOffset ≡ None
-  pub libraries : first_among (library_refusal l.bytes l.header) 0 l.header.library_count ≡ None
-  pub imports : first_among (import_refusal l.bytes l.header) 0 l.header.import_count ≡ None
-  pub entries : fault_if (not (has_entries l.sections l.header)) BadEntry ≡ None
-  pub relocs : first_among (reloc_refusal l.bytes l.header l.sections) 0 l.header.reloc_count ≡ None
-  pub table : fault_if (not (has_exports l.bytes l.header)) BadExportTable ≡ None
-  pub exports : first_among (export_refusal l.bytes l.header l.sections) 0 l.header.export_count ≡ None
-
 -- the parts of a loader section, none past the last one of each kind
 unfoldable pub library_of : Loaded → ℕ → Option Library
 library_of l i = library_in l.bytes l.header i

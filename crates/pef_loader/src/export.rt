@@ -7,21 +7,19 @@ ghost use Rattle.pef_loader.specs.Export.{export_refusal, export_table, export_t
 
 use crate::fault::LoaderFault;
 use crate::header::LoaderHeader;
-use crate::layout::{ABSOLUTE_EXPORT, EXPORT_SIZE, KEY_SIZE, REEXPORTED_IMPORT, SLOT_SIZE};
+use crate::layout::{ABSOLUTE_EXPORT, REEXPORTED_IMPORT};
 use pef_hash::Exports;
 use pef_words::Cut;
-
-/// The export table has at most two to this power of slots.
-const GREATEST_POWER: u32 = 30;
 
 /// An exported symbol with its name.
 #[derive(Clone, Copy, Debug)]
 pub struct ExportView<'a> {
     pub name: &'a [u8],
-    /// The low four bits of the class byte: 0 code, 1 data, 2 transition vector, 3 TOC, 4 glue.
+    /// The low four bits of the class byte, as [`CODE_SYMBOL`](crate::layout::CODE_SYMBOL).
     pub class: u8,
-    /// The section that the value is an offset in, or -2 for an absolute value, or -3 for an import
-    /// whose index is the value.
+    /// The instantiated section that the value is an offset in, or
+    /// [`ABSOLUTE_EXPORT`](crate::layout::ABSOLUTE_EXPORT), or
+    /// [`REEXPORTED_IMPORT`](crate::layout::REEXPORTED_IMPORT): then the value is an import's index.
     pub section: i32,
     pub value: u32,
 }
@@ -39,15 +37,8 @@ pub(crate) fn bytes_from<'a>(cut: Cut<'a>, offset: u32) -> &'a [u8]
 pub(crate) fn has_exports(cut: Cut<'_>, header: LoaderHeader) -> bool
     ensures { result ≡ has_exports cut.entry.bytes.now header }
 {
-    if header.export_count == 0 {
-        return true;
-    }
-    if header.export_power > GREATEST_POWER {
-        return false;
-    }
-    let size = (SLOT_SIZE << header.export_power)
-        + (KEY_SIZE + EXPORT_SIZE) * header.export_count as usize;
-    size <= bytes_from(cut, header.export_hash_offset).len()
+    let table = bytes_from(cut, header.export_hash_offset);
+    Exports::has_table(header.export_power, header.export_count, table)
 }
 
 /// The view of the exports.

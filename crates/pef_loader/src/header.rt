@@ -1,44 +1,19 @@
 ghost use Rattle.std.specs.Prelude.{◌≡◌, ◌<◌, ◌^◌};
-ghost use Rattle.pef_loader.specs.Header.{entry_of, header_of, imports_from, is_entry, relocs_from, tables_end};
+ghost use Rattle.pef_loader.specs.Header.{header_of, imports_from, is_entry, relocs_from, tables_end};
 
 use crate::layout::{
-    IMPORT_SIZE, LIBRARY_SIZE, LOADER_HEADER_SIZE, NO_SECTION, RELOCATION_HEADER_SIZE,
+    EXPORT_HASH_OFFSET_AT, EXPORT_HASH_TABLE_POWER_AT, EXPORTED_SYMBOL_COUNT_AT, IMPORT_SIZE,
+    IMPORTED_LIBRARY_COUNT_AT, INIT_OFFSET_AT, INIT_SECTION_AT, LIBRARY_SIZE, LOADER_HEADER_SIZE,
+    LOADER_STRINGS_OFFSET_AT, MAIN_OFFSET_AT, MAIN_SECTION_AT, NO_SECTION, RELOC_INSTR_OFFSET_AT,
+    RELOC_SECTION_COUNT_AT, RELOCATION_HEADER_SIZE, TERM_OFFSET_AT, TERM_SECTION_AT,
+    TOTAL_IMPORTED_SYMBOL_COUNT_AT,
 };
 use pef_words::Cut;
-
-/// The offsets of its fields.
-const MAIN_SECTION: usize = 0;
-
-const MAIN_OFFSET: usize = 4;
-
-const INIT_SECTION: usize = 8;
-
-const INIT_OFFSET: usize = 12;
-
-const TERM_SECTION: usize = 16;
-
-const TERM_OFFSET: usize = 20;
-
-const LIBRARY_COUNT: usize = 24;
-
-const IMPORT_COUNT: usize = 28;
-
-const RELOC_COUNT: usize = 32;
-
-const RELOC_INSTR_OFFSET: usize = 36;
-
-const STRINGS_OFFSET: usize = 40;
-
-const EXPORT_HASH_OFFSET: usize = 44;
-
-const EXPORT_POWER: usize = 48;
-
-const EXPORT_COUNT: usize = 52;
 
 /// The loader header, field by field (PEFLoaderInfoHeader). Offsets count from the first byte of the
 /// loader section.
 #[derive(Clone, Copy, Debug, PartialEq, Eq)]
-pub struct LoaderHeader {
+pub(crate) struct LoaderHeader {
     /// The section of the main entry, or -1 for none.
     pub main_section: i32,
     pub main_offset: u32,
@@ -93,20 +68,20 @@ pub(crate) fn read_header(cut: Cut<'_>) -> Option<LoaderHeader>
     ensures { result ≡ header_of cut.entry.bytes.now }
 {
     Some(LoaderHeader {
-        main_section: cut.i32_at(MAIN_SECTION)?,
-        main_offset: cut.u32_at(MAIN_OFFSET)?,
-        init_section: cut.i32_at(INIT_SECTION)?,
-        init_offset: cut.u32_at(INIT_OFFSET)?,
-        term_section: cut.i32_at(TERM_SECTION)?,
-        term_offset: cut.u32_at(TERM_OFFSET)?,
-        library_count: cut.u32_at(LIBRARY_COUNT)?,
-        import_count: cut.u32_at(IMPORT_COUNT)?,
-        reloc_count: cut.u32_at(RELOC_COUNT)?,
-        reloc_instr_offset: cut.u32_at(RELOC_INSTR_OFFSET)?,
-        strings_offset: cut.u32_at(STRINGS_OFFSET)?,
-        export_hash_offset: cut.u32_at(EXPORT_HASH_OFFSET)?,
-        export_power: cut.u32_at(EXPORT_POWER)?,
-        export_count: cut.u32_at(EXPORT_COUNT)?,
+        main_section: cut.i32_at(MAIN_SECTION_AT)?,
+        main_offset: cut.u32_at(MAIN_OFFSET_AT)?,
+        init_section: cut.i32_at(INIT_SECTION_AT)?,
+        init_offset: cut.u32_at(INIT_OFFSET_AT)?,
+        term_section: cut.i32_at(TERM_SECTION_AT)?,
+        term_offset: cut.u32_at(TERM_OFFSET_AT)?,
+        library_count: cut.u32_at(IMPORTED_LIBRARY_COUNT_AT)?,
+        import_count: cut.u32_at(TOTAL_IMPORTED_SYMBOL_COUNT_AT)?,
+        reloc_count: cut.u32_at(RELOC_SECTION_COUNT_AT)?,
+        reloc_instr_offset: cut.u32_at(RELOC_INSTR_OFFSET_AT)?,
+        strings_offset: cut.u32_at(LOADER_STRINGS_OFFSET_AT)?,
+        export_hash_offset: cut.u32_at(EXPORT_HASH_OFFSET_AT)?,
+        export_power: cut.u32_at(EXPORT_HASH_TABLE_POWER_AT)?,
+        export_count: cut.u32_at(EXPORTED_SYMBOL_COUNT_AT)?,
     })
 }
 
@@ -115,14 +90,4 @@ pub(crate) fn is_entry(section: i32, sections: u16) -> bool
     ensures { result ≡ is_entry sections section }
 {
     section == NO_SECTION || (section >= 0 && section < i32::from(sections))
-}
-
-/// The section and offset of an entry, or `None` where its section is negative.
-pub(crate) fn entry(section: i32, offset: u32) -> Option<(u32, u32)>
-    ensures { result ≡ entry_of section offset }
-{
-    if section < 0 {
-        return None;
-    }
-    Some((section.cast_unsigned(), offset))
 }

@@ -1,18 +1,13 @@
 ghost use Rattle.std.specs.Prelude.{◌≡◌, ◌<◌, ◌^◌};
 ghost use Rattle.std.specs.Result.{result_err};
 ghost use Rattle.pef_words.specs.Refusals.{first_met};
-ghost use Rattle.pef_loader.specs.Names.{NamesEndAt};
+ghost use Rattle.pef_loader.specs.Kept.Names.{NamesEndAt};
 ghost use Rattle.pef_loader.specs.Import.{import_at, import_refusal, import_tests, owner_of};
 
 use crate::fault::LoaderFault;
 use crate::header::LoaderHeader;
-use crate::layout::IMPORT_SIZE;
+use crate::layout::{CLASS_COUNT, CLASS_SHIFT, IMPORT_SIZE, WEAK_IMPORT};
 use pef_words::Cut;
-
-/// Where the class byte stands above the name offset, and its bit of a weak import.
-const CLASS_SHIFT: u32 = 24;
-
-const WEAK_SHIFT: u32 = 31;
 
 /// An imported symbol, field by field (PEFImportedSymbol).
 #[derive(Clone, Copy, Debug, PartialEq, Eq)]
@@ -26,7 +21,7 @@ pub(crate) struct ImportEntry {
 #[derive(Clone, Copy, Debug)]
 pub struct ImportView<'a> {
     pub name: &'a [u8],
-    /// The low four bits of the class byte: 0 code, 1 data, 2 transition vector, 3 TOC, 4 glue.
+    /// The low four bits of the class byte, as [`CODE_SYMBOL`](crate::layout::CODE_SYMBOL).
     pub class: u8,
     /// The symbol may be missing.
     pub weak: bool,
@@ -41,9 +36,10 @@ pub(crate) fn read_import(cut: Cut<'_>, header: LoaderHeader, j: usize) -> Optio
     ensures { result ≡ import_at cut.entry.bytes.now header j }
 {
     let word = cut.u32_at(header.imports() + IMPORT_SIZE * j)?;
+    let class_byte = (word >> CLASS_SHIFT) as u8;
     Some(ImportEntry {
-        class: (word >> CLASS_SHIFT) as u8 % 16,
-        weak: word >> WEAK_SHIFT == 1,
+        class: class_byte % CLASS_COUNT,
+        weak: class_byte & WEAK_IMPORT != 0,
         name_offset: word % (1 << CLASS_SHIFT),
     })
 }

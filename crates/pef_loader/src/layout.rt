@@ -1,44 +1,100 @@
-//! The numbers of a loader section: the sizes of its tables, and the values that some of its fields have
-//! (`PEFBinaryFormat.h`, `PEFLoaderInfoHeader` and those after it).
+//! Numbers of a loader section: sizes and offsets in bytes, and the values that fields may have
+//! (`PEFBinaryFormat.h`, `PEFLoaderInfoHeader` and the records after it).
 
-/// The bytes of the header.
+pub use pef_hash::layout::{CLASS_COUNT, CLASS_SHIFT, EXPORT_SIZE, KEY_SIZE, SLOT_SIZE};
+
+/// The length of the loader header.
 pub const LOADER_HEADER_SIZE: usize = 56;
 
-/// The bytes of an imported library.
+// Where the fields of the loader header stand.
+pub const MAIN_SECTION_AT: usize = 0;
+
+pub const MAIN_OFFSET_AT: usize = 4;
+
+pub const INIT_SECTION_AT: usize = 8;
+
+pub const INIT_OFFSET_AT: usize = 12;
+
+pub const TERM_SECTION_AT: usize = 16;
+
+pub const TERM_OFFSET_AT: usize = 20;
+
+pub const IMPORTED_LIBRARY_COUNT_AT: usize = 24;
+
+pub const TOTAL_IMPORTED_SYMBOL_COUNT_AT: usize = 28;
+
+pub const RELOC_SECTION_COUNT_AT: usize = 32;
+
+pub const RELOC_INSTR_OFFSET_AT: usize = 36;
+
+pub const LOADER_STRINGS_OFFSET_AT: usize = 40;
+
+pub const EXPORT_HASH_OFFSET_AT: usize = 44;
+
+pub const EXPORT_HASH_TABLE_POWER_AT: usize = 48;
+
+pub const EXPORTED_SYMBOL_COUNT_AT: usize = 52;
+
+/// The length of an imported library; the first stands right after the loader header.
 pub const LIBRARY_SIZE: usize = 24;
-/// The bytes of an imported symbol.
+
+// Where the fields of an imported library stand in it.
+pub const LIBRARY_NAME_OFFSET_AT: usize = 0;
+
+pub const OLD_IMP_VERSION_AT: usize = 4;
+
+pub const CURRENT_VERSION_AT: usize = 8;
+
+pub const IMPORTED_SYMBOL_COUNT_AT: usize = 12;
+
+pub const FIRST_IMPORTED_SYMBOL_AT: usize = 16;
+
+pub const LIBRARY_OPTIONS_AT: usize = 20;
+
+/// The length of an imported symbol; the first stands right after the libraries.
 pub const IMPORT_SIZE: usize = 4;
-/// The bytes of a relocation header.
+
+/// The length of a relocation header; the first stands right after the imported symbols.
 pub const RELOCATION_HEADER_SIZE: usize = 12;
-/// The bytes of a slot of the export hash table.
-pub const SLOT_SIZE: usize = 4;
-/// The bytes of a key of the export hash table.
-pub const KEY_SIZE: usize = 4;
-/// The bytes of an exported symbol.
-pub const EXPORT_SIZE: usize = 10;
+
+// Where the fields of a relocation header stand in it.
+pub const SECTION_INDEX_AT: usize = 0;
+
+pub const RELOC_COUNT_AT: usize = 4;
+
+pub const FIRST_RELOC_OFFSET_AT: usize = 8;
+
+/// The length of a relocation halfword.
+pub const HALFWORD_SIZE: usize = 2;
 
 /// The section of an entry that isn't there.
 pub const NO_SECTION: i32 = -1;
-/// The section of an export whose value is absolute.
+
+// The sections of exports in none.
+/// The value of the export is absolute.
 pub const ABSOLUTE_EXPORT: i32 = -2;
-/// The section of an export that passes on an import, whose index is the value.
+
+/// The export passes on an import, whose index is its value.
 pub const REEXPORTED_IMPORT: i32 = -3;
 
-/// The option of a library that is initialized before the fragment.
+// Bits of a library's options.
+/// The library is to be initialized before the fragment.
 pub const INIT_BEFORE: u8 = 0x80;
-/// The option of a library that may be missing.
+
+/// The library may be missing.
 pub const WEAK_LIBRARY: u8 = 0x40;
 
-/// The bit of a class byte of an import that may be missing.
+/// The bit of an import's class byte that says that the symbol may be missing.
 pub const WEAK_IMPORT: u8 = 0x80;
 
-/// The class of a symbol that is code.
+// Classes of symbols.
 pub const CODE_SYMBOL: u8 = 0;
-/// The class of a symbol that is data.
+
 pub const DATA_SYMBOL: u8 = 1;
-/// The class of a transition vector.
+
 pub const TRANSITION_VECTOR_SYMBOL: u8 = 2;
-/// The class of a TOC entry.
+
 pub const TOC_SYMBOL: u8 = 3;
-/// The class of linker-inserted glue.
+
+/// Glue that a linker inserted.
 pub const GLUE_SYMBOL: u8 = 4;

@@ -18,10 +18,6 @@ mod tables;
 
 pub use export::ExportView;
 pub use fault::LoaderFault;
-pub use header::LoaderHeader;
 pub use import::ImportView;
 pub use library::LibraryView;
 pub use tables::Loader;
-
-#[cfg(test)]
-mod tests;

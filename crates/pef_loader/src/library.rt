@@ -1,26 +1,16 @@
 ghost use Rattle.std.specs.Prelude.{◌≡◌, ◌+◌, ◌^◌, ◌<◌};
 ghost use Rattle.std.specs.Result.{result_err};
 ghost use Rattle.pef_words.specs.Refusals.{first_met};
-ghost use Rattle.pef_loader.specs.Names.{NamesEndAt};
+ghost use Rattle.pef_loader.specs.Kept.Names.{NamesEndAt};
 ghost use Rattle.pef_loader.specs.Library.{library_at, library_refusal, library_tests};
 
 use crate::fault::LoaderFault;
 use crate::header::LoaderHeader;
-use crate::layout::{LIBRARY_SIZE, LOADER_HEADER_SIZE};
+use crate::layout::{
+    CURRENT_VERSION_AT, FIRST_IMPORTED_SYMBOL_AT, IMPORTED_SYMBOL_COUNT_AT, LIBRARY_NAME_OFFSET_AT,
+    LIBRARY_OPTIONS_AT, LIBRARY_SIZE, LOADER_HEADER_SIZE, OLD_IMP_VERSION_AT,
+};
 use pef_words::Cut;
-
-/// The offsets of the fields.
-const NAME_OFFSET: usize = 0;
-
-const OLD_IMPLEMENTATION: usize = 4;
-
-const CURRENT: usize = 8;
-
-const COUNT: usize = 12;
-
-const FIRST: usize = 16;
-
-const OPTIONS: usize = 20;
 
 /// An imported library, field by field (PEFImportedLibrary).
 #[derive(Clone, Copy, Debug, PartialEq, Eq)]
@@ -45,7 +35,8 @@ pub struct LibraryView<'a> {
     pub count: u32,
     /// The first of them.
     pub first: u32,
-    /// 0x80: initialize the library before the fragment; 0x40: the library may be missing.
+    /// The bits [`INIT_BEFORE`](crate::layout::INIT_BEFORE) and
+    /// [`WEAK_LIBRARY`](crate::layout::WEAK_LIBRARY).
     pub options: u8,
 }
 
@@ -57,12 +48,12 @@ pub(crate) fn read_library(cut: Cut<'_>, i: usize) -> Option<LibraryEntry>
 {
     let at = LOADER_HEADER_SIZE + LIBRARY_SIZE * i;
     Some(LibraryEntry {
-        name_offset: cut.u32_at(at + NAME_OFFSET)?,
-        old_imp: cut.u32_at(at + OLD_IMPLEMENTATION)?,
-        current: cut.u32_at(at + CURRENT)?,
-        count: cut.u32_at(at + COUNT)?,
-        first: cut.u32_at(at + FIRST)?,
-        options: cut.u8_at(at + OPTIONS)?,
+        name_offset: cut.u32_at(at + LIBRARY_NAME_OFFSET_AT)?,
+        old_imp: cut.u32_at(at + OLD_IMP_VERSION_AT)?,
+        current: cut.u32_at(at + CURRENT_VERSION_AT)?,
+        count: cut.u32_at(at + IMPORTED_SYMBOL_COUNT_AT)?,
+        first: cut.u32_at(at + FIRST_IMPORTED_SYMBOL_AT)?,
+        options: cut.u8_at(at + LIBRARY_OPTIONS_AT)?,
     })
 }
 

@@ -1,4 +1,4 @@
-ghost use Rattle.pef_loader.specs.Names.{NamesEndAt};
+ghost use Rattle.pef_loader.specs.Kept.Names.{NamesEndAt};
 
 use memchr::memrchr;
 use pef_words::Cut;

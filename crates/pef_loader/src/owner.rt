@@ -1,34 +1,25 @@
 ghost use Rattle.std.specs.Prelude.{◌≡◌, ◌<◌, ◌≤◌, ◌^◌, IsTrue};
 ghost use Rattle.pef_loader.specs.Import.{owner_of};
 ghost use Rattle.pef_loader.specs.Library.{owns};
-ghost use Rattle.pef_loader.specs.Ranges.{AreBehind, AreInOrder, IsFirstPast, end_of, first_of};
+ghost use Rattle.pef_loader.specs.Kept.Ranges.{AreBehind, AreInOrder, IsFirstPast, end_of, first_of};
 
 use crate::header::LoaderHeader;
 use crate::library::read_library;
 use pef_words::Cut;
+use std::ops::Range;
 
-/// The imports of a library: from its first one up to its end.
-#[derive(Clone, Copy)]
-struct Imports {
-    first: usize,
-    end: usize,
-}
-
-/// The imports of library `i`.
-fn imports_of(cut: Cut<'_>, i: usize) -> Imports
+/// The imports of library `i`, from its first one up to its end.
+fn imports_of(cut: Cut<'_>, i: usize) -> Range<usize>
     requires { i < 2 ^ 32 }
-    ensures first { result.first ≡ first_of cut.entry.bytes.now i }
+    ensures start { result.start ≡ first_of cut.entry.bytes.now i }
     ensures end { result.end ≡ end_of cut.entry.bytes.now i }
 {
     match read_library(cut, i) {
         Some(library) => {
             let first = library.first as usize;
-            Imports {
-                first,
-                end: first + library.count as usize,
-            }
+            first..first + library.count as usize
         }
-        None => Imports { first: 0, end: 0 },
+        None => 0..0,
     }
 }
 
@@ -39,7 +30,7 @@ pub(crate) fn are_in_order(cut: Cut<'_>, header: LoaderHeader) -> bool
     let mut end = 0;
     for i in 0..header.library_count as usize {
         let imports = imports_of(cut, i);
-        if imports.first < end {
+        if imports.start < end {
             return false;
         }
         end = imports.end;
@@ -142,15 +133,10 @@ fn find_owner(cut: Cut<'_>, header: LoaderHeader, j: usize) -> Option<usize>
 }
 
 /// Whether import `j` is one of library `i`'s.
+#[tactic(auto, using(crate::proofs::RangeLemmas::owns_is))]
 fn owns(cut: Cut<'_>, i: usize, j: usize) -> bool
     requires { i < 2 ^ 32 }
     ensures { result ≡ owns cut.entry.bytes.now j i }
 {
-    match read_library(cut, i) {
-        Some(library) => {
-            let first = library.first as usize;
-            first <= j && j < first + library.count as usize
-        }
-        None => false,
-    }
+    imports_of(cut, i).contains(&j)
 }

@@ -6,18 +6,10 @@ ghost use Rattle.pef_loader.specs.Reloc.{instructions_of, reloc_at, reloc_refusa
 
 use crate::fault::LoaderFault;
 use crate::header::LoaderHeader;
-use crate::layout::RELOCATION_HEADER_SIZE;
+use crate::layout::{
+    FIRST_RELOC_OFFSET_AT, HALFWORD_SIZE, RELOC_COUNT_AT, RELOCATION_HEADER_SIZE, SECTION_INDEX_AT,
+};
 use pef_words::Cut;
-
-/// The offsets of the fields.
-const SECTION_INDEX: usize = 0;
-
-const COUNT: usize = 4;
-
-const FIRST: usize = 8;
-
-/// The size of a relocation halfword.
-const HALFWORD_SIZE: usize = 2;
 
 /// A relocation header, field by field (PEFLoaderRelocationHeader).
 #[derive(Clone, Copy, Debug, PartialEq, Eq)]
@@ -37,9 +29,9 @@ pub(crate) fn read_reloc(cut: Cut<'_>, header: LoaderHeader, k: usize) -> Option
 {
     let at = header.relocs() + RELOCATION_HEADER_SIZE * k;
     Some(RelocEntry {
-        section: cut.u16_at(at + SECTION_INDEX)?,
-        count: cut.u32_at(at + COUNT)?,
-        first: cut.u32_at(at + FIRST)?,
+        section: cut.u16_at(at + SECTION_INDEX_AT)?,
+        count: cut.u32_at(at + RELOC_COUNT_AT)?,
+        first: cut.u32_at(at + FIRST_RELOC_OFFSET_AT)?,
     })
 }
 

@@ -1,18 +1,21 @@
-ghost use Rattle.std.specs.Prelude.{◌≡◌, ◌+◌, ◌<◌, ◌≤◌, ◌↔◌, Ok, IfSome, IsSome, IsTrue, option_map};
+ghost use Rattle.std.specs.Prelude.{◌≡◌, ℕ, ◌+◌, ◌<◌, ◌≤◌, ◌↔◌, Ok, IfSome, IsSome, IsTrue, option_map};
 ghost use Rattle.std.specs.Result.{result_err};
 ghost use Rattle.pef_words.specs.Refusals.{first_among, result_map};
 ghost use Rattle.pef_loader.specs.Export.{export_refusal, has_exports, has_section};
+ghost use Rattle.pef_loader.specs.Header.{entry_of, is_entry};
 ghost use Rattle.pef_loader.specs.Import.{import_refusal};
 ghost use Rattle.pef_loader.specs.Library.{library_refusal};
 ghost use Rattle.pef_loader.specs.Loader.{export_of, fault_if, has_entries, import_of, init_of, library_of, loaded_of, main_of, named_of, reloc_of, term_of};
-ghost use Rattle.pef_loader.specs.Names.{NamesEndAt};
-ghost use Rattle.pef_loader.specs.Ranges.{AreInOrder};
+ghost use Rattle.pef_loader.specs.Kept.Names.{NamesEndAt};
+ghost use Rattle.pef_loader.specs.Kept.Tests.{TestsEach};
+ghost use Rattle.pef_loader.specs.Kept.Ranges.{AreInOrder};
 ghost use Rattle.pef_loader.specs.Reloc.{reloc_refusal};
 
 use crate::export::{ExportView, exports, has_exports, test_export};
 use crate::fault::LoaderFault;
-use crate::header::{LoaderHeader, entry, is_entry, read_header};
+use crate::header::{LoaderHeader, is_entry, read_header};
 use crate::import::{ImportView, read_import, test_import};
+use crate::layout::NO_SECTION;
 use crate::library::{LibraryView, read_library, test_library};
 use crate::names::names_end;
 use crate::owner::{are_in_order, next_owner, owner};
@@ -61,17 +64,23 @@ impl<'a> Loader<'a> {
             return Err(LoaderFault::BadTableOffset);
         }
         let names_end = names_end(cut);
-        test_libraries(cut, header, names_end)?;
+        test_each(
+            header.library_count,
+            |i| test_library(cut, header, names_end, i),
+        )?;
         let in_order = are_in_order(cut, header);
         test_imports(cut, header, names_end, in_order)?;
         if !has_entries(header, sections) {
             return Err(LoaderFault::BadEntry);
         }
-        test_relocs(cut, header, sections)?;
+        test_each(header.reloc_count, |k| test_reloc(cut, header, sections, k))?;
         if !has_exports(cut, header) {
             return Err(LoaderFault::BadExportTable);
         }
-        test_exports(cut, header, sections)?;
+        test_each(
+            header.export_count,
+            |i| test_export(cut, header, sections, i),
+        )?;
         Ok(Loader {
             cut,
             header,
@@ -201,7 +210,7 @@ impl<'a> Loader<'a> {
         ensures value { result ≡ main_of (loaded self.now) }
         ensures section { IfSome result (λ e. e.0 < (loaded self.now).sections) }
     {
-        entry(self.header.main_section, self.header.main_offset)
+        self.entry(self.header.main_section, self.header.main_offset)
     }
 
     /// The section and offset of the initialization routine, where there is one.
@@ -209,7 +218,7 @@ impl<'a> Loader<'a> {
         ensures value { result ≡ init_of (loaded self.now) }
         ensures section { IfSome result (λ e. e.0 < (loaded self.now).sections) }
     {
-        entry(self.header.init_section, self.header.init_offset)
+        self.entry(self.header.init_section, self.header.init_offset)
     }
 
     /// The section and offset of the termination routine, where there is one.
@@ -217,18 +226,32 @@ impl<'a> Loader<'a> {
         ensures value { result ≡ term_of (loaded self.now) }
         ensures section { IfSome result (λ e. e.0 < (loaded self.now).sections) }
     {
-        entry(self.header.term_section, self.header.term_offset)
+        self.entry(self.header.term_section, self.header.term_offset)
+    }
+
+    /// An entry, or `None` where it isn't there.
+    fn entry(&self, section: i32, offset: u32) -> Option<(u32, u32)>
+        requires { IsTrue (is_entry (loaded self.now).sections section) }
+        ensures value { result ≡ entry_of section offset }
+        ensures section { IfSome result (λ e. e.0 < (loaded self.now).sections) }
+    {
+        if section == NO_SECTION {
+            return None;
+        }
+        Some((section.cast_unsigned(), offset))
     }
 }
 
-/// The first refusal of a library, library by library.
-fn test_libraries(cut: Cut<'_>, header: LoaderHeader, names_end: usize) -> Result<(), LoaderFault>
-    requires { NamesEndAt cut.bytes.now names_end }
-    ensures { result_err result
-        ≡ first_among (library_refusal cut.entry.bytes.now header) 0 header.library_count }
+/// The first refusal of the rows of a table, row by row.
+fn test_each<F: Fn(usize) -> Result<(), LoaderFault>>(
+    count: u32,
+    test: F,
+) -> Result<(), LoaderFault>
+    requires { (i : ℕ) → i < count → F.pre test i }
+    ensures { TestsEach (F.post test) count result }
 {
-    for i in 0..header.library_count as usize {
-        test_library(cut, header, names_end, i)?;
+    for i in 0..count as usize {
+        test(i)?;
     }
     Ok(())
 }
@@ -261,27 +284,4 @@ fn has_entries(header: LoaderHeader, sections: u16) -> bool
     is_entry(header.main_section, sections)
         && is_entry(header.init_section, sections)
         && is_entry(header.term_section, sections)
-}
-
-/// The first refusal of a relocation header, header by header.
-fn test_relocs(cut: Cut<'_>, header: LoaderHeader, sections: u16) -> Result<(), LoaderFault>
-    ensures { result_err result
-        ≡ first_among (reloc_refusal cut.entry.bytes.now header sections) 0 header.reloc_count }
-{
-    for k in 0..header.reloc_count as usize {
-        test_reloc(cut, header, sections, k)?;
-    }
-    Ok(())
-}
-
-/// The first refusal of an export, export by export.
-fn test_exports(cut: Cut<'_>, header: LoaderHeader, sections: u16) -> Result<(), LoaderFault>
-    requires { IsTrue (has_exports cut.bytes.now header) }
-    ensures { result_err result
-        ≡ first_among (export_refusal cut.entry.bytes.now header sections) 0 header.export_count }
-{
-    for i in 0..header.export_count as usize {
-        test_export(cut, header, sections, i)?;
-    }
-    Ok(())
 }

@@ -1,4 +1,4 @@
-use Rattle.pef_loader.specs.Ranges.{AreBehind}
+use Rattle.pef_loader.specs.Kept.Ranges.{AreBehind}
 use Rattle.pef_loader.proofs.owner.advance.Given as goal
 
 abbrev pub invariant-loop-i : goal.invariant-loop-i

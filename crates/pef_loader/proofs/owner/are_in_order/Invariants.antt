@@ -1,6 +1,6 @@
 -- The ranges so far follow one another, and the last of them ends here.
 use Rattle.std.proofs.Common.{◌≡◌, ℕ, ◌+◌, ◌<◌, ◌≤◌}
-use Rattle.pef_loader.specs.Ranges.{end_of, first_of}
+use Rattle.pef_loader.specs.Kept.Ranges.{end_of, first_of}
 use Rattle.pef_loader.proofs.owner.are_in_order.Given as goal
 
 abbrev pub invariant-loop-i : goal.invariant-loop-i

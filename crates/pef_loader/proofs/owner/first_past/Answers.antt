@@ -1,6 +1,6 @@
 -- Ends rise, so what holds at the middle holds on its side of it.
 use Rattle.std.proofs.Common.{ℕ, ◌+◌, ◌-◌, ◌/◌, ◌≤◌, ◌<◌, arith}
-use Rattle.pef_loader.specs.Ranges.{end_of}
+use Rattle.pef_loader.specs.Kept.Ranges.{end_of}
 use Rattle.pef_loader.proofs.RangeLemmas.{ends_rise}
 use Rattle.pef_loader.proofs.owner.first_past.Goals as goal
 

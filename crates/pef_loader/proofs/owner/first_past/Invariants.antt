@@ -1,6 +1,6 @@
 -- The libraries below `low` end before the import, those from `high` on behind it.
 use Rattle.std.proofs.Common.{ℕ, ◌-◌, ◌<◌, ◌≤◌}
-use Rattle.pef_loader.specs.Ranges.{AreBehind, end_of}
+use Rattle.pef_loader.specs.Kept.Ranges.{AreBehind, end_of}
 use Rattle.pef_loader.proofs.owner.first_past.Given as goal
 
 abbrev pub invariant-loop-low : goal.invariant-loop-low

@@ -1,4 +1,4 @@
-use Rattle.pef_hash.specs.Chains.{IsChainedFrom}
+use Rattle.pef_hash.specs.Kept.Chains.{IsChainedFrom}
 use Rattle.pef_hash.proofs.builder.Chains.new.Given as goal
 
 abbrev pub invariant-loop-i : goal.invariant-loop-i

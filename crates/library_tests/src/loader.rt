@@ -1,4 +1,7 @@
-use super::*;
+use pef_loader::Loader;
+use pef_loader::layout::{
+    ABSOLUTE_EXPORT, DATA_SYMBOL, GLUE_SYMBOL, INIT_BEFORE, TRANSITION_VECTOR_SYMBOL, WEAK_LIBRARY,
+};
 use pef_views::Container;
 use std::process::Abort;
 
@@ -52,7 +55,7 @@ fn changed<const N: usize>(rt: &impl Abort, bytes: &[u8; N], words: &[(usize, u3
     bytes
 }
 
-/// The refusal's number, or 0 for a loader section.
+/// The number of the refusal, or 0 for a loader section.
 fn answer(bytes: &[u8]) -> u32 {
     match Container::read(bytes) {
         Ok(container) => match Loader::read(&container) {
@@ -64,10 +67,10 @@ fn answer(bytes: &[u8]) -> u32 {
 }
 
 #[test]
-fn refuses_by_the_first_rule_that_is_broken(rt: HostRuntime) {
+fn read(rt: HostRuntime) {
     // The loader header stands at 160, the relocation header at 216, the slot at 232, the key at 236
     // and the export at 240.
-    let rows: [(&[(usize, u32)], u32); 36] = [
+    let rows: [(&[(usize, u32)], u32); 37] = [
         (&[], 0),
         (&[(112, 0)], 11),
         (&[(112, 55)], 11),
@@ -93,12 +96,13 @@ fn refuses_by_the_first_rule_that_is_broken(rt: HostRuntime) {
         (&[(220, 0), (224, 22)], 0),
         (&[(220, 0), (224, 23)], 18),
         (&[(220, 12), (208, 31)], 18),
-        // The export table and the export.
+        // The export table.
         (&[(208, 31)], 19),
         (&[(208, 30)], 19),
         (&[(208, 1)], 19),
         (&[(212, 2)], 19),
         (&[(212, 0), (208, 31), (204, 0xFFFF_FFFF)], 0),
+        // The export.
         (&[(200, 0xFFFF_FFFF)], 13),
         (&[(200, 0xFFFF_FFFF), (236, 0)], 13),
         (&[(236, 0x0014_0000)], 0),
@@ -107,6 +111,7 @@ fn refuses_by_the_first_rule_that_is_broken(rt: HostRuntime) {
         (&[(246, 0xFFFF)], 20),
         (&[(246, 0xFFFC)], 20),
         (&[(246, 0xFFFD)], 20),
+        (&[(246, 0xFFFE)], 0),
     ];
     for (i, (words, want)) in rows.iter().enumerate() {
         assert_eq!(rt; answer(&changed(&rt, &GO, words)), *want, "row {i}");
@@ -146,7 +151,7 @@ fn refuses_by_the_first_rule_that_is_broken(rt: HostRuntime) {
 }
 
 #[test]
-fn shows_relocations_exports_and_entries(rt: HostRuntime) {
+fn relocs_exports_and_entries(rt: HostRuntime) {
     let container = Container::read(&GO).expect(&rt, "a container");
     let loader = Loader::read(&container).expect(&rt, "a loader section");
     assert_eq!(rt; (loader.libraries(), loader.imports()), (0, 0));
@@ -155,12 +160,38 @@ fn shows_relocations_exports_and_entries(rt: HostRuntime) {
     assert_eq!(rt; loader.reloc(1), None);
     let export = loader.export(0).expect(&rt, "an export");
     assert_eq!(rt; export.name, &GO[230..232]);
-    assert_eq!(rt; (export.class, export.section, export.value), (2, 1, 0));
+    assert_eq!(rt;
+        (export.class, export.section, export.value),
+        (TRANSITION_VECTOR_SYMBOL, 1, 0)
+    );
     assert!(rt; loader.export(1).is_none());
     assert_eq!(rt; loader.main(), Some((1, 0)));
     assert_eq!(rt; (loader.init(), loader.term()), (None, None));
+    // Other entries, and an absolute export.
+    let words = [
+        (160, 0xFFFF_FFFF),
+        (168, 0),
+        (172, 4),
+        (176, 1),
+        (180, 12),
+        (246, 0xFFFE),
+    ];
+    let bytes = changed(&rt, &GO, &words);
+    let container = Container::read(&bytes).expect(&rt, "a container");
+    let loader = Loader::read(&container).expect(&rt, "a loader section");
+    assert_eq!(rt;
+        (loader.main(), loader.init(), loader.term()),
+        (None, Some((0, 4)), Some((1, 12)))
+    );
+    let export = loader.export(0).expect(&rt, "an export");
+    assert_eq!(rt; (export.section, export.value), (ABSOLUTE_EXPORT, 0));
+}
+
+#[test]
+fn export_named(rt: HostRuntime) {
     let rows: [(&[(usize, u32)], &[u8], Option<usize>); 5] = [
         (&[], b"go", Some(0)),
+        // Another hash word, and a slot without keys.
         (&[(236, 0x0002_00A2)], b"go", Some(0)),
         (&[(232, 0)], b"go", Some(0)),
         (&[(236, 0x0001_00A1)], b"go", None),
@@ -175,12 +206,13 @@ fn shows_relocations_exports_and_entries(rt: HostRuntime) {
 }
 
 #[test]
-fn shows_libraries_and_imports(rt: HostRuntime) {
+fn libraries_and_imports(rt: HostRuntime) {
     let container = Container::read(&LIBRARIES).expect(&rt, "a container");
     let loader = Loader::read(&container).expect(&rt, "a loader section");
+    assert_eq!(rt; (loader.libraries(), loader.imports()), (2, 3));
     let libraries: [(&[u8], u32, u32, u32, u32, u8); 2] = [
-        (b"L", 5, 3, 2, 0, 0x40),
-        (b"M", 1, 0, 2, 1, 0x80),
+        (b"L", 5, 3, 2, 0, WEAK_LIBRARY),
+        (b"M", 1, 0, 2, 1, INIT_BEFORE),
     ];
     for (i, (name, current, old_imp, count, first, options)) in libraries.iter().enumerate() {
         let library = loader.library(i).expect(&rt, "a library");
@@ -190,10 +222,11 @@ fn shows_libraries_and_imports(rt: HostRuntime) {
         assert_eq!(rt; library.options, *options);
     }
     assert!(rt; loader.library(2).is_none());
+    // Import 1 is in both ranges, and belongs to the first.
     let imports: [(&[u8], u8, bool, usize); 3] = [
-        (b"v", 1, false, 0),
-        (b"w", 2, true, 0),
-        (b"xy", 4, false, 1),
+        (b"v", DATA_SYMBOL, false, 0),
+        (b"w", TRANSITION_VECTOR_SYMBOL, true, 0),
+        (b"xy", GLUE_SYMBOL, false, 1),
     ];
     for (j, (name, class, weak, library)) in imports.iter().enumerate() {
         let import = loader.import(j).expect(&rt, "an import");

@@ -1,0 +1,3 @@
+-- What only proofs and private contracts speak of.
+pub mod Chains
+pub mod Counts

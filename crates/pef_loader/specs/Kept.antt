@@ -1,0 +1,5 @@
+-- What only proofs and private contracts speak of.
+pub mod Accepted
+pub mod Names
+pub mod Ranges
+pub mod Tests
