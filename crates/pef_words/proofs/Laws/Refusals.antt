@@ -86,24 +86,6 @@ some_among answer from (suc n) x some =
       | inr later ↦ (let r = some_among answer (from + 1) n x later.1 in record { at = r.at; low = omega arith; high = omega arith; is = r.is; before = none-before answer from r.at later.0 r.before })
     ]
 
--- where no place has an answer, there is no first one
-pub first_among-none : {F : Type 0} (answer : ℕ → Option F) (from n : ℕ) → ((k : ℕ) → from ≤ k → k < from + n → answer k ≡ None) → first_among answer from n ≡ None
-first_among-none answer from zero none = refl
-first_among-none answer from (suc n) none =
-    let later = first_among-none answer (from + 1) n (λ k low high. none k (omega arith) (omega arith)) in
-    rw (none from (omega arith) (omega arith), later) refl
-
--- an answer before which there is none is the first
-pub first_among-at : {F : Type 0} (answer : ℕ → Option F) (from n k : ℕ) (x : F) → k < n → ((j : ℕ) → from ≤ j → j < from + k → answer j ≡ None) → answer (from + k) ≡ Some x → first_among answer from n ≡ Some x
-first_among-at answer from zero k x under none here = absurd (omega arith)
-first_among-at answer from (suc n) zero x under none here =
-    let e : from + 0 ≡ from = omega arith in
-    rw (rw e at here) refl
-first_among-at answer from (suc n) (suc k) x under none here =
-    let e : from + suc k ≡ from + 1 + k = omega arith in
-    let later = first_among-at answer (from + 1) n k x (omega arith) (λ j low high. none j (omega arith) (omega arith)) (rw e at here) in
-    rw (none from (omega arith) (omega arith), later) refl
-
 -- where no test of a table is met, its first one isn't, nor is any later one
 pub first_unmet : {F : Type 0} (b : Bool) (x : F) (others : Option F) → cond b (Some x) others ≡ None → (b ≡ false) × (others ≡ None)
 first_unmet true x others none = absurd (cc)
