@@ -1,0 +1,60 @@
+use crate::runs::{Handed, assert_prints};
+use crate::scripts::{EMPTY_CONTAINER, EXAMPLE, EXAMPLE_CONTAINER, EXAMPLE_LINKED, VECTORS};
+use std::test::Fail;
+
+/// Scripts, what `link` prints of them, and their containers, also over the script itself.
+#[test]
+fn link(rt: HostRuntime) -> Result<(), Fail> {
+    let rows: [(&[u8], &str, &[u8], Option<&[u8]>); 5] = [
+        (EXAMPLE, "out", EXAMPLE_LINKED, Some(EXAMPLE_CONTAINER)),
+        (EXAMPLE, "a", EXAMPLE_LINKED, Some(EXAMPLE_CONTAINER)),
+        (b"", "out", b"linked 140 bytes\n", Some(EMPTY_CONTAINER)),
+        (
+            b"section d data process 4 3\nbytes d aAfF",
+            "out",
+            b"linked 172 bytes\nsection 0 length 0\n",
+            None,
+        ),
+        (
+            VECTORS,
+            "out",
+            b"linked 258 bytes\nsection 0 length 0\nsection 1 length 4\n",
+            None,
+        ),
+    ];
+    for (script, out, printed, container) in rows {
+        let words = ["link", "a", out];
+        let outcome = assert_prints(&rt, rt.alloc(), Handed::file(&words, script), printed, 0)?;
+        if let Some(container) = container {
+            assert!(rt; outcome.has(out.as_bytes(), container));
+        }
+        assert_eq!(rt; outcome.papers.calls(), (1, 1));
+    }
+    Ok(())
+}
+
+/// Refused lines of `link`: nothing is written.
+#[test]
+fn link_refused(rt: HostRuntime) -> Result<(), Fail> {
+    let rows: [(&str, &[u8], &[u8]); 4] = [
+        ("missing", EXAMPLE, b"refused 71 FileUnreadable missing\n"),
+        (
+            "a b%\u{E9}~!",
+            EXAMPLE,
+            b"refused 71 FileUnreadable a%20b%25%C3%A9~!\n",
+        ),
+        ("", EXAMPLE, b"refused 71 FileUnreadable \n"),
+        (
+            "a",
+            b"section d data process 4 8\nfix d 0 section d\nfix d 2 section d\n",
+            b"refused 46 Overlap line 3\n",
+        ),
+    ];
+    for (script, text, printed) in rows {
+        let words = ["link", script, "out"];
+        let outcome = assert_prints(&rt, rt.alloc(), Handed::file(&words, text), printed, 1)?;
+        assert_eq!(rt; outcome.papers.calls(), (1, 0));
+        assert!(rt; outcome.has(b"a", text));
+    }
+    Ok(())
+}

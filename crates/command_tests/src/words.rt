@@ -1,0 +1,34 @@
+use crate::runs::{Handed, assert_prints};
+use crate::scripts::EXAMPLE;
+use std::test::Fail;
+
+/// Words that are no command, a request for help among them: the usage, and nothing is read or written.
+#[test]
+fn usage(rt: HostRuntime) -> Result<(), Fail> {
+    let rows: [&[&str]; 14] = [
+        &[],
+        &["load"],
+        &["Show"],
+        &[""],
+        &["show", "it"],
+        &["show", ""],
+        &["link"],
+        &["link", "a"],
+        &["link", "a", "out", "b"],
+        &["--help"],
+        &["-h"],
+        &["help"],
+        &["--version"],
+        &["link", "--help"],
+    ];
+    for words in rows {
+        let handed = Handed {
+            file: EXAMPLE,
+            ..Handed::input(words, EXAMPLE)
+        };
+        let outcome = assert_prints(&rt, rt.alloc(), handed, b"usage\n", 2)?;
+        assert_eq!(rt; outcome.left, EXAMPLE.len());
+        assert_eq!(rt; outcome.papers.calls(), (0, 0));
+    }
+    Ok(())
+}
