@@ -22,5 +22,5 @@ returns c =
     record {
       bytes = rw (← c.self.view_is, c.as_slice.ensures.value) bytes;
       len = rw c.as_slice.ensures.value (held_length _ _ c.args.place c.args.self.now _ c.self.view_is c.requires bytes);
-      laid_out = laid_out_seen c.self.inside.limit _ c.args.self.now c.self.view_is c.self.invariant;
+      in_order = laid_out_seen c.self.inside.limit _ c.args.self.now c.self.view_is c.self.invariant;
     }
