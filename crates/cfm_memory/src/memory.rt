@@ -6,7 +6,7 @@ ghost use Rattle.cfm_memory.specs.Instances.{bytes_at, holds_place, range_at, ra
 ghost use Rattle.cfm_memory.specs.Lending.{LendsPart};
 ghost use Rattle.cfm_memory.specs.Limits.{first_address, greatest_alignment};
 ghost use Rattle.cfm_memory.specs.Placement.{end_of, taken, step_of, IsInOrder, IsLaidOut, IsLowest, IsRoom, MayRefuse, with_new};
-ghost use Rattle.cfm_memory.specs.Kept.Views.{seen};
+ghost use Rattle.cfm_memory.specs.Kept.Views.{slot_seen};
 ghost use Rattle.cfm_memory.specs.Kept.Searches.{index_in, rank_in, IsFirstFree};
 
 use crate::place::{MemoryFault, Place};
@@ -43,13 +43,13 @@ impl Model for Memory {
     ghost Value = { Layout };
 
     ghost use Rattle.std.specs.Prelude.{map};
-    ghost use Rattle.cfm_memory.specs.Kept.Views.{layout, seen};
+    ghost use Rattle.cfm_memory.specs.Kept.Views.{layout, slot_seen};
     ghost use Rattle.cfm_memory.specs.Limits.{first_address};
     ghost use Rattle.cfm_memory.specs.Placement.{IsLaidOut};
 
     ghost view = { layout };
 
-    ghost invariant = { λ m. IsLaidOut first_address m.limit (map seen m.slots.items) };
+    ghost invariant = { λ m. IsLaidOut first_address m.limit (map slot_seen m.slots.items) };
 }
 
 impl Memory {
@@ -168,7 +168,7 @@ impl Memory {
 impl Slot {
     /// The `len` bytes from `address` on, where they lie inside the instance.
     fn range(&self, address: u32, len: u32) -> Option<&[u8]>
-        ensures { option_copied result ≡ range_in (seen self.now) address len }
+        ensures { option_copied result ≡ range_in (slot_seen self.now) address len }
     {
         if address < self.address {
             return None;
@@ -184,8 +184,8 @@ impl Slot {
     /// The address behind what the instance takes.
     #[tactic(auto, using(crate::proofs::Placing::within_taken))]
     fn end(&self) -> u64
-        requires { end_of (seen self.now) ≤ 2 ^ 32 }
-        ensures { result ≡ end_of (seen self.now) }
+        requires { end_of (slot_seen self.now) ≤ 2 ^ 32 }
+        ensures { result ≡ end_of (slot_seen self.now) }
     {
         u64::from(self.address) + taken_by(self.bytes.len() as u64)
     }
@@ -221,8 +221,8 @@ fn step_by(alignment: u8) -> u64
 fn first_free(slots: &[Slot], taken: u64, step: u64) -> u64
     requires taken { (0 < taken) × (taken ≤ 2 ^ 33) }
     requires step { (0 < step) × (step ≤ 2 ^ 31) }
-    requires laid_out { IsLaidOut first_address (2 ^ 32) (map seen slots.now) }
-    ensures first { IsFirstFree taken step first_address (map seen slots.now) result }
+    requires laid_out { IsLaidOut first_address (2 ^ 32) (map slot_seen slots.now) }
+    ensures first { IsFirstFree taken step first_address (map slot_seen slots.now) result }
     ensures bound { result < 2 ^ 33 }
 {
     let mut address = FIRST_ADDRESS.next_multiple_of(step);
@@ -237,7 +237,7 @@ fn first_free(slots: &[Slot], taken: u64, step: u64) -> u64
 
 /// How many slots stand before the one at `address`; all where there is none.
 fn index_of(slots: &[Slot], address: u32) -> usize
-    ensures { result ≡ index_in (map seen slots.now) address }
+    ensures { result ≡ index_in (map slot_seen slots.now) address }
 {
     for (i, slot) in slots.iter().enumerate() {
         if slot.address == address {
@@ -249,7 +249,7 @@ fn index_of(slots: &[Slot], address: u32) -> usize
 
 /// How many slots stand before the place of a new one at `address`.
 fn rank_of(slots: &[Slot], address: u32) -> usize
-    ensures { result ≡ rank_in (map seen slots.now) address }
+    ensures { result ≡ rank_in (map slot_seen slots.now) address }
 {
     for (i, slot) in slots.iter().enumerate() {
         if address <= slot.address {
@@ -261,7 +261,7 @@ fn rank_of(slots: &[Slot], address: u32) -> usize
 
 /// The `len` bytes from `address` on in the first slot that has them.
 fn range_of(slots: &[Slot], address: u32, len: u32) -> Option<&[u8]>
-    ensures { option_copied result ≡ range_at (map seen slots.now) address len }
+    ensures { option_copied result ≡ range_at (map slot_seen slots.now) address len }
 {
     for slot in slots {
         match slot.range(address, len) {
