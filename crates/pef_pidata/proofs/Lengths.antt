@@ -1,5 +1,5 @@
 -- How many bytes are spelled.
-use Rattle.std.proofs.Common.{◌≡◌, ℕ, zero, suc, ◌+◌, ◌-◌, ◌*◌, ◌<◌, ◌≤◌, Bool, true, false, List, [], ◌∷◌, ◌++◌, Result, Ok, Err, length, take, drop, replicate, refl, sym, ap, subst, ◌∙◌, inl, inr, arith}
+use Rattle.std.proofs.Common.{◌≡◌, ℕ, zero, suc, ◌+◌, ◌-◌, ◌*◌, ◌≤◌, List, [], ◌++◌, Result, Ok, Err, length, take, drop, replicate, refl, sym, ap, ◌∙◌, inl, inr, arith}
 use Rattle.std.proofs.lemmas.Bool.Decides.{eqb_tells, leb_tells}
 use Rattle.std.proofs.lemmas.List.{length-append, length-replicate, length-take-le, length-drop}
 use Rattle.pef_words.specs.Refusals.{result_map}
@@ -8,7 +8,7 @@ use Rattle.pef_pidata.specs.declared.fault.PackFault.{PackFault}
 use Rattle.pef_pidata.specs.declared.instruction.Instruction.{Instruction}
 use Rattle.pef_pidata.specs.declared.instruction.Instruction.TheVariants.{Zeros, Block, Repeat, Weave, WeaveZeros}
 use Rattle.pef_pidata.specs.Instructions.{Read, next_instruction}
-use Rattle.pef_pidata.specs.Pattern.{woven, spelled_len, copied_len, output, obeyed, next_output, pattern, pattern_text}
+use Rattle.pef_pidata.specs.Pattern.{spelled_len, copied_len, output, obeyed, next_output, pattern, pattern_text}
 use Rattle.pef_pidata.proofs.Repeats.{length-repeated}
 use Rattle.pef_pidata.proofs.Weaves.{length-woven}
 
