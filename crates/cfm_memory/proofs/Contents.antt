@@ -1,5 +1,5 @@
 -- The bytes at an address after each change of the instances.
-use Rattle.std.proofs.Common.{◌≡◌, ◌≢◌, ℕ, suc, ◌+◌, ◌<◌, ◌==◌, cond, List, [], ◌∷◌, Some, None, length, drop, eq-eqb, refl, sym, ap, inl, inr, arith, ◌∙◌}
+use Rattle.std.proofs.Common.{◌≡◌, ◌≢◌, ℕ, suc, ◌<◌, ◌==◌, cond, List, [], ◌∷◌, Some, None, length, drop, eq-eqb, refl, sym, ap, inl, inr, arith, ◌∙◌}
 use Rattle.std.proofs.Math.Seq.{take-append_seam}
 use Rattle.std.proofs.lemmas.Bool.Decides.{eqb_tells, leb_tells}
 use Rattle.cfm_memory.specs.Instances.{Instance, bytes_at, with_instance, without, fitted, with_bytes}

@@ -1,8 +1,9 @@
--- The number of each refusal.
+-- The refusals of placement, their numbers and their names. They are this project's own.
 use Rattle.std.specs.Prelude.{ℕ, List, codes}
 use Rattle.cfm_memory.specs.declared.place.MemoryFault.{MemoryFault}
 use Rattle.cfm_memory.specs.declared.place.MemoryFault.TheVariants.{NoRoom, OutOfMemory}
 
+-- the numbers
 abbrev pub fault_number : MemoryFault → ℕ
 fault_number NoRoom = 67
 fault_number OutOfMemory = 99

@@ -8,3 +8,7 @@ first_address = 65536
 -- the addresses of instances, and how many bytes each takes, are multiples of this
 abbrev pub grain : ℕ
 grain = 16
+
+-- the greatest alignment that can be asked for, as an exponent of two
+abbrev pub greatest_alignment : ℕ
+greatest_alignment = 31

@@ -4,9 +4,9 @@ ghost use Rattle.std.specs.Result.{IfErr, OnErr};
 ghost use Rattle.std.specs.Borrow.{sem};
 ghost use Rattle.cfm_memory.specs.Instances.{bytes_at, holds_place, range_at, range_in, with_instances, without};
 ghost use Rattle.cfm_memory.specs.Lending.{LendsPart};
-ghost use Rattle.cfm_memory.specs.Limits.{first_address};
+ghost use Rattle.cfm_memory.specs.Limits.{first_address, greatest_alignment};
 ghost use Rattle.cfm_memory.specs.Placement.{end_of, taken, step_of, IsInOrder, IsLaidOut, IsLowest, IsRoom, MayRefuse, with_new};
-ghost use Rattle.cfm_memory.specs.Kept.Views.{seen};
+ghost use Rattle.cfm_memory.specs.Kept.Views.{slot_seen};
 ghost use Rattle.cfm_memory.specs.Kept.Searches.{index_in, rank_in, IsFirstFree};
 
 use crate::place::{MemoryFault, Place};
@@ -43,13 +43,13 @@ impl Model for Memory {
     ghost Value = { Layout };
 
     ghost use Rattle.std.specs.Prelude.{map};
-    ghost use Rattle.cfm_memory.specs.Kept.Views.{layout, seen};
+    ghost use Rattle.cfm_memory.specs.Kept.Views.{layout, slot_seen};
     ghost use Rattle.cfm_memory.specs.Limits.{first_address};
     ghost use Rattle.cfm_memory.specs.Placement.{IsLaidOut};
 
     ghost view = { layout };
 
-    ghost invariant = { λ m. IsLaidOut first_address m.limit (map seen m.slots.items) };
+    ghost invariant = { λ m. IsLaidOut first_address m.limit (map slot_seen m.slots.items) };
 }
 
 impl Memory {
@@ -76,13 +76,13 @@ impl Memory {
     /// refuses memory. Neither changes the memory.
     #[tactic(auto, using(crate::proofs::Changes::laid_out_seen))]
     pub fn place(&mut self, size: u32, alignment: u8) -> Result<Place, MemoryFault>
-        requires { alignment ≤ 31 }
+        requires { alignment ≤ greatest_alignment }
         ensures lowest { IfOk result (λ place. IsLowest self.old size alignment place.address) }
         ensures size { IfOk result (λ place. place.size ≡ size) }
         ensures placed { IfOk result (λ place. self.new ≡ with_new self.old place) }
         ensures refused { IfErr result (λ fault. MayRefuse self.old size alignment fault) }
         ensures unchanged { OnErr result (self.new ≡ self.old) }
-        ensures laid_out { IsInOrder self.old }
+        ensures in_order { IsInOrder self.old }
     {
         let address = match self.lowest_room(size, alignment) {
             Some(address) => address,
@@ -96,7 +96,7 @@ impl Memory {
 
     /// The lowest address that has room for an instance of `size` bytes.
     fn lowest_room(&self, size: u32, alignment: u8) -> Option<u32>
-        requires { alignment ≤ 31 }
+        requires { alignment ≤ greatest_alignment }
         ensures { MatchOption result ((address : ℕ) → IsRoom self.now size alignment address → ⊥) (λ address. IsLowest self.now size alignment address) }
     {
         let limit = self.limit;
@@ -112,7 +112,7 @@ impl Memory {
     #[tactic(auto, using(crate::proofs::Changes::laid_out_seen))]
     pub fn holds(&self, place: Place) -> bool
         ensures held { result ≡ holds_place self.now place }
-        ensures laid_out { IsInOrder self.now }
+        ensures in_order { IsInOrder self.now }
     {
         let index = index_of(&self.slots, place.address);
         index < self.slots.len() && self.slots[index].bytes.len() == place.size as usize
@@ -124,7 +124,7 @@ impl Memory {
         requires { IsTrue (holds_place self.now place) }
         ensures bytes { bytes_at self.now.instances place.address ≡ Some result.now }
         ensures len { length result.now ≡ place.size }
-        ensures laid_out { IsInOrder self.now }
+        ensures in_order { IsInOrder self.now }
     {
         let index = index_of(&self.slots, place.address);
         let slot = &self.slots[index];
@@ -148,7 +148,7 @@ impl Memory {
     pub fn give_back(&mut self, place: Place)
         requires { IsTrue (holds_place self.old place) }
         ensures given_back { self.new ≡ with_instances self.old (without self.old.instances place.address) }
-        ensures laid_out { IsInOrder self.old }
+        ensures in_order { IsInOrder self.old }
     {
         let index = index_of(&self.slots, place.address);
         self.slots.remove(index);
@@ -159,7 +159,7 @@ impl Memory {
     #[tactic(auto, using(crate::proofs::Changes::laid_out_seen))]
     pub fn at(&self, address: u32, len: u32) -> Option<&[u8]>
         ensures range { option_copied result ≡ range_at self.now.instances address len }
-        ensures laid_out { IsInOrder self.now }
+        ensures in_order { IsInOrder self.now }
     {
         range_of(&self.slots, address, len)
     }
@@ -168,7 +168,7 @@ impl Memory {
 impl Slot {
     /// The `len` bytes from `address` on, where they lie inside the instance.
     fn range(&self, address: u32, len: u32) -> Option<&[u8]>
-        ensures { option_copied result ≡ range_in (seen self.now) address len }
+        ensures { option_copied result ≡ range_in (slot_seen self.now) address len }
     {
         if address < self.address {
             return None;
@@ -184,8 +184,8 @@ impl Slot {
     /// The address behind what the instance takes.
     #[tactic(auto, using(crate::proofs::Placing::within_taken))]
     fn end(&self) -> u64
-        requires { end_of (seen self.now) ≤ 2 ^ 32 }
-        ensures { result ≡ end_of (seen self.now) }
+        requires { end_of (slot_seen self.now) ≤ 2 ^ 32 }
+        ensures { result ≡ end_of (slot_seen self.now) }
     {
         u64::from(self.address) + taken_by(self.bytes.len() as u64)
     }
@@ -210,7 +210,7 @@ fn taken_by(size: u64) -> u64
 /// What an instance's address is a multiple of.
 #[tactic(auto, unfolding(crate::specs::Placement::step_of))]
 fn step_by(alignment: u8) -> u64
-    requires { alignment ≤ 31 }
+    requires { alignment ≤ greatest_alignment }
     ensures value { result ≡ step_of alignment }
     ensures bounds { (0 < result) × (result ≤ 2 ^ 31) }
 {
@@ -221,8 +221,8 @@ fn step_by(alignment: u8) -> u64
 fn first_free(slots: &[Slot], taken: u64, step: u64) -> u64
     requires taken { (0 < taken) × (taken ≤ 2 ^ 33) }
     requires step { (0 < step) × (step ≤ 2 ^ 31) }
-    requires laid_out { IsLaidOut first_address (2 ^ 32) (map seen slots.now) }
-    ensures first { IsFirstFree taken step first_address (map seen slots.now) result }
+    requires laid_out { IsLaidOut first_address (2 ^ 32) (map slot_seen slots.now) }
+    ensures first { IsFirstFree taken step first_address (map slot_seen slots.now) result }
     ensures bound { result < 2 ^ 33 }
 {
     let mut address = FIRST_ADDRESS.next_multiple_of(step);
@@ -237,7 +237,7 @@ fn first_free(slots: &[Slot], taken: u64, step: u64) -> u64
 
 /// How many slots stand before the one at `address`; all where there is none.
 fn index_of(slots: &[Slot], address: u32) -> usize
-    ensures { result ≡ index_in (map seen slots.now) address }
+    ensures { result ≡ index_in (map slot_seen slots.now) address }
 {
     for (i, slot) in slots.iter().enumerate() {
         if slot.address == address {
@@ -249,7 +249,7 @@ fn index_of(slots: &[Slot], address: u32) -> usize
 
 /// How many slots stand before the place of a new one at `address`.
 fn rank_of(slots: &[Slot], address: u32) -> usize
-    ensures { result ≡ rank_in (map seen slots.now) address }
+    ensures { result ≡ rank_in (map slot_seen slots.now) address }
 {
     for (i, slot) in slots.iter().enumerate() {
         if address <= slot.address {
@@ -261,7 +261,7 @@ fn rank_of(slots: &[Slot], address: u32) -> usize
 
 /// The `len` bytes from `address` on in the first slot that has them.
 fn range_of(slots: &[Slot], address: u32, len: u32) -> Option<&[u8]>
-    ensures { option_copied result ≡ range_at (map seen slots.now) address len }
+    ensures { option_copied result ≡ range_at (map slot_seen slots.now) address len }
 {
     for slot in slots {
         match slot.range(address, len) {

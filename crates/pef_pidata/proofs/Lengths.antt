@@ -1,18 +1,19 @@
 -- How many bytes are spelled.
-use Rattle.std.proofs.Common.{◌≡◌, ℕ, zero, suc, ◌+◌, ◌-◌, ◌*◌, ◌<◌, ◌≤◌, Bool, true, false, List, [], ◌∷◌, ◌++◌, Result, Ok, Err, length, take, drop, replicate, refl, sym, ap, subst, ◌∙◌, inl, inr, arith}
+use Rattle.std.proofs.Common.{◌≡◌, ℕ, zero, suc, ◌+◌, ◌-◌, ◌*◌, ◌≤◌, List, [], ◌++◌, Result, Ok, Err, length, take, drop, replicate, refl, sym, ap, ◌∙◌, inl, inr, arith}
 use Rattle.std.proofs.lemmas.Bool.Decides.{eqb_tells, leb_tells}
 use Rattle.std.proofs.lemmas.List.{length-append, length-replicate, length-take-le, length-drop}
 use Rattle.pef_words.specs.Refusals.{result_map}
+use Rattle.pef_words.specs.Results.{◌>>=◌}
 use Rattle.pef_pidata.specs.declared.fault.PackFault.{PackFault}
 use Rattle.pef_pidata.specs.declared.instruction.Instruction.{Instruction}
 use Rattle.pef_pidata.specs.declared.instruction.Instruction.TheVariants.{Zeros, Block, Repeat, Weave, WeaveZeros}
-use Rattle.pef_pidata.specs.Instructions.{Read, ◌>>=◌, next_instruction}
-use Rattle.pef_pidata.specs.Pattern.{woven, spelled, copied, output, obeyed, next_output, pattern, pattern_text}
+use Rattle.pef_pidata.specs.Instructions.{Read, next_instruction}
+use Rattle.pef_pidata.specs.Pattern.{spelled_len, copied_len, output, obeyed, next_output, pattern, pattern_text}
 use Rattle.pef_pidata.proofs.Repeats.{length-repeated}
 use Rattle.pef_pidata.proofs.Weaves.{length-woven}
 
 -- an instruction spells as many bytes as it says
-pub length-output : (i : Instruction) (bytes : List ℕ) → length bytes ≡ copied i → length (output i bytes) ≡ spelled i
+pub length-output : (i : Instruction) (bytes : List ℕ) → length bytes ≡ copied_len i → length (output i bytes) ≡ spelled_len i
 length-output (Zeros count) bytes is = length-replicate count 0
 length-output (Block count) bytes is = is
 length-output (Repeat count repeats) bytes is = length-repeated (repeats + 1) bytes ∙ ap (λ n. n * (repeats + 1)) is
@@ -31,13 +32,13 @@ same_read p q is = cc
 obeyed_inside : (room : ℕ) (i : Instruction) (bytes piece after : List ℕ) → obeyed room (i, bytes) ≡ Ok (piece, after) → length piece ≤ room
 unfolding obeyed
 obeyed_inside room i bytes piece after is =
-    elim (leb_tells (suc room) (spelled i)) [
+    elim (leb_tells (suc room) (spelled_len i)) [
       | inl long ↦ (let no = rw long.0 at is in absurd (cc no))
-      | inr fits ↦ (elim (leb_tells (suc (length bytes)) (copied i)) [
+      | inr fits ↦ (elim (leb_tells (suc (length bytes)) (copied_len i)) [
         | inl short ↦ (let no = rw (fits.0, short.0) at is in absurd (cc no))
         | inr there ↦
-            (let same : output i (take (copied i) bytes) ≡ piece = ap (λ p. p.0) (same_read (output i (take (copied i) bytes), drop (copied i) bytes) (piece, after) (rw (fits.0, there.0) at is)) in
-            let len = length-output i (take (copied i) bytes) (length-take-le (copied i) bytes (omega (arith, there.1))) in
+            (let same : output i (take (copied_len i) bytes) ≡ piece = ap (λ p. p.0) (same_read (output i (take (copied_len i) bytes), drop (copied_len i) bytes) (piece, after) (rw (fits.0, there.0) at is)) in
+            let len = length-output i (take (copied_len i) bytes) (length-take-le (copied_len i) bytes (omega (arith, there.1))) in
             omega (arith, len, ap length same, fits.1))
       ])
     ]

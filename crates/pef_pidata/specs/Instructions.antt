@@ -3,6 +3,7 @@
 -- an opcode in the high three bits and a count in the low five, and arguments may follow. Which refusal comes
 -- first is this project's own choice.
 use Rattle.std.specs.Prelude.{ℕ, ◌+◌, ◌*◌, ◌/◌, ◌%◌, ◌^◌, ◌==◌, List, [], ◌∷◌, Result, Ok, Err, if◌then◌else◌, nat_lt}
+use Rattle.pef_words.specs.Results.{◌>>=◌}
 use Rattle.pef_pidata.specs.declared.fault.PackFault.{PackFault}
 use Rattle.pef_pidata.specs.declared.fault.PackFault.TheVariants.{Truncated, BadOpcode, CountTooLarge, TooShort}
 use Rattle.pef_pidata.specs.declared.instruction.Woven.{Woven}
@@ -12,12 +13,6 @@ use Rattle.pef_pidata.specs.declared.instruction.Instruction.TheVariants.{Zeros,
 -- what was read, and the bytes behind it
 abbrev pub Read : Type 0 → Type 0
 Read A = Result (A × List ℕ) PackFault
-
--- what follows a part that was read; its refusal ends the reading
-infixl 10 ◌>>=◌
-abbrev pub ◌>>=◌ : {A B : Type 0} → Result A PackFault → (A → Result B PackFault) → Result B PackFault
-(Ok x) >>= f = f x
-(Err fault) >>= f = Err fault
 
 -- the value of an argument with one more byte: each has seven bits of it, the highest first
 abbrev pub with_byte : ℕ → ℕ → ℕ

@@ -3,12 +3,13 @@
 -- own choice.
 use Rattle.std.specs.Prelude.{ℕ, zero, suc, ◌+◌, ◌-◌, ◌*◌, ◌==◌, List, [], ◌++◌, Result, Ok, Err, if◌then◌else◌, nat_lt, length, take, drop, replicate}
 use Rattle.pef_words.specs.Refusals.{result_map}
+use Rattle.pef_words.specs.Results.{◌>>=◌}
 use Rattle.pef_pidata.specs.declared.fault.PackFault.{PackFault}
 use Rattle.pef_pidata.specs.declared.fault.PackFault.TheVariants.{Truncated, TooLong, TooShort}
 use Rattle.pef_pidata.specs.declared.instruction.Woven.{Woven}
 use Rattle.pef_pidata.specs.declared.instruction.Instruction.{Instruction}
 use Rattle.pef_pidata.specs.declared.instruction.Instruction.TheVariants.{Zeros, Block, Repeat, Weave, WeaveZeros}
-use Rattle.pef_pidata.specs.Instructions.{Read, ◌>>=◌, next_instruction}
+use Rattle.pef_pidata.specs.Instructions.{Read, next_instruction}
 
 -- a block some times, one behind the other
 abbrev pub repeated : ℕ → List ℕ → List ℕ
@@ -25,20 +26,20 @@ abbrev pub woven_len : Woven → ℕ
 woven_len w = w.common * (w.parts + 1) + w.custom * w.parts
 
 -- how many bytes an instruction spells
-abbrev pub spelled : Instruction → ℕ
-spelled (Zeros count) = count
-spelled (Block count) = count
-spelled (Repeat count repeats) = count * (repeats + 1)
-spelled (Weave w) = woven_len w
-spelled (WeaveZeros w) = woven_len w
+abbrev pub spelled_len : Instruction → ℕ
+spelled_len (Zeros count) = count
+spelled_len (Block count) = count
+spelled_len (Repeat count repeats) = count * (repeats + 1)
+spelled_len (Weave w) = woven_len w
+spelled_len (WeaveZeros w) = woven_len w
 
 -- how many packed bytes behind its arguments it copies
-abbrev pub copied : Instruction → ℕ
-copied (Zeros count) = 0
-copied (Block count) = count
-copied (Repeat count repeats) = count
-copied (Weave w) = w.common + w.custom * w.parts
-copied (WeaveZeros w) = w.custom * w.parts
+abbrev pub copied_len : Instruction → ℕ
+copied_len (Zeros count) = 0
+copied_len (Block count) = count
+copied_len (Repeat count repeats) = count
+copied_len (Weave w) = w.common + w.custom * w.parts
+copied_len (WeaveZeros w) = w.custom * w.parts
 
 -- the bytes that it spells, from those that it copies
 abbrev pub output : Instruction → List ℕ → List ℕ
@@ -52,9 +53,9 @@ output (WeaveZeros w) bytes = woven w.parts w.custom (replicate w.common 0) byte
 -- copies
 unfoldable pub obeyed : ℕ → Instruction × List ℕ → Read (List ℕ)
 obeyed room (instruction, bytes) =
-    if nat_lt room (spelled instruction) then Err TooLong
-    else if nat_lt (length bytes) (copied instruction) then Err Truncated
-    else Ok (output instruction (take (copied instruction) bytes), drop (copied instruction) bytes)
+    if nat_lt room (spelled_len instruction) then Err TooLong
+    else if nat_lt (length bytes) (copied_len instruction) then Err Truncated
+    else Ok (output instruction (take (copied_len instruction) bytes), drop (copied_len instruction) bytes)
 
 -- the output of the next instruction, and what follows it
 unfoldable pub next_output : ℕ → List ℕ → Read (List ℕ)

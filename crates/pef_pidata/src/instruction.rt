@@ -1,6 +1,6 @@
 ghost use Rattle.std.specs.Prelude.{◌≡◌, ◌+◌, ◌*◌, ◌<◌, ◌≤◌, ◌^◌, length, IfOk};
 ghost use Rattle.pef_words.specs.Refusals.{result_map};
-ghost use Rattle.pef_pidata.specs.Pattern.{copied, spelled, woven_len};
+ghost use Rattle.pef_pidata.specs.Pattern.{copied_len, spelled_len, woven_len};
 ghost use Rattle.pef_pidata.specs.Instructions.{by_opcode, next_instruction, woven_arguments};
 ghost use Rattle.pef_pidata.specs.Kept.Views.{instruction_seen};
 
@@ -127,8 +127,8 @@ fn read_woven(low: u8, packed: &[u8]) -> Result<(Woven, &[u8]), PackFault>
 
 impl Instruction {
     /// How many bytes the instruction spells: less than 2^65.
-    pub fn spelled(&self) -> u128
-        ensures { result ≡ spelled self.now }
+    pub fn spelled_len(&self) -> u128
+        ensures { result ≡ spelled_len self.now }
     {
         match *self {
             Instruction::Zeros(count) => u128::from(count),
@@ -140,8 +140,8 @@ impl Instruction {
     }
 
     /// How many packed bytes it copies: less than 2^64.
-    pub fn copied(&self) -> u64
-        ensures { result ≡ copied self.now }
+    pub fn copied_len(&self) -> u64
+        ensures { result ≡ copied_len self.now }
     {
         match *self {
             Instruction::Zeros(_) => 0,

@@ -1,6 +1,6 @@
 ghost use Rattle.std.specs.Prelude.{◌≡◌, ◌<◌, ◌≤◌, length, IfOk};
 ghost use Rattle.pef_words.specs.Refusals.{result_map};
-ghost use Rattle.pef_pidata.specs.Pattern.{copied, next_output, obeyed, pattern_text, spelled};
+ghost use Rattle.pef_pidata.specs.Pattern.{copied_len, next_output, obeyed, pattern_text, spelled_len};
 ghost use Rattle.pef_pidata.specs.Kept.Views.{instruction_seen, step_seen};
 
 use crate::fault::PackFault;
@@ -45,8 +45,8 @@ pub fn expand(packed: &[u8], out: &mut [u8]) -> Result<(), PackFault>
 #[tactic(auto, unfolding(crate::specs::Pattern::next_output))]
 fn next_step(packed: &[u8], room: usize) -> Result<Step<'_>, PackFault>
     ensures step { result_map step_seen result ≡ next_output room packed.now }
-    ensures target { IfOk result (λ s. (s.len ≡ spelled s.instruction) × (s.len ≤ room)) }
-    ensures bytes { IfOk result (λ s. length s.bytes.now ≡ copied s.instruction) }
+    ensures target { IfOk result (λ s. (s.len ≡ spelled_len s.instruction) × (s.len ≤ room)) }
+    ensures bytes { IfOk result (λ s. length s.bytes.now ≡ copied_len s.instruction) }
     ensures shorter { IfOk result (λ s. length s.rest.now < length packed.now) }
 {
     let decoded = read_instruction(packed)?;
@@ -56,16 +56,16 @@ fn next_step(packed: &[u8], room: usize) -> Result<Step<'_>, PackFault>
 #[tactic(auto, unfolding(crate::specs::Pattern::obeyed))]
 fn obey(decoded: Decoded<'_>, room: usize) -> Result<Step<'_>, PackFault>
     ensures step { result_map step_seen result ≡ obeyed room (instruction_seen decoded.entry) }
-    ensures target { IfOk result (λ s. (s.len ≡ spelled s.instruction) × (s.len ≤ room)) }
-    ensures bytes { IfOk result (λ s. length s.bytes.now ≡ copied s.instruction) }
+    ensures target { IfOk result (λ s. (s.len ≡ spelled_len s.instruction) × (s.len ≤ room)) }
+    ensures bytes { IfOk result (λ s. length s.bytes.now ≡ copied_len s.instruction) }
     ensures shorter { IfOk result (λ s. length s.rest.now ≤ length decoded.entry.rest.now) }
 {
     let instruction = decoded.instruction;
-    let spelled = instruction.spelled();
+    let spelled = instruction.spelled_len();
     if spelled > room as u128 {
         return Err(PackFault::TooLong);
     }
-    let copied = instruction.copied();
+    let copied = instruction.copied_len();
     if copied > decoded.rest.len() as u64 {
         return Err(PackFault::Truncated);
     }

@@ -1,13 +1,13 @@
 ghost use Rattle.std.specs.Prelude.{◌≡◌, ◌+◌, ◌*◌, ◌^◌, ◌<◌, ◌++◌, length, replicate};
-ghost use Rattle.pef_pidata.specs.Pattern.{copied, output, repeated, spelled, woven};
+ghost use Rattle.pef_pidata.specs.Pattern.{copied_len, output, repeated, spelled_len, woven};
 
 use crate::instruction::Instruction;
 
 impl Instruction {
     /// Writes what the instruction spells, from the bytes that it copies.
     pub fn write(&self, bytes: &[u8], target: &mut [u8])
-        requires bytes { length bytes.now ≡ copied self.now }
-        requires target { length target.old ≡ spelled self.now }
+        requires bytes { length bytes.now ≡ copied_len self.now }
+        requires target { length target.old ≡ spelled_len self.now }
         ensures { target.new ≡ output self.now bytes.now }
     {
         match *self {

@@ -1,8 +1,9 @@
--- The refusals of a container and their numbers.
+-- The refusals of a container, their numbers and their names. They are this project's own.
 use Rattle.std.specs.Prelude.{ℕ, List, codes}
 use Rattle.pef_views.specs.declared.fault.ViewFault.{ViewFault}
 use Rattle.pef_views.specs.declared.fault.ViewFault.TheVariants.{TooShort, BadTag, BadArchitecture, BadFormatVersion, BadSectionCounts, SectionOutside, BadSectionKind, BadSizes, BadAlignment, NoLoader}
 
+-- the numbers
 abbrev pub fault_number : ViewFault → ℕ
 fault_number TooShort = 1
 fault_number BadTag = 2

@@ -1,7 +1,7 @@
 -- A section: its header of 28 bytes, and its contents (Mac OS Runtime Architectures, "PEF Structure", section
 -- headers and section contents; PEFSectionHeader of PEFBinaryFormat.h). The order of its tests is this
 -- project's own.
-use Rattle.std.specs.Prelude.{ℕ, ◌+◌, ◌*◌, ◌==◌, ◌&&◌, ◌||◌, Bool, not, List, [], ◌∷◌, Option, Some, nat_lt, nat_le, take, drop}
+use Rattle.std.specs.Prelude.{ℕ, ◌+◌, ◌==◌, ◌&&◌, ◌||◌, Bool, not, List, [], ◌∷◌, Option, Some, nat_lt, nat_le, take, drop}
 use Rattle.std.specs.Int.{w32}
 use Rattle.pef_words.specs.Bytes.{number_at, signed_at}
 use Rattle.pef_words.specs.Refusals.{◌>>=◌}

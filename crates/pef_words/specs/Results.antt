@@ -1,0 +1,8 @@
+-- The word in which a grammar goes on from a part that was read or refused.
+use Rattle.std.specs.Prelude.{Result, Ok, Err}
+
+-- what follows a part that was read; its refusal ends the reading
+infixl 10 ◌>>=◌
+abbrev pub ◌>>=◌ : {A B F : Type 0} → Result A F → (A → Result B F) → Result B F
+(Ok x) >>= f = f x
+(Err fault) >>= f = Err fault
