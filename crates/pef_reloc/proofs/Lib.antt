@@ -1,7 +1,6 @@
 pub mod Laws
 mod ActLists
 mod Acts
-mod AdditionLaws
 mod Applying
 mod Blocks
 mod CodeLemmas
@@ -9,7 +8,6 @@ mod Decodes
 mod FixupLemmas
 mod Halfwords
 mod FlatLaws
-mod HeaderLaws
 mod PlainLaws
 mod Readback
 mod Readings

@@ -1,20 +1,18 @@
 -- Readable bytes are spelled by their instructions, which fit.
-use Rattle.std.proofs.Common.{◌≡◌, ◌⊎◌, inl, inr, ℕ, zero, suc, ◌+◌, ◌*◌, ◌-◌, ◌/◌, ◌%◌, ◌<◌, ◌≤◌, ◌==◌, Bool, true, false, cond, ◌&&◌, nat_le, nat_lt, List, [], ◌∷◌, ◌++◌, drop, length, slice_index, Option, None, Some, Result, Ok, Err, refl, ap, sym, subst, ◌∙◌, arith, length-drop}
-use Rattle.std.proofs.Math.Seq.{drop-append_seam}
+use Rattle.std.proofs.Common.{◌≡◌, ◌⊎◌, inl, inr, ℕ, zero, suc, ◌+◌, ◌*◌, ◌/◌, ◌%◌, ◌<◌, ◌≤◌, ◌==◌, Bool, true, false, cond, ◌&&◌, nat_le, nat_lt, List, [], ◌∷◌, ◌++◌, drop, length, slice_index, Option, None, Some, Result, Ok, Err, refl, ap, sym, subst, ◌∙◌, arith, length-drop}
 use Rattle.std.proofs.lemmas.Bool.{eqb-true, le-leb, lt-leb, lt-ltb, ltb-true}
 use Rattle.std.proofs.lemmas.List.{get_or-drop}
-use Rattle.std.specs.Option.{is_some, option_or}
+use Rattle.std.specs.Option.{is_some}
 use Rattle.byteorder.specs.Endian.{big_bytes}
 use Rattle.pef_words.specs.Bytes.{number_at}
 use Rattle.pef_words.specs.Refusals.{◌>>=◌}
 use Rattle.pef_words.proofs.Laws.Refusals.{neither}
 use Rattle.pef_words.proofs.Laws.Tests.{both_met}
 use Rattle.pef_reloc.specs.declared.fault.RelocFault.{RelocFault}
-use Rattle.pef_reloc.specs.declared.fault.RelocFault.TheVariants.{BadOpcode, CutInstruction}
 use Rattle.pef_reloc.specs.declared.instr.Instr.{Instr}
 use Rattle.pef_reloc.specs.declared.instr.Instr.TheVariants.{BySectDWithSkip, BySectC, BySectD, TVector12, TVector8, VTable8, ImportRun, SmByImport, SmSetSectC, SmSetSectD, SmBySection, IncrPosition, SmRepeat, SetPosition, LgByImport, LgRepeat, LgBySection, LgSetSectC, LgSetSectD}
 use Rattle.pef_reloc.specs.Instrs.{halfword_bytes, halfwords_of, instr_fits, instr_length, instrs_fit, spelled}
-use Rattle.pef_reloc.specs.Decoding.{Code, code_from, code_of, code_within, first_instr, instr_of, long_instr, opcode_instr, section_instr, short_instr, short_or_long}
+use Rattle.pef_reloc.specs.Decoding.{code_from, code_of, code_within, first_instr, instr_of, long_instr, opcode_instr, section_instr, short_instr, short_or_long}
 use Rattle.pef_reloc.specs.Unrolled.{first_fault, instrs_of, program_fault}
 use Rattle.pef_reloc.proofs.FlatLaws.{behind}
 use Rattle.pef_reloc.proofs.CodeLemmas.{some_length}

@@ -1,4 +1,6 @@
--- What relocation does to the memory of a section.
+-- What relocation does to the memory of a section (Mac OS Runtime Architectures, "PEF Structure", on
+-- relocation). Which of several refusals comes first, and that a register with its start value adds 0
+-- where there is no such section, are this project's own rules.
 use Rattle.std.specs.Prelude.{ℕ, ◌+◌, ◌^◌, ◌%◌, Bool, false, not, nat_lt, nat_le, if◌then◌else◌, List, [], ◌∷◌, ◌++◌, length, take, drop, slice_index, Option, None, Some}
 use Rattle.byteorder.specs.Endian.{big_number, big_bytes}
 use Rattle.pef_reloc.specs.declared.fault.RelocFault.{RelocFault}

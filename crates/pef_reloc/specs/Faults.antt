@@ -1,8 +1,9 @@
--- The numbers of the refusals.
+-- The numbers and the names of the refusals, which are this project's own.
 use Rattle.std.specs.Prelude.{ℕ, List, codes}
 use Rattle.pef_reloc.specs.declared.fault.RelocFault.{RelocFault}
 use Rattle.pef_reloc.specs.declared.fault.RelocFault.TheVariants.{BadOpcode, CutInstruction, RepeatTooFar, RepeatCuts, NestedRepeat, TooManySteps, WordOutside, ImportOutside, SectionOutside, OutOfMemory}
 
+-- the numbers of the refusals
 abbrev pub fault_number : RelocFault → ℕ
 fault_number BadOpcode = 31
 fault_number CutInstruction = 32

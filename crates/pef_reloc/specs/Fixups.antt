@@ -1,4 +1,5 @@
--- The fixups of a section: which words get whose address added.
+-- The fixups of a section: which words get whose address added. The word is this project's own, for what
+-- the relocation of a section comes to (Mac OS Runtime Architectures, "PEF Structure", on relocation).
 use Rattle.std.specs.Prelude.{ℕ, ◌+◌, Bool, true, ◌&&◌, nat_lt, nat_le, List, [], ◌∷◌, length}
 use Rattle.pef_reloc.specs.declared.fixup.Base.{Base}
 use Rattle.pef_reloc.specs.declared.fixup.Base.TheVariants.{Section, Import}

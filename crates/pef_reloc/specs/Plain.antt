@@ -1,4 +1,5 @@
--- A plain program for some fixups: it moves to each word that it doesn't stand at, and adds the base.
+-- A plain program for some fixups: it moves to each word that it doesn't stand at, and adds the base. It
+-- is this project's own, and written until shortest programs are.
 use Rattle.std.specs.Prelude.{ℕ, ◌+◌, ◌==◌, nat_lt, if◌then◌else◌, List, [], ◌∷◌, ◌++◌}
 use Rattle.pef_reloc.specs.declared.fixup.Base.{Base}
 use Rattle.pef_reloc.specs.declared.fixup.Base.TheVariants.{Section, Import}

@@ -13,10 +13,11 @@ use crate::opcode::{
 };
 use std::alloc::{AllocError, Global};
 
-/// The halfwords of an instruction.
+/// The halfwords of an instruction, each written with its high byte first.
 #[derive(Clone, Copy, Debug, PartialEq, Eq)]
 pub struct Spelling {
     pub first: u16,
+    /// Of the instructions of two halfwords alone.
     pub second: Option<u16>,
 }
 

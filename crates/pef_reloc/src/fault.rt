@@ -69,6 +69,11 @@ impl RelocFault {
 }
 
 impl fmt::Display for RelocFault {
+    ghost use Rattle.std.specs.Prelude.{Some};
+    ghost use Rattle.pef_reloc.specs.Faults.{fault_name};
+
+    ghost output = { λ fault. Some (fault_name fault) };
+
     fn fmt<W: fmt::Write>(&self, f: &mut fmt::Formatter<W>) -> fmt::Result {
         f.write_str(self.name())
     }

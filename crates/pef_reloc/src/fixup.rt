@@ -1,7 +1,7 @@
 ghost use Rattle.std.specs.Prelude.{◌≡◌, ◌+◌, ◌&&◌, nat_le};
 ghost use Rattle.pef_reloc.specs.Fixups.{base_fits, fixup_fits, fixups_fit, fixups_from};
 
-/// How many sections a base can name.
+/// How many sections a base can name: their numbers are below this.
 pub const MAX_SECTIONS: u32 = 8;
 
 /// How many imports a base can name.
@@ -16,10 +16,12 @@ pub const OFFSET_LIMIT: u32 = 0x0100_0000;
 /// The bytes of a word that is relocated.
 pub const WORD: u32 = 4;
 
-/// Whose address is added to a word: a section's, by its number, or an import's.
+/// Whose address is added to a word.
 #[derive(Clone, Copy, Debug, PartialEq, Eq)]
 pub enum Base {
+    /// An instantiated section's, by its number.
     Section(u32),
+    /// That of an import's target, by the import's number.
     Import(u32),
 }
 

@@ -1,28 +1,28 @@
 ghost use Rattle.std.specs.Prelude.{◌≡◌};
 ghost use Rattle.pef_reloc.specs.Instrs.{instr_fits, instr_length, repeat_of};
 
-/// The most words that a run of additions has.
-pub const MAX_RUN: u32 = 512;
+/// The most times that a run adds.
+const MAX_RUN: u32 = 512;
 
 /// The most words that a skip passes, and the most that it adds to.
-pub const MAX_SKIP: u32 = 255;
+const MAX_SKIP: u32 = 255;
 
-pub const MAX_SKIP_COUNT: u32 = 63;
+const MAX_SKIP_COUNT: u32 = 63;
 
 /// The most bytes that an increment moves on.
-pub const MAX_INCREMENT: u32 = 4096;
+const MAX_INCREMENT: u32 = 4096;
 
 /// The most halfwords that a repeat reaches back, and the most passes of a short one.
-pub const MAX_BLOCKS: u32 = 16;
+pub(crate) const MAX_BLOCKS: u32 = 16;
 
-pub const MAX_SHORT_PASSES: u32 = 256;
+const MAX_SHORT_PASSES: u32 = 256;
 
 /// The bounds of the numbers in nine, twenty-two and twenty-six bits.
-pub const SMALL_INDEX_LIMIT: u32 = 512;
+const SMALL_INDEX_LIMIT: u32 = 512;
 
-pub const LARGE_INDEX_LIMIT: u32 = 0x0040_0000;
+const LARGE_INDEX_LIMIT: u32 = 0x0040_0000;
 
-pub const POSITION_LIMIT: u32 = 0x0400_0000;
+const POSITION_LIMIT: u32 = 0x0400_0000;
 
 /// A relocation instruction, with its numbers as they mean.
 ///
@@ -133,6 +133,8 @@ impl Instr {
 /// How many halfwords run again, and how many further times.
 #[derive(Clone, Copy, Debug, PartialEq, Eq)]
 pub struct Repeat {
+    /// The preceding halfwords.
     pub blocks: u32,
+    /// The further passes; the one that ran before the repeat isn't counted.
     pub passes: u32,
 }

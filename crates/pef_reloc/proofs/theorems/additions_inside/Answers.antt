@@ -1,4 +1,4 @@
-use Rattle.pef_reloc.proofs.AdditionLaws.{additions-described, additions-done}
+use Rattle.pef_reloc.proofs.Laws.Additions.{additions-described, additions-done}
 use Rattle.pef_reloc.proofs.FixupLemmas.{fixups_fit-parts}
 use Rattle.pef_reloc.proofs.theorems.additions_inside.Goals as goal
 
