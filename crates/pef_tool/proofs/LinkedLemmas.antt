@@ -12,9 +12,10 @@ use Rattle.pef_script.specs.WellFormed.{ImportHolds, ScriptHolds, SectionHolds}
 use Rattle.pef_views.specs.Container.{Contained, Section, container_of}
 use Rattle.pef_views.specs.declared.fault.ViewFault.{ViewFault}
 use Rattle.pef_write.specs.Containers.{laid_out, written_sections}
-use Rattle.pef_write.specs.Linked.{AreProgramsFor, IsLinked, LinkedContainer, linked_container, linked_loader, linked_parts, linked_tables, part_of, programs_from, script_tables}
+use Rattle.pef_write.specs.Linked.{AreProgramsFor, IsLinked, LinkedContainer, linked_loader, linked_parts, linked_tables, part_of, programs_from, script_tables}
+use Rattle.pef_write.specs.Kept.Tables.{linked_container, loaded_tables}
 use Rattle.pef_write.specs.Loaders.{ProgramEntry}
-use Rattle.pef_write.specs.Reading.{loaded_tables, program_read}
+use Rattle.pef_write.specs.ReadBack.{program_read}
 use Rattle.pef_write.proofs.Laws.{are_sound, read_back, section_is}
 use Rattle.pef_write.proofs.Laws.{tables_loaded}
 use Rattle.pef_write.proofs.Laws.{init_back, main_back, relocs_back, term_back}

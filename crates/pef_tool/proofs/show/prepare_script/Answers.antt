@@ -7,8 +7,8 @@ use Rattle.pef_loader.specs.declared.fault.LoaderFault.{LoaderFault}
 use Rattle.pef_views.specs.Container.{Contained}
 use Rattle.pef_views.specs.Views.{contained}
 use Rattle.pef_views.specs.declared.fault.ViewFault.{ViewFault}
-use Rattle.pef_write.specs.Linked.{linked_container, linked_tables}
-use Rattle.pef_write.specs.Reading.{loaded_tables}
+use Rattle.pef_write.specs.Linked.{linked_tables}
+use Rattle.pef_write.specs.Kept.Tables.{linked_container, loaded_tables}
 use Rattle.pef_tool.specs.declared.prepare.PrepareFault.{PrepareFault}
 use Rattle.pef_tool.specs.declared.prepare.PrepareFault.TheVariants.{Memory, Reloc}
 use Rattle.pef_tool.proofs.LinkedLemmas.{container_read, loader_read, read_images, read_is, read_sections, was_read}
