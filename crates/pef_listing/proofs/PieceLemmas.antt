@@ -1,0 +1,49 @@
+-- Pieces one behind the other.
+use Rattle.std.proofs.Common.{◌≡◌, ℕ, suc, ◌+◌, ◌-◌, ◌<◌, ◌≤◌, List, [], ◌∷◌, ◌++◌, refl, sym, ap, ◌∙◌, append_assoc, arith}
+use Rattle.std.proofs.lemmas.List.{append-nil}
+use Rattle.std.specs.Prelude.{None, Result, Ok, Err}
+use Rattle.pef_words.specs.Refusals.{result_map, unless}
+use Rattle.pef_reloc.specs.declared.fault.RelocFault.{RelocFault}
+use Rattle.pef_reloc.specs.declared.program.Program.{Program}
+use Rattle.pef_reloc.specs.Unrolled.{program_fault}
+use Rattle.pef_reloc.specs.Views.{program_bytes}
+use Rattle.pef_listing.specs.declared.pieces.Piece.{Piece}
+use Rattle.pef_listing.specs.Listing.{each_text}
+use Rattle.pef_listing.specs.Pieces.{piece_text, pieces_behind, pieces_text}
+
+-- a text in front of pieces
+behind-text : (text : List ℕ) (pieces : List Piece) → pieces_behind text pieces ≡ text ++ pieces_text pieces
+behind-text text [] = sym (append-nil text)
+behind-text text (piece ∷ pieces) =
+    behind-text (text ++ piece_text piece) pieces ∙ append_assoc text (piece_text piece) (pieces_text pieces) ∙ ap (λ (t : List ℕ). text ++ t) (sym (behind-text (piece_text piece) pieces))
+
+-- a piece in front of others
+pub pieces-more : (piece : Piece) (pieces : List Piece) → pieces_text (piece ∷ pieces) ≡ piece_text piece ++ pieces_text pieces
+pieces-more piece pieces = behind-text (piece_text piece) pieces
+
+-- the texts of the things from one on begin with its own
+pub each_text-more : (text : ℕ → List ℕ) (i n : ℕ) → i < n → each_text text i (n - i) ≡ text i ++ each_text text (i + 1) (n - (i + 1))
+each_text-more text i n under =
+    let e : n - i ≡ suc (n - (i + 1)) = omega arith in
+    rw e refl
+
+-- behind the last one there is no text
+pub each_text-none : (text : ℕ → List ℕ) (i n : ℕ) → n ≤ i → each_text text i (n - i) ≡ []
+each_text-none text i n past =
+    let e : n - i ≡ 0 = omega arith in
+    rw e refl
+
+-- a readable program is read
+pub reads_program : (r : Result Program RelocFault) (bytes : List ℕ) → program_fault bytes ≡ None → result_map program_bytes r ≡ unless (program_fault bytes) (Ok bytes) → (p : Program) × (r ≡ Ok p) × (program_bytes p ≡ bytes)
+reads_program (Ok p) bytes none is =
+    let read : Ok (program_bytes p) ≡ Ok bytes = rw none at is in
+    (p, refl, cc)
+reads_program (Err fault) bytes none is =
+    let read : result_map program_bytes (Err fault) ≡ Ok bytes = rw none at is in
+    absurd (cc)
+
+-- and has its bytes
+pub reads_program_bytes : (p : Program) (bytes : List ℕ) → program_fault bytes ≡ None → Ok (program_bytes p) ≡ unless (program_fault bytes) (Ok bytes) → program_bytes p ≡ bytes
+reads_program_bytes p bytes none is =
+    let read : Ok (program_bytes p) ≡ Ok bytes = rw none at is in
+    cc

@@ -1,0 +1,49 @@
+ghost use Rattle.std.specs.Prelude.{◌≡◌};
+ghost use Rattle.pef_listing.specs.Faults.{fault_name, fault_number};
+
+use pef_loader::LoaderFault;
+use pef_reloc::RelocFault;
+use pef_views::ViewFault;
+use std::fmt;
+use thiserror::Error;
+
+/// Why bytes can't be listed: the first refusal of their readers.
+#[derive(Clone, Copy, Debug, PartialEq, Eq, Error)]
+pub enum ListFault {
+    /// They are no container.
+    View(ViewFault),
+    /// The container's loader section breaks a rule.
+    Loader(LoaderFault),
+    /// A relocation program isn't readable.
+    Reloc(RelocFault),
+}
+
+impl ListFault {
+    /// The number of the refusal.
+    pub fn number(&self) -> u32
+        ensures { result ≡ fault_number self.now }
+    {
+        match self {
+            ListFault::View(fault) => fault.number(),
+            ListFault::Loader(fault) => fault.number(),
+            ListFault::Reloc(fault) => fault.number(),
+        }
+    }
+
+    /// The refusal's name, which is its text.
+    pub fn name(&self) -> &'static str
+        ensures { result.now ≡ fault_name self.now }
+    {
+        match self {
+            ListFault::View(fault) => fault.name(),
+            ListFault::Loader(fault) => fault.name(),
+            ListFault::Reloc(fault) => fault.name(),
+        }
+    }
+}
+
+impl fmt::Display for ListFault {
+    fn fmt<W: fmt::Write>(&self, f: &mut fmt::Formatter<W>) -> fmt::Result {
+        f.write_str(self.name())
+    }
+}

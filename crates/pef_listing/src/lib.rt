@@ -1,0 +1,15 @@
+//! Listings of containers: a line for each section, library, import, entry, relocation instruction and
+//! export.
+//!
+//! [`Listing::read`] reads all that is to be listed, and says the first refusal; [`Listing::print`] prints
+//! the lines.
+#![tactic(auto)]
+
+mod fault;
+mod instructions;
+mod lines;
+mod listing;
+mod pieces;
+
+pub use fault::ListFault;
+pub use listing::Listing;

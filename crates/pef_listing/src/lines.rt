@@ -1,0 +1,341 @@
+ghost use Rattle.std.specs.Prelude.{◌≡◌, ◌<◌, ◌≤◌, ℕ, List, IsTrue, None, option_map};
+ghost use Rattle.std.specs.Option.{option_copied};
+ghost use Rattle.pef_views.specs.Views.{contained};
+ghost use Rattle.pef_loader.specs.Loader.{export_of, import_of, library_of, reloc_of};
+ghost use Rattle.pef_loader.specs.Views.{loaded};
+ghost use Rattle.pef_ports.specs.Sent.{Sends};
+ghost use Rattle.pef_listing.specs.Listed.{programs_fault};
+ghost use Rattle.pef_listing.specs.Listing.{container_text, each_text, entry_text, export_lines, import_lines, library_lines, magnitude, reloc_lines, section_lines, section_name_text, sign_text, strength_text};
+ghost use Rattle.pef_listing.specs.Pieces.{piece_text};
+
+use crate::instructions::print_program;
+use crate::pieces::{Piece, print_pieces};
+use pef_loader::{ExportView, Loader};
+use pef_ports::{Page, Sink, StreamFault};
+use pef_reloc::Program;
+use pef_views::{Container, Header};
+
+/// Things of a container that are listed by their numbers.
+pub trait Lines {
+    /// How many there are.
+    ghost many: { Self → ℕ };
+
+    /// The lines of one of them.
+    ghost text: { Self → ℕ → List ℕ };
+
+    /// How many there are.
+    fn len(&self) -> usize
+        ensures { result ≡ many self.now };
+
+    /// Prints the lines of thing `i`.
+    fn print_at<W: Sink>(&self, out: &mut W, page: &mut Page, i: usize) -> Result<(), StreamFault>
+        requires { i < many self.now }
+        ensures { Sends result (W.stream out.old) (W.stream out.new) page.old.items page.new.items (text self.now i) };
+}
+
+/// Prints the lines of all of them, in order.
+pub fn print_each<L: Lines, W: Sink>(
+    out: &mut W,
+    page: &mut Page,
+    lines: &L,
+) -> Result<(), StreamFault>
+    ensures { Sends result (W.stream out.old) (W.stream out.new) page.old.items page.new.items (each_text (L.text lines.now) 0 (L.many lines.now)) }
+{
+    for i in 0..lines.len() {
+        lines.print_at(out, page, i)?;
+    }
+    Ok(())
+}
+
+/// Prints the line of a container's header.
+#[tactic(auto, unfolding(crate::specs::Listing::container_text))]
+pub fn print_header<W: Sink>(
+    out: &mut W,
+    page: &mut Page,
+    header: Header,
+) -> Result<(), StreamFault>
+    ensures { Sends result (W.stream out.old) (W.stream out.new) page.old.items page.new.items (container_text header) }
+{
+    print_pieces(
+        out,
+        page,
+        &[
+            Piece::Text(b"container current "),
+            Piece::Number(u64::from(header.current_version)),
+            Piece::Text(b" olddef "),
+            Piece::Number(u64::from(header.old_def_version)),
+            Piece::Text(b" oldimp "),
+            Piece::Number(u64::from(header.old_imp_version)),
+            Piece::Text(b" date "),
+            Piece::Number(u64::from(header.date_time_stamp)),
+            Piece::Text(b"\n"),
+        ],
+    )
+}
+
+/// The sections of a container, instantiated or not.
+#[derive(Clone, Copy, Debug)]
+pub struct Sections<'a> {
+    pub container: Container<'a>,
+}
+
+impl<'a> Lines for Sections<'a> {
+    ghost many = { λ s. (contained s.container).header.section_count };
+
+    ghost text = { λ s. section_lines (contained s.container) };
+
+    fn len(&self) -> usize {
+        usize::from(self.container.header().section_count)
+    }
+
+    #[tactic(auto, unfolding(crate::specs::Listing::section_lines, crate::specs::Listing::section_text))]
+    fn print_at<W: Sink>(&self, out: &mut W, page: &mut Page, i: usize) -> Result<(), StreamFault> {
+        let Some(section) = self.container.section(i) else {
+            unreachable!()
+        };
+        let name = name_piece(self.container.section_name(i));
+        print_pieces(
+            out,
+            page,
+            &[
+                Piece::Text(b"section "),
+                Piece::Number(i as u64),
+                Piece::Text(b" kind "),
+                Piece::Number(u64::from(section.section_kind)),
+                Piece::Text(b" share "),
+                Piece::Number(u64::from(section.share_kind)),
+                Piece::Text(b" align "),
+                Piece::Number(u64::from(section.alignment)),
+                Piece::Text(b" total "),
+                Piece::Number(u64::from(section.total_size)),
+                Piece::Text(b" unpacked "),
+                Piece::Number(u64::from(section.unpacked_size)),
+                Piece::Text(b" packed "),
+                Piece::Number(u64::from(section.packed_size)),
+                Piece::Text(b" default "),
+                Piece::Word(section.default_address),
+                Piece::Text(b" name "),
+                name,
+                Piece::Text(b"\n"),
+            ],
+        )
+    }
+}
+
+/// A section's name as it is listed.
+#[tactic(auto, unfolding(crate::specs::Listing::section_name_text))]
+fn name_piece<'a>(name: Option<&'a [u8]>) -> Piece<'a>
+    ensures { piece_text result ≡ section_name_text (option_copied name.entry) }
+{
+    match name {
+        None => Piece::Text(b"-"),
+        Some(name) if name == b"-".as_slice() => Piece::Text(b"%2D"),
+        Some(name) => Piece::Name(name),
+    }
+}
+
+/// The imported libraries of a loader section.
+#[derive(Clone, Copy, Debug)]
+pub struct Libraries<'a> {
+    pub loader: Loader<'a>,
+}
+
+impl<'a> Lines for Libraries<'a> {
+    ghost many = { λ l. (loaded l.loader).header.library_count };
+
+    ghost text = { λ l. library_lines (loaded l.loader) };
+
+    fn len(&self) -> usize {
+        self.loader.libraries() as usize
+    }
+
+    #[tactic(auto, unfolding(crate::specs::Listing::library_lines, crate::specs::Listing::library_text))]
+    fn print_at<W: Sink>(&self, out: &mut W, page: &mut Page, i: usize) -> Result<(), StreamFault> {
+        let Some(library) = self.loader.library(i) else {
+            unreachable!()
+        };
+        print_pieces(
+            out,
+            page,
+            &[
+                Piece::Text(b"library "),
+                Piece::Name(library.name),
+                Piece::Text(b" current "),
+                Piece::Number(u64::from(library.current)),
+                Piece::Text(b" oldimp "),
+                Piece::Number(u64::from(library.old_imp)),
+                Piece::Text(b" options "),
+                Piece::Byte(library.options),
+                Piece::Text(b"\n"),
+            ],
+        )
+    }
+}
+
+/// The imported symbols of a loader section.
+#[derive(Clone, Copy, Debug)]
+pub struct Imports<'a> {
+    pub loader: Loader<'a>,
+}
+
+impl<'a> Lines for Imports<'a> {
+    ghost many = { λ l. (loaded l.loader).header.import_count };
+
+    ghost text = { λ l. import_lines (loaded l.loader) };
+
+    fn len(&self) -> usize {
+        self.loader.imports() as usize
+    }
+
+    fn print_at<W: Sink>(&self, out: &mut W, page: &mut Page, i: usize) -> Result<(), StreamFault> {
+        let Some(import) = self.loader.import(i) else {
+            unreachable!()
+        };
+        let Some(library) = self.loader.library(import.library as usize) else {
+            unreachable!()
+        };
+        print_pieces(
+            out,
+            page,
+            &[
+                Piece::Text(b"import "),
+                Piece::Number(i as u64),
+                Piece::Text(b" "),
+                Piece::Name(import.name),
+                Piece::Text(b" of "),
+                Piece::Name(library.name),
+                Piece::Text(b" class "),
+                Piece::Number(u64::from(import.class)),
+                Piece::Text(strength(import.weak)),
+            ],
+        )
+    }
+}
+
+/// The exported symbols of a loader section.
+#[derive(Clone, Copy, Debug)]
+pub struct Exported<'a> {
+    pub loader: Loader<'a>,
+}
+
+impl<'a> Lines for Exported<'a> {
+    ghost many = { λ l. (loaded l.loader).header.export_count };
+
+    ghost text = { λ l. export_lines (loaded l.loader) };
+
+    fn len(&self) -> usize {
+        self.loader.exports() as usize
+    }
+
+    fn print_at<W: Sink>(&self, out: &mut W, page: &mut Page, i: usize) -> Result<(), StreamFault> {
+        let Some(export) = self.loader.export(i) else {
+            unreachable!()
+        };
+        let section = section_number(export);
+        print_pieces(
+            out,
+            page,
+            &[
+                Piece::Text(b"export "),
+                Piece::Name(export.name),
+                Piece::Text(b" class "),
+                Piece::Number(u64::from(export.class)),
+                Piece::Text(b" section "),
+                Piece::Text(section.sign),
+                Piece::Number(u64::from(section.magnitude)),
+                Piece::Text(b" value "),
+                Piece::Word(export.value),
+                Piece::Text(b"\n"),
+            ],
+        )
+    }
+}
+
+/// The relocation headers of a loader section, of which each program is readable.
+#[derive(Clone, Copy, Debug)]
+pub struct Relocations<'a> {
+    pub loader: Loader<'a>,
+    pub ghost readable: { programs_fault (loaded loader) ≡ None },
+}
+
+impl<'a> Lines for Relocations<'a> {
+    ghost many = { λ l. (loaded l.loader).header.reloc_count };
+
+    ghost text = { λ l. reloc_lines (loaded l.loader) };
+
+    fn len(&self) -> usize {
+        self.loader.relocs() as usize
+    }
+
+    fn print_at<W: Sink>(&self, out: &mut W, page: &mut Page, i: usize) -> Result<(), StreamFault> {
+        let Some((section, instructions)) = self.loader.reloc(i) else {
+            unreachable!()
+        };
+        let Ok(program) = Program::read(instructions) else {
+            unreachable!()
+        };
+        let halfwords = instructions.len() / 2;
+        print_pieces(
+            out,
+            page,
+            &[
+                Piece::Text(b"reloc section "),
+                Piece::Number(u64::from(section)),
+                Piece::Text(b" halfwords "),
+                Piece::Number(halfwords as u64),
+                Piece::Text(b"\n"),
+            ],
+        )?;
+        print_program(out, page, &program)
+    }
+}
+
+/// Prints the line of an entry, where the entry is there.
+pub fn print_entry<W: Sink>(
+    out: &mut W,
+    page: &mut Page,
+    label: &[u8],
+    entry: Option<(u32, u32)>,
+) -> Result<(), StreamFault>
+    ensures { Sends result (W.stream out.old) (W.stream out.new) page.old.items page.new.items (entry_text label.now entry) }
+{
+    match entry {
+        Some((section, offset)) => print_pieces(
+            out,
+            page,
+            &[
+                Piece::Text(label),
+                Piece::Number(u64::from(section)),
+                Piece::Text(b" "),
+                Piece::Word(offset),
+                Piece::Text(b"\n"),
+            ],
+        ),
+        None => print_pieces(out, page, &[]),
+    }
+}
+
+/// The number of a section, as its sign and the number without it.
+#[derive(Clone, Copy)]
+struct SectionNumber {
+    sign: &'static [u8],
+    magnitude: u32,
+}
+
+/// The number of the section that an export is in.
+fn section_number(export: ExportView<'_>) -> SectionNumber
+    ensures sign { result.sign.now ≡ sign_text export.entry.section }
+    ensures magnitude { result.magnitude ≡ magnitude export.entry.section }
+{
+    SectionNumber {
+        sign: if export.section < 0 { b"-" } else { b"" },
+        magnitude: export.section.unsigned_abs(),
+    }
+}
+
+/// How an import's line ends: whether it may be missing.
+fn strength(weak: bool) -> &'static [u8]
+    ensures { result.now ≡ strength_text weak }
+{
+    if weak { b" weak\n" } else { b" strong\n" }
+}

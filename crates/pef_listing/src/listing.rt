@@ -1,0 +1,128 @@
+ghost use Rattle.std.specs.Prelude.{◌≡◌, None};
+ghost use Rattle.std.specs.Result.{result_err};
+ghost use Rattle.pef_words.specs.Refusals.{result_map};
+ghost use Rattle.pef_views.specs.Views.{contained};
+ghost use Rattle.pef_loader.specs.Views.{loaded};
+ghost use Rattle.pef_ports.specs.Sent.{Sends};
+ghost use Rattle.pef_listing.specs.Listing.{container_lines, entries_lines, imported_lines};
+ghost use Rattle.pef_listing.specs.Listed.{listed_of, program_refusal, programs_fault};
+
+use crate::fault::ListFault;
+use crate::lines::{
+    Exported, Imports, Libraries, Relocations, Sections, print_each, print_entry, print_header,
+};
+use pef_loader::Loader;
+use pef_ports::{Page, Sink, StreamFault};
+use pef_reloc::{Program, RelocFault};
+use pef_views::Container;
+
+/// A container of which each part was read, so that all of it can be listed.
+#[derive(Clone, Copy, Debug)]
+pub struct Listing<'a> {
+    container: Container<'a>,
+    loader: Loader<'a>,
+    ghost readable: { programs_fault (loaded loader) ≡ None },
+}
+
+impl<'a> Listing<'a> {
+    ghost use Rattle.pef_ports.specs.Sent.{Sends};
+    ghost use Rattle.pef_listing.specs.Listing.{listing_text};
+    ghost use Rattle.pef_listing.specs.Views.{parts};
+
+    /// Reads all parts of a container.
+    ///
+    /// # Errors
+    ///
+    /// The first refusal: of the container, of its loader section, of its relocation programs in the order
+    /// of their headers.
+    #[tactic(auto, unfolding(crate::specs::Listed::listed_of))]
+    pub fn read(bytes: &'a [u8]) -> Result<Listing<'a>, ListFault>
+        ensures { result_map parts result ≡ listed_of bytes.entry.now }
+    {
+        let container = match Container::read(bytes) {
+            Ok(container) => container,
+            Err(fault) => return Err(ListFault::View(fault)),
+        };
+        let loader = match Loader::read(&container) {
+            Ok(loader) => loader,
+            Err(fault) => return Err(ListFault::Loader(fault)),
+        };
+        match test_programs(&loader) {
+            Ok(()) => Ok(Listing { container, loader }),
+            Err(fault) => Err(ListFault::Reloc(fault)),
+        }
+    }
+
+    /// Prints all lines: what the container is, what it needs, where it is entered, how it is relocated,
+    /// and what it offers.
+    pub fn print<W: Sink>(&self, out: &mut W, page: &mut Page) -> Result<(), StreamFault>
+        ensures { Sends result (W.stream out.old) (W.stream out.new) page.old.items page.new.items (listing_text (parts self.now).container (parts self.now).loader) }
+    {
+        let loader = self.loader;
+        print_container(out, page, self.container)?;
+        print_imported(out, page, loader)?;
+        print_entries(out, page, loader)?;
+        print_each(out, page, &Relocations { loader })?;
+        print_each(out, page, &Exported { loader })
+    }
+}
+
+/// Prints what a container is: its header and its sections.
+fn print_container<W: Sink>(
+    out: &mut W,
+    page: &mut Page,
+    container: Container<'_>,
+) -> Result<(), StreamFault>
+    ensures { Sends result (W.stream out.old) (W.stream out.new) page.old.items page.new.items (container_lines (contained container.entry)) }
+{
+    print_header(out, page, container.header())?;
+    print_each(out, page, &Sections { container })
+}
+
+/// Prints what a container needs: its libraries and its imports.
+fn print_imported<W: Sink>(
+    out: &mut W,
+    page: &mut Page,
+    loader: Loader<'_>,
+) -> Result<(), StreamFault>
+    ensures { Sends result (W.stream out.old) (W.stream out.new) page.old.items page.new.items (imported_lines (loaded loader.entry)) }
+{
+    print_each(out, page, &Libraries { loader })?;
+    print_each(out, page, &Imports { loader })
+}
+
+/// Prints where a container is entered.
+fn print_entries<W: Sink>(
+    out: &mut W,
+    page: &mut Page,
+    loader: Loader<'_>,
+) -> Result<(), StreamFault>
+    ensures { Sends result (W.stream out.old) (W.stream out.new) page.old.items page.new.items (entries_lines (loaded loader.entry)) }
+{
+    let main = loader.main();
+    let init = loader.init();
+    let term = loader.term();
+    print_entry(out, page, b"main ", main)?;
+    print_entry(out, page, b"init ", init)?;
+    print_entry(out, page, b"term ", term)
+}
+
+/// The first refusal of a relocation program, header by header.
+fn test_programs(loader: &Loader<'_>) -> Result<(), RelocFault>
+    ensures { result_err result ≡ programs_fault (loaded loader.now) }
+{
+    for k in 0..loader.relocs() as usize {
+        test_program(loader, k)?;
+    }
+    Ok(())
+}
+
+/// The refusal of the program of relocation header `k`.
+fn test_program(loader: &Loader<'_>, k: usize) -> Result<(), RelocFault>
+    ensures { result_err result ≡ program_refusal (loaded loader.now) k }
+{
+    if let Some((_, instructions)) = loader.reloc(k) {
+        Program::read(instructions)?;
+    }
+    Ok(())
+}

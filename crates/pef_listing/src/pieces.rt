@@ -1,0 +1,59 @@
+ghost use Rattle.std.specs.Prelude.{◌≡◌};
+ghost use Rattle.pef_listing.specs.Pieces.{piece_text, pieces_text};
+ghost use Rattle.pef_ports.specs.Sent.{Sends};
+
+use itoa::Buffer;
+use pef_ports::{Line, Page, Sink, StreamFault, print_name, push_hex, push_word, send};
+
+/// A piece of a line.
+#[derive(Clone, Copy, Debug)]
+pub enum Piece<'a> {
+    /// A number in decimal.
+    Number(u64),
+    /// Text as it stands.
+    Text(&'a [u8]),
+    /// A name, whose bytes that could break a line are escaped.
+    Name(&'a [u8]),
+    /// A number of 32 bits in eight hex digits.
+    Word(u32),
+    /// A number of 8 bits in two hex digits.
+    Byte(u8),
+}
+
+/// Prints pieces one behind the other.
+pub fn print_pieces<W: Sink>(
+    out: &mut W,
+    page: &mut Page,
+    pieces: &[Piece<'_>],
+) -> Result<(), StreamFault>
+    ensures { Sends result (W.stream out.old) (W.stream out.new) page.old.items page.new.items (pieces_text pieces.now) }
+{
+    for piece in pieces {
+        print_piece(out, page, *piece)?;
+    }
+    Ok(())
+}
+
+/// Prints a piece.
+fn print_piece<W: Sink>(out: &mut W, page: &mut Page, piece: Piece<'_>) -> Result<(), StreamFault>
+    ensures { Sends result (W.stream out.old) (W.stream out.new) page.old.items page.new.items (piece_text piece.entry) }
+{
+    match piece {
+        Piece::Text(text) => send(out, page, text),
+        Piece::Name(name) => print_name(out, page, name),
+        Piece::Number(n) => {
+            let mut buffer = Buffer::new();
+            send(out, page, buffer.format(n).as_bytes())
+        }
+        Piece::Word(n) => {
+            let mut line = Line::new();
+            push_word(&mut line, n);
+            send(out, page, line.as_slice())
+        }
+        Piece::Byte(n) => {
+            let mut line = Line::new();
+            push_hex(&mut line, &[n]);
+            send(out, page, line.as_slice())
+        }
+    }
+}
