@@ -6,3 +6,5 @@
 
 #[cfg(test)]
 mod words;
+#[cfg(test)]
+mod write;
