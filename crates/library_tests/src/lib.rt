@@ -20,3 +20,5 @@ mod script;
 mod views;
 #[cfg(test)]
 mod words;
+#[cfg(test)]
+mod write;
