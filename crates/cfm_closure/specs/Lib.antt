@@ -1,0 +1,5 @@
+pub mod Faults
+pub mod Kept
+pub mod Seen
+pub mod Stores
+pub mod Versions
