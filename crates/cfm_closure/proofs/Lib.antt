@@ -1,1 +1,3 @@
 mod PlaceLemmas
+mod WalkFacts
+mod WalkRules

@@ -21,6 +21,12 @@ pub data Refusal : Type 0 where
   reexport_loop : List ℕ → List ℕ → Refusal
   init_loop : List ℕ → Refusal
 
+-- what something leads to that wasn't refused
+infixl 10 ◌>>=◌
+abbrev pub ◌>>=◌ : {A B : Type 0} → Result A Refusal → (A → Result B Refusal) → Result B Refusal
+(Ok x) >>= f = f x
+(Err refusal) >>= f = Err refusal
+
 -- a fault is the refusal that was to come, where there was memory
 abbrev pub Fails : {A : Type 0} → BindFault → Result A Refusal → Type 0
 Fails (fault.Container f v) expected = expected ≡ Err (no_container f.now v)

@@ -8,8 +8,10 @@
 
 mod fault;
 mod store;
+mod targets;
 mod versions;
 
 pub use fault::{BindFault, StoreFault};
 pub use store::Store;
+pub use targets::Target;
 pub use versions::{Definition, Fit, Implementation, versions_fit};
