@@ -1,3 +1,4 @@
+mod FragmentLemmas
 mod PlaceLemmas
 mod WalkFacts
 mod WalkRules

@@ -1,3 +1,4 @@
 -- What the code keeps. Private contracts and proofs speak of it, public ones don't.
 pub mod Places
 pub mod Walks
+pub mod Views

@@ -1,6 +1,6 @@
 -- Which fragment a library entry stands for (Mac OS Runtime Architectures, "Code Fragment Manager",
 -- "Preparing a Fragment"; the options are those of PEFImportedLibrary).
-use Rattle.std.specs.Prelude.{ℕ, ◌/◌, ◌%◌, ◌==◌, Bool, List, Option, None, Some, Result, Ok, Err, if◌then◌else◌}
+use Rattle.std.specs.Prelude.{ℕ, ◌==◌, Bool, not, bit_and, List, Option, None, Some, Result, Ok, Err, if◌then◌else◌}
 use Rattle.std.specs.Option.{option_map_or}
 use Rattle.std.specs.Result.{result_unwrap_or}
 use Rattle.pef_loader.specs.Library.{Library}
@@ -14,11 +14,11 @@ use Rattle.cfm_closure.specs.Versions.{fit_of}
 
 -- the library may be missing: bit 40 (hex) of the options
 abbrev pub is_weak : Library → Bool
-is_weak l = l.options / 64 % 2 == 1
+is_weak l = not (bit_and l.options 0x40 == 0)
 
 -- the library is initialized before the fragment: bit 80 (hex) of the options
 abbrev pub is_before : Library → Bool
-is_before l = l.options / 128 % 2 == 1
+is_before l = not (bit_and l.options 0x80 == 0)
 
 -- a weak library is absent where any other is refused
 abbrev pub absent_or : Bool → Refusal → Result (Option ℕ) Refusal

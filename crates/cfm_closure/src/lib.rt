@@ -7,6 +7,8 @@
 #![tactic(auto)]
 
 mod fault;
+mod fragment;
+mod library;
 mod store;
 mod targets;
 mod versions;

@@ -1,7 +1,7 @@
 ghost use Rattle.std.specs.Prelude.{◌≡◌, ◌==◌, ◌<◌, ◌++◌, [], ◌∷◌, length, slice_get, option_map, IfSome, OnOk, OnErr};
 ghost use Rattle.cfm_closure.specs.Kept.Places.{NotesPlace};
 ghost use Rattle.cfm_closure.specs.Seen.{pair_seen};
-ghost use Rattle.cfm_closure.specs.Stores.{place_of};
+ghost use Rattle.cfm_closure.specs.Stores.{pair_of, place_of};
 
 use crate::fault::StoreFault;
 use indexmap::IndexMap;
@@ -79,6 +79,14 @@ impl<'a> Store<'a> {
         ensures { option_map pair_seen result ≡ slice_get self.now p }
     {
         self.pairs.get(p).copied()
+    }
+
+    /// Pair `p`, which is there.
+    pub(crate) fn at(&self, p: usize) -> (&'a [u8], &'a [u8])
+        requires { p < length self.now }
+        ensures { pair_seen result ≡ pair_of self.now p }
+    {
+        self.pairs[p]
     }
 
     /// The place of the first pair with a name.
