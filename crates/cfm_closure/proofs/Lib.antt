@@ -1,4 +1,7 @@
 mod FragmentLemmas
+mod FrameLemmas
+mod PathLemmas
 mod PlaceLemmas
+mod TableLemmas
 mod WalkFacts
 mod WalkRules

@@ -111,9 +111,9 @@ module _ (pairs : List Pair) (s : Walked) (p : ℕ) (unmet : is_marked s p ≡ f
     marks = λ q met. inner.marks q (more q met);
     joins = λ q met. elim (inner.joins q met) [
       | inl before ↦ elim (met_before q before) [
-          | inl same ↦ inr (subst (Contains (u.order ++ p ∷ [])) (sym same) (Contains-push u.order p))
-          | inr first ↦ inl first
-        ]
+        | inl same ↦ inr (subst (Contains (u.order ++ p ∷ [])) (sym same) (Contains-push u.order p))
+        | inr first ↦ inl first
+      ]
       | inr joined ↦ inr (Contains-append_left u.order (p ∷ []) q joined)
     ];
     kept = λ q there. Contains-append_left u.order (p ∷ []) q (inner.kept q there);
@@ -137,6 +137,7 @@ module _ (pairs : List Pair) (s : Walked) (p : ℕ) (unmet : is_marked s p ≡ f
     where
       tidied : IsTidy s → IsTidy (marking p s)
       tidied tidy = record { met = λ q there. more q (tidy.met q there); once = tidy.once }
+
       absent : IsTidy s → Contains u.order p → ⊥
       absent tidy there = elim (inner.fresh p there) [
         | inl first ↦ true≢false (sym (tidy.met p first) ∙ unmet)

@@ -61,6 +61,7 @@ module _ (k : ℕ) (v w : ℕ → Walked → Result Walked Refusal) (both : Same
       go : ((t : Walked) → left t ≤ k → walks_from v pairs p (l + 1) n t ≡ walks_from w pairs p (l + 1) n t) → (r : Result Walked Refusal) → ((t : Walked) → r ≡ Ok t → left t ≤ left s) → (r >>= walks_from v pairs p (l + 1) n) ≡ (r >>= walks_from w pairs p (l + 1) n)
       go rest (Ok t) fewer = let h = fewer t refl in rest t (omega arith)
       go rest (Err e) fewer = refl
+
       by : ((t : Walked) → left t ≤ k → walks_from v pairs p (l + 1) n t ≡ walks_from w pairs p (l + 1) n t) → (r : Result (Option ℕ) Refusal) → (r >>= (λ q. walk_to v q s >>= walks_from v pairs p (l + 1) n)) ≡ (r >>= (λ q. walk_to w q s >>= walks_from w pairs p (l + 1) n))
       by rest (Ok None) = go rest (Ok s) (λ t is. (let same : s ≡ t = cc in subst (λ t. left t ≤ left s) same (omega arith)))
       by rest (Ok (Some q)) = rw (← both.same q s few) (go rest (v q s) (λ t is. both.fewer q s t is))

@@ -2,3 +2,4 @@
 pub mod Places
 pub mod Walks
 pub mod Views
+pub mod Paths

@@ -6,12 +6,14 @@
 //! needs. Names and bytes are borrowed, and nothing of a container is copied.
 #![tactic(auto)]
 
+mod binding;
 mod fault;
 mod fragment;
-mod library;
+mod libraries;
 mod store;
 mod targets;
 mod versions;
+mod walk;
 
 pub use fault::{BindFault, StoreFault};
 pub use store::Store;

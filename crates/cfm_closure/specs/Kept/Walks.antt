@@ -1,5 +1,6 @@
 -- What a walk has done.
-use Rattle.std.specs.Prelude.{◌≡◌, ◌≢◌, ℕ, ◌+◌, ◌<◌, ◌≤◌, Bool, true, false, List, length, slice_index_or, Option, Some, Result, Ok, Contains, AllPairs, ◌⊎◌}
+use Rattle.std.specs.Prelude.{◌≡◌, ◌≢◌, ℕ, ◌+◌, ◌<◌, ◌≤◌, Bool, true, false, List, length, slice_index_or, Option, None, Some, Result, Ok, Contains, AllPairs, ◌⊎◌, if◌then◌else◌}
+use Rattle.std.specs.Option.{option_and_then}
 use Rattle.cfm_closure.specs.Fragments.{Fragment, fragment_of}
 use Rattle.cfm_closure.specs.Libraries.{bound_to}
 use Rattle.cfm_closure.specs.Stores.{Pair}
@@ -34,3 +35,7 @@ pub record Reaches (pairs : List Pair) (s t : Walked) : Type 0 where
   pub done : (q : ℕ) → Contains t.order q → Contains s.order q ⊎ IsDone pairs t.marked q
   pub tidy : IsTidy s → IsTidy t
   pub count : length t.order + left t ≤ length s.order + left s
+
+-- the fragment of a library entry, if it is there and wasn't met
+abbrev pub unmet_of : List Bool → Option ℕ → Option ℕ
+unmet_of marked bound = option_and_then (λ q. if slice_index_or marked q true then None else Some q) bound

@@ -1,4 +1,4 @@
-ghost use Rattle.std.specs.Prelude.{◌≡◌, ◌<◌, length, Ok, Err, None, if◌then◌else◌};
+ghost use Rattle.std.specs.Prelude.{◌≡◌, ◌<◌, length, Ok, Err, None, IfOk, IfSome, if◌then◌else◌};
 ghost use Rattle.std.specs.Option.{option_map_or};
 ghost use Rattle.pef_loader.specs.Loader.{library_of};
 ghost use Rattle.pef_loader.specs.Views.{library_seen, loaded};
@@ -61,6 +61,7 @@ pub(crate) fn bind<'a>(
     requires size { length fragments.old ≡ length store.now }
     requires read { AreRead store.now fragments.old }
     ensures answer { Answers (λ q. q) result (bound store.now fragment.entry.now (library_seen library.entry)) }
+    ensures below { IfOk result (λ bound. IfSome bound (λ q. q < length store.now)) }
     ensures read { AreRead store.now fragments.new }
     ensures kept { AreKept fragments.old fragments.new }
 {
