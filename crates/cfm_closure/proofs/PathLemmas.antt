@@ -12,8 +12,8 @@ use Rattle.cfm_closure.specs.Faults.{◌>>=◌, Fails, Refusal}
 use Rattle.cfm_closure.specs.Fragments.{Fragment, fragment_of}
 use Rattle.cfm_closure.specs.Libraries.{bound, bound_to}
 use Rattle.cfm_closure.specs.Stores.{Pair}
-use Rattle.cfm_closure.specs.Walk.{Walked, is_marked, joining, left, marking, walk, walk_at, walk_to, walks_from}
-use Rattle.cfm_closure.specs.Kept.Paths.{rest_of, rest_of_frame, rest_of_path, visit}
+use Rattle.cfm_closure.specs.Walk.{Walked, is_marked, joining, left, marking, order_of, unwalked, walk, walk_at, walk_to, walks_from}
+use Rattle.cfm_closure.specs.Kept.Paths.{rest_of, rest_of_frame, rest_of_path, visit, visit_and_rest}
 use Rattle.cfm_closure.specs.Kept.Walks.{unmet_of}
 use Rattle.cfm_closure.proofs.WalkRules.{walk-rule}
 
@@ -105,3 +105,11 @@ unfolding bound_to
 bound_to-is pairs p l f library read is =
     ap (λ r. r >>= (λ f. option_map_or (bound pairs f.name) (library_of f.loader l) (Ok None))) read
     ∙ ap (λ o. option_map_or (bound pairs f.name) o (Ok None)) is
+
+-- the closure order is what the walk from the root leads to, with nothing met and nothing on the path
+pub order_of-start : (pairs : List Pair) (root : ℕ) (path : List Frame) (s : Walked) → path ≡ [] → s ≡ unwalked pairs → order_of pairs root ≡ (visit_and_rest pairs root path s >>= (λ s. Ok s.order))
+unfolding order_of
+order_of-start pairs root path s empty start =
+    sym (ap (λ path. visit_and_rest pairs root path s >>= (λ s. Ok s.order)) empty
+    ∙ ap (λ s. visit_and_rest pairs root [] s >>= (λ s. Ok s.order)) start
+    ∙ ap (λ r. r >>= (λ s. Ok s.order)) (then_ok (visit pairs root (unwalked pairs))))

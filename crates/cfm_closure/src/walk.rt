@@ -1,7 +1,7 @@
-ghost use Rattle.std.specs.Prelude.{◌≡◌, ◌+◌, ◌<◌, ◌++◌, [], ◌∷◌, List, ℕ, false, length, OnOk};
+ghost use Rattle.std.specs.Prelude.{◌≡◌, ◌+◌, ◌<◌, ◌++◌, [], ◌∷◌, List, ℕ, false, length, IfOk, OnOk};
 ghost use Rattle.std.specs.Option.{ForSome};
 ghost use Rattle.cfm_closure.specs.Faults.{Answers};
-ghost use Rattle.cfm_closure.specs.Walk.{is_marked, joining};
+ghost use Rattle.cfm_closure.specs.Walk.{is_marked, joining, order_of, unwalked};
 ghost use Rattle.cfm_closure.specs.Kept.Paths.{Continues, IsFrame, IsSameFrame, IsWalk, Next, count_of, frame_and_rest, rest_of_path, state_of, steps_left, visit_and_rest};
 ghost use Rattle.cfm_closure.specs.Kept.Views.{AreKept, AreRead};
 ghost use Rattle.cfm_closure.specs.Kept.Walks.{unmet_of};
@@ -11,7 +11,7 @@ use crate::fault::BindFault;
 use crate::fragment::{FragmentView, read_at};
 use crate::libraries::Libraries;
 use crate::store::Store;
-use std::alloc::Global;
+use std::alloc::{AllocError, Global};
 
 /// A fragment that was met and isn't done: the walk is in one of its libraries.
 #[derive(Drop)]
@@ -74,7 +74,50 @@ fn bind_next<'a>(
     Ok(None)
 }
 
+/// A table without library entries for each of `len` fragments.
+fn empty_tables(alloc: Global, len: usize) -> Result<Vec<Libraries>, AllocError>
+    ensures { IfOk result (λ tables. length tables.items ≡ len) }
+{
+    let mut tables = Vec::new(alloc);
+    for _i in 0..len {
+        tables.push(Libraries::new(alloc))?;
+    }
+    Ok(tables)
+}
+
 impl<'a> Walk<'a> {
+    /// A walk that met no fragment yet.
+    fn new(alloc: Global, store: &Store<'a>) -> Result<Walk<'a>, AllocError>
+        ensures walk { IfOk result (λ w. IsWalk store.now w) }
+        ensures state { IfOk result (λ w. state_of w ≡ unwalked store.now) }
+        ensures path { IfOk result (λ w. w.path.items ≡ []) }
+    {
+        let len = store.len();
+        let libraries = empty_tables(alloc, len)?;
+        let fragments = vec![in alloc; None; len]?;
+        let marked = vec![in alloc; false; len]?;
+        Ok(Walk {
+            alloc,
+            fragments,
+            libraries,
+            marked,
+            path: Vec::new(alloc),
+            order: Vec::new(alloc),
+        })
+    }
+
+    /// The walk from a fragment, done.
+    pub fn from_root(alloc: Global, store: &Store<'a>, root: usize) -> Result<Walk<'a>, BindFault<'a>>
+        requires { root < length store.now }
+        ensures walk { IfOk result (λ w. IsWalk store.now w) }
+        ensures answer { Answers (λ w. w.order.items) result (order_of store.now root) }
+    {
+        let mut walk = Walk::new(alloc, store)?;
+        walk.enter(store, root)?;
+        walk.run(store)?;
+        Ok(walk)
+    }
+
     /// Meets a fragment that wasn't met yet: it is read, and goes onto the path.
     fn enter(&mut self, store: &Store<'a>, p: usize) -> Result<(), BindFault<'a>>
         requires place { p < length store.now }
