@@ -1,5 +1,7 @@
+mod FollowLemmas
 mod FragmentLemmas
 mod FrameLemmas
+mod HopLemmas
 mod PathLemmas
 mod PlaceLemmas
 mod TableLemmas
