@@ -3,7 +3,9 @@ mod FragmentLemmas
 mod FrameLemmas
 mod HopLemmas
 mod PathLemmas
+mod Pigeons
 mod PlaceLemmas
+mod Ranks
 mod TableLemmas
 mod WalkFacts
 mod WalkRules
