@@ -1,7 +1,9 @@
+mod BoundLemmas
 mod FollowLemmas
 mod FragmentLemmas
 mod FrameLemmas
 mod HopLemmas
+mod OrderFacts
 mod PathLemmas
 mod Pigeons
 mod PlaceLemmas

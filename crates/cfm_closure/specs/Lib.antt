@@ -4,6 +4,7 @@ pub mod Fragments
 pub mod Initialization
 pub mod Kept
 pub mod Libraries
+pub mod Promises
 pub mod Reexports
 pub mod Seen
 pub mod Stores
