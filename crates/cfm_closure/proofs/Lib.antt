@@ -3,6 +3,7 @@ mod FollowLemmas
 mod FragmentLemmas
 mod FrameLemmas
 mod HopLemmas
+mod LoopLemmas
 mod OrderFacts
 mod PathLemmas
 mod Pigeons
