@@ -7,7 +7,6 @@ use Rattle.std.proofs.lemmas.List.Elements.{Contains-get_or}
 use Rattle.std.proofs.lemmas.List.FromFn.{get_or-range_with_len, length-range_with_len}
 use Rattle.cfm_closure.specs.declared.targets.Target.{Target}
 use Rattle.cfm_closure.specs.Faults.{Refusal}
-use Rattle.cfm_closure.specs.Fragments.{Fragment}
 use Rattle.cfm_closure.specs.Libraries.{bound_to}
 use Rattle.cfm_closure.specs.Promises.{IsComplete}
 use Rattle.cfm_closure.specs.Reexports.{MeetsAgain, hops, met, next_of}
@@ -15,6 +14,7 @@ use Rattle.cfm_closure.specs.Stores.{Pair}
 use Rattle.cfm_closure.specs.Targets.{Hop, ends, exports_among, exports_in, follow, followed, hop, through}
 use Rattle.cfm_closure.proofs.BoundLemmas.{library_at-is, stands_for}
 use Rattle.cfm_closure.proofs.FollowLemmas.{Goes, Step, follow-none, follow-on, hops-before, meets_again-for_ever, onward, step_at}
+use Rattle.cfm_closure.proofs.OrderFacts.{bound-inside}
 use Rattle.cfm_closure.proofs.Pigeons.{Twice, pigeons}
 use Rattle.cfm_closure.proofs.Ranks.{IsAmong, rank, rank-below, rank-same}
 
@@ -160,16 +160,11 @@ module _ (pairs : List Pair) where
           by None none' = again_in_store (p, j) none'
           by (Some a) some = absurd (let e : None ≡ Some a = sym none ∙ follow-more (exports_in pairs) (p, j) a some in cc)
 
-  module _ (root : ℕ) (order : List ℕ) (complete : IsComplete pairs root order) where
+  module _ (order : List ℕ) (complete : IsComplete pairs order) where
     keeps_order : (v : ℕ × ℕ) (next : (ℕ × ℕ) × (ℕ × ℕ)) → Contains order v.0 → next_of (hop pairs v.0 v.1) ≡ Some next → Contains order next.1.0 × Contains order next.0.0
     keeps_order v next there goes =
         let b = by_library pairs v next goes in
-        let s = stands_for pairs v.0 b.library next.0.0 b.is in
-        let m = complete.members v.0 there in
-        let same : s.fragment ≡ m.fragment = (let e : Ok s.fragment ≡ Ok m.fragment = sym s.read ∙ m.read in cc) in
-        let below = subst (λ (f : Fragment). b.library < f.loader.header.library_count) same s.below in
-        let h = m.libraries b.library below in
-        let inside = h.inside next.0.0 (let e : Ok h.bound ≡ Ok (Some next.0.0) = sym h.is ∙ b.is in cc) in
+        let inside = bound-inside pairs order v.0 b.library (Some next.0.0) complete there b.is in
         (subst (Contains order) (sym b.same) inside, inside)
 
     -- in a closure, its own exports are as good a bound as those of the store

@@ -20,6 +20,10 @@ pub came : {A B : Type 0} (r : Result A Refusal) (f : A → Result B Refusal) (y
 came (Ok x) f y is = record { value = x; is = refl; leads = is }
 came (Err e) f y is = absurd (cc)
 
+-- what is the one and the other is one
+pub same_ok : {A : Type 0} (r : Result A Refusal) (x y : A) → r ≡ Ok x → r ≡ Ok y → x ≡ y
+same_ok r x y is is' = cc
+
 -- past the marks everything is marked
 inside_if_unmarked : (marks : List Bool) (p : ℕ) → get_or marks p true ≡ false → p < length marks
 inside_if_unmarked [] p none = absurd (cc)

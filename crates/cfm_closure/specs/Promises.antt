@@ -17,10 +17,8 @@ pub record IsMember (pairs : List Pair) (order : List ℕ) (p : ℕ) : Type 0 wh
   pub read : fragment_of pairs p ≡ Ok fragment
   pub libraries : (l : ℕ) → l < fragment.loader.header.library_count → HasLibrary pairs order p l
 
--- the closure order of a fragment has that fragment, and with each fragment all its libraries; each stands
--- there once
-pub record IsComplete (pairs : List Pair) (root : ℕ) (order : List ℕ) : Type 0 where
-  pub has_root : root < length pairs → Contains order root
+-- with each of its fragments a closure order has all its libraries, and each stands there once
+pub record IsComplete (pairs : List Pair) (order : List ℕ) : Type 0 where
   pub members : (p : ℕ) → Contains order p → IsMember pairs order p
   pub once : AllPairs (λ p q. p ≢ q) order
   pub count : length order ≤ length pairs

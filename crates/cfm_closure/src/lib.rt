@@ -7,6 +7,7 @@
 #![tactic(auto)]
 
 mod binding;
+mod bindings;
 mod fault;
 mod fragment;
 mod libraries;

@@ -1,4 +1,4 @@
-ghost use Rattle.std.specs.Prelude.{◌≡◌, ◌==◌, ◌<◌, ◌++◌, [], ◌∷◌, length, slice_get, option_map, IfSome, OnOk, OnErr};
+ghost use Rattle.std.specs.Prelude.{◌≡◌, ◌==◌, ◌<◌, ◌++◌, [], ◌∷◌, length, map, slice_get, option_map, IfSome, OnOk, OnErr};
 ghost use Rattle.cfm_closure.specs.Kept.Places.{NotesPlace};
 ghost use Rattle.cfm_closure.specs.Seen.{pair_seen};
 ghost use Rattle.cfm_closure.specs.Stores.{pair_of, place_of};
@@ -79,6 +79,13 @@ impl<'a> Store<'a> {
         ensures { option_map pair_seen result ≡ slice_get self.now p }
     {
         self.pairs.get(p).copied()
+    }
+
+    /// All pairs.
+    pub(crate) fn pairs(&self) -> &[(&'a [u8], &'a [u8])]
+        ensures { map pair_seen result.now ≡ self.now }
+    {
+        &self.pairs
     }
 
     /// Pair `p`, which is there.

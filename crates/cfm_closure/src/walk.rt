@@ -27,14 +27,14 @@ pub(crate) struct Frame<'a> {
 pub(crate) struct Walk<'a> {
     alloc: Global,
     /// The fragments that were read.
-    fragments: Vec<Option<FragmentView<'a>>>,
+    pub fragments: Vec<Option<FragmentView<'a>>>,
     /// What the library entries of those that are done stand for.
-    libraries: Vec<Libraries>,
+    pub libraries: Vec<Libraries>,
     marked: Vec<bool>,
     /// From the root to the fragment that the walk is in.
     path: Vec<Frame<'a>>,
     /// The fragments that are done.
-    order: Vec<usize>,
+    pub order: Vec<usize>,
 }
 
 /// The fragment of a library entry, if it is there and wasn't met yet.
