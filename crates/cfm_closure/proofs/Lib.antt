@@ -1,0 +1,14 @@
+mod BoundLemmas
+mod FollowLemmas
+mod FragmentLemmas
+mod FrameLemmas
+mod HopLemmas
+mod LoopLemmas
+mod OrderFacts
+mod PathLemmas
+mod Pigeons
+mod PlaceLemmas
+mod Ranks
+mod TableLemmas
+mod WalkFacts
+mod WalkRules

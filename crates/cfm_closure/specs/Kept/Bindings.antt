@@ -1,0 +1,21 @@
+-- What is kept of a closure order: its fragments and what their library entries stand for.
+use Rattle.std.specs.Prelude.{◌≡◌, ℕ, List, length, map, Option}
+use Rattle.std.specs.List.{AllByRecursion}
+use Rattle.cfm_closure.specs.declared.fragment.FragmentView.{FragmentView}
+use Rattle.cfm_closure.specs.Promises.{IsComplete}
+use Rattle.cfm_closure.specs.Stores.{Pair}
+use Rattle.cfm_closure.specs.Kept.Paths.{IsWalked}
+use Rattle.cfm_closure.specs.Kept.Views.{AreRead}
+
+-- a closure order of a store
+pub record Ordered : Type 0 where
+  pub pairs : List Pair
+  pub order : List ℕ
+
+-- the tables of a closure order
+pub record AreBindings (pairs : List Pair) (fragments : List (Option FragmentView)) (libraries : List (List (Option ℕ))) (order : List ℕ) : Type 0 where
+  pub fragments_size : length fragments ≡ length pairs
+  pub libraries_size : length libraries ≡ length pairs
+  pub read : AreRead pairs fragments
+  pub walked : AllByRecursion (IsWalked pairs fragments libraries) order
+  pub complete : IsComplete pairs order

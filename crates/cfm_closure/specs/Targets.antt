@@ -1,0 +1,77 @@
+-- What an import means (Mac OS Runtime Architectures, "Code Fragment Manager", "Resolving Imports"; the
+-- sections of exports are those of PEFExportedSymbol).
+use Rattle.std.specs.Prelude.{ℕ, ℤ, pos, negsuc, zero, suc, ◌==◌, List, [], length, map, Option, None, Some, option_map, Result, Ok, Err, if◌then◌else◌}
+use Rattle.std.specs.List.{range_with_len, sum_by}
+use Rattle.std.specs.Option.{option_and_then, option_map_or}
+use Rattle.pef_loader.specs.Export.{Export}
+use Rattle.pef_loader.specs.Import.{Import}
+use Rattle.pef_loader.specs.Loader.{Loaded, export_of, named_of}
+use Rattle.cfm_closure.specs.declared.targets.Target.{Target}
+use Rattle.cfm_closure.specs.declared.targets.Target.TheVariants.{Absolute, At}
+use Rattle.cfm_closure.specs.Faults.{Refusal, reexport_loop, symbol_missing}
+use Rattle.cfm_closure.specs.Fragments.{export_count, import_at, loader_at}
+use Rattle.cfm_closure.specs.Libraries.{library_at}
+use Rattle.cfm_closure.specs.Stores.{Pair, pair_of}
+
+-- an import has a target, or none, or it leads through export e of fragment q to its import k
+pub data Hop : Type 0 where
+  ends : Option Target → Hop
+  through : ℕ → ℕ → ℕ → Hop
+
+-- an export in a section, an absolute one (-2), or one that passes on the import that its value names (-3)
+abbrev pub hop_by : ℕ → ℕ → ℕ → ℤ → Hop
+hop_by q e value (pos section) = ends (Some (At q section value))
+hop_by q e value (negsuc n) = if n == 1 then ends (Some (Absolute value)) else through q e value
+
+-- the first export of a name, with its index
+abbrev pub exported : List ℕ → Loaded → Option (ℕ × Export)
+exported name l = option_and_then (λ e. option_map (λ x. (e, x)) (export_of l e)) (named_of l name)
+
+-- a name that isn't exported is no target for a weak import, and a refusal for any other
+abbrev pub hop_to : List ℕ → List ℕ → Import → ℕ → Option (ℕ × Export) → Result Hop Refusal
+hop_to fragment library i q None = if i.weak then Ok (ends None) else Err (symbol_missing fragment library i.name)
+hop_to fragment library i q (Some x) = Ok (hop_by q x.0 x.1.value x.1.section)
+
+-- an import of an absent library has no target
+abbrev pub hop_from : List Pair → ℕ → Import → Option ℕ → Result Hop Refusal
+hop_from pairs p i None = Ok (ends None)
+hop_from pairs p i (Some q) = hop_to (pair_of pairs p).name (pair_of pairs q).name i q (option_and_then (exported i.name) (loader_at pairs q))
+
+abbrev pub hop_of : List Pair → ℕ → Option Import → Result Hop Refusal
+hop_of pairs p None = Ok (ends None)
+hop_of pairs p (Some i) = hop_from pairs p i (library_at pairs p i.library)
+
+-- where import j of the fragment in a place leads at once
+unfoldable pub hop : List Pair → ℕ → ℕ → Result Hop Refusal
+hop pairs p j = hop_of pairs p (import_at pairs p j)
+
+-- what follows a hop, where it goes on
+abbrev pub after_hop : (ℕ → ℕ → Option (Result (Option Target) Refusal)) → Hop → Option (Result (Option Target) Refusal)
+after_hop on (ends target) = Some (Ok target)
+after_hop on (through q e k) = on q k
+
+abbrev pub followed : (ℕ → ℕ → Option (Result (Option Target) Refusal)) → Result Hop Refusal → Option (Result (Option Target) Refusal)
+followed on (Ok h) = after_hop on h
+followed on (Err refusal) = Some (Err refusal)
+
+-- what an import leads to through at most n exports; none where it goes on
+unfoldable pub follow : ℕ → List Pair → ℕ → ℕ → Option (Result (Option Target) Refusal)
+follow zero pairs p j = followed (λ q k. None) (hop pairs p j)
+follow (suc n) pairs p j = followed (follow n pairs) (hop pairs p j)
+
+-- how many exports some fragments have
+abbrev pub exports_among : List Pair → List ℕ → ℕ
+exports_among pairs ps = sum_by (export_count pairs) ps
+
+-- how many exports all fragments of the store have
+abbrev pub exports_in : List Pair → ℕ
+exports_in pairs = exports_among pairs (range_with_len 0 (length pairs))
+
+abbrev pub symbol_of : List Pair → ℕ → ℕ → List ℕ
+symbol_of pairs p j = option_map_or (λ i. i.name) (import_at pairs p j) []
+
+-- the target of an import, or the refusal. More hops than there are exports meet one of them again, and so
+-- they have no end
+unfoldable pub target_of : List Pair → ℕ → ℕ → Result (Option Target) Refusal
+target_of pairs p j =
+    option_map_or (λ answer. answer) (follow (exports_in pairs) pairs p j) (Err (reexport_loop (pair_of pairs p).name (symbol_of pairs p j)))

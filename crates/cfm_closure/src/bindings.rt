@@ -1,0 +1,92 @@
+ghost use Rattle.std.specs.Prelude.{◌≡◌, ◌<◌, length, Contains, Ok, IfOk, IfSome};
+ghost use Rattle.cfm_closure.specs.Faults.{Answers};
+ghost use Rattle.cfm_closure.specs.Fragments.{fragment_of, library_count};
+ghost use Rattle.cfm_closure.specs.Libraries.{bound_to};
+ghost use Rattle.cfm_closure.specs.Walk.{order_of};
+ghost use Rattle.cfm_closure.specs.Kept.Views.{fragment_seen};
+
+use crate::fault::BindFault;
+use crate::fragment::FragmentView;
+use crate::libraries::Libraries;
+use crate::store::Store;
+use crate::walk::Walk;
+use std::alloc::Global;
+use std::marker::Model;
+
+/// The closure order of a fragment, with what its fragments are and what their library entries stand for.
+#[derive(Drop)]
+pub(crate) struct Bindings<'a> {
+    /// The pairs of the store. All else goes by their places.
+    pairs: Vec<(&'a [u8], &'a [u8])>,
+    fragments: Vec<Option<FragmentView<'a>>>,
+    libraries: Vec<Libraries>,
+    order: Vec<usize>,
+}
+
+impl<'a> Model for Bindings<'a> {
+    ghost use Rattle.cfm_closure.specs.Kept.Bindings.{Ordered};
+
+    ghost Value = { Ordered };
+
+    ghost use Rattle.std.specs.Prelude.{map};
+    ghost use Rattle.cfm_closure.specs.Seen.{pair_seen};
+    ghost use Rattle.cfm_closure.specs.Kept.Bindings.{AreBindings};
+
+    ghost view = { λ b. record { pairs = map pair_seen b.pairs.items; order = b.order.items } };
+
+    ghost invariant = { λ b. AreBindings (map pair_seen b.pairs.items) b.fragments.items b.libraries.items b.order.items };
+}
+
+impl<'a> Bindings<'a> {
+    /// What the fragment in a place of a store needs.
+    pub fn of(alloc: Global, store: &Store<'a>, root: usize) -> Result<Bindings<'a>, BindFault<'a>>
+        requires { root < length store.now }
+        ensures answer { Answers (λ b. b.order) result (order_of store.now root) }
+        ensures pairs { IfOk result (λ b. b.pairs ≡ store.now) }
+    {
+        let walk = Walk::from_root(alloc, store, root)?;
+        let pairs = Vec::from_slice(alloc, store.pairs())?;
+        let Walk {
+            fragments,
+            libraries,
+            order,
+            ..
+        } = walk;
+        Ok(Bindings {
+            pairs,
+            fragments,
+            libraries,
+            order,
+        })
+    }
+
+    pub fn order(&self) -> &[usize]
+        ensures { result.now ≡ self.now.order }
+    {
+        &self.order
+    }
+
+    /// A fragment of the order.
+    pub fn fragment(&self, p: usize) -> FragmentView<'a>
+        requires { Contains self.now.order p }
+        ensures { fragment_of self.now.pairs p ≡ Ok (fragment_seen result) }
+    {
+        match self.fragments[p] {
+            Some(fragment) => fragment,
+            None => unreachable!(),
+        }
+    }
+
+    /// What an entry of a fragment of the order stands for.
+    pub fn library(&self, p: usize, l: usize) -> Option<usize>
+        requires there { Contains self.now.order p }
+        requires below { l < library_count self.now.pairs p }
+        ensures bound { bound_to self.now.pairs p l ≡ Ok result }
+        ensures inside { IfSome result (λ q. Contains self.now.order q) }
+    {
+        match self.libraries[p].get(l) {
+            Some(bound) => bound,
+            None => unreachable!(),
+        }
+    }
+}
