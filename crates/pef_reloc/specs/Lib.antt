@@ -1,5 +1,6 @@
 pub mod Applied
 pub mod Decoding
+pub mod Deliveries
 pub mod Faults
 pub mod Fixups
 pub mod Instrs
