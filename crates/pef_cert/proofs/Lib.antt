@@ -1,0 +1,4 @@
+pub mod Laws
+mod ClassLemmas
+mod ExtensionLemmas
+mod MinimaLemmas

@@ -1,0 +1,5 @@
+pub mod Extension
+pub mod Feasible
+pub mod Labels
+pub mod Minima
+pub mod Valid

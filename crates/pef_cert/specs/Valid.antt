@@ -1,0 +1,53 @@
+-- Valid certificates.
+use Rattle.std.specs.Prelude.{◌≡◌, ℕ, suc, ◌+◌, ◌-◌, ◌*◌, ◌==◌, Bool, true, false, ◌&&◌, ◌||◌, nat_lt, List, [], ◌∷◌, length, slice_index}
+use Rattle.pef_reloc.specs.declared.fixup.Fixup.{Fixup}
+use Rattle.pef_reloc.specs.declared.instr.Instr.{Instr}
+use Rattle.pef_reloc.specs.Deliveries.{uses_section}
+use Rattle.pef_reloc.specs.Instrs.{program_length}
+use Rattle.pef_reloc.specs.Steps.{Makes, is_flat, start}
+use Rattle.pef_cert.specs.Labels.{Labels, classes}
+use Rattle.pef_cert.specs.Extension.{extension_at}
+use Rattle.pef_cert.specs.Feasible.{Feasible}
+
+-- a number is one of a list
+abbrev pub is_among : List ℕ → ℕ → Bool
+is_among [] k = false
+is_among (r ∷ registers) k = r == k || is_among registers k
+
+-- each number is above the one before it
+abbrev pub above_all : ℕ → List ℕ → Bool
+above_all low [] = true
+above_all low (r ∷ registers) = nat_lt low r && above_all r registers
+
+abbrev pub rises : List ℕ → Bool
+rises [] = true
+rises (r ∷ registers) = above_all r registers
+
+-- the sections that the fixups use, rising
+pub record RegistersOf (fixups : List Fixup) (registers : List ℕ) : Type 0 where
+  pub rising : rises registers ≡ true
+  pub used : (k : ℕ) → is_among registers k ≡ uses_section fixups k
+
+-- a certificate: its section, a program, the registers that count, and its labels row by row
+pub record Certified : Type 0 where
+  pub section : ℕ
+  pub program : List Instr
+  pub registers : List ℕ
+  pub labels : List ℕ
+
+-- the labels of a certificate for so many fixups: row i has those of the state at fixup i, with the classes
+-- of C outside and those of D inside
+abbrev pub labels_of : Certified → ℕ → Labels
+labels_of c count = record {
+  registers = c.registers;
+  label = λ left a b. slice_index c.labels (((count - left) * (length c.registers + 1) + a) * (length c.registers + 1) + b);
+}
+
+-- a certificate that holds for some fixups
+pub record Valid (fixups : List Fixup) (c : Certified) : Type 0 where
+  pub registers : RegistersOf fixups c.registers
+  pub shape : length c.labels ≡ (length fixups + 1) * ((length c.registers + 1) * (length c.registers + 1))
+  pub feasible : Feasible (labels_of c (length fixups)) fixups
+  pub flat : is_flat c.program ≡ true
+  pub makes : Makes fixups c.program
+  pub length_is : program_length c.program ≡ extension_at (labels_of c (length fixups)) fixups start

@@ -1,0 +1,1 @@
+//! Laws of the definitions. The functions do nothing.
