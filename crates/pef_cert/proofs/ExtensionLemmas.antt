@@ -19,7 +19,7 @@ pub extension-end : (l : Labels) (p c d : ℕ) → extension l [] p c d ≡ 0
 unfolding extension
 extension-end l p c d = refl
 
-skips-is : (l : Labels) (f : Fixup) (rest : List Fixup) (c d : ℕ) → skips_at l f rest c d ≡ skip_more (has_class l.registers d f.base) (1 + extension l rest (f.offset + 4) c d) (skip l 62 (f.offset + 4) c d rest)
+pub skips-is : (l : Labels) (f : Fixup) (rest : List Fixup) (c d : ℕ) → skips_at l f rest c d ≡ skip_more (has_class l.registers d f.base) (1 + extension l rest (f.offset + 4) c d) (skip l 62 (f.offset + 4) c d rest)
 unfolding skip
 skips-is l f rest c d = rw (eq-eqb f.offset f.offset refl) refl
 

@@ -1,4 +1,6 @@
 pub mod Laws
 mod ClassLemmas
 mod ExtensionLemmas
+mod Falling
+mod LabelFacts
 mod MinimaLemmas
