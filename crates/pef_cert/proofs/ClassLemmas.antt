@@ -32,16 +32,16 @@ class_of-same [] j k e under = absurd (omega arith)
 class_of-same (r ∷ rs) j k e under =
     elim (eqb_tells r j) [
       | inl here ↦ elim (eqb_tells r k) [
-          | inl there ↦ sym here.1 ∙ there.1
-          | inr other ↦ (let z : 0 ≡ suc (class_of rs k) = rw (here.0, other.0) at e in absurd (cc))
-        ]
+        | inl there ↦ sym here.1 ∙ there.1
+        | inr other ↦ (let z : 0 ≡ suc (class_of rs k) = rw (here.0, other.0) at e in absurd (cc))
+      ]
       | inr apart ↦ elim (eqb_tells r k) [
-          | inl there ↦ (let z : suc (class_of rs j) ≡ 0 = rw (apart.0, there.0) at e in absurd (cc))
-          | inr other ↦
+        | inl there ↦ (let z : suc (class_of rs j) ≡ 0 = rw (apart.0, there.0) at e in absurd (cc))
+        | inr other ↦
             (let z : suc (class_of rs j) ≡ suc (class_of rs k) = rw (apart.0, other.0) at e in
             let u : suc (class_of rs k) < suc (length rs) = rw other.0 at under in
             class_of-same rs j k (omega (arith, z)) (omega (arith, u)))
-        ]
+      ]
     ]
 
 -- the class of a section that counts, and of one that doesn't

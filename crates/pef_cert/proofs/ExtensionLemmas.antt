@@ -121,20 +121,20 @@ skip-is l (suc n) p c d k x (f ∷ rest) of counts e =
     let word = word_is l.registers f p k d of counts parts.0 in
     elim parts.1 [
       | inl one ↦ record {
-          count = 0;
-          left = rest;
-          under = omega arith;
-          words = ap (λ g. g ∷ rest) word;
-          is = (let end : p + 4 ≡ p + 4 * 1 = omega arith in sym one ∙ ap (λ q. 1 + extension l rest q c d) end);
-        }
+        count = 0;
+        left = rest;
+        under = omega arith;
+        words = ap (λ g. g ∷ rest) word;
+        is = (let end : p + 4 ≡ p + 4 * 1 = omega arith in sym one ∙ ap (λ q. 1 + extension l rest q c d) end);
+      }
       | inr more ↦
-        (let later = skip-is l n (p + 4) c d k x rest of counts more in
-        let end : p + 4 + 4 * suc later.count ≡ p + 4 * suc (suc later.count) = omega arith in
-        record {
-          count = suc later.count;
-          left = later.left;
-          under = omega (arith, later.under);
-          words = ap (λ g. g ∷ rest) word ∙ ap (λ fs. added p (Section k) ∷ fs) later.words;
-          is = later.is ∙ ap (λ q. 1 + extension l later.left q c d) end;
-        })
+          (let later = skip-is l n (p + 4) c d k x rest of counts more in
+          let end : p + 4 + 4 * suc later.count ≡ p + 4 * suc (suc later.count) = omega arith in
+          record {
+            count = suc later.count;
+            left = later.left;
+            under = omega (arith, later.under);
+            words = ap (λ g. g ∷ rest) word ∙ ap (λ fs. added p (Section k) ∷ fs) later.words;
+            is = later.is ∙ ap (λ q. 1 + extension l later.left q c d) end;
+          })
     ]

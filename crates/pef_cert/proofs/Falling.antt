@@ -12,7 +12,7 @@ use Rattle.pef_reloc.specs.declared.instr.Instr.TheVariants.{BySectDWithSkip, By
 use Rattle.pef_reloc.specs.Deliveries.{Delivers, index_after, index_past, is_flat_instr, passes_on}
 use Rattle.pef_reloc.specs.Instrs.{instr_length}
 use Rattle.pef_reloc.specs.Steps.{State, added, additions, next_state, numbered, pairs, row}
-use Rattle.pef_reloc.proofs.Laws.{first_addition}
+use Rattle.pef_reloc.proofs.Laws.{first_addition, index_kept}
 use Rattle.pef_words.proofs.Laws.Tests.{met_both}
 use Rattle.pef_cert.specs.Labels.{Labels, class_of, classes}
 use Rattle.pef_cert.specs.Extension.{change, extension, extension_at, moved_value, offer_at, skips_at}
@@ -56,24 +56,24 @@ falls_moving : (l : Labels) (f : Fixup) (rest : List Fixup) (index p e c d : ℕ
 falls_moving l f rest index p e c d stands under_c under_d short =
     elim (eqb_tells p f.offset) [
       | inl here ↦
-        (let low = label-extension l index f rest (p + e) c d stands under_c under_d in
-        let is = extension-here l f rest p c d here.1 in
-        omega (arith, low, is))
+          (let low = label-extension l index f rest (p + e) c d stands under_c under_d in
+          let is = extension-here l f rest p c d here.1 in
+          omega (arith, low, is))
       | inr away ↦ elim (eqb_tells (p + e) f.offset) [
-          | inl lands ↦
+        | inl lands ↦
             (let at = lands.1 in
             let apart = away.1 in
             let is = extension-here l f rest (p + e) c d lands.1 in
             let was = extension-away l f rest p c d away.1 in
             let most = moved-near (f.offset - p) (l.label (length (f ∷ rest)) c d) (offer_at l f rest c d) (omega arith) (omega arith) in
             omega (arith, is, was, most))
-          | inr off ↦ rw (extension-away l f rest (p + e) c d off.1)
+        | inr off ↦ rw (extension-away l f rest (p + e) c d off.1)
             (moved_by l f rest index p e c d _ stands under_c under_d short away.1 off.1 (moved-is (f.offset - (p + e)) (l.label (length (f ∷ rest)) c d) (offer_at l f rest c d)))
-        ]
+      ]
     ]
 
 -- what has to be shown of an instruction
-abbrev Falls : Labels → Instr → State → List Fixup → List Fixup → Type 0
+abbrev pub Falls : Labels → Instr → State → List Fixup → List Fixup → Type 0
 Falls l x s fixups left = extension_at l fixups s ≤ instr_length x + extension_at l left (next_state x s)
 
 -- an instruction that adds nothing leaves all fixups
@@ -172,3 +172,14 @@ falling l (SetPosition q) s f rest left stands flat delivers =
     falls_same l (SetPosition q) s f rest left delivers refl (omega (arith, most, low))
 falling l (SmRepeat blocks count) s f rest left stands flat delivers = absurd (cc)
 falling l (LgRepeat blocks count) s f rest left stands flat delivers = absurd (cc)
+
+-- each instruction, whatever is left to make
+pub falls : (l : Labels) (x : Instr) (s : State) (fixups left : List Fixup) → World l s.import_index fixups → is_flat_instr x ≡ true → Delivers x s fixups left → Falls l x s fixups left
+falls l x s [] left w flat delivers = rw (extension-end l s.position (class_of l.registers s.c) (class_of l.registers s.d)) (omega arith)
+falls l x s (f ∷ rest) left w flat delivers = falling l x s f rest left (world-first l s.import_index f rest w) flat delivers
+
+-- the labels are in order behind it
+pub world_left : (l : Labels) (x : Instr) (s : State) (fixups left : List Fixup) → World l s.import_index fixups → Delivers x s fixups left → World l (next_state x s).import_index left
+world_left l x s fixups left w delivers =
+    subst (λ (index : ℕ). World l index left) (sym (index_kept x s))
+    (world-behind l s.import_index (additions x s) left (subst (λ (fs : List Fixup). World l s.import_index fs) delivers.is w))

@@ -66,24 +66,24 @@ label-change : (l : Labels) (index : ℕ) (f : Fixup) (rest : List Fixup) (c d c
 label-change l index f rest c d c' d' stands under_c under_d under_c' under_d' =
     elim (eqb_tells c c') [
       | inl same ↦ elim (eqb_tells d d') [
-          | inl equal ↦
+        | inl equal ↦
             (let e = ap (λ x. label_here l f rest x d) same.1 ∙ ap (λ x. label_here l f rest c' x) equal.1 in
             rw (same.0, equal.0) (omega (arith, e)))
-          | inr apart ↦
+        | inr apart ↦
             (let e = ap (λ x. label_here l f rest x d) same.1 in
             let two = label-set_d l index f rest c' d d' stands under_c' under_d under_d' in
             rw (same.0, apart.0) (omega (arith, e, two)))
-        ]
+      ]
       | inr other ↦ elim (eqb_tells d d') [
-          | inl equal ↦
+        | inl equal ↦
             (let e = ap (λ x. label_here l f rest c' x) equal.1 in
             let one = label-set_c l index f rest c c' d stands under_c under_c' under_d in
             rw (other.0, equal.0) (omega (arith, e, one)))
-          | inr apart ↦
+        | inr apart ↦
             (let one = label-set_c l index f rest c c' d stands under_c under_c' under_d in
             let two = label-set_d l index f rest c' d d' stands under_c' under_d under_d' in
             rw (other.0, apart.0) (omega (arith, one, two)))
-        ]
+      ]
     ]
 
 -- the section of a class that a word has
@@ -219,8 +219,8 @@ extension-set_c l index f rest p c c' d stands under under' under_d =
     elim (eqb_tells p f.offset) [
       | inl here ↦ rw (extension-here l f rest p c d here.1, extension-here l f rest p c' d here.1) set
       | inr away ↦ rw (extension-away l f rest p c d away.1, extension-away l f rest p c' d away.1)
-        (moved-set (f.offset - p) (label_here l f rest c d) (label_here l f rest c' d) _ (offer_at l f rest c d) (offer_at l f rest c' d) set (offer-set_c l f rest c c' d)
-        (moved-is (f.offset - p) (label_here l f rest c' d) (offer_at l f rest c' d)))
+          (moved-set (f.offset - p) (label_here l f rest c d) (label_here l f rest c' d) _ (offer_at l f rest c d) (offer_at l f rest c' d) set (offer-set_c l f rest c c' d)
+          (moved-is (f.offset - p) (label_here l f rest c' d) (offer_at l f rest c' d)))
     ]
 
 pub extension-set_d : (l : Labels) (index : ℕ) (f : Fixup) (rest : List Fixup) (p c d d' : ℕ) → Stands l index f rest → c < classes l → d < classes l → d' < classes l → extension l (f ∷ rest) p c d ≤ 1 + extension l (f ∷ rest) p c d'
@@ -229,6 +229,6 @@ extension-set_d l index f rest p c d d' stands under_c under under' =
     elim (eqb_tells p f.offset) [
       | inl here ↦ rw (extension-here l f rest p c d here.1, extension-here l f rest p c d' here.1) set
       | inr away ↦ rw (extension-away l f rest p c d away.1, extension-away l f rest p c d' away.1)
-        (moved-set (f.offset - p) (label_here l f rest c d) (label_here l f rest c d') _ (offer_at l f rest c d) (offer_at l f rest c d') set (offer-set_d l f rest c d d')
-        (moved-is (f.offset - p) (label_here l f rest c d') (offer_at l f rest c d')))
+          (moved-set (f.offset - p) (label_here l f rest c d) (label_here l f rest c d') _ (offer_at l f rest c d) (offer_at l f rest c d') set (offer-set_d l f rest c d d')
+          (moved-is (f.offset - p) (label_here l f rest c d') (offer_at l f rest c d')))
     ]

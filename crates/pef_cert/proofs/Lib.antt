@@ -4,3 +4,4 @@ mod ExtensionLemmas
 mod Falling
 mod LabelFacts
 mod MinimaLemmas
+mod Soundness

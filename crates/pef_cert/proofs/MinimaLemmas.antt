@@ -122,9 +122,9 @@ least_of-is x (Some y ∷ os) =
     elim (least_of-is (min x y) os) [
       | inr other ↦ inr (there other)
       | inl first ↦ elim (min_is x y) [
-          | inl left ↦ inl (first ∙ left)
-          | inr right ↦ inr (here (ap Some (sym (first ∙ right))))
-        ]
+        | inl left ↦ inl (first ∙ left)
+        | inr right ↦ inr (here (ap Some (sym (first ∙ right))))
+      ]
     ]
 
 when_most : (b : Bool) (o : Option ℕ) (x : ℕ) → b ≡ true → AtMost o x → AtMost (when b o) x

@@ -1,8 +1,9 @@
 -- Valid certificates.
-use Rattle.std.specs.Prelude.{◌≡◌, ℕ, suc, ◌+◌, ◌-◌, ◌*◌, ◌==◌, Bool, true, false, ◌&&◌, ◌||◌, nat_lt, List, [], ◌∷◌, length, slice_index}
+use Rattle.std.specs.Prelude.{◌≡◌, ℕ, suc, ◌+◌, ◌-◌, ◌*◌, ◌==◌, Bool, true, false, ◌&&◌, ◌||◌, nat_lt, List, [], ◌∷◌, ◌++◌, length, slice_index}
 use Rattle.pef_reloc.specs.declared.fixup.Fixup.{Fixup}
 use Rattle.pef_reloc.specs.declared.instr.Instr.{Instr}
 use Rattle.pef_reloc.specs.Deliveries.{uses_section}
+use Rattle.pef_reloc.specs.Fixups.{fixups_fit}
 use Rattle.pef_reloc.specs.Instrs.{program_length}
 use Rattle.pef_reloc.specs.Steps.{Makes, is_flat, start}
 use Rattle.pef_cert.specs.Labels.{Labels, classes}
@@ -51,3 +52,10 @@ pub record Valid (fixups : List Fixup) (c : Certified) : Type 0 where
   pub flat : is_flat c.program ≡ true
   pub makes : Makes fixups c.program
   pub length_is : program_length c.program ≡ extension_at (labels_of c (length fixups)) fixups start
+
+-- labels that may be trusted for some fixups, of which some are made and others left
+pub record Trusted (l : Labels) (fixups made left : List Fixup) : Type 0 where
+  pub fit : fixups_fit fixups ≡ true
+  pub registers : RegistersOf fixups l.registers
+  pub feasible : Feasible l fixups
+  pub parts : fixups ≡ made ++ left

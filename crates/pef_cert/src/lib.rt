@@ -3,3 +3,7 @@
 #![tactic(auto)]
 
 mod theorems;
+
+pub use theorems::{
+    extension_of_labels, extensions_fall, labels_are_near, valid_programs_are_least,
+};
