@@ -4,4 +4,7 @@ mod ExtensionLemmas
 mod Falling
 mod LabelFacts
 mod MinimaLemmas
+mod NeededTests
+mod RunLemmas
 mod Soundness
+mod TestLemmas

@@ -1,5 +1,6 @@
 pub mod Extension
 pub mod Feasible
+pub mod Kept
 pub mod Labels
 pub mod Minima
 pub mod Valid

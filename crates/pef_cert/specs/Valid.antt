@@ -1,5 +1,6 @@
 -- Valid certificates.
-use Rattle.std.specs.Prelude.{◌≡◌, ℕ, suc, ◌+◌, ◌-◌, ◌*◌, ◌==◌, Bool, true, false, ◌&&◌, ◌||◌, nat_lt, List, [], ◌∷◌, ◌++◌, length, slice_index}
+use Rattle.std.specs.Prelude.{◌≡◌, ℕ, ◌+◌, ◌-◌, ◌*◌, ◌==◌, Bool, true, false, ◌&&◌, ◌||◌, nat_lt, List, [], ◌∷◌, ◌++◌, length, slice_index, slice_index_or}
+use Rattle.std.specs.List.{AllByRecursion}
 use Rattle.pef_reloc.specs.declared.fixup.Fixup.{Fixup}
 use Rattle.pef_reloc.specs.declared.instr.Instr.{Instr}
 use Rattle.pef_reloc.specs.Deliveries.{uses_section}
@@ -34,20 +35,25 @@ pub record Certified : Type 0 where
   pub section : ℕ
   pub program : List Instr
   pub registers : List ℕ
-  pub labels : List ℕ
+  pub labels : List (List ℕ)
 
--- the labels of a certificate for so many fixups: row i has those of the state at fixup i, with the classes
--- of C outside and those of D inside
-abbrev pub labels_of : Certified → ℕ → Labels
-labels_of c count = record {
-  registers = c.registers;
-  label = λ left a b. slice_index c.labels (((count - left) * (length c.registers + 1) + a) * (length c.registers + 1) + b);
+-- labels that stand in rows, one for each of so many fixups and one for the end: row i has those of the
+-- states at fixup i, with the classes of C outside and those of D inside
+abbrev pub labels_in : List ℕ → List (List ℕ) → ℕ → Labels
+labels_in registers rows count = record {
+  registers = registers;
+  label = λ left c d. slice_index (slice_index_or rows (count - left) []) (c * (length registers + 1) + d);
 }
+
+-- the labels of a certificate for so many fixups
+abbrev pub labels_of : Certified → ℕ → Labels
+labels_of c count = labels_in c.registers c.labels count
 
 -- a certificate that holds for some fixups
 pub record Valid (fixups : List Fixup) (c : Certified) : Type 0 where
   pub registers : RegistersOf fixups c.registers
-  pub shape : length c.labels ≡ (length fixups + 1) * ((length c.registers + 1) * (length c.registers + 1))
+  pub rows : length c.labels ≡ length fixups + 1
+  pub row : AllByRecursion (λ row. length row ≡ (length c.registers + 1) * (length c.registers + 1)) c.labels
   pub feasible : Feasible (labels_of c (length fixups)) fixups
   pub flat : is_flat c.program ≡ true
   pub makes : Makes fixups c.program

@@ -2,6 +2,7 @@
 //! fixups.
 #![tactic(auto)]
 
+mod fixups;
 mod theorems;
 
 pub use theorems::{
