@@ -31,7 +31,7 @@ pub record World (l : Labels) (index : ℕ) (fixups : List Fixup) : Type 0 where
 pub world-first : (l : Labels) (index : ℕ) (f : Fixup) (rest : List Fixup) → World l index (f ∷ rest) → Stands l index f rest
 world-first l index f rest w = record { numbers = w.numbers; here = w.registered.0; feasible = w.feasible.0 }
 
-world-next : (l : Labels) (index : ℕ) (f : Fixup) (rest : List Fixup) → World l index (f ∷ rest) → World l (index_past f.base index) rest
+pub world-next : (l : Labels) (index : ℕ) (f : Fixup) (rest : List Fixup) → World l index (f ∷ rest) → World l (index_past f.base index) rest
 world-next l index f rest w = record { numbers = w.numbers; registered = w.registered.1; feasible = w.feasible.1 }
 
 pub world-behind : (l : Labels) (index : ℕ) (made left : List Fixup) → World l index (made ++ left) → World l (index_after made index) left

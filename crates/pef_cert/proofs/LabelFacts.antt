@@ -95,7 +95,7 @@ base_counts l (Section k) class here has =
     ]
 base_counts l (Import k) class here has = absurd (cc)
 
-skip_has : (b : Bool) (one : ℕ) (more : Option ℕ) (x : ℕ) → skip_more b one more ≡ Some x → b ≡ true
+pub skip_has : (b : Bool) (one : ℕ) (more : Option ℕ) (x : ℕ) → skip_more b one more ≡ Some x → b ≡ true
 skip_has true one more x e = refl
 skip_has false one more x e = absurd (cc)
 

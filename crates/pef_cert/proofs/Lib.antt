@@ -1,4 +1,5 @@
 pub mod Laws
+mod Bounds
 mod ClassLemmas
 mod ExtensionLemmas
 mod Falling
@@ -6,5 +7,6 @@ mod LabelFacts
 mod MinimaLemmas
 mod NeededTests
 mod RunLemmas
+mod SkipLemmas
 mod Soundness
 mod TestLemmas

@@ -166,13 +166,13 @@ falls_single l index f rest left c d p n b met at words choose =
     let same = ap (λ fs. extension l fs (f.offset + 4) c d) others ∙ ap (λ q. extension l left (q + 4) c d) (sym at) in
     omega (arith, low, same)
 
-single_section : (l : Labels) (label index k : ℕ) (f : Fixup) (rest : List Fixup) (c d n : ℕ) → 1 ≤ n → base_test l label index f rest c d (Section k) ≡ true → label ≤ n + extension l rest (f.offset + 4) c d
+pub single_section : (l : Labels) (label index k : ℕ) (f : Fixup) (rest : List Fixup) (c d n : ℕ) → 1 ≤ n → base_test l label index f rest c d (Section k) ≡ true → label ≤ n + extension l rest (f.offset + 4) c d
 single_section l label index k f rest c d n some e =
     let tests = section_tests l label index k f rest c d e in
     let low = leb-true label (1 + extension l rest (f.offset + 4) c d) tests.single in
     omega (arith, low)
 
-single_import : (l : Labels) (label index k : ℕ) (f : Fixup) (rest : List Fixup) (c d n : ℕ) → import_cost k ≤ n → base_test l label index f rest c d (Import k) ≡ true → label ≤ n + extension l rest (f.offset + 4) c d
+pub single_import : (l : Labels) (label index k : ℕ) (f : Fixup) (rest : List Fixup) (c d n : ℕ) → import_cost k ≤ n → base_test l label index f rest c d (Import k) ≡ true → label ≤ n + extension l rest (f.offset + 4) c d
 single_import l label index k f rest c d n some e =
     let tests = import_tests l label index k f rest c d e in
     let low = tests.single in
@@ -181,7 +181,7 @@ single_import l label index k f rest c d n some e =
 small_cost : (k : ℕ) → nat_lt k 512 ≡ true → import_cost k ≤ 1
 small_cost k small = rw small (omega arith)
 
-any_cost : (k : ℕ) → import_cost k ≤ 2
+pub any_cost : (k : ℕ) → import_cost k ≤ 2
 any_cost k = go (nat_lt k 512)
   where
     go : (b : Bool) → cond b 1 2 ≤ 2
