@@ -6,6 +6,7 @@ mod Falling
 mod LabelFacts
 mod MinimaLemmas
 mod NeededTests
+mod RowLemmas
 mod RunLemmas
 mod SkipLemmas
 mod Soundness

@@ -1,1 +1,2 @@
+pub mod RowsKept
 pub mod Tests

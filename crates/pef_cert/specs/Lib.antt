@@ -3,4 +3,5 @@ pub mod Feasible
 pub mod Kept
 pub mod Labels
 pub mod Minima
+pub mod Rows
 pub mod Valid

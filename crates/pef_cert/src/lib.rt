@@ -3,8 +3,10 @@
 #![tactic(auto)]
 
 mod fixups;
+mod rows;
 mod theorems;
 
+pub use rows::LabelRows;
 pub use theorems::{
     extension_of_labels, extensions_fall, labels_are_near, valid_programs_are_least,
 };
