@@ -84,7 +84,7 @@ class_of-index (r ∷ rs) (suc i) up under =
     let apart : r ≢ slice_index rs i = omega (arith, low) in
     rw (ne_eqb r (slice_index rs i) apart) (ap suc (class_of-index rs i (above_rises r rs up) (omega arith)))
 
-or_right : (a b : Bool) → b ≡ true → (a || b) ≡ true
+pub or_right : (a b : Bool) → b ≡ true → (a || b) ≡ true
 or_right true b e = refl
 or_right false b e = e
 

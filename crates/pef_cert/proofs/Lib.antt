@@ -1,5 +1,6 @@
 pub mod Laws
 mod Bounds
+mod ClaimLemmas
 mod ClassLemmas
 mod ExtensionLemmas
 mod Falling

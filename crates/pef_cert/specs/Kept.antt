@@ -1,2 +1,4 @@
+pub mod Claims
 pub mod RowsKept
 pub mod Tests
+pub mod Values

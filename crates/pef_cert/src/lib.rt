@@ -2,6 +2,9 @@
 //! fixups.
 #![tactic(auto)]
 
+mod claim;
+mod classes;
+mod extension;
 mod fixups;
 mod rows;
 mod theorems;
