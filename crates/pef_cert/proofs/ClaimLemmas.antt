@@ -11,13 +11,14 @@ use Rattle.pef_reloc.specs.declared.fixup.Fixup.{Fixup}
 use Rattle.pef_reloc.specs.Limits.{most_sections}
 use Rattle.pef_reloc.proofs.Laws.{used_section-below}
 use Rattle.pef_words.proofs.Laws.Tests.{met_both}
+use Rattle.pef_cert.specs.declared.claim.Behind.{Behind}
 use Rattle.pef_cert.specs.declared.claim.Claim.{Claim}
 use Rattle.pef_cert.specs.Valid.{above_all, is_among, rises}
 use Rattle.pef_cert.proofs.ClassLemmas.{or_right}
 use Rattle.pef_cert.proofs.ExtensionLemmas.{extension-away, extension-end, extension-here}
 use Rattle.pef_cert.specs.Labels.{Labels, class_of}
 use Rattle.pef_cert.specs.Extension.{change, extension, moved_value, offer_at}
-use Rattle.pef_cert.specs.Kept.Claims.{IsRowOf, OfferIs, Shaped, rows_before}
+use Rattle.pef_cert.specs.Kept.Claims.{IsRowOf, Knows, OfferIs, Sees, Shaped, rows_before}
 use Rattle.pef_cert.specs.Kept.RowsKept.{RowsFull, rows_from}
 use Rattle.pef_cert.proofs.RowLemmas.{end_before, end_before-suc, end_before-zero, rows-at}
 
@@ -119,3 +120,13 @@ value-away l fixups at f p c d x y o e away is offer value =
 
 pub value-end : (l : Labels) (fixups : List Fixup) (at p c d : ℕ) → length fixups ≤ at → 0 ≡ extension l (drop at fixups) p c d
 value-end l fixups at p c d past = sym (ap (λ fs. extension l fs p c d) (drop_all at fixups past) ∙ extension-end l p c d)
+
+-- an index that is known of
+pub knows-sees : (b : Behind) (from j : ℕ) → Knows b from → from ≤ j → j < from + 1024 → j ≤ length b.claim.fixups.now → Sees b j
+knows-sees b from j k after before inside = record {
+  shaped = k.shaped;
+  rows = k.rows;
+  skips = k.skips;
+  inside = inside;
+  known = k.at j after before inside;
+}

@@ -11,4 +11,5 @@ mod RowLemmas
 mod RunLemmas
 mod SkipLemmas
 mod Soundness
+mod StepLemmas
 mod TestLemmas

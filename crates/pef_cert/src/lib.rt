@@ -7,6 +7,7 @@ mod classes;
 mod extension;
 mod fixups;
 mod rows;
+mod runs;
 mod theorems;
 
 pub use rows::LabelRows;

@@ -7,6 +7,7 @@ use Rattle.pef_reloc.specs.Fixups.{fixups_fit}
 use Rattle.pef_reloc.specs.Limits.{most_sections}
 use Rattle.pef_cert.specs.declared.claim.Behind.{Behind}
 use Rattle.pef_cert.specs.declared.claim.Claim.{Claim}
+use Rattle.pef_cert.specs.declared.runs.Tested.{Tested}
 use Rattle.pef_cert.specs.Labels.{Labels, class_of, classes}
 use Rattle.pef_cert.specs.Extension.{change, offer_at}
 use Rattle.pef_cert.specs.Kept.RowsKept.{RowsFull, rows_from}
@@ -60,3 +61,10 @@ pub record Knows (b : Behind) (from : ℕ) : Type 0 where
   pub rows : length b.rows.now ≡ 1024
   pub skips : length b.skips.now ≡ 1024 * (most_sections + 1)
   pub at : (j : ℕ) → from ≤ j → j < from + 1024 → j ≤ length b.claim.fixups.now → KnownAt b j
+
+-- a state at a fixup, whose label is tested against what lies behind
+pub record Tests (b : Behind) (s : Tested) : Type 0 where
+  pub knows : Knows b (s.at + 1)
+  pub here : s.at < length b.claim.fixups.now
+  pub c_class : s.c < length b.claim.registers.now + 1
+  pub d_class : s.d < length b.claim.registers.now + 1

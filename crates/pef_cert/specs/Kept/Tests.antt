@@ -16,6 +16,11 @@ same_base (Import j) (Import k) = j == k
 abbrev pub is_added : ℕ → Base → Fixup → Bool
 is_added p b f = f.offset == p && same_base f.base b
 
+-- the first of some fixups adds a base at a position
+abbrev pub adds_first : ℕ → Base → List Fixup → Bool
+adds_first p b [] = false
+adds_first p b (f ∷ rest) = is_added p b f
+
 -- where a run goes on: a test at one more of it, and those of more
 abbrev pub run_on : Bool → Bool → Bool → Bool
 run_on true here more = here && more
