@@ -1,4 +1,4 @@
-ghost use Rattle.std.specs.Prelude.{◌≡◌, ◌+◌, ◌^◌, ◌<◌, ◌≤◌, drop, length};
+ghost use Rattle.std.specs.Prelude.{◌≡◌, ◌+◌, ◌^◌, ◌&&◌, ◌<◌, ◌≤◌, drop, length};
 ghost use Rattle.pef_cert.specs.Kept.Claims.{Sees, Tests, labels_claimed};
 ghost use Rattle.pef_cert.specs.Kept.Tests.{adds_first, numbered_test, one_from, pairs_test, row_test};
 
@@ -31,6 +31,15 @@ impl<'a> Claim<'a> {
             None => false,
         }
     }
+
+    /// Whether the fixups from index `at` on add two bases side by side at a position.
+    fn adds_pair(self, at: usize, position: u64, first: Base, second: Base) -> bool
+        requires position { position < 2 ^ 60 }
+        requires at { at < length self.fixups.now + 1 }
+        ensures { result ≡ (adds_first position first (drop at self.entry.fixups.now) && adds_first (position + 4) second (drop (at + 1) self.entry.fixups.now)) }
+    {
+        self.adds(at, position, first) && self.adds(at + 1, position + WORD, second)
+    }
 }
 
 impl<'a> Behind<'a> {
@@ -58,6 +67,60 @@ impl<'a> Behind<'a> {
             }
             at += 1;
             from += stride;
+            if !self.follows(tested, at, from) {
+                return false;
+            }
+        }
+        true
+    }
+
+    /// Tests a label behind each run of two bases side by side, `stride` bytes apart, that begins at a
+    /// position.
+    pub(crate) fn pairs_hold(
+        self,
+        tested: Tested,
+        position: u64,
+        stride: u64,
+        first: Base,
+        second: Base,
+    ) -> bool
+        requires tests { Tests self tested }
+        requires position { position < 2 ^ 32 }
+        requires stride { stride ≤ 12 }
+        ensures { result ≡ pairs_test (labels_claimed self.entry.claim) tested.label stride first second tested.c tested.d 512 position (drop tested.at self.entry.claim.fixups.now) }
+    {
+        let mut at = tested.at;
+        let mut from = position;
+        'pairs: for _ in 0..MAX_RUN {
+            if !self.claim.adds_pair(at, from, first, second) {
+                return true;
+            }
+            at += 2;
+            from += stride;
+            if !self.follows(tested, at, from) {
+                return false;
+            }
+        }
+        true
+    }
+
+    /// Tests a label behind each run of imports, from one on, that begins at a position.
+    pub(crate) fn imports_hold(self, tested: Tested, position: u64, first: u32) -> bool
+        requires tests { Tests self tested }
+        requires position { position < 2 ^ 32 }
+        requires first { first < 2 ^ 31 }
+        ensures { result ≡ numbered_test (labels_claimed self.entry.claim) tested.label tested.c tested.d 512 position first (drop tested.at self.entry.claim.fixups.now) }
+    {
+        let mut at = tested.at;
+        let mut from = position;
+        let mut import = first;
+        'imports: for _ in 0..MAX_RUN {
+            if !self.claim.adds(at, from, Base::Import(import)) {
+                return true;
+            }
+            at += 1;
+            from += WORD;
+            import += 1;
             if !self.follows(tested, at, from) {
                 return false;
             }
