@@ -4,6 +4,7 @@ use Rattle.std.specs.Prelude.{slice_index_or}
 use Rattle.std.proofs.lemmas.Nat.{mul-add-lt}
 use Rattle.std.proofs.lemmas.Bool.{ltb-true}
 use Rattle.std.proofs.lemmas.List.{drop_all, length-drop}
+use Rattle.std.proofs.lemmas.Option.{slice_get-get_or}
 use Rattle.std.proofs.Math.Path.{ap₂}
 use Rattle.pef_reloc.specs.declared.fixup.Base.{Base}
 use Rattle.pef_reloc.specs.declared.fixup.Base.TheVariants.{Section, Import}
@@ -76,6 +77,10 @@ ring_under at c r few under =
     let low = mul-add-lt (at % 1024) r c 1024 (omega arith) under in
     omega (arith, low)
 
+-- what `get` gives is the element there
+pub get-is : {A : Type 0} (xs : List A) (at : ℕ) (x : A) → at < length xs → x ≡ slice_index_or xs at x → slice_get xs at ≡ Some x
+get-is xs at x under is = slice_get-get_or xs at x under ∙ ap Some (sym is)
+
 -- the fixup that is got from an index, and those behind it
 pub get-drop : {A : Type 0} (xs : List A) (at : ℕ) (x : A) → slice_get xs at ≡ Some x → drop at xs ≡ x ∷ drop (at + 1) xs
 get-drop [] at x e = absurd (cc)
@@ -94,7 +99,7 @@ pub offer-kept_import : (l : Labels) (f : Fixup) (rest : List Fixup) (c d x k : 
 offer-kept_import l f rest c d x k base known = sym (offer-known l f rest c d x (Import k) base known)
 
 -- the extension at an index, with its fixup and label known
-get_under : {A : Type 0} (xs : List A) (at : ℕ) (x : A) → slice_get xs at ≡ Some x → at < length xs
+pub get_under : {A : Type 0} (xs : List A) (at : ℕ) (x : A) → slice_get xs at ≡ Some x → at < length xs
 get_under [] at x e = absurd (cc)
 get_under (y ∷ ys) zero x e = omega arith
 get_under (y ∷ ys) (suc at) x e = let low = get_under ys at x e in omega (arith, low)

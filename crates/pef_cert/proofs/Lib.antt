@@ -1,4 +1,5 @@
 pub mod Laws
+mod AdditionLemmas
 mod Bounds
 mod ClaimLemmas
 mod ClassLemmas

@@ -2,6 +2,7 @@
 //! fixups.
 #![tactic(auto)]
 
+mod additions;
 mod claim;
 mod classes;
 mod extension;

@@ -4,7 +4,7 @@ ghost use Rattle.pef_cert.specs.Kept.Tests.{adds_first, numbered_test, one_from,
 
 use crate::claim::{Behind, Claim};
 use crate::fixups::adds_at;
-use pef_reloc::Base;
+use pef_reloc::{Base, Fixup};
 
 /// The most words, pairs or imports of a run.
 const MAX_RUN: u32 = 512;
@@ -12,10 +12,11 @@ const MAX_RUN: u32 = 512;
 /// The bytes of a word.
 const WORD: u64 = 4;
 
-/// A state at a fixup's offset: the index of the fixup, the classes of the registers, and its label.
+/// A state at a fixup's offset: the fixup and its index, the classes of the registers, and the label.
 #[derive(Clone, Copy, Debug)]
 pub(crate) struct Tested {
     pub(crate) at: usize,
+    pub(crate) fixup: Fixup,
     pub(crate) c: usize,
     pub(crate) d: usize,
     pub(crate) label: u32,
@@ -44,7 +45,7 @@ impl<'a> Claim<'a> {
 
 impl<'a> Behind<'a> {
     /// Whether the label is at most 1 and the extension from index `at` on.
-    fn follows(self, tested: Tested, at: usize, position: u64) -> bool
+    pub(crate) fn follows(self, tested: Tested, at: usize, position: u64) -> bool
         requires tests { Tests self tested }
         requires sees { Sees self at }
         ensures { result ≡ one_from (labels_claimed self.entry.claim) tested.label (drop at self.entry.claim.fixups.now) position tested.c tested.d }

@@ -1,5 +1,5 @@
 -- What a check keeps in view: the labels that are claimed, and what it has found behind the fixup under test.
-use Rattle.std.specs.Prelude.{◌≡◌, ◌≤◌, ◌<◌, ℕ, zero, suc, ◌+◌, ◌-◌, ◌*◌, ◌%◌, true, List, [], ◌∷◌, length, drop, slice_index, Option, None, Some}
+use Rattle.std.specs.Prelude.{◌≡◌, ◌≤◌, ◌<◌, ℕ, zero, suc, ◌+◌, ◌-◌, ◌*◌, ◌%◌, true, List, [], ◌∷◌, length, drop, slice_get, slice_index, Option, None, Some}
 use Rattle.pef_reloc.specs.declared.fixup.Base.{Base}
 use Rattle.pef_reloc.specs.declared.fixup.Base.TheVariants.{Section, Import}
 use Rattle.pef_reloc.specs.declared.fixup.Fixup.{Fixup}
@@ -65,6 +65,6 @@ pub record Knows (b : Behind) (from : ℕ) : Type 0 where
 -- a state at a fixup, whose label is tested against what lies behind
 pub record Tests (b : Behind) (s : Tested) : Type 0 where
   pub knows : Knows b (s.at + 1)
-  pub here : s.at < length b.claim.fixups.now
+  pub here : slice_get b.claim.fixups.now s.at ≡ Some s.fixup
   pub c_class : s.c < length b.claim.registers.now + 1
   pub d_class : s.d < length b.claim.registers.now + 1
