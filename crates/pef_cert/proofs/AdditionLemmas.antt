@@ -18,8 +18,8 @@ use Rattle.pef_cert.specs.declared.runs.Tested.{Tested}
 use Rattle.pef_cert.specs.Labels.{Labels, class_of}
 use Rattle.pef_cert.specs.Extension.{extension}
 use Rattle.pef_cert.specs.Kept.Claims.{Sees, Shaped, Tests}
-use Rattle.pef_cert.specs.Kept.Tests.{asked, base_test, import_cost, numbered_test, one_from, pair_test, row_test, second_test}
-use Rattle.pef_cert.proofs.ClaimLemmas.{get-drop, get_under, knows-sees}
+use Rattle.pef_cert.specs.Kept.Tests.{adds_test, asked, base_test, import_cost, numbered_test, one_from, pair_test, row_test, second_test}
+use Rattle.pef_cert.proofs.ClaimLemmas.{get-drop, get_under, knows-sees, label_there}
 
 -- what lies right behind the fixup
 pub tests-sees : (b : Behind) (t : Tested) → Tests b t → Sees b (t.at + 1)
@@ -86,3 +86,8 @@ second-some l label k c d class f g fixups at x here next same is =
     let whole = get-drop fixups at f here ∙ ap (λ fs. f ∷ fs) more in
     rw (eq-eqb class c same)
     (is ∙ (ap (λ fs. pair_test l label k c d f.offset fs g.base) whole ∙ sym (ap (second_test l label k c d f) more)))
+
+-- the test of a state, with its label looked up
+pub adds-here : (l : Labels) (index : ℕ) (fixups : List Fixup) (at : ℕ) (f : Fixup) (c d label : ℕ) (x : Bool) → slice_get fixups at ≡ Some f → label ≡ l.label (length fixups - at) c d → x ≡ base_test l label index f (drop (at + 1) fixups) c d f.base → adds_test l index f (drop (at + 1) fixups) c d ≡ x
+adds-here l index fixups at f c d label x here is answer =
+    ap (λ n. base_test l n index f (drop (at + 1) fixups) c d f.base) (sym (is ∙ label_there l fixups at f c d here)) ∙ sym answer

@@ -104,7 +104,7 @@ get_under [] at x e = absurd (cc)
 get_under (y ∷ ys) zero x e = omega arith
 get_under (y ∷ ys) (suc at) x e = let low = get_under ys at x e in omega (arith, low)
 
-label_there : (l : Labels) (fixups : List Fixup) (at : ℕ) (f : Fixup) (c d : ℕ) → slice_get fixups at ≡ Some f → l.label (length fixups - at) c d ≡ l.label (length (f ∷ drop (at + 1) fixups)) c d
+pub label_there : (l : Labels) (fixups : List Fixup) (at : ℕ) (f : Fixup) (c d : ℕ) → slice_get fixups at ≡ Some f → l.label (length fixups - at) c d ≡ l.label (length (f ∷ drop (at + 1) fixups)) c d
 label_there l fixups at f c d e =
     let under = get_under fixups at f e in
     let count : length fixups - at ≡ length (f ∷ drop (at + 1) fixups) = omega (arith, under, length-drop (at + 1) fixups) in

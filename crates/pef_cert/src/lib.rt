@@ -6,6 +6,7 @@ mod additions;
 mod claim;
 mod classes;
 mod extension;
+mod feasible;
 mod fixups;
 mod rows;
 mod runs;

@@ -7,6 +7,7 @@ use Rattle.pef_reloc.specs.Fixups.{fixups_fit}
 use Rattle.pef_reloc.specs.Limits.{most_sections}
 use Rattle.pef_cert.specs.declared.claim.Behind.{Behind}
 use Rattle.pef_cert.specs.declared.claim.Claim.{Claim}
+use Rattle.pef_cert.specs.declared.feasible.Under.{Under}
 use Rattle.pef_cert.specs.declared.runs.Tested.{Tested}
 use Rattle.pef_cert.specs.Labels.{Labels, class_of, classes}
 use Rattle.pef_cert.specs.Extension.{change, offer_at}
@@ -68,3 +69,9 @@ pub record Tests (b : Behind) (s : Tested) : Type 0 where
   pub here : slice_get b.claim.fixups.now s.at ≡ Some s.fixup
   pub c_class : s.c < length b.claim.registers.now + 1
   pub d_class : s.d < length b.claim.registers.now + 1
+
+-- a fixup under test, with its row of labels
+pub record UnderTest (b : Behind) (u : Under) : Type 0 where
+  pub knows : Knows b (u.at + 1)
+  pub here : slice_get b.claim.fixups.now u.at ≡ Some u.fixup
+  pub row : IsRowOf b.claim.kept.ends.now u.row u.at

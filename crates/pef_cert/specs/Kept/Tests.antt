@@ -94,3 +94,14 @@ pub record SetsHold (l : Labels) (left : ℕ) : Type 0 where
 pub record TestsHold (l : Labels) (index : ℕ) (f : Fixup) (rest : List Fixup) : Type 0 where
   pub sets : SetsHold l (length (f ∷ rest))
   pub adds : (c d : ℕ) → c < classes l → d < classes l → adds_test l index f rest c d ≡ true
+
+-- an answer that is yes just where something holds
+abbrev pub Says : Bool → Type 0 → Type 0
+Says answer P = (answer ≡ true → P) × (P → answer ≡ true)
+
+-- the tests of a state with register C in a class
+abbrev pub LineTests : Labels → ℕ → Fixup → List Fixup → ℕ → Type 0
+LineTests l index f rest c = (d : ℕ) → d < classes l → adds_test l index f rest c d ≡ true
+
+abbrev pub AllTests : Labels → ℕ → Fixup → List Fixup → Type 0
+AllTests l index f rest = (c : ℕ) → c < classes l → LineTests l index f rest c
