@@ -10,6 +10,7 @@ mod MinimaLemmas
 mod NeededTests
 mod RowLemmas
 mod RunLemmas
+mod SetLemmas
 mod SkipLemmas
 mod Soundness
 mod StepLemmas

@@ -10,6 +10,7 @@ mod feasible;
 mod fixups;
 mod rows;
 mod runs;
+mod sets;
 mod theorems;
 
 pub use rows::LabelRows;
