@@ -37,6 +37,15 @@ before_same : (ends : List ℕ) (q : ℕ) → q < length ends → end_before 0 e
 before_same ends zero under = end_before-zero 0 ends
 before_same ends (suc q) under = end_before-suc 0 ends q (omega arith)
 
+-- a kept row is each row that it stands for
+pub row-kept : (w q j : ℕ) (ends values : List ℕ) → RowsFull w ends values → IsRowOf ends q j → take w (drop (q * w) values) ≡ slice_index_or (rows_from w 0 ends values) j []
+row-kept w q j ends values full row =
+    let same : j - 0 ≡ j = omega arith in
+    let after = row.after in
+    let is = before_same ends q row.kept in
+    sym (sym (ap (λ i. slice_index_or (rows_from w 0 ends values) i []) same)
+    ∙ rows-at w 0 ends values q j full.rising row.kept (omega (arith, is, after)) row.before)
+
 -- a label of a kept row is that of each row that it stands for
 pub label-kept : (w q j n place : ℕ) (ends values : List ℕ) → RowsFull w ends values → IsRowOf ends q j → j ≤ n → place < w → slice_index values (q * w + place) ≡ slice_index (slice_index_or (rows_from w 0 ends values) (n - (n - j)) []) place
 label-kept w q j n place ends values full row inside under =

@@ -5,6 +5,7 @@ mod ClaimLemmas
 mod ClassLemmas
 mod ExtensionLemmas
 mod Falling
+mod FeasibleLemmas
 mod LabelFacts
 mod MinimaLemmas
 mod NeededTests

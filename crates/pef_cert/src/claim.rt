@@ -1,6 +1,7 @@
-ghost use Rattle.std.specs.Prelude.{◌≡◌, ◌+◌, ◌-◌, ◌*◌, ◌%◌, ◌^◌, ◌<◌, ◌≤◌, ◌∷◌, ℕ, List, IfSome, Some, drop, length, slice_get};
+ghost use Rattle.std.specs.Prelude.{◌≡◌, ◌+◌, ◌-◌, ◌*◌, ◌%◌, ◌^◌, ◌<◌, ◌≤◌, ◌∷◌, ℕ, List, IfSome, Some, [], drop, length, slice_get, slice_index_or};
 ghost use Rattle.pef_cert.specs.Extension.{extension, offer_at};
 ghost use Rattle.pef_reloc.specs.declared.fixup.Fixup.{Fixup};
+ghost use Rattle.pef_cert.specs.Kept.RowsKept.{rows_from};
 ghost use Rattle.pef_cert.specs.Kept.Claims.{IsRowOf, Sees, Shaped, labels_claimed};
 
 use crate::classes::{change, class_of};
@@ -49,6 +50,18 @@ impl<'a> Claim<'a> {
     {
         let place = c * self.classes() + d;
         self.kept.values[row * self.kept.width + place]
+    }
+
+    /// The labels of a kept row.
+    pub(crate) fn row(self, row: usize) -> &'a [u32]
+        requires shaped { Shaped self }
+        requires row { row < length self.kept.ends.now }
+        ensures is { (j : ℕ) → IsRowOf self.entry.kept.ends.now row j → result.now ≡ slice_index_or (rows_from self.entry.kept.width 0 self.entry.kept.ends.now self.entry.kept.values.now) j [] }
+        ensures len { length result.now ≡ (length self.entry.registers.now + 1) * (length self.entry.registers.now + 1) }
+    {
+        let (_, rest) = self.kept.values.split_at(row * self.kept.width);
+        let (row, _) = rest.split_at(self.kept.width);
+        row
     }
 }
 

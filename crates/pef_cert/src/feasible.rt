@@ -1,10 +1,12 @@
 ghost use Rattle.std.specs.Prelude.{◌≡◌, ◌+◌, ◌-◌, ◌<◌, ◌≤◌, ℕ, drop, length, take};
+ghost use Rattle.pef_cert.specs.Feasible.{FeasibleAt};
 ghost use Rattle.pef_cert.specs.Kept.Claims.{UnderTest, labels_claimed};
 ghost use Rattle.pef_cert.specs.Kept.Tests.{AllTests, LineTests, Says};
 ghost use Rattle.pef_reloc.specs.Deliveries.{index_after};
 
 use crate::claim::Behind;
 use crate::runs::Tested;
+use crate::sets::sets_hold;
 use pef_reloc::Fixup;
 
 /// A fixup under test: its index, and which kept row has its labels.
@@ -16,6 +18,18 @@ pub(crate) struct Under {
 }
 
 impl<'a> Behind<'a> {
+    /// Whether the labels of a fixup are feasible.
+    pub(crate) fn fixup_holds(self, under: Under) -> bool
+        requires { UnderTest self under }
+        ensures { Says result (FeasibleAt (labels_claimed self.entry.claim) (index_after (take under.at self.entry.claim.fixups.now) 0) under.fixup (drop (under.at + 1) self.entry.claim.fixups.now)) }
+    {
+        let row = self.claim.row(under.row);
+        if !sets_hold(row, self.claim.classes()) {
+            return false;
+        }
+        self.all_additions_hold(under)
+    }
+
     /// Tests the labels of a fixup against all instructions that begin by adding at it.
     fn all_additions_hold(self, under: Under) -> bool
         requires { UnderTest self under }
