@@ -16,3 +16,17 @@ pub use Rattle.pef_reloc.proofs.Readback.{spelled-instrs_of, instrs_of-fit}
 pub use Rattle.pef_reloc.proofs.FlatLaws.{program_fault-spelled, relocated-spelled, applied-trace}
 -- until there is the planner: the plain program of fixups is flat, makes them, names no other section, and is short
 pub use Rattle.pef_reloc.proofs.PlainLaws.{plain-flat, plain-makes, plain-names, plain-short}
+-- lists of instructions in a row: what they add, how long they are, and that they are flat
+pub use Rattle.pef_reloc.proofs.ActLists.{state_after-append}
+pub use Rattle.pef_reloc.proofs.DeliveryLaws.{trace-append, program_length-append, flat-append, flat-before, flat-behind}
+-- an instruction has at most two halfwords, so a list has no fewer halfwords than instructions, and at most twice as many
+pub use Rattle.pef_reloc.proofs.CodeLemmas.{most_length}
+pub use Rattle.pef_reloc.proofs.DeliveryLaws.{count-length, length-count}
+-- a flat list is a flat instruction and a flat list; it makes fixups where the one delivers some and the other makes what is left
+pub use Rattle.pef_reloc.proofs.DeliveryLaws.{FlatParts, flat_parts, flat_more, FirstDelivers, first_delivers, makes_more}
+-- where an instruction begins to add
+pub use Rattle.pef_reloc.proofs.DeliveredBases.{first_addition}
+-- the import index is that behind what was added
+pub use Rattle.pef_reloc.proofs.DeliveredBases.{index_kept, index_after-append}
+-- each of some fixups that fit does; and the sections and imports that they use are below the limits
+pub use Rattle.pef_reloc.proofs.DeliveredBases.{each_fits, FixupFits, fixup_fits-parts, used_section-below, used_import-below, uses_section-append, uses_import-append}

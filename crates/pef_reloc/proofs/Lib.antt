@@ -5,6 +5,8 @@ mod Applying
 mod Blocks
 mod CodeLemmas
 mod Decodes
+mod DeliveredBases
+mod DeliveryLaws
 mod FixupLemmas
 mod Halfwords
 mod FlatLaws

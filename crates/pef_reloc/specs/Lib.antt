@@ -1,6 +1,7 @@
 pub mod Additions
 pub mod Applied
 pub mod Decoding
+pub mod Deliveries
 pub mod Faults
 pub mod Fixups
 pub mod Headers

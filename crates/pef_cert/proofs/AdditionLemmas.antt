@@ -1,0 +1,93 @@
+-- The tests of a state at a fixup, as a check makes them.
+use Rattle.std.proofs.Common.{◌≡◌, ℕ, zero, suc, ◌+◌, ◌-◌, ◌<◌, ◌≤◌, Bool, true, false, ◌&&◌, ◌||◌, ◌==◌, nat_le, List, [], ◌∷◌, ◌++◌, length, take, drop, Option, Some, None, refl, ap, sym, ◌∙◌, subst, arith, slice_get, eq-eqb}
+use Rattle.std.proofs.Math.Path.{ap₂}
+use Rattle.std.specs.Prelude.{slice_index_or}
+use Rattle.std.proofs.lemmas.Bool.{ltb-true}
+use Rattle.std.proofs.lemmas.List.{take_more}
+use Rattle.pef_reloc.specs.declared.fixup.Base.{Base}
+use Rattle.pef_reloc.specs.declared.fixup.Base.TheVariants.{Section, Import}
+use Rattle.pef_reloc.specs.declared.fixup.Fixup.{Fixup}
+use Rattle.pef_reloc.specs.Deliveries.{index_after, index_past}
+use Rattle.pef_reloc.specs.Fixups.{base_fits, fixup_fits}
+use Rattle.pef_reloc.specs.Limits.{most_imports, most_sections}
+use Rattle.pef_reloc.proofs.Laws.{each_fits, fixup_fits-parts, index_after-append}
+use Rattle.pef_words.proofs.Laws.Lists.{all-get}
+use Rattle.pef_cert.specs.declared.claim.Behind.{Behind}
+use Rattle.pef_cert.specs.declared.claim.Claim.{Claim}
+use Rattle.pef_cert.specs.declared.runs.Tested.{Tested}
+use Rattle.pef_cert.specs.Labels.{Labels, class_of}
+use Rattle.pef_cert.specs.Extension.{extension}
+use Rattle.pef_cert.specs.Kept.Claims.{Sees, Shaped, Tests}
+use Rattle.pef_cert.specs.Kept.Tests.{adds_test, asked, base_test, import_cost, numbered_test, one_from, pair_test, row_test, second_test}
+use Rattle.pef_cert.proofs.ClaimLemmas.{get-drop, get_under, knows-sees, label_there}
+
+-- what lies right behind the fixup
+pub tests-sees : (b : Behind) (t : Tested) → Tests b t → Sees b (t.at + 1)
+tests-sees b t tests =
+    let under = get_under b.claim.fixups.now t.at t.fixup tests.here in
+    knows-sees b (t.at + 1) (t.at + 1) tests.knows (omega arith) (omega arith) (omega (arith, under))
+
+-- a fixup of fixups that fit does
+pub got-fits : (c : Claim) (at : ℕ) (f : Fixup) → Shaped c → slice_get c.fixups.now at ≡ Some f → fixup_fits f ≡ true
+got-fits c at f shaped e = all-get (λ (g : Fixup). fixup_fits g ≡ true) c.fixups.now at f (each_fits c.fixups.now shaped.fit) e
+
+import_small : (b : Base) (k : ℕ) → b ≡ Import k → base_fits b ≡ true → k < most_imports
+import_small b k is fits = ltb-true k most_imports (sym (ap base_fits is) ∙ fits)
+
+pub got-import : (c : Claim) (at k : ℕ) (f : Fixup) → Shaped c → slice_get c.fixups.now at ≡ Some f → f.base ≡ Import k → k < most_imports
+got-import c at k f shaped e is = import_small f.base k is (fixup_fits-parts f (got-fits c at f shaped e)).base
+
+-- the import index behind a fixup
+index_behind : (fixups : List Fixup) (i : ℕ) (f : Fixup) → i < length fixups → index_after (take (i + 1) fixups) 0 ≡ index_past (slice_index_or fixups i f).base (index_after (take i fixups) 0)
+index_behind fixups i f under =
+    ap (λ fs. index_after fs 0) (take_more fixups i f under) ∙ index_after-append (take i fixups) (slice_index_or fixups i f ∷ []) 0
+
+pub index-import : (fixups : List Fixup) (at i k : ℕ) (f : Fixup) → 0 < i → i ≤ length fixups → index_after (take i fixups) 0 ≡ index_after (take at fixups) 0 → (slice_index_or fixups (i - 1) f).base ≡ Import k → k + 1 ≡ index_after (take at fixups) 0
+index-import fixups at i k f some under same is =
+    let step : i ≡ i - 1 + 1 = omega arith in
+    sym (ap (λ b. index_past b (index_after (take (i - 1) fixups) 0)) is)
+    ∙ (sym (index_behind fixups (i - 1) f (omega arith))
+    ∙ (sym (ap (λ n. index_after (take n fixups) 0) step) ∙ same))
+
+pub index-section : (fixups : List Fixup) (at i k : ℕ) (f : Fixup) → 0 < i → i ≤ length fixups → index_after (take i fixups) 0 ≡ index_after (take at fixups) 0 → (slice_index_or fixups (i - 1) f).base ≡ Section k → index_after (take (i - 1) fixups) 0 ≡ index_after (take at fixups) 0
+index-section fixups at i k f some under same is =
+    let step : i ≡ i - 1 + 1 = omega arith in
+    sym (ap (λ b. index_past b (index_after (take (i - 1) fixups) 0)) is)
+    ∙ (sym (index_behind fixups (i - 1) f (omega arith))
+    ∙ (sym (ap (λ n. index_after (take n fixups) 0) step) ∙ same))
+
+-- the tests of a section's fixup, one by one
+pub section-is : (l : Labels) (label k class : ℕ) (f : Fixup) (rest whole : List Fixup) (c d : ℕ) (single words spaced second : Bool) → class ≡ class_of l.registers k → whole ≡ f ∷ rest
+    → single ≡ one_from l label rest (f.offset + 4) c d
+    → words ≡ asked (class == c || class == d) (row_test l label 4 (Section k) c d 512 f.offset whole)
+    → spaced ≡ asked (class == d) (row_test l label 8 (Section k) c d 512 f.offset whole)
+    → second ≡ asked (class == c) (second_test l label k c d f rest)
+    → (single && words && spaced && second) ≡ base_test l label 0 f rest c d (Section k)
+section-is l label k class f rest whole c d single words spaced second of at first second_is third fourth =
+    ap₂ (λ a b. a && b)
+    (ap₂ (λ a b. a && b)
+    (ap₂ (λ a b. a && b) first
+    (second_is ∙ ap₂ (λ n fs. asked (n == c || n == d) (row_test l label 4 (Section k) c d 512 f.offset fs)) of at))
+    (third ∙ ap₂ (λ n fs. asked (n == d) (row_test l label 8 (Section k) c d 512 f.offset fs)) of at))
+    (fourth ∙ ap (λ n. asked (n == c) (second_test l label k c d f rest)) of)
+
+-- the tests of an import's fixup
+pub import-is : (l : Labels) (label index k : ℕ) (f : Fixup) (rest whole : List Fixup) (c d : ℕ) (single imports : Bool) → whole ≡ f ∷ rest
+    → single ≡ nat_le label (import_cost k + extension l rest (f.offset + 4) c d)
+    → imports ≡ asked (k == index) (numbered_test l label c d 512 f.offset k whole)
+    → (single && imports) ≡ base_test l label index f rest c d (Import k)
+import-is l label index k f rest whole c d single imports at first second =
+    ap₂ (λ a b. a && b) first (second ∙ ap (λ fs. asked (k == index) (numbered_test l label c d 512 f.offset k fs)) at)
+
+-- the test of the next base
+pub second-some : (l : Labels) (label k c d class : ℕ) (f g : Fixup) (fixups : List Fixup) (at : ℕ) (x : Bool) → slice_get fixups at ≡ Some f → slice_get fixups (at + 1) ≡ Some g → class ≡ c → x ≡ pair_test l label k c d f.offset (drop at fixups) g.base → x ≡ asked (class == c) (second_test l label k c d f (drop (at + 1) fixups))
+second-some l label k c d class f g fixups at x here next same is =
+    let more = get-drop fixups (at + 1) g next in
+    let whole = get-drop fixups at f here ∙ ap (λ fs. f ∷ fs) more in
+    rw (eq-eqb class c same)
+    (is ∙ (ap (λ fs. pair_test l label k c d f.offset fs g.base) whole ∙ sym (ap (second_test l label k c d f) more)))
+
+-- the test of a state, with its label looked up
+pub adds-here : (l : Labels) (index : ℕ) (fixups : List Fixup) (at : ℕ) (f : Fixup) (c d label : ℕ) (x : Bool) → slice_get fixups at ≡ Some f → label ≡ l.label (length fixups - at) c d → x ≡ base_test l label index f (drop (at + 1) fixups) c d f.base → adds_test l index f (drop (at + 1) fixups) c d ≡ x
+adds-here l index fixups at f c d label x here is answer =
+    ap (λ n. base_test l n index f (drop (at + 1) fixups) c d f.base) (sym (is ∙ label_there l fixups at f c d here)) ∙ sym answer

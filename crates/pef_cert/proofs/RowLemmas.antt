@@ -1,0 +1,173 @@
+-- Rows of labels as they are kept: how many there are, where one stands, and one more.
+use Rattle.std.proofs.Common.{◌≡◌, ◌≢◌, ℕ, zero, suc, ◌+◌, ◌-◌, ◌*◌, ◌<◌, ◌≤◌, Bool, true, false, ◌&&◌, ◌==◌, nat_lt, List, [], ◌∷◌, ◌++◌, length, take, drop, replicate, Option, None, Some, refl, ap, sym, ◌∙◌, subst, arith, slice_index, slice_get, length-append, append_assoc, get_or}
+use Rattle.std.specs.Prelude.{slice_index_or, slice_set}
+use Rattle.std.proofs.lemmas.Bool.{ltb-true, lt-ltb}
+use Rattle.std.proofs.Math.Path.{ap₂}
+use Rattle.std.proofs.lemmas.List.{append-nil, drop-append-le, drop-drop, get_or-append_right, get_or-replicate, get_or_append_left, length-drop, length-replicate, take-append-le, take_all}
+use Rattle.pef_words.proofs.Laws.Tests.{both_met, met_both}
+use Rattle.pef_cert.specs.Kept.RowsKept.{RowsFull, rows_from}
+use Rattle.pef_cert.specs.Valid.{above_all}
+
+-- how many rows there are up to the last kept one
+pub last_end : ℕ → List ℕ → ℕ
+last_end low [] = low
+last_end low (end ∷ ends) = last_end end ends
+
+last_end-above : (low : ℕ) (ends : List ℕ) → above_all low ends ≡ true → low ≤ last_end low ends
+unfolding last_end
+last_end-above low [] up = omega arith
+last_end-above low (end ∷ ends) up =
+    let both = met_both (nat_lt low end) (above_all end ends) up in
+    let first = ltb-true low end both.0 in
+    let later = last_end-above end ends both.1 in
+    omega (arith, first, later)
+
+pub rows-count : (w low : ℕ) (ends values : List ℕ) → above_all low ends ≡ true → length (rows_from w low ends values) + low ≡ last_end low ends
+unfolding last_end
+rows-count w low [] values up = omega arith
+rows-count w low (end ∷ ends) values up =
+    let both = met_both (nat_lt low end) (above_all end ends) up in
+    let first = ltb-true low end both.0 in
+    let later = rows-count w end ends (drop w values) both.1 in
+    omega (arith, first, later, length-append (replicate (end - low) (take w values)) (rows_from w end ends (drop w values)), length-replicate (end - low) (take w values))
+
+pub last_end-get : (low : ℕ) (ends : List ℕ) (end : ℕ) → slice_get ends (length ends - 1) ≡ Some end → last_end low ends ≡ end
+unfolding last_end
+last_end-get low [] end e = absurd (cc)
+last_end-get low (x ∷ []) end e = cc
+last_end-get low (x ∷ y ∷ ends) end e =
+    let same : length (x ∷ y ∷ ends) - 1 ≡ suc (length ends) = omega arith in
+    let again : length (y ∷ ends) - 1 ≡ length ends = omega arith in
+    let there : slice_get (x ∷ y ∷ ends) (suc (length ends)) ≡ Some end = sym (ap (slice_get (x ∷ y ∷ ends)) same) ∙ e in
+    last_end-get x (y ∷ ends) end (ap (slice_get (y ∷ ends)) again ∙ there)
+
+pub last_end-none : (low : ℕ) (ends : List ℕ) → slice_get ends (length ends - 1) ≡ None → ends ≡ []
+last_end-none low [] e = refl
+last_end-none low (x ∷ []) e = absurd (cc)
+last_end-none low (x ∷ y ∷ ends) e =
+    let same : length (x ∷ y ∷ ends) - 1 ≡ suc (length ends) = omega arith in
+    let again : length (y ∷ ends) - 1 ≡ length ends = omega arith in
+    let there : slice_get (x ∷ y ∷ ends) (suc (length ends)) ≡ None = sym (ap (slice_get (x ∷ y ∷ ends)) same) ∙ e in
+    let wrong : y ∷ ends ≡ [] = last_end-none x (y ∷ ends) (ap (slice_get (y ∷ ends)) again ∙ there) in
+    absurd (cc)
+
+-- how many rows there are before a kept one
+pub end_before : ℕ → List ℕ → ℕ → ℕ
+end_before low ends zero = low
+end_before low [] (suc q) = low
+end_before low (end ∷ ends) (suc q) = end_before end ends q
+
+pub end_before-zero : (low : ℕ) (ends : List ℕ) → end_before low ends 0 ≡ low
+unfolding end_before
+end_before-zero low ends = refl
+
+pub end_before-suc : (low : ℕ) (ends : List ℕ) (q : ℕ) → q < length ends → end_before low ends (suc q) ≡ slice_index ends q
+unfolding end_before
+end_before-suc low [] q under = absurd (omega arith)
+end_before-suc low (end ∷ ends) zero under = refl
+end_before-suc low (end ∷ ends) (suc q) under = end_before-suc end ends q (omega arith)
+
+end_before-above : (low : ℕ) (ends : List ℕ) (q : ℕ) → above_all low ends ≡ true → low ≤ end_before low ends q
+unfolding end_before
+end_before-above low ends zero up = omega arith
+end_before-above low [] (suc q) up = omega arith
+end_before-above low (end ∷ ends) (suc q) up =
+    let both = met_both (nat_lt low end) (above_all end ends) up in
+    let first = ltb-true low end both.0 in
+    let later = end_before-above end ends q both.1 in
+    omega (arith, first, later)
+
+-- the row at a place, by the kept row that it belongs to
+pub rows-at : (w low : ℕ) (ends values : List ℕ) (q j : ℕ) → above_all low ends ≡ true → q < length ends → end_before low ends q ≤ j → j < slice_index ends q → slice_index_or (rows_from w low ends values) (j - low) [] ≡ take w (drop (q * w) values)
+unfolding end_before
+rows-at w low [] values q j up under after before = absurd (omega arith)
+rows-at w low (end ∷ ends) values zero j up under after before =
+    let start : zero * w ≡ 0 = omega arith in
+    let inside : j - low < end - low = omega arith in
+    get_or_append_left (replicate (end - low) (take w values)) (rows_from w end ends (drop w values)) [] (j - low) (omega (arith, length-replicate (end - low) (take w values)))
+    ∙ (get_or-replicate (end - low) (j - low) (take w values) [] inside
+    ∙ ap (λ n. take w (drop n values)) (sym start))
+rows-at w low (end ∷ ends) values (suc q) j up under after before =
+    let both = met_both (nat_lt low end) (above_all end ends) up in
+    let first = ltb-true low end both.0 in
+    let past = end_before-above end ends q both.1 in
+    let rest : (j - low) - (end - low) ≡ j - end = omega (arith, first, past) in
+    let start : w + q * w ≡ suc q * w = omega arith in
+    get_or-append_right (replicate (end - low) (take w values)) (rows_from w end ends (drop w values)) (end - low) (j - low) [] (length-replicate (end - low) (take w values)) (omega (arith, first, past))
+    ∙ (ap (λ n. slice_index_or (rows_from w end ends (drop w values)) n []) rest
+    ∙ (rows-at w end ends (drop w values) q j both.1 (omega arith) after before
+    ∙ ap (take w) (drop-drop (q * w) w values ∙ ap (λ n. drop n values) start)))
+
+-- nothing has no length
+empty : {A : Type 0} (xs : List A) → length xs ≡ 0 → xs ≡ []
+empty [] e = refl
+empty (x ∷ xs) e = absurd (omega (arith, e))
+
+-- so many and more of a row
+replicate_more : (m n : ℕ) (row : List ℕ) → replicate (m + n) row ≡ replicate m row ++ replicate n row
+replicate_more zero n row = let e : zero + n ≡ n = omega arith in rw e refl
+replicate_more (suc m) n row = let e : suc m + n ≡ suc (m + n) = omega arith in rw e (ap (λ rows. row ∷ rows) (replicate_more m n row))
+
+-- a row that differs from the last one
+pub rows-push : (w low end : ℕ) (ends values row : List ℕ) → length values ≡ w * length ends → length row ≡ w → rows_from w low (ends ++ end ∷ []) (values ++ row) ≡ rows_from w low ends values ++ replicate (end - last_end low ends) row
+unfolding last_end
+rows-push w low end [] values row full wide =
+    let none : values ≡ [] = empty values (omega (arith, full)) in
+    let whole : take w ([] ++ row) ≡ row = ap (λ n. take n row) (sym wide) ∙ take_all (length row) row (omega arith) in
+    rw none (append-nil (replicate (end - low) (take w row)) ∙ ap (replicate (end - low)) whole)
+rows-push w low end (x ∷ ends) values row full wide =
+    let long : w ≤ length values = omega (arith, full) in
+    let others : length (drop w values) ≡ w * length ends = omega (arith, full, length-drop w values) in
+    ap₂ (λ a b. replicate (x - low) a ++ rows_from w x (ends ++ end ∷ []) b) (take-append-le w values row long) (drop-append-le w values row long)
+    ∙ (ap (λ rows. replicate (x - low) (take w values) ++ rows) (rows-push w x end ends (drop w values) row others wide)
+    ∙ sym (append_assoc (replicate (x - low) (take w values)) (rows_from w x ends (drop w values)) (replicate (end - last_end x ends) row)))
+
+-- and more of the last one
+pub rows-more : (w low end n : ℕ) (ends values row : List ℕ) → above_all low ends ≡ true → length ends ≡ suc n → last_end low ends ≤ end → take w (drop (n * w) values) ≡ row → rows_from w low (slice_set ends n end) values ≡ rows_from w low ends values ++ replicate (end - last_end low ends) row
+unfolding last_end
+rows-more w low end n [] values row up count after is = absurd (omega (arith, count))
+rows-more w low end zero (x ∷ []) values row up count after is =
+    let first = ltb-true low x (met_both (nat_lt low x) (above_all x []) up).0 in
+    let start : zero * w ≡ 0 = omega arith in
+    let same : take w values ≡ row = ap (λ n. take w (drop n values)) (sym start) ∙ is in
+    let sum : end - low ≡ (x - low) + (end - x) = omega (arith, first, after) in
+    append-nil (replicate (end - low) (take w values))
+    ∙ (ap (λ n. replicate n (take w values)) sum
+    ∙ (replicate_more (x - low) (end - x) (take w values)
+    ∙ ap₂ (λ a b. a ++ replicate (end - x) b) (sym (append-nil (replicate (x - low) (take w values)))) same))
+rows-more w low end zero (x ∷ y ∷ ends) values row up count after is = absurd (omega (arith, count))
+rows-more w low end (suc n) (x ∷ ends) values row up count after is =
+    let both = met_both (nat_lt low x) (above_all x ends) up in
+    let start : w + n * w ≡ suc n * w = omega arith in
+    let there : take w (drop (n * w) (drop w values)) ≡ row = ap (take w) (drop-drop (n * w) w values ∙ ap (λ m. drop m values) start) ∙ is in
+    ap (λ rows. replicate (x - low) (take w values) ++ rows) (rows-more w x end n ends (drop w values) row both.1 (omega (arith, count)) after there)
+    ∙ sym (append_assoc (replicate (x - low) (take w values)) (rows_from w x ends (drop w values)) (replicate (end - last_end x ends) row))
+
+-- ends that rise with one more, and with a greater last one
+pub rising-push : (low end : ℕ) (ends : List ℕ) → above_all low ends ≡ true → last_end low ends < end → above_all low (ends ++ end ∷ []) ≡ true
+unfolding last_end
+rising-push low end [] up after = both_met (nat_lt low end) true (lt-ltb low end after) refl
+rising-push low end (x ∷ ends) up after =
+    let both = met_both (nat_lt low x) (above_all x ends) up in
+    both_met (nat_lt low x) (above_all x (ends ++ end ∷ [])) both.0 (rising-push x end ends both.1 after)
+
+pub rising-more : (low end n : ℕ) (ends : List ℕ) → above_all low ends ≡ true → length ends ≡ suc n → last_end low ends < end → above_all low (slice_set ends n end) ≡ true
+unfolding last_end
+rising-more low end n [] up count after = absurd (omega (arith, count))
+rising-more low end zero (x ∷ []) up count after =
+    let first = ltb-true low x (met_both (nat_lt low x) (above_all x []) up).0 in
+    both_met (nat_lt low end) true (lt-ltb low end (omega (arith, first))) refl
+rising-more low end zero (x ∷ y ∷ ends) up count after = absurd (omega (arith, count))
+rising-more low end (suc n) (x ∷ ends) up count after =
+    let both = met_both (nat_lt low x) (above_all x ends) up in
+    both_met (nat_lt low x) (above_all x (slice_set ends n end)) both.0 (rising-more x end n ends both.1 (omega (arith, count)) after)
+
+-- how many rows there are, by the end of the last kept one
+pub rows-some : (w end : ℕ) (ends values : List ℕ) → RowsFull w ends values → slice_get ends (length ends - 1) ≡ Some end → end ≡ length (rows_from w 0 ends values)
+rows-some w end ends values full e =
+    let is = last_end-get 0 ends end e in
+    let count = rows-count w 0 ends values full.rising in
+    omega (arith, is, count)
+
+pub rows-none : (w : ℕ) (ends values : List ℕ) → slice_get ends (length ends - 1) ≡ None → 0 ≡ length (rows_from w 0 ends values)
+rows-none w ends values e = rw (last_end-none 0 ends e) refl

@@ -1,0 +1,105 @@
+-- Of all offers at a section's fixup the least is a skip with the register C as it is; and how great extensions
+-- get.
+use Rattle.std.proofs.Common.{◌≡◌, ◌≢◌, ℕ, zero, suc, ◌+◌, ◌*◌, ◌<◌, ◌≤◌, ◌⊎◌, inl, inr, Bool, true, false, ◌&&◌, ◌==◌, nat_lt, List, [], ◌∷◌, ◌++◌, length, Option, None, Some, refl, ap, sym, ◌∙◌, subst, arith, eq-eqb}
+use Rattle.std.specs.List.{AllByRecursion}
+use Rattle.std.proofs.lemmas.Bool.{leb-true, ltb-true}
+use Rattle.std.proofs.lemmas.Bool.Decides.{eqb_tells}
+use Rattle.pef_reloc.specs.declared.fixup.Base.{Base}
+use Rattle.pef_reloc.specs.declared.fixup.Base.TheVariants.{Section, Import}
+use Rattle.pef_reloc.specs.declared.fixup.Fixup.{Fixup}
+use Rattle.pef_reloc.specs.Deliveries.{index_past}
+use Rattle.pef_reloc.specs.Fixups.{base_fits, fixup_fits}
+use Rattle.pef_reloc.specs.Steps.{added, row}
+use Rattle.pef_reloc.proofs.Laws.{fixup_fits-parts}
+use Rattle.pef_cert.specs.Labels.{Labels, class_of, classes, has_class}
+use Rattle.pef_cert.specs.Minima.{lesser, plus}
+use Rattle.pef_cert.specs.Extension.{change, extension, offer_at, skip, skip_more, skips_at}
+use Rattle.pef_cert.proofs.ClassLemmas.{Numbers, RegisteredBase}
+use Rattle.pef_cert.proofs.ExtensionLemmas.{Skipped, extension-end, skip-is, skip-most, skips-is}
+use Rattle.pef_cert.proofs.Falling.{World, world-behind, world-first, world-next}
+use Rattle.pef_cert.proofs.LabelFacts.{Offered, Stands, extension-label, extension-set_c, offer-is, offer-most, skip_has}
+use Rattle.pef_cert.proofs.MinimaLemmas.{AtMost, at_most-weaker}
+
+-- the change of register C, whatever is left to make
+any-set_c : (l : Labels) (index : ℕ) (fixups : List Fixup) (p c c' d : ℕ) → World l index fixups → c < classes l → c' < classes l → d < classes l → extension l fixups p c d ≤ 1 + extension l fixups p c' d
+any-set_c l index [] p c c' d w under under' under_d = let none = extension-end l p c d in omega (arith, none)
+any-set_c l index (f ∷ rest) p c c' d w under under' under_d = extension-set_c l index f rest p c c' d (world-first l index f rest w) under under' under_d
+
+words_behind : (f : Fixup) (rest left : List Fixup) (n p k : ℕ) → f ∷ rest ≡ row (suc n) p 4 (Section k) ++ left → rest ≡ row n (p + 4) 4 (Section k) ++ left
+unfolding row
+words_behind f rest left n p k e = cc
+
+-- a skip with another register C is worth at most 1 less
+skip-set_c : (l : Labels) (index : ℕ) (f : Fixup) (rest : List Fixup) (c c' k x : ℕ) → World l index rest → class_of l.registers k < length l.registers → c < classes l → c' < classes l → skips_at l f rest c' (class_of l.registers k) ≡ Some x → AtMost (skips_at l f rest c (class_of l.registers k)) (1 + x)
+skip-set_c l index f rest c c' k x w counts under under' e =
+    let d : ℕ = class_of l.registers k in
+    let s = skip-is l 63 f.offset c' d k x (f ∷ rest) refl counts e in
+    let few = s.under in
+    let behind : rest ≡ row s.count (f.offset + 4) 4 (Section k) ++ s.left = words_behind f rest s.left s.count f.offset k s.words in
+    let there = world-behind l index (row s.count (f.offset + 4) 4 (Section k)) s.left (subst (λ (fs : List Fixup). World l index fs) behind w) in
+    let low = any-set_c l _ s.left (f.offset + 4 * suc s.count) c c' d there under under' (omega (arith, counts)) in
+    at_most-weaker (skips_at l f rest c d) (1 + extension l s.left (f.offset + 4 * suc s.count) c d) (1 + x)
+    (skip-most l 63 f.offset c d k s.count (f ∷ rest) s.left few refl s.words)
+    (omega (arith, low, s.is))
+
+has_of : (l : Labels) (b : Base) (k d : ℕ) → b ≡ Section k → has_class l.registers d b ≡ true → class_of l.registers k ≡ d
+has_of l b k d is has =
+    elim (eqb_tells (class_of l.registers k) d) [
+      | inl same ↦ same.1
+      | inr other ↦ (let wrong : true ≡ false = sym has ∙ (ap (has_class l.registers d) is ∙ other.0) in absurd (cc))
+    ]
+
+some_same : (v w : ℕ) → Some v ≡ Some w → v ≡ w
+some_same v w e = cc
+
+change_zero : (c : ℕ) → change c c ≡ 0
+change_zero c = rw (eq-eqb c c refl) refl
+
+change_one : (c c' : ℕ) → (change c c' ≡ 1) ⊎ (c ≡ c')
+change_one c c' =
+    elim (eqb_tells c c') [
+      | inl same ↦ inr same.1
+      | inr other ↦ inl (rw other.0 refl)
+    ]
+
+-- each offer is at least the skip with the register C as it is, and the change of D
+offer-least : (l : Labels) (index : ℕ) (f : Fixup) (rest : List Fixup) (c d k x w : ℕ) → World l index rest → f.base ≡ Section k → class_of l.registers k < length l.registers → c < classes l → skips_at l f rest c (class_of l.registers k) ≡ Some x → Offered l f rest c d w → change d (class_of l.registers k) + x ≤ w
+offer-least l index f rest c d k x w world base counts under e o =
+    let has = skip_has (has_class l.registers o.class_d f.base) (1 + extension l rest (f.offset + 4) o.class_c o.class_d) (skip l 62 (f.offset + 4) o.class_c o.class_d rest) o.skip_value (sym (skips-is l f rest o.class_c o.class_d) ∙ o.skips_is) in
+    let same = has_of l f.base k o.class_d base has in
+    let there = subst (λ (b : ℕ). skips_at l f rest o.class_c b ≡ Some o.skip_value) (sym same) o.skips_is in
+    let changes = ap (λ b. change d b) same in
+    elim (change_one c o.class_c) [
+      | inl one ↦
+        (let m = skip-set_c l index f rest c o.class_c k o.skip_value world counts under o.under_c there in
+        let is = some_same m.value x (sym m.is ∙ e) in
+        omega (arith, m.low, is, one, changes, o.is))
+      | inr equal ↦
+        (let at = subst (λ (b : ℕ). skips_at l f rest b (class_of l.registers k) ≡ Some o.skip_value) (sym equal) there in
+        let is = some_same o.skip_value x (sym at ∙ e) in
+        omega (arith, is, changes, o.is))
+    ]
+
+-- the least offer at a section's fixup
+pub offer-section : (l : Labels) (index : ℕ) (f : Fixup) (rest : List Fixup) (c d k x : ℕ) → World l index rest → f.base ≡ Section k → class_of l.registers k < length l.registers → c < classes l → skips_at l f rest c (class_of l.registers k) ≡ Some x → offer_at l f rest c d ≡ Some (change d (class_of l.registers k) + x)
+offer-section l index f rest c d k x world base counts under e =
+    let b : ℕ = class_of l.registers k in
+    let none = change_zero c in
+    let m = offer-most l f rest c d c b x under (omega (arith, counts)) (record { value = x; is = e; low = omega arith }) in
+    let least = offer-least l index f rest c d k x m.value world base counts under e (offer-is l f rest c d m.value m.is) in
+    let same : m.value ≡ change d b + x = omega (arith, m.low, least, none) in
+    m.is ∙ ap Some same
+
+-- at an import's fixup there is none
+none_of : (o : Option ℕ) → ((x : ℕ) → o ≡ Some x → ⊥) → o ≡ None
+none_of None never = refl
+none_of (Some x) never = absurd (never x refl)
+
+pub offer-import : (l : Labels) (f : Fixup) (rest : List Fixup) (c d k : ℕ) → f.base ≡ Import k → offer_at l f rest c d ≡ None
+offer-import l f rest c d k base =
+    none_of (offer_at l f rest c d) (λ x e.
+      let o = offer-is l f rest c d x e in
+      let has = skip_has (has_class l.registers o.class_d f.base) (1 + extension l rest (f.offset + 4) o.class_c o.class_d) (skip l 62 (f.offset + 4) o.class_c o.class_d rest) o.skip_value (sym (skips-is l f rest o.class_c o.class_d) ∙ o.skips_is) in
+      let wrong : false ≡ true = sym (ap (has_class l.registers o.class_d) base) ∙ has in
+      absurd (cc))
+

@@ -1,0 +1,5 @@
+pub mod Claims
+pub mod RowsKept
+pub mod Sets
+pub mod Tests
+pub mod Values

@@ -1,0 +1,77 @@
+-- What a check keeps in view: the labels that are claimed, and what it has found behind the fixup under test.
+use Rattle.std.specs.Prelude.{◌≡◌, ◌≤◌, ◌<◌, ℕ, zero, suc, ◌+◌, ◌-◌, ◌*◌, ◌%◌, true, List, [], ◌∷◌, length, drop, slice_get, slice_index, Option, None, Some}
+use Rattle.pef_reloc.specs.declared.fixup.Base.{Base}
+use Rattle.pef_reloc.specs.declared.fixup.Base.TheVariants.{Section, Import}
+use Rattle.pef_reloc.specs.declared.fixup.Fixup.{Fixup}
+use Rattle.pef_reloc.specs.Fixups.{fixups_fit}
+use Rattle.pef_reloc.specs.Limits.{most_sections}
+use Rattle.pef_cert.specs.declared.claim.Behind.{Behind}
+use Rattle.pef_cert.specs.declared.claim.Claim.{Claim}
+use Rattle.pef_cert.specs.declared.feasible.Under.{Under}
+use Rattle.pef_cert.specs.declared.runs.Tested.{Tested}
+use Rattle.pef_cert.specs.Labels.{Labels, class_of, classes}
+use Rattle.pef_cert.specs.Extension.{change, offer_at}
+use Rattle.pef_cert.specs.Kept.RowsKept.{RowsFull, rows_from}
+use Rattle.pef_cert.specs.Valid.{RegistersOf, labels_in}
+
+-- the labels that are claimed
+abbrev pub labels_claimed : Claim → Labels
+labels_claimed c = labels_in c.registers.now (rows_from c.kept.width 0 c.kept.ends.now c.kept.values.now) (length c.fixups.now)
+
+-- a claim of the right shape
+pub record Shaped (c : Claim) : Type 0 where
+  pub fit : fixups_fit c.fixups.now ≡ true
+  pub registers : RegistersOf c.fixups.now c.registers.now
+  pub full : RowsFull c.kept.width c.kept.ends.now c.kept.values.now
+  pub width : c.kept.width ≡ (length c.registers.now + 1) * (length c.registers.now + 1)
+  pub rows : length (rows_from c.kept.width 0 c.kept.ends.now c.kept.values.now) ≡ length c.fixups.now + 1
+
+-- how many rows there are before a kept one
+abbrev pub rows_before : List ℕ → ℕ → ℕ
+rows_before ends zero = 0
+rows_before ends (suc q) = slice_index ends q
+
+-- a kept row stands for the row of an index
+pub record IsRowOf (ends : List ℕ) (q j : ℕ) : Type 0 where
+  pub kept : q < length ends
+  pub after : rows_before ends q ≤ j
+  pub before : j < slice_index ends q
+
+-- the least offer at a fixup, from the least skip there with register C as it is
+abbrev pub OfferIs : Labels → Fixup → List Fixup → ℕ → ℕ → ℕ → Base → Type 0
+OfferIs l f rest c d x (Section k) = offer_at l f rest c d ≡ Some (change d (class_of l.registers k) + x)
+OfferIs l f rest c d x (Import k) = offer_at l f rest c d ≡ None
+
+-- what is known of an index behind the fixup under test
+pub record KnownAt (b : Behind) (j : ℕ) : Type 0 where
+  pub row : IsRowOf b.claim.kept.ends.now (slice_index b.rows.now (j % 1024)) j
+  pub offer : (f : Fixup) (rest : List Fixup) (c d : ℕ) → drop j b.claim.fixups.now ≡ f ∷ rest → c < classes (labels_claimed b.claim) → d < classes (labels_claimed b.claim)
+      → OfferIs (labels_claimed b.claim) f rest c d (slice_index b.skips.now (j % 1024 * (length b.claim.registers.now + 1) + c)) f.base
+
+-- what is known of an index, where all is of the right shape
+pub record Sees (b : Behind) (j : ℕ) : Type 0 where
+  pub shaped : Shaped b.claim
+  pub rows : length b.rows.now ≡ 1024
+  pub skips : length b.skips.now ≡ 1024 * (most_sections + 1)
+  pub inside : j ≤ length b.claim.fixups.now
+  pub known : KnownAt b j
+
+-- what is known of the indices from one on
+pub record Knows (b : Behind) (from : ℕ) : Type 0 where
+  pub shaped : Shaped b.claim
+  pub rows : length b.rows.now ≡ 1024
+  pub skips : length b.skips.now ≡ 1024 * (most_sections + 1)
+  pub at : (j : ℕ) → from ≤ j → j < from + 1024 → j ≤ length b.claim.fixups.now → KnownAt b j
+
+-- a state at a fixup, whose label is tested against what lies behind
+pub record Tests (b : Behind) (s : Tested) : Type 0 where
+  pub knows : Knows b (s.at + 1)
+  pub here : slice_get b.claim.fixups.now s.at ≡ Some s.fixup
+  pub c_class : s.c < length b.claim.registers.now + 1
+  pub d_class : s.d < length b.claim.registers.now + 1
+
+-- a fixup under test, with its row of labels
+pub record UnderTest (b : Behind) (u : Under) : Type 0 where
+  pub knows : Knows b (u.at + 1)
+  pub here : slice_get b.claim.fixups.now u.at ≡ Some u.fixup
+  pub row : IsRowOf b.claim.kept.ends.now u.row u.at

@@ -1,0 +1,14 @@
+-- How rows are kept: for each row that differs from the one before it, how many rows end with it, and its
+-- labels.
+use Rattle.std.specs.Prelude.{◌≡◌, ℕ, ◌-◌, ◌*◌, true, List, [], ◌∷◌, ◌++◌, length, take, drop, replicate}
+use Rattle.pef_cert.specs.Valid.{above_all}
+
+-- the rows, from the kept ones on that begin behind so many rows
+abbrev pub rows_from : ℕ → ℕ → List ℕ → List ℕ → List (List ℕ)
+rows_from width low [] values = []
+rows_from width low (end ∷ ends) values = replicate (end - low) (take width values) ++ rows_from width end ends (drop width values)
+
+-- what is true of kept rows
+pub record RowsFull (width : ℕ) (ends values : List ℕ) : Type 0 where
+  pub rising : above_all 0 ends ≡ true
+  pub full : length values ≡ width * length ends

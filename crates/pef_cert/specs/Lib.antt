@@ -1,0 +1,7 @@
+pub mod Extension
+pub mod Feasible
+pub mod Kept
+pub mod Labels
+pub mod Minima
+pub mod Rows
+pub mod Valid

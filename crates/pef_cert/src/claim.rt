@@ -1,0 +1,119 @@
+ghost use Rattle.std.specs.Prelude.{◌≡◌, ◌+◌, ◌-◌, ◌*◌, ◌%◌, ◌^◌, ◌<◌, ◌≤◌, ◌∷◌, ℕ, List, IfSome, Some, [], drop, length, slice_get, slice_index_or};
+ghost use Rattle.pef_cert.specs.Extension.{extension, offer_at};
+ghost use Rattle.pef_reloc.specs.declared.fixup.Fixup.{Fixup};
+ghost use Rattle.pef_cert.specs.Kept.RowsKept.{rows_from};
+ghost use Rattle.pef_cert.specs.Kept.Claims.{IsRowOf, Sees, Shaped, labels_claimed};
+
+use crate::classes::{change, class_of};
+use crate::extension::moved_value;
+use crate::rows::Kept;
+use pef_reloc::{Base, Fixup};
+
+/// How many indices behind the fixup under test can be asked for: no instruction makes more fixups.
+pub(crate) const WINDOW: usize = 1024;
+
+/// Labels that are claimed for fixups.
+#[derive(Clone, Copy, Debug)]
+pub(crate) struct Claim<'a> {
+    pub(crate) fixups: &'a [Fixup],
+    pub(crate) registers: &'a [u32],
+    pub(crate) kept: Kept<'a>,
+}
+
+/// A claim, and what was found behind the fixup under test.
+#[derive(Clone, Copy, Debug)]
+pub(crate) struct Behind<'a> {
+    pub(crate) claim: Claim<'a>,
+    /// For each index, which kept row is its own; at the index modulo 1,024.
+    pub(crate) rows: &'a [usize],
+    /// For each index at a section's fixup and each class of register C, the least that a skip there
+    /// leads to; in rows of as many as there are classes, at the index modulo 1,024.
+    pub(crate) skips: &'a [u32],
+}
+
+impl<'a> Claim<'a> {
+    /// How many classes there are.
+    pub(crate) fn classes(self) -> usize
+        requires { Shaped self }
+        ensures { result ≡ length self.entry.registers.now + 1 }
+    {
+        self.registers.len() + 1
+    }
+
+    /// A label of a kept row.
+    pub(crate) fn label(self, row: usize, c: usize, d: usize) -> u32
+        requires shaped { Shaped self }
+        requires row { row < length self.kept.ends.now }
+        requires c { c < length self.registers.now + 1 }
+        requires d { d < length self.registers.now + 1 }
+        ensures { (j : ℕ) → IsRowOf self.entry.kept.ends.now row j → j ≤ length self.entry.fixups.now → result ≡ (labels_claimed self.entry).label (length self.entry.fixups.now - j) c d }
+    {
+        let place = c * self.classes() + d;
+        self.kept.values[row * self.kept.width + place]
+    }
+
+    /// The labels of a kept row.
+    pub(crate) fn row(self, row: usize) -> &'a [u32]
+        requires shaped { Shaped self }
+        requires row { row < length self.kept.ends.now }
+        ensures is { (j : ℕ) → IsRowOf self.entry.kept.ends.now row j → result.now ≡ slice_index_or (rows_from self.entry.kept.width 0 self.entry.kept.ends.now self.entry.kept.values.now) j [] }
+        ensures len { length result.now ≡ (length self.entry.registers.now + 1) * (length self.entry.registers.now + 1) }
+    {
+        let (_, rest) = self.kept.values.split_at(row * self.kept.width);
+        let (row, _) = rest.split_at(self.kept.width);
+        row
+    }
+}
+
+impl<'a> Behind<'a> {
+    /// The extension where the fixups from index `at` on are left, at a position and in classes of the
+    /// registers.
+    pub(crate) fn value(self, at: usize, position: u64, c: usize, d: usize) -> u64
+        requires sees { Sees self at }
+        requires c { c < length self.claim.registers.now + 1 }
+        requires d { d < length self.claim.registers.now + 1 }
+        ensures is { result ≡ extension (labels_claimed self.entry.claim) (drop at self.entry.claim.fixups.now) position c d }
+        ensures small { result ≤ 2 ^ 32 + 1 }
+    {
+        match self.claim.fixups.get(at) {
+            Some(fixup) => self.value_before(at, *fixup, position, c, d),
+            None => 0,
+        }
+    }
+
+    /// The extension where the fixups from index `at` on are left, of which this is the first.
+    fn value_before(self, at: usize, fixup: Fixup, position: u64, c: usize, d: usize) -> u64
+        requires sees { Sees self at }
+        requires fixup { slice_get self.claim.fixups.now at ≡ Some fixup }
+        requires c { c < length self.claim.registers.now + 1 }
+        requires d { d < length self.claim.registers.now + 1 }
+        ensures is { result ≡ extension (labels_claimed self.entry.claim) (drop at self.entry.claim.fixups.now) position c d }
+        ensures small { result ≤ 2 ^ 32 + 1 }
+    {
+        let label = self.claim.label(self.rows[at % WINDOW], c, d);
+        let offset = u64::from(fixup.offset);
+        if position == offset {
+            return u64::from(label);
+        }
+        let ahead = offset.saturating_sub(position);
+        moved_value(ahead, label, self.offer(at, fixup.base, c, d))
+    }
+
+    /// The least offer at index `at`, whose fixup has this base.
+    fn offer(self, at: usize, base: Base, c: usize, d: usize) -> Option<u64>
+        requires sees { Sees self at }
+        requires c { c < length self.claim.registers.now + 1 }
+        requires d { d < length self.claim.registers.now + 1 }
+        ensures is { (f : Fixup) (rest : List Fixup) → drop at self.entry.claim.fixups.now ≡ f ∷ rest → f.base ≡ base → result ≡ offer_at (labels_claimed self.entry.claim) f rest c d }
+        ensures small { IfSome result (λ x. x ≤ 2 ^ 32) }
+    {
+        match base {
+            Base::Section(section) => {
+                let change = change(d, class_of(self.claim.registers, section));
+                let skip = self.skips[at % WINDOW * self.claim.classes() + c];
+                Some(change + u64::from(skip))
+            }
+            Base::Import(_) => None,
+        }
+    }
+}

@@ -1,0 +1,24 @@
+ghost use Rattle.std.specs.Prelude.{◌≡◌};
+ghost use Rattle.pef_cert.specs.Extension.{change};
+ghost use Rattle.pef_cert.specs.Labels.{class_of};
+
+/// The class of a section: its place among the registers, and their number for every other section.
+pub fn class_of(registers: &[u32], section: u32) -> usize
+    ensures { result ≡ class_of registers.now section }
+{
+    let mut class = 0;
+    for register in registers {
+        if *register == section {
+            return class;
+        }
+        class += 1;
+    }
+    class
+}
+
+/// 1 where a register's class has to change, else 0.
+pub(crate) fn change(class: usize, other: usize) -> u64
+    ensures { result ≡ change class other }
+{
+    if class == other { 0 } else { 1 }
+}

@@ -1,0 +1,131 @@
+ghost use Rattle.std.specs.Prelude.{◌≡◌, ◌+◌, ◌^◌, ◌&&◌, ◌<◌, ◌≤◌, drop, length};
+ghost use Rattle.pef_cert.specs.Kept.Claims.{Sees, Tests, labels_claimed};
+ghost use Rattle.pef_cert.specs.Kept.Tests.{adds_first, numbered_test, one_from, pairs_test, row_test};
+
+use crate::claim::{Behind, Claim};
+use crate::fixups::adds_at;
+use pef_reloc::{Base, Fixup};
+
+/// The most words, pairs or imports of a run.
+const MAX_RUN: u32 = 512;
+
+/// The bytes of a word.
+const WORD: u64 = 4;
+
+/// A state at a fixup's offset: the fixup and its index, the classes of the registers, and the label.
+#[derive(Clone, Copy, Debug)]
+pub(crate) struct Tested {
+    pub(crate) at: usize,
+    pub(crate) fixup: Fixup,
+    pub(crate) c: usize,
+    pub(crate) d: usize,
+    pub(crate) label: u32,
+}
+
+impl<'a> Claim<'a> {
+    /// Whether the fixup at index `at` adds `base` at a position.
+    fn adds(self, at: usize, position: u64, base: Base) -> bool
+        ensures { result ≡ adds_first position base (drop at self.entry.fixups.now) }
+    {
+        match self.fixups.get(at) {
+            Some(fixup) => adds_at(*fixup, position, base),
+            None => false,
+        }
+    }
+
+    /// Whether the fixups from index `at` on add two bases side by side at a position.
+    fn adds_pair(self, at: usize, position: u64, first: Base, second: Base) -> bool
+        requires position { position < 2 ^ 60 }
+        requires at { at < length self.fixups.now + 1 }
+        ensures { result ≡ (adds_first position first (drop at self.entry.fixups.now) && adds_first (position + 4) second (drop (at + 1) self.entry.fixups.now)) }
+    {
+        self.adds(at, position, first) && self.adds(at + 1, position + WORD, second)
+    }
+}
+
+impl<'a> Behind<'a> {
+    /// Whether the label is at most 1 and the extension from index `at` on.
+    pub(crate) fn follows(self, tested: Tested, at: usize, position: u64) -> bool
+        requires tests { Tests self tested }
+        requires sees { Sees self at }
+        ensures { result ≡ one_from (labels_claimed self.entry.claim) tested.label (drop at self.entry.claim.fixups.now) position tested.c tested.d }
+    {
+        u64::from(tested.label) <= 1 + self.value(at, position, tested.c, tested.d)
+    }
+
+    /// Tests a label behind each run of a base, `stride` bytes apart, that begins at a position.
+    pub(crate) fn row_holds(self, tested: Tested, position: u64, stride: u64, base: Base) -> bool
+        requires tests { Tests self tested }
+        requires position { position < 2 ^ 32 }
+        requires stride { stride ≤ 12 }
+        ensures { result ≡ row_test (labels_claimed self.entry.claim) tested.label stride base tested.c tested.d 512 position (drop tested.at self.entry.claim.fixups.now) }
+    {
+        let mut at = tested.at;
+        let mut from = position;
+        'words: for _ in 0..MAX_RUN {
+            if !self.claim.adds(at, from, base) {
+                return true;
+            }
+            at += 1;
+            from += stride;
+            if !self.follows(tested, at, from) {
+                return false;
+            }
+        }
+        true
+    }
+
+    /// Tests a label behind each run of two bases side by side, `stride` bytes apart, that begins at a
+    /// position.
+    pub(crate) fn pairs_hold(
+        self,
+        tested: Tested,
+        position: u64,
+        stride: u64,
+        first: Base,
+        second: Base,
+    ) -> bool
+        requires tests { Tests self tested }
+        requires position { position < 2 ^ 32 }
+        requires stride { stride ≤ 12 }
+        ensures { result ≡ pairs_test (labels_claimed self.entry.claim) tested.label stride first second tested.c tested.d 512 position (drop tested.at self.entry.claim.fixups.now) }
+    {
+        let mut at = tested.at;
+        let mut from = position;
+        'pairs: for _ in 0..MAX_RUN {
+            if !self.claim.adds_pair(at, from, first, second) {
+                return true;
+            }
+            at += 2;
+            from += stride;
+            if !self.follows(tested, at, from) {
+                return false;
+            }
+        }
+        true
+    }
+
+    /// Tests a label behind each run of imports, from one on, that begins at a position.
+    pub(crate) fn imports_hold(self, tested: Tested, position: u64, first: u32) -> bool
+        requires tests { Tests self tested }
+        requires position { position < 2 ^ 32 }
+        requires first { first < 2 ^ 31 }
+        ensures { result ≡ numbered_test (labels_claimed self.entry.claim) tested.label tested.c tested.d 512 position first (drop tested.at self.entry.claim.fixups.now) }
+    {
+        let mut at = tested.at;
+        let mut from = position;
+        let mut import = first;
+        'imports: for _ in 0..MAX_RUN {
+            if !self.claim.adds(at, from, Base::Import(import)) {
+                return true;
+            }
+            at += 1;
+            from += WORD;
+            import += 1;
+            if !self.follows(tested, at, from) {
+                return false;
+            }
+        }
+        true
+    }
+}
