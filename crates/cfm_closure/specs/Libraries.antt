@@ -34,7 +34,7 @@ bound_by TooNew name l q = absent_or (is_weak l) (implementation_too_new name l.
 abbrev pub fit_with : Library → Fragment → Fit
 fit_with l f = fit_of
     (record { current = l.current; old_imp = l.old_imp })
-    (record { current = f.container.header.current_version; old_def = f.container.header.old_definition_version })
+    (record { current = f.container.header.current_version; old_def = f.container.header.old_def_version })
 
 -- the fragment that was found is read, also for a weak library, and then asked for its versions
 abbrev pub bound_at : List Pair → List ℕ → Library → Option ℕ → Result (Option ℕ) Refusal

@@ -38,7 +38,7 @@ fn fit_with(library: LibraryView<'_>, found: FragmentView<'_>) -> Fit
     };
     let implementation = Implementation {
         current: header.current_version,
-        old_def: header.old_definition_version,
+        old_def: header.old_def_version,
     };
     versions_fit(definition, implementation)
 }
