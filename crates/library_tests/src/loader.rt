@@ -1,6 +1,7 @@
 use pef_loader::Loader;
 use pef_loader::layout::{
-    ABSOLUTE_EXPORT, DATA_SYMBOL, GLUE_SYMBOL, INIT_BEFORE, TRANSITION_VECTOR_SYMBOL, WEAK_LIBRARY,
+    ABSOLUTE_EXPORT, CODE_SYMBOL, DATA_SYMBOL, GLUE_SYMBOL, INIT_BEFORE, REEXPORTED_IMPORT,
+    TOC_SYMBOL, TRANSITION_VECTOR_SYMBOL, WEAK_LIBRARY,
 };
 use pef_views::Container;
 use std::process::Abort;
@@ -64,6 +65,20 @@ fn answer(bytes: &[u8]) -> u32 {
         },
         Err(fault) => fault.number(),
     }
+}
+
+#[test]
+fn values_of_fields(rt: HostRuntime) {
+    let classes = [
+        CODE_SYMBOL,
+        DATA_SYMBOL,
+        TRANSITION_VECTOR_SYMBOL,
+        TOC_SYMBOL,
+        GLUE_SYMBOL,
+    ];
+    assert_eq!(rt; classes, [0, 1, 2, 3, 4]);
+    assert_eq!(rt; (INIT_BEFORE, WEAK_LIBRARY), (0x80, 0x40));
+    assert_eq!(rt; (ABSOLUTE_EXPORT, REEXPORTED_IMPORT), (-2, -3));
 }
 
 #[test]

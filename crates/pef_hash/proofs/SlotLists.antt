@@ -1,14 +1,15 @@
 -- The words of a slot: the first of them, the next of them, and how many there are in all.
-use Rattle.std.proofs.Common.{◌≡◌, ℕ, zero, suc, ◌+◌, ◌-◌, ◌^◌, ◌<◌, ◌≤◌, inl, inr, List, [], ◌∷◌, ◌++◌, length, get_or, drop, refl, sym, ◌∙◌, ap, arith, append_assoc, append-nil, length-append, drop-cons, add-one}
+use Rattle.std.proofs.Common.{◌≡◌, ◌≢◌, ℕ, zero, suc, ◌+◌, ◌-◌, ◌^◌, ◌<◌, ◌≤◌, inl, inr, List, [], ◌∷◌, ◌++◌, length, get_or, drop, refl, sym, ◌∙◌, ap, arith, append_assoc, append-nil, length-append, drop-cons, add-one}
 use Rattle.std.proofs.Math.ListN.{drop_of_length-le}
 use Rattle.std.proofs.lemmas.Bool.{ne_eqb}
 use Rattle.std.proofs.lemmas.Bool.Decides.{eqb_tells}
 use Rattle.std.proofs.Common.{eq-eqb}
 use Rattle.pef_hash.specs.Word.{slot}
-use Rattle.std.proofs.lemmas.List.{get_or_default, map-append}
+use Rattle.std.proofs.lemmas.List.{get_or-set_other, get_or-set_same, get_or_default, map-append}
+use Rattle.std.proofs.Math.ListN.{length-set, set}
 use Rattle.pef_hash.specs.Build.{in_slot, in_slots, keys_at, names_in, of_words, slot_words}
 use Rattle.pef_hash.specs.Exports.{slot_word}
-use Rattle.pef_hash.specs.Kept.Chains.{IsChained, first_in}
+use Rattle.pef_hash.specs.Kept.Chains.{IsChained, IsChainedFrom, first_in}
 use Rattle.pef_hash.proofs.Slots.{slot_below}
 
 -- what is left behind one more item
@@ -156,6 +157,34 @@ laid_out power s words slots keys order past slots_are keys_are order_is =
     let ordered : order ≡ in_slots power words 0 (2 ^ power) = rw (none, append-nil) at order_is in
     let slotted : slots ≡ slot_words power words 0 0 (2 ^ power) = rw (none, append-nil) at slots_are in
     rw (keys_are, slotted, ordered) refl
+
+-- one word more, from the last to the first: it is the first of its slot, and leads to the one that was
+pub chained-more : (power i s head : ℕ) (words heads next : List ℕ) → i < length words → s ≡ slot (get_or words i 0) power → s < 2 ^ power → head ≡ get_or heads s head
+    → IsChainedFrom (i + 1) power words heads next → IsChainedFrom i power words (set heads s i) (set next i head)
+chained-more power i s head words heads next under s_is below head_is later =
+    let heads_len = later.heads_len in
+    let next_len = later.next_len in
+    let left : drop i words ≡ get_or words i 0 ∷ drop (i + 1) words = rw (add-one, drop-cons words i 0) refl in
+    record {
+      heads_len = length-set heads s i ∙ heads_len;
+      next_len = length-set next i head ∙ next_len;
+      heads_are = λ t inside. elim (eqb_tells s t) [
+        | inl same ↦ (
+            let here : slot (get_or words i 0) power ≡ t = sym s_is ∙ same.1 in
+            rw (left, eq-eqb _ _ here) (rw (← same.1) (get_or-set_same heads s i 0 (omega arith))))
+        | inr other ↦ (
+            let elsewhere : slot (get_or words i 0) power ≢ t = λ is. other.1 (s_is ∙ is) in
+            rw (left, ne_eqb _ _ elsewhere) (get_or-set_other heads s t i 0 (λ is. other.1 (sym is)) ∙ later.heads_are t inside))
+      ];
+      next_are = λ k low high. elim (eqb_tells i k) [
+        | inl same ↦ (
+            let first : head ≡ first_in power s (i + 1) (drop (i + 1) words) = head_is ∙ get_or_default heads s head 0 (omega arith) ∙ later.heads_are s below in
+            rw (← same.1, ← s_is) (get_or-set_same next i head 0 (omega arith) ∙ first))
+        | inr other ↦ (
+            let apart : i ≢ k = other.1 in
+            get_or-set_other next i k head 0 (λ is. apart (sym is)) ∙ later.next_are k (omega arith) high)
+      ];
+    }
 
 -- a place is that of a word of the slot, or behind all words
 pub record Leads (power s at : ℕ) (words : List ℕ) : Type 0 where

@@ -28,23 +28,23 @@ abbrev pub export_size : ℕ
 export_size = 10
 
 -- where slot s stands, key i behind the 2^power slots, and export i behind the keys
-abbrev pub slot_at : ℕ → ℕ
-slot_at s = slot_size * s
+abbrev pub slot_place : ℕ → ℕ
+slot_place s = slot_size * s
 
-abbrev pub key_at : ℕ → ℕ → ℕ
-key_at power i = slot_at (2 ^ power) + key_size * i
+abbrev pub key_place : ℕ → ℕ → ℕ
+key_place power i = slot_place (2 ^ power) + key_size * i
 
-abbrev pub export_at : ℕ → ℕ → ℕ → ℕ
-export_at power count i = key_at power count + export_size * i
+abbrev pub export_place : ℕ → ℕ → ℕ → ℕ
+export_place power count i = key_place power count + export_size * i
 
 -- there are no exports, or the bytes begin with the slots, the keys and the exports
 abbrev pub has_table : ℕ → ℕ → List ℕ → Bool
 has_table power count bytes =
-    count == 0 || (nat_le power most_power && nat_le (slot_at (2 ^ power) + (key_size + export_size) * count) (length bytes))
+    count == 0 || (nat_le power most_power && nat_le (slot_place (2 ^ power) + (key_size + export_size) * count) (length bytes))
 
 -- slot word s
 unfoldable pub slot_word_of : ExportTable → ℕ → Option ℕ
-slot_word_of t s = if nat_lt s (2 ^ t.power) then number_at 4 t.bytes (slot_at s) else None
+slot_word_of t s = if nat_lt s (2 ^ t.power) then number_at 4 t.bytes (slot_place s) else None
 
 -- a slot word has the number of its slot's keys above the index of the first of them
 abbrev pub slot_word : ℕ → ℕ → ℕ
@@ -58,7 +58,7 @@ slot_first word = word % index_limit
 
 -- the key of export i: its hash word
 unfoldable pub key_of : ExportTable → ℕ → Option ℕ
-key_of t i = if nat_lt i t.count then number_at 4 t.bytes (key_at t.power i) else None
+key_of t i = if nat_lt i t.count then number_at 4 t.bytes (key_place t.power i) else None
 
 -- an export in its 10 bytes: a class byte, whose low four bits count, and a name offset of 24 bits; a value; a section
 unfoldable pub entry_at : List ℕ → ℕ → Option Entry
@@ -70,7 +70,7 @@ entry_at bytes at = do
 
 -- export i
 unfoldable pub entry_of : ExportTable → ℕ → Option Entry
-entry_of t i = if nat_lt i t.count then entry_at t.bytes (export_at t.power t.count i) else None
+entry_of t i = if nat_lt i t.count then entry_at t.bytes (export_place t.power t.count i) else None
 
 -- the name of export i: as many bytes of the strings as its key's high 16 bits say, from its name offset on
 unfoldable pub name_of : ExportTable → ℕ → Option (List ℕ)

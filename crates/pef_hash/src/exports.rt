@@ -1,6 +1,6 @@
 ghost use Rattle.std.specs.Prelude.{◌≡◌, ◌^◌, ◌<◌, ◌≤◌, length, IsTrue};
 ghost use Rattle.std.specs.Option.{option_copied};
-ghost use Rattle.pef_hash.specs.Exports.{entry_at, entry_of, export_at, export_named, has_table, is_named, key_at, key_of, name_of};
+ghost use Rattle.pef_hash.specs.Exports.{entry_at, entry_of, export_place, export_named, has_table, is_named, key_place, key_of, name_of};
 ghost use Rattle.pef_hash.specs.Limits.{most_power};
 
 use crate::layout::{
@@ -75,7 +75,7 @@ impl<'a> Exports<'a> {
         if i >= self.count as usize {
             return None;
         }
-        Cut::new(self.table).u32_at(key_at(self.power, i))
+        Cut::new(self.table).u32_at(key_place(self.power, i))
     }
 
     /// Export `i` without its name, or `None` where there is no such export.
@@ -86,7 +86,10 @@ impl<'a> Exports<'a> {
         if i >= self.count as usize {
             return None;
         }
-        read_entry(Cut::new(self.table), export_at(self.power, self.count, i))
+        read_entry(
+            Cut::new(self.table),
+            export_place(self.power, self.count, i),
+        )
     }
 
     /// The name of export `i`, or `None` where there is no such export or its name passes the end of
@@ -127,23 +130,23 @@ impl<'a> Exports<'a> {
 
 /// Where key `i` stands: the keys follow the slots.
 #[tactic(auto, using(crate::proofs::Tables::words_small))]
-fn key_at(power: u32, i: usize) -> usize
+fn key_place(power: u32, i: usize) -> usize
     requires power { power ≤ most_power }
     requires place { i < 2 ^ 32 }
-    ensures value { result ≡ key_at power i }
+    ensures value { result ≡ key_place power i }
     ensures small { result < 2 ^ 36 }
 {
     (SLOT_SIZE << power) + KEY_SIZE * i
 }
 
 /// Where export `i` stands: the exports follow the keys.
-fn export_at(power: u32, count: u32, i: usize) -> usize
+fn export_place(power: u32, count: u32, i: usize) -> usize
     requires power { power ≤ most_power }
     requires place { i < 2 ^ 32 }
-    ensures value { result ≡ export_at power count i }
+    ensures value { result ≡ export_place power count i }
     ensures small { result < 2 ^ 37 }
 {
-    key_at(power, count as usize) + EXPORT_SIZE * i
+    key_place(power, count as usize) + EXPORT_SIZE * i
 }
 
 /// The export in the 10 bytes from `at`, or `None` where they pass the end.

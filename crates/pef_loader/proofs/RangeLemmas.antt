@@ -115,3 +115,14 @@ not-owned bytes n j l i order past not under =
 pub owner-none : (bytes : List ℕ) (h : LoaderHeader) (j l : ℕ) → AreInOrder bytes h.library_count → IsFirstPast bytes h.library_count j l → (l < h.library_count → owns bytes j l ≡ false) → owner_of bytes h j ≡ None
 owner-none bytes h j l order past not =
     first_among-none (owner_at bytes j) 0 h.library_count (λ i low high. unowned bytes j i (not-owned bytes h.library_count j l i order past not (omega arith)))
+
+-- a range that begins before the last one ends doesn't follow it
+pub out_of_order : (bytes : List ℕ) (n i start end : ℕ) → i < n → start ≡ first_of bytes i → start < end → (i ≡ 0 → end ≡ 0) → ((k : ℕ) → k + 1 ≡ i → end ≡ end_of bytes k)
+    → AreInOrder bytes n → ⊥
+out_of_order bytes n zero start end under begins before none last order = let none_before = none refl in omega arith
+out_of_order bytes n (suc k) start end under begins before none last order =
+    let e : k + 1 ≡ suc k = omega arith in
+    let ends = last k e in
+    let follows = order k (omega arith) in
+    let here = ap (first_of bytes) e in
+    omega (arith, ends, follows, here)

@@ -40,16 +40,27 @@ header_of bytes = do
     export_count = exports;
   })
 
--- the tables stand behind the header without a gap: the libraries of 24 bytes each, the imports of 4
--- and the relocation headers of 12
+-- where library i stands: behind the header of 56 bytes, and libraries have 24
+abbrev pub library_place : ℕ → ℕ
+library_place i = 56 + 24 * i
+
+-- where import j stands: behind the libraries, and imports have 4 bytes
 abbrev pub imports_from : LoaderHeader → ℕ
-imports_from h = 56 + 24 * h.library_count
+imports_from h = library_place h.library_count
 
+abbrev pub import_place : LoaderHeader → ℕ → ℕ
+import_place h j = imports_from h + 4 * j
+
+-- where relocation header k stands: behind the imports, and relocation headers have 12 bytes
 abbrev pub relocs_from : LoaderHeader → ℕ
-relocs_from h = imports_from h + 4 * h.import_count
+relocs_from h = import_place h h.import_count
 
+abbrev pub reloc_place : LoaderHeader → ℕ → ℕ
+reloc_place h k = relocs_from h + 12 * k
+
+-- where the tables end
 abbrev pub tables_end : LoaderHeader → ℕ
-tables_end h = relocs_from h + 12 * h.reloc_count
+tables_end h = reloc_place h h.reloc_count
 
 -- an entry's section is -1, for no entry, or that of an instantiated section
 abbrev pub is_entry : ℕ → ℤ → Bool

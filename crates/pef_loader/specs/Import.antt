@@ -8,14 +8,14 @@ use Rattle.pef_loader.specs.declared.header.LoaderHeader.{LoaderHeader}
 use Rattle.pef_loader.specs.declared.import.ImportEntry.{ImportEntry}
 use Rattle.pef_loader.specs.declared.fault.LoaderFault.{LoaderFault}
 use Rattle.pef_loader.specs.declared.fault.LoaderFault.TheVariants.{BadTableOffset, BadName, OrphanImport}
-use Rattle.pef_loader.specs.Header.{imports_from}
+use Rattle.pef_loader.specs.Header.{import_place}
 use Rattle.pef_loader.specs.Library.{owns}
 
 -- import j: a class byte, whose high bit says that the symbol may be missing, and a name offset of 24
 -- bits; none where it passes the end
 unfoldable pub import_at : List ℕ → LoaderHeader → ℕ → Option ImportEntry
 import_at bytes h j = do
-  word ← number_at 4 bytes (imports_from h + 4 * j)
+  word ← number_at 4 bytes (import_place h j)
   Some (record { class = word / 2 ^ 24 % 16; weak = word / 2 ^ 31 == 1; name_offset = word % 2 ^ 24 })
 
 -- i, where library i has import j

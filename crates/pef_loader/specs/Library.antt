@@ -8,16 +8,17 @@ use Rattle.pef_loader.specs.declared.header.LoaderHeader.{LoaderHeader}
 use Rattle.pef_loader.specs.declared.library.LibraryEntry.{LibraryEntry}
 use Rattle.pef_loader.specs.declared.fault.LoaderFault.{LoaderFault}
 use Rattle.pef_loader.specs.declared.fault.LoaderFault.TheVariants.{BadTableOffset, BadName, BadLibraryRange}
+use Rattle.pef_loader.specs.Header.{library_place}
 
 -- library i; none where it passes the end
 unfoldable pub library_at : List ℕ → ℕ → Option LibraryEntry
 library_at bytes i = do
-  name ← number_at 4 bytes (56 + 24 * i)
-  old_imp ← number_at 4 bytes (56 + 24 * i + 4)
-  current ← number_at 4 bytes (56 + 24 * i + 8)
-  count ← number_at 4 bytes (56 + 24 * i + 12)
-  first ← number_at 4 bytes (56 + 24 * i + 16)
-  options ← number_at 1 bytes (56 + 24 * i + 20)
+  name ← number_at 4 bytes (library_place i)
+  old_imp ← number_at 4 bytes (library_place i + 4)
+  current ← number_at 4 bytes (library_place i + 8)
+  count ← number_at 4 bytes (library_place i + 12)
+  first ← number_at 4 bytes (library_place i + 16)
+  options ← number_at 1 bytes (library_place i + 20)
   Some (record { name_offset = name; old_imp = old_imp; current = current; count = count; first = first; options = options })
 
 -- the tests of a library, in order

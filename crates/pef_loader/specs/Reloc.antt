@@ -8,14 +8,14 @@ use Rattle.pef_loader.specs.declared.header.LoaderHeader.{LoaderHeader}
 use Rattle.pef_loader.specs.declared.reloc.RelocEntry.{RelocEntry}
 use Rattle.pef_loader.specs.declared.fault.LoaderFault.{LoaderFault}
 use Rattle.pef_loader.specs.declared.fault.LoaderFault.TheVariants.{BadTableOffset, BadRelocSection, RelocOutside}
-use Rattle.pef_loader.specs.Header.{relocs_from}
+use Rattle.pef_loader.specs.Header.{reloc_place}
 
 -- relocation header k; none where it passes the end
 unfoldable pub reloc_at : List ℕ → LoaderHeader → ℕ → Option RelocEntry
 reloc_at bytes h k = do
-  section ← number_at 2 bytes (relocs_from h + 12 * k)
-  count ← number_at 4 bytes (relocs_from h + 12 * k + 4)
-  first ← number_at 4 bytes (relocs_from h + 12 * k + 8)
+  section ← number_at 2 bytes (reloc_place h k)
+  count ← number_at 4 bytes (reloc_place h k + 4)
+  first ← number_at 4 bytes (reloc_place h k + 8)
   Some (record { section = section; count = count; first = first })
 
 -- the tests of a relocation header, in order

@@ -1,4 +1,4 @@
-ghost use Rattle.std.specs.Prelude.{◌≡◌, ◌<◌, ◌^◌};
+ghost use Rattle.std.specs.Prelude.{◌≡◌, ◌+◌, ◌<◌, ◌^◌};
 ghost use Rattle.pef_loader.specs.Header.{header_of, imports_from, is_entry, relocs_from, tables_end};
 
 use crate::layout::{
@@ -59,6 +59,13 @@ impl LoaderHeader {
         ensures { result ≡ tables_end self.now }
     {
         self.relocs() + RELOCATION_HEADER_SIZE * self.reloc_count as usize
+    }
+
+    /// Where the name with this offset begins.
+    pub(crate) fn name(&self, offset: u32) -> usize
+        ensures { result ≡ self.now.strings_offset + offset }
+    {
+        self.strings_offset as usize + offset as usize
     }
 }
 

@@ -59,8 +59,7 @@ pub(crate) fn test_import(
     ensures { result_err result ≡ import_refusal cut.entry.bytes.now header j }
 {
     let import = read_import(cut, header, j).ok_or(LoaderFault::BadTableOffset)?;
-    let name = header.strings_offset as usize + import.name_offset as usize;
-    if name >= names_end {
+    if header.name(import.name_offset) >= names_end {
         return Err(LoaderFault::BadName);
     }
     if owner.is_none() {

@@ -70,8 +70,7 @@ pub(crate) fn test_library(
     ensures { result_err result ≡ library_refusal cut.entry.bytes.now header i }
 {
     let library = read_library(cut, i).ok_or(LoaderFault::BadTableOffset)?;
-    let name = header.strings_offset as usize + library.name_offset as usize;
-    if name >= names_end {
+    if header.name(library.name_offset) >= names_end {
         return Err(LoaderFault::BadName);
     }
     if u64::from(library.first) + u64::from(library.count) > u64::from(header.import_count) {

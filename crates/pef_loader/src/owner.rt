@@ -1,4 +1,4 @@
-ghost use Rattle.std.specs.Prelude.{◌≡◌, ◌<◌, ◌≤◌, ◌^◌, IsTrue};
+ghost use Rattle.std.specs.Prelude.{◌≡◌, ◌<◌, ◌≤◌, ◌^◌, ◌↔◌, IsTrue};
 ghost use Rattle.pef_loader.specs.Import.{owner_of};
 ghost use Rattle.pef_loader.specs.Library.{owns};
 ghost use Rattle.pef_loader.specs.Kept.Ranges.{AreBehind, AreInOrder, IsFirstPast, end_of, first_of};
@@ -25,7 +25,7 @@ fn imports_of(cut: Cut<'_>, i: usize) -> Range<usize>
 
 /// Whether the imports of each library follow those of the one before it.
 pub(crate) fn are_in_order(cut: Cut<'_>, header: LoaderHeader) -> bool
-    ensures { IsTrue result → AreInOrder cut.entry.bytes.now header.library_count }
+    ensures { IsTrue result ↔ AreInOrder cut.entry.bytes.now header.library_count }
 {
     let mut end = 0;
     for i in 0..header.library_count as usize {

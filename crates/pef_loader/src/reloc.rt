@@ -36,7 +36,7 @@ pub(crate) fn read_reloc(cut: Cut<'_>, header: LoaderHeader, k: usize) -> Option
 }
 
 /// The first rule that relocation header `k` breaks.
-#[tactic(auto, unfolding(crate::specs::Reloc::reloc_tests))]
+#[tactic(auto, unfolding(crate::specs::Reloc::reloc_tests, crate::specs::Reloc::instructions_of, pef_words::specs::Bytes::part_of))]
 pub(crate) fn test_reloc(
     cut: Cut<'_>,
     header: LoaderHeader,
@@ -50,8 +50,7 @@ pub(crate) fn test_reloc(
     if reloc.section >= sections {
         return Err(LoaderFault::BadRelocSection);
     }
-    let from = header.reloc_instr_offset as usize + reloc.first as usize;
-    if from + HALFWORD_SIZE * reloc.count as usize > cut.len() {
+    if instructions(cut, header, reloc).is_none() {
         return Err(LoaderFault::RelocOutside);
     }
     Ok(())

@@ -64,23 +64,17 @@ impl<'a> Loader<'a> {
             return Err(LoaderFault::BadTableOffset);
         }
         let names_end = names_end(cut);
-        test_each(
-            header.library_count,
-            |i| test_library(cut, header, names_end, i),
-        )?;
+        test_libraries(cut, header, names_end)?;
         let in_order = are_in_order(cut, header);
         test_imports(cut, header, names_end, in_order)?;
         if !has_entries(header, sections) {
             return Err(LoaderFault::BadEntry);
         }
-        test_each(header.reloc_count, |k| test_reloc(cut, header, sections, k))?;
+        test_relocs(cut, header, sections)?;
         if !has_exports(cut, header) {
             return Err(LoaderFault::BadExportTable);
         }
-        test_each(
-            header.export_count,
-            |i| test_export(cut, header, sections, i),
-        )?;
+        test_exports(cut, header, sections)?;
         Ok(Loader {
             cut,
             header,
@@ -128,9 +122,8 @@ impl<'a> Loader<'a> {
             return None;
         }
         let library = read_library(self.cut, i)?;
-        let name = self.header.strings_offset as usize + library.name_offset as usize;
         Some(LibraryView {
-            name: self.cut.name_at(name)?,
+            name: self.cut.name_at(self.header.name(library.name_offset))?,
             current: library.current,
             old_imp: library.old_imp,
             count: library.count,
@@ -150,9 +143,8 @@ impl<'a> Loader<'a> {
             return None;
         }
         let import = read_import(self.cut, self.header, j)?;
-        let name = self.header.strings_offset as usize + import.name_offset as usize;
         Some(ImportView {
-            name: self.cut.name_at(name)?,
+            name: self.cut.name_at(self.header.name(import.name_offset))?,
             class: import.class,
             weak: import.weak,
             library: owner(self.cut, self.header, self.in_order, j)?,
@@ -242,18 +234,16 @@ impl<'a> Loader<'a> {
     }
 }
 
-/// The first refusal of the rows of a table, row by row.
-fn test_each<F: Fn(usize) -> Result<(), LoaderFault>>(
-    count: u32,
-    test: F,
-) -> Result<(), LoaderFault>
-    requires { (i : ℕ) → i < count → F.pre test i }
-    ensures { TestsEach (F.post test) count result }
+/// The first refusal of a library, library by library.
+fn test_libraries(cut: Cut<'_>, header: LoaderHeader, names_end: usize) -> Result<(), LoaderFault>
+    requires { NamesEndAt cut.bytes.now names_end }
+    ensures { result_err result
+        ≡ first_among (library_refusal cut.entry.bytes.now header) 0 header.library_count }
 {
-    for i in 0..count as usize {
-        test(i)?;
-    }
-    Ok(())
+    test_each(
+        header.library_count,
+        |i| test_library(cut, header, names_end, i),
+    )
 }
 
 /// The first refusal of an import, import by import.
@@ -284,4 +274,38 @@ fn has_entries(header: LoaderHeader, sections: u16) -> bool
     is_entry(header.main_section, sections)
         && is_entry(header.init_section, sections)
         && is_entry(header.term_section, sections)
+}
+
+/// The first refusal of a relocation header, header by header.
+fn test_relocs(cut: Cut<'_>, header: LoaderHeader, sections: u16) -> Result<(), LoaderFault>
+    ensures { result_err result
+        ≡ first_among (reloc_refusal cut.entry.bytes.now header sections) 0 header.reloc_count }
+{
+    test_each(header.reloc_count, |k| test_reloc(cut, header, sections, k))
+}
+
+/// The first refusal of an export, export by export.
+fn test_exports(cut: Cut<'_>, header: LoaderHeader, sections: u16) -> Result<(), LoaderFault>
+    requires { IsTrue (has_exports cut.bytes.now header) }
+    ensures { result_err result
+        ≡ first_among (export_refusal cut.entry.bytes.now header sections) 0 header.export_count }
+{
+    test_each(
+        header.export_count,
+        |i| test_export(cut, header, sections, i),
+    )
+}
+
+/// The first refusal of the rows of a table, row by row.
+fn test_each<F: Fn(usize) -> Result<(), LoaderFault>>(
+    count: u32,
+    test: F,
+) -> Result<(), LoaderFault>
+    requires { (i : ℕ) → i < count → F.pre test i }
+    ensures { TestsEach (F.post test) count result }
+{
+    for i in 0..count as usize {
+        test(i)?;
+    }
+    Ok(())
 }

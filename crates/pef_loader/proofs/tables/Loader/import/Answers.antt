@@ -1,5 +1,6 @@
 -- Each import below their count is there, with a name and a library.
-use Rattle.std.proofs.Common.{◌∙◌, sym, arith}
+use Rattle.std.proofs.Common.{◌∙◌, ap, sym, arith}
+use Rattle.pef_words.specs.Bytes.{name_at}
 use Rattle.pef_loader.specs.Views.{loaded}
 use Rattle.pef_loader.proofs.Loaders.{import_is, import_owned, import_with, owner-below}
 use Rattle.pef_loader.proofs.tables.Loader.import.Goals as goal
@@ -13,7 +14,7 @@ returns-in_err-import-clause-there c =
 pub returns-in_err-name_at-clause-there : goal.returns-in_err-name_at-clause-there
 returns-in_err-name_at-clause-there c =
     let is = import_with (loaded c.args.self.now) c.args.j c.in_ok-import.import c.args.self.now.accepted (omega arith) (sym c.in_ok-import.ensures) in
-    let nowhere = c.in_err-name_at.ensures ∙ is.named in
+    let nowhere = c.in_err-name_at.ensures ∙ ap (name_at c.args.self.now.cut.bytes.now) c.name.ensures ∙ is.named in
     absurd (cc)
 
 pub returns-in_err-owner-clause-there : goal.returns-in_err-owner-clause-there

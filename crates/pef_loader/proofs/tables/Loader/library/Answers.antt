@@ -1,5 +1,6 @@
 -- Each library below their count is there, with a name.
-use Rattle.std.proofs.Common.{◌∙◌, sym, arith}
+use Rattle.std.proofs.Common.{◌∙◌, ap, sym, arith}
+use Rattle.pef_words.specs.Bytes.{name_at}
 use Rattle.pef_loader.specs.Views.{loaded}
 use Rattle.pef_loader.proofs.Loaders.{library_is, library_with}
 use Rattle.pef_loader.proofs.tables.Loader.library.Goals as goal
@@ -13,7 +14,7 @@ returns-in_err-library-clause-there c =
 pub returns-in_err-name_at-clause-there : goal.returns-in_err-name_at-clause-there
 returns-in_err-name_at-clause-there c =
     let is = library_with (loaded c.args.self.now) c.args.i c.in_ok-library.library c.args.self.now.accepted (omega arith) (sym c.in_ok-library.ensures) in
-    let nowhere = c.in_err-name_at.ensures ∙ is.named in
+    let nowhere = c.in_err-name_at.ensures ∙ ap (name_at c.args.self.now.cut.bytes.now) c.name.ensures ∙ is.named in
     absurd (cc)
 
 pub returns-clause-range : goal.returns-clause-range
