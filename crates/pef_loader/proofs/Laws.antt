@@ -15,4 +15,4 @@ pub use Rattle.pef_loader.proofs.Loaders.{export_there}
 -- what is found by a name is an export of that name
 pub use Rattle.pef_loader.proofs.Loaders.{named_there}
 -- what is found by its name is one of the exports
-pub use Rattle.pef_loader.proofs.Loaders.{IsNamed, named_is}
+pub use Rattle.pef_loader.proofs.Loaders.{named_is}

@@ -8,7 +8,7 @@ use Rattle.pef_words.specs.Bytes.{name_at, part_of}
 use Rattle.pef_words.specs.Refusals.{first_among, first_met, unless}
 use Rattle.pef_words.proofs.Laws.Refusals.{first_unmet, none_among, some_among}
 use Rattle.pef_hash.specs.Exports.{entry_of, name_of}
-use Rattle.pef_hash.proofs.Laws.{export_named-some}
+use Rattle.pef_hash.proofs.Laws.{IsFirstNamed, export_named-some}
 use Rattle.pef_hash.specs.declared.exports.Entry.{Entry}
 use Rattle.pef_loader.specs.declared.header.LoaderHeader.{LoaderHeader}
 use Rattle.pef_loader.specs.declared.library.LibraryEntry.{LibraryEntry}
@@ -280,6 +280,11 @@ pub named-below : (l : Loaded) (name : List ℕ) (o : Option ℕ) → named_of l
 unfolding named_of
 named-below l name None is = tt
 named-below l name (Some i) is = (export_named-some (export_table l.bytes l.header) name i is).below
+
+-- what is found by its name is one of the exports, the first that has the name
+pub named_is : (l : Loaded) (name : List ℕ) (i : ℕ) → named_of l name ≡ Some i → IsFirstNamed (export_table l.bytes l.header) name i
+unfolding named_of
+named_is l name i is = export_named-some (export_table l.bytes l.header) name i is
 
 -- .. so it is there, and has the name
 pub named_there : (l : Loaded) (name : List ℕ) (i : ℕ) → IsLoader l → named_of l name ≡ Some i
