@@ -80,12 +80,6 @@ pub shaped-few : (c : Claim) → Shaped c → length c.registers.now ≤ most_se
 shaped-few c shaped =
     few_rising most_sections c.registers.now shaped.registers.rising (λ k among. used_section-below c.fixups.now k shaped.fit (sym (shaped.registers.used k) ∙ among))
 
--- the place of a skip in the ring
-pub ring_under : (at c r : ℕ) → r ≤ most_sections + 1 → c < r → at % 1024 * r + c < 1024 * (most_sections + 1)
-ring_under at c r few under =
-    let low = mul-add-lt (at % 1024) r c 1024 (omega arith) under in
-    omega (arith, low)
-
 -- what `get` gives is the element there
 pub get-is : {A : Type 0} (xs : List A) (at : ℕ) (x : A) → at < length xs → x ≡ slice_index_or xs at x → slice_get xs at ≡ Some x
 get-is xs at x under is = slice_get-get_or xs at x under ∙ ap Some (sym is)

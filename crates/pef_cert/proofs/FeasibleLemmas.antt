@@ -2,6 +2,8 @@
 use Rattle.std.proofs.Common.{◌≡◌, ℕ, zero, suc, ◌+◌, ◌-◌, ◌*◌, ◌<◌, ◌≤◌, Bool, true, false, ◌&&◌, List, [], ◌∷◌, ◌++◌, length, take, drop, Option, Some, None, refl, ap, sym, ◌∙◌, subst, arith, slice_get}
 use Rattle.std.specs.Prelude.{slice_index_or}
 use Rattle.std.proofs.lemmas.List.{length-drop}
+use Rattle.pef_reloc.specs.declared.fixup.Base.{Base}
+use Rattle.pef_reloc.specs.declared.fixup.Base.TheVariants.{Section}
 use Rattle.pef_reloc.specs.declared.fixup.Fixup.{Fixup}
 use Rattle.pef_reloc.specs.Deliveries.{index_after}
 use Rattle.pef_reloc.specs.Fixups.{fixup_fits}
@@ -11,7 +13,7 @@ use Rattle.pef_words.proofs.Laws.Tests.{both_met, met_both}
 use Rattle.pef_cert.specs.declared.claim.Behind.{Behind}
 use Rattle.pef_cert.specs.declared.claim.Claim.{Claim}
 use Rattle.pef_cert.specs.declared.feasible.Under.{Under}
-use Rattle.pef_cert.specs.Labels.{Labels, classes}
+use Rattle.pef_cert.specs.Labels.{Labels, class_of, classes}
 use Rattle.pef_cert.specs.Feasible.{FeasibleAt, FeasibleFrom}
 use Rattle.pef_cert.specs.Valid.{labels_in}
 use Rattle.pef_cert.specs.Kept.Claims.{IsRowOf, Knows, Shaped, UnderTest, labels_claimed}
@@ -90,3 +92,12 @@ fixup-fails b u row under is sets =
       let inside : u.at ≤ length fixups = omega (arith, get_under fixups u.at u.fixup under.here) in
       let tests = needed_of b.claim u.at (index_after (take u.at fixups) 0) u.fixup under.knows.shaped under.here feasible in
       sets.1 (row-sets b.claim.registers.now row rows (length fixups) u.at inside is (subst (SetsHold (labels_claimed b.claim)) (sym (left_count fixups u.at u.fixup under.here)) tests.sets)))
+
+counts_of : (registers : List ℕ) (b : Base) (k : ℕ) → b ≡ Section k → RegisteredBase registers b → class_of registers k < length registers
+counts_of registers b k is here = subst (λ (y : Base). RegisteredBase registers y) is here
+
+-- the section of a fixup counts
+pub section-counts : (c : Claim) (at k : ℕ) (f : Fixup) → Shaped c → slice_get c.fixups.now at ≡ Some f → f.base ≡ Section k → class_of c.registers.now k < length c.registers.now
+section-counts c at k f shaped e base =
+    counts_of c.registers.now f.base k base
+    (all-get (λ (g : Fixup). RegisteredBase c.registers.now g.base) c.fixups.now at f (all_registered c.fixups.now c.registers.now shaped.registers) e)

@@ -1,9 +1,10 @@
 -- Of all offers at a section's fixup the least is a skip with the register C as it is; and how great extensions
 -- get.
-use Rattle.std.proofs.Common.{◌≡◌, ◌≢◌, ℕ, zero, suc, ◌+◌, ◌*◌, ◌<◌, ◌≤◌, ◌⊎◌, inl, inr, Bool, true, false, ◌&&◌, ◌==◌, nat_lt, List, [], ◌∷◌, ◌++◌, length, Option, None, Some, refl, ap, sym, ◌∙◌, subst, arith, eq-eqb}
+use Rattle.std.proofs.Common.{◌≡◌, ◌≢◌, ℕ, zero, suc, ◌+◌, ◌*◌, ◌<◌, ◌≤◌, ◌⊎◌, inl, inr, Bool, true, false, ◌&&◌, ◌==◌, nat_lt, ◌-◌, min, List, [], ◌∷◌, ◌++◌, length, drop, Option, None, Some, refl, ap, sym, ◌∙◌, subst, arith, eq-eqb}
 use Rattle.std.specs.List.{AllByRecursion}
 use Rattle.std.proofs.lemmas.Bool.{leb-true, ltb-true}
 use Rattle.std.proofs.lemmas.Bool.Decides.{eqb_tells}
+use Rattle.std.proofs.lemmas.List.{drop-drop}
 use Rattle.pef_reloc.specs.declared.fixup.Base.{Base}
 use Rattle.pef_reloc.specs.declared.fixup.Base.TheVariants.{Section, Import}
 use Rattle.pef_reloc.specs.declared.fixup.Fixup.{Fixup}
@@ -14,7 +15,8 @@ use Rattle.pef_reloc.proofs.Laws.{fixup_fits-parts}
 use Rattle.pef_cert.specs.Labels.{Labels, class_of, classes, has_class}
 use Rattle.pef_cert.specs.Minima.{lesser, plus}
 use Rattle.pef_cert.specs.Extension.{change, extension, offer_at, skip, skip_more, skips_at}
-use Rattle.pef_cert.proofs.ClassLemmas.{Numbers, RegisteredBase}
+use Rattle.pef_cert.specs.Kept.Tests.{adds_first, same_base}
+use Rattle.pef_cert.proofs.ClassLemmas.{Numbers, RegisteredBase, class_of-same}
 use Rattle.pef_cert.proofs.ExtensionLemmas.{Skipped, extension-end, skip-is, skip-most, skips-is}
 use Rattle.pef_cert.proofs.Falling.{World, world-behind, world-first, world-next}
 use Rattle.pef_cert.proofs.LabelFacts.{Offered, Stands, extension-label, extension-set_c, offer-is, offer-most, skip_has}
@@ -103,3 +105,73 @@ offer-import l f rest c d k base =
       let wrong : false ≡ true = sym (ap (has_class l.registers o.class_d) base) ∙ has in
       absurd (cc))
 
+
+-- a skip along the words of a section, one step at a time
+has-same : (l : Labels) (k : ℕ) (b : Base) → class_of l.registers k < length l.registers → has_class l.registers (class_of l.registers k) b ≡ same_base b (Section k)
+has-same l k (Section j) counts =
+    elim (eqb_tells j k) [
+      | inl same ↦ (let there = eq-eqb (class_of l.registers j) (class_of l.registers k) (ap (class_of l.registers) same.1) in there ∙ sym same.0)
+      | inr other ↦ elim (eqb_tells (class_of l.registers j) (class_of l.registers k)) [
+          | inl equal ↦ absurd (other.1 (class_of-same l.registers j k equal.1 counts))
+          | inr apart ↦ apart.0 ∙ sym other.0
+        ]
+    ]
+has-same l k (Import j) counts = refl
+
+skip_stops : (l : Labels) (n p c k : ℕ) (fs : List Fixup) → class_of l.registers k < length l.registers → adds_first p (Section k) fs ≡ false → skip l n p c (class_of l.registers k) fs ≡ None
+unfolding skip
+skip_stops l zero p c k fs counts e = refl
+skip_stops l (suc n) p c k [] counts e = refl
+skip_stops l (suc n) p c k (f ∷ rest) counts e = rw (ap (λ b. f.offset == p && b) (has-same l k f.base counts) ∙ e) refl
+
+skip_steps : (l : Labels) (n p c k : ℕ) (fs : List Fixup) → class_of l.registers k < length l.registers → adds_first p (Section k) fs ≡ true → skip l (suc n) p c (class_of l.registers k) fs ≡ lesser (Some (1 + extension l (drop 1 fs) (p + 4) c (class_of l.registers k))) (skip l n (p + 4) c (class_of l.registers k) (drop 1 fs))
+unfolding skip
+skip_steps l n p c k [] counts e = absurd (cc)
+skip_steps l n p c k (f ∷ rest) counts e = rw (ap (λ b. f.offset == p && b) (has-same l k f.base counts) ∙ e) refl
+
+lesser_none : (o : Option ℕ) → lesser o None ≡ o
+lesser_none None = refl
+lesser_none (Some x) = refl
+
+lesser_some : (a b : ℕ) (o : Option ℕ) → lesser (Some a) (lesser (Some b) o) ≡ lesser (Some (min a b)) o
+lesser_some a b None = refl
+lesser_some a b (Some x) = let same : min a (min b x) ≡ min (min a b) x = grind arith in ap Some same
+
+-- the first word
+pub skip-first : (l : Labels) (f : Fixup) (rest : List Fixup) (c k x : ℕ) → f.base ≡ Section k → class_of l.registers k < length l.registers → x ≡ 1 + extension l rest (f.offset + 4) c (class_of l.registers k) → lesser (Some x) (skip l 62 (f.offset + 4) c (class_of l.registers k) rest) ≡ skips_at l f rest c (class_of l.registers k)
+skip-first l f rest c k x base counts is =
+    let has : has_class l.registers (class_of l.registers k) f.base ≡ true = ap (has_class l.registers (class_of l.registers k)) base ∙ eq-eqb (class_of l.registers k) (class_of l.registers k) refl in
+    sym (skips-is l f rest c (class_of l.registers k) ∙ rw (has, ← is) refl)
+
+-- words that end
+pub skip-stop : (l : Labels) (n p c k at least : ℕ) (fixups : List Fixup) (all : Option ℕ) → class_of l.registers k < length l.registers → lesser (Some least) (skip l n p c (class_of l.registers k) (drop at fixups)) ≡ all → false ≡ adds_first p (Section k) (drop at fixups) → all ≡ Some least
+skip-stop l n p c k at least fixups all counts left e =
+    sym left ∙ ap (lesser (Some least)) (skip_stops l n p c k (drop at fixups) counts (sym e))
+
+-- one word more
+pub skip-next : (l : Labels) (n i p c k at least next x : ℕ) (fixups : List Fixup) (all : Option ℕ) → i < n → class_of l.registers k < length l.registers → lesser (Some least) (skip l (n - i) p c (class_of l.registers k) (drop at fixups)) ≡ all → true ≡ adds_first p (Section k) (drop at fixups) → x ≡ extension l (drop (at + 1) fixups) (p + 4) c (class_of l.registers k) → next ≡ min least (1 + x) → lesser (Some next) (skip l (n - (i + 1)) (p + 4) c (class_of l.registers k) (drop (at + 1) fixups)) ≡ all
+skip-next l n i p c k at least next x fixups all under counts left e is least_is =
+    let steps : n - i ≡ suc (n - (i + 1)) = omega arith in
+    let one : drop 1 (drop at fixups) ≡ drop (at + 1) fixups = drop-drop 1 at fixups in
+    ap (λ y. lesser (Some y) (skip l (n - (i + 1)) (p + 4) c (class_of l.registers k) (drop (at + 1) fixups))) (least_is ∙ ap (λ y. min least (1 + y)) is)
+    ∙ (sym (lesser_some least (1 + extension l (drop (at + 1) fixups) (p + 4) c (class_of l.registers k)) (skip l (n - (i + 1)) (p + 4) c (class_of l.registers k) (drop (at + 1) fixups)))
+    ∙ (ap (λ fs. lesser (Some least) (lesser (Some (1 + extension l fs (p + 4) c (class_of l.registers k))) (skip l (n - (i + 1)) (p + 4) c (class_of l.registers k) fs))) (sym one)
+    ∙ (ap (lesser (Some least)) (sym (skip_steps l (n - (i + 1)) p c k (drop at fixups) counts (sym e)))
+    ∙ (ap (λ m. lesser (Some least) (skip l m p c (class_of l.registers k) (drop at fixups))) (sym steps) ∙ left))))
+
+pub skip-end : (l : Labels) (n i p c k at least : ℕ) (fixups : List Fixup) (all : Option ℕ) → n ≤ i → lesser (Some least) (skip l (n - i) p c (class_of l.registers k) (drop at fixups)) ≡ all → all ≡ Some least
+unfolding skip
+skip-end l n i p c k at least fixups all past left =
+    let none : n - i ≡ 0 = omega arith in
+    sym (ap (λ m. lesser (Some least) (skip l m p c (class_of l.registers k) (drop at fixups))) (sym none) ∙ left)
+
+-- a skip is worth no more than its first word
+pub skip-low : (l : Labels) (f : Fixup) (rest : List Fixup) (c k x : ℕ) → f.base ≡ Section k → skips_at l f rest c (class_of l.registers k) ≡ Some x → x ≤ 1 + extension l rest (f.offset + 4) c (class_of l.registers k)
+unfolding row
+skip-low l f rest c k x base e =
+    let word : f ≡ added f.offset (Section k) = (λ i. record { offset = f.offset; base = base i }) in
+    let m = skip-most l 63 f.offset c (class_of l.registers k) k 0 (f ∷ rest) rest (omega arith) refl (ap (λ g. g ∷ rest) word) in
+    let same = some_same m.value x (sym m.is ∙ e) in
+    let end : f.offset + 4 * 1 ≡ f.offset + 4 = omega arith in
+    let there = ap (λ q. extension l rest q c (class_of l.registers k)) end in
+    omega (arith, m.low, same, there)

@@ -7,10 +7,13 @@ ghost use Rattle.pef_cert.specs.Kept.Claims.{IsRowOf, Sees, Shaped, labels_claim
 use crate::classes::{change, class_of};
 use crate::extension::moved_value;
 use crate::rows::Kept;
-use pef_reloc::{Base, Fixup};
+use pef_reloc::{Base, Fixup, MAX_SECTIONS};
 
 /// How many indices behind the fixup under test can be asked for: no instruction makes more fixups.
 pub(crate) const WINDOW: usize = 1024;
+
+/// The most classes that there can be: one for each section, and one more.
+pub(crate) const MAX_CLASSES: usize = MAX_SECTIONS as usize + 1;
 
 /// Labels that are claimed for fixups.
 #[derive(Clone, Copy, Debug)]
@@ -26,9 +29,9 @@ pub(crate) struct Behind<'a> {
     pub(crate) claim: Claim<'a>,
     /// For each index, which kept row is its own; at the index modulo 1,024.
     pub(crate) rows: &'a [usize],
-    /// For each index at a section's fixup and each class of register C, the least that a skip there
-    /// leads to; in rows of as many as there are classes, at the index modulo 1,024.
-    pub(crate) skips: &'a [u32],
+    /// For each index at a section's fixup, the least that a skip there leads to, by the class of
+    /// register C; at the index modulo 1,024.
+    pub(crate) skips: &'a [[u32; MAX_CLASSES]],
 }
 
 impl<'a> Claim<'a> {
@@ -110,7 +113,7 @@ impl<'a> Behind<'a> {
         match base {
             Base::Section(section) => {
                 let change = change(d, class_of(self.claim.registers, section));
-                let skip = self.skips[at % WINDOW * self.claim.classes() + c];
+                let skip = self.skips[at % WINDOW][c];
                 Some(change + u64::from(skip))
             }
             Base::Import(_) => None,

@@ -11,6 +11,7 @@ mod fixups;
 mod rows;
 mod runs;
 mod sets;
+mod skips;
 mod theorems;
 
 pub use rows::LabelRows;

@@ -24,7 +24,7 @@ pub(crate) struct Tested {
 
 impl<'a> Claim<'a> {
     /// Whether the fixup at index `at` adds `base` at a position.
-    fn adds(self, at: usize, position: u64, base: Base) -> bool
+    pub(crate) fn adds(self, at: usize, position: u64, base: Base) -> bool
         ensures { result ≡ adds_first position base (drop at self.entry.fixups.now) }
     {
         match self.fixups.get(at) {

@@ -1,5 +1,5 @@
 -- What a check keeps in view: the labels that are claimed, and what it has found behind the fixup under test.
-use Rattle.std.specs.Prelude.{◌≡◌, ◌≤◌, ◌<◌, ℕ, zero, suc, ◌+◌, ◌-◌, ◌*◌, ◌%◌, true, List, [], ◌∷◌, length, drop, slice_get, slice_index, Option, None, Some}
+use Rattle.std.specs.Prelude.{◌≡◌, ◌≤◌, ◌<◌, ℕ, zero, suc, ◌+◌, ◌-◌, ◌*◌, ◌%◌, true, List, [], ◌∷◌, length, drop, slice_get, slice_index, slice_index_or, Option, None, Some}
 use Rattle.pef_reloc.specs.declared.fixup.Base.{Base}
 use Rattle.pef_reloc.specs.declared.fixup.Base.TheVariants.{Section, Import}
 use Rattle.pef_reloc.specs.declared.fixup.Fixup.{Fixup}
@@ -46,13 +46,13 @@ OfferIs l f rest c d x (Import k) = offer_at l f rest c d ≡ None
 pub record KnownAt (b : Behind) (j : ℕ) : Type 0 where
   pub row : IsRowOf b.claim.kept.ends.now (slice_index b.rows.now (j % 1024)) j
   pub offer : (f : Fixup) (rest : List Fixup) (c d : ℕ) → drop j b.claim.fixups.now ≡ f ∷ rest → c < classes (labels_claimed b.claim) → d < classes (labels_claimed b.claim)
-      → OfferIs (labels_claimed b.claim) f rest c d (slice_index b.skips.now (j % 1024 * (length b.claim.registers.now + 1) + c)) f.base
+      → OfferIs (labels_claimed b.claim) f rest c d (slice_index (slice_index_or b.skips.now (j % 1024) []) c) f.base
 
 -- what is known of an index, where all is of the right shape
 pub record Sees (b : Behind) (j : ℕ) : Type 0 where
   pub shaped : Shaped b.claim
   pub rows : length b.rows.now ≡ 1024
-  pub skips : length b.skips.now ≡ 1024 * (most_sections + 1)
+  pub skips : length b.skips.now ≡ 1024
   pub inside : j ≤ length b.claim.fixups.now
   pub known : KnownAt b j
 
@@ -60,7 +60,7 @@ pub record Sees (b : Behind) (j : ℕ) : Type 0 where
 pub record Knows (b : Behind) (from : ℕ) : Type 0 where
   pub shaped : Shaped b.claim
   pub rows : length b.rows.now ≡ 1024
-  pub skips : length b.skips.now ≡ 1024 * (most_sections + 1)
+  pub skips : length b.skips.now ≡ 1024
   pub at : (j : ℕ) → from ≤ j → j < from + 1024 → j ≤ length b.claim.fixups.now → KnownAt b j
 
 -- a state at a fixup, whose label is tested against what lies behind
@@ -75,3 +75,9 @@ pub record UnderTest (b : Behind) (u : Under) : Type 0 where
   pub knows : Knows b (u.at + 1)
   pub here : slice_get b.claim.fixups.now u.at ≡ Some u.fixup
   pub row : IsRowOf b.claim.kept.ends.now u.row u.at
+
+-- an index at a section's fixup, where all is known behind it and labels are feasible there
+pub record Skips (b : Behind) (at : ℕ) (f : Fixup) (k : ℕ) : Type 0 where
+  pub knows : Knows b (at + 1)
+  pub here : slice_get b.claim.fixups.now at ≡ Some f
+  pub base : f.base ≡ Section k
