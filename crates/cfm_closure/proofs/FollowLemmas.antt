@@ -31,9 +31,9 @@ onward_from pairs p j q e k is =
     let g = goes_on pairs p j q e k is in
     let n = named_is g.loader g.symbol.name e g.named in
     let passed : passed_on pairs (q, e) ≡ k =
-        ap (λ o. option_map_or (λ (x : Export). x.value) (option_and_then (λ l. export_of l e) o) 0) g.read
-        ∙ ap (λ o. option_map_or (λ (x : Export). x.value) o 0) g.there
-        ∙ g.value in
+    ap (λ o. option_map_or (λ (x : Export). x.value) (option_and_then (λ l. export_of l e) o) 0) g.read
+    ∙ ap (λ o. option_map_or (λ (x : Export). x.value) o 0) g.there
+    ∙ g.value in
     let count : export_count pairs q ≡ g.loader.header.export_count = ap (λ o. option_map_or (λ (l : Loaded). l.header.export_count) o 0) g.read in
     record { goes = g; place = ap (λ k. (q, k)) (sym passed); below = let b = n.below in omega arith }
 
@@ -180,6 +180,7 @@ module _ (pairs : List Pair) where
           ∙ ap (λ o. option_and_then (λ (next : (ℕ × ℕ) × (ℕ × ℕ)). hops pairs 0 next.1) o) is
           ∙ ap Some o.place
           ∙ ap (λ (x : ℕ × ℕ). Some (x.0, passed_on pairs x)) same
+
       by : (o : Option (ℕ × ℕ)) → hops pairs n v ≡ o → option_and_then (λ w. option_and_then (λ next. Some next.0) (next_of (hop pairs w.0 w.1))) o ≡ Some x → hops pairs (n + 1) v ≡ Some (x.0, passed_on pairs x)
       by None reached met = absurd (cc)
       by (Some at) reached met = on at reached (next_of (hop pairs at.0 at.1)) refl met

@@ -55,11 +55,11 @@ module _ (pairs : List Pair) where
     member p there = elim (reaches.done p there) [
       | inl before ↦ absurd (nowhere p before)
       | inr done ↦ record {
-          place = place_of_member p there;
-          fragment = done.fragment;
-          read = done.read;
-          libraries = λ l under. has_library p l (done.libraries l under);
-        }
+        place = place_of_member p there;
+        fragment = done.fragment;
+        read = done.read;
+        libraries = λ l under. has_library p l (done.libraries l under);
+      }
     ]
 
   -- what the walk from a root has done

@@ -34,9 +34,9 @@ more_than_left f (suc n) from s few = by (is_marked s (f from)) refl (more_than_
         let one = left-marking s (f from) unmet in
         elim (deeper (omega arith)) [
           | inl m ↦ (let low = m.low in let high = m.high in elim (eqb_tells (f m.at) (f from)) [
-              | inl same ↦ inr (record { first = from; second = m.at; low = omega arith; later = omega arith; high = omega arith; same = sym same.1 })
-              | inr other ↦ inl (record { at = m.at; low = omega arith; high = omega arith; is = sym (get_or-set_other s.marked (f from) (f m.at) true true other.1) ∙ m.is })
-            ])
+            | inl same ↦ inr (record { first = from; second = m.at; low = omega arith; later = omega arith; high = omega arith; same = sym same.1 })
+            | inr other ↦ inl (record { at = m.at; low = omega arith; high = omega arith; is = sym (get_or-set_other s.marked (f from) (f m.at) true true other.1) ∙ m.is })
+          ])
           | inr t ↦ (let low = t.low in let high = t.high in inr (record { first = t.first; second = t.second; low = omega arith; later = t.later; high = omega arith; same = t.same }))
         ]
 

@@ -54,17 +54,17 @@ module _ (pairs : List Pair) where
   rank-same [] x y is is' same = absurd (let h = is.fragment.1 in omega arith)
   rank-same (p ∷ ps) x y is is' same = elim (eqb_tells p x.0) [
     | inl here ↦ elim (eqb_tells p y.0) [
-        | inl here' ↦ (let e : x.0 ≡ y.0 = sym here.1 ∙ here'.1 in
-            let f : x.1 ≡ y.1 = sym (rank-here p ps x here.1) ∙ same ∙ rank-here p ps y here'.1 in
-            pair_same x y e f)
-        | inr other' ↦ absurd (let a = rank-here p ps x here.1 in let b = rank-later p ps y other'.1 in let h = among-here p ps x here.1 is in omega arith)
-      ]
+      | inl here' ↦ (let e : x.0 ≡ y.0 = sym here.1 ∙ here'.1 in
+          let f : x.1 ≡ y.1 = sym (rank-here p ps x here.1) ∙ same ∙ rank-here p ps y here'.1 in
+          pair_same x y e f)
+      | inr other' ↦ absurd (let a = rank-here p ps x here.1 in let b = rank-later p ps y other'.1 in let h = among-here p ps x here.1 is in omega arith)
+    ]
     | inr other ↦ elim (eqb_tells p y.0) [
-        | inl here' ↦ absurd (let a = rank-later p ps x other.1 in let b = rank-here p ps y here'.1 in let h = among-here p ps y here'.1 is' in omega arith)
-        | inr other' ↦ (let a = rank-later p ps x other.1 in let b = rank-later p ps y other'.1 in
-            let e : rank pairs ps x ≡ rank pairs ps y = omega arith in
-            rank-same ps x y (among-later p ps x other.1 is) (among-later p ps y other'.1 is') e)
-      ]
+      | inl here' ↦ absurd (let a = rank-later p ps x other.1 in let b = rank-here p ps y here'.1 in let h = among-here p ps y here'.1 is' in omega arith)
+      | inr other' ↦ (let a = rank-later p ps x other.1 in let b = rank-later p ps y other'.1 in
+          let e : rank pairs ps x ≡ rank pairs ps y = omega arith in
+          rank-same ps x y (among-later p ps x other.1 is) (among-later p ps y other'.1 is') e)
+    ]
   ]
     where
       pair_same : (x y : ℕ × ℕ) → x.0 ≡ y.0 → x.1 ≡ y.1 → x ≡ y

@@ -66,8 +66,10 @@ module _ (pairs : List Pair) (table : List (Option FragmentView)) (libraries : L
     where
       later : List (List (Option ℕ))
       later = set libraries f.p f.libraries
+
       here : get_or (set libraries f.p f.libraries) f.p [] ≡ f.libraries
       here = get_or-set_same libraries f.p f.libraries [] (let a = is.inside in let b = are.libraries_size in omega arith)
+
       this : IsWalked pairs table (set libraries f.p f.libraries) f.p
       this = record {
         inside = is.inside;
@@ -76,6 +78,7 @@ module _ (pairs : List Pair) (table : List (Option FragmentView)) (libraries : L
         bound = rw here is.bound;
         all = ap length here ∙ all;
       }
+
       others : (q : ℕ) → IsWalked pairs table libraries q → IsWalked pairs table (set libraries f.p f.libraries) q
       others q was = elim (eqb_tells q f.p) [
         | inl same ↦ subst (IsWalked pairs table (set libraries f.p f.libraries)) (sym same.1) this

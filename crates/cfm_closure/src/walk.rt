@@ -107,7 +107,11 @@ impl<'a> Walk<'a> {
     }
 
     /// The walk from a fragment, done.
-    pub fn from_root(alloc: Global, store: &Store<'a>, root: usize) -> Result<Walk<'a>, BindFault<'a>>
+    pub fn from_root(
+        alloc: Global,
+        store: &Store<'a>,
+        root: usize,
+    ) -> Result<Walk<'a>, BindFault<'a>>
         requires { root < length store.now }
         ensures walk { IfOk result (λ w. IsWalk store.now w) }
         ensures answer { Answers (λ w. w.order.items) result (order_of store.now root) }

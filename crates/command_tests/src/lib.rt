@@ -11,8 +11,7 @@ mod failures;
 mod limits;
 #[cfg(test)]
 mod link;
-#[cfg(test)]
-mod ports;
+pub mod ports;
 #[cfg(test)]
 mod runs;
 #[cfg(test)]

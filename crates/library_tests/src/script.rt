@@ -1,282 +1,160 @@
-use crate::Script;
 use pef_reloc::{Base, Fixup};
+use pef_script::Script;
 use std::alloc::{AllocError, Global};
+use std::fmt::Write;
 use std::test::Fail;
 
 /// The number and the line of a refusal, or `None` where the text is read.
-fn refusal(alloc: Global, text: &[u8]) -> Option<(u32, usize)> {
-    match Script::read(alloc, text) {
+fn refusal(alloc: Global, text: &str) -> Option<(u32, usize)> {
+    match Script::read(alloc, text.as_bytes()) {
         Ok(_) => None,
         Err(fault) => Some((fault.number(), fault.line().unwrap_or(0))),
     }
 }
 
-const ACCEPTED: [&[u8]; 9] = [
-    b"",
-    b"\n\n# a comment\n",
-    b"#\xFF\r \t\n",
-    b"section d data process 4 8",
-    b"section d data process 0xc 0x1000000\nbytes d aAfF09\nbytes d 00\nfix d 0xfffffc section d",
-    b"section d exec protected 0 0\n",
-    b"section d data process 4 8\ntvector d 0 d d\nexport e glue d 8\nmain d 8\ninit d 8\nterm d 8",
-    b"library L 1 0 weak,before\nlibrary M 1 0 -\nimport L toc weak\nimport M tvector strong",
-    b"section a code global 0 8\nsection b const process 0 8\nfix a 0 section b\nbytes a 00\nbytes b 00",
+const TWO_LINES: &str = "section d data process 4 8\nfix d 0 section d\n";
+
+/// Third lines, behind the two above, and the refusal's number: 0 where the text is read.
+const THIRD_LINES: [(&str, u32); 32] = [
+    ("", 0),
+    ("# any \u{7F} bytes ", 0),
+    (" ", 41),
+    ("\r", 41),
+    ("entry d 0", 41),
+    ("Main d 0", 41),
+    ("fix d 4 section d ", 41),
+    ("fix  d 4 section d", 41),
+    ("fix d 4 section", 41),
+    ("fix d 4 section d d", 41),
+    ("bytes d ", 41),
+    ("bytes d 123", 41),
+    ("bytes d 0g", 41),
+    ("bytes d aAfF09", 0),
+    ("bytes d 000102030405060708", 47),
+    ("fix d 4 section d", 0),
+    ("fix d 2 section d", 46),
+    ("fix d 5 section d", 47),
+    ("fix d 04 section d", 42),
+    ("fix d 0X4 section d", 42),
+    ("fix d 0x000000004 section d", 42),
+    ("fix d 4294967296 section d", 42),
+    ("fix d 4294967295 section d", 47),
+    ("fix d 0x4 section e", 43),
+    ("fix d 4 import d", 43),
+    ("fix e x symbol e", 49),
+    ("tvector d 4 d d", 47),
+    ("tvector d 0 d d", 46),
+    ("section e data process 4 8", 45),
+    ("export e glue d 8", 0),
+    ("export e glue d 9", 47),
+    ("term d 8", 0),
 ];
 
-const REFUSED: [(&[u8], (u32, usize)); 50] = [
+/// Texts, and the number and the line of their refusal.
+const FIRST_FAULTS: [(&str, (u32, usize)); 33] = [
+    ("section d odd process 4 8", (49, 1)),
+    ("section d data odd 13 8", (49, 1)),
+    ("section d data process 13 8", (42, 1)),
+    ("section d data process 4 16777217", (42, 1)),
+    ("section d", (41, 1)),
+    ("section \u{7F} data process 4 8", (41, 1)),
+    ("section d data process 4 8\r\n", (41, 1)),
+    ("fix d 0 section d", (43, 1)),
     (
-        b"section d data process 4 8\nfix d 0 section d\nfix d 2 section d\n",
-        (46, 3),
-    ),
-    (
-        b"section d data process 4 8\nfix d 0 section d\nfix d 5 section d\n",
-        (47, 3),
-    ),
-    (
-        b"section d data process 4 8\nfix d 4 section d\nfix d 0 section d\n",
-        (45, 3),
-    ),
-    (b"section d odd process 4 8\n", (49, 1)),
-    (b"section d data process 4 16777217\n", (42, 1)),
-    (b"fix d 0 section d\n", (43, 1)),
-    (b"section d\n", (41, 1)),
-    (
-        b"section d data process 4 8\nsection d data process 4 8\n",
-        (44, 2),
-    ),
-    // The shape of a line.
-    (b" ", (41, 1)),
-    (b"\n\r\n", (41, 2)),
-    (b"\r", (41, 1)),
-    (b" # no comment", (41, 1)),
-    (b"section", (41, 1)),
-    (b"sections d data process 4 8", (41, 1)),
-    (b"Section d data process 4 8", (41, 1)),
-    (b"section  d data process 4 8", (41, 1)),
-    (b"section d data process 4 8 ", (41, 1)),
-    (b"section d data process 4 8\r\n", (41, 1)),
-    (b"section d data process 4 8 9", (41, 1)),
-    (b"section d\xC3\xA9 data process 4 8", (41, 1)),
-    (b"section \x7F data process 4 8", (41, 1)),
-    // Hex digits.
-    (b"section d data process 4 8\nbytes d ", (41, 2)),
-    (b"section d data process 4 8\nbytes d 1", (41, 2)),
-    (b"section d data process 4 8\nbytes d 0g", (41, 2)),
-    (b"section d data process 4 8\nbytes d g0", (41, 2)),
-    (b"section d data process 4 8\nbytes d 00 00", (41, 2)),
-    // Numbers.
-    (b"section d data process 04 8", (42, 1)),
-    (b"section d data process 13 8", (42, 1)),
-    (b"section d data process 0X4 8", (42, 1)),
-    (b"section d data process 4 0x", (42, 1)),
-    (b"section d data process 4 0x000000008", (42, 1)),
-    (b"section d data process 4 +8", (42, 1)),
-    (b"section d data process 4 8a", (42, 1)),
-    (b"section d data process 4 99999999999999999999999", (42, 1)),
-    (
-        b"section d data process 4 8\nfix d 4294967296 section d",
-        (42, 2),
-    ),
-    // Which comes first in a line.
-    (
-        b"section d data process 4 8\nbytes d 00\nsection d odd process 13 8",
-        (45, 3),
-    ),
-    (
-        b"section d data process 4 8\nbytes d 00\nsection d odd process 13",
-        (41, 3),
-    ),
-    (b"section d data odd 13 8", (49, 1)),
-    (b"section d data process 4 8\nfix e x odd e", (49, 2)),
-    (b"section d data process 4 8\nfix e x section e", (42, 2)),
-    (b"section d data process 4 8\nfix e 9 section d", (43, 2)),
-    (b"section d data process 4 8\nfix d 9 section e", (43, 2)),
-    (b"section d data process 4 8\nfix d 0 import x", (43, 2)),
-    (
-        b"section d data process 4 8\nfix d 4 section d\nfix d 3 section d",
-        (45, 3),
-    ),
-    (
-        b"section d data process 4 8\nfix d 4 section d\nfix d 4 section d",
-        (46, 3),
-    ),
-    (
-        b"section d data process 4 8\nfix d 4 section d\nfix d 5 section d",
-        (47, 3),
-    ),
-    // Ends.
-    (
-        b"section d data process 4 2\nbytes d 0011\nbytes d 22",
-        (47, 3),
-    ),
-    (b"section d data process 4 2\nbytes e 001122", (43, 2)),
-    (b"section d data process 4 2\nfix d 0 section d", (47, 2)),
-    (
-        b"section d data process 4 8\nfix d 4294967295 section d",
-        (47, 2),
-    ),
-];
-
-const REFUSED_PARTS: [(&[u8], (u32, usize)); 45] = [
-    // Libraries and imports.
-    (b"library L 1 0 -\nversions 1 0 0", (45, 2)),
-    (b"versions 1 0 0\nversions 1 0 0", (45, 2)),
-    (b"versions 1 0", (41, 1)),
-    (b"versions 1 0 x", (42, 1)),
-    (b"import x data strong", (45, 1)),
-    (b"import x odd odd", (45, 1)),
-    (b"section d data process 4 8\nlibrary L x 0 odd", (45, 2)),
-    (b"library L x 0 before,weak", (49, 1)),
-    (b"library L x 0 -", (42, 1)),
-    (b"library L 1 -1 -", (42, 1)),
-    (b"library L 1 0 -\nlibrary L 1 0 x", (49, 2)),
-    (b"library L 1 0 -\nlibrary L 1 0 weak", (44, 2)),
-    (b"library L 1 0 -\nimport x odd strong", (49, 2)),
-    (b"library L 1 0 -\nimport x data odd", (49, 2)),
-    (
-        b"library L 1 0 -\nimport x data strong\nlibrary M 1 0 -\nimport x code weak",
+        "\n#\nsection d data process 4 8\nsection d code global 0 0",
         (44, 4),
     ),
     (
-        b"library L 1 0 -\nsection d data process 4 8\nimport x data strong",
-        (45, 3),
-    ),
-    // Sections in order.
-    (
-        b"section a data process 4 8\nsection b data process 4 8\nbytes b 00\nbytes a 00",
-        (45, 4),
-    ),
-    (
-        b"section a data process 4 8\nsection b data process 4 8\nbytes b 00\nfix a 0 section a",
-        (45, 4),
-    ),
-    (
-        b"section a data process 4 8\nsection b data process 4 8\nbytes b 00\nfix a 9 section a",
-        (45, 4),
-    ),
-    (
-        b"section a data process 4 8\nsection b data process 4 8\nbytes b 00\ntvector a 0 a a",
-        (45, 4),
-    ),
-    // Transition vectors.
-    (b"section d data process 4 8\ntvector d 0 d", (41, 2)),
-    (b"section d data process 4 8\ntvector d x e d", (42, 2)),
-    (b"section d data process 4 8\ntvector d 0 e d", (43, 2)),
-    (b"section d data process 4 8\ntvector d 0 d e", (43, 2)),
-    (b"section d data process 4 8\ntvector d 1 d d", (47, 2)),
-    (
-        b"section d data process 4 8\ntvector d 4294967295 d d",
-        (47, 2),
-    ),
-    (
-        b"section d data process 4 9\ntvector d 0 d d\nfix d 3 section d",
+        "section d data process 4 8\nfix d 4 section d\nfix d 0 section d",
         (45, 3),
     ),
     (
-        b"section d data process 4 9\ntvector d 0 d d\nfix d 4 section d",
+        "section d data process 4 8\nbytes d 00\nsection d odd process 13 8",
+        (45, 3),
+    ),
+    (
+        "section d data process 4 8\nbytes d 00\nsection d odd process 13",
+        (41, 3),
+    ),
+    (
+        "section a data process 4 4\nsection b data process 4 4\nbytes b 00\nbytes a 00",
+        (45, 4),
+    ),
+    (
+        "section a data process 4 4\nsection b data process 4 4\nbytes b 00\nfix a 9 section a",
+        (45, 4),
+    ),
+    (
+        "section d data process 4 9\ntvector d 0 d d\nfix d 3 section d",
+        (45, 3),
+    ),
+    (
+        "section d data process 4 9\nfix d 0 section d\ntvector d 1 d d",
         (46, 3),
     ),
+    ("library L 1 0 before,weak", (49, 1)),
+    ("library L 1 0 -\nlibrary L 2 0 weak", (44, 2)),
+    ("library L 1 0 -\nversions 1 0 0", (45, 2)),
+    ("versions 1 0 0\nversions 1 0 0", (45, 2)),
+    ("versions 1 0 -1", (42, 1)),
+    ("import draw tvector strong", (45, 1)),
+    ("import draw odd odd", (45, 1)),
+    ("library L 1 0 -\nimport x data odd", (49, 2)),
     (
-        b"section d data process 4 9\nfix d 0 section d\ntvector d 1 d d",
-        (46, 3),
+        "library L 1 0 -\nimport x data strong\nlibrary M 1 0 -\nimport x code weak",
+        (44, 4),
     ),
     (
-        b"section d data process 4 8\nfix d 0 section d\ntvector d 1 d d",
-        (47, 3),
-    ),
-    // Exports and entries.
-    (
-        b"section d data process 4 8\nexport e data d 0\nbytes d 00",
+        "library L 1 0 -\nsection d data process 4 8\nimport x data strong",
         (45, 3),
     ),
-    (b"section d data process 4 8\nexport e odd d x", (49, 2)),
-    (b"section d data process 4 8\nexport e data f x", (42, 2)),
-    (b"section d data process 4 8\nexport e data f 9", (43, 2)),
-    (b"section d data process 4 8\nexport e data d 9", (47, 2)),
+    ("section d data process 4 8\nexport e odd f x", (49, 2)),
+    ("section d data process 4 8\nexport e data f x", (42, 2)),
     (
-        b"section d data process 4 8\nexport e data d 0\nexport e data d 9",
+        "section d data process 4 8\nexport e data d 0\nexport e data d 9",
         (44, 3),
     ),
-    (
-        b"section d data process 4 8\nmain d 0\nexport e data d 0",
-        (45, 3),
-    ),
-    (b"section d data process 4 8\nmain d 0\nmain d x", (45, 3)),
-    (b"section d data process 4 8\ninit d 0\nmain d 0", (45, 3)),
-    (b"section d data process 4 8\nterm d 0\ninit d 0", (45, 3)),
-    (b"section d data process 4 8\nterm e x", (42, 2)),
-    (b"section d data process 4 8\nterm e 9", (43, 2)),
-    (b"section d data process 4 8\nterm d 9", (47, 2)),
-    (b"section d data process 4 8\nmain d", (41, 2)),
-    (b"section d data process 4 8\nmain d 0 0", (41, 2)),
+    ("section a data process 4 4\ninit a 0\nmain a 0", (45, 3)),
+    ("section a data process 4 4\nmain a 0\nmain a 4", (45, 3)),
+    ("section a data process 4 4\nterm e 9", (43, 2)),
+    ("section a data process 4 4\nterm a 5", (47, 2)),
 ];
 
 #[test]
-fn reads_lines(rt: HostRuntime) {
+fn read_third_lines(rt: HostRuntime) -> Result<(), Fail> {
     let alloc = rt.alloc();
-    for text in ACCEPTED {
-        assert_eq!(rt; refusal(alloc, text), None, "{text:?}");
+    for (line, number) in THIRD_LINES {
+        let text = format!(in alloc; "{TWO_LINES}{line}")?;
+        let wanted = if number == 0 { None } else { Some((number, 3)) };
+        assert_eq!(rt; refusal(alloc, &text), wanted, "{line}");
     }
-    for (text, wanted) in REFUSED {
-        assert_eq!(rt; refusal(alloc, text), Some(wanted), "{text:?}");
-    }
-}
-
-#[test]
-fn reads_lines_of_parts(rt: HostRuntime) {
-    let alloc = rt.alloc();
-    for (text, wanted) in REFUSED_PARTS {
-        assert_eq!(rt; refusal(alloc, text), Some(wanted), "{text:?}");
-    }
-}
-
-#[test]
-fn reads_parts(rt: HostRuntime) -> Result<(), Fail> {
-    let text =
-        b"section d data process 4 16\nbytes d 11223344000000080102\nfix d 4 section d\nfix d 12 section d\n";
-    let script = Script::read(rt.alloc(), text)?;
-    assert_eq!(rt; script.sections(), 1);
-    let header = script.section(0).ok_or("no section")?;
-    assert_eq!(rt; header.name, b"d".as_slice());
-    assert_eq!(rt;
-        (header.kind, header.share, header.align, header.total),
-        (1, 1, 4, 16)
-    );
-    let image = script.image(0).ok_or("no image")?;
-    assert_eq!(rt;
-        image,
-        [0x11, 0x22, 0x33, 0x44, 0, 0, 0, 8, 1, 2].as_slice()
-    );
-    let base = Base::Section(0);
-    let fixups = script.fixups(0).ok_or("no fixups")?;
-    assert_eq!(rt;
-        fixups,
-        [Fixup { offset: 4, base }, Fixup { offset: 12, base }].as_slice()
-    );
-    assert!(rt; script.image(1).is_none());
-    assert!(rt; script.fixups(1).is_none());
-    assert!(rt; script.section(1).is_none());
     Ok(())
 }
 
-const WHOLE: [&[u8]; 1] = [
-    b"versions 3 2 1
+#[test]
+fn read_first_faults(rt: HostRuntime) {
+    for (text, wanted) in FIRST_FAULTS {
+        assert_eq!(rt; refusal(rt.alloc(), text), Some(wanted), "{text}");
+    }
+}
+
+const EVERY_LINE: &str = "versions 3 2 1
 library Tools 5 4 weak,before
 library Other 7 6 -
 import draw tvector strong
 import size data weak
 section code code global 4 8
-section data data process 4 16
+section data data process 0xC 16
 bytes code 0011
 tvector data 0 code data
+bytes data 00
 fix data 8 import size
 export go tvector data 0
 main data 0
 term code 4
-",
-];
+";
 
-/// The counts of libraries, imports, sections and exports.
+/// How many libraries, imports, sections and exports there are.
 fn counts(script: &Script) -> (usize, usize, usize, usize) {
     (
         script.libraries(),
@@ -286,148 +164,203 @@ fn counts(script: &Script) -> (usize, usize, usize, usize) {
     )
 }
 
-fn library_numbers(script: &Script) -> Option<(u32, u32, u8)> {
-    let library = script.library(0)?;
-    Some((library.current, library.old_imp, library.options))
+fn versions(script: &Script) -> (u32, u32, u32) {
+    let versions = script.versions();
+    (versions.current, versions.old_def, versions.old_imp)
 }
 
-fn import_numbers(script: &Script) -> Option<(u8, bool, u32)> {
-    let import = script.import(1)?;
-    Some((import.class, import.weak, import.library))
+fn library<'a>(script: &Script<'a>, l: usize) -> Option<(&'a [u8], u32, u32, u8)> {
+    let library = script.library(l)?;
+    Some((
+        library.name,
+        library.current,
+        library.old_imp,
+        library.options,
+    ))
 }
 
-fn export_numbers(script: &Script) -> Option<(u8, i32, u32)> {
-    let export = script.export(0)?;
-    Some((export.class, export.section, export.value))
+fn import<'a>(script: &Script<'a>, j: usize) -> Option<(&'a [u8], u8, bool, u32)> {
+    let import = script.import(j)?;
+    Some((import.name, import.class, import.weak, import.library))
 }
 
-fn fixup_of(script: &Script, i: usize) -> Option<Fixup> {
-    script.fixups(1)?.get(i).copied()
+fn section<'a>(script: &Script<'a>, k: usize) -> Option<(&'a [u8], u8, u8, u8, u32)> {
+    let section = script.section(k)?;
+    Some((
+        section.name,
+        section.kind,
+        section.share,
+        section.align,
+        section.total,
+    ))
+}
+
+fn export<'a>(script: &Script<'a>, e: usize) -> Option<(&'a [u8], u8, i32, u32)> {
+    let export = script.export(e)?;
+    Some((export.name, export.class, export.section, export.value))
+}
+
+fn has_tables(script: &Script) -> bool {
+    counts(script) == (2, 2, 2, 1)
+        && versions(script) == (3, 2, 1)
+        && library(script, 0) == Some((b"Tools", 5, 4, 0xC0))
+        && library(script, 2).is_none()
+        && import(script, 1) == Some((b"size", 1, true, 1))
+        && import(script, 2).is_none()
+        && export(script, 0) == Some((b"go", 2, 1, 0))
+        && export(script, 1).is_none()
+}
+
+fn has_sections(script: &Script) -> bool {
+    let fixups = [
+        Fixup {
+            offset: 0,
+            base: Base::Section(0),
+        },
+        Fixup {
+            offset: 4,
+            base: Base::Section(1),
+        },
+        Fixup {
+            offset: 8,
+            base: Base::Import(1),
+        },
+    ];
+    section(script, 1) == Some((b"data", 1, 1, 12, 16))
+        && section(script, 2).is_none()
+        && script.image(0) == Some(&[0, 0x11])
+        && script.image(2).is_none()
+        && script.fixups(1) == Some(&fixups)
+        && script.fixups(2).is_none()
+}
+
+fn has_entries(script: &Script) -> bool {
+    script.main() == Some((1, 0)) && script.init().is_none() && script.term() == Some((0, 4))
 }
 
 #[test]
-fn reads_every_line(rt: HostRuntime) -> Result<(), Fail> {
-    for text in WHOLE {
-        let script = Script::read(rt.alloc(), text)?;
-        assert_eq!(rt; counts(&script), (2, 2, 2, 1));
-        assert_eq!(rt; library_numbers(&script), Some((5, 4, 0xC0)));
-        assert_eq!(rt; import_numbers(&script), Some((1, true, 1)));
-        assert_eq!(rt; export_numbers(&script), Some((2, 1, 0)));
-        assert_eq!(rt;
-            fixup_of(&script, 1),
-            Some(Fixup {
-                offset: 4,
-                base: Base::Section(1)
-            })
-        );
-        assert_eq!(rt;
-            fixup_of(&script, 2),
-            Some(Fixup {
-                offset: 8,
-                base: Base::Import(1)
-            })
-        );
-    }
+fn parts(rt: HostRuntime) -> Result<(), Fail> {
+    let script = Script::read(rt.alloc(), EVERY_LINE.as_bytes())?;
+    assert!(rt; has_tables(&script));
+    assert!(rt; has_sections(&script));
+    assert!(rt; has_entries(&script));
     Ok(())
 }
 
-/// Adds a line with a number in it, of so many digits, the lowest of which stands first.
-fn push_line(
-    text: &mut Vec<u8>,
-    front: &str,
-    number: u32,
-    digits: u32,
-    end: &str,
-) -> Result<(), AllocError> {
-    text.extend_from_slice(front.as_bytes())?;
-    let mut rest = number;
-    for _ in 0..digits {
-        text.extend_from_slice(&[b'0' + (rest % 10) as u8])?;
-        rest /= 10;
-    }
-    text.extend_from_slice(end.as_bytes())
-}
-
-/// A first line and so many lines that declare names.
-fn names_text(
+/// So many lines that declare names, behind a first line.
+fn names(
     alloc: Global,
-    before: &str,
+    first: &str,
     front: &str,
     count: u32,
     end: &str,
-) -> Result<Vec<u8>, AllocError> {
-    let mut text = Vec::new(alloc);
-    text.extend_from_slice(before.as_bytes())?;
+) -> Result<String, AllocError> {
+    let mut text = String::new(alloc);
+    text.push_str(first)?;
     for number in 0..count {
-        push_line(&mut text, front, number, 5, end)?;
+        write!(text, "\n{front}{number}{end}")?;
     }
     Ok(text)
 }
 
-const LIMITS: [(&str, &str, &str, u32, usize); 4] = [
-    ("\n", "section s", " data process 0 0\n", 8, 10),
-    ("\n", "library l", " 1 0 -\n", 4096, 4098),
+/// A first line, what the lines behind it begin and end with, and how many of them are read.
+const COUNTS: [(&str, &str, &str, u32); 4] = [
+    ("", "section s", " data process 0 0", 8),
+    ("", "library l", " 1 0 -", 4096),
+    ("library l 1 0 -", "import i", " data weak", 65_536),
     (
-        "library l 1 0 -\n",
-        "import i",
-        " data weak\n",
-        65_536,
-        65_538,
-    ),
-    (
-        "section s data process 0 0\n",
+        "section s data process 0 0",
         "export e",
-        " data s 0\n",
+        " data s 0",
         16_383,
-        16_385,
     ),
 ];
 
 #[test]
-fn keeps_limits(rt: HostRuntime) -> Result<(), Fail> {
+fn read_most_names(rt: HostRuntime) -> Result<(), Fail> {
     let alloc = rt.alloc();
-    for (before, front, end, limit, line) in LIMITS {
-        let text = names_text(alloc, before, front, limit, end)?;
+    for (first, front, end, most) in COUNTS {
+        let text = names(alloc, first, front, most, end)?;
         assert_eq!(rt; refusal(alloc, &text), None, "{front}");
-        let text = names_text(alloc, before, front, limit + 1, end)?;
-        assert_eq!(rt; refusal(alloc, &text), Some((48, line)), "{front}");
+        let text = names(alloc, first, front, most + 1, end)?;
+        assert_eq!(rt;
+            refusal(alloc, &text),
+            Some((48, most as usize + 2)),
+            "{front}"
+        );
     }
     Ok(())
 }
 
-/// Appends a line with an offset in eight hex digits.
-fn push_offset(text: &mut Vec<u8>, front: &str, offset: u32, end: &str) -> Result<(), AllocError> {
-    text.extend_from_slice(front.as_bytes())?;
-    for place in [28, 24, 20, 16, 12, 8, 4, 0] {
-        let digit = (offset >> place) % 16;
-        text.extend_from_slice(&[b"0123456789abcdef"[digit as usize]])?;
+/// Names of 255 bytes, with one more for each, that have all the bytes that names may have.
+#[test]
+fn read_longest_names(rt: HostRuntime) -> Result<(), Fail> {
+    let alloc = rt.alloc();
+    let mut text = String::new(alloc);
+    write!(text, "library {:0255} 1 0 -", 0)?;
+    for number in 0..32_767 {
+        write!(text, "\nimport {number:0255} data strong")?;
     }
-    text.extend_from_slice(end.as_bytes())
+    assert_eq!(rt; refusal(alloc, &text), None);
+    let more = format!(in alloc; "{text}\nimport x data strong")?;
+    assert_eq!(rt; refusal(alloc, &more), Some((48, 32_769)));
+    let longer = format!(in alloc; "library {:0256} 1 0 -", 0)?;
+    assert_eq!(rt; refusal(alloc, &longer), Some((41, 1)));
+    Ok(())
 }
 
-/// A section with so many fixups side by side, and a last line.
-fn fixups_text(alloc: Global, count: u32, last: &str) -> Result<Vec<u8>, AllocError> {
-    let mut text = Vec::from_slice(alloc, b"section s data process 0 65544\n")?;
-    for k in 0..count {
-        push_offset(&mut text, "fix s 0x", k.wrapping_mul(4), " section s\n")?;
+/// How many fixups side by side, a last line, and the refusal.
+const FIXUPS: [(u32, &str, Option<(u32, usize)>); 6] = [
+    (16_384, "", None),
+    (16_384, "fix s 65536 section s", Some((48, 16_386))),
+    (16_384, "fix s 0 section s", Some((48, 16_386))),
+    (16_382, "tvector s 65528 s s", None),
+    (16_383, "tvector s 65532 s s", Some((48, 16_385))),
+    (16_383, "tvector s 0 s s", Some((48, 16_385))),
+];
+
+/// Lines for so many fixups of a section, so far apart.
+fn push_fixups(text: &mut String, section: &str, count: u32, step: u32) -> Result<(), AllocError> {
+    for i in 0..count {
+        write!(
+            text,
+            "fix {section} {} section {section}\n",
+            i.wrapping_mul(step)
+        )?;
     }
-    text.extend_from_slice(last.as_bytes())?;
+    Ok(())
+}
+
+#[test]
+fn read_most_fixups(rt: HostRuntime) -> Result<(), Fail> {
+    let alloc = rt.alloc();
+    for (count, last, wanted) in FIXUPS {
+        let mut text = format!(in alloc; "section s data process 0 65544\n")?;
+        push_fixups(&mut text, "s", count, 4)?;
+        text.push_str(last)?;
+        assert_eq!(rt; refusal(alloc, &text), wanted, "{count} and {last}");
+    }
+    Ok(())
+}
+
+/// All limits at once: sections, libraries, imports, exports, and fixups that don't adjoin.
+fn most_of_all(alloc: Global) -> Result<String, AllocError> {
+    let mut text = names(alloc, "", "library l", 4096, " 1 0 -")?;
+    text.push_str(&names(alloc, "", "import i", 65_536, " data weak")?)?;
+    text.push_str(&names(alloc, "", "section s", 8, " data process 12 131072")?)?;
+    text.push_str("\n")?;
+    for section in ["s0", "s1", "s2", "s3", "s4", "s5", "s6", "s7"] {
+        push_fixups(&mut text, section, 16_384, 8)?;
+    }
+    text.push_str(&names(alloc, "", "export e", 16_383, " data s0 131072")?)?;
     Ok(text)
 }
 
 #[test]
-fn keeps_the_limit_of_fixups(rt: HostRuntime) -> Result<(), Fail> {
-    let alloc = rt.alloc();
-    for (count, last, want) in [
-        (16_384, "", None),
-        (16_384, "fix s 65536 section s", Some((48, 16_386))),
-        (16_384, "fix s 0 section s", Some((48, 16_386))),
-        (16_382, "tvector s 65528 s s", None),
-        (16_383, "tvector s 65532 s s", Some((48, 16_385))),
-        (16_383, "tvector s 0 s s", Some((48, 16_385))),
-    ] {
-        let text = fixups_text(alloc, count, last)?;
-        assert_eq!(rt; refusal(alloc, &text), want, "{last}");
-    }
+fn read_most_of_all(rt: HostRuntime) -> Result<(), Fail> {
+    let text = most_of_all(rt.alloc())?;
+    let script = Script::read(rt.alloc(), text.as_bytes())?;
+    assert_eq!(rt; counts(&script), (4096, 65_536, 8, 16_383));
+    assert_eq!(rt; script.fixups(7).map_or(0, |fixups| fixups.len()), 16_384);
     Ok(())
 }

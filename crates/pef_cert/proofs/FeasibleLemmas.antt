@@ -74,24 +74,26 @@ fixup-says b u row sets adds under is first second =
     first second
     (λ p q. feasible-tested l index u.fixup (drop (u.at + 1) fixups) (tests_of l index fixups u.at u.fixup under.here (sets-row b.claim.registers.now row rows (length fixups) u.at inside is p) q))
     (λ feasible.
-      let tests = needed_of b.claim u.at index u.fixup under.knows.shaped under.here feasible in
-      row-sets b.claim.registers.now row rows (length fixups) u.at inside is (subst (SetsHold l) (sym (left_count fixups u.at u.fixup under.here)) tests.sets))
+    let tests = needed_of b.claim u.at index u.fixup under.knows.shaped under.here feasible in
+    row-sets b.claim.registers.now row rows (length fixups) u.at inside is (subst (SetsHold l) (sym (left_count fixups u.at u.fixup under.here)) tests.sets))
     (λ feasible c under_c d under_d.
-      let tests = needed_of b.claim u.at index u.fixup under.knows.shaped under.here feasible in
-      tests.adds c d under_c under_d)
+    let tests = needed_of b.claim u.at index u.fixup under.knows.shaped under.here feasible in
+    tests.adds c d under_c under_d)
 
 -- where the change of a register costs too much they aren't
 pub fixup-fails : (b : Behind) (u : Under) (row : List ℕ) → UnderTest b u
     → row ≡ slice_index_or (rows_from b.claim.kept.width 0 b.claim.kept.ends.now b.claim.kept.values.now) u.at []
     → Says false (RowHolds row (length b.claim.registers.now + 1))
     → Says false (FeasibleAt (labels_claimed b.claim) (index_after (take u.at b.claim.fixups.now) 0) u.fixup (drop (u.at + 1) b.claim.fixups.now))
-fixup-fails b u row under is sets =
-    (λ e. absurd (cc), λ feasible.
+fixup-fails b u row under is sets = (
+  λ e. absurd (cc),
+  λ feasible.
       let fixups = b.claim.fixups.now in
       let rows = rows_from b.claim.kept.width 0 b.claim.kept.ends.now b.claim.kept.values.now in
       let inside : u.at ≤ length fixups = omega (arith, get_under fixups u.at u.fixup under.here) in
       let tests = needed_of b.claim u.at (index_after (take u.at fixups) 0) u.fixup under.knows.shaped under.here feasible in
-      sets.1 (row-sets b.claim.registers.now row rows (length fixups) u.at inside is (subst (SetsHold (labels_claimed b.claim)) (sym (left_count fixups u.at u.fixup under.here)) tests.sets)))
+      sets.1 (row-sets b.claim.registers.now row rows (length fixups) u.at inside is (subst (SetsHold (labels_claimed b.claim)) (sym (left_count fixups u.at u.fixup under.here)) tests.sets)),
+)
 
 counts_of : (registers : List ℕ) (b : Base) (k : ℕ) → b ≡ Section k → RegisteredBase registers b → class_of registers k < length registers
 counts_of registers b k is here = subst (λ (y : Base). RegisteredBase registers y) is here

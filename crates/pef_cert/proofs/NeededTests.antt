@@ -88,9 +88,9 @@ words_needed l index f rest c d k stands under_c under_d either =
     let for_d = stands.numbers.of d under_d in
     elim (met_either (class_of l.registers k == c) (class_of l.registers k == d) either) [
       | inl is_c ↦ row_test-met l (l.label (length (f ∷ rest)) c d) 4 (Section k) c d 512 f.offset (f ∷ rest)
-        (λ m left under words. needed_c l index f rest left c d k for_d.number m stands.feasible (equal_of (class_of l.registers k) c is_c) for_d.is under words)
+          (λ m left under words. needed_c l index f rest left c d k for_d.number m stands.feasible (equal_of (class_of l.registers k) c is_c) for_d.is under words)
       | inr is_d ↦ row_test-met l (l.label (length (f ∷ rest)) c d) 4 (Section k) c d 512 f.offset (f ∷ rest)
-        (λ m left under words. needed_d l index f rest left c d for_c.number k m stands.feasible for_c.is (equal_of (class_of l.registers k) d is_d) under words)
+          (λ m left under words. needed_d l index f rest left c d for_c.number k m stands.feasible for_c.is (equal_of (class_of l.registers k) d is_d) under words)
     ]
 
 spaced_needed : (l : Labels) (index : ℕ) (f : Fixup) (rest : List Fixup) (c d k : ℕ) → Stands l index f rest → c < classes l → (class_of l.registers k == d) ≡ true → row_test l (l.label (length (f ∷ rest)) c d) 8 (Section k) c d 512 f.offset (f ∷ rest) ≡ true
@@ -103,10 +103,10 @@ pair_needed : (l : Labels) (index : ℕ) (f : Fixup) (rest : List Fixup) (c d k 
 pair_needed l index f rest c d k (Section j) stands is_c =
     asked-met (class_of l.registers j == d) (pairs_test l (l.label (length (f ∷ rest)) c d) 8 (Section k) (Section j) c d 512 f.offset (f ∷ rest) && pairs_test l (l.label (length (f ∷ rest)) c d) 12 (Section k) (Section j) c d 512 f.offset (f ∷ rest))
     (λ is_d. both_met (pairs_test l (l.label (length (f ∷ rest)) c d) 8 (Section k) (Section j) c d 512 f.offset (f ∷ rest)) (pairs_test l (l.label (length (f ∷ rest)) c d) 12 (Section k) (Section j) c d 512 f.offset (f ∷ rest))
-      (pairs_test-met l (l.label (length (f ∷ rest)) c d) 8 (Section k) (Section j) c d 512 f.offset (f ∷ rest)
-      (λ m left under words. needed_near l index f rest left c d k j m stands.feasible (equal_of (class_of l.registers k) c is_c) (equal_of (class_of l.registers j) d is_d) under words))
-      (pairs_test-met l (l.label (length (f ∷ rest)) c d) 12 (Section k) (Section j) c d 512 f.offset (f ∷ rest)
-      (λ m left under words. needed_far l index f rest left c d k j m stands.feasible (equal_of (class_of l.registers k) c is_c) (equal_of (class_of l.registers j) d is_d) under words)))
+    (pairs_test-met l (l.label (length (f ∷ rest)) c d) 8 (Section k) (Section j) c d 512 f.offset (f ∷ rest)
+    (λ m left under words. needed_near l index f rest left c d k j m stands.feasible (equal_of (class_of l.registers k) c is_c) (equal_of (class_of l.registers j) d is_d) under words))
+    (pairs_test-met l (l.label (length (f ∷ rest)) c d) 12 (Section k) (Section j) c d 512 f.offset (f ∷ rest)
+    (λ m left under words. needed_far l index f rest left c d k j m stands.feasible (equal_of (class_of l.registers k) c is_c) (equal_of (class_of l.registers j) d is_d) under words)))
 pair_needed l index f rest c d k (Import j) stands is_c = refl
 
 second_needed : (l : Labels) (index : ℕ) (f : Fixup) (rest : List Fixup) (c d k : ℕ) → Stands l index f rest → (class_of l.registers k == c) ≡ true → second_test l (l.label (length (f ∷ rest)) c d) k c d f rest ≡ true
@@ -143,8 +143,8 @@ import_needed l index f rest c d k stands base small under_c under_d =
     import_tests-met l (l.label (length (f ∷ rest)) c d) index k f rest c d (record {
       single = import_single l index f rest c d k (nat_lt k 512) stands base small refl under_c under_d;
       imports = λ is. numbered_test-met l (l.label (length (f ∷ rest)) c d) c d 512 f.offset k (f ∷ rest)
-        (λ m left under words. needed_imports l index f rest left c d for_c.number for_d.number m stands.feasible for_c.is for_d.is under
-        (words ∙ ap (λ i. numbered (suc m) f.offset i ++ left) (equal_of k index is)));
+          (λ m left under words. needed_imports l index f rest left c d for_c.number for_d.number m stands.feasible for_c.is for_d.is under
+          (words ∙ ap (λ i. numbered (suc m) f.offset i ++ left) (equal_of k index is)));
     })
 
 base_needed : (l : Labels) (index : ℕ) (f : Fixup) (rest : List Fixup) (c d : ℕ) (b : Base) → Stands l index f rest → f.base ≡ b → base_fits b ≡ true → c < classes l → d < classes l → base_test l (l.label (length (f ∷ rest)) c d) index f rest c d b ≡ true

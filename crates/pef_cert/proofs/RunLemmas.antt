@@ -68,7 +68,6 @@ record Splits (f g : Fixup) (rest more : List Fixup) : Type 0 where
 splits : (f g : Fixup) (rest more : List Fixup) → f ∷ rest ≡ g ∷ more → Splits f g rest more
 splits f g rest more e = record { first = cc; others = cc }
 
-
 pub row_test-holds : (l : Labels) (label w : ℕ) (b : Base) (c d n p : ℕ) (fixups : List Fixup) → row_test l label w b c d n p fixups ≡ true → (m : ℕ) (left : List Fixup) → m < n → fixups ≡ row (suc m) p w b ++ left → label ≤ 1 + extension l left (p + w * suc m) c d
 unfolding row_test row
 row_test-holds l label w b c d zero p fixups met m left under e = absurd (omega arith)
@@ -95,19 +94,19 @@ row_test-met l label w b c d (suc n) p [] holds = refl
 row_test-met l label w b c d (suc n) p (f ∷ rest) holds =
     run_on-met (is_added p b f) (one_from l label rest (p + w) c d) (row_test l label w b c d n (p + w) rest)
     (λ is.
-      let first = is_added-is p b f is in
-      let end : p + w * 1 ≡ p + w = omega arith in
-      let low = holds 0 rest (omega arith) (ap (λ g. g ∷ rest) first) in
-      let same = ap (λ q. extension l rest q c d) end in
-      one_from-met l label rest (p + w) c d (omega (arith, low, same)))
+    let first = is_added-is p b f is in
+    let end : p + w * 1 ≡ p + w = omega arith in
+    let low = holds 0 rest (omega arith) (ap (λ g. g ∷ rest) first) in
+    let same = ap (λ q. extension l rest q c d) end in
+    one_from-met l label rest (p + w) c d (omega (arith, low, same)))
     (λ is.
-      let first = is_added-is p b f is in
-      row_test-met l label w b c d n (p + w) rest
-      (λ m left under e.
-        let end : p + w * suc (suc m) ≡ p + w + w * suc m = omega arith in
-        let low = holds (suc m) left (omega arith) (ap (λ g. g ∷ rest) first ∙ ap (λ fs. added p b ∷ fs) e) in
-        let same = ap (λ q. extension l left q c d) end in
-        omega (arith, low, same)))
+    let first = is_added-is p b f is in
+    row_test-met l label w b c d n (p + w) rest
+    (λ m left under e.
+    let end : p + w * suc (suc m) ≡ p + w + w * suc m = omega arith in
+    let low = holds (suc m) left (omega arith) (ap (λ g. g ∷ rest) first ∙ ap (λ fs. added p b ∷ fs) e) in
+    let same = ap (λ q. extension l left q c d) end in
+    omega (arith, low, same)))
 
 -- two first fixups and others
 record SplitsTwo (f g f' g' : Fixup) (rest more : List Fixup) : Type 0 where
@@ -155,19 +154,19 @@ pairs_test-met l label w b b' c d (suc n) p (f ∷ []) holds = refl
 pairs_test-met l label w b b' c d (suc n) p (f ∷ g ∷ rest) holds =
     run_on-met (is_added p b f && is_added (p + 4) b' g) (one_from l label rest (p + w) c d) (pairs_test l label w b b' c d n (p + w) rest)
     (λ is.
-      let both = met_both (is_added p b f) (is_added (p + 4) b' g) is in
-      let end : p + w * 1 ≡ p + w = omega arith in
-      let low = holds 0 rest (omega arith) (joins_two f g (added p b) (added (p + 4) b') rest rest (is_added-is p b f both.0) (is_added-is (p + 4) b' g both.1) refl) in
-      let same = ap (λ q. extension l rest q c d) end in
-      one_from-met l label rest (p + w) c d (omega (arith, low, same)))
+    let both = met_both (is_added p b f) (is_added (p + 4) b' g) is in
+    let end : p + w * 1 ≡ p + w = omega arith in
+    let low = holds 0 rest (omega arith) (joins_two f g (added p b) (added (p + 4) b') rest rest (is_added-is p b f both.0) (is_added-is (p + 4) b' g both.1) refl) in
+    let same = ap (λ q. extension l rest q c d) end in
+    one_from-met l label rest (p + w) c d (omega (arith, low, same)))
     (λ is.
-      let both = met_both (is_added p b f) (is_added (p + 4) b' g) is in
-      pairs_test-met l label w b b' c d n (p + w) rest
-      (λ m left under e.
-        let end : p + w * suc (suc m) ≡ p + w + w * suc m = omega arith in
-        let low = holds (suc m) left (omega arith) (joins_two f g (added p b) (added (p + 4) b') rest (pairs (suc m) (p + w) w b b' ++ left) (is_added-is p b f both.0) (is_added-is (p + 4) b' g both.1) e) in
-        let same = ap (λ q. extension l left q c d) end in
-        omega (arith, low, same)))
+    let both = met_both (is_added p b f) (is_added (p + 4) b' g) is in
+    pairs_test-met l label w b b' c d n (p + w) rest
+    (λ m left under e.
+    let end : p + w * suc (suc m) ≡ p + w + w * suc m = omega arith in
+    let low = holds (suc m) left (omega arith) (joins_two f g (added p b) (added (p + 4) b') rest (pairs (suc m) (p + w) w b b' ++ left) (is_added-is p b f both.0) (is_added-is (p + 4) b' g both.1) e) in
+    let same = ap (λ q. extension l left q c d) end in
+    omega (arith, low, same)))
 
 pub numbered_test-holds : (l : Labels) (label c d n p i : ℕ) (fixups : List Fixup) → numbered_test l label c d n p i fixups ≡ true → (m : ℕ) (left : List Fixup) → m < n → fixups ≡ numbered (suc m) p i ++ left → label ≤ 1 + extension l left (p + 4 * suc m) c d
 unfolding numbered_test numbered
@@ -195,16 +194,16 @@ numbered_test-met l label c d (suc n) p i [] holds = refl
 numbered_test-met l label c d (suc n) p i (f ∷ rest) holds =
     run_on-met (is_added p (Import i) f) (one_from l label rest (p + 4) c d) (numbered_test l label c d n (p + 4) (i + 1) rest)
     (λ is.
-      let first = is_added-is p (Import i) f is in
-      let end : p + 4 * 1 ≡ p + 4 = omega arith in
-      let low = holds 0 rest (omega arith) (ap (λ g. g ∷ rest) first) in
-      let same = ap (λ q. extension l rest q c d) end in
-      one_from-met l label rest (p + 4) c d (omega (arith, low, same)))
+    let first = is_added-is p (Import i) f is in
+    let end : p + 4 * 1 ≡ p + 4 = omega arith in
+    let low = holds 0 rest (omega arith) (ap (λ g. g ∷ rest) first) in
+    let same = ap (λ q. extension l rest q c d) end in
+    one_from-met l label rest (p + 4) c d (omega (arith, low, same)))
     (λ is.
-      let first = is_added-is p (Import i) f is in
-      numbered_test-met l label c d n (p + 4) (i + 1) rest
-      (λ m left under e.
-        let end : p + 4 * suc (suc m) ≡ p + 4 + 4 * suc m = omega arith in
-        let low = holds (suc m) left (omega arith) (ap (λ g. g ∷ rest) first ∙ ap (λ fs. added p (Import i) ∷ fs) e) in
-        let same = ap (λ q. extension l left q c d) end in
-        omega (arith, low, same)))
+    let first = is_added-is p (Import i) f is in
+    numbered_test-met l label c d n (p + 4) (i + 1) rest
+    (λ m left under e.
+    let end : p + 4 * suc (suc m) ≡ p + 4 + 4 * suc m = omega arith in
+    let low = holds (suc m) left (omega arith) (ap (λ g. g ∷ rest) first ∙ ap (λ fs. added p (Import i) ∷ fs) e) in
+    let same = ap (λ q. extension l left q c d) end in
+    omega (arith, low, same)))

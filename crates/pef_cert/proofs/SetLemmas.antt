@@ -47,37 +47,38 @@ sets-row registers row rows n j inside is holds =
     let there : row ≡ slice_index_or rows (n - (n - j)) [] = is ∙ ap (λ i. slice_index_or rows i []) (sym same) in
     record {
       c_line = λ c c' d under_c under_c' under_d.
-        let low = (holds d under_d).1 c c' under_c under_c' in
-        let one : d + c * r ≡ c * r + d = omega arith in
-        let two : d + c' * r ≡ c' * r + d = omega arith in
-        let p = ap₂ (λ x i. slice_index x i) there one in
-        let q = ap₂ (λ x i. slice_index x i) there two in
-        omega (arith, low, p, q);
+          let low = (holds d under_d).1 c c' under_c under_c' in
+          let one : d + c * r ≡ c * r + d = omega arith in
+          let two : d + c' * r ≡ c' * r + d = omega arith in
+          let p = ap₂ (λ x i. slice_index x i) there one in
+          let q = ap₂ (λ x i. slice_index x i) there two in
+          omega (arith, low, p, q);
       d_line = λ c d d' under_c under_d under_d'.
-        let low = (holds c under_c).0 d d' under_d under_d' in
-        let one : c * r + d * 1 ≡ c * r + d = omega arith in
-        let two : c * r + d' * 1 ≡ c * r + d' = omega arith in
-        let p = ap₂ (λ x i. slice_index x i) there one in
-        let q = ap₂ (λ x i. slice_index x i) there two in
-        omega (arith, low, p, q);
+          let low = (holds c under_c).0 d d' under_d under_d' in
+          let one : c * r + d * 1 ≡ c * r + d = omega arith in
+          let two : c * r + d' * 1 ≡ c * r + d' = omega arith in
+          let p = ap₂ (λ x i. slice_index x i) there one in
+          let q = ap₂ (λ x i. slice_index x i) there two in
+          omega (arith, low, p, q);
     }
 
 pub row-sets : (registers row : List ℕ) (rows : List (List ℕ)) (n j : ℕ) → j ≤ n → row ≡ slice_index_or rows j [] → SetsHold (labels_in registers rows n) (n - j) → RowHolds row (length registers + 1)
 row-sets registers row rows n j inside is sets k under =
     let r : ℕ = length registers + 1 in
     let same : n - (n - j) ≡ j = omega arith in
-    let there : row ≡ slice_index_or rows (n - (n - j)) [] = is ∙ ap (λ i. slice_index_or rows i []) (sym same) in
-    (λ x y under_x under_y.
-      let low = sets.d_line k x y under under_x under_y in
-      let one : k * r + x * 1 ≡ k * r + x = omega arith in
-      let two : k * r + y * 1 ≡ k * r + y = omega arith in
-      let p = ap₂ (λ x i. slice_index x i) there one in
-      let q = ap₂ (λ x i. slice_index x i) there two in
-      omega (arith, low, p, q),
-    λ x y under_x under_y.
-      let low = sets.c_line x y k under_x under_y under in
-      let one : k + x * r ≡ x * r + k = omega arith in
-      let two : k + y * r ≡ y * r + k = omega arith in
-      let p = ap₂ (λ x i. slice_index x i) there one in
-      let q = ap₂ (λ x i. slice_index x i) there two in
-      omega (arith, low, p, q))
+    let there : row ≡ slice_index_or rows (n - (n - j)) [] = is ∙ ap (λ i. slice_index_or rows i []) (sym same) in (
+      λ x y under_x under_y.
+          let low = sets.d_line k x y under under_x under_y in
+          let one : k * r + x * 1 ≡ k * r + x = omega arith in
+          let two : k * r + y * 1 ≡ k * r + y = omega arith in
+          let p = ap₂ (λ x i. slice_index x i) there one in
+          let q = ap₂ (λ x i. slice_index x i) there two in
+          omega (arith, low, p, q),
+      λ x y under_x under_y.
+          let low = sets.c_line x y k under_x under_y under in
+          let one : k + x * r ≡ x * r + k = omega arith in
+          let two : k + y * r ≡ y * r + k = omega arith in
+          let p = ap₂ (λ x i. slice_index x i) there one in
+          let q = ap₂ (λ x i. slice_index x i) there two in
+          omega (arith, low, p, q),
+    )

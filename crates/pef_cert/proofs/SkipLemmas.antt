@@ -73,13 +73,13 @@ offer-least l index f rest c d k x w world base counts under e o =
     let changes = ap (λ b. change d b) same in
     elim (change_one c o.class_c) [
       | inl one ↦
-        (let m = skip-set_c l index f rest c o.class_c k o.skip_value world counts under o.under_c there in
-        let is = some_same m.value x (sym m.is ∙ e) in
-        omega (arith, m.low, is, one, changes, o.is))
+          (let m = skip-set_c l index f rest c o.class_c k o.skip_value world counts under o.under_c there in
+          let is = some_same m.value x (sym m.is ∙ e) in
+          omega (arith, m.low, is, one, changes, o.is))
       | inr equal ↦
-        (let at = subst (λ (b : ℕ). skips_at l f rest b (class_of l.registers k) ≡ Some o.skip_value) (sym equal) there in
-        let is = some_same o.skip_value x (sym at ∙ e) in
-        omega (arith, is, changes, o.is))
+          (let at = subst (λ (b : ℕ). skips_at l f rest b (class_of l.registers k) ≡ Some o.skip_value) (sym equal) there in
+          let is = some_same o.skip_value x (sym at ∙ e) in
+          omega (arith, is, changes, o.is))
     ]
 
 -- the least offer at a section's fixup
@@ -100,11 +100,10 @@ none_of (Some x) never = absurd (never x refl)
 pub offer-import : (l : Labels) (f : Fixup) (rest : List Fixup) (c d k : ℕ) → f.base ≡ Import k → offer_at l f rest c d ≡ None
 offer-import l f rest c d k base =
     none_of (offer_at l f rest c d) (λ x e.
-      let o = offer-is l f rest c d x e in
-      let has = skip_has (has_class l.registers o.class_d f.base) (1 + extension l rest (f.offset + 4) o.class_c o.class_d) (skip l 62 (f.offset + 4) o.class_c o.class_d rest) o.skip_value (sym (skips-is l f rest o.class_c o.class_d) ∙ o.skips_is) in
-      let wrong : false ≡ true = sym (ap (has_class l.registers o.class_d) base) ∙ has in
-      absurd (cc))
-
+    let o = offer-is l f rest c d x e in
+    let has = skip_has (has_class l.registers o.class_d f.base) (1 + extension l rest (f.offset + 4) o.class_c o.class_d) (skip l 62 (f.offset + 4) o.class_c o.class_d rest) o.skip_value (sym (skips-is l f rest o.class_c o.class_d) ∙ o.skips_is) in
+    let wrong : false ≡ true = sym (ap (has_class l.registers o.class_d) base) ∙ has in
+    absurd (cc))
 
 -- a skip along the words of a section, one step at a time
 has-same : (l : Labels) (k : ℕ) (b : Base) → class_of l.registers k < length l.registers → has_class l.registers (class_of l.registers k) b ≡ same_base b (Section k)
@@ -112,9 +111,9 @@ has-same l k (Section j) counts =
     elim (eqb_tells j k) [
       | inl same ↦ (let there = eq-eqb (class_of l.registers j) (class_of l.registers k) (ap (class_of l.registers) same.1) in there ∙ sym same.0)
       | inr other ↦ elim (eqb_tells (class_of l.registers j) (class_of l.registers k)) [
-          | inl equal ↦ absurd (other.1 (class_of-same l.registers j k equal.1 counts))
-          | inr apart ↦ apart.0 ∙ sym other.0
-        ]
+        | inl equal ↦ absurd (other.1 (class_of-same l.registers j k equal.1 counts))
+        | inr apart ↦ apart.0 ∙ sym other.0
+      ]
     ]
 has-same l k (Import j) counts = refl
 

@@ -271,6 +271,6 @@ pub feasible-tested : (l : Labels) (index : ℕ) (f : Fixup) (rest : List Fixup)
 feasible-tested l index f rest tests = record {
   sets = λ x s at flat is. sets_falls l index f rest x s tests.sets at is;
   adds = λ x s left at flat delivers shorter.
-    let met = tests.adds (class_of l.registers s.c) (class_of l.registers s.d) (class_of-below l s.c) (class_of-below l s.d) in
-    tested l x s f rest left (subst (λ (i : ℕ). adds_test l i f rest (class_of l.registers s.c) (class_of l.registers s.d) ≡ true) (sym at.index_is) met) at.position flat delivers.is shorter;
+      let met = tests.adds (class_of l.registers s.c) (class_of l.registers s.d) (class_of-below l s.c) (class_of-below l s.d) in
+      tested l x s f rest left (subst (λ (i : ℕ). adds_test l i f rest (class_of l.registers s.c) (class_of l.registers s.d) ≡ true) (sym at.index_is) met) at.position flat delivers.is shorter;
 }

@@ -22,7 +22,11 @@ pub fn moved_value(ahead: u64, label: u32, offer: Option<u64>) -> u64
     ensures small { result ≤ 2 + label }
 {
     let label = u64::from(label);
-    let near = if 1 <= ahead && ahead <= REACH { 1 + label } else { 2 + label };
+    let near = if 1 <= ahead && ahead <= REACH {
+        1 + label
+    } else {
+        2 + label
+    };
     match offer {
         Some(offer) => with_offer(ahead, near, offer),
         None => near,

@@ -52,7 +52,13 @@ impl<'a> Behind<'a> {
         for d in 0..self.claim.classes() {
             let label = self.claim.label(under.row, c, d);
             let (at, fixup) = (under.at, under.fixup);
-            if !self.additions_hold(Tested { at, fixup, c, d, label }) {
+            if !self.additions_hold(Tested {
+                at,
+                fixup,
+                c,
+                d,
+                label,
+            }) {
                 return false;
             }
         }

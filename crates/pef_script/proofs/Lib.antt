@@ -1,3 +1,4 @@
+pub mod Laws
 mod Cuts
 mod Described
 mod Digits

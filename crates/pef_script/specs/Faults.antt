@@ -1,5 +1,6 @@
 -- The numbers and the names of the refusals of a script (docs/REFUSALS.md), which are this project's own.
-use Rattle.std.specs.Prelude.{ℕ, Option, None, Some, List, codes}
+use Rattle.std.specs.Prelude.{ℕ, Option, None, Some, List, ◌++◌, codes}
+use Rattle.std.specs.Fmt.{decimal}
 use Rattle.pef_script.specs.declared.fault.LineFault.{LineFault}
 use Rattle.pef_script.specs.declared.fault.LineFault.TheVariants.{BadLine, BadNumber, UnknownName, RepeatedName, OutOfOrder, Overlap, OutsideSection, TooMany, BadKind}
 use Rattle.pef_script.specs.declared.fault.ScriptFault.{ScriptFault}
@@ -36,6 +37,11 @@ script_fault_number fault.OutOfMemory = 99
 abbrev pub script_fault_name : ScriptFault → List ℕ
 script_fault_name (fault.Refused what line) = fault_name what
 script_fault_name fault.OutOfMemory = codes "OutOfMemory"
+
+-- the text: the name, and the line where there is one
+abbrev pub script_fault_text : ScriptFault → List ℕ
+script_fault_text (fault.Refused what line) = fault_name what ++ codes " line " ++ decimal line
+script_fault_text fault.OutOfMemory = codes "OutOfMemory"
 
 abbrev pub script_fault_line : ScriptFault → Option ℕ
 script_fault_line (fault.Refused what line) = Some line

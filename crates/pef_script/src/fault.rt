@@ -66,6 +66,11 @@ impl LineFault {
 }
 
 impl fmt::Display for LineFault {
+    ghost use Rattle.std.specs.Prelude.{Some};
+    ghost use Rattle.pef_script.specs.Faults.{fault_name};
+
+    ghost output = { λ fault. Some (fault_name fault) };
+
     fn fmt<W: fmt::Write>(&self, f: &mut fmt::Formatter<W>) -> fmt::Result {
         f.write_str(self.name())
     }
@@ -113,11 +118,15 @@ impl ScriptFault {
 }
 
 impl fmt::Display for ScriptFault {
+    ghost use Rattle.std.specs.Prelude.{Some};
+    ghost use Rattle.pef_script.specs.Faults.{script_fault_text};
+
+    ghost output = { λ fault. Some (script_fault_text fault) };
+
     fn fmt<W: fmt::Write>(&self, f: &mut fmt::Formatter<W>) -> fmt::Result {
-        f.write_str(self.name())?;
-        match self.line() {
-            Some(line) => write!(f, " line {line}"),
-            None => Ok(()),
+        match self {
+            ScriptFault::Refused { fault, line } => write!(f, "{fault} line {line}"),
+            ScriptFault::OutOfMemory => f.write_str(self.name()),
         }
     }
 }

@@ -26,6 +26,7 @@ use Rattle.pef_tool.specs.declared.prepare.PrepareFault.TheVariants.{Memory, Rel
 use Rattle.pef_tool.specs.declared.prepared.Prepared.{Prepared}
 use Rattle.cfm_memory.specs.declared.place.MemoryFault.TheVariants.{NoRoom, OutOfMemory}
 use Rattle.pef_tool.specs.Described.{described_at, described_extent, described_memory, filled}
+use Rattle.pef_tool.specs.Limits.{memory_limit}
 use Rattle.pef_tool.specs.Kept.Lacking.{HasNoRoomFor, LackRoom}
 use Rattle.pef_tool.specs.Kept.Prepared.{extent_in, extent_of, IsPrepared, MayNotPrepare, done_at, filled_at, filled_in, section_done}
 use Rattle.pef_tool.specs.Kept.Relocating.{program_done, refusal_at, relocated_by, untouched}
@@ -132,10 +133,10 @@ length-addresses : (places : List Place) → length (addresses_of places).sectio
 length-addresses places = length-map places (λ (p : Place). p.address)
 
 -- what was prepared is what the script describes
-pub shown_of : (script : DescribedScript) (programs : List (List Instr)) (c : Contained) (l : Loaded) (p : Prepared) → length script.libraries ≡ 0 → IsContainerOf script programs c l → IsPrepared 0x10000000 c l p → IsShown script p
+pub shown_of : (script : DescribedScript) (programs : List (List Instr)) (c : Contained) (l : Loaded) (p : Prepared) → length script.libraries ≡ 0 → IsContainerOf script programs c l → IsPrepared memory_limit c l p → IsShown script p
 shown_of script programs c l p alone of prepared =
     let count = length-placed _ _ 0 _ _ _ prepared.placed ∙ of.count in
-    let P : ℕ → Type 0 = λ n. ArePlaced (no_instances 0x10000000) (extent_of c) 0 n p.places.items prepared.after in
+    let P : ℕ → Type 0 = λ n. ArePlaced (no_instances memory_limit) (extent_of c) 0 n p.places.items prepared.after in
     record {
       alone = alone;
       after = prepared.after;
@@ -209,12 +210,12 @@ described_small script sections k = go (slice_get script.sections k) refl
         rw is (record { size = omega (arith, holds.total); alignment = omega (arith, holds.align) })
 
 -- such a container is refused for want of memory alone
-pub never_refused : (script : DescribedScript) (programs : List (List Instr)) (c : Contained) (l : Loaded) (fault : PrepareFault) → IsContainerOf script programs c l → MayNotPrepare 0x10000000 c l fault → fault ≡ Memory OutOfMemory
+pub never_refused : (script : DescribedScript) (programs : List (List Instr)) (c : Contained) (l : Loaded) (fault : PrepareFault) → IsContainerOf script programs c l → MayNotPrepare memory_limit c l fault → fault ≡ Memory OutOfMemory
 never_refused script programs c l (Memory OutOfMemory) of refused = refl
 never_refused script programs c l (Memory NoRoom) of refused =
-    let P : ℕ → Type 0 = λ n. LackRoom (no_instances 0x10000000) (extent_of c) 0 n in
-    let lack = lack_same (no_instances 0x10000000) (extent_of c) (described_extent script) 0 (length script.sections) (λ k low high. extent_same script programs c l of k (omega (arith, high))) (subst P of.count refused) in
-    absurd (none_lacks (no_instances 0x10000000) (described_extent script) 0 (length script.sections) 65536 (described_small script of.sections) (omega arith) (omega (arith, of.section_count)) tt lack)
+    let P : ℕ → Type 0 = λ n. LackRoom (no_instances memory_limit) (extent_of c) 0 n in
+    let lack = lack_same (no_instances memory_limit) (extent_of c) (described_extent script) 0 (length script.sections) (λ k low high. extent_same script programs c l of k (omega (arith, high))) (subst P of.count refused) in
+    absurd (none_lacks (no_instances memory_limit) (described_extent script) 0 (length script.sections) 65536 (described_small script of.sections) (omega arith) (omega (arith, of.section_count)) tt lack)
 never_refused script programs c l (Reloc fault) of refused =
     let a = addresses_of refused.places in
     let count = length-placed _ _ 0 _ _ _ refused.placed ∙ of.count in

@@ -5,6 +5,7 @@ ghost use Rattle.pef_loader.specs.Views.{loaded};
 ghost use Rattle.pef_views.specs.Views.{contained, seen};
 ghost use Rattle.pef_tool.specs.Kept.Held.{IsHeld};
 ghost use Rattle.pef_tool.specs.Kept.Lacking.{LacksRoom};
+ghost use Rattle.pef_tool.specs.Limits.{memory_limit};
 ghost use Rattle.pef_tool.specs.Kept.Prepared.{AreApart, HasImage, HasImageAt, IsPrepared, MayNotPrepare, extent_of, filled_at, filled_in, image_in, zeros_at};
 ghost use Rattle.pef_tool.specs.Placing.{ArePlaced, Stand, place_at};
 
@@ -65,8 +66,8 @@ pub fn prepare(
 ) -> Result<Prepared, PrepareFault>
     requires loader { (loaded loader.now).sections ≡ (contained container.now).header.instantiated_section_count }
     requires images { (k : ℕ) → HasImageAt (contained container.now) k }
-    ensures prepared { IfOk result (λ p. IsPrepared 0x10000000 (contained container.now) (loaded loader.now) p) }
-    ensures refused { IfErr result (λ fault. MayNotPrepare 0x10000000 (contained container.now) (loaded loader.now) fault) }
+    ensures prepared { IfOk result (λ p. IsPrepared memory_limit (contained container.now) (loaded loader.now) p) }
+    ensures refused { IfErr result (λ fault. MayNotPrepare memory_limit (contained container.now) (loaded loader.now) fault) }
 {
     let mut memory = Memory::new(alloc, MEMORY_LIMIT);
     let places = place_sections(alloc, &mut memory, container)?;

@@ -29,8 +29,8 @@ returns-in-Some-unmet-clause-next c =
     let under : length f.libraries < count_of f = let e = c.len.ensures in omega arith in
     λ order. (
       c.loop-library.invariant.rest order
-      ∙ frame-unmet c.args.store.now c.loop-library.fragments f c.loop-library.invariant.read c.loop-library.invariant.frame (library_seen c.in-Some.library) is under
-      c.in_ok-bound.bound c.push.new.self c.in_ok-bound.ensures.answer c.in_ok-push.ensures (record { marked = c.args.marked.now; order = order }) c.in-Some-unmet.q (sym c.in-Some-unmet.ensures),
+          ∙ frame-unmet c.args.store.now c.loop-library.fragments f c.loop-library.invariant.read c.loop-library.invariant.frame (library_seen c.in-Some.library) is under
+          c.in_ok-bound.bound c.push.new.self c.in_ok-bound.ensures.answer c.in_ok-push.ensures (record { marked = c.args.marked.now; order = order }) c.in-Some-unmet.q (sym c.in-Some-unmet.ensures),
       unmet-unmarked c.args.marked.now c.in_ok-bound.bound c.in-Some-unmet.q (sym c.in-Some-unmet.ensures),
       unmet-below c.args.marked.now c.in_ok-bound.bound c.in-Some-unmet.q _ (sym c.in-Some-unmet.ensures) c.in_ok-bound.ensures.below,
     )

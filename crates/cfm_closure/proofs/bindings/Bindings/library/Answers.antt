@@ -17,5 +17,5 @@ returns-clause-inside c =
     let walked = all-contains (IsWalked pairs c.self.inside.fragments.items libraries) order c.args.p kept.walked there in
     let inside : c.args.p < length libraries = let a = walked.inside in let b = kept.libraries_size in omega arith in
     let got : slice_get (get_or libraries c.args.p []) c.args.l ≡ Some c.in-Some.bound =
-        ap (λ bounds. slice_get bounds c.args.l) (get_or_default libraries c.args.p [] _ inside ∙ sym c.index.ensures) ∙ sym c.in-Some.ensures in
+    ap (λ bounds. slice_get bounds c.args.l) (get_or_default libraries c.args.p [] _ inside ∙ sym c.index.ensures) ∙ sym c.in-Some.ensures in
     rw (← c.self.view_is) (bound-inside pairs order c.args.p c.args.l c.in-Some.bound kept.complete there (walked.bound c.args.l c.in-Some.bound got))

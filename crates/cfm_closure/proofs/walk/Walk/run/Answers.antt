@@ -20,7 +20,7 @@ pub returns-in_err-step-clause-answer : goal.returns-in_err-step-clause-answer
 returns-in_err-step-clause-answer c =
     let s = state_of c.loop-frame.self in
     let before = c.loop-frame.invariant.rest
-        ∙ ap (λ path. rest_of_path c.args.store.now path s) c.in-Some.ensures.items
-        ∙ rest_of_path-push c.args.store.now c.pop.new.self.items c.in-Some.frame s in
+    ∙ ap (λ path. rest_of_path c.args.store.now path s) c.in-Some.ensures.items
+    ∙ rest_of_path-push c.args.store.now c.pop.new.self.items c.in-Some.frame s in
     let p = err_from_is_err_and c.from_residual.result c.from_residual.ensures.1 in
     rw (p.1, p.2) (Fails-also c.in_err-step.field-0.0 _ _ (λ r refused. before ∙ refused) c.in_err-step.ensures.continues)

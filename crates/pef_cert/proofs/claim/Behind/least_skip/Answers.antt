@@ -35,8 +35,8 @@ words-init c =
       position = omega (arith, c.from-position.ensures);
       small = omega (arith, c.value-least.ensures.small);
       left = ap (λ q. lesser (Some (1 + c.value-least.result)) (skip l 62 (q + 4) c.args.c (class_of b.claim.registers.now c.args.section) rest)) c.from-position.ensures
-        ∙ skip-first l c.args.fixup rest c.args.c c.args.section (1 + c.value-least.result) c.requires.skips.base counts
-        (ap (λ n. 1 + n) (c.value-least.ensures.is ∙ ap₂ (λ q n. extension l rest (q + 4) c.args.c n) c.from-position.ensures c.class_of-class.ensures));
+          ∙ skip-first l c.args.fixup rest c.args.c c.args.section (1 + c.value-least.result) c.requires.skips.base counts
+          (ap (λ n. 1 + n) (c.value-least.ensures.is ∙ ap₂ (λ q n. extension l rest (q + 4) c.args.c n) c.from-position.ensures c.class_of-class.ensures));
     }
 
 pub returns-then-not-adds : goal.returns-then-not-adds
@@ -67,7 +67,7 @@ words-preserved c =
       position = omega arith;
       small = omega (arith, c.min-least.ensures);
       left = skip-next l 62 c.words.counter c.words.position c.args.c c.args.section c.words.end c.words.least c.min-least.result c.value.result b.claim.fixups.now _ (omega arith) counts c.words.invariant.left c.if-not-adds.ensures
-        (c.value.ensures.is ∙ ap (λ n. extension l (drop (c.words.end + 1) b.claim.fixups.now) (c.words.position + 4) c.args.c n) c.class_of-class.ensures) c.min-least.ensures;
+          (c.value.ensures.is ∙ ap (λ n. extension l (drop (c.words.end + 1) b.claim.fixups.now) (c.words.position + 4) c.args.c n) c.class_of-class.ensures) c.min-least.ensures;
     }
 
 pub returns : goal.returns
