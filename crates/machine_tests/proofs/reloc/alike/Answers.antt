@@ -1,7 +1,7 @@
 use Rattle.std.proofs.Common.{◌≡◌, ℕ, zero, suc, true, replicate, refl, rules, ap, ◌∙◌}
 use Rattle.pef_reloc.specs.declared.instr.Instr.{Instr}
 use Rattle.pef_reloc.specs.Instrs.{instr_fits, instrs_fit}
-use Rattle.library_tests.proofs.reloc.alike.Goals as goal
+use Rattle.machine_tests.proofs.reloc.alike.Goals as goal
 
 -- copies of an instruction that fits fit
 copies_fit : (n : ℕ) (x : Instr) → instr_fits x ≡ true → instrs_fit (replicate n x) ≡ true
