@@ -1,5 +1,5 @@
 -- The memory that a script describes, byte by byte.
-use Rattle.std.proofs.Common.{◌≡◌, ℕ, zero, suc, ◌+◌, ◌-◌, ◌^◌, ◌%◌, ◌≤◌, ◌<◌, ◌⊎◌, ◌&&◌, true, List, [], ◌∷◌, ◌++◌, Some, length, take, drop, get_or, slice_get, inl, inr, refl, sym, ap, subst, ◌∙◌, arith}
+use Rattle.std.proofs.Common.{◌≡◌, ℕ, zero, suc, ◌+◌, ◌-◌, ◌^◌, ◌%◌, ◌≤◌, ◌<◌, ◌&&◌, true, List, [], ◌∷◌, ◌++◌, Some, length, take, drop, get_or, slice_get, inl, inr, refl, sym, ap, subst, ◌∙◌, arith}
 use Rattle.std.specs.Prelude.{nat_le, unwrap_or}
 use Rattle.std.proofs.Math.Seq.{drop-append_seam, drop-append-add, take-append_seam}
 use Rattle.std.proofs.lemmas.Bool.{leb-true}
@@ -14,9 +14,15 @@ use Rattle.pef_reloc.specs.declared.fixup.Base.{Base}
 use Rattle.pef_reloc.specs.declared.fixup.Fixup.{Fixup}
 use Rattle.pef_reloc.specs.Fixups.{fixup_fits, fixups_end, fixups_from}
 use Rattle.pef_reloc.proofs.Laws.{fixups_fit-parts}
-use Rattle.pef_script.specs.Described.{IsOutside, described_memory, with_bases, word_with_base}
+use Rattle.pef_reloc.specs.Additions.{with_bases}
+use Rattle.pef_script.specs.Described.{IsOutside, described_memory}
 use Rattle.pef_script.specs.Script.{DescribedSection}
 use Rattle.pef_script.specs.WellFormed.{SectionHolds}
+
+-- the word of a fixup, where memory from its place on is known: what stood there and the address of the
+-- base, modulo 2^32
+abbrev word_with_base : (Base → ℕ) → Fixup → List ℕ → List ℕ
+word_with_base address fixup memory = big_bytes 4 ((big_number 4 memory + address fixup.base) % 2 ^ 32)
 
 -- fixups stand in a row between two places
 abbrev Between : ℕ → List Fixup → ℕ → Type 0

@@ -15,8 +15,8 @@ use Rattle.pef_reloc.specs.Fixups.{base_fits, fixups_end}
 use Rattle.pef_reloc.proofs.Laws.{fixups_fit-more, fixups_end-append}
 use Rattle.pef_script.specs.declared.fault.LineFault.{LineFault}
 use Rattle.pef_script.specs.declared.fault.LineFault.TheVariants.{RepeatedName, OutOfOrder, Overlap, OutsideSection, TooMany}
-use Rattle.pef_script.specs.Limits.{greatest_total, most_name_bytes}
-use Rattle.pef_script.specs.Script.{DescribedExport, DescribedImport, DescribedLibrary, DescribedSection, section_names}
+use Rattle.pef_script.specs.Limits.{most_name_bytes}
+use Rattle.pef_script.specs.Script.{DescribedExport, DescribedImport, DescribedLibrary, DescribedSection}
 use Rattle.pef_script.specs.SoFar.{ScriptSoFar, counted_name_tests, has_no_room, is_repeated, library_group, name_tests, no_section, number_of_name, section_at}
 use Rattle.pef_script.specs.Declarations.{entered_import}
 use Rattle.pef_script.specs.Contents.{bytes_tests, fixup_of, fixup_tests, with_contents, with_fixups}

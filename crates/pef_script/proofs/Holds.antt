@@ -21,7 +21,8 @@ use Rattle.pef_script.specs.SoFar.{ScriptSoFar, content_group, counted_name_test
 use Rattle.pef_script.specs.Declarations.{class_of, entered_import, import_line, is_weak_word, kind_of, library_line, options_of, section_line, share_of, versions_line}
 use Rattle.pef_script.specs.Contents.{base_named, bytes_line, bytes_tests, fix_line, fixup_of, fixup_tests, is_section_word, tvector_line, with_fixups, with_image}
 use Rattle.pef_script.specs.Exports.{entry_in, export_line, init_line, main_line, place_tests, term_line}
-use Rattle.pef_script.specs.Grammar.{Refusal, after_line, is_skipped, line_by_word, line_of, lines_of, no_lines, read_lines, script_of}
+use Rattle.pef_lines.specs.Lines.{lines_of}
+use Rattle.pef_script.specs.Grammar.{Refusal, after_line, is_skipped, line_by_word, line_of, no_lines, read_lines, script_of}
 use Rattle.pef_script.specs.WellFormed.{ExportHolds, ImportHolds, LibraryHolds, PlaceHolds, ScriptHolds, SectionHolds, bytes_of_names, totals_of}
 use Rattle.pef_script.proofs.Leads.{Leads, leads_if, leads_then, leads_unless, led}
 use Rattle.pef_words.proofs.Laws.Lists.{all-append, all-map, all-weaker}

@@ -11,7 +11,11 @@ use Rattle.pef_reloc.specs.declared.fixup.Base.TheVariants as base
 use Rattle.pef_words.proofs.Laws.Tests.{met_both}
 use Rattle.pef_script.specs.declared.fault.LineFault.{LineFault}
 use Rattle.pef_script.specs.declared.fault.LineFault.TheVariants.{BadLine, BadNumber, UnknownName, BadKind}
-use Rattle.pef_script.specs.Words.{below, cut_at, is_word, is_printing, named, next_name, next_word, number_in, number_up_to, word_before}
+use Rattle.pef_lines.specs.Lines.{cut_at}
+use Rattle.pef_lines.specs.Numbers.{below}
+use Rattle.pef_lines.specs.Words.{is_word, is_printing, word_before}
+use Rattle.pef_lines.specs.Words as words
+use Rattle.pef_script.specs.Words.{named, next_name, next_word, number_in, number_up_to}
 use Rattle.pef_script.specs.Limits.{longest_name}
 use Rattle.pef_script.specs.Script.{import_names, section_names}
 use Rattle.pef_script.specs.SoFar.{ScriptSoFar, number_of_name, section_named}
@@ -21,9 +25,13 @@ use Rattle.pef_script.specs.WellFormed.{BaseThere, IsName, is_kind, is_options, 
 use Rattle.pef_script.proofs.Leads.{Leads, leads_if, leads_then, led}
 use Rattle.pef_script.proofs.ListLemmas.{position_from-under}
 
-word_before-is : (cut : Option (List ℕ × List ℕ)) → Leads (λ p. is_word p.0 ≡ true) (word_before cut)
+word_before-is : (cut : Option (List ℕ × List ℕ)) → Leads (λ p. is_word p.0 ≡ true) (ok_or (word_before cut) BadLine)
 word_before-is None = tt
-word_before-is (Some p) = leads_if (λ (q : List ℕ × List ℕ). is_word q.0 ≡ true) (is_word p.0) (Ok p) (Err BadLine) (λ is. is) (λ isnt. tt)
+word_before-is (Some p) = by (is_word p.0) refl
+  where
+    by : (b : Bool) → is_word p.0 ≡ b → Leads (λ (q : List ℕ × List ℕ). is_word q.0 ≡ true) (ok_or (cond b (Some p) None) BadLine)
+    by true is = is
+    by false isnt = tt
 
 -- a word that is not too long is a name
 name_if : (word : List ℕ) → is_word word ≡ true → length word ≤ longest_name → IsName word
@@ -35,7 +43,7 @@ named-is (Err fault) word = tt
 named-is (Ok p) word = leads_if (λ (q : List ℕ × List ℕ). IsName q.0) (nat_lt longest_name (length p.0)) (Err BadLine) (Ok p) (λ over. tt) (λ within. name_if p.0 word (ltb-false _ _ within))
 
 pub next_name-is : (line : List ℕ) (p : List ℕ × List ℕ) → next_name line ≡ Ok p → IsName p.0
-unfolding next_name next_word
+unfolding next_name next_word words.next_word
 next_name-is line p is = led (λ (q : List ℕ × List ℕ). IsName q.0) (next_name line) p is (named-is (next_word line) (word_before-is (cut_at 0x20 line)))
 
 pub number_up_to-is : (greatest : ℕ) (word : List ℕ) (n : ℕ) → number_up_to greatest word ≡ Ok n → n ≤ greatest

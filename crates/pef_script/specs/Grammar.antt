@@ -10,6 +10,7 @@ use Rattle.pef_script.specs.SoFar.{◌>>=◌, ScriptSoFar}
 use Rattle.pef_script.specs.Declarations.{versions_line, library_line, import_line, section_line}
 use Rattle.pef_script.specs.Contents.{bytes_line, fix_line, tvector_line}
 use Rattle.pef_script.specs.Exports.{export_line, main_line, init_line, term_line}
+use Rattle.pef_lines.specs.Lines.{lines_of}
 use Rattle.pef_script.specs.Words.{next_word}
 
 -- the first word of a line and what stands behind it
@@ -36,15 +37,6 @@ is_skipped (b ∷ bytes) = b == 0x23
 -- what a line leads to
 unfoldable pub line_of : ScriptSoFar → List ℕ → Result ScriptSoFar LineFault
 line_of s line = if is_skipped line then Ok s else next_word line >>= line_by_word s
-
--- the lines of a text: each ends with a line feed, which the last may lack
-abbrev pub longer_first : ℕ → List (List ℕ) → List (List ℕ)
-longer_first b [] = (b ∷ []) ∷ []
-longer_first b (line ∷ lines) = (b ∷ line) ∷ lines
-
-abbrev pub lines_of : List ℕ → List (List ℕ)
-lines_of [] = [] ∷ []
-lines_of (b ∷ bytes) = if b == 0x0A then [] ∷ lines_of bytes else longer_first b (lines_of bytes)
 
 -- a fault and the number of its line, from 1
 pub record Refusal : Type 0 where

@@ -1,4 +1,3 @@
 -- What only the code keeps and its private contracts cite. Nothing here is part of what the crate promises.
-pub mod Pairs
 pub mod Reader
 pub mod Steps

@@ -10,7 +10,7 @@ use Rattle.pef_reloc.specs.Limits.{most_imports, most_sections}
 use Rattle.pef_script.specs.Limits.{greatest_align, greatest_number, greatest_total, longest_name, most_exports, most_libraries, most_name_bytes}
 use Rattle.pef_script.specs.declared.parts.Versions.{Versions}
 use Rattle.pef_script.specs.Script.{DescribedExport, DescribedImport, DescribedLibrary, DescribedSection, DescribedScript, export_names, import_names, library_names}
-use Rattle.pef_script.specs.Words.{is_printing}
+use Rattle.pef_lines.specs.Words.{is_printing}
 
 -- a name has 1 to 255 bytes, each from 21 to 7E (hex)
 pub record IsName (name : List ℕ) : Type 0 where

@@ -10,10 +10,9 @@ use crate::fault::Stop;
 use crate::kinds::is_section_word;
 use crate::limits::{CONTENT_GROUP, MAX_NUMBER};
 use crate::numbers::read_number;
-use crate::pairs::Pairs;
 use crate::reader::Reader;
 use crate::tables::number_of_name;
-use crate::words::{last_name, last_word, next_name, next_word};
+use crate::words::{last_name, last_word, next_name, next_word, read_pairs};
 use pef_reloc::{Base, Fixup, MAX_FIXUPS, WORD};
 
 impl<'a> Reader<'a> {
@@ -23,7 +22,7 @@ impl<'a> Reader<'a> {
         ensures { Steps result (so_far self.new) (bytes_line (so_far self.old) line.now) }
     {
         let (name, rest) = next_name(line)?;
-        let pairs = Pairs::read(last_word(rest)?)?;
+        let pairs = read_pairs(last_word(rest)?)?;
         self.enter(CONTENT_GROUP)?;
         let k = self.section_named(name)?;
         self.test_bytes(k, pairs.count())?;

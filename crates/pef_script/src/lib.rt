@@ -10,7 +10,6 @@ mod fault;
 mod kinds;
 mod limits;
 mod numbers;
-mod pairs;
 mod parts;
 mod reader;
 mod script;

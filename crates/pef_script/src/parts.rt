@@ -3,8 +3,8 @@ ghost use Rattle.indexmap.specs.IndexMap.{index_map_len};
 ghost use Rattle.pef_reloc.specs.Limits.{most_imports, most_sections};
 ghost use Rattle.pef_script.specs.Limits.{most_libraries};
 
-use crate::pairs::Pairs;
 use indexmap::IndexMap;
+use pef_lines::Pairs;
 use pef_reloc::{Fixup, WORD};
 use std::alloc::AllocError;
 use std::marker::Model;
@@ -113,7 +113,6 @@ impl<'a> Section<'a> {
     ghost use Rattle.std.specs.Prelude.{◌≡◌, OnOk};
     ghost use Rattle.pef_reloc.specs.Fixups.{fixups_end};
     ghost use Rattle.pef_script.specs.Contents.{with_fixups, with_image};
-    ghost use Rattle.pef_script.specs.Kept.Pairs.{spelled};
 
     /// Where the last fixup's word ends, and 0 without fixups.
     pub fn fixups_end(&self) -> u64
@@ -127,7 +126,7 @@ impl<'a> Section<'a> {
 
     /// Appends the bytes that pairs of hex digits spell to the image.
     pub fn append(&mut self, pairs: Pairs) -> Result<(), AllocError>
-        ensures { OnOk result (self.new ≡ with_image self.old (spelled pairs.entry.digits.now)) }
+        ensures { OnOk result (self.new ≡ with_image self.old pairs.entry) }
     {
         pairs.append_to(&mut self.image)
     }

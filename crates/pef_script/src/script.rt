@@ -10,12 +10,10 @@ ghost use Rattle.pef_script.specs.WellFormed.{ScriptHolds};
 use crate::ScriptFault;
 use crate::parts::{Export, Import, Library, Parts, SectionHeader, Versions};
 use crate::reader::Reader;
-use crate::words::cut_at;
+use pef_lines::{LINE_FEED, cut_at};
 use pef_reloc::Fixup;
 use std::alloc::Global;
 use std::marker::Model;
-
-const LINE_FEED: u8 = b'\n';
 
 /// A link script: what a container is made of. Names are borrowed from the text.
 #[derive(Drop)]

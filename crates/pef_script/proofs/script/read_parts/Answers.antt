@@ -1,10 +1,12 @@
 -- Each turn reads the first of the lines that are left; what is left behind the last line feed is the last line.
 use Rattle.std.proofs.Common.{◌≡◌, ◌+◌, [], ◌∷◌, Ok, subst, sym, ap, refl, ◌∙◌, arith}
 use Rattle.std.proofs.lemmas.Result.{err_from_is_err_and}
-use Rattle.pef_script.specs.Grammar.{after_line, lines_of, read_lines, script_of}
+use Rattle.pef_lines.specs.Lines.{lines_of}
+use Rattle.pef_script.specs.Grammar.{after_line, read_lines, script_of}
 use Rattle.pef_script.specs.Views.{Fails}
 use Rattle.pef_script.specs.Kept.Reader.{so_far}
-use Rattle.pef_script.proofs.LineLemmas.{lines_of-last, lines_of-cut, cut_at-shorter, read_lines-fails}
+use Rattle.pef_lines.proofs.Laws.{lines_of-last, lines_of-cut, cut_at-shorter}
+use Rattle.pef_script.proofs.LineLemmas.{read_lines-fails}
 use Rattle.pef_script.proofs.script.read_parts.Goals as goal
 
 pub lines-init : goal.lines-init

@@ -1,5 +1,6 @@
 use Rattle.std.proofs.Common.{◌≡◌, ◌+◌, ◌≤◌, length}
-use Rattle.pef_script.specs.Grammar.{lines_of, read_lines, script_of}
+use Rattle.pef_lines.specs.Lines.{lines_of}
+use Rattle.pef_script.specs.Grammar.{read_lines, script_of}
 use Rattle.pef_script.specs.Kept.Reader.{so_far}
 use Rattle.pef_script.proofs.script.read_parts.Given as goal
 

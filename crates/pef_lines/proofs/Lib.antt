@@ -1,0 +1,5 @@
+pub mod Laws
+mod Cuts
+mod Digits
+mod LineLemmas
+mod PairLemmas

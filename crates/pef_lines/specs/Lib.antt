@@ -1,0 +1,5 @@
+pub mod Kept
+pub mod Lines
+pub mod Numbers
+pub mod Pairs
+pub mod Words

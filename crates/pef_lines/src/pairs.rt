@@ -1,0 +1,96 @@
+ghost use Rattle.std.specs.Prelude.{◌≡◌, ◌++◌, ◌*◌, ◌%◌, ◌≤◌, length, OnOk};
+ghost use Rattle.std.specs.List.{list_all};
+ghost use Rattle.pef_lines.specs.Kept.Pairs.{digit_value, is_hex, spelled};
+ghost use Rattle.pef_lines.specs.Pairs.{pairs_of};
+
+use crate::numbers::hex_digit;
+use std::alloc::AllocError;
+use std::marker::Model;
+
+/// Pairs of hex digits, of either case, each of which spells a byte.
+#[derive(Debug, Drop)]
+pub struct Pairs<'a> {
+    digits: &'a [u8],
+}
+
+impl<'a> Model for Pairs<'a> {
+    ghost use Rattle.std.specs.Prelude.{◌≡◌, ◌%◌, length, List, ℕ};
+    ghost use Rattle.pef_lines.specs.Kept.Pairs.{spelled};
+
+    ghost Value = { List ℕ };
+
+    ghost view = { λ p. spelled p.digits.now };
+
+    ghost invariant = { λ p. length p.digits.now % 2 ≡ 0 };
+}
+
+impl<'a> Pairs<'a> {
+    /// The pairs that a word has, where it has nothing else.
+    pub fn read(word: &'a [u8]) -> Option<Pairs<'a>>
+        ensures { result ≡ pairs_of word.entry.now }
+    {
+        if word.len() % 2 != 0 {
+            return None;
+        }
+        if !all_hex(word) {
+            return None;
+        }
+        Some(Pairs { digits: word })
+    }
+
+    /// How many bytes they spell.
+    pub fn count(&self) -> usize
+        ensures { result ≡ length self.now }
+    {
+        self.digits.len() / 2
+    }
+
+    /// Appends the bytes that they spell.
+    pub fn append_to(&self, bytes: &mut Vec<u8>) -> Result<(), AllocError>
+        ensures { OnOk result (bytes.new.items ≡ bytes.old.items ++ self.now) }
+    {
+        append_spelled(self.digits, bytes)
+    }
+}
+
+/// Appends the bytes that pairs of hex digits spell.
+fn append_spelled(digits: &[u8], bytes: &mut Vec<u8>) -> Result<(), AllocError>
+    requires { length digits.now % 2 ≡ 0 }
+    ensures { OnOk result (bytes.new.items ≡ bytes.old.items ++ spelled digits.now) }
+{
+    let start = bytes.len();
+    bytes.resize(start + digits.len() / 2, 0)?;
+    let (_, added) = bytes.split_at_mut(start);
+    spell(digits, added);
+    Ok(())
+}
+
+// The loops below look at every digit, whatever they found before, so that many are done at a time.
+
+fn all_hex(digits: &[u8]) -> bool
+    ensures { result ≡ list_all is_hex digits.now }
+{
+    let mut all = true;
+    for digit in digits {
+        all &= hex_digit(*digit).is_some();
+    }
+    all
+}
+
+/// The value of a hex digit, and 0 of another byte.
+fn digit_value(digit: u8) -> u8
+    ensures value { result ≡ digit_value digit }
+    ensures most { result ≤ 15 }
+{
+    hex_digit(digit).unwrap_or(0)
+}
+
+/// Writes the bytes that pairs of hex digits spell.
+fn spell(digits: &[u8], bytes: &mut [u8])
+    requires { length digits.now ≡ 2 * length bytes.old }
+    ensures { bytes.new ≡ spelled digits.now }
+{
+    for i in 0..bytes.len() {
+        bytes[i] = digit_value(digits[2 * i]) * 16 + digit_value(digits[2 * i + 1]);
+    }
+}

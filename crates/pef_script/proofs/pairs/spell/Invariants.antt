@@ -1,7 +1,0 @@
-use Rattle.std.proofs.Common.{◌≡◌, ◌+◌, ◌*◌, ◌++◌, drop, take, length}
-use Rattle.pef_script.specs.Kept.Pairs.{spelled}
-use Rattle.pef_script.proofs.pairs.spell.Given as goal
-
--- the bytes that are written and those of the pairs that are left are the whole
-abbrev pub invariant-loop-i : goal.invariant-loop-i
-invariant-loop-i l = take l.i l.bytes ++ spelled (drop (2 * l.i) l.digits) ≡ spelled l.digits
