@@ -33,6 +33,11 @@ impl HashFault {
 }
 
 impl fmt::Display for HashFault {
+    ghost use Rattle.std.specs.Prelude.{Some};
+    ghost use Rattle.pef_hash.specs.Faults.{fault_name};
+
+    ghost output = { λ fault. Some (fault_name fault) };
+
     fn fmt<W: fmt::Write>(&self, f: &mut fmt::Formatter<W>) -> fmt::Result {
         f.write_str(self.name())
     }

@@ -77,6 +77,11 @@ impl LoaderFault {
 }
 
 impl fmt::Display for LoaderFault {
+    ghost use Rattle.std.specs.Prelude.{Some};
+    ghost use Rattle.pef_loader.specs.Faults.{fault_name};
+
+    ghost output = { λ fault. Some (fault_name fault) };
+
     fn fmt<W: fmt::Write>(&self, f: &mut fmt::Formatter<W>) -> fmt::Result {
         f.write_str(self.name())
     }
