@@ -15,3 +15,17 @@ pub use Rattle.cfm_memory.proofs.Changes.{length-fitted}
 pub use Rattle.cfm_memory.proofs.Contents.{fitted_same}
 -- a part of an instance's bytes is the range at its address
 pub use Rattle.cfm_memory.proofs.Ranges.{range_of_instance}
+-- instances that are placed in turn: one turn after another, what lacks room, how many there are
+pub use Rattle.cfm_memory.proofs.InTurn.{placed-append, lack-behind, length-placed}
+-- they are zeros, have the sizes that they need, lie below the limit and apart, and all others stay
+pub use Rattle.cfm_memory.proofs.InTurn.{no_extent, placed_stand, placed_size, placed_below, placed_apart, placed_new, placed_stays}
+-- no two of some places that are apart have one address
+pub use Rattle.cfm_memory.proofs.InTurn.{apart_both}
+-- instances that stand at the lengths of their places are held there
+pub use Rattle.cfm_memory.proofs.InTurn.{is_held, stand_held, placed_held, new_held}
+-- extents that take no more than lies below the limit find room in empty memory
+pub use Rattle.cfm_memory.proofs.Rooms.{most_taken, all_find_room}
+-- new instances that are given back leave what was there, whatever was written to them
+pub use Rattle.cfm_memory.proofs.GivenBack.{new_given_back, placed_given_back, written_given_back}
+-- and all others keep their bytes and are held
+pub use Rattle.cfm_memory.proofs.GivenBack.{given_back_elsewhere, held_elsewhere, written_holds}

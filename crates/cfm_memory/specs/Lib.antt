@@ -1,3 +1,4 @@
+pub mod Extents
 pub mod Faults
 pub mod Instances
 pub mod Kept

@@ -1,0 +1,145 @@
+-- How placements follow one another, and what they leave of each other.
+use Rattle.std.proofs.Common.{◌≡◌, ◌≢◌, ℕ, zero, suc, ◌+◌, ◌<◌, ◌≤◌, List, [], ◌∷◌, ◌++◌, Option, None, Some, length, get_or, replicate, refl, sym, ap, subst, ◌∙◌, inl, inr, IsTrue, arith, rules}
+use Rattle.std.proofs.lemmas.Bool.{cases_lt}
+use Rattle.std.proofs.lemmas.List.{get_or_default, length-replicate}
+use Rattle.cfm_memory.specs.Extents.{AreApart, AreHeld, ArePlaced, Extent, IsPlaceFor, LackRoom, Stand, place_at, zeros_at}
+use Rattle.cfm_memory.specs.Instances.{Layout, bytes_at, holds_place}
+use Rattle.cfm_memory.specs.Placement.{taken, with_new}
+use Rattle.cfm_memory.specs.declared.place.Place.{Place}
+use Rattle.cfm_memory.proofs.Contents.{nothing_at_free, placed_here, placed_other}
+use Rattle.cfm_memory.proofs.Placing.{some_taken, within_taken}
+
+-- what stands for a place, and for an extent, past the last one
+abbrev nowhere : Place
+nowhere = record { address = 0; size = 0 }
+
+abbrev pub no_extent : Extent
+no_extent = record { size = 0; alignment = 0 }
+
+-- extents that are placed behind placed ones are placed in one turn
+pub placed-append : (m mid after : Layout) (extents others : List Extent) (places more : List Place) → ArePlaced m extents places mid → ArePlaced mid others more after → ArePlaced m (extents ++ others) (places ++ more) after
+placed-append m mid after [] others [] more placed later = subst (λ (k : Layout). ArePlaced k others more after) placed later
+placed-append m mid after [] others (p ∷ places) more placed later = absurd placed
+placed-append m mid after (e ∷ extents) others [] more placed later = absurd placed
+placed-append m mid after (e ∷ extents) others (p ∷ places) more placed later = (placed.0, placed-append (with_new m p) mid after extents others places more placed.1 later)
+
+-- extents that lack room behind placed ones lack it in one turn
+pub lack-behind : (m mid : Layout) (extents others : List Extent) (places : List Place) → ArePlaced m extents places mid → LackRoom mid others → LackRoom m (extents ++ others)
+lack-behind m mid [] others [] placed lack = subst (λ (k : Layout). LackRoom k others) placed lack
+lack-behind m mid [] others (p ∷ places) placed lack = absurd placed
+lack-behind m mid (e ∷ extents) others [] placed lack = absurd placed
+lack-behind m mid (e ∷ extents) others (p ∷ places) placed lack = inr (p, placed.0, lack-behind (with_new m p) mid extents others places placed.1 lack)
+
+-- there are as many places as extents
+pub length-placed : (m : Layout) (extents : List Extent) (places : List Place) (after : Layout) → ArePlaced m extents places after → length places ≡ length extents
+length-placed m [] [] after placed = refl
+length-placed m [] (p ∷ places) after placed = absurd placed
+length-placed m (e ∷ extents) [] after placed = absurd placed
+length-placed m (e ∷ extents) (p ∷ places) after placed = ap suc (length-placed (with_new m p) extents places after placed.1)
+
+-- nothing stands at a place with room
+fresh : (m : Layout) (e : Extent) (p : Place) → IsPlaceFor m e p → bytes_at m.instances p.address ≡ None
+fresh m e p placed =
+    let some = some_taken e.size in
+    nothing_at_free m.instances p.address (p.address + taken e.size) (omega (arith, some)) placed.lowest.room.free
+
+-- where there are bytes there is not nothing
+some_is_not_none : {A : Type 0} (o : Option A) (x : A) → o ≡ Some x → o ≡ None → ⊥
+some_is_not_none o x some none = cc
+
+-- placements leave the instances that are there
+pub placed_stays : (m : Layout) (extents : List Extent) (places : List Place) (after : Layout) (address : ℕ) (bytes : List ℕ)
+    → ArePlaced m extents places after → bytes_at m.instances address ≡ Some bytes → bytes_at after.instances address ≡ Some bytes
+placed_stays m [] [] after address bytes placed there = rw placed there
+placed_stays m [] (p ∷ places) after address bytes placed there = absurd placed
+placed_stays m (e ∷ extents) [] after address bytes placed there = absurd placed
+placed_stays m (e ∷ extents) (p ∷ places) after address bytes placed there =
+    let apart : p.address ≢ address = λ same. some_is_not_none (bytes_at m.instances address) bytes there (subst (λ a. bytes_at m.instances a ≡ None) same (fresh m e p placed.0)) in
+    placed_stays (with_new m p) extents places after address bytes placed.1 (placed_other m.instances (record { address = p.address; bytes = replicate p.size 0 }) address apart ∙ there)
+
+-- every new instance is zeros
+zeros_there : (m : Layout) (extents : List Extent) (places : List Place) (after : Layout) (k : ℕ) (d : Place)
+    → ArePlaced m extents places after → k < length places → bytes_at after.instances (get_or places k d).address ≡ Some (replicate (get_or places k d).size 0)
+zeros_there m [] [] after k d placed under = absurd (omega arith)
+zeros_there m [] (p ∷ places) after k d placed under = absurd placed
+zeros_there m (e ∷ extents) [] after k d placed under = absurd placed
+zeros_there m (e ∷ extents) (p ∷ places) after zero d placed under =
+    placed_stays (with_new m p) extents places after p.address (replicate p.size 0) placed.1 (placed_here m.instances (record { address = p.address; bytes = replicate p.size 0 }))
+zeros_there m (e ∷ extents) (p ∷ places) after (suc k) d placed under = zeros_there (with_new m p) extents places after k d placed.1 (omega arith)
+
+pub placed_stand : (m : Layout) (extents : List Extent) (places : List Place) (after : Layout) → ArePlaced m extents places after → Stand after places (zeros_at places)
+placed_stand m extents places after placed k under = zeros_there m extents places after k nowhere placed under
+
+-- and has the size that it needs
+pub placed_size : (m : Layout) (extents : List Extent) (places : List Place) (after : Layout) → ArePlaced m extents places after → (k : ℕ) → (place_at places k).size ≡ (get_or extents k no_extent).size
+placed_size m [] [] after placed k = refl
+placed_size m [] (p ∷ places) after placed k = absurd placed
+placed_size m (e ∷ extents) [] after placed k = absurd placed
+placed_size m (e ∷ extents) (p ∷ places) after placed zero = placed.0.size
+placed_size m (e ∷ extents) (p ∷ places) after placed (suc k) = placed_size (with_new m p) extents places after placed.1 k
+
+-- and lies below the limit
+pub placed_below : (m : Layout) (extents : List Extent) (places : List Place) (after : Layout) → ArePlaced m extents places after → (k : ℕ) → k < length places → (place_at places k).address + (place_at places k).size ≤ m.limit
+placed_below m [] [] after placed k under = absurd (omega arith)
+placed_below m [] (p ∷ places) after placed k under = absurd placed
+placed_below m (e ∷ extents) [] after placed k under = absurd placed
+placed_below m (e ∷ extents) (p ∷ places) after placed zero under =
+    let room = placed.0.lowest.room.inside in
+    omega (arith, room, placed.0.size, within_taken e.size)
+placed_below m (e ∷ extents) (p ∷ places) after placed (suc k) under = placed_below (with_new m p) extents places after placed.1 k (omega arith)
+
+-- a place is none of an instance that was there before
+place_new : (m : Layout) (extents : List Extent) (places : List Place) (after : Layout) (k : ℕ) (d : Place) (address : ℕ) (bytes : List ℕ)
+    → ArePlaced m extents places after → k < length places → bytes_at m.instances address ≡ Some bytes → address ≢ (get_or places k d).address
+place_new m [] [] after k d address bytes placed under there = absurd (omega arith)
+place_new m [] (p ∷ places) after k d address bytes placed under there = absurd placed
+place_new m (e ∷ extents) [] after k d address bytes placed under there = absurd placed
+place_new m (e ∷ extents) (p ∷ places) after zero d address bytes placed under there =
+    λ same. some_is_not_none (bytes_at m.instances address) bytes there (subst (λ a. bytes_at m.instances a ≡ None) (sym same) (fresh m e p placed.0))
+place_new m (e ∷ extents) (p ∷ places) after (suc k) d address bytes placed under there =
+    let apart : p.address ≢ address = λ same. some_is_not_none (bytes_at m.instances address) bytes there (subst (λ a. bytes_at m.instances a ≡ None) same (fresh m e p placed.0)) in
+    place_new (with_new m p) extents places after k d address bytes placed.1 (omega arith) (placed_other m.instances (record { address = p.address; bytes = replicate p.size 0 }) address apart ∙ there)
+
+pub placed_new : (m : Layout) (extents : List Extent) (places : List Place) (after : Layout) (k : ℕ) (address : ℕ) (bytes : List ℕ)
+    → ArePlaced m extents places after → k < length places → bytes_at m.instances address ≡ Some bytes → address ≢ (place_at places k).address
+placed_new m extents places after k address bytes placed under there = place_new m extents places after k nowhere address bytes placed under there
+
+-- no two new instances have one address
+distinct : (m : Layout) (extents : List Extent) (places : List Place) (after : Layout) (j k : ℕ) (d : Place)
+    → ArePlaced m extents places after → j < k → k < length places → (get_or places j d).address ≢ (get_or places k d).address
+distinct m [] [] after j k d placed order under = absurd (omega arith)
+distinct m [] (p ∷ places) after j k d placed order under = absurd placed
+distinct m (e ∷ extents) [] after j k d placed order under = absurd placed
+distinct m (e ∷ extents) (p ∷ places) after j zero d placed order under = absurd (omega arith)
+distinct m (e ∷ extents) (p ∷ places) after zero (suc k) d placed order under =
+    place_new (with_new m p) extents places after k d p.address (replicate p.size 0) placed.1 (omega arith) (placed_here m.instances (record { address = p.address; bytes = replicate p.size 0 }))
+distinct m (e ∷ extents) (p ∷ places) after (suc j) (suc k) d placed order under = distinct (with_new m p) extents places after j k d placed.1 (omega arith) (omega arith)
+
+pub placed_apart : (m : Layout) (extents : List Extent) (places : List Place) (after : Layout) → ArePlaced m extents places after → AreApart places
+placed_apart m extents places after placed j k order under = distinct m extents places after j k nowhere placed order under
+
+-- two places are apart, in either order
+pub apart_both : (places : List Place) (j k : ℕ) → j < length places → k < length places → AreApart places → j ≢ k → (place_at places j).address ≢ (place_at places k).address
+apart_both places j k low high apart other = elim (cases_lt j k) [
+  | inl less ↦ apart j k less high
+  | inr le ↦ λ same. apart k j (omega (arith, le, other)) low (sym same)
+]
+
+-- an instance of the right length is held
+pub is_held : (m : Layout) (p : Place) (bytes : List ℕ) → bytes_at m.instances p.address ≡ Some bytes → length bytes ≡ p.size → IsTrue (holds_place m p)
+is_held m p bytes there len = rw (there, len) (search rules)
+
+-- instances that stand at their places at the right lengths are held there
+pub stand_held : (m : Layout) (places : List Place) (bytes : ℕ → List ℕ) → Stand m places bytes → ((k : ℕ) → k < length places → length (bytes k) ≡ (place_at places k).size) → AreHeld m places
+stand_held m places bytes stand len k d under =
+    let P : Place → Type 0 = λ p. IsTrue (holds_place m p) in
+    subst P (get_or_default places k nowhere d under) (is_held m (place_at places k) (bytes k) (stand k under) (len k under))
+
+-- so new instances are
+pub placed_held : (m : Layout) (extents : List Extent) (places : List Place) (after : Layout) → ArePlaced m extents places after → AreHeld after places
+placed_held m extents places after placed =
+    stand_held after places (zeros_at places) (placed_stand m extents places after placed) (λ k under. length-replicate {A = ℕ} (place_at places k).size 0)
+
+-- also a single one
+pub new_held : (m : Layout) (p : Place) → IsTrue (holds_place (with_new m p) p)
+new_held m p = is_held (with_new m p) p (replicate p.size 0) (placed_here m.instances (record { address = p.address; bytes = replicate p.size 0 })) (length-replicate {A = ℕ} p.size 0)

@@ -1,0 +1,53 @@
+-- What a container's instantiated sections need of memory, and what they are filled with (Mac OS Runtime
+-- Architectures, "PEF Structure", section headers: totalSize, unpackedSize, alignment; section contents;
+-- pattern-initialized data).
+use Rattle.std.specs.Prelude.{ℕ, zero, suc, ◌+◌, ◌==◌, List, [], ◌∷◌, Option, Result, Ok, if◌then◌else◌, take}
+use Rattle.std.specs.Option.{option_and_then, option_map_or}
+use Rattle.std.specs.Result.{result_err, result_unwrap_or}
+use Rattle.cfm_memory.specs.Extents.{Extent}
+use Rattle.pef_pidata.specs.Pattern.{pattern_text}
+use Rattle.pef_pidata.specs.declared.fault.PackFault.{PackFault}
+use Rattle.pef_views.specs.Container.{Contained, Section, section_of}
+use Rattle.pef_views.specs.Section.{pattern_data_section}
+use Rattle.pef_words.specs.Bytes.{filled}
+use Rattle.pef_words.specs.Refusals.{first_among, result_map}
+
+-- what a section needs of memory: its total length, at its alignment
+abbrev pub extent_in : Section → Extent
+extent_in s = record { size = s.header.total_size; alignment = s.header.alignment }
+
+-- the same of section k of a container
+abbrev pub extent_at : Contained → ℕ → Extent
+extent_at c k = option_map_or extent_in (section_of c k) (record { size = 0; alignment = 0 })
+
+-- the same of n sections from a number on
+abbrev pub extents_from : Contained → ℕ → ℕ → List Extent
+extents_from c from zero = []
+extents_from c from (suc n) = extent_at c from ∷ extents_from c (from + 1) n
+
+-- what a container's instantiated sections need of memory, in the order of their numbers
+abbrev pub extents_of : Contained → List Extent
+extents_of c = extents_from c 0 c.header.instantiated_section_count
+
+-- the image of a section: of pattern-initialized data what its raw bytes spell, or why they spell nothing,
+-- and else the first of its raw bytes
+unfoldable pub image_of : Section → Result (List ℕ) PackFault
+image_of s =
+    if s.header.section_kind == pattern_data_section then pattern_text s.raw s.header.unpacked_size
+    else Ok (take s.header.unpacked_size s.raw)
+
+-- the memory of a section before it is relocated: its image, and zeros up to its total length
+abbrev pub filled_in : Section → Result (List ℕ) PackFault
+filled_in s = result_map (λ image. filled image s.header.total_size) (image_of s)
+
+-- the same of section k of a container; nothing where that is refused
+abbrev pub filled_at : Contained → ℕ → List ℕ
+filled_at c k = option_map_or (λ s. result_unwrap_or (filled_in s) []) (section_of c k) []
+
+-- why section k of a container can't be filled
+abbrev pub image_refusal : Contained → ℕ → Option PackFault
+image_refusal c k = option_and_then (λ s. result_err (image_of s)) (section_of c k)
+
+-- the first of these refusals among its n first sections
+abbrev pub first_image_refusal : Contained → ℕ → Option PackFault
+first_image_refusal c n = first_among (image_refusal c) 0 n
