@@ -1,8 +1,14 @@
 mod BoundLemmas
+mod ClosedLemmas
 mod FollowLemmas
 mod FragmentLemmas
 mod FrameLemmas
+mod HopFacts
 mod HopLemmas
+mod InitLemmas
+mod KnownLemmas
+pub mod Laws
+mod LeadLemmas
 mod LoopLemmas
 mod OrderFacts
 mod PathLemmas

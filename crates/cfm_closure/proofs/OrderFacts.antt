@@ -8,13 +8,13 @@ use Rattle.pef_words.proofs.Laws.Lists.{all-at}
 use Rattle.cfm_closure.specs.Faults.{◌>>=◌, Refusal}
 use Rattle.cfm_closure.specs.Fragments.{Fragment, fragment_of}
 use Rattle.cfm_closure.specs.Libraries.{bound_to}
-use Rattle.cfm_closure.specs.Promises.{HasLibrary, IsComplete, IsMember}
+use Rattle.cfm_closure.specs.Promises.{EndsWith, HasLibrary, IsComplete, IsMember}
 use Rattle.cfm_closure.specs.Stores.{Pair}
-use Rattle.cfm_closure.specs.Walk.{Walked, is_marked, left, order_of, unwalked, walk}
+use Rattle.cfm_closure.specs.Walk.{Walked, is_marked, joining, left, marking, order_of, unwalked, walk, walk_at, walks_from}
 use Rattle.cfm_closure.specs.Kept.Walks.{IsBound, IsDone, IsTidy, Reaches}
 use Rattle.cfm_closure.proofs.BoundLemmas.{stands_for}
 use Rattle.cfm_closure.proofs.WalkFacts.{Walks, walk-does}
-use Rattle.cfm_closure.proofs.WalkRules.{came, same_ok, unmarked_inside}
+use Rattle.cfm_closure.proofs.WalkRules.{came, same_ok, unmarked_inside, walk-rule}
 
 module _ (pairs : List Pair) where
   -- at the start nothing is marked
@@ -92,6 +92,18 @@ module _ (pairs : List Pair) where
       let r = from_root root order is in
       let P : List ℕ → Type 0 = λ order. Contains order root in
       subst P r.same (joined r.to r.walks.reaches root inside r.walks.met)
+
+  -- which is the last
+  pub order-last : (root : ℕ) (order : List ℕ) → order_of pairs root ≡ Ok order → root < length pairs → EndsWith order root
+  unfolding order_of
+  order-last root order is inside =
+      let a = came (walk (length pairs) pairs root (unwalked pairs)) (λ s. Ok s.order) order is in
+      let rule = walk-rule (length pairs) pairs root (unwalked pairs) few_left ∙ ap (walk_at (walk (length pairs) pairs) pairs root (unwalked pairs)) (unmarked_start root inside) in
+      let f = came (fragment_of pairs root) (λ f. walks_from (walk (length pairs) pairs) pairs root 0 f.loader.header.library_count (marking root (unwalked pairs)) >>= (λ s. Ok (joining root s))) a.value (sym rule ∙ a.is) in
+      let w = came (walks_from (walk (length pairs) pairs) pairs root 0 f.value.loader.header.library_count (marking root (unwalked pairs))) (λ s. Ok (joining root s)) a.value f.leads in
+      let same : joining root w.value ≡ a.value = cc in
+      let whole : a.value.order ≡ order = cc in
+      (w.value.order, sym whole ∙ sym (ap (λ (s : Walked). s.order) same))
 
 -- the fragment that a library entry of a member stands for is a member
 pub bound-inside : (pairs : List Pair) (order : List ℕ) (p l : ℕ) (b : Option ℕ) → IsComplete pairs order → Contains order p → bound_to pairs p l ≡ Ok b → IfSome b (λ q. Contains order q)

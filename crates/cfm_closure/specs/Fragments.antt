@@ -28,7 +28,11 @@ with_container name (Err fault) = Err (no_container name fault)
 unfoldable pub fragment_of : List Pair → ℕ → Result Fragment Refusal
 fragment_of pairs p = with_container (pair_of pairs p).name (container_of (pair_of pairs p).bytes)
 
--- the loader section of the fragment in a place, where it can be read
+-- the container of the fragment in a place, where it can be read
+abbrev pub container_at : List Pair → ℕ → Option Contained
+container_at pairs p = option_map (λ f. f.container) (result_ok (fragment_of pairs p))
+
+-- its loader section
 abbrev pub loader_at : List Pair → ℕ → Option Loaded
 loader_at pairs p = option_map (λ f. f.loader) (result_ok (fragment_of pairs p))
 

@@ -1,8 +1,12 @@
 -- What holds of closures beside their definitions.
-use Rattle.std.specs.Prelude.{◌≡◌, ◌≢◌, ℕ, ◌<◌, ◌≤◌, List, length, Option, Some, Ok, Contains, AllPairs}
+use Rattle.std.specs.Prelude.{◌≡◌, ◌≢◌, ℕ, ◌<◌, ◌≤◌, List, [], ◌∷◌, ◌++◌, length, Option, Some, Result, Ok, Err, Contains, AllPairs}
+use Rattle.std.specs.Option.{option_map_or}
+use Rattle.cfm_closure.specs.declared.targets.Target.{Target}
+use Rattle.cfm_closure.specs.Faults.{Refusal, reexport_loop}
 use Rattle.cfm_closure.specs.Fragments.{Fragment, fragment_of}
 use Rattle.cfm_closure.specs.Libraries.{bound_to}
-use Rattle.cfm_closure.specs.Stores.{Pair}
+use Rattle.cfm_closure.specs.Stores.{Pair, pair_of}
+use Rattle.cfm_closure.specs.Targets.{exports_among, follow, symbol_of, target_of}
 
 -- a library entry wasn't refused, and its fragment, where it isn't absent, is in the order
 pub record HasLibrary (pairs : List Pair) (order : List ℕ) (p l : ℕ) : Type 0 where
@@ -22,3 +26,16 @@ pub record IsComplete (pairs : List Pair) (order : List ℕ) : Type 0 where
   pub members : (p : ℕ) → Contains order p → IsMember pairs order p
   pub once : AllPairs (λ p q. p ≢ q) order
   pub count : length order ≤ length pairs
+
+-- the last fragment of an order
+abbrev pub EndsWith : List ℕ → ℕ → Type 0
+EndsWith order p = (front : List ℕ) × (order ≡ front ++ p ∷ [])
+
+-- an import isn't refused
+abbrev pub HasTarget : List Pair → ℕ → ℕ → Type 0
+HasTarget pairs p j = (target : Option Target) × (target_of pairs p j ≡ Ok target)
+
+-- the target of an import, where only the exports of some fragments are counted
+abbrev pub target_within : List Pair → List ℕ → ℕ → ℕ → Result (Option Target) Refusal
+target_within pairs order p j =
+    option_map_or (λ answer. answer) (follow (exports_among pairs order) pairs p j) (Err (reexport_loop (pair_of pairs p).name (symbol_of pairs p j)))

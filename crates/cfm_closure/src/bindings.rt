@@ -1,7 +1,8 @@
-ghost use Rattle.std.specs.Prelude.{◌≡◌, ◌<◌, length, Contains, Ok, IfOk, IfSome};
+ghost use Rattle.std.specs.Prelude.{◌≡◌, ◌<◌, ◌≤◌, length, Contains, Ok, IfOk, IfSome};
 ghost use Rattle.cfm_closure.specs.Faults.{Answers};
-ghost use Rattle.cfm_closure.specs.Fragments.{fragment_of, library_count};
+ghost use Rattle.cfm_closure.specs.Fragments.{fragment_of, import_count, library_count};
 ghost use Rattle.cfm_closure.specs.Libraries.{bound_to};
+ghost use Rattle.cfm_closure.specs.Promises.{IsComplete};
 ghost use Rattle.cfm_closure.specs.Walk.{order_of};
 ghost use Rattle.cfm_closure.specs.Kept.Views.{fragment_seen};
 
@@ -60,10 +61,30 @@ impl<'a> Bindings<'a> {
         })
     }
 
+    /// How many pairs the store has.
+    pub fn len(&self) -> usize
+        ensures len { result ≡ length self.now.pairs }
+        ensures complete { IsComplete self.now.pairs self.now.order }
+    {
+        self.pairs.len()
+    }
+
     pub fn order(&self) -> &[usize]
-        ensures { result.now ≡ self.now.order }
+        ensures order { result.now ≡ self.now.order }
+        ensures few { length self.now.order ≤ 256 }
     {
         &self.order
+    }
+
+    /// How many imports a fragment of the order has.
+    pub fn imports(&self, p: usize) -> usize
+        requires { p < length self.now.pairs }
+        ensures { Contains self.now.order p → result ≡ import_count self.now.pairs p }
+    {
+        match self.fragments[p] {
+            Some(fragment) => fragment.loader.imports() as usize,
+            None => 0,
+        }
     }
 
     /// A fragment of the order.
@@ -75,6 +96,14 @@ impl<'a> Bindings<'a> {
             Some(fragment) => fragment,
             None => unreachable!(),
         }
+    }
+
+    /// How many library entries a fragment of the order has.
+    pub fn libraries(&self, p: usize) -> usize
+        requires { Contains self.now.order p }
+        ensures { result ≡ library_count self.now.pairs p }
+    {
+        self.fragment(p).loader.libraries() as usize
     }
 
     /// What an entry of a fragment of the order stands for.

@@ -8,14 +8,22 @@
 
 mod binding;
 mod bindings;
+mod closed;
+mod closing;
 mod fault;
 mod fragment;
+mod hops;
+mod init_order;
 mod libraries;
+mod resolve;
 mod store;
 mod targets;
+pub mod theorems;
 mod versions;
 mod walk;
 
+pub use closed::Closure;
+pub use closing::closure;
 pub use fault::{BindFault, StoreFault};
 pub use store::Store;
 pub use targets::Target;

@@ -1,4 +1,4 @@
-ghost use Rattle.std.specs.Prelude.{◌≡◌, ◌==◌, ◌<◌, ◌++◌, [], ◌∷◌, length, map, slice_get, option_map, IfSome, OnOk, OnErr};
+ghost use Rattle.std.specs.Prelude.{◌≡◌, ◌==◌, ◌<◌, ◌≤◌, ◌++◌, [], ◌∷◌, length, map, slice_get, option_map, IfSome, OnOk, OnErr};
 ghost use Rattle.cfm_closure.specs.Kept.Places.{NotesPlace};
 ghost use Rattle.cfm_closure.specs.Seen.{pair_seen};
 ghost use Rattle.cfm_closure.specs.Stores.{pair_of, place_of};
@@ -25,11 +25,11 @@ impl<'a> Model for Store<'a> {
 
     ghost use Rattle.std.specs.Prelude.{map};
     ghost use Rattle.cfm_closure.specs.Seen.{pair_seen};
-    ghost use Rattle.cfm_closure.specs.Kept.Places.{ArePlaces};
+    ghost use Rattle.cfm_closure.specs.Kept.Places.{IsStore};
 
     ghost view = { λ s. map pair_seen s.pairs.items };
 
-    ghost invariant = { λ s. ArePlaces (map pair_seen s.pairs.items) s.places.entries };
+    ghost invariant = { λ s. IsStore (map pair_seen s.pairs.items) s.places.entries };
 }
 
 impl<'a> Store<'a> {
@@ -60,9 +60,10 @@ impl<'a> Store<'a> {
         Ok(())
     }
 
-    /// How many pairs there are.
+    /// How many pairs there are: at most 256.
     pub fn len(&self) -> usize
-        ensures { result ≡ length self.now }
+        ensures len { result ≡ length self.now }
+        ensures few { result ≤ 256 }
     {
         self.pairs.len()
     }
@@ -83,7 +84,8 @@ impl<'a> Store<'a> {
 
     /// All pairs.
     pub(crate) fn pairs(&self) -> &[(&'a [u8], &'a [u8])]
-        ensures { map pair_seen result.now ≡ self.now }
+        ensures pairs { map pair_seen result.now ≡ self.now }
+        ensures few { length self.now ≤ 256 }
     {
         &self.pairs
     }

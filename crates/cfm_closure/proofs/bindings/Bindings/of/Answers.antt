@@ -7,7 +7,7 @@ use Rattle.cfm_closure.proofs.bindings.Bindings.of.Goals as goal
 
 pub invariant_of-result : goal.invariant_of-result
 invariant_of-result c =
-    let pairs = ap (map pair_seen) c.in_ok-pairs.ensures.items ∙ c.pairs.ensures in
+    let pairs = ap (map pair_seen) c.in_ok-pairs.ensures.items ∙ c.pairs.ensures.pairs in
     let tables = c.in_ok-walk.ensures.walk in
     subst (λ pairs. AreBindings pairs c.in_ok-walk.walk.fragments.items c.in_ok-walk.walk.libraries.items c.in_ok-walk.walk.order.items) (sym pairs) (record {
       fragments_size = tables.fragments_size;
@@ -15,4 +15,5 @@ invariant_of-result c =
       read = tables.read;
       walked = tables.walked;
       complete = order-complete c.args.store.now c.args.root c.in_ok-walk.walk.order.items c.in_ok-walk.ensures.answer;
+      few = c.pairs.ensures.few;
     })

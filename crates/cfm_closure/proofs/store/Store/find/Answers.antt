@@ -5,4 +5,4 @@ use Rattle.cfm_closure.proofs.store.Store.find.Goals as goal
 
 pub returns-clause-below : goal.returns-clause-below
 returns-clause-below c =
-    rw (← c.self.view_is) (place_below _ c.args.name.now _ (sym (c.copied.ensures ∙ c.get.ensures.value ∙ c.self.invariant c.args.name.now)))
+    rw (← c.self.view_is) (place_below _ c.args.name.now _ (sym (c.copied.ensures ∙ c.get.ensures.value ∙ c.self.invariant.places c.args.name.now)))

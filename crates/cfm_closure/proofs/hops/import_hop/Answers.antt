@@ -1,0 +1,14 @@
+-- A missing symbol is told by its fragment, library and name.
+use Rattle.std.proofs.Common.{subst, sym, ◌∙◌}
+use Rattle.pef_loader.specs.Views.{import_seen}
+use Rattle.cfm_closure.specs.Kept.Hops.{LeadsTo}
+use Rattle.cfm_closure.specs.Kept.Views.{fragment_seen}
+use Rattle.cfm_closure.proofs.HopFacts.{hop-missing}
+use Rattle.cfm_closure.proofs.hops.import_hop.Goals as goal
+
+pub returns-in-None-export_named-clause-answer : goal.returns-in-None-export_named-clause-answer
+returns-in-None-export_named-clause-answer c =
+    subst (LeadsTo c.missing.result)
+    (sym (hop-missing c.args.bindings.now.pairs c.args.p c.args.j c.in-Some-library.q (fragment_seen c.fragment-fragment.result) (fragment_seen c.fragment-library.result) (import_seen c.in-Some.symbol)
+    c.fragment-fragment.ensures (sym c.in-Some.ensures.value) c.in-Some-library.ensures.bound c.fragment-library.ensures (sym c.in-None-export_named.ensures.value)))
+    c.missing.ensures

@@ -1,0 +1,9 @@
+-- The names are those of the fragment and of its import.
+use Rattle.std.proofs.Common.{Err, ap, sym}
+use Rattle.pef_loader.specs.Views.{import_seen}
+use Rattle.cfm_closure.specs.Kept.Views.{fragment_seen}
+use Rattle.cfm_closure.proofs.HopFacts.{endless-names}
+use Rattle.cfm_closure.proofs.resolve.endless.Goals as goal
+
+pub returns : goal.returns
+returns c = ap Err (endless-names c.args.bindings.now.pairs c.args.p c.args.j (fragment_seen c.fragment-fragment.result) (import_seen c.in-Some.symbol) c.fragment-fragment.ensures (sym c.in-Some.ensures.value))

@@ -1,0 +1,25 @@
+-- The next import that is refused is the first.
+use Rattle.std.proofs.Common.{◌≡◌, ◌<◌, Ok, Err, sym, ap, ◌∙◌, arith}
+use Rattle.std.specs.Result.{result_err}
+use Rattle.std.proofs.lemmas.Result.{err_from_is_err_and}
+use Rattle.pef_words.specs.Refusals.{unless}
+use Rattle.pef_words.proofs.Laws.Refusals.{first_among-here}
+use Rattle.cfm_closure.specs.Closures.{import_refusal, imports_refusal}
+use Rattle.cfm_closure.specs.Fragments.{import_count}
+use Rattle.cfm_closure.specs.Targets.{target_of}
+use Rattle.cfm_closure.proofs.PathLemmas.{Fails-also}
+use Rattle.cfm_closure.proofs.resolve.resolve_imports.Goals as goal
+
+pub imports-j-end-requires : goal.imports-j-end-requires
+imports-j-end-requires c = (c.requires.rows.complete.members c.args.p c.requires.place).place
+
+pub returns-in_err-resolve-clause-answer : goal.returns-in_err-resolve-clause-answer
+returns-in_err-resolve-clause-answer c =
+    let pairs = c.args.bindings.now.pairs in
+    let count = c.imports-j-end.ensures c.requires.place in
+    let under : c.loop-j.j < import_count pairs c.args.p = omega arith in
+    let p = err_from_is_err_and c.from_residual.result c.from_residual.ensures.1 in
+    rw (p.1, p.2) (Fails-also c.in_err-resolve.field-0.0 (target_of pairs c.args.p c.loop-j.j) (unless (imports_refusal pairs c.args.p) (Ok (tt {0})))
+    (λ r refused. ap (λ o. unless o (Ok (tt {0})))
+    (sym c.loop-j.invariant.rest ∙ first_among-here (import_refusal pairs c.args.p) c.loop-j.j (import_count pairs c.args.p) r under (ap result_err refused)))
+    c.in_err-resolve.ensures.answer)

@@ -1,0 +1,15 @@
+-- What is left decides, and all targets so far are known.
+use Rattle.std.proofs.Common.{◌≡◌, ℕ, ◌-◌, ◌<◌}
+use Rattle.pef_words.specs.Refusals.{first_among}
+use Rattle.cfm_closure.specs.Closures.{import_refusal, imports_refusal}
+use Rattle.cfm_closure.specs.Fragments.{import_count}
+use Rattle.cfm_closure.specs.Kept.Targets.{AreRows, IsKnown, KeepsKnown}
+use Rattle.cfm_closure.proofs.resolve.resolve_imports.Given as goal
+
+abbrev pub invariant-loop-j : goal.invariant-loop-j
+invariant-loop-j l = record {
+  are : AreRows l.bindings.pairs l.bindings.order l.rows;
+  kept : KeepsKnown l.fn.rows l.rows;
+  known : (k : ℕ) → k < l.j → IsKnown l.rows l.p k;
+  rest : first_among (import_refusal l.bindings.pairs l.p) l.j (import_count l.bindings.pairs l.p - l.j) ≡ imports_refusal l.bindings.pairs l.p;
+}

@@ -1,0 +1,5 @@
+use Rattle.cfm_closure.proofs.ClosedLemmas.{endless}
+use Rattle.cfm_closure.proofs.theorems.endless_imports.Goals as goal
+
+pub returns : goal.returns
+returns c = endless

@@ -1,0 +1,36 @@
+-- Where the code's hops lead.
+use Rattle.std.specs.Prelude.{◌≡◌, ℕ, ◌<◌, List, Option, Some, Result, Ok, Err, Contains}
+use Rattle.pef_loader.specs.Export.{Export}
+use Rattle.pef_loader.specs.Loader.{Loaded, export_of}
+use Rattle.cfm_closure.specs.declared.fault.BindFault.{BindFault}
+use Rattle.cfm_closure.specs.declared.hops.Hop.{Hop as CodeHop}
+use Rattle.cfm_closure.specs.declared.hops.Hop.TheVariants as code
+use Rattle.cfm_closure.specs.Faults.{Fails, Refusal}
+use Rattle.cfm_closure.specs.Fragments.{import_count}
+use Rattle.cfm_closure.specs.Stores.{Pair}
+use Rattle.cfm_closure.specs.Targets.{Hop, ends, hop_by, through}
+
+-- a hop of the code doesn't tell which export it goes through
+abbrev pub IsHop : CodeHop → Hop → Type 0
+IsHop (code.Ends target) h = h ≡ ends target
+IsHop (code.Through q k) h = (e : ℕ) × (h ≡ through q e k)
+
+-- the hop by an export of a fragment
+abbrev pub HasHop : ℕ → Loaded → ℕ → CodeHop → Type 0
+HasHop q l e h = (x : Export) × (export_of l e ≡ Some x) × IsHop h (hop_by q e x.value x.section)
+
+-- an answer is the hop, or the refusal
+abbrev pub LeadsTo : Result CodeHop BindFault → Result Hop Refusal → Type 0
+LeadsTo (Ok (code.Ends target)) expected = expected ≡ Ok (ends target)
+LeadsTo (Ok (code.Through q k)) expected = (e : ℕ) × (expected ≡ Ok (through q e k))
+LeadsTo (Err e) expected = Fails e expected
+
+-- an import that is passed on is one of so many
+abbrev pub StaysBelow : ℕ → CodeHop → Type 0
+StaysBelow count (code.Ends target) = Unit {0}
+StaysBelow count (code.Through q k) = k < count
+
+-- it is an import of a fragment of the order
+abbrev pub StaysInside : List Pair → List ℕ → CodeHop → Type 0
+StaysInside pairs order (code.Ends target) = Unit {0}
+StaysInside pairs order (code.Through q k) = Contains order q × (k < import_count pairs q)

@@ -1,0 +1,23 @@
+-- What is kept while fragments are taken for initialization.
+use Rattle.std.specs.Prelude.{◌≡◌, ℕ, ◌<◌, List, [], length, replicate, slice_index_or, false, None, Contains}
+use Rattle.cfm_closure.specs.declared.init_order.Taking.{Taking}
+use Rattle.cfm_closure.specs.Initialization.{awaits}
+use Rattle.cfm_closure.specs.Promises.{IsComplete}
+use Rattle.cfm_closure.specs.Stores.{Pair}
+use Rattle.cfm_closure.specs.Walk.{Walked}
+
+abbrev pub taken_of : Taking → Walked
+taken_of t = record { marked = t.taken.items; order = t.order.items }
+
+-- nothing was taken
+pub record IsFresh (t : Taking) (len : ℕ) : Type 0 where
+  pub taken : t.taken.items ≡ replicate len false
+  pub passed : t.passed.items ≡ replicate len 0
+  pub order : t.order.items ≡ []
+
+-- library entries that were passed wait for nothing
+pub record IsTaking (pairs : List Pair) (order : List ℕ) (t : Taking) : Type 0 where
+  pub complete : IsComplete pairs order
+  pub taken_size : length t.taken.items ≡ length pairs
+  pub passed_size : length t.passed.items ≡ length pairs
+  pub passed : (p l : ℕ) → l < slice_index_or t.passed.items p 0 → awaits pairs (taken_of t) p l ≡ None

@@ -1,0 +1,96 @@
+ghost use Rattle.std.specs.Prelude.{◌≡◌, ◌<◌, Contains, IfSome, Ok, Some};
+ghost use Rattle.pef_views.specs.Views.{contained};
+ghost use Rattle.pef_loader.specs.Views.{loaded};
+ghost use Rattle.cfm_closure.specs.Fragments.{container_at, import_count, library_count, loader_at};
+ghost use Rattle.cfm_closure.specs.Libraries.{bound_to};
+ghost use Rattle.cfm_closure.specs.Promises.{IsComplete};
+ghost use Rattle.cfm_closure.specs.Targets.{target_of};
+
+use crate::bindings::Bindings;
+use crate::targets::{Target, Targets};
+use pef_loader::Loader;
+use pef_views::Container;
+use std::marker::Model;
+
+/// The closure of a fragment: the fragment and all that it needs, with what its imports mean and in which
+/// order its fragments are initialized.
+///
+/// Fragments go by their places in the store. The views are slices of the store's bytes, and live as long
+/// as those. No call takes memory.
+#[derive(Drop)]
+pub struct Closure<'a> {
+    pub(crate) bindings: Bindings<'a>,
+    /// For each place of the store, what the imports of the fragment there mean.
+    pub(crate) targets: Vec<Targets>,
+    pub(crate) init_order: Vec<usize>,
+}
+
+impl<'a> Model for Closure<'a> {
+    ghost use Rattle.cfm_closure.specs.Closures.{Closed};
+
+    ghost Value = { Closed };
+
+    ghost use Rattle.cfm_closure.specs.Kept.Targets.{AreTargets};
+
+    ghost view = { λ c. record { pairs = c.bindings.pairs; order = c.bindings.order; init_order = c.init_order.items } };
+
+    ghost invariant = { λ c. AreTargets c.bindings.pairs c.bindings.order c.targets.items };
+}
+
+impl<'a> Closure<'a> {
+    /// The fragments, each once: libraries before those that need them, as far as that can be, and the
+    /// fragment itself last.
+    pub fn order(&self) -> &[usize]
+        ensures order { result.now ≡ self.now.order }
+        ensures complete { IsComplete self.now.pairs self.now.order }
+    {
+        self.bindings.order()
+    }
+
+    /// The fragments in the order in which they are initialized.
+    pub fn init_order(&self) -> &[usize]
+        ensures { result.now ≡ self.now.init_order }
+    {
+        &self.init_order
+    }
+
+    /// The container of a fragment of the closure.
+    pub fn container(&self, p: usize) -> Container<'a>
+        requires { Contains self.now.order p }
+        ensures { container_at self.now.pairs p ≡ Some (contained result) }
+    {
+        self.bindings.fragment(p).container
+    }
+
+    /// The loader section of a fragment of the closure.
+    pub fn loader(&self, p: usize) -> Loader<'a>
+        requires { Contains self.now.order p }
+        ensures { loader_at self.now.pairs p ≡ Some (loaded result) }
+    {
+        self.bindings.fragment(p).loader
+    }
+
+    /// The fragment that library entry `l` of a fragment of the closure stands for, or `None` where it is
+    /// absent.
+    pub fn library(&self, p: usize, l: usize) -> Option<usize>
+        requires there { Contains self.now.order p }
+        requires below { l < library_count self.now.pairs p }
+        ensures bound { bound_to self.now.pairs p l ≡ Ok result }
+        ensures inside { IfSome result (λ q. Contains self.now.order q) }
+    {
+        self.bindings.library(p, l)
+    }
+
+    /// What an import of a fragment of the closure means, through as many exports as pass it on. `None`
+    /// stands for the address 0: the library is absent, or a weak import's symbol is missing.
+    pub fn target(&self, p: usize, import: usize) -> Option<Target>
+        requires there { Contains self.now.order p }
+        requires below { import < import_count self.now.pairs p }
+        ensures { target_of self.now.pairs p import ≡ Ok result }
+    {
+        match self.targets[p].get(import) {
+            Some(target) => target,
+            None => unreachable!(),
+        }
+    }
+}

@@ -1,0 +1,37 @@
+ghost use Rattle.std.specs.Prelude.{◌<◌, length};
+ghost use Rattle.cfm_closure.specs.Closures.{closed_of};
+ghost use Rattle.cfm_closure.specs.Faults.{Answers};
+
+use crate::bindings::Bindings;
+use crate::closed::Closure;
+use crate::fault::BindFault;
+use crate::init_order::initialized;
+use crate::resolve::targets_of;
+use crate::store::Store;
+use std::alloc::Global;
+
+/// The closure of the fragment in a place of a store, as [`Store::find`] gives it for a name.
+///
+/// # Errors
+///
+/// The first refusal: of a fragment or a library entry, in the order in which the walk meets them; then of
+/// an import, fragment by fragment in closure order, import by import; then of the order of
+/// initialization. `OutOfMemory` may stand in the place of any later answer.
+#[tactic(auto, unfolding(crate::specs::Closures::closed_of))]
+pub fn closure<'a>(
+    alloc: Global,
+    store: &Store<'a>,
+    root: usize,
+) -> Result<Closure<'a>, BindFault<'a>>
+    requires { root < length store.now }
+    ensures { Answers (λ c. c) result (closed_of store.now root) }
+{
+    let bindings = Bindings::of(alloc, store, root)?;
+    let targets = targets_of(alloc, &bindings)?;
+    let init_order = initialized(alloc, &bindings)?;
+    Ok(Closure {
+        bindings,
+        targets,
+        init_order,
+    })
+}

@@ -1,0 +1,99 @@
+ghost use Rattle.std.specs.Prelude.{◌≡◌, ◌<◌, Contains, None, IfOk, IsTrue};
+ghost use Rattle.pef_loader.specs.Export.{has_section};
+ghost use Rattle.pef_loader.specs.Views.{import_seen, loaded};
+ghost use Rattle.cfm_closure.specs.Targets.{hop, hop_by, hop_to};
+ghost use Rattle.cfm_closure.specs.Kept.Hops.{HasHop, IsHop, LeadsTo, StaysInside, StaysBelow};
+
+use crate::bindings::Bindings;
+use crate::fault::BindFault;
+use crate::targets::Target;
+use pef_loader::layout::{ABSOLUTE_EXPORT, REEXPORTED_IMPORT};
+use pef_loader::{ExportView, ImportView, Loader};
+
+/// Where an import leads at once.
+#[derive(Clone, Copy, Debug)]
+pub(crate) enum Hop {
+    /// It has this target, or none.
+    Ends(Option<Target>),
+
+    /// It means what an import of another fragment means, which an export there passes on.
+    Through { fragment: usize, import: usize },
+}
+
+/// Where an export of a fragment leads: into a section, to an absolute value, or to the import that it
+/// passes on.
+fn export_hop(fragment: usize, loader: Loader<'_>, e: usize, export: ExportView<'_>) -> Hop
+    requires { IsTrue (has_section (loaded loader).header (loaded loader).sections export.value export.section) }
+    ensures answer { IsHop result (hop_by fragment e export.entry.value export.entry.section) }
+    ensures below { StaysBelow (loaded loader.entry).header.import_count result }
+{
+    match export.section {
+        ABSOLUTE_EXPORT => Hop::Ends(Some(Target::Absolute(export.value))),
+        REEXPORTED_IMPORT => Hop::Through {
+            fragment,
+            import: export.value as usize,
+        },
+        section => Hop::Ends(Some(Target::At {
+            fragment,
+            section: section.cast_unsigned(),
+            offset: export.value,
+        })),
+    }
+}
+
+/// The same of export `e`.
+fn export_hop_at(fragment: usize, loader: Loader<'_>, e: usize) -> Hop
+    requires { e < (loaded loader).header.export_count }
+    ensures answer { HasHop fragment (loaded loader.entry) e result }
+    ensures below { StaysBelow (loaded loader.entry).header.import_count result }
+{
+    match loader.export(e) {
+        Some(export) => export_hop(fragment, loader, e, export),
+        None => unreachable!(),
+    }
+}
+
+/// Where an import of a fragment of the closure order leads at once, or that its symbol is missing.
+#[tactic(auto, unfolding(crate::specs::Targets::hop))]
+pub(crate) fn import_hop<'a>(
+    bindings: &Bindings<'a>,
+    p: usize,
+    j: usize,
+) -> Result<Hop, BindFault<'a>>
+    requires { Contains bindings.now.order p }
+    ensures answer { LeadsTo result (hop bindings.now.pairs p j) }
+    ensures inside { IfOk result (λ h. StaysInside bindings.now.pairs bindings.now.order h) }
+{
+    let fragment = bindings.fragment(p);
+    let symbol = match fragment.loader.import(j) {
+        Some(symbol) => symbol,
+        None => return Ok(Hop::Ends(None)),
+    };
+    let q = match bindings.library(p, symbol.library) {
+        Some(q) => q,
+        None => return Ok(Hop::Ends(None)),
+    };
+    let library = bindings.fragment(q);
+    match library.loader.export_named(symbol.name) {
+        Some(e) => Ok(export_hop_at(q, library.loader, e)),
+        None => missing(fragment.name, library.name, symbol),
+    }
+}
+
+/// A weak import has no target where its symbol is missing. Any other is refused.
+fn missing<'a>(
+    fragment: &'a [u8],
+    library: &'a [u8],
+    symbol: ImportView<'a>,
+) -> Result<Hop, BindFault<'a>>
+    ensures { LeadsTo result (hop_to fragment.entry.now library.entry.now (import_seen symbol.entry) 0 None) }
+{
+    if symbol.weak {
+        return Ok(Hop::Ends(None));
+    }
+    Err(BindFault::SymbolMissing {
+        fragment,
+        library,
+        symbol: symbol.name,
+    })
+}

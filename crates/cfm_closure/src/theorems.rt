@@ -1,0 +1,33 @@
+//! Laws of the definitions, for the proofs of other crates. The functions do nothing.
+ghost use Rattle.std.specs.Prelude.{◌≡◌, ◌<◌, ◌↔◌, ℕ, List, None, Ok, Contains, length};
+ghost use Rattle.cfm_closure.specs.Closures.{Closed, closed_of};
+ghost use Rattle.cfm_closure.specs.Fragments.{import_count};
+ghost use Rattle.cfm_closure.specs.Promises.{EndsWith, HasTarget, IsComplete, target_within};
+ghost use Rattle.cfm_closure.specs.Reexports.{MeetsAgain};
+ghost use Rattle.cfm_closure.specs.Stores.{Pair};
+ghost use Rattle.cfm_closure.specs.Targets.{exports_among, follow, target_of};
+
+/// A closure order has each fragment once, with each of its fragments all its libraries, and its root
+/// last.
+pub fn closure_orders()
+    ensures store { (pairs : List Pair) (root : ℕ) (c : Closed) → closed_of pairs root ≡ Ok c → c.pairs ≡ pairs }
+    ensures complete { (pairs : List Pair) (root : ℕ) (c : Closed) → closed_of pairs root ≡ Ok c → IsComplete pairs c.order }
+    ensures root { (pairs : List Pair) (root : ℕ) (c : Closed) → root < length pairs → closed_of pairs root ≡ Ok c → EndsWith c.order root }
+{}
+
+/// Every import of a closure's fragments has a target, or none: none is refused.
+pub fn closure_targets()
+    ensures { (pairs : List Pair) (root : ℕ) (c : Closed) (p j : ℕ) → closed_of pairs root ≡ Ok c → Contains c.order p → j < import_count pairs p → HasTarget pairs p j }
+{}
+
+/// Where the closures of two roots of one store both have a fragment, its imports have the same targets in
+/// both, those without one included, though each closure counts its own exports alone.
+pub fn closures_agree()
+    ensures own { (pairs : List Pair) (root : ℕ) (c : Closed) (p j : ℕ) → closed_of pairs root ≡ Ok c → Contains c.order p → target_within pairs c.order p j ≡ target_of pairs p j }
+    ensures agree { (pairs : List Pair) (root root' : ℕ) (c c' : Closed) (p j : ℕ) → closed_of pairs root ≡ Ok c → closed_of pairs root' ≡ Ok c' → Contains c.order p → Contains c'.order p → target_within pairs c.order p j ≡ target_within pairs c'.order p j }
+{}
+
+/// More hops than the closure of a fragment has exports are just where an export is met a second time.
+pub fn endless_imports()
+    ensures { (pairs : List Pair) (order : List ℕ) (p j : ℕ) → IsComplete pairs order → Contains order p → (follow (exports_among pairs order) pairs p j ≡ None) ↔ MeetsAgain pairs (p, j) }
+{}

@@ -1,0 +1,125 @@
+use cfm_closure::{BindFault, Closure, Store, Target, closure};
+use pef_script::Script;
+use pef_write::link;
+use std::alloc::{AllocError, Global};
+use std::fmt::Write;
+use std::process::Abort;
+use std::test::Fail;
+
+/// A fragment: its name, its script, and what is written over the end of its container. Where a script has
+/// one export, its section is the last two bytes, and its value the four before them.
+pub(crate) type Fragment = (&'static str, &'static str, &'static [u8]);
+
+/// The container of a script, with other bytes at its end.
+pub(crate) fn container(alloc: Global, script: &str, end: &[u8]) -> Result<Vec<u8>, Fail> {
+    let script = Script::read(alloc, script.as_bytes())?;
+    let linked = link(alloc, &script)?;
+    let kept = linked.bytes().len().saturating_sub(end.len());
+    let mut bytes = Vec::from_slice(alloc, &linked.bytes()[..kept])?;
+    bytes.extend_from_slice(end)?;
+    Ok(bytes)
+}
+
+/// The containers of some fragments.
+pub(crate) fn containers(alloc: Global, fragments: &[Fragment]) -> Result<Vec<Vec<u8>>, Fail> {
+    let mut containers = Vec::new(alloc);
+    for (_, script, end) in fragments {
+        let bytes = container(alloc, script, end)?;
+        containers.push(bytes)?;
+    }
+    Ok(containers)
+}
+
+/// What is told of the closure of the first fragment of a store: its order, the order of initialization,
+/// and the targets of the fragments' imports; or its refusal with the names that it tells.
+pub(crate) fn told(rt: &impl Abort, alloc: Global, fragments: &[Fragment]) -> Result<String, Fail> {
+    let containers = containers(alloc, fragments)?;
+    let mut store = Store::new(alloc);
+    for (fragment, bytes) in fragments.iter().zip(&containers) {
+        assert!(rt; store.len() < 256);
+        store.add(fragment.0.as_bytes(), bytes)?;
+    }
+    told_of(rt, alloc, &store)
+}
+
+/// The same of a store.
+pub(crate) fn told_of(rt: &impl Abort, alloc: Global, store: &Store<'_>) -> Result<String, Fail> {
+    assert!(rt; !store.is_empty());
+    let mut text = String::new(alloc);
+    match closure(alloc, store, 0) {
+        Ok(closure) => tell(&mut text, &closure)?,
+        Err(fault) => tell_fault(&mut text, fault)?,
+    }
+    Ok(text)
+}
+
+fn tell(text: &mut String, closure: &Closure<'_>) -> Result<(), AllocError> {
+    text.push_str("order")?;
+    for p in closure.order() {
+        write!(text, " {p}")?;
+    }
+    text.push_str(", init")?;
+    for p in closure.init_order() {
+        write!(text, " {p}")?;
+    }
+    for p in closure.order() {
+        for j in 0..closure.loader(*p).imports() as usize {
+            write!(text, ", {p}.{j}")?;
+            tell_target(text, closure.target(*p, j))?;
+        }
+    }
+    Ok(())
+}
+
+fn tell_target(text: &mut String, target: Option<Target>) -> Result<(), AllocError> {
+    match target {
+        Some(
+            Target::At {
+                fragment,
+                section,
+                offset,
+            },
+        ) => write!(text, " at {fragment} {section} {offset}")?,
+        Some(Target::Absolute(value)) => write!(text, " is {value}")?,
+        None => text.push_str(" none")?,
+    }
+    Ok(())
+}
+
+fn tell_fault(text: &mut String, fault: BindFault<'_>) -> Result<(), AllocError> {
+    write!(text, "{} {fault}", fault.number())?;
+    match fault {
+        BindFault::Container { fragment, .. } | BindFault::Loader { fragment, .. } => {
+            tell_name(text, fragment)
+        }
+        BindFault::LibraryMissing { fragment, library }
+        | BindFault::ImplementationTooOld { fragment, library }
+        | BindFault::ImplementationTooNew { fragment, library } => {
+            tell_name(text, fragment)?;
+            tell_name(text, library)
+        }
+        BindFault::SymbolMissing {
+            fragment,
+            library,
+            symbol,
+        } => {
+            tell_name(text, fragment)?;
+            tell_name(text, library)?;
+            tell_name(text, symbol)
+        }
+        BindFault::ReexportLoop { fragment, symbol } => {
+            tell_name(text, fragment)?;
+            tell_name(text, symbol)
+        }
+        BindFault::InitLoop { fragment } => tell_name(text, fragment),
+        BindFault::OutOfMemory => Ok(()),
+    }
+}
+
+fn tell_name(text: &mut String, name: &[u8]) -> Result<(), AllocError> {
+    text.push(' ')?;
+    for byte in name {
+        text.push(char::from(*byte))?;
+    }
+    Ok(())
+}

@@ -1,0 +1,49 @@
+use cfm_closure::{Definition, Fit, Implementation, Store, versions_fit};
+use std::test::Fail;
+
+/// Versions: of the definition the current and the oldest implementation, of the implementation the current
+/// and the oldest definition.
+const VERSIONS: [(u32, u32, u32, u32, Fit); 9] = [
+    (5, 3, 3, 0, Fit::Fits),
+    (5, 3, 2, 0, Fit::TooOld),
+    (2, 0, 5, 3, Fit::TooNew),
+    (2, 0, 5, 2, Fit::Fits),
+    (5, 9, 5, 9, Fit::Fits),
+    (0, 0, 0, 0, Fit::Fits),
+    (0x8000_0000, 1, 1, 0, Fit::Fits),
+    (0x8000_0000, 2, 1, 0, Fit::TooOld),
+    (1, 0, 0xFFFF_FFFF, 2, Fit::TooNew),
+];
+
+#[test]
+fn versions(rt: HostRuntime) {
+    for (current, old_imp, found, old_def, wanted) in VERSIONS {
+        let definition = Definition { current, old_imp };
+        let implementation = Implementation {
+            current: found,
+            old_def,
+        };
+        assert_eq!(rt;
+            versions_fit(definition, implementation),
+            wanted,
+            "{current} and {found}"
+        );
+    }
+}
+
+#[test]
+fn store(rt: HostRuntime) -> Result<(), Fail> {
+    let mut store = Store::new(rt.alloc());
+    assert!(rt; store.is_empty());
+    store.add(b"one", b"1")?;
+    store.add(b"", b"2")?;
+    store.add(b"one", b"3")?;
+    assert_eq!(rt; store.len(), 3);
+    assert!(rt; store.pair(1) == Some((b"", b"2")));
+    assert!(rt; store.pair(2) == Some((b"one", b"3")));
+    assert!(rt; store.pair(3).is_none());
+    assert_eq!(rt; store.find(b"one"), Some(0));
+    assert_eq!(rt; store.find(b""), Some(1));
+    assert_eq!(rt; store.find(b"on"), None);
+    Ok(())
+}
