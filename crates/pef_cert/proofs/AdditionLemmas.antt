@@ -1,5 +1,5 @@
 -- The tests of a state at a fixup, as a check makes them.
-use Rattle.std.proofs.Common.{◌≡◌, ℕ, zero, suc, ◌+◌, ◌-◌, ◌<◌, ◌≤◌, Bool, true, false, ◌&&◌, ◌||◌, ◌==◌, nat_le, List, [], ◌∷◌, ◌++◌, length, take, drop, Option, Some, None, refl, ap, sym, ◌∙◌, subst, arith, slice_get, eq-eqb}
+use Rattle.std.proofs.Common.{◌≡◌, ℕ, ◌+◌, ◌-◌, ◌<◌, ◌≤◌, Bool, true, ◌&&◌, ◌||◌, ◌==◌, nat_le, List, [], ◌∷◌, length, take, drop, Some, ap, sym, ◌∙◌, arith, slice_get, eq-eqb}
 use Rattle.std.proofs.Math.Path.{ap₂}
 use Rattle.std.specs.Prelude.{slice_index_or}
 use Rattle.std.proofs.lemmas.Bool.{ltb-true}
@@ -9,7 +9,7 @@ use Rattle.pef_reloc.specs.declared.fixup.Base.TheVariants.{Section, Import}
 use Rattle.pef_reloc.specs.declared.fixup.Fixup.{Fixup}
 use Rattle.pef_reloc.specs.Deliveries.{index_after, index_past}
 use Rattle.pef_reloc.specs.Fixups.{base_fits, fixup_fits}
-use Rattle.pef_reloc.specs.Limits.{most_imports, most_sections}
+use Rattle.pef_reloc.specs.Limits.{most_imports}
 use Rattle.pef_reloc.proofs.Laws.{each_fits, fixup_fits-parts, index_after-append}
 use Rattle.pef_words.proofs.Laws.Lists.{all-get}
 use Rattle.pef_cert.specs.declared.claim.Behind.{Behind}
@@ -38,7 +38,7 @@ pub got-import : (c : Claim) (at k : ℕ) (f : Fixup) → Shaped c → slice_get
 got-import c at k f shaped e is = import_small f.base k is (fixup_fits-parts f (got-fits c at f shaped e)).base
 
 -- the import index behind a fixup
-index_behind : (fixups : List Fixup) (i : ℕ) (f : Fixup) → i < length fixups → index_after (take (i + 1) fixups) 0 ≡ index_past (slice_index_or fixups i f).base (index_after (take i fixups) 0)
+pub index_behind : (fixups : List Fixup) (i : ℕ) (f : Fixup) → i < length fixups → index_after (take (i + 1) fixups) 0 ≡ index_past (slice_index_or fixups i f).base (index_after (take i fixups) 0)
 index_behind fixups i f under =
     ap (λ fs. index_after fs 0) (take_more fixups i f under) ∙ index_after-append (take i fixups) (slice_index_or fixups i f ∷ []) 0
 

@@ -1,5 +1,5 @@
 -- How great feasible labels and their extension can get.
-use Rattle.std.proofs.Common.{◌≡◌, ℕ, zero, suc, ◌+◌, ◌*◌, ◌<◌, ◌≤◌, Bool, true, false, List, [], ◌∷◌, length, refl, arith}
+use Rattle.std.proofs.Common.{◌≡◌, ℕ, ◌+◌, ◌*◌, ◌<◌, ◌≤◌, true, List, [], ◌∷◌, length, arith}
 use Rattle.std.specs.List.{AllByRecursion}
 use Rattle.pef_reloc.specs.declared.fixup.Base.{Base}
 use Rattle.pef_reloc.specs.declared.fixup.Base.TheVariants.{Section, Import}
@@ -9,7 +9,7 @@ use Rattle.pef_reloc.specs.Fixups.{fixup_fits}
 use Rattle.pef_reloc.proofs.Laws.{fixup_fits-parts}
 use Rattle.pef_cert.specs.Labels.{Labels, classes}
 use Rattle.pef_cert.specs.Extension.{extension}
-use Rattle.pef_cert.specs.Kept.Tests.{adds_test, base_test}
+use Rattle.pef_cert.specs.Kept.Tests.{base_test}
 use Rattle.pef_cert.proofs.ExtensionLemmas.{extension-end}
 use Rattle.pef_cert.proofs.Falling.{World, world-first, world-next}
 use Rattle.pef_cert.proofs.LabelFacts.{Stands, extension-label}

@@ -1,5 +1,5 @@
 -- Where the labels of a claim stand.
-use Rattle.std.proofs.Common.{◌≡◌, ◌≢◌, ℕ, zero, suc, ◌+◌, ◌-◌, ◌*◌, ◌<◌, ◌≤◌, Bool, true, false, List, [], ◌∷◌, ◌++◌, length, take, drop, refl, ap, sym, ◌∙◌, subst, arith, slice_index, get_or-take, get_or-drop, nat_lt, ◌==◌, ◌%◌, eq-eqb, Option, Some, None, cond, slice_get}
+use Rattle.std.proofs.Common.{◌≡◌, ◌≢◌, ℕ, zero, suc, ◌+◌, ◌-◌, ◌*◌, ◌<◌, ◌≤◌, true, List, [], ◌∷◌, length, take, drop, refl, ap, sym, ◌∙◌, subst, arith, slice_index, get_or-take, get_or-drop, nat_lt, ◌==◌, eq-eqb, Option, Some, None, slice_get}
 use Rattle.std.specs.Prelude.{slice_index_or}
 use Rattle.std.proofs.lemmas.Nat.{mul-add-lt}
 use Rattle.std.proofs.lemmas.Bool.{ltb-true}
@@ -68,7 +68,7 @@ few_above m low (r ∷ rs) up below first =
     let others = few_above m r rs both.1 (λ k among. below k (or_right (r == k) (is_among rs k) among)) here in
     omega (arith, over, others)
 
-few_rising : (m : ℕ) (rs : List ℕ) → rises rs ≡ true → ((k : ℕ) → is_among rs k ≡ true → k < m) → length rs ≤ m
+pub few_rising : (m : ℕ) (rs : List ℕ) → rises rs ≡ true → ((k : ℕ) → is_among rs k ≡ true → k < m) → length rs ≤ m
 few_rising m [] up below = omega arith
 few_rising m (r ∷ rs) up below =
     let here = below r (rw (eq-eqb r r refl) refl) in

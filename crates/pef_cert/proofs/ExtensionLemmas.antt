@@ -1,5 +1,5 @@
 -- What the extension is behind the last fixup, at an offset and away from it; and what a skip is worth.
-use Rattle.std.proofs.Common.{◌≡◌, ◌≢◌, ℕ, zero, suc, ◌+◌, ◌-◌, ◌*◌, ◌<◌, ◌≤◌, ◌⊎◌, inl, inr, Bool, true, false, ◌&&◌, ◌==◌, List, [], ◌∷◌, ◌++◌, length, Option, None, Some, refl, ap, sym, ◌∙◌, subst, arith, eq-eqb}
+use Rattle.std.proofs.Common.{◌≡◌, ◌≢◌, ℕ, zero, suc, ◌+◌, ◌-◌, ◌*◌, ◌<◌, ◌⊎◌, inl, inr, Bool, true, false, ◌&&◌, ◌==◌, List, [], ◌∷◌, ◌++◌, length, Option, Some, refl, ap, sym, ◌∙◌, subst, arith, eq-eqb}
 use Rattle.std.proofs.lemmas.Bool.{ne_eqb}
 use Rattle.std.proofs.lemmas.Bool.Decides.{eqb_tells}
 use Rattle.std.proofs.Math.Path.{fun_ext}
@@ -9,10 +9,9 @@ use Rattle.pef_reloc.specs.declared.fixup.Fixup.{Fixup}
 use Rattle.pef_reloc.specs.Steps.{added, row}
 use Rattle.pef_words.proofs.Laws.Tests.{met_both}
 use Rattle.pef_cert.specs.Labels.{Labels, class_of, classes, has_class}
-use Rattle.pef_cert.specs.Minima.{lesser, plus, least_below}
-use Rattle.pef_cert.specs.Extension.{at_offset, change, extension, moved_value, offer_at, offer_of, skip, skip_more, skips_at}
+use Rattle.pef_cert.specs.Extension.{at_offset, extension, moved_value, offer_at, offer_of, skip, skip_more, skips_at}
 use Rattle.pef_cert.proofs.ClassLemmas.{class_of-same}
-use Rattle.pef_cert.proofs.MinimaLemmas.{AtMost, at_most-weaker, lesser-is, lesser-left, lesser-right}
+use Rattle.pef_cert.proofs.MinimaLemmas.{AtMost, lesser-is, lesser-left, lesser-right}
 
 -- behind the last fixup
 pub extension-end : (l : Labels) (p c d : ℕ) → extension l [] p c d ≡ 0

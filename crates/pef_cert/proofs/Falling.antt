@@ -1,11 +1,10 @@
 -- The extension falls by at most the length of an instruction, along every instruction that fits, is no
 -- repeat and adds just the next fixups.
-use Rattle.std.proofs.Common.{◌≡◌, ◌≢◌, ℕ, zero, suc, ◌+◌, ◌-◌, ◌*◌, ◌%◌, ◌<◌, ◌≤◌, ◌⊎◌, inl, inr, Bool, true, false, ◌&&◌, ◌==◌, nat_le, List, [], ◌∷◌, ◌++◌, length, Option, None, Some, refl, ap, sym, ◌∙◌, subst, arith, eq-eqb, length-append}
+use Rattle.std.proofs.Common.{◌≡◌, ◌≢◌, ℕ, zero, suc, ◌+◌, ◌-◌, ◌*◌, ◌%◌, ◌<◌, ◌≤◌, inl, inr, true, ◌==◌, nat_le, List, [], ◌∷◌, ◌++◌, length, refl, ap, sym, ◌∙◌, subst, arith, eq-eqb, length-append}
 use Rattle.std.specs.List.{AllByRecursion}
 use Rattle.std.proofs.lemmas.Bool.{leb-true}
 use Rattle.std.proofs.lemmas.Bool.Decides.{eqb_tells}
-use Rattle.pef_reloc.specs.declared.fixup.Base.{Base}
-use Rattle.pef_reloc.specs.declared.fixup.Base.TheVariants.{Section, Import}
+use Rattle.pef_reloc.specs.declared.fixup.Base.TheVariants.{Section}
 use Rattle.pef_reloc.specs.declared.fixup.Fixup.{Fixup}
 use Rattle.pef_reloc.specs.declared.instr.Instr.{Instr}
 use Rattle.pef_reloc.specs.declared.instr.Instr.TheVariants.{BySectDWithSkip, BySectC, BySectD, TVector12, TVector8, VTable8, ImportRun, SmByImport, SmSetSectC, SmSetSectD, SmBySection, IncrPosition, SmRepeat, SetPosition, LgByImport, LgRepeat, LgBySection, LgSetSectC, LgSetSectD}
@@ -15,12 +14,12 @@ use Rattle.pef_reloc.specs.Steps.{State, added, additions, next_state, numbered,
 use Rattle.pef_reloc.proofs.Laws.{first_addition, index_kept}
 use Rattle.pef_words.proofs.Laws.Tests.{met_both}
 use Rattle.pef_cert.specs.Labels.{Labels, class_of, classes}
-use Rattle.pef_cert.specs.Extension.{change, extension, extension_at, moved_value, offer_at, skips_at}
-use Rattle.pef_cert.specs.Feasible.{AtFixup, FeasibleAt, FeasibleFrom, label_at}
+use Rattle.pef_cert.specs.Extension.{change, extension, extension_at, offer_at}
+use Rattle.pef_cert.specs.Feasible.{FeasibleFrom}
 use Rattle.pef_cert.proofs.ClassLemmas.{Numbers, RegisteredBase, class_of-below}
 use Rattle.pef_cert.proofs.ExtensionLemmas.{extension-away, extension-end, extension-here, skip-most}
 use Rattle.pef_cert.proofs.LabelFacts.{Stands, extension-label, extension-set_c, extension-set_d, label-extension, label-offer, offer-most}
-use Rattle.pef_cert.proofs.MinimaLemmas.{AtMost, Moved, at_most-weaker, far, late, moved-far, moved-is, moved-late, moved-near, moved-skip, near, skips}
+use Rattle.pef_cert.proofs.MinimaLemmas.{AtMost, Moved, far, late, moved-is, moved-late, moved-near, moved-skip, near, skips}
 
 -- labels in order from some fixups on, with the import index there
 pub record World (l : Labels) (index : ℕ) (fixups : List Fixup) : Type 0 where

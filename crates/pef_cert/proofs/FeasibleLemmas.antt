@@ -1,28 +1,26 @@
 -- Whether labels are feasible at a fixup, and from it on.
-use Rattle.std.proofs.Common.{◌≡◌, ℕ, zero, suc, ◌+◌, ◌-◌, ◌*◌, ◌<◌, ◌≤◌, Bool, true, false, ◌&&◌, List, [], ◌∷◌, ◌++◌, length, take, drop, Option, Some, None, refl, ap, sym, ◌∙◌, subst, arith, slice_get}
+use Rattle.std.proofs.Common.{◌≡◌, ℕ, ◌+◌, ◌-◌, ◌<◌, ◌≤◌, Bool, false, ◌&&◌, List, [], ◌∷◌, length, take, drop, Some, sym, subst, arith, slice_get}
 use Rattle.std.specs.Prelude.{slice_index_or}
 use Rattle.std.proofs.lemmas.List.{length-drop}
 use Rattle.pef_reloc.specs.declared.fixup.Base.{Base}
 use Rattle.pef_reloc.specs.declared.fixup.Base.TheVariants.{Section}
 use Rattle.pef_reloc.specs.declared.fixup.Fixup.{Fixup}
 use Rattle.pef_reloc.specs.Deliveries.{index_after}
-use Rattle.pef_reloc.specs.Fixups.{fixup_fits}
 use Rattle.pef_reloc.proofs.Laws.{fixup_fits-parts}
 use Rattle.pef_words.proofs.Laws.Lists.{all-get}
 use Rattle.pef_words.proofs.Laws.Tests.{both_met, met_both}
 use Rattle.pef_cert.specs.declared.claim.Behind.{Behind}
 use Rattle.pef_cert.specs.declared.claim.Claim.{Claim}
 use Rattle.pef_cert.specs.declared.feasible.Under.{Under}
-use Rattle.pef_cert.specs.Labels.{Labels, class_of, classes}
-use Rattle.pef_cert.specs.Feasible.{FeasibleAt, FeasibleFrom}
-use Rattle.pef_cert.specs.Valid.{labels_in}
-use Rattle.pef_cert.specs.Kept.Claims.{IsRowOf, Knows, Shaped, UnderTest, labels_claimed}
+use Rattle.pef_cert.specs.Labels.{Labels, class_of}
+use Rattle.pef_cert.specs.Feasible.{FeasibleAt}
+use Rattle.pef_cert.specs.Kept.Claims.{Shaped, UnderTest, labels_claimed}
 use Rattle.pef_cert.specs.Kept.RowsKept.{rows_from}
 use Rattle.pef_cert.specs.Kept.Sets.{RowHolds}
 use Rattle.pef_cert.specs.Kept.Tests.{AllTests, Says, SetsHold, TestsHold}
 use Rattle.pef_cert.proofs.AdditionLemmas.{got-fits}
-use Rattle.pef_cert.proofs.ClaimLemmas.{get-drop, get_under}
-use Rattle.pef_cert.proofs.ClassLemmas.{Numbers, RegisteredBase, all_registered, numbers}
+use Rattle.pef_cert.proofs.ClaimLemmas.{get_under}
+use Rattle.pef_cert.proofs.ClassLemmas.{RegisteredBase, all_registered, numbers}
 use Rattle.pef_cert.proofs.LabelFacts.{Stands}
 use Rattle.pef_cert.proofs.NeededTests.{tests_needed}
 use Rattle.pef_cert.proofs.SetLemmas.{row-sets, sets-row}

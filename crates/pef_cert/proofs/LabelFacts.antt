@@ -1,21 +1,20 @@
 -- Feasible labels at a fixup: a label is at most the extension from everywhere, the extension is at most 2
 -- more, and the change of one register changes it by at most 1.
-use Rattle.std.proofs.Common.{◌≡◌, ◌≢◌, ℕ, zero, suc, ◌+◌, ◌-◌, ◌*◌, ◌<◌, ◌≤◌, ◌⊎◌, inl, inr, Bool, true, false, cond, ◌&&◌, ◌==◌, nat_lt, List, [], ◌∷◌, ◌++◌, length, Option, None, Some, refl, ap, sym, ◌∙◌, subst, arith, eq-eqb, length-append}
+use Rattle.std.proofs.Common.{◌≡◌, ℕ, suc, ◌+◌, ◌-◌, ◌*◌, ◌<◌, ◌≤◌, inl, inr, Bool, true, false, List, ◌∷◌, length, Option, Some, refl, ap, sym, ◌∙◌, subst, arith, length-append}
 use Rattle.std.proofs.lemmas.Bool.{lt-ltb, le-leb}
 use Rattle.std.proofs.lemmas.Bool.Decides.{eqb_tells}
 use Rattle.pef_reloc.specs.declared.fixup.Base.{Base}
 use Rattle.pef_reloc.specs.declared.fixup.Base.TheVariants.{Section, Import}
 use Rattle.pef_reloc.specs.declared.fixup.Fixup.{Fixup}
-use Rattle.pef_reloc.specs.declared.instr.Instr.{Instr}
 use Rattle.pef_reloc.specs.declared.instr.Instr.TheVariants.{BySectD, SmSetSectC, SmSetSectD}
-use Rattle.pef_reloc.specs.Deliveries.{Delivers, is_flat_instr}
-use Rattle.pef_reloc.specs.Steps.{State, next_state, row}
+use Rattle.pef_reloc.specs.Deliveries.{is_flat_instr}
+use Rattle.pef_reloc.specs.Steps.{State, row}
 use Rattle.pef_words.proofs.Laws.Tests.{both_met}
 use Rattle.pef_cert.specs.Labels.{Labels, class_of, classes, has_class}
 use Rattle.pef_cert.specs.Minima.{least_below, plus}
-use Rattle.pef_cert.specs.Extension.{change, extension, extension_at, moved_value, offer_at, skip, skip_more, skips_at}
-use Rattle.pef_cert.specs.Feasible.{AtFixup, FeasibleAt, label_at}
-use Rattle.pef_cert.proofs.ClassLemmas.{NumberOf, Numbers, RegisteredBase}
+use Rattle.pef_cert.specs.Extension.{change, extension, moved_value, offer_at, skip, skip_more, skips_at}
+use Rattle.pef_cert.specs.Feasible.{FeasibleAt}
+use Rattle.pef_cert.proofs.ClassLemmas.{Numbers, RegisteredBase}
 use Rattle.pef_cert.proofs.ExtensionLemmas.{Skipped, extension-away, extension-here, length-row, skip-is, skips-is}
 use Rattle.pef_cert.proofs.MinimaLemmas.{AtMost, Moved, at_most-weaker, far, late, least_below-is, least_below-most, moved-far, moved-is, moved-late, moved-near, moved-skip, near, plus-is, plus-most, skips}
 

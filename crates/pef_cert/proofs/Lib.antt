@@ -1,6 +1,7 @@
 pub mod Laws
 mod AdditionLemmas
 mod Bounds
+mod CheckLemmas
 mod ClaimLemmas
 mod ClassLemmas
 mod ExtensionLemmas
@@ -9,10 +10,13 @@ mod FeasibleLemmas
 mod LabelFacts
 mod MinimaLemmas
 mod NeededTests
+mod RegisterLemmas
 mod RowLemmas
 mod RunLemmas
 mod SetLemmas
 mod SkipLemmas
 mod Soundness
 mod StepLemmas
+mod SweepLemmas
 mod TestLemmas
+mod WalkLemmas

@@ -1,26 +1,25 @@
 -- Where labels are feasible at a fixup, the tests are met that a check makes.
-use Rattle.std.proofs.Common.{◌≡◌, ◌≢◌, ℕ, zero, suc, ◌+◌, ◌*◌, ◌<◌, ◌≤◌, ◌⊎◌, inl, inr, Bool, true, false, cond, ◌&&◌, ◌||◌, ◌==◌, nat_le, nat_lt, List, [], ◌∷◌, ◌++◌, length, refl, ap, sym, ◌∙◌, subst, arith, eq-eqb, length-append}
-use Rattle.std.proofs.lemmas.Bool.{leb-true, le-leb, lt-ltb, ltb-true}
+use Rattle.std.proofs.Common.{◌≡◌, ℕ, suc, ◌+◌, ◌*◌, ◌<◌, ◌≤◌, ◌⊎◌, inl, inr, Bool, true, false, cond, ◌&&◌, ◌||◌, ◌==◌, nat_le, nat_lt, List, [], ◌∷◌, ◌++◌, length, refl, ap, sym, ◌∙◌, subst, arith, length-append}
+use Rattle.std.proofs.lemmas.Bool.{le-leb, lt-ltb, ltb-true}
 use Rattle.std.proofs.lemmas.Bool.Decides.{eqb_tells}
 use Rattle.pef_reloc.specs.declared.fixup.Base.{Base}
 use Rattle.pef_reloc.specs.declared.fixup.Base.TheVariants.{Section, Import}
 use Rattle.pef_reloc.specs.declared.fixup.Fixup.{Fixup}
 use Rattle.pef_reloc.specs.declared.instr.Instr.{Instr}
 use Rattle.pef_reloc.specs.declared.instr.Instr.TheVariants.{BySectC, BySectD, TVector12, TVector8, VTable8, ImportRun, SmByImport, SmBySection, LgByImport}
-use Rattle.pef_reloc.specs.Deliveries.{Delivers, is_flat_instr}
+use Rattle.pef_reloc.specs.Deliveries.{is_flat_instr}
 use Rattle.pef_reloc.specs.Fixups.{base_fits}
 use Rattle.pef_reloc.specs.Instrs.{instr_length}
 use Rattle.pef_reloc.specs.Limits.{most_imports, most_sections}
 use Rattle.pef_reloc.specs.Steps.{State, added, additions, next_state, numbered, pairs, row}
-use Rattle.pef_words.proofs.Laws.Tests.{both_met, met_both}
+use Rattle.pef_words.proofs.Laws.Tests.{both_met}
 use Rattle.pef_cert.specs.Labels.{Labels, class_of, classes}
 use Rattle.pef_cert.specs.Extension.{extension, extension_at}
-use Rattle.pef_cert.specs.Feasible.{AtFixup, FeasibleAt, label_at}
-use Rattle.pef_cert.specs.Kept.Tests.{SetsHold, TestsHold, adds_test, asked, base_test, import_cost, numbered_test, one_from, pair_test, pairs_test, row_test, second_test}
-use Rattle.pef_cert.proofs.ClassLemmas.{NumberOf, Numbers, class_of-below}
+use Rattle.pef_cert.specs.Feasible.{FeasibleAt}
+use Rattle.pef_cert.specs.Kept.Tests.{TestsHold, base_test, pair_test, pairs_test, row_test, second_test}
 use Rattle.pef_cert.proofs.LabelFacts.{Stands, label-set_c, label-set_d}
 use Rattle.pef_cert.proofs.RunLemmas.{numbered_test-met, pairs_test-met, row_test-met}
-use Rattle.pef_cert.proofs.TestLemmas.{ImportTests, SectionTests, asked-met, import_tests-met, section_tests-met}
+use Rattle.pef_cert.proofs.TestLemmas.{asked-met, import_tests-met, section_tests-met}
 
 -- a fixup with its base known
 fixup_is : (f : Fixup) (b : Base) → f.base ≡ b → f ≡ added f.offset b

@@ -1,11 +1,11 @@
 -- Rows of labels as they are kept: how many there are, where one stands, and one more.
-use Rattle.std.proofs.Common.{◌≡◌, ◌≢◌, ℕ, zero, suc, ◌+◌, ◌-◌, ◌*◌, ◌<◌, ◌≤◌, Bool, true, false, ◌&&◌, ◌==◌, nat_lt, List, [], ◌∷◌, ◌++◌, length, take, drop, replicate, Option, None, Some, refl, ap, sym, ◌∙◌, subst, arith, slice_index, slice_get, length-append, append_assoc, get_or}
+use Rattle.std.proofs.Common.{◌≡◌, ℕ, zero, suc, ◌+◌, ◌-◌, ◌*◌, ◌<◌, ◌≤◌, true, nat_lt, List, [], ◌∷◌, ◌++◌, length, take, drop, replicate, None, Some, refl, ap, sym, ◌∙◌, subst, arith, slice_index, slice_get, length-append, append_assoc}
 use Rattle.std.specs.Prelude.{slice_index_or, slice_set}
 use Rattle.std.proofs.lemmas.Bool.{ltb-true, lt-ltb}
 use Rattle.std.proofs.Math.Path.{ap₂}
-use Rattle.std.proofs.lemmas.List.{append-nil, drop-append-le, drop-drop, get_or-append_right, get_or-replicate, get_or_append_left, length-drop, length-replicate, take-append-le, take_all}
+use Rattle.std.proofs.lemmas.List.{append-nil, length-set, drop-append-le, drop-drop, drop_at, length_push, length-take-le, get_or-append_right, get_or-replicate, get_or_append_left, length-drop, length-replicate, take-append-le, take_all}
 use Rattle.pef_words.proofs.Laws.Tests.{both_met, met_both}
-use Rattle.pef_cert.specs.Kept.RowsKept.{RowsFull, rows_from}
+use Rattle.pef_cert.specs.Kept.RowsKept.{RowsFull, RunsFull, rows_from}
 use Rattle.pef_cert.specs.Valid.{above_all}
 
 -- how many rows there are up to the last kept one
@@ -171,3 +171,54 @@ rows-some w end ends values full e =
 
 pub rows-none : (w : ℕ) (ends values : List ℕ) → slice_get ends (length ends - 1) ≡ None → 0 ≡ length (rows_from w 0 ends values)
 rows-none w ends values e = rw (last_end-none 0 ends e) refl
+
+-- one row more, where it is kept
+last_is : (w : ℕ) (ends values : List ℕ) → RowsFull w ends values → last_end 0 ends ≡ length (rows_from w 0 ends values)
+last_is w ends values full = let count = rows-count w 0 ends values full.rising in omega (arith, count)
+
+pub full-push : (w end : ℕ) (ends values row : List ℕ) → RowsFull w ends values → length row ≡ w → length (rows_from w 0 ends values) < end → RowsFull w (ends ++ end ∷ []) (values ++ row)
+full-push w end ends values row full wide after = record {
+  rising = rising-push 0 end ends full.rising (omega (arith, last_is w ends values full));
+  full = rw (length_push ends end) (omega (arith, full.full, wide, length-append values row));
+}
+
+pub rows-pushed : (w end : ℕ) (ends values row : List ℕ) → RowsFull w ends values → length row ≡ w → rows_from w 0 (ends ++ end ∷ []) (values ++ row) ≡ rows_from w 0 ends values ++ replicate (end - length (rows_from w 0 ends values)) row
+rows-pushed w end ends values row full wide =
+    rows-push w 0 end ends values row full.full wide
+    ∙ ap (λ n. rows_from w 0 ends values ++ replicate (end - n) row) (last_is w ends values full)
+
+-- one more of the last row
+pub full-more : (w end n : ℕ) (ends values : List ℕ) → RowsFull w ends values → length ends ≡ suc n → length (rows_from w 0 ends values) + 1 ≡ end → RowsFull w (slice_set ends n end) values
+full-more w end n ends values full count after = record {
+  rising = rising-more 0 end n ends full.rising count (omega (arith, after, last_is w ends values full));
+  full = full.full ∙ ap (λ m. w * m) (sym (length-set ends n end));
+}
+
+last_row : (w n : ℕ) (ends values row : List ℕ) → RowsFull w ends values → length ends ≡ suc n → length row ≡ w → values ≡ take (length values - length row) values ++ row → take w (drop (n * w) values) ≡ row
+last_row w n ends values row full count wide is =
+    let product : w * length ends ≡ w * suc n = ap (λ m. w * m) count in
+    let before : length values - length row ≡ n * w = omega (arith, full.full, product, wide) in
+    let inside : length values - length row ≤ length values = omega arith in
+    let front = length-take-le (length values - length row) values inside in
+    ap (λ vs. take w (drop (n * w) vs)) is
+    ∙ (ap (take w) (drop_at (take (length values - length row) values) row (n * w) (front ∙ before))
+    ∙ take_all w row (omega (arith, wide)))
+
+pub rows-one_more : (w end n : ℕ) (ends values row : List ℕ) → RowsFull w ends values → length ends ≡ suc n → length row ≡ w → values ≡ take (length values - length row) values ++ row → length (rows_from w 0 ends values) + 1 ≡ end → rows_from w 0 (slice_set ends n end) values ≡ rows_from w 0 ends values ++ row ∷ []
+rows-one_more w end n ends values row full count wide is after =
+    let one : end - last_end 0 ends ≡ 1 = omega (arith, after, last_is w ends values full) in
+    rows-more w 0 end n ends values row full.rising count (omega (arith, after, last_is w ends values full)) (last_row w n ends values row full count wide is)
+    ∙ ap (λ m. rows_from w 0 ends values ++ replicate m row) one
+
+-- rows to go through
+pub runs-next : (w passed end : ℕ) (ends rest values : List ℕ) → RunsFull w passed ends values → ends ≡ end ∷ rest → RunsFull w end rest (drop w values)
+runs-next w passed end [] rest values full is = absurd (cc)
+runs-next w passed end (x ∷ xs) rest values full is =
+    let first : x ≡ end = cc in
+    let others : xs ≡ rest = cc in
+    let product : w * length (x ∷ xs) ≡ w + w * length xs = omega arith in
+    let same : w * length xs ≡ w * length rest = ap (λ (es : List ℕ). w * length es) others in
+    record {
+      rising = subst (λ (e : ℕ). above_all e rest ≡ true) first (subst (λ (es : List ℕ). above_all x es ≡ true) others (met_both (nat_lt passed x) (above_all x xs) full.rising).1);
+      full = omega (arith, full.full, product, same, length-drop w values);
+    }

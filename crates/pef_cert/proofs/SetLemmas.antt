@@ -1,11 +1,11 @@
 -- The least and the greatest label of a line.
-use Rattle.std.proofs.Common.{◌≡◌, ℕ, ◌+◌, ◌*◌, ◌<◌, ◌≤◌, ◌⊎◌, inl, inr, ◌-◌, min, max, List, [], length, refl, ap, sym, ◌∙◌, arith, slice_index}
+use Rattle.std.proofs.Common.{◌≡◌, ℕ, ◌+◌, ◌*◌, ◌<◌, ◌≤◌, ◌⊎◌, inl, inr, ◌-◌, min, max, List, [], length, ap, sym, ◌∙◌, arith, slice_index}
 use Rattle.std.specs.Prelude.{slice_index_or}
 use Rattle.std.proofs.Math.Path.{ap₂}
 use borrow.Author.Count.{below_more}
 use Rattle.pef_cert.specs.Valid.{labels_in}
 use Rattle.pef_cert.specs.Kept.Tests.{SetsHold}
-use Rattle.pef_cert.specs.Kept.Sets.{LineHolds, LinesHold, RowHolds}
+use Rattle.pef_cert.specs.Kept.Sets.{RowHolds}
 
 -- a place below a count with a value
 pub record Attains (count : ℕ) (f : ℕ → ℕ) (value : ℕ) : Type 0 where

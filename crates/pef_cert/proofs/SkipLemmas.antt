@@ -1,25 +1,20 @@
 -- Of all offers at a section's fixup the least is a skip with the register C as it is; and how great extensions
 -- get.
-use Rattle.std.proofs.Common.{◌≡◌, ◌≢◌, ℕ, zero, suc, ◌+◌, ◌*◌, ◌<◌, ◌≤◌, ◌⊎◌, inl, inr, Bool, true, false, ◌&&◌, ◌==◌, nat_lt, ◌-◌, min, List, [], ◌∷◌, ◌++◌, length, drop, Option, None, Some, refl, ap, sym, ◌∙◌, subst, arith, eq-eqb}
-use Rattle.std.specs.List.{AllByRecursion}
-use Rattle.std.proofs.lemmas.Bool.{leb-true, ltb-true}
+use Rattle.std.proofs.Common.{◌≡◌, ℕ, zero, suc, ◌+◌, ◌*◌, ◌<◌, ◌≤◌, ◌⊎◌, inl, inr, true, false, ◌&&◌, ◌==◌, ◌-◌, min, List, [], ◌∷◌, ◌++◌, length, drop, Option, None, Some, refl, ap, sym, ◌∙◌, subst, arith, eq-eqb}
 use Rattle.std.proofs.lemmas.Bool.Decides.{eqb_tells}
 use Rattle.std.proofs.lemmas.List.{drop-drop}
 use Rattle.pef_reloc.specs.declared.fixup.Base.{Base}
 use Rattle.pef_reloc.specs.declared.fixup.Base.TheVariants.{Section, Import}
 use Rattle.pef_reloc.specs.declared.fixup.Fixup.{Fixup}
-use Rattle.pef_reloc.specs.Deliveries.{index_past}
-use Rattle.pef_reloc.specs.Fixups.{base_fits, fixup_fits}
 use Rattle.pef_reloc.specs.Steps.{added, row}
-use Rattle.pef_reloc.proofs.Laws.{fixup_fits-parts}
 use Rattle.pef_cert.specs.Labels.{Labels, class_of, classes, has_class}
-use Rattle.pef_cert.specs.Minima.{lesser, plus}
-use Rattle.pef_cert.specs.Extension.{change, extension, offer_at, skip, skip_more, skips_at}
+use Rattle.pef_cert.specs.Minima.{lesser}
+use Rattle.pef_cert.specs.Extension.{change, extension, offer_at, skip, skips_at}
 use Rattle.pef_cert.specs.Kept.Tests.{adds_first, same_base}
-use Rattle.pef_cert.proofs.ClassLemmas.{Numbers, RegisteredBase, class_of-same}
-use Rattle.pef_cert.proofs.ExtensionLemmas.{Skipped, extension-end, skip-is, skip-most, skips-is}
-use Rattle.pef_cert.proofs.Falling.{World, world-behind, world-first, world-next}
-use Rattle.pef_cert.proofs.LabelFacts.{Offered, Stands, extension-label, extension-set_c, offer-is, offer-most, skip_has}
+use Rattle.pef_cert.proofs.ClassLemmas.{class_of-same}
+use Rattle.pef_cert.proofs.ExtensionLemmas.{extension-end, skip-is, skip-most, skips-is}
+use Rattle.pef_cert.proofs.Falling.{World, world-behind, world-first}
+use Rattle.pef_cert.proofs.LabelFacts.{Offered, extension-set_c, offer-is, offer-most, skip_has}
 use Rattle.pef_cert.proofs.MinimaLemmas.{AtMost, at_most-weaker}
 
 -- the change of register C, whatever is left to make

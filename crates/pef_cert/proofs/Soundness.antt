@@ -1,19 +1,19 @@
 -- The program of a valid certificate is least.
-use Rattle.std.proofs.Common.{◌≡◌, ℕ, ◌+◌, ◌≤◌, ◌<◌, Bool, true, List, [], ◌∷◌, ◌++◌, length, refl, ap, sym, ◌∙◌, subst, arith, Option, Some}
+use Rattle.std.proofs.Common.{◌≡◌, ℕ, ◌+◌, ◌≤◌, ◌<◌, true, List, [], ◌∷◌, length, refl, ap, sym, ◌∙◌, subst, arith, Some}
 use Rattle.pef_reloc.specs.declared.fixup.Fixup.{Fixup}
 use Rattle.pef_reloc.specs.declared.instr.Instr.{Instr}
 use Rattle.pef_reloc.specs.Deliveries.{Delivers, MakesFrom, StandsBehind, index_after, is_flat_instr}
 use Rattle.pef_reloc.specs.Fixups.{fixups_fit}
 use Rattle.pef_reloc.specs.Instrs.{instr_length, program_length}
-use Rattle.pef_reloc.specs.Steps.{Least, Makes, State, is_flat, next_state, start}
+use Rattle.pef_reloc.specs.Steps.{Least, State, is_flat, next_state, start}
 use Rattle.pef_reloc.proofs.Laws.{first_delivers, flat_parts}
 use Rattle.pef_cert.specs.Labels.{Labels, class_of, classes}
 use Rattle.pef_cert.specs.Extension.{extension, extension_at, offer_at}
-use Rattle.pef_cert.specs.Feasible.{Feasible, label_at}
+use Rattle.pef_cert.specs.Feasible.{Feasible}
 use Rattle.pef_cert.specs.Valid.{Certified, RegistersOf, Trusted, Valid, labels_of}
 use Rattle.pef_cert.proofs.ClassLemmas.{all_registered, numbers}
 use Rattle.pef_cert.proofs.ExtensionLemmas.{extension-end}
-use Rattle.pef_cert.proofs.Falling.{Falls, World, falls, world-behind, world-first, world_left}
+use Rattle.pef_cert.proofs.Falling.{World, falls, world-behind, world-first, world_left}
 use Rattle.pef_cert.proofs.LabelFacts.{Stands, extension-label, extension-set_c, extension-set_d, label-extension, label-offer}
 
 -- from a state at which labels are in order, no flat list that makes the fixups has fewer halfwords than the

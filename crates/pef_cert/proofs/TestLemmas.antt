@@ -1,23 +1,22 @@
 -- Labels are feasible at a fixup just where the tests are met that a check makes.
-use Rattle.std.proofs.Common.{◌≡◌, ◌≢◌, ℕ, zero, suc, ◌+◌, ◌*◌, ◌<◌, ◌≤◌, ◌⊎◌, inl, inr, Bool, true, false, cond, ◌&&◌, ◌||◌, ◌==◌, nat_le, nat_lt, List, [], ◌∷◌, ◌++◌, length, refl, ap, sym, ◌∙◌, subst, arith, eq-eqb, length-append}
-use Rattle.std.proofs.lemmas.Bool.{leb-true, le-leb, lt-ltb, ltb-true}
-use Rattle.std.proofs.lemmas.Bool.Decides.{eqb_tells, nat_tests}
+use Rattle.std.proofs.Common.{◌≡◌, ℕ, zero, suc, ◌+◌, ◌*◌, ◌<◌, ◌≤◌, Bool, true, false, cond, ◌&&◌, ◌||◌, ◌==◌, nat_le, nat_lt, List, [], ◌∷◌, ◌++◌, length, refl, ap, sym, ◌∙◌, subst, arith, eq-eqb}
+use Rattle.std.proofs.lemmas.Bool.{leb-true, le-leb}
 use Rattle.pef_reloc.specs.declared.fixup.Base.{Base}
 use Rattle.pef_reloc.specs.declared.fixup.Base.TheVariants.{Section, Import}
 use Rattle.pef_reloc.specs.declared.fixup.Fixup.{Fixup}
 use Rattle.pef_reloc.specs.declared.instr.Instr.{Instr}
 use Rattle.pef_reloc.specs.declared.instr.Instr.TheVariants.{BySectDWithSkip, BySectC, BySectD, TVector12, TVector8, VTable8, ImportRun, SmByImport, SmSetSectC, SmSetSectD, SmBySection, IncrPosition, SmRepeat, SetPosition, LgByImport, LgRepeat, LgBySection, LgSetSectC, LgSetSectD}
-use Rattle.pef_reloc.specs.Deliveries.{Delivers, is_flat_instr, passes_on, sets_register}
+use Rattle.pef_reloc.specs.Deliveries.{is_flat_instr, sets_register}
 use Rattle.pef_reloc.specs.Instrs.{instr_length}
 use Rattle.pef_reloc.specs.Steps.{State, added, additions, next_state, numbered, pairs, row}
 use Rattle.pef_words.proofs.Laws.Tests.{both_met, met_both}
-use Rattle.pef_cert.specs.Labels.{Labels, class_of, classes}
+use Rattle.pef_cert.specs.Labels.{Labels, class_of}
 use Rattle.pef_cert.specs.Extension.{extension, extension_at}
 use Rattle.pef_cert.specs.Feasible.{AtFixup, FeasibleAt, label_at}
 use Rattle.pef_cert.specs.Kept.Tests.{SetsHold, TestsHold, adds_test, asked, base_test, import_cost, numbered_test, one_from, pair_test, pairs_test, row_test, second_test}
-use Rattle.pef_cert.proofs.ClassLemmas.{Numbers, class_of-below}
+use Rattle.pef_cert.proofs.ClassLemmas.{class_of-below}
 use Rattle.pef_cert.proofs.ExtensionLemmas.{extension-here}
-use Rattle.pef_cert.proofs.RunLemmas.{numbered_test-holds, numbered_test-met, pairs_test-holds, pairs_test-met, row_test-holds, row_test-met}
+use Rattle.pef_cert.proofs.RunLemmas.{numbered_test-holds, pairs_test-holds, row_test-holds}
 
 pub asked-met : (b test : Bool) → (b ≡ true → test ≡ true) → asked b test ≡ true
 asked-met true test holds = holds refl

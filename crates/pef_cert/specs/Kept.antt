@@ -1,5 +1,7 @@
 pub mod Claims
+pub mod Registers
 pub mod RowsKept
 pub mod Sets
 pub mod Tests
 pub mod Values
+pub mod Walks

@@ -1,5 +1,5 @@
 -- Labels in rows, of which equal neighbours are kept once.
-use Rattle.std.specs.Prelude.{ℕ, zero, suc, ◌-◌, List, [], ◌∷◌, ◌++◌, take, drop, replicate}
+use Rattle.std.specs.Prelude.{ℕ, zero, suc, List, [], ◌∷◌, take, drop}
 
 -- rows of labels, all of one width
 pub record LaidRows : Type 0 where

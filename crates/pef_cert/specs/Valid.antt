@@ -7,7 +7,7 @@ use Rattle.pef_reloc.specs.Deliveries.{uses_section}
 use Rattle.pef_reloc.specs.Fixups.{fixups_fit}
 use Rattle.pef_reloc.specs.Instrs.{program_length}
 use Rattle.pef_reloc.specs.Steps.{Makes, is_flat, start}
-use Rattle.pef_cert.specs.Labels.{Labels, classes}
+use Rattle.pef_cert.specs.Labels.{Labels}
 use Rattle.pef_cert.specs.Extension.{extension_at}
 use Rattle.pef_cert.specs.Feasible.{Feasible}
 

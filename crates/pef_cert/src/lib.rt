@@ -3,18 +3,25 @@
 #![tactic(auto)]
 
 mod additions;
+mod certificate;
+mod checking;
 mod claim;
 mod classes;
 mod extension;
 mod feasible;
 mod fixups;
+mod registers;
 mod rows;
 mod runs;
 mod sets;
 mod skips;
+mod sweep;
 mod theorems;
+mod walk;
 
-pub use rows::LabelRows;
+pub use certificate::Certificate;
+pub use checking::check;
+pub use rows::{LabelRows, LabelRun, LabelRuns};
 pub use theorems::{
     extension_of_labels, extensions_fall, labels_are_near, valid_programs_are_least,
 };

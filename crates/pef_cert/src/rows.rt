@@ -1,4 +1,4 @@
-ghost use Rattle.std.specs.Prelude.{◌≡◌, ◌+◌, ◌*◌, ◌^◌, ◌<◌, ◌++◌, OnErr, OnOk, [], length, replicate};
+ghost use Rattle.std.specs.Prelude.{◌≡◌, ◌-◌, ◌<◌, ◌++◌, MatchOption, OnErr, OnOk, [], ◌∷◌, length, replicate};
 ghost use Rattle.pef_cert.specs.Kept.RowsKept.{RowsFull, rows_from};
 
 use std::alloc::{AllocError, Global};
@@ -62,6 +62,54 @@ impl LabelRows {
         }
     }
 
+    /// Puts a row behind the others. A row that equals the last one takes no memory.
+    ///
+    /// # Errors
+    ///
+    /// Where there is no memory for the row, the rows stay as they were.
+    pub fn push(&mut self, row: &[u32]) -> Result<(), AllocError>
+        requires { length row.now ≡ self.old.width }
+        ensures ok { OnOk result (self.new ≡ record { width = self.old.width; rows = self.old.rows ++ row.now ∷ [] }) }
+        ensures err { OnErr result (self.new ≡ self.old) }
+    {
+        let end = match self.rows().checked_add(1) {
+            Some(end) => end,
+            None => return Err(AllocError),
+        };
+        match self.ends.len().checked_sub(1) {
+            Some(last) if self.values.ends_with(row) => {
+                self.ends[last] = end;
+                Ok(())
+            }
+            _ => self.append(end, row),
+        }
+    }
+
+    /// Keeps a row of its own, that stands for all rows from here up to an end.
+    fn append(&mut self, end: usize, row: &[u32]) -> Result<(), AllocError>
+        requires wide { length row.now ≡ self.old.width }
+        requires more { length self.old.rows < end }
+        ensures ok { OnOk result (self.new ≡ record { width = self.old.width; rows = self.old.rows ++ replicate (end - length self.old.rows) row.now }) }
+        ensures err { OnErr result (self.new ≡ self.old) }
+    {
+        self.ends.reserve(1)?;
+        self.values.extend_from_slice(row)?;
+        self.ends.push(end)?;
+        Ok(())
+    }
+
+    /// Goes through the rows, equal neighbours at once.
+    pub fn runs(&self) -> LabelRuns<'_>
+        ensures { result ≡ self.now.rows }
+    {
+        LabelRuns {
+            width: self.width,
+            passed: 0,
+            ends: self.ends.as_slice(),
+            values: self.values.as_slice(),
+        }
+    }
+
     /// The rows as they are kept.
     pub(crate) fn kept(&self) -> Kept<'_>
         ensures width { result.width ≡ self.now.width }
@@ -73,5 +121,50 @@ impl LabelRows {
             ends: self.ends.as_slice(),
             values: self.values.as_slice(),
         }
+    }
+}
+
+/// Rows that are left to go through.
+#[derive(Debug, Drop)]
+pub struct LabelRuns<'a> {
+    width: usize,
+    /// How many rows were passed.
+    passed: usize,
+    ends: &'a [usize],
+    values: &'a [u32],
+}
+
+impl<'a> Model for LabelRuns<'a> {
+    ghost use Rattle.std.specs.Prelude.{List, ℕ};
+    ghost use Rattle.pef_cert.specs.Kept.RowsKept.{RunsFull, rows_from};
+
+    ghost Value = { List (List ℕ) };
+
+    ghost view = { λ r. rows_from r.width r.passed r.ends.now r.values.now };
+
+    ghost invariant = { λ r. RunsFull r.width r.passed r.ends.now r.values.now };
+}
+
+/// Equal rows.
+#[derive(Clone, Copy, Debug)]
+pub struct LabelRun<'a> {
+    /// How many there are.
+    pub rows: usize,
+    /// The labels of each.
+    pub labels: &'a [u32],
+}
+
+impl<'a> LabelRuns<'a> {
+    /// The next rows, one or more that are equal; `None` behind the last.
+    pub fn next_run(&mut self) -> Option<LabelRun<'a>>
+        ensures { MatchOption result (self.old ≡ []) (λ run. (0 < run.rows) × (self.old ≡ replicate run.rows run.labels.now ++ self.new)) }
+    {
+        let (end, ends) = self.ends.split_first()?;
+        let (labels, values) = self.values.split_at(self.width);
+        let rows = *end - self.passed;
+        self.passed = *end;
+        self.ends = ends;
+        self.values = values;
+        Some(LabelRun { rows, labels })
     }
 }

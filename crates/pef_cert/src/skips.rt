@@ -17,7 +17,7 @@ const MORE_WORDS: u32 = 62;
 impl<'a> Behind<'a> {
     /// The least that a skip of no words leads to at index `at`, whose fixup has a section, with register C
     /// in a class: 1 and the extension behind some of the words of the section there.
-    fn least_skip(self, at: usize, fixup: Fixup, section: u32, c: usize) -> u64
+    pub(crate) fn least_skip(self, at: usize, fixup: Fixup, section: u32, c: usize) -> u64
         requires skips { Skips self at fixup section }
         requires c { c < length self.claim.registers.now + 1 }
         ensures is { skips_at (labels_claimed self.entry.claim) fixup (drop (at + 1) self.entry.claim.fixups.now) c (class_of self.entry.claim.registers.now section) ≡ Some result }

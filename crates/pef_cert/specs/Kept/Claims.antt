@@ -1,16 +1,20 @@
 -- What a check keeps in view: the labels that are claimed, and what it has found behind the fixup under test.
-use Rattle.std.specs.Prelude.{◌≡◌, ◌≤◌, ◌<◌, ℕ, zero, suc, ◌+◌, ◌-◌, ◌*◌, ◌%◌, true, List, [], ◌∷◌, length, drop, slice_get, slice_index, slice_index_or, Option, None, Some}
+use Rattle.std.specs.Prelude.{◌≡◌, ◌≤◌, ◌<◌, ℕ, zero, suc, ◌+◌, ◌*◌, ◌%◌, true, List, [], ◌∷◌, length, drop, slice_get, slice_index, slice_index_or, None, Some}
+use Rattle.std.specs.List.{AllByRecursion}
 use Rattle.pef_reloc.specs.declared.fixup.Base.{Base}
 use Rattle.pef_reloc.specs.declared.fixup.Base.TheVariants.{Section, Import}
 use Rattle.pef_reloc.specs.declared.fixup.Fixup.{Fixup}
+use Rattle.pef_reloc.specs.declared.instr.Instr.{Instr}
 use Rattle.pef_reloc.specs.Fixups.{fixups_fit}
-use Rattle.pef_reloc.specs.Limits.{most_sections}
+use Rattle.pef_reloc.specs.Instrs.{program_length}
+use Rattle.pef_reloc.specs.Steps.{Makes, is_flat, start}
 use Rattle.pef_cert.specs.declared.claim.Behind.{Behind}
 use Rattle.pef_cert.specs.declared.claim.Claim.{Claim}
 use Rattle.pef_cert.specs.declared.feasible.Under.{Under}
 use Rattle.pef_cert.specs.declared.runs.Tested.{Tested}
 use Rattle.pef_cert.specs.Labels.{Labels, class_of, classes}
-use Rattle.pef_cert.specs.Extension.{change, offer_at}
+use Rattle.pef_cert.specs.Extension.{change, extension_at, offer_at}
+use Rattle.pef_cert.specs.Feasible.{Feasible}
 use Rattle.pef_cert.specs.Kept.RowsKept.{RowsFull, rows_from}
 use Rattle.pef_cert.specs.Valid.{RegistersOf, labels_in}
 
@@ -42,11 +46,14 @@ abbrev pub OfferIs : Labels → Fixup → List Fixup → ℕ → ℕ → ℕ →
 OfferIs l f rest c d x (Section k) = offer_at l f rest c d ≡ Some (change d (class_of l.registers k) + x)
 OfferIs l f rest c d x (Import k) = offer_at l f rest c d ≡ None
 
--- what is known of an index behind the fixup under test
-pub record KnownAt (b : Behind) (j : ℕ) : Type 0 where
-  pub row : IsRowOf b.claim.kept.ends.now (slice_index b.rows.now (j % 1024)) j
-  pub offer : (f : Fixup) (rest : List Fixup) (c d : ℕ) → drop j b.claim.fixups.now ≡ f ∷ rest → c < classes (labels_claimed b.claim) → d < classes (labels_claimed b.claim)
-      → OfferIs (labels_claimed b.claim) f rest c d (slice_index (slice_index_or b.skips.now (j % 1024) []) c) f.base
+-- the least skips with register C in each class, at a fixup where others are left
+abbrev pub SkipsAre : Claim → Fixup → List Fixup → List ℕ → Type 0
+SkipsAre claim f rest least = (c d : ℕ) → c < classes (labels_claimed claim) → d < classes (labels_claimed claim) → OfferIs (labels_claimed claim) f rest c d (slice_index least c) f.base
+
+-- what is known of an index behind the fixup under test, from what the ring has of rows and of skips
+pub record KnownAt (claim : Claim) (ring : List ℕ) (least : List (List ℕ)) (j : ℕ) : Type 0 where
+  pub row : IsRowOf claim.kept.ends.now (slice_index ring (j % 1024)) j
+  pub offer : (f : Fixup) (rest : List Fixup) → drop j claim.fixups.now ≡ f ∷ rest → SkipsAre claim f rest (slice_index_or least (j % 1024) [])
 
 -- what is known of an index, where all is of the right shape
 pub record Sees (b : Behind) (j : ℕ) : Type 0 where
@@ -54,14 +61,17 @@ pub record Sees (b : Behind) (j : ℕ) : Type 0 where
   pub rows : length b.rows.now ≡ 1024
   pub skips : length b.skips.now ≡ 1024
   pub inside : j ≤ length b.claim.fixups.now
-  pub known : KnownAt b j
+  pub known : KnownAt b.claim b.rows.now b.skips.now j
 
 -- what is known of the indices from one on
-pub record Knows (b : Behind) (from : ℕ) : Type 0 where
-  pub shaped : Shaped b.claim
-  pub rows : length b.rows.now ≡ 1024
-  pub skips : length b.skips.now ≡ 1024
-  pub at : (j : ℕ) → from ≤ j → j < from + 1024 → j ≤ length b.claim.fixups.now → KnownAt b j
+pub record Swept (claim : Claim) (ring : List ℕ) (least : List (List ℕ)) (from : ℕ) : Type 0 where
+  pub shaped : Shaped claim
+  pub rows : length ring ≡ 1024
+  pub skips : length least ≡ 1024
+  pub at : (j : ℕ) → from ≤ j → j < from + 1024 → j ≤ length claim.fixups.now → KnownAt claim ring least j
+
+abbrev pub Knows : Behind → ℕ → Type 0
+Knows b from = Swept b.claim b.rows.now b.skips.now from
 
 -- a state at a fixup, whose label is tested against what lies behind
 pub record Tests (b : Behind) (s : Tested) : Type 0 where
@@ -81,3 +91,21 @@ pub record Skips (b : Behind) (at : ℕ) (f : Fixup) (k : ℕ) : Type 0 where
   pub knows : Knows b (at + 1)
   pub here : slice_get b.claim.fixups.now at ≡ Some f
   pub base : f.base ≡ Section k
+
+-- rows of the right shape for so many fixups and classes
+pub record RowsFit (count classes : ℕ) (rows : List (List ℕ)) : Type 0 where
+  pub count_is : length rows ≡ count + 1
+  pub row : AllByRecursion (λ row. length row ≡ classes * classes) rows
+
+-- a claim is of these fixups, registers and rows
+pub record IsClaim (fixups : List Fixup) (registers : List ℕ) (rows : List (List ℕ)) (claim : Claim) : Type 0 where
+  pub fixups_are : claim.fixups.now ≡ fixups
+  pub registers_are : claim.registers.now ≡ registers
+  pub rows_are : rows_from claim.kept.width 0 claim.kept.ends.now claim.kept.values.now ≡ rows
+
+-- a claim holds for a program
+pub record Holds (claim : Claim) (program : List Instr) : Type 0 where
+  pub feasible : Feasible (labels_claimed claim) claim.fixups.now
+  pub flat : is_flat program ≡ true
+  pub makes : Makes claim.fixups.now program
+  pub length_is : program_length program ≡ extension_at (labels_claimed claim) claim.fixups.now start

@@ -12,3 +12,8 @@ rows_from width low (end ∷ ends) values = replicate (end - low) (take width va
 pub record RowsFull (width : ℕ) (ends values : List ℕ) : Type 0 where
   pub rising : above_all 0 ends ≡ true
   pub full : length values ≡ width * length ends
+
+-- what is true of kept rows behind so many rows
+pub record RunsFull (width passed : ℕ) (ends values : List ℕ) : Type 0 where
+  pub rising : above_all passed ends ≡ true
+  pub full : length values ≡ width * length ends

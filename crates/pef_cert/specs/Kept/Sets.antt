@@ -1,5 +1,5 @@
 -- The labels of a row, along its lines.
-use Rattle.std.specs.Prelude.{◌≤◌, ◌<◌, ℕ, ◌+◌, ◌*◌, List, slice_index}
+use Rattle.std.specs.Prelude.{◌≡◌, ◌≤◌, ◌<◌, ℕ, ◌+◌, ◌*◌, List, length, slice_index}
 
 -- labels of a row at places that lie so far apart differ by at most 1
 abbrev pub LineHolds : List ℕ → ℕ → ℕ → ℕ → Type 0
@@ -11,3 +11,7 @@ LinesHold row count k = LineHolds row (k * count) 1 count × LineHolds row k cou
 
 abbrev pub RowHolds : List ℕ → ℕ → Type 0
 RowHolds row count = (k : ℕ) → k < count → LinesHold row count k
+
+-- all labels of a row are 0
+abbrev pub RowIsZero : List ℕ → Type 0
+RowIsZero row = (k : ℕ) → k < length row → slice_index row k ≡ 0

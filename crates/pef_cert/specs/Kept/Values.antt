@@ -1,5 +1,5 @@
 -- How values are computed.
-use Rattle.std.specs.Prelude.{ℕ, ◌+◌, ◌%◌, ◌==◌, min, Bool, ◌&&◌, nat_le, if◌then◌else◌}
+use Rattle.std.specs.Prelude.{ℕ, ◌+◌, ◌%◌, ◌==◌, min, ◌&&◌, nat_le, if◌then◌else◌}
 
 -- the lesser of a value and what an offer gives, so many bytes before a fixup
 abbrev pub offered : ℕ → ℕ → ℕ → ℕ

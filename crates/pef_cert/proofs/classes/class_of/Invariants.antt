@@ -1,4 +1,4 @@
-use Rattle.std.proofs.Common.{◌≡◌, ◌+◌, ◌≤◌, drop}
+use Rattle.std.proofs.Common.{◌≡◌, ◌+◌, drop}
 use Rattle.pef_cert.specs.Labels.{class_of}
 use Rattle.pef_cert.proofs.classes.class_of.Given as goal
 

@@ -1,4 +1,4 @@
-use Rattle.std.proofs.Common.{◌≡◌, ◌+◌, ◌*◌, ◌<◌, ◌≤◌, ℕ, arith, slice_index, refl}
+use Rattle.std.proofs.Common.{◌+◌, ◌*◌, ℕ, arith, slice_index, refl}
 use Rattle.pef_cert.proofs.SetLemmas.{above-min, attains-max, attains-min, below-max}
 use Rattle.pef_cert.proofs.sets.line_holds.Goals as goal
 

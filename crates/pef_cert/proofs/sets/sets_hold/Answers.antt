@@ -1,4 +1,4 @@
-use Rattle.std.proofs.Common.{◌≡◌, ◌+◌, ◌*◌, ◌<◌, ◌≤◌, ℕ, true, arith, refl}
+use Rattle.std.proofs.Common.{arith, refl}
 use borrow.Author.Count.{below_more}
 use Rattle.pef_cert.specs.Kept.Sets.{LinesHold}
 use Rattle.pef_cert.proofs.sets.sets_hold.Goals as goal

@@ -1,4 +1,4 @@
-use Rattle.std.proofs.Common.{◌≡◌, ◌+◌, length, ℕ, true, false, subst}
+use Rattle.std.proofs.Common.{ℕ, true, false, subst}
 use Rattle.pef_cert.specs.Kept.Sets.{RowHolds}
 use Rattle.pef_cert.specs.Kept.Tests.{Says}
 use Rattle.pef_cert.proofs.FeasibleLemmas.{fixup-fails, fixup-says}

@@ -1,4 +1,4 @@
-use Rattle.std.proofs.Common.{◌+◌, ◌≡◌, drop, take, refl, true, false}
+use Rattle.std.proofs.Common.{◌+◌, drop, take, true}
 use Rattle.pef_reloc.specs.Deliveries.{index_after}
 use Rattle.pef_cert.specs.Kept.Claims.{labels_claimed}
 use Rattle.pef_cert.proofs.AdditionLemmas.{import-is}

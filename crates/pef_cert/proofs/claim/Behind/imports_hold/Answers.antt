@@ -1,7 +1,6 @@
-use Rattle.std.proofs.Common.{◌≡◌, ◌+◌, ◌-◌, ◌<◌, ◌≤◌, drop, length, true, sym, arith}
+use Rattle.std.proofs.Common.{◌+◌, ◌-◌, sym, arith}
 use Rattle.pef_reloc.specs.declared.fixup.Base.TheVariants.{Import}
 use Rattle.pef_cert.specs.Kept.Claims.{labels_claimed}
-use Rattle.pef_cert.specs.Kept.Tests.{adds_first}
 use Rattle.pef_cert.proofs.ClaimLemmas.{knows-sees}
 use Rattle.pef_cert.proofs.StepLemmas.{adds_inside, numbered-end, numbered-fail, numbered-next, numbered-stop}
 use Rattle.pef_cert.proofs.claim.Behind.imports_hold.Goals as goal

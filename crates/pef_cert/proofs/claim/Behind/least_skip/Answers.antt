@@ -1,9 +1,9 @@
-use Rattle.std.proofs.Common.{◌≡◌, ◌+◌, ◌-◌, ◌*◌, ◌<◌, ◌≤◌, ℕ, Some, length, drop, ap, sym, ◌∙◌, arith, refl, min}
+use Rattle.std.proofs.Common.{◌+◌, ◌-◌, Some, drop, ap, sym, ◌∙◌, arith}
 use Rattle.pef_reloc.specs.declared.fixup.Base.TheVariants.{Section}
 use Rattle.std.proofs.Math.Path.{ap₂}
 use Rattle.pef_cert.specs.Extension.{extension, skip}
 use Rattle.pef_cert.specs.Minima.{lesser}
-use Rattle.pef_cert.specs.Labels.{class_of, classes}
+use Rattle.pef_cert.specs.Labels.{class_of}
 use Rattle.pef_cert.specs.Kept.Claims.{labels_claimed}
 use Rattle.pef_cert.proofs.ClaimLemmas.{get_under, knows-sees}
 use Rattle.pef_cert.proofs.ClassLemmas.{class_of-below}

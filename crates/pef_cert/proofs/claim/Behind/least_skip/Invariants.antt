@@ -1,4 +1,4 @@
-use Rattle.std.proofs.Common.{◌≡◌, ◌+◌, ◌-◌, ◌*◌, ◌^◌, ◌≤◌, ◌<◌, Some, drop, length}
+use Rattle.std.proofs.Common.{◌≡◌, ◌+◌, ◌-◌, ◌*◌, ◌^◌, ◌≤◌, Some, drop, length}
 use Rattle.pef_cert.specs.Extension.{skip, skips_at}
 use Rattle.pef_cert.specs.Labels.{class_of}
 use Rattle.pef_cert.specs.Minima.{lesser}

@@ -1,4 +1,4 @@
-use Rattle.std.proofs.Common.{◌≡◌, ◌+◌, ◌<◌, ℕ, Bool, true, false, drop, length, take, sym, ◌∙◌, arith}
+use Rattle.std.proofs.Common.{◌≡◌, ◌+◌, true, false, drop, take, sym, ◌∙◌, arith}
 use borrow.Author.Count.{below_more}
 use Rattle.pef_reloc.specs.Deliveries.{index_after}
 use Rattle.pef_cert.specs.Kept.Claims.{labels_claimed}

@@ -1,4 +1,4 @@
-use Rattle.std.proofs.Common.{◌≡◌, ◌+◌, ◌<◌, ◌≤◌, ℕ, true, drop, length, take}
+use Rattle.std.proofs.Common.{◌≡◌, ◌+◌, ◌<◌, ℕ, true, drop, take}
 use Rattle.pef_reloc.specs.Deliveries.{index_after}
 use Rattle.pef_cert.specs.Kept.Claims.{labels_claimed}
 use Rattle.pef_cert.specs.Kept.Tests.{adds_test}

@@ -1,6 +1,5 @@
-use Rattle.std.proofs.Common.{◌≡◌, ◌+◌, ◌-◌, ◌<◌, ◌≤◌, drop, length, true, sym, arith}
+use Rattle.std.proofs.Common.{◌+◌, ◌-◌, sym, arith}
 use Rattle.pef_cert.specs.Kept.Claims.{labels_claimed}
-use Rattle.pef_cert.specs.Kept.Tests.{adds_first}
 use Rattle.pef_cert.proofs.ClaimLemmas.{knows-sees}
 use Rattle.pef_cert.proofs.StepLemmas.{adds_inside, row-end, row-fail, row-next, row-stop}
 use Rattle.pef_cert.proofs.claim.Behind.row_holds.Goals as goal

@@ -1,4 +1,4 @@
-use Rattle.std.proofs.Common.{◌+◌, ◌≡◌, drop, sym, Some}
+use Rattle.std.proofs.Common.{◌+◌}
 use Rattle.pef_cert.specs.Kept.Claims.{labels_claimed}
 use Rattle.pef_cert.proofs.AdditionLemmas.{second-some}
 use Rattle.pef_cert.proofs.ClaimLemmas.{get-is}

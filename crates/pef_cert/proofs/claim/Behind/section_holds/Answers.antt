@@ -1,4 +1,4 @@
-use Rattle.std.proofs.Common.{◌+◌, ◌≡◌, drop, refl, true, false}
+use Rattle.std.proofs.Common.{◌+◌, drop, refl, true, false}
 use Rattle.pef_cert.specs.Kept.Claims.{labels_claimed}
 use Rattle.pef_cert.proofs.AdditionLemmas.{section-is}
 use Rattle.pef_cert.proofs.ClaimLemmas.{get-drop}

@@ -1,4 +1,4 @@
-use Rattle.std.proofs.Common.{◌≡◌, ◌+◌, ◌-◌, ◌∙◌, ap, drop, sym, refl, ◌≢◌}
+use Rattle.std.proofs.Common.{◌+◌, ◌-◌, ◌∙◌, ap, drop, sym, refl, ◌≢◌}
 use Rattle.pef_cert.proofs.ClaimLemmas.{get-drop, value-away, value-here}
 use Rattle.pef_cert.specs.Extension.{moved_value}
 use Rattle.pef_cert.specs.Kept.Claims.{labels_claimed}

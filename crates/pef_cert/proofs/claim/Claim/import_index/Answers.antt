@@ -1,4 +1,4 @@
-use Rattle.std.proofs.Common.{◌≡◌, ◌+◌, ◌-◌, ◌≤◌, ◌∙◌, ap, arith, sym}
+use Rattle.std.proofs.Common.{◌+◌, ◌∙◌, ap, arith}
 use Rattle.pef_cert.proofs.AdditionLemmas.{index-import, index-section}
 use Rattle.pef_cert.proofs.claim.Claim.import_index.Goals as goal
 

@@ -1,4 +1,4 @@
-use Rattle.std.proofs.Common.{◌≡◌, ◌*◌, take, drop, ap, ◌∙◌}
+use Rattle.std.proofs.Common.{take, ap, ◌∙◌}
 use Rattle.pef_cert.proofs.ClaimLemmas.{row-kept}
 use Rattle.pef_cert.proofs.claim.Claim.row.Goals as goal
 

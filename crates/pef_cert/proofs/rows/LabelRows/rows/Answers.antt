@@ -1,4 +1,4 @@
-use Rattle.std.proofs.Common.{◌≡◌, ◌-◌, List, ℕ, length, Some, None, slice_get, sym, ap, ◌∙◌}
+use Rattle.std.proofs.Common.{sym}
 use Rattle.pef_cert.proofs.RowLemmas.{rows-none, rows-some}
 use Rattle.pef_cert.proofs.rows.LabelRows.rows.Goals as goal
 
