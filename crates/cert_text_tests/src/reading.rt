@@ -1,0 +1,176 @@
+use pef_cert::Certificate;
+use pef_cert_text::read;
+use pef_reloc::Instr;
+use std::alloc::{AllocError, Global};
+use std::fmt::Write;
+use std::process::Abort;
+use std::test::Fail;
+
+/// The certificates of a script with two sections, of which the second has two transition vectors.
+const TWO_SECTIONS: &str = "\
+pefcert 1
+section 0
+fixups 0
+length 0
+program -
+registers *
+at 0 0
+section 1
+fixups 4
+length 1
+program 4601
+registers 0 1 *
+at 0 2 1 2 3 2 3 3 2 3
+at 1 3 2 3 2 3 3 3 3 3
+at 2 2 1 2 2 2 2 2 2 2
+at 3 1 1 1 1 1 1 1 1 1
+at 4 0 0 0 0 0 0 0 0 0
+end
+";
+
+/// The line of a refusal, 0 where the text is read, and 1,000,000 where memory is refused.
+fn refused_line(alloc: Global, text: &str) -> usize {
+    match read(alloc, text.as_bytes()) {
+        Ok(_) => 0,
+        Err(fault) => fault.line().unwrap_or(1_000_000),
+    }
+}
+
+/// Whether a certificate has these parts.
+fn has(
+    certificate: &Certificate,
+    section: u32,
+    program: &[Instr],
+    registers: &[u32],
+    rows: usize,
+) -> bool {
+    certificate.section() == section
+        && certificate.program() == program
+        && certificate.registers() == registers
+        && certificate.labels().rows() == rows
+}
+
+#[test]
+fn sections(rt: HostRuntime) -> Result<(), Fail> {
+    let certificates = read(rt.alloc(), TWO_SECTIONS.as_bytes())?;
+    assert_eq!(rt; certificates.len(), 2);
+    assert!(rt; has(&certificates[0], 0, &[], &[], 1));
+    assert!(rt; has(&certificates[1], 1, &[Instr::TVector8(2)], &[0, 1], 5));
+    Ok(())
+}
+
+#[test]
+fn labels(rt: HostRuntime) -> Result<(), Fail> {
+    let certificates = read(rt.alloc(), TWO_SECTIONS.as_bytes())?;
+    assert_eq!(rt; certificates.len(), 2);
+    let labels = certificates[1].labels();
+    let mut runs = labels.runs();
+    let rows: [[u32; 9]; 5] = [
+        [2, 1, 2, 3, 2, 3, 3, 2, 3],
+        [3, 2, 3, 2, 3, 3, 3, 3, 3],
+        [2, 1, 2, 2, 2, 2, 2, 2, 2],
+        [1, 1, 1, 1, 1, 1, 1, 1, 1],
+        [0, 0, 0, 0, 0, 0, 0, 0, 0],
+    ];
+    for row in &rows {
+        let run = runs.next_run().expect(&rt, "a row");
+        assert_eq!(rt; run.rows, 1);
+        assert_eq!(rt; run.labels, row.as_slice());
+    }
+    Ok(())
+}
+
+/// Texts behind `pefcert 1`, and the number of the line that is refused; 0 where the text is read.
+const TEXTS: [(&str, usize); 46] = [
+    ("end\n", 0),
+    ("", 2),
+    ("end", 2),
+    ("end\n\n", 3),
+    ("end\nend\n", 3),
+    ("end\nx", 3),
+    ("\nend\n", 2),
+    ("End\n", 2),
+    ("section 0\n", 3),
+    ("section 00\nfixups 0\n", 2),
+    ("section  0\nfixups 0\n", 2),
+    ("section 0 \nfixups 0\n", 2),
+    ("section\nfixups 0\n", 2),
+    ("section 0x0\nfixups 0\n", 2),
+    ("section 4294967296\nfixups 0\n", 2),
+    ("section 4294967295\nfixups 0\n", 4),
+    ("section 0\nfixups 65537\n", 3),
+    ("section 0\nfixups 65536\n", 4),
+    ("section 0\nlength 0\n", 3),
+    ("section 0\nfixups 0\nlength 0\n", 5),
+    ("section 0\nfixups 0\nlength 0\nprogram\n", 5),
+    ("section 0\nfixups 0\nlength 0\nprogram - -\n", 5),
+    ("section 0\nfixups 0\nlength 1\nprogram -\n", 5),
+    ("section 0\nfixups 0\nlength 0\nprogram 4000\n", 5),
+    ("section 0\nfixups 0\nlength 2\nprogram 4000\n", 5),
+    ("section 0\nfixups 0\nlength 1\nprogram 400\n", 5),
+    ("section 0\nfixups 0\nlength 1\nprogram 40000\n", 5),
+    ("section 0\nfixups 0\nlength 1\nprogram 46ab\n", 5),
+    ("section 0\nfixups 0\nlength 1\nprogram 4C00\n", 5),
+    ("section 0\nfixups 0\nlength 1\nprogram A000\n", 5),
+    ("section 0\nfixups 0\nlength 1\nprogram 9000\n", 5),
+    ("section 0\nfixups 0\nlength 2\nprogram A000 0000\n", 6),
+    ("section 0\nfixups 0\nlength 2\nprogram 4200 9001\n", 6),
+    ("section 0\nfixups 0\nlength 0\nprogram -\nregisters\n", 6),
+    ("section 0\nfixups 0\nlength 0\nprogram -\nregisters 0 1\n", 6),
+    ("section 0\nfixups 0\nlength 0\nprogram -\nregisters * 1\n", 6),
+    ("section 0\nfixups 0\nlength 0\nprogram -\nregisters 1 0 *\n", 6),
+    ("section 0\nfixups 0\nlength 0\nprogram -\nregisters 1 1 *\n", 6),
+    (
+        "section 0\nfixups 0\nlength 0\nprogram -\nregisters 0 1 2 3 4 5 6 7 8 9 10 11 12 13 14 15 16 *\n",
+        6,
+    ),
+    (
+        "section 0\nfixups 0\nlength 0\nprogram -\nregisters 0 1 2 3 4 5 6 7 8 9 10 11 12 13 14 15 *\n",
+        7,
+    ),
+    ("section 0\nfixups 0\nlength 0\nprogram -\nregisters *\nend\n", 7),
+    ("section 0\nfixups 0\nlength 0\nprogram -\nregisters *\nat 1 0\n", 7),
+    ("section 0\nfixups 0\nlength 0\nprogram -\nregisters *\nat 0\n", 7),
+    ("section 0\nfixups 0\nlength 0\nprogram -\nregisters *\nat 0 0 0\n", 7),
+    ("section 0\nfixups 0\nlength 0\nprogram -\nregisters *\nat 0 0\nat 1 0\n", 8),
+    ("section 0\nfixups 1\nlength 0\nprogram -\nregisters *\nat 0 0\nat 0 0\n", 8),
+];
+
+#[test]
+fn lines(rt: HostRuntime) -> Result<(), Fail> {
+    let alloc = rt.alloc();
+    for (lines, line) in &TEXTS {
+        let mut text = String::from_str(alloc, "pefcert 1\n")?;
+        text.push_str(lines)?;
+        assert_eq!(rt; refused_line(alloc, &text), *line, "{lines}");
+    }
+    Ok(())
+}
+
+/// Whole texts, and the number of the line that is refused.
+const WHOLE_TEXTS: [(&str, usize); 7] = [
+    ("", 1),
+    ("pefcert 1", 1),
+    ("pefcert 3\nend\n", 1),
+    ("pefcert 01\nend\n", 1),
+    ("pefcert 1 \nend\n", 1),
+    ("pefcert 1\r\nend\n", 1),
+    ("pefcert 1\nend\n", 0),
+];
+
+#[test]
+fn versions(rt: HostRuntime) {
+    for (text, line) in &WHOLE_TEXTS {
+        assert_eq!(rt; refused_line(rt.alloc(), text), *line, "{text}");
+    }
+}
+
+#[test]
+fn faults(rt: HostRuntime) -> Result<(), Fail> {
+    let alloc = rt.alloc();
+    let fault = read(alloc, b"pefcert 3\nend\n").err().expect(&rt, "refused");
+    assert_eq!(rt; fault.number(), 51);
+    let text = format!(in alloc; "{fault}")?;
+    assert_eq!(rt; text.as_str(), "BadCertificate line 1");
+    Ok(())
+}

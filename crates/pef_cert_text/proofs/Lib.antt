@@ -1,0 +1,7 @@
+mod PrintLemmas
+mod ProgramLemmas
+mod ReadLemmas
+mod ReadsBack
+mod RoundLemmas
+mod TextLemmas
+mod WordLemmas

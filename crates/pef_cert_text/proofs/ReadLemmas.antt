@@ -1,0 +1,115 @@
+-- What a line says is what is read from it.
+use Rattle.std.proofs.Common.{◌≡◌, ℕ, suc, ◌+◌, ◌-◌, ◌<◌, ◌≤◌, List, [], ◌∷◌, ◌++◌, Option, None, Some, Result, Ok, Err, length, refl, arith, ap, sym, subst, ◌∙◌}
+use Rattle.std.specs.Option.{ok_or}
+use Rattle.pef_cert.specs.Valid.{Certified}
+use Rattle.pef_cert_text.specs.declared.fault.CertFault.{CertFault}
+use Rattle.pef_cert_text.specs.declared.fault.CertFault.TheVariants.{BadCertificate, OutOfMemory}
+use Rattle.pef_cert_text.specs.declared.fields.Head.TheVariants.{Section}
+use Rattle.pef_cert_text.specs.declared.lines.Line.{Line}
+use Rattle.pef_cert_text.specs.Grammar.{◌>>=◌, Left, certificate_read, certificates_of, certificates_read, headed, line_read, rows_read}
+use Rattle.pef_cert_text.specs.Kept.Reading.{Going, NextLine, Says, Takes}
+use Rattle.pef_cert_text.specs.Views.{Fails}
+use Rattle.pef_cert_text.specs.Lines.{head_line, row_line, version_line}
+
+-- where there is no line, its number is refused
+pub line_missing : {A : Type 0} (says : List ℕ → Option A) (old new : Left) → NextLine None old new → line_read says old ≡ Err new.number
+unfolding line_read
+line_missing says old new none = rw (none.0, ap (λ (l : Left). l.number) none.1) refl
+
+-- a line is read by what it says
+pub line_taken : {A : Type 0} (result : Result A CertFault) (says : List ℕ → Option A) (line : Line) (old new : Left) → NextLine (Some line) old new → Says result line.number (says line.bytes.now) → Takes result new (line_read says old)
+unfolding line_read
+line_taken {A = A} result says line old new next is = rw (next.1) (by result (says line.bytes.now) (rw (next.0) at is))
+  where
+    behind : new ≡ record { number = old.number + 1; text = new.text }
+    behind = ap (λ (n : ℕ). record { number = n; text = new.text }) next.2
+
+    by : (r : Result A CertFault) (value : Option A) → Says r old.number value → Takes r new (ok_or value old.number >>= λ x. Ok (x, record { number = old.number + 1; text = new.text }))
+    by (Ok x) None s = absurd (cc)
+    by (Ok x) (Some y) s = (let same : y ≡ x = cc in rw (same, ← behind) refl)
+    by (Err (BadCertificate l)) None s = (let same : old.number ≡ l = cc in rw same refl)
+    by (Err (BadCertificate l)) (Some y) s = absurd (cc)
+    by (Err OutOfMemory) value s = tt
+
+-- rows of which some are left begin with one
+pub rows_read-more : (width at count : ℕ) (rows : List (List ℕ)) (left : Left) → at < count
+    → rows_read width at (count - at) rows left ≡ (line_read (row_line width at) left >>= λ row. rows_read width (at + 1) (count - (at + 1)) (rows ++ row.0 ∷ []) row.1)
+rows_read-more width at count rows left under =
+    let e : count - at ≡ suc (count - (at + 1)) = omega arith in
+    rw e refl
+
+-- and end where none is left
+pub rows_read-done : (width at count : ℕ) (rows : List (List ℕ)) (left : Left) → count ≤ at → rows_read width at (count - at) rows left ≡ Ok (rows, left)
+rows_read-done width at count rows left past =
+    let e : count - at ≡ 0 = omega arith in
+    rw e refl
+
+-- more certificates begin with a line
+pub record GoingOn (text : List ℕ) (certificates : List Certified) (behind : Left) : Type 0 where
+  pub most : ℕ
+  pub more : length behind.text ≤ most
+  pub whole : (line_read head_line behind >>= λ head. headed head.0 certificates head.1 (certificates_read most)) ≡ certificates_of text
+
+pub going_on : (text : List ℕ) (certificates : List Certified) (behind : Left) → Going text certificates behind → GoingOn text certificates behind
+going_on text certificates behind g =
+    let e : g.most ≡ suc (g.most - 1) = omega (arith, g.more) in
+    record { most = g.most - 1; more = omega (arith, g.more); whole = sym (ap (λ n. certificates_read n certificates behind) e) ∙ g.whole }
+
+-- what something leads to, where it is there
+abbrev pub then_read : {A B : Type 0} → Option A → (A → Option B) → Option B
+then_read None others = None
+then_read (Some x) others = others x
+
+-- a fault of what comes first is one of the whole
+pub fails_first : {A B : Type 0} (fault : CertFault) (number : ℕ) (first : Option A) (others : A → Option B) → Fails fault (ok_or first number) → Fails fault (ok_or (then_read first others) number)
+fails_first (BadCertificate l) number None others is = (let same : number ≡ l = cc in rw same refl)
+fails_first (BadCertificate l) number (Some x) others is = absurd (cc)
+fails_first OutOfMemory number first others is = tt
+
+-- what was read is what the line says
+pub said_first : {A : Type 0} (value : Option A) (number : ℕ) (x : A) → ok_or value number ≡ Ok x → value ≡ Some x
+said_first None number x is = absurd (cc)
+said_first (Some y) number x is = (let same : y ≡ x = cc in rw same refl)
+
+-- a fault of a step is one of what the step leads to
+pub fails_step : {A B : Type 0} (fault : CertFault) (step : Result A ℕ) (others : A → Result B ℕ) → Fails fault step → Fails fault (step >>= others)
+fails_step (BadCertificate l) (Ok x) others is = absurd (cc)
+fails_step (BadCertificate l) (Err n) others is = (let same : n ≡ l = cc in rw same refl)
+fails_step OutOfMemory step others is = tt
+
+-- rows of which the first is read lead to the others
+pub rows_read-step : (width at count : ℕ) (rows : List (List ℕ)) (row : List ℕ) (left next : Left) → at < count → line_read (row_line width at) left ≡ Ok (row, next)
+    → rows_read width (at + 1) (count - (at + 1)) (rows ++ row ∷ []) next ≡ rows_read width at (count - at) rows left
+rows_read-step width at count rows row left next under is = sym (rows_read-more width at count rows left under ∙ rw is refl)
+
+-- and where it is refused, they are
+pub rows_read-fails : (fault : CertFault) (width at count : ℕ) (rows : List (List ℕ)) (left : Left) → at < count → Fails fault (line_read (row_line width at) left) → Fails fault (rows_read width at (count - at) rows left)
+rows_read-fails fault width at count rows left under is =
+    rw (rows_read-more width at count rows left under) (fails_step fault (line_read (row_line width at) left) (λ row. rows_read width (at + 1) (count - (at + 1)) (rows ++ row.0 ∷ []) row.1) is)
+
+-- a text begins with its version
+
+abbrev pub whole_text : List ℕ → Left
+whole_text text = record { number = 1; text = text }
+
+pub certificates-fail : (fault : CertFault) (text : List ℕ) → Fails fault (line_read version_line (whole_text text)) → Fails fault (certificates_of text)
+unfolding certificates_of
+certificates-fail fault text is = fails_step fault (line_read version_line (whole_text text)) (λ version. certificates_read (length text) [] version.1) is
+
+pub certificates-begin : (text : List ℕ) (version : ℕ) (next : Left) → line_read version_line (whole_text text) ≡ Ok (version, next) → length next.text + 1 ≤ length text → Going text [] next
+unfolding certificates_of
+certificates-begin text version next is less = record { most = length text; more = omega arith; whole = rw is refl }
+
+-- a certificate that was read stands behind the others
+pub certificates-more : (text : List ℕ) (certificates : List Certified) (behind head next : Left) (section : ℕ) (certificate : Certified) → Going text certificates behind
+    → line_read head_line behind ≡ Ok (Section section, head) → length head.text + 1 ≤ length behind.text
+    → certificate_read section head ≡ Ok (certificate, next) → length next.text ≤ length head.text → Going text (certificates ++ certificate ∷ []) next
+certificates-more text certificates behind head next section certificate going is less certified no_more =
+    let g = going_on text certificates behind going in
+    record { most = g.most; more = omega (arith, g.more); whole = rw (is, certified) at g.whole }
+
+-- what follows a line that is refused is refused, and so is what follows a certificate
+pub certificates-head_fails : (fault : CertFault) (text : List ℕ) (certificates : List Certified) (behind : Left) → Going text certificates behind → Fails fault (line_read head_line behind) → Fails fault (certificates_of text)
+certificates-head_fails fault text certificates behind going is =
+    let g = going_on text certificates behind going in
+    subst (Fails fault) g.whole (fails_step fault (line_read head_line behind) (λ head. headed head.0 certificates head.1 (certificates_read g.most)) is)

@@ -1,0 +1,17 @@
+use Rattle.std.proofs.Common.{◌++◌, ap, sym, ◌∙◌, arith}
+use Rattle.pef_reloc.specs.declared.instr.Instr.TheVariants.{BySectDWithSkip}
+use Rattle.pef_reloc.specs.Instrs.{halfword_bytes}
+use Rattle.pef_cert_text.specs.Printed.{halfword_words, words_text}
+use Rattle.pef_cert_text.proofs.PrintLemmas.{instrs_fit-more, instrs_text-more, instrs_text-none}
+use Rattle.pef_cert_text.proofs.printer.append_instrs.Goals as goal
+
+pub loop-instr-preserved : goal.loop-instr-preserved
+loop-instr-preserved c =
+    let grown = c.in_ok-append_spelling.ensures ∙ ap (λ words. c.loop-instr.text.items ++ words_text (halfword_words (halfword_bytes words))) c.spelling.ensures in
+    record {
+      text = instrs_text-more _ _ (BySectDWithSkip 0 0) _ _ _ c.loop-instr-test.true grown c.loop-instr.invariant.text;
+      fit = instrs_fit-more _ _ (BySectDWithSkip 0 0) c.loop-instr-test.true c.loop-instr.invariant.fit;
+    }
+
+pub returns : goal.returns
+returns c = sym (instrs_text-none c.args.instrs.now c.loop-instr.instr-index c.loop-instr.text.items (omega arith)) ∙ c.loop-instr.invariant.text

@@ -1,0 +1,73 @@
+-- Texts of certificates, line by line (docs/FORMATS.md, "Certificates"). A text is refused at its first line that breaks
+-- a rule by itself or against the lines before it, by the number of that line, from 1; where a line is missing, by that
+-- of the line after the last.
+use Rattle.std.specs.Prelude.{ℕ, zero, suc, ◌+◌, ◌*◌, ◌==◌, List, [], ◌∷◌, ◌++◌, Option, Result, Ok, Err, length, if◌then◌else◌}
+use Rattle.std.specs.Option.{ok_or}
+use Rattle.pef_cert.specs.Valid.{Certified}
+use Rattle.pef_lines.specs.Lines.{cut_at}
+use Rattle.pef_cert_text.specs.declared.fields.Head.{Head}
+use Rattle.pef_cert_text.specs.declared.fields.Head.TheVariants.{Section, End}
+use Rattle.pef_cert_text.specs.Lines.{version_line, head_line, fixups_line, length_line, program_line, registers_line, row_line}
+
+-- what a step that was not refused leads to
+infixl 10 ◌>>=◌
+abbrev pub ◌>>=◌ : {A B : Type 0} → Result A ℕ → (A → Result B ℕ) → Result B ℕ
+(Ok x) >>= f = f x
+(Err line) >>= f = Err line
+
+-- what is left of a text, and the number of its first line
+pub record Left : Type 0 where
+  pub number : ℕ
+  pub text : List ℕ
+
+-- the next line says this, and so much is left; each line ends with a line feed
+unfoldable pub line_read : {A : Type 0} → (List ℕ → Option A) → Left → Result (A × Left) ℕ
+line_read says left = do
+  cut ← ok_or (cut_at 0x0A left.text) left.number
+  x ← ok_or (says cut.0) left.number
+  Ok (x, record { number = left.number + 1; text = cut.1 })
+
+-- so many lines of labels from an index on, behind those of some rows
+abbrev pub rows_read : ℕ → ℕ → ℕ → List (List ℕ) → Left → Result (List (List ℕ) × Left) ℕ
+rows_read width at zero rows left = Ok (rows, left)
+rows_read width at (suc n) rows left = do
+  row ← line_read (row_line width at) left
+  rows_read width (at + 1) n (rows ++ row.0 ∷ []) row.1
+
+-- the labels at a fixup, for each class of C and of D: one for each register, and one for all other sections
+abbrev pub row_width : List ℕ → ℕ
+row_width registers = (length registers + 1) * (length registers + 1)
+
+-- the certificate of a section, behind the line that begins it
+unfoldable pub certificate_read : ℕ → Left → Result (Certified × Left) ℕ
+certificate_read section left = do
+  fixups ← line_read fixups_line left
+  halfwords ← line_read length_line fixups.1
+  program ← line_read (program_line halfwords.0) halfwords.1
+  registers ← line_read registers_line program.1
+  labels ← rows_read (row_width registers.0) 0 (fixups.0 + 1) [] registers.1
+  Ok (record { section = section; program = program.0; registers = registers.0; labels = labels.0 }, labels.1)
+
+-- behind the last line nothing is left
+abbrev pub text_ended : List Certified → Left → Result (List Certified) ℕ
+text_ended certificates left = if length left.text == 0 then Ok certificates else Err left.number
+
+-- a line begins a certificate, behind which there are others, or ends the text
+abbrev pub headed : Head → List Certified → Left → (List Certified → Left → Result (List Certified) ℕ) → Result (List Certified) ℕ
+headed End certificates left others = text_ended certificates left
+headed (Section section) certificates left others = do
+  certificate ← certificate_read section left
+  others (certificates ++ certificate.0 ∷ []) certificate.1
+
+-- the certificates behind some, where there are fewer than n more
+abbrev pub certificates_read : ℕ → List Certified → Left → Result (List Certified) ℕ
+certificates_read zero certificates left = Err left.number
+certificates_read (suc n) certificates left = do
+  head ← line_read head_line left
+  headed head.0 certificates head.1 (certificates_read n)
+
+-- the certificates that a text has, or the number of the line that is refused. There are fewer than it has bytes
+unfoldable pub certificates_of : List ℕ → Result (List Certified) ℕ
+certificates_of text = do
+  version ← line_read version_line (record { number = 1; text = text })
+  certificates_read (length text) [] version.1

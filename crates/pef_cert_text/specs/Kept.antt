@@ -1,0 +1,2 @@
+-- What only the code keeps and its private contracts cite. Nothing here is part of what the crate promises.
+pub mod Reading

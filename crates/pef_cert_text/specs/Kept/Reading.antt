@@ -1,0 +1,45 @@
+-- What the reader's types show, and what its steps say.
+use Rattle.std.specs.Prelude.{◌≡◌, ℕ, ◌+◌, ◌<◌, length, List, [], Option, None, Some, Result, Ok, Err}
+use Rattle.std.specs.Option.{ok_or, option_copied}
+use Rattle.pef_cert.specs.Valid.{Certified}
+use Rattle.pef_lines.specs.Lines.{cut_at}
+use Rattle.pef_cert_text.specs.declared.fault.CertFault.{CertFault}
+use Rattle.pef_cert_text.specs.declared.lines.Line.{Line}
+use Rattle.pef_cert_text.specs.declared.lines.Lines.{Lines}
+use Rattle.pef_cert_text.specs.declared.words.Words.{Words}
+use Rattle.pef_cert_text.specs.Grammar.{Left, certificates_of, certificates_read}
+use Rattle.pef_cert_text.specs.Views.{Fails, Reads}
+use Rattle.pef_cert_text.specs.Words.{words_of}
+
+-- an answer and what is left are those that were wanted, where there was memory for them
+abbrev pub Takes : {A : Type 0} → Result A CertFault → Left → Result (A × Left) ℕ → Type 0
+Takes (Ok x) left wanted = wanted ≡ Ok (x, left)
+Takes (Err fault) left wanted = Fails fault wanted
+
+-- an answer is what the line with a number says, where there was memory for it
+abbrev pub Says : {A : Type 0} → Result A CertFault → ℕ → Option A → Type 0
+Says result number wanted = Reads result (ok_or wanted number)
+
+-- the words that are left of a line: none behind the last one
+
+abbrev pub words_in : Option (List ℕ) → List (List ℕ)
+words_in None = []
+words_in (Some rest) = words_of rest
+
+abbrev pub words_left : Words → List (List ℕ)
+words_left words = words_in (option_copied words.rest)
+
+-- what is left of a text
+abbrev pub left : Lines → Left
+left lines = record { number = lines.number; text = lines.rest.now }
+
+-- a line is taken, and nothing where there is none
+abbrev pub NextLine : Option Line → Left → Left → Type 0
+NextLine None old new = (cut_at 0x0A old.text ≡ None) × (new ≡ old)
+NextLine (Some line) old new = (line.number ≡ old.number) × (cut_at 0x0A old.text ≡ Some (line.bytes.now, new.text)) × (new.number ≡ old.number + 1)
+
+-- behind some certificates of a text so much is left, which makes those of the whole
+pub record Going (text : List ℕ) (certificates : List Certified) (behind : Left) : Type 0 where
+  pub most : ℕ
+  pub more : length behind.text < most
+  pub whole : certificates_read most certificates behind ≡ certificates_of text

@@ -1,0 +1,7 @@
+pub mod Faults
+pub mod Grammar
+pub mod Kept
+pub mod Lines
+pub mod Printed
+pub mod Views
+pub mod Words

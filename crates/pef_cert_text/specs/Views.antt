@@ -1,0 +1,14 @@
+-- What an answer of reading says.
+use Rattle.std.specs.Prelude.{◌≡◌, ℕ, Result, Ok, Err}
+use Rattle.pef_cert_text.specs.declared.fault.CertFault.{CertFault}
+use Rattle.pef_cert_text.specs.declared.fault.CertFault.TheVariants.{BadCertificate, OutOfMemory}
+
+-- an answer is the one that was wanted, where there was memory for it
+
+abbrev pub Fails : {A : Type 0} → CertFault → Result A ℕ → Type 0
+Fails (BadCertificate line) wanted = wanted ≡ Err line
+Fails OutOfMemory wanted = Unit {0}
+
+abbrev pub Reads : {A : Type 0} → Result A CertFault → Result A ℕ → Type 0
+Reads (Ok x) wanted = wanted ≡ Ok x
+Reads (Err fault) wanted = Fails fault wanted

@@ -1,0 +1,73 @@
+-- The words of a line (docs/FORMATS.md, "Certificates"): what stands between its spaces. A number is decimal without a
+-- leading zero; the bytes of a program stand in words of four upper-case hex digits.
+use Rattle.std.specs.Prelude.{ℕ, ◌+◌, ◌*◌, ◌-◌, ◌==◌, ◌&&◌, Bool, true, false, List, [], ◌∷◌, ◌++◌, Option, None, Some, length, nat_le, if◌then◌else◌}
+use Rattle.std.specs.Str.{bytes_eq}
+use Rattle.pef_lines.specs.Lines.{longer_first}
+use Rattle.pef_lines.specs.Numbers.{decimal_number}
+use Rattle.pef_words.specs.Refusals.{◌>>=◌}
+
+-- the words of a line; there are empty ones where two spaces or an end and a space meet
+abbrev pub words_of : List ℕ → List (List ℕ)
+words_of [] = [] ∷ []
+words_of (b ∷ bytes) = if b == 0x20 then [] ∷ words_of bytes else longer_first b (words_of bytes)
+
+-- something under a condition
+abbrev pub provided : {A : Type 0} → Bool → A → Option A
+provided condition x = if condition then Some x else None
+
+-- the first word and those behind it
+abbrev pub first_of : List (List ℕ) → Option (List ℕ × List (List ℕ))
+first_of [] = None
+first_of (word ∷ words) = Some (word, words)
+
+-- what stands behind a first word that is wanted
+abbrev pub behind : List ℕ → List (List ℕ) → Option (List (List ℕ))
+behind wanted words = do
+  first ← first_of words
+  provided (bytes_eq first.0 wanted) first.1
+
+-- whether no word is left
+abbrev pub none_left : List (List ℕ) → Bool
+none_left [] = true
+none_left (word ∷ words) = false
+
+-- something that no word stands behind
+abbrev pub ended : {A : Type 0} → List (List ℕ) → A → Option A
+ended words x = provided (none_left words) x
+
+-- the numbers that all words spell
+abbrev pub numbers_in : List (List ℕ) → Option (List ℕ)
+numbers_in [] = Some []
+numbers_in (word ∷ words) = do
+  number ← decimal_number word
+  numbers ← numbers_in words
+  Some (number ∷ numbers)
+
+-- the value of a hex digit, of upper case
+abbrev pub digit_in : ℕ → Option ℕ
+digit_in b =
+    if nat_le 0x30 b && nat_le b 0x39 then Some (b - 0x30)
+    else if nat_le 0x41 b && nat_le b 0x46 then Some (b - 0x37)
+    else None
+
+-- the bytes that digits spell, two digits a byte
+abbrev pub bytes_in : List ℕ → Option (List ℕ)
+bytes_in [] = Some []
+bytes_in (digit ∷ []) = None
+bytes_in (high ∷ low ∷ digits) = do
+  h ← digit_in high
+  l ← digit_in low
+  bytes ← bytes_in digits
+  Some ((h * 16 + l) ∷ bytes)
+
+-- the bytes of a word of four digits
+abbrev pub halfword_in : List ℕ → Option (List ℕ)
+halfword_in word = if length word == 4 then bytes_in word else None
+
+-- the bytes of all words
+abbrev pub halfwords_in : List (List ℕ) → Option (List ℕ)
+halfwords_in [] = Some []
+halfwords_in (word ∷ words) = do
+  bytes ← halfword_in word
+  others ← halfwords_in words
+  Some (bytes ++ others)

@@ -1,0 +1,19 @@
+//! The text of certificates, version 1: a certificate for each section of a script, line by line.
+//!
+//! [`read`] takes a text, and says the first line that breaks a rule.
+#![tactic(auto)]
+
+mod fault;
+mod fields;
+mod lines;
+mod numbers;
+mod printer;
+mod program;
+mod reader;
+mod theorems;
+mod words;
+
+pub use fault::CertFault;
+pub use printer::print;
+pub use reader::read;
+pub use theorems::printed_texts;

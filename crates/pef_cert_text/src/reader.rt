@@ -1,0 +1,176 @@
+ghost use Rattle.std.specs.Prelude.{◌≡◌, ◌+◌, ◌*◌, ◌<◌, ◌≤◌, [], length, vec_len, IfOk, OnOk};
+ghost use Rattle.pef_words.specs.Refusals.{result_map};
+ghost use Rattle.pef_cert_text.specs.Grammar.{certificate_read, certificates_of, line_read, rows_read};
+ghost use Rattle.pef_cert_text.specs.Kept.Reading.{Takes, left};
+ghost use Rattle.pef_cert_text.specs.Lines.{fixups_line, head_line, length_line, program_line, registers_line, row_line, version_line};
+ghost use Rattle.pef_cert_text.specs.Views.{Reads};
+
+use crate::CertFault;
+use crate::fields::{Head, fixups_line, head_line, length_line, version_line};
+use crate::lines::Lines;
+use crate::numbers::{registers_line, row_line};
+use crate::program::program_line;
+use pef_cert::{Certificate, LabelRows};
+use pef_reloc::Instr;
+use std::alloc::Global;
+
+/// Reads the certificates of a text, in time linear in it.
+///
+/// # Errors
+///
+/// `BadCertificate` with the number of the first line that breaks a rule by itself or against the lines
+/// before it, or, where a line is missing, of the one behind the last; `OutOfMemory`.
+pub fn read(alloc: Global, text: &[u8]) -> Result<Vec<Certificate>, CertFault>
+    ensures { Reads (result_map (λ v. v.items) result) (certificates_of text.now) }
+{
+    let mut lines = Lines::new(text);
+    read_version(&mut lines)?;
+    let mut certificates = Vec::new(alloc);
+    'certificates: loop {
+        match read_head(&mut lines)? {
+            Head::End => break,
+            Head::Section(section) => {
+                let certificate = read_certificate(alloc, &mut lines, section)?;
+                certificates.push(certificate)?;
+            }
+        }
+    }
+    if !lines.is_empty() {
+        return Err(lines.fault());
+    }
+    Ok(certificates)
+}
+
+/// Reads the line of the version.
+#[tactic(auto, using(crate::proofs::ReadLemmas::line_missing, crate::proofs::ReadLemmas::line_taken))]
+fn read_version(lines: &mut Lines<'_>) -> Result<u32, CertFault>
+    ensures takes { Takes result (left lines.new) (line_read version_line (left lines.old)) }
+    ensures less { OnOk result (length (left lines.new).text + 1 ≤ length (left lines.old).text) }
+{
+    let Some(line) = lines.next_line() else {
+        return Err(lines.fault());
+    };
+    line.says(version_line(line.bytes))
+}
+
+/// Reads a line that begins a certificate or ends the text.
+#[tactic(auto, using(crate::proofs::ReadLemmas::line_missing, crate::proofs::ReadLemmas::line_taken))]
+fn read_head(lines: &mut Lines<'_>) -> Result<Head, CertFault>
+    ensures takes { Takes result (left lines.new) (line_read head_line (left lines.old)) }
+    ensures less { OnOk result (length (left lines.new).text + 1 ≤ length (left lines.old).text) }
+{
+    let Some(line) = lines.next_line() else {
+        return Err(lines.fault());
+    };
+    line.says(head_line(line.bytes))
+}
+
+/// Reads the certificate of a section, behind the line that begins it.
+#[tactic(auto, unfolding(crate::specs::Grammar::certificate_read))]
+fn read_certificate(
+    alloc: Global,
+    lines: &mut Lines<'_>,
+    section: u32,
+) -> Result<Certificate, CertFault>
+    ensures takes { Takes result (left lines.new) (certificate_read section (left lines.old)) }
+    ensures no_more { length (left lines.new).text ≤ length (left lines.old).text }
+{
+    let fixups = read_fixups(lines)?;
+    let halfwords = read_length(lines)?;
+    let program = read_program(alloc, lines, halfwords)?;
+    let registers = read_registers(alloc, lines)?;
+    let labels = read_rows(alloc, lines, registers.len() + 1, fixups + 1)?;
+    Ok(Certificate::new(section, program, registers, labels))
+}
+
+/// Reads the line of the number of fixups.
+#[tactic(auto, using(crate::proofs::ReadLemmas::line_missing, crate::proofs::ReadLemmas::line_taken))]
+fn read_fixups(lines: &mut Lines<'_>) -> Result<u32, CertFault>
+    ensures takes { Takes result (left lines.new) (line_read fixups_line (left lines.old)) }
+    ensures most { IfOk result (λ count. count ≤ 65536) }
+    ensures no_more { length (left lines.new).text ≤ length (left lines.old).text }
+{
+    let Some(line) = lines.next_line() else {
+        return Err(lines.fault());
+    };
+    line.says(fixups_line(line.bytes))
+}
+
+/// Reads the line of the number of halfwords.
+#[tactic(auto, using(crate::proofs::ReadLemmas::line_missing, crate::proofs::ReadLemmas::line_taken))]
+fn read_length(lines: &mut Lines<'_>) -> Result<u32, CertFault>
+    ensures takes { Takes result (left lines.new) (line_read length_line (left lines.old)) }
+    ensures no_more { length (left lines.new).text ≤ length (left lines.old).text }
+{
+    let Some(line) = lines.next_line() else {
+        return Err(lines.fault());
+    };
+    line.says(length_line(line.bytes))
+}
+
+/// Reads the line of a program with so many halfwords.
+#[tactic(auto, using(crate::proofs::ReadLemmas::line_missing, crate::proofs::ReadLemmas::line_taken))]
+fn read_program(
+    alloc: Global,
+    lines: &mut Lines<'_>,
+    halfwords: u32,
+) -> Result<Vec<Instr>, CertFault>
+    ensures takes { Takes (result_map (λ v. v.items) result) (left lines.new) (line_read (program_line halfwords) (left lines.old)) }
+    ensures no_more { length (left lines.new).text ≤ length (left lines.old).text }
+{
+    let Some(line) = lines.next_line() else {
+        return Err(lines.fault());
+    };
+    program_line(alloc, line, halfwords)
+}
+
+/// Reads the line of the registers.
+#[tactic(auto, using(crate::proofs::ReadLemmas::line_missing, crate::proofs::ReadLemmas::line_taken))]
+fn read_registers(alloc: Global, lines: &mut Lines<'_>) -> Result<Vec<u32>, CertFault>
+    ensures takes { Takes (result_map (λ v. v.items) result) (left lines.new) (line_read registers_line (left lines.old)) }
+    ensures most { IfOk result (λ v. vec_len v ≤ 16) }
+    ensures no_more { length (left lines.new).text ≤ length (left lines.old).text }
+{
+    let Some(line) = lines.next_line() else {
+        return Err(lines.fault());
+    };
+    registers_line(alloc, line)
+}
+
+/// Reads so many lines of labels, for so many classes.
+fn read_rows(
+    alloc: Global,
+    lines: &mut Lines<'_>,
+    classes: usize,
+    count: u32,
+) -> Result<LabelRows, CertFault>
+    requires { classes ≤ 17 }
+    ensures takes { Takes (result_map (λ labels. labels.rows) result) (left lines.new) (rows_read (classes * classes) 0 count [] (left lines.old)) }
+    ensures no_more { length (left lines.new).text ≤ length (left lines.old).text }
+{
+    let mut labels = LabelRows::new(alloc, classes * classes);
+    let mut row = Vec::new(alloc);
+    for at in 0..count {
+        read_row(lines, classes * classes, at, &mut row)?;
+        labels.push(&row)?;
+    }
+    Ok(labels)
+}
+
+/// Makes a row of the next line of labels, which has this index and so many labels.
+#[tactic(auto, using(crate::proofs::ReadLemmas::line_missing, crate::proofs::ReadLemmas::line_taken))]
+fn read_row(
+    lines: &mut Lines<'_>,
+    width: usize,
+    at: u32,
+    row: &mut Vec<u32>,
+) -> Result<(), CertFault>
+    ensures takes { Takes (result_map (λ _. row.new.items) result) (left lines.new) (line_read (row_line width at) (left lines.old)) }
+    ensures wide { OnOk result (vec_len row.new ≡ width) }
+    ensures no_more { length (left lines.new).text ≤ length (left lines.old).text }
+{
+    let Some(line) = lines.next_line() else {
+        return Err(lines.fault());
+    };
+    row_line(line, width, at, row)
+}
