@@ -1,3 +1,4 @@
 mod InputLemmas
 pub mod Laws
+mod NameLemmas
 mod TextLemmas

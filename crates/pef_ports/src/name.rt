@@ -1,5 +1,5 @@
-ghost use Rattle.std.specs.Prelude.{◌≡◌};
-ghost use Rattle.pef_ports.specs.Names.{byte_text, name_text};
+ghost use Rattle.std.specs.Prelude.{◌≡◌, ◌≤◌, ◌++◌, drop, length, take};
+ghost use Rattle.pef_ports.specs.Names.{byte_text, is_plain_byte, name_text};
 ghost use Rattle.pef_ports.specs.Sent.{Sends};
 
 use crate::line::{Line, push_hex};
@@ -7,14 +7,43 @@ use crate::page::{Page, send};
 use crate::ports::{Sink, StreamFault};
 
 /// Prints a name or a path, its bytes that could break a line as `%` and two digits.
+///
+/// Bytes that are printed as they stand are sent together.
 pub fn print_name<W: Sink>(out: &mut W, page: &mut Page, name: &[u8]) -> Result<(), StreamFault>
     ensures { Sends result (W.stream out.old) (W.stream out.new) page.old.items page.new.items (name_text name.now) }
 {
-    for b in name {
-        let text = byte_text(*b);
-        send(out, page, text.as_slice())?;
+    let mut rest = name;
+    while !rest.is_empty() {
+        let (plain, others) = rest.split_at(plain_len(rest));
+        send(out, page, plain)?;
+        let Some((b, after)) = others.split_first() else {
+            return Ok(());
+        };
+        send(out, page, byte_text(*b).as_slice())?;
+        rest = after;
     }
     Ok(())
+}
+
+/// How many bytes at the front of a name are printed as they stand.
+#[tactic(auto, using(crate::proofs::NameLemmas::plain_more))]
+fn plain_len(name: &[u8]) -> usize
+    ensures inside { result ≤ length name.now }
+    ensures text { name_text name.now ≡ take result name.now ++ name_text (drop result name.now) }
+{
+    for (i, b) in name.iter().enumerate() {
+        if !is_plain(*b) {
+            return i;
+        }
+    }
+    name.len()
+}
+
+/// Whether a byte is printed as it stands.
+fn is_plain(b: u8) -> bool
+    ensures { result ≡ is_plain_byte b }
+{
+    b.is_ascii_graphic() && b != b'%'
 }
 
 /// A byte of a name as it is printed.
@@ -23,7 +52,7 @@ fn byte_text(b: u8) -> Line
     ensures { result.items ≡ byte_text b }
 {
     let mut text = Line::new();
-    if b.is_ascii_graphic() && b != b'%' {
+    if is_plain(b) {
         text.push(b);
     } else {
         text.push(b'%');

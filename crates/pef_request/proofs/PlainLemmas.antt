@@ -1,5 +1,5 @@
 -- Words that don't begin with `-` are read as one expects.
-use Rattle.std.proofs.Common.{◌≡◌, ◌≢◌, ◌⊎◌, ℕ, ◌+◌, Bool, true, false, cond, List, [], ◌∷◌, ◌++◌, Option, None, Some, codes, drop, refl, sym, ap, ap₂, subst, ◌∙◌, inl, inr, append_assoc}
+use Rattle.std.proofs.Common.{◌≡◌, ◌⊎◌, Bool, true, false, List, [], ◌∷◌, ◌++◌, Option, None, Some, codes, drop, refl, sym, ap, ap₂, ◌∙◌, inl, inr, append_assoc}
 use Rattle.std.specs.Prelude.{fold, is_some}
 use Rattle.std.specs.Str.{bytes_eq}
 use Rattle.std.proofs.lemmas.Bool.{ne_eqb}
@@ -10,9 +10,8 @@ use Rattle.clap.specs.Kinds.{Kinds, or_else}
 use Rattle.clap.specs.Lexer.{long_of, short_of}
 use Rattle.clap.specs.Simple.{Shape, built, entered, names_of}
 use Rattle.clap.specs.Walk.{Names, Rule, Text, Walk, finished, nothing_held, settled, walk, walk_from, walked}
-use Rattle.clap.specs.declared.error.kind.ErrorKind.TheVariants as kind
-use Rattle.pef_request.specs.CommandLine.{asked_at, asked_by, command_asked, pef}
-use Rattle.pef_request.specs.Plain.{ArePlain, IsPlain, plain_command, plain_link, plain_show, plain_words}
+use Rattle.pef_request.specs.CommandLine.{asked_at, asked_by, pef}
+use Rattle.pef_request.specs.Plain.{ArePlain, IsPlain, plain_check, plain_link, plain_list, plain_show, plain_words}
 use Rattle.pef_request.specs.Requests.{Asked}
 
 -- a word that is no flag
@@ -80,6 +79,22 @@ link_named program name words other is =
     let sound : walk_fault b.top (names_of b) (walk_from nothing_held) (name ∷ words) ≡ [] = rw (other, is) (no_fault_after b.top (names_of b) (codes "link") (walk_from nothing_held) [] words) in
     asked_at_end program (name ∷ words) ∙ ap₂ at_end ended sound
 
+list_named : (program name : Text) (words : List Text) → bytes_eq (codes "show") name ≡ false → bytes_eq (codes "link") name ≡ false → bytes_eq (codes "list") name ≡ true → asked_by (program ∷ name ∷ words) ≡ at_end (named (codes "list") words) []
+unfolding pef clap_on_literals named
+list_named program name words other another is =
+    let b = built pef in
+    let ended : walk b.top.rules (names_of b) nothing_held (name ∷ words) ≡ named (codes "list") words = rw (other, another, is) (after_name [] (names_of b) (codes "list") (walk_from nothing_held) [] words) in
+    let sound : walk_fault b.top (names_of b) (walk_from nothing_held) (name ∷ words) ≡ [] = rw (other, another, is) (no_fault_after b.top (names_of b) (codes "list") (walk_from nothing_held) [] words) in
+    asked_at_end program (name ∷ words) ∙ ap₂ at_end ended sound
+
+check_named : (program name : Text) (words : List Text) → bytes_eq (codes "show") name ≡ false → bytes_eq (codes "link") name ≡ false → bytes_eq (codes "list") name ≡ false → bytes_eq (codes "check") name ≡ true → asked_by (program ∷ name ∷ words) ≡ at_end (named (codes "check") words) []
+unfolding pef clap_on_literals named
+check_named program name words a b c is =
+    let app = built pef in
+    let ended : walk app.top.rules (names_of app) nothing_held (name ∷ words) ≡ named (codes "check") words = rw (a, b, c, is) (after_name [] (names_of app) (codes "check") (walk_from nothing_held) [] words) in
+    let sound : walk_fault app.top (names_of app) (walk_from nothing_held) (name ∷ words) ≡ [] = rw (a, b, c, is) (no_fault_after app.top (names_of app) (codes "check") (walk_from nothing_held) [] words) in
+    asked_at_end program (name ∷ words) ∙ ap₂ at_end ended sound
+
 -- the operands of `show`
 show_operands : (words : List Text) → ArePlain words → at_end (named (codes "show") words) [] ≡ plain_show words
 unfolding pef clap_on_literals named at_end
@@ -105,6 +120,35 @@ link_operands (script ∷ out ∷ word ∷ words) plain =
     let c = no_flag word plain.1.1.0 in
     rw (a.dashes, a.long, a.short, b.dashes, b.long, b.short, c.dashes, c.long, c.short) refl
 
+-- the operand of `list`
+list_operands : (words : List Text) → ArePlain words → at_end (named (codes "list") words) [] ≡ plain_list words
+unfolding pef clap_on_literals named at_end
+list_operands [] plain = refl
+list_operands (file ∷ []) plain =
+    let a = no_flag file plain.0 in
+    rw (a.dashes, a.long, a.short) refl
+list_operands (file ∷ word ∷ words) plain =
+    let a = no_flag file plain.0 in
+    let b = no_flag word plain.1.0 in
+    rw (a.dashes, a.long, a.short, b.dashes, b.long, b.short) refl
+
+-- the operands of `check`
+check_operands : (words : List Text) → ArePlain words → at_end (named (codes "check") words) [] ≡ plain_check words
+unfolding pef clap_on_literals named at_end
+check_operands [] plain = refl
+check_operands (script ∷ []) plain =
+    let a = no_flag script plain.0 in
+    rw (a.dashes, a.long, a.short) refl
+check_operands (script ∷ cert ∷ []) plain =
+    let a = no_flag script plain.0 in
+    let b = no_flag cert plain.1.0 in
+    rw (a.dashes, a.long, a.short, b.dashes, b.long, b.short) refl
+check_operands (script ∷ cert ∷ word ∷ words) plain =
+    let a = no_flag script plain.0 in
+    let b = no_flag cert plain.1.0 in
+    let c = no_flag word plain.1.1.0 in
+    rw (a.dashes, a.long, a.short, b.dashes, b.long, b.short, c.dashes, c.long, c.short) refl
+
 none_asked : asked_by [] ≡ None
 unfolding asked_by pef clap_on_literals
 none_asked = refl
@@ -113,9 +157,9 @@ program_asked : (program : Text) → asked_by (program ∷ []) ≡ None
 unfolding asked_by pef clap_on_literals
 program_asked program = refl
 
-unknown_asked : (program name : Text) (words : List Text) → bytes_eq (codes "show") name ≡ false → bytes_eq (codes "link") name ≡ false → IsNoFlag name → asked_by (program ∷ name ∷ words) ≡ None
+unknown_asked : (program name : Text) (words : List Text) → bytes_eq (codes "show") name ≡ false → bytes_eq (codes "link") name ≡ false → bytes_eq (codes "list") name ≡ false → bytes_eq (codes "check") name ≡ false → IsNoFlag name → asked_by (program ∷ name ∷ words) ≡ None
 unfolding asked_by pef clap_on_literals
-unknown_asked program name words a b free = rw (a, b, free.dashes, free.long, free.short) refl
+unknown_asked program name words a b c d free = rw (a, b, c, d, free.dashes, free.long, free.short) refl
 
 -- words that don't begin with `-` ask for what they plainly say
 pub asked_plain : (words : List Text) → ArePlain (drop 1 words) → asked_by words ≡ plain_words words
@@ -125,6 +169,12 @@ asked_plain (program ∷ name ∷ words) plain = elim (is_or_not (bytes_eq (code
   | inl is ↦ rw is (show_named program name words is ∙ show_operands words plain.1)
   | inr other ↦ elim (is_or_not (bytes_eq (codes "link") name)) [
     | inl is ↦ rw (other, is) (link_named program name words other is ∙ link_operands words plain.1)
-    | inr neither ↦ rw (other, neither) (unknown_asked program name words other neither (no_flag name plain.0))
+    | inr neither ↦ elim (is_or_not (bytes_eq (codes "list") name)) [
+      | inl is ↦ rw (other, neither, is) (list_named program name words other neither is ∙ list_operands words plain.1)
+      | inr third ↦ elim (is_or_not (bytes_eq (codes "check") name)) [
+        | inl is ↦ rw (other, neither, third, is) (check_named program name words other neither third is ∙ check_operands words plain.1)
+        | inr none ↦ rw (other, neither, third, none) (unknown_asked program name words other neither third none (no_flag name plain.0))
+      ]
+    ]
   ]
 ]

@@ -4,7 +4,7 @@ use Rattle.std.specs.Prelude.{true, List, [], ◌∷◌, Option, None, Some, cod
 use Rattle.std.specs.Str.{bytes_eq}
 use Rattle.clap.specs.Walk.{Row, Rule, Text, first_of}
 use Rattle.clap.specs.Words.{App, Kinds, new_app, new_rule, with_rule, with_subcommand, fault_of, subcommand_of}
-use Rattle.pef_request.specs.Requests.{Asked, link, show}
+use Rattle.pef_request.specs.Requests.{Asked, check, link, list, show}
 
 -- an operand that has to be there
 abbrev pub operand : Text → Rule
@@ -18,6 +18,14 @@ show_command = new_app (codes "show")
 abbrev pub link_command : App
 link_command = with_rule (with_rule (new_app (codes "link")) (operand (codes "SCRIPT"))) (operand (codes "OUT"))
 
+-- `list FILE`
+abbrev pub list_command : App
+list_command = with_rule (new_app (codes "list")) (operand (codes "FILE"))
+
+-- `check SCRIPT CERT`
+abbrev pub check_command : App
+check_command = with_rule (with_rule (new_app (codes "check")) (operand (codes "SCRIPT"))) (operand (codes "CERT"))
+
 -- the program, which wants a command and has no help
 abbrev pub top_command : App
 top_command =
@@ -26,17 +34,27 @@ top_command =
 
 -- the program's commands
 unfoldable pub pef : App
-pef = with_subcommand (with_subcommand top_command show_command.top) link_command.top
+pef = with_subcommand (with_subcommand (with_subcommand (with_subcommand top_command show_command.top) link_command.top) list_command.top) check_command.top
 
 -- what the operands of `link` ask for
 abbrev pub link_asked : List Row → Option Asked
 link_asked rows = option_and_then (λ script. option_map (link script) (first_of (codes "OUT") rows)) (first_of (codes "SCRIPT") rows)
 
+-- what the operand of `list` asks for
+abbrev pub list_asked : List Row → Option Asked
+list_asked rows = option_map list (first_of (codes "FILE") rows)
+
+-- what the operands of `check` ask for
+abbrev pub check_asked : List Row → Option Asked
+check_asked rows = option_and_then (λ script. option_map (check script) (first_of (codes "CERT") rows)) (first_of (codes "SCRIPT") rows)
+
 -- what a command's name and operands ask for
 abbrev pub command_asked : Text → List Row → Option Asked
 command_asked name rows =
     if bytes_eq name (codes "show") then Some show
-    else if bytes_eq name (codes "link") then link_asked rows else None
+    else if bytes_eq name (codes "link") then link_asked rows
+    else if bytes_eq name (codes "list") then list_asked rows
+    else if bytes_eq name (codes "check") then check_asked rows else None
 
 -- a line without a fault asks for what its command asks for
 abbrev pub asked_at : Kinds → Option (Text × List Row) → Option Asked

@@ -1,7 +1,7 @@
 -- Which words are which command, where none begins with `-`.
 use Rattle.std.specs.Prelude.{◌≢◌, ℕ, ⊤, List, [], ◌∷◌, Option, None, Some, codes, if◌then◌else◌}
 use Rattle.std.specs.Str.{bytes_eq}
-use Rattle.pef_request.specs.Requests.{Asked, link, show}
+use Rattle.pef_request.specs.Requests.{Asked, check, link, list, show}
 
 -- a word that doesn't begin with `-`
 abbrev pub IsPlain : List ℕ → Type 0
@@ -24,11 +24,26 @@ plain_link (script ∷ []) = None
 plain_link (script ∷ out ∷ []) = Some (link script out)
 plain_link (script ∷ out ∷ word ∷ words) = None
 
+-- `list FILE`, and no more
+abbrev pub plain_list : List (List ℕ) → Option Asked
+plain_list [] = None
+plain_list (file ∷ []) = Some (list file)
+plain_list (file ∷ word ∷ words) = None
+
+-- `check SCRIPT CERT`, and no more
+abbrev pub plain_check : List (List ℕ) → Option Asked
+plain_check [] = None
+plain_check (script ∷ []) = None
+plain_check (script ∷ cert ∷ []) = Some (check script cert)
+plain_check (script ∷ cert ∷ word ∷ words) = None
+
 -- a command by its name, with its operands
 abbrev pub plain_command : List ℕ → List (List ℕ) → Option Asked
 plain_command name operands =
     if bytes_eq (codes "show") name then plain_show operands
     else if bytes_eq (codes "link") name then plain_link operands
+    else if bytes_eq (codes "list") name then plain_list operands
+    else if bytes_eq (codes "check") name then plain_check operands
     else None
 
 -- what words ask for, of which the first is the program's name

@@ -1,7 +1,7 @@
 ghost use Rattle.std.specs.Prelude.{◌≡◌, IfOk, false, map, string_bytes};
 ghost use Rattle.clap.specs.Words.{app_of, found_of, rows_of};
 ghost use Rattle.clap.specs.declared.builder.command.Command.TheViews.{out-Command};
-ghost use Rattle.pef_request.specs.CommandLine.{asked_by, command_asked, link_asked, link_command, pef};
+ghost use Rattle.pef_request.specs.CommandLine.{asked_by, check_asked, check_command, command_asked, link_asked, link_command, list_asked, list_command, pef};
 ghost use Rattle.pef_request.specs.Kept.Kinds.{fault_of_kind};
 ghost use Rattle.pef_request.specs.Requests.{AnswersWords};
 
@@ -16,6 +16,10 @@ pub enum Request<'a> {
     Show,
     /// Link the script at a path, and write the container to another.
     Link { script: &'a str, out: &'a str },
+    /// List the container at a path.
+    List { file: &'a str },
+    /// Check the certificates at a path for the sections of the script at another.
+    Check { script: &'a str, cert: &'a str },
 }
 
 /// Why a command line asks for nothing.
@@ -59,11 +63,16 @@ fn command<'a>(alloc: Global) -> Result<Command<'a>, AllocError>
 {
     let show = Command::new(alloc, "show");
     let link = link_command(alloc)?;
+    let list = list_command(alloc)?;
+    let check = check_command(alloc)?;
     let top = Command::new(alloc, "pef")
         .subcommand_required(true)
         .disable_help_flag(true)
         .disable_help_subcommand(true);
-    top.subcommand(show)?.subcommand(link)
+    top.subcommand(show)?
+        .subcommand(link)?
+        .subcommand(list)?
+        .subcommand(check)
 }
 
 /// The command `link SCRIPT OUT`.
@@ -76,6 +85,25 @@ fn link_command<'a>(alloc: Global) -> Result<Command<'a>, AllocError>
     Command::new(alloc, "link").arg(script)?.arg(out)
 }
 
+/// The command `list FILE`.
+fn list_command<'a>(alloc: Global) -> Result<Command<'a>, AllocError>
+    ensures app { IfOk result (λ c. app_of c ≡ list_command) }
+    ensures local { IfOk result (λ c. (out-Command c).has_globals ≡ false) }
+{
+    let file = Arg::new(alloc, "FILE").required(true);
+    Command::new(alloc, "list").arg(file)
+}
+
+/// The command `check SCRIPT CERT`.
+fn check_command<'a>(alloc: Global) -> Result<Command<'a>, AllocError>
+    ensures app { IfOk result (λ c. app_of c ≡ check_command) }
+    ensures local { IfOk result (λ c. (out-Command c).has_globals ≡ false) }
+{
+    let script = Arg::new(alloc, "SCRIPT").required(true);
+    let cert = Arg::new(alloc, "CERT").required(true);
+    Command::new(alloc, "check").arg(script)?.arg(cert)
+}
+
 /// The request of a command's name and operands.
 fn command_request<'a>(name: &str, operands: &ArgMatches<'a>) -> Result<Request<'a>, WordsFault>
     ensures { AnswersWords result (command_asked name.now (rows_of (found_of operands.now))) }
@@ -83,6 +111,8 @@ fn command_request<'a>(name: &str, operands: &ArgMatches<'a>) -> Result<Request<
     match name {
         "show" => Ok(Request::Show),
         "link" => link_request(operands),
+        "list" => list_request(operands),
+        "check" => check_request(operands),
         _ => Err(WordsFault::Usage),
     }
 }
@@ -99,6 +129,31 @@ fn link_request<'a>(operands: &ArgMatches<'a>) -> Result<Request<'a>, WordsFault
         return Err(WordsFault::Usage);
     };
     Ok(Request::Link { script, out })
+}
+
+/// The request of the operands of `list`.
+#[tactic(auto, using(crate::proofs::LineLemmas::first_in_rows))]
+fn list_request<'a>(operands: &ArgMatches<'a>) -> Result<Request<'a>, WordsFault>
+    ensures { AnswersWords result (list_asked (rows_of (found_of operands.now))) }
+{
+    let Some(file) = operands.get_str("FILE") else {
+        return Err(WordsFault::Usage);
+    };
+    Ok(Request::List { file })
+}
+
+/// The request of the operands of `check`.
+#[tactic(auto, using(crate::proofs::LineLemmas::first_in_rows))]
+fn check_request<'a>(operands: &ArgMatches<'a>) -> Result<Request<'a>, WordsFault>
+    ensures { AnswersWords result (check_asked (rows_of (found_of operands.now))) }
+{
+    let Some(script) = operands.get_str("SCRIPT") else {
+        return Err(WordsFault::Usage);
+    };
+    let Some(cert) = operands.get_str("CERT") else {
+        return Err(WordsFault::Usage);
+    };
+    Ok(Request::Check { script, cert })
 }
 
 /// Why `clap` refused a line.

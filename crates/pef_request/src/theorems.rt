@@ -4,7 +4,8 @@ ghost use Rattle.pef_request.specs.CommandLine.{asked_by};
 ghost use Rattle.pef_request.specs.Plain.{ArePlain, plain_words as asked_plainly};
 
 /// Where no word behind the program's name begins with `-`, just `show` asks for `show`, just
-/// `link SCRIPT OUT` asks for `link`, and all other words ask for nothing.
+/// `link SCRIPT OUT` asks for `link`, just `list FILE` asks for `list`, just `check SCRIPT CERT` asks for
+/// `check`, and all other words ask for nothing.
 #[tactic(auto, using(crate::proofs::PlainLemmas::asked_plain))]
 pub fn plain_words()
     ensures { (words : List (List ℕ)) → ArePlain (drop 1 words) → asked_by words ≡ asked_plainly words }

@@ -12,4 +12,6 @@ returns c =
     let no_flag = ap app_of_fields c.disable_help_flag.ensures ∙ ap (on_top (λ s. record s { disable_help_flag = true })) required in
     let top = ap app_of_fields c.disable_help_subcommand-top.ensures ∙ ap (on_top (λ s. record s { disable_help_subcommand = true })) no_flag in
     let with_show = c.in_ok-subcommand.ensures.shape c.new-show.ensures.local ∙ ap₂ with_subcommand top (ap (λ a. a.top) c.new-show.ensures.app) in
-    record { app = IfOk-weaker c.subcommand-2.result _ _ (λ r added. added.shape c.in_ok-link.ensures.local ∙ ap₂ with_subcommand with_show (ap (λ a. a.top) c.in_ok-link.ensures.app)) c.subcommand-2.ensures }
+    let with_link = c.in_ok-subcommand-2.ensures.shape c.in_ok-link.ensures.local ∙ ap₂ with_subcommand with_show (ap (λ a. a.top) c.in_ok-link.ensures.app) in
+    let with_list = c.in_ok-subcommand-3.ensures.shape c.in_ok-list.ensures.local ∙ ap₂ with_subcommand with_link (ap (λ a. a.top) c.in_ok-list.ensures.app) in
+    record { app = IfOk-weaker c.subcommand-4.result _ _ (λ r added. added.shape c.in_ok-check.ensures.local ∙ ap₂ with_subcommand with_list (ap (λ a. a.top) c.in_ok-check.ensures.app)) c.subcommand-4.ensures }
