@@ -6,11 +6,17 @@
 #![tactic(auto)]
 
 #[cfg(test)]
+mod check;
+#[cfg(test)]
+mod containers;
+#[cfg(test)]
 mod failures;
 #[cfg(test)]
 mod limits;
 #[cfg(test)]
 mod link;
+#[cfg(test)]
+mod list;
 pub mod ports;
 #[cfg(test)]
 mod runs;

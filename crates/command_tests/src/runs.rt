@@ -13,8 +13,10 @@ use std::test::Fail;
 pub struct Handed<'a> {
     /// The words behind the program's name.
     pub words: &'a [&'a str],
-    /// What the file `a` has; there is no other.
+    /// What the file `a` has.
     pub file: &'a [u8],
+    /// What the file `b` has, where it is there; there is no other.
+    pub second: Option<&'a [u8]>,
     pub input: &'a [u8],
     /// How many bytes the input gives and the output takes a call.
     pub step: usize,
@@ -37,12 +39,23 @@ impl<'a> Handed<'a> {
         Handed {
             words,
             file: b"",
+            second: None,
             input,
             step: 1000,
             input_fails_at: 0,
             out_fails_at: 0,
             files_fail_at: 0,
             fault: FileFault::Failed,
+        }
+    }
+
+    /// Words and the files `a` and `b`, where nothing fails.
+    pub fn files(words: &'a [&'a str], file: &'a [u8], second: &'a [u8]) -> Handed<'a>
+        ensures { result.step ≡ 1000 }
+    {
+        Handed {
+            second: Some(second),
+            ..Handed::file(words, file)
         }
     }
 
@@ -86,6 +99,11 @@ pub fn run_tool(alloc: Global, handed: Handed<'_>) -> Result<Outcome, Fail>
     let mut papers = Papers::new(alloc, handed.files_fail_at, handed.fault);
     if papers.put(b"a", handed.file).is_err() {
         return Err(Fail::from("no memory for a file"));
+    }
+    if let Some(second) = handed.second {
+        if papers.put(b"b", second).is_err() {
+            return Err(Fail::from("no memory for a file"));
+        }
     }
     let mut input = Text::new(handed.input, handed.step, handed.input_fails_at);
     let mut out = Sheet::new(alloc, handed.step, handed.out_fails_at);

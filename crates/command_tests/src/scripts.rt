@@ -42,3 +42,10 @@ pub const EMPTY_CONTAINER: &[u8] = b"\
 /// Code, and data with two transition vectors.
 pub const VECTORS: &[u8] =
     b"versions 1 0 0\nsection code code global 4 8\nsection data data process 4 16\nbytes code 0011223344556677\nbytes data 00000000000000000000000400000000\ntvector data 0 code data\ntvector data 8 code data\nexport go tvector data 0\nmain data 0\n";
+
+/// Certificates for its sections.
+pub const VECTORS_CERTIFIED: &[u8] = b"\
+      pefcert 1\nsection 0\nfixups 0\nlength 0\nprogram -\nregisters *\nat 0 0\n\
+      section 1\nfixups 4\nlength 1\nprogram 4601\nregisters 0 1 *\n\
+      at 0 2 1 2 3 2 3 3 2 3\nat 1 3 2 3 2 3 3 3 3 3\nat 2 2 1 2 2 2 2 2 2 2\n\
+      at 3 1 1 1 1 1 1 1 1 1\nat 4 0 0 0 0 0 0 0 0 0\nend\n";

@@ -5,7 +5,7 @@ use std::test::Fail;
 /// Words that are no command, a request for help among them: the usage, and nothing is read or written.
 #[test]
 fn usage(rt: HostRuntime) -> Result<(), Fail> {
-    let rows: [&[&str]; 14] = [
+    let rows: [&[&str]; 20] = [
         &[],
         &["load"],
         &["Show"],
@@ -15,6 +15,12 @@ fn usage(rt: HostRuntime) -> Result<(), Fail> {
         &["link"],
         &["link", "a"],
         &["link", "a", "out", "b"],
+        &["list"],
+        &["list", "a", "b"],
+        &["list", "--help"],
+        &["check"],
+        &["check", "a"],
+        &["check", "a", "b", "c"],
         &["--help"],
         &["-h"],
         &["help"],

@@ -1,8 +1,10 @@
-//! Tests of relocation and placed memory, a file for each library, a table for each call. They go through public calls. The
+//! Tests of relocation, placed memory and prepared fragments, a file for each library, a table for each call. They go through public calls. The
 //! expected values come from the format's documents and worked examples, never from the program.
 #![tactic(auto)]
 
 #[cfg(test)]
 mod memory;
+#[cfg(test)]
+mod prepare;
 #[cfg(test)]
 mod reloc;

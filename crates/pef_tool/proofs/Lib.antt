@@ -1,10 +1,8 @@
-mod DescribedLemmas
+mod CheckLemmas
 mod LinkLemmas
 mod LinkedLemmas
-mod PlacedLemmas
-mod PlacingLemmas
+mod OutcomeLemmas
 mod PreparedLemmas
 mod ProgramLemmas
 mod RefusalLemmas
-mod RelocatingLemmas
 mod ShowingLemmas

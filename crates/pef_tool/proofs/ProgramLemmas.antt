@@ -1,74 +1,50 @@
--- Relocation programs of sections make of their filled memory what the script describes.
-use Rattle.std.proofs.Common.{◌≡◌, ◌≢◌, ℕ, zero, suc, ◌+◌, ◌<◌, ◌≤◌, List, [], ◌∷◌, ◌++◌, Option, None, Some, get_or, length, map, refl, sym, ap, subst, ◌∙◌, arith}
-use Rattle.std.proofs.lemmas.Bool.{eq-eqb, ne_eqb}
-use Rattle.pef_reloc.specs.declared.fault.RelocFault.{RelocFault}
+-- The relocation programs of a script's sections make of their filled memory what the script describes.
+use Rattle.std.proofs.Common.{◌≡◌, ◌≢◌, ◌⊎◌, ℕ, zero, suc, ◌+◌, ◌<◌, List, [], ◌∷◌, ◌++◌, Option, None, Some, length, option_map, refl, sym, ap, subst, ◌∙◌, inl, inr, arith}
+use Rattle.std.specs.List.{AllByRecursion, slice_get}
+use Rattle.std.proofs.lemmas.Option.{slice_get_within}
+use Rattle.pef_words.proofs.Laws.Lists.{all-get, all-weaker}
+use Rattle.pef_reloc.specs.declared.fixup.Base.{Base}
+use Rattle.pef_reloc.specs.declared.fixup.Base.TheVariants.{Section, Import}
 use Rattle.pef_reloc.specs.declared.fixup.Fixup.{Fixup}
 use Rattle.pef_reloc.specs.declared.instr.Instr.{Instr}
-use Rattle.pef_reloc.specs.Applied.{Addresses, Done, address_of, applied, unless_refused}
+use Rattle.pef_reloc.specs.Additions.{AreInside, IsThere, with_bases}
+use Rattle.pef_reloc.specs.Applied.{Addresses, address_of}
+use Rattle.pef_reloc.specs.Headers.{IsOther, program_done, relocated_by, untouched}
 use Rattle.pef_reloc.specs.Instrs.{spelled}
-use Rattle.pef_reloc.specs.Steps.{add, start}
-use Rattle.pef_reloc.specs.Unrolled.{step_limit}
-use Rattle.pef_reloc.proofs.Laws.{applied-trace, program_fault-spelled, relocated-spelled}
+use Rattle.pef_reloc.proofs.Laws.{fixups_fit-parts}
+use Rattle.pef_reloc.proofs.Laws.Additions.{fixups-inside}
+use Rattle.pef_reloc.proofs.Laws.Headers.{headers-others, headers-own}
 use Rattle.pef_script.specs.Script.{DescribedSection}
-use Rattle.pef_write.specs.Loaders.{ProgramEntry}
-use Rattle.pef_tool.specs.Described.{with_bases}
-use Rattle.pef_tool.specs.Kept.Relocating.{done_then, header_done, program_done, relocated_by, untouched}
-use Rattle.pef_tool.proofs.DescribedLemmas.{AreInside, additions_applied}
+use Rattle.pef_script.specs.WellFormed.{BaseThere, SectionHolds}
 use Rattle.pef_write.specs.Linked.{AreProgramsFor, IsProgramFor, program_of, programs_from}
+use Rattle.pef_write.specs.Loaders.{ProgramEntry}
+use Rattle.pef_write.specs.ReadBack.{program_read}
 
--- memory that nothing refused
-abbrev pub sound : List ℕ → Done
-sound memory = record { memory = memory; fault = None }
+base_there : (a : Addresses) (base : Base) → BaseThere (length a.sections) (length a.imports) base → IsThere a base
+base_there a (Section k) there = there
+base_there a (Import j) there = there
 
--- a program for some fixups in memory makes of it what they describe
-pub program_makes : (a : Addresses) (fixups : List Fixup) (instrs : List Instr) (memory : List ℕ) → IsProgramFor (length a.sections) fixups instrs → length instrs ≤ step_limit → AreInside a 0 (length memory) fixups
-    → program_done a (spelled instrs) memory ≡ sound (with_bases (address_of a) 0 fixups memory)
-program_makes a fixups instrs memory program short inside =
-    let whole : length memory ≡ 0 + length memory = omega arith in
-    let P : ℕ → Type 0 = λ len. AreInside a 0 len fixups in
-    rw (program_fault-spelled instrs program.flat short)
-    (relocated-spelled instrs a memory program.flat ∙ applied-trace a instrs start memory program.names ∙ ap (λ (fs : List Fixup). applied a (map add fs) memory) program.makes
-    ∙ additions_applied a fixups 0 [] memory refl (subst P whole inside))
-
--- what isn't refused in the end wasn't before
-done_first : (d : Done) (next : List ℕ → Done) → (done_then d next).fault ≡ None → d.fault ≡ None
-done_first d next none = go d.fault none
-  where
-    go : (f : Option RelocFault) → (unless_refused f d.memory (next d.memory)).fault ≡ None → f ≡ None
-    go None is = refl
-    go (Some fault) is = is
-
-done_next : (d : Done) (next : List ℕ → Done) → d.fault ≡ None → done_then d next ≡ next d.memory
-done_next d next none = rw none refl
-
-sound_then : (d : Done) (next : List ℕ → Done) → (done_then d next).fault ≡ None → (next d.memory).fault ≡ None
-sound_then d next none = ap (λ (e : Done). e.fault) (sym (done_next d next (done_first d next none))) ∙ none
-
--- headers from a number on are those of some relocation programs
-abbrev pub AreHeaders : (ℕ → Option (ℕ × List ℕ)) → ℕ → List ProgramEntry → Type 0
-AreHeaders header from [] = Unit {0}
-AreHeaders header from (p ∷ programs) = (header from ≡ Some (p.section, p.bytes)) × AreHeaders header (from + 1) programs
+-- the fixups of a script's section lie inside its memory
+pub fixups_inside : (a : Addresses) (s : DescribedSection) → SectionHolds (length a.sections) (length a.imports) s → AreInside a s.header.total s.fixups
+fixups_inside a s holds =
+    fixups-inside a 0 s.header.total s.fixups (fixups_fit-parts s.fixups holds.fixups).apart holds.inside
+    (all-weaker (λ (f : Fixup). BaseThere (length a.sections) (length a.imports) f.base) (λ (f : Fixup). IsThere a f.base) s.fixups (λ f. base_there a f.base) holds.bases)
 
 -- none of some relocation programs is section k's
-abbrev AreOthers : ℕ → List ProgramEntry → Type 0
-AreOthers k [] = Unit {0}
-AreOthers k (p ∷ programs) = (p.section ≢ k) × AreOthers k programs
+abbrev pub AreOthers : ℕ → List ProgramEntry → Type 0
+AreOthers k programs = AllByRecursion (λ (p : ProgramEntry). p.section ≢ k) programs
 
--- the header of another section leaves the memory
-other_done : (a : Addresses) (k : ℕ) (h : Option (ℕ × List ℕ)) (p : ProgramEntry) (memory : List ℕ) → h ≡ Some (p.section, p.bytes) → p.section ≢ k → header_done a k h memory ≡ untouched memory
-other_done a k h p memory is other = rw (is, ne_eqb p.section k other) refl
+-- the relocation program in one place is section k's, made for its fixups among so many sections, and no other is
+pub record HasProgram (count k : ℕ) (fixups : List Fixup) (programs : List ProgramEntry) : Type 0 where
+  pub instrs : List Instr
+  pub program : IsProgramFor count fixups instrs
+  pub place : ℕ
+  pub here : slice_get programs place ≡ Some (record { section = k; bytes = spelled instrs })
+  pub others : (j : ℕ) (p : ProgramEntry) → slice_get programs j ≡ Some p → j ≢ place → p.section ≢ k
 
-own_done : (a : Addresses) (k : ℕ) (h : Option (ℕ × List ℕ)) (bytes : List ℕ) (memory : List ℕ) → h ≡ Some (k, bytes) → header_done a k h memory ≡ program_done a bytes memory
-own_done a k h bytes memory is = rw (is, eq-eqb k k refl) refl
-
--- the headers of other sections leave the memory
-others_done : (a : Addresses) (k : ℕ) (header : ℕ → Option (ℕ × List ℕ)) (from : ℕ) (programs : List ProgramEntry) (memory : List ℕ) → AreHeaders header from programs → AreOthers k programs
-    → relocated_by a k header from (length programs) memory ≡ untouched memory
-unfolding relocated_by
-others_done a k header from [] memory headers others = refl
-others_done a k header from (p ∷ programs) memory headers others =
-    ap (λ (d : Done). done_then d (relocated_by a k header (from + 1) (length programs))) (other_done a k (header from) p memory headers.0 others.0)
-    ∙ others_done a k header (from + 1) programs memory headers.1 others.1
+-- section k has a relocation program, or no fixups and none
+abbrev pub Owns : ℕ → ℕ → List Fixup → List ProgramEntry → Type 0
+Owns count k fixups programs = HasProgram count k fixups programs ⊎ ((fixups ≡ []) × AreOthers k programs)
 
 -- the programs of sections from a number on are none of a section's before it
 later_others : (k from : ℕ) (sections : List DescribedSection) (programs : List (List Instr)) → k < from → AreOthers k (programs_from from sections programs)
@@ -81,58 +57,66 @@ later_others k from (s ∷ sections) (instrs ∷ programs) before = go s.fixups 
     go [] later = later
     go (fixup ∷ fixups) later = ((λ same. absurd (omega (arith, before, same))), later)
 
--- a program and others of other sections make of a section's memory what the program does
-own_made : (a : Addresses) (header : ℕ → Option (ℕ × List ℕ)) (k from : ℕ) (fixups : List Fixup) (instrs : List Instr) (others : List ProgramEntry) (memory : List ℕ)
-    → AreHeaders header from (program_of k fixups instrs ++ others) → AreOthers k others → program_done a (spelled instrs) memory ≡ sound (with_bases (address_of a) 0 fixups memory)
-    → relocated_by a k header from (length (program_of k fixups instrs ++ others)) memory ≡ sound (with_bases (address_of a) 0 fixups memory)
-unfolding relocated_by with_bases
-own_made a header k from [] instrs others memory headers apart makes = others_done a k header from others memory headers apart
-own_made a header k from (fixup ∷ fixups) instrs others memory headers apart makes =
-    let whole = with_bases (address_of a) 0 (fixup ∷ fixups) memory in
-    ap (λ (d : Done). done_then d (relocated_by a k header (from + 1) (length others))) (own_done a k (header from) (spelled instrs) memory headers.0 ∙ makes)
-    ∙ others_done a k header (from + 1) others whole headers.1 apart
+-- a section's own program before those of others
+own_first : (count k : ℕ) (fixups : List Fixup) (instrs : List Instr) (later : List ProgramEntry) → IsProgramFor count fixups instrs → AreOthers k later → Owns count k fixups (program_of k fixups instrs ++ later)
+own_first count k [] instrs later program others = inr (refl, others)
+own_first count k (fixup ∷ fixups) instrs later program others = inl (record {
+  instrs = instrs;
+  program = program;
+  place = 0;
+  here = refl;
+  others = λ j p at apart. other j p at apart;
+})
+  where
+    other : (j : ℕ) (p : ProgramEntry) → slice_get (record { section = k; bytes = spelled instrs } ∷ later) j ≡ Some p → j ≢ 0 → p.section ≢ k
+    other zero p at apart = absurd (apart refl)
+    other (suc j) p at apart = all-get (λ (q : ProgramEntry). q.section ≢ k) later j p others at
 
--- the program of another section leaves the memory for those behind it
-other_made : (a : Addresses) (header : ℕ → Option (ℕ × List ℕ)) (k j from : ℕ) (fixups : List Fixup) (instrs : List Instr) (others : List ProgramEntry) (memory : List ℕ) (done : Done)
-    → AreHeaders header from (program_of j fixups instrs ++ others) → j ≢ k
-    → ((next : ℕ) → AreHeaders header next others → relocated_by a k header next (length others) memory ≡ done)
-    → relocated_by a k header from (length (program_of j fixups instrs ++ others)) memory ≡ done
-unfolding relocated_by
-other_made a header k j from [] instrs others memory done headers other later = later from headers
-other_made a header k j from (fixup ∷ fixups) instrs others memory done headers other later =
-    ap (λ (d : Done). done_then d (relocated_by a k header (from + 1) (length others))) (other_done a k (header from) (record { section = j; bytes = spelled instrs }) memory headers.0 other)
-    ∙ later (from + 1) headers.1
+-- behind another section's program
+own_later : (count k j : ℕ) (own fixups : List Fixup) (instrs : List Instr) (later : List ProgramEntry) → j ≢ k → Owns count k own later → Owns count k own (program_of j fixups instrs ++ later)
+own_later count k j own [] instrs later apart owns = owns
+own_later count k j own (fixup ∷ fixups) instrs later apart (inr none) = inr (none.0, (apart, none.1))
+own_later count k j own (fixup ∷ fixups) instrs later apart (inl has) = inl (record {
+  instrs = has.instrs;
+  program = has.program;
+  place = suc has.place;
+  here = has.here;
+  others = λ i p at other. others i p at other;
+})
+  where
+    others : (i : ℕ) (p : ProgramEntry) → slice_get (record { section = j; bytes = spelled instrs } ∷ later) i ≡ Some p → i ≢ suc has.place → p.section ≢ k
+    others zero p at other = let e : record { section = j; bytes = spelled instrs } ≡ p = cc in subst (λ (q : ProgramEntry). q.section ≢ k) e apart
+    others (suc i) p at other = has.others i p at (λ same. other (ap suc same))
 
--- a section's program makes of its memory what the script describes, and those of other sections leave it
-pub section_made : (a : Addresses) (header : ℕ → Option (ℕ × List ℕ)) (i j from count : ℕ) (sections : List DescribedSection) (programs : List (List Instr)) (s : DescribedSection) (memory : List ℕ)
-    → AreProgramsFor count sections programs → AreHeaders header from (programs_from j sections programs) → i < length sections → get_or sections i s ≡ s
-    → ((instrs : List Instr) → IsProgramFor count s.fixups instrs → program_done a (spelled instrs) memory ≡ sound (with_bases (address_of a) 0 s.fixups memory))
-    → relocated_by a (j + i) header from (length (programs_from j sections programs)) memory ≡ sound (with_bases (address_of a) 0 s.fixups memory)
-section_made a header i j from count [] programs s memory are headers under is makes = absurd (omega (arith, under))
-section_made a header i j from count (t ∷ sections) [] s memory are headers under is makes = absurd are
-section_made a header zero j from count (t ∷ sections) (instrs ∷ programs) s memory are headers under is makes =
+-- each of some sections has its relocation program among theirs
+pub owns_program : (count i j : ℕ) (sections : List DescribedSection) (programs : List (List Instr)) (s : DescribedSection) → AreProgramsFor count sections programs → slice_get sections i ≡ Some s
+    → Owns count (j + i) s.fixups (programs_from j sections programs)
+owns_program count i j [] programs s are there = absurd (cc)
+owns_program count i j (t ∷ sections) [] s are there = absurd are
+owns_program count zero j (t ∷ sections) (instrs ∷ programs) s are there =
+    let same : t ≡ s = cc in
     let here : j + 0 ≡ j = omega arith in
-    let fixups : t.fixups ≡ s.fixups = ap (λ (u : DescribedSection). u.fixups) is in
-    let P : List Fixup → Type 0 = λ fs. IsProgramFor count fs instrs in
-    let Q : List Fixup → Type 0 = λ fs. AreHeaders header from (program_of j fs instrs ++ programs_from (j + 1) sections programs) in
-    rw (here, fixups) (own_made a header j from s.fixups instrs (programs_from (j + 1) sections programs) memory (subst Q fixups headers) (later_others j (j + 1) sections programs (omega arith)) (makes instrs (subst P fixups are.0)))
-section_made a header (suc i) j from count (t ∷ sections) (instrs ∷ programs) s memory are headers under is makes =
+    rw here (subst (λ (u : DescribedSection). Owns count j u.fixups (programs_from j (t ∷ sections) (instrs ∷ programs))) same
+    (own_first count j t.fixups instrs (programs_from (j + 1) sections programs) are.0 (later_others j (j + 1) sections programs (omega arith))))
+owns_program count (suc i) j (t ∷ sections) (instrs ∷ programs) s are there =
     let next : j + suc i ≡ j + 1 + i = omega arith in
-    rw next (other_made a header (j + 1 + i) j from t.fixups instrs (programs_from (j + 1) sections programs) memory (sound (with_bases (address_of a) 0 s.fixups memory)) headers (λ same. absurd (omega (arith, same)))
-    (λ at headers_at. section_made a header i (j + 1) at count sections programs s memory are.1 headers_at (omega (arith, under)) is makes))
+    rw next (own_later count (j + 1 + i) j s.fixups t.fixups instrs (programs_from (j + 1) sections programs) (λ same. absurd (omega (arith, same))) (owns_program count i (j + 1) sections programs s are.1 there))
 
--- where headers aren't refused, none of them is
-pub each_sound : (a : Addresses) (k : ℕ) (header : ℕ → Option (ℕ × List ℕ)) (i from n : ℕ) (bytes memory : List ℕ) → i < n → header (from + i) ≡ Some (k, bytes) → (relocated_by a k header from n memory).fault ≡ None
-    → (program_done a bytes (relocated_by a k header from i memory).memory).fault ≡ None
-unfolding relocated_by
-each_sound a k header i from zero bytes memory under is none = absurd (omega (arith, under))
-each_sound a k header zero from (suc n) bytes memory under is none =
-    let here : from + 0 ≡ from = omega arith in
-    let done = own_done a k (header from) bytes memory (ap header (sym here) ∙ is) in
-    let P : Done → Type 0 = λ d. (done_then d (relocated_by a k header (from + 1) n)).fault ≡ None in
-    done_first (program_done a bytes memory) (relocated_by a k header (from + 1) n) (subst P done none)
-each_sound a k header (suc i) from (suc n) bytes memory under is none =
-    let next : from + suc i ≡ from + 1 + i = omega arith in
-    let first = done_first (header_done a k (header from) memory) (relocated_by a k header (from + 1) n) none in
-    let later = each_sound a k header i (from + 1) n bytes (header_done a k (header from) memory).memory (omega (arith, under)) (ap header (sym next) ∙ is) (sound_then (header_done a k (header from) memory) (relocated_by a k header (from + 1) n) none) in
-    rw (done_next (header_done a k (header from) memory) (relocated_by a k header (from + 1) i) first) later
+is_other : (k : ℕ) (o : Option ProgramEntry) → ((p : ProgramEntry) → o ≡ Some p → p.section ≢ k) → IsOther k (option_map program_read o)
+is_other k None none = tt
+is_other k (Some p) each = each p refl
+
+-- what the relocation headers make of a section's memory, where its own program makes it of its fixups
+pub section_made : (a : Addresses) (header : ℕ → Option (ℕ × List ℕ)) (programs : List ProgramEntry) (count k : ℕ) (fixups : List Fixup) (memory : List ℕ)
+    → ((i : ℕ) → header i ≡ option_map program_read (slice_get programs i)) → Owns count k fixups programs
+    → ((instrs : List Instr) → IsProgramFor count fixups instrs → program_done a (spelled instrs) memory ≡ untouched (with_bases (address_of a) 0 fixups memory))
+    → relocated_by a k header 0 (length programs) memory ≡ untouched (with_bases (address_of a) 0 fixups memory)
+unfolding with_bases
+section_made a header programs count k fixups memory headers (inl has) makes =
+    headers-own a k header 0 (length programs) has.place (spelled has.instrs) memory (omega arith) (omega (arith, slice_get_within programs has.place (record { section = k; bytes = spelled has.instrs }) has.here))
+    (headers has.place ∙ ap (option_map program_read) has.here)
+    (λ j low high apart. subst (IsOther k) (sym (headers j)) (is_other k (slice_get programs j) (λ p at. has.others j p at apart)))
+    ∙ makes has.instrs has.program
+section_made a header programs count k fixups memory headers (inr none) makes =
+    headers-others a k header 0 (length programs) memory (λ j low high. subst (IsOther k) (sym (headers j)) (is_other k (slice_get programs j) (λ p at. all-get (λ (q : ProgramEntry). q.section ≢ k) programs j p none.1 at)))
+    ∙ ap (λ (fs : List Fixup). untouched (with_bases (address_of a) 0 fs memory)) (sym none.0)

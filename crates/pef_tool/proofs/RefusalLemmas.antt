@@ -1,12 +1,57 @@
 -- Names of refusals are short.
-use Rattle.std.proofs.Common.{◌≤◌, ℕ, length, arith}
+use Rattle.std.proofs.Common.{◌≤◌, length, arith}
+use Rattle.pef_listing.specs.declared.fault.ListFault.{ListFault}
+use Rattle.pef_listing.specs.declared.fault.ListFault.TheVariants as listing
+use Rattle.pef_loader.specs.Faults as loaders
+use Rattle.pef_loader.specs.declared.fault.LoaderFault.{LoaderFault}
+use Rattle.pef_loader.specs.declared.fault.LoaderFault.TheVariants as loader
+use Rattle.pef_reloc.specs.Faults as relocs
 use Rattle.pef_reloc.specs.declared.fault.RelocFault.{RelocFault}
 use Rattle.pef_reloc.specs.declared.fault.RelocFault.TheVariants as reloc
 use Rattle.pef_script.specs.declared.fault.LineFault.{LineFault}
 use Rattle.pef_script.specs.declared.fault.LineFault.TheVariants as script
+use Rattle.pef_views.specs.Faults as views
+use Rattle.pef_views.specs.declared.fault.ViewFault.{ViewFault}
+use Rattle.pef_views.specs.declared.fault.ViewFault.TheVariants as view
 use Rattle.pef_tool.specs.Refusals.{name_of}
 use Rattle.pef_tool.specs.declared.refusal.Refusal.{Refusal}
-use Rattle.pef_tool.specs.declared.refusal.Refusal.TheVariants.{Script, Reloc, NoRoom, InputUnreadable, InputTooLong, OutOfMemory}
+use Rattle.pef_tool.specs.declared.refusal.Refusal.TheVariants.{Script, Listing, Reloc, NoRoom, BadCertificate, SectionsDiffer, InputUnreadable, InputTooLong, OutOfMemory}
+
+view_name : (fault : ViewFault) → length (views.fault_name fault) ≤ 16
+view_name view.TooShort = omega arith
+view_name view.BadTag = omega arith
+view_name view.BadArchitecture = omega arith
+view_name view.BadFormatVersion = omega arith
+view_name view.BadSectionCounts = omega arith
+view_name view.SectionOutside = omega arith
+view_name view.BadSectionKind = omega arith
+view_name view.BadSizes = omega arith
+view_name view.BadAlignment = omega arith
+view_name view.NoLoader = omega arith
+
+loader_name : (fault : LoaderFault) → length (loaders.fault_name fault) ≤ 16
+loader_name loader.LoaderShort = omega arith
+loader_name loader.BadTableOffset = omega arith
+loader_name loader.BadName = omega arith
+loader_name loader.BadLibraryRange = omega arith
+loader_name loader.OrphanImport = omega arith
+loader_name loader.BadEntry = omega arith
+loader_name loader.BadRelocSection = omega arith
+loader_name loader.RelocOutside = omega arith
+loader_name loader.BadExportTable = omega arith
+loader_name loader.BadExportSection = omega arith
+
+reloc_name : (fault : RelocFault) → length (relocs.fault_name fault) ≤ 16
+reloc_name reloc.BadOpcode = omega arith
+reloc_name reloc.CutInstruction = omega arith
+reloc_name reloc.RepeatTooFar = omega arith
+reloc_name reloc.RepeatCuts = omega arith
+reloc_name reloc.NestedRepeat = omega arith
+reloc_name reloc.TooManySteps = omega arith
+reloc_name reloc.WordOutside = omega arith
+reloc_name reloc.ImportOutside = omega arith
+reloc_name reloc.SectionOutside = omega arith
+reloc_name reloc.OutOfMemory = omega arith
 
 pub short_name : (refusal : Refusal) → length (name_of refusal) ≤ 16
 short_name (Script fault line) = go fault
@@ -21,20 +66,16 @@ short_name (Script fault line) = go fault
     go script.OutsideSection = omega arith
     go script.TooMany = omega arith
     go script.BadKind = omega arith
-short_name (Reloc fault) = go fault
+short_name (Listing fault) = go fault
   where
-    go : (f : RelocFault) → length (name_of (Reloc f)) ≤ 16
-    go reloc.BadOpcode = omega arith
-    go reloc.CutInstruction = omega arith
-    go reloc.RepeatTooFar = omega arith
-    go reloc.RepeatCuts = omega arith
-    go reloc.NestedRepeat = omega arith
-    go reloc.TooManySteps = omega arith
-    go reloc.WordOutside = omega arith
-    go reloc.ImportOutside = omega arith
-    go reloc.SectionOutside = omega arith
-    go reloc.OutOfMemory = omega arith
+    go : (f : ListFault) → length (name_of (Listing f)) ≤ 16
+    go (listing.View fault) = view_name fault
+    go (listing.Loader fault) = loader_name fault
+    go (listing.Reloc fault) = reloc_name fault
+short_name (Reloc fault) = reloc_name fault
 short_name NoRoom = omega arith
+short_name (BadCertificate line) = omega arith
+short_name SectionsDiffer = omega arith
 short_name InputUnreadable = omega arith
 short_name InputTooLong = omega arith
 short_name OutOfMemory = omega arith

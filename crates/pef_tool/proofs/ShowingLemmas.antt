@@ -1,224 +1,215 @@
--- A container that a script describes prepares to what the script describes, and is never refused.
-use Rattle.std.proofs.Common.{◌≡◌, ℕ, zero, suc, ◌+◌, ◌-◌, ◌<◌, ◌≤◌, List, [], ◌∷◌, ◌++◌, Option, None, Some, get_or, length, replicate, inl, inr, refl, sym, ap, subst, ◌∙◌, arith}
+-- A container that was linked of a script prepares to what the script describes, and is never refused.
+use Rattle.std.proofs.Common.{◌≡◌, ℕ, suc, ◌+◌, ◌*◌, ◌^◌, ◌<◌, ◌≤◌, ◌==◌, true, false, List, [], ◌∷◌, None, Some, get_or, length, map, option_map, inl, inr, refl, sym, ap, ap₂, subst, ◌∙◌, arith}
 use Rattle.std.specs.List.{AllByRecursion, slice_get}
-use Rattle.std.specs.Option.{option_map_or}
-use Rattle.std.proofs.lemmas.List.{length-append, length-map, length-replicate, take_all}
-use Rattle.std.proofs.lemmas.Option.{get_or_from_slice_get, slice_get-get_or, slice_get_within}
-use Rattle.cfm_memory.specs.Instances.{Layout}
-use Rattle.cfm_memory.specs.Placement.{with_new}
-use Rattle.cfm_memory.specs.declared.place.Place.{Place}
-use Rattle.pef_loader.specs.Loader.{Loaded, init_of, main_of, reloc_of, term_of}
-use Rattle.pef_reloc.specs.declared.fixup.Fixup.{Fixup}
-use Rattle.pef_reloc.specs.declared.instr.Instr.{Instr}
-use Rattle.pef_reloc.specs.Applied.{Addresses, Done, address_of}
-use Rattle.pef_reloc.specs.Instrs.{program_length, spelled}
-use Rattle.pef_reloc.proofs.Laws.{some_length}
-use Rattle.pef_reloc.proofs.Laws.{fixups_fit-parts}
-use Rattle.pef_script.specs.Script.{DescribedScript, DescribedSection}
-use Rattle.pef_words.proofs.Laws.Lists.{all-get}
-use Rattle.pef_script.specs.WellFormed.{SectionHolds}
-use Rattle.pef_views.specs.Container.{Contained}
-use Rattle.pef_words.specs.Refusals.{first_among}
-use Rattle.pef_write.specs.Containers.{IsPart, part_header}
-use Rattle.pef_write.specs.Loaders.{ProgramEntry}
-use Rattle.pef_tool.specs.declared.prepare.PrepareFault.{PrepareFault}
-use Rattle.pef_tool.specs.declared.prepare.PrepareFault.TheVariants.{Memory, Reloc}
-use Rattle.pef_tool.specs.declared.prepared.Prepared.{Prepared}
+use Rattle.std.specs.Option.{option_and_then, option_map_or}
+use Rattle.std.specs.Prelude.{Ok}
+use Rattle.std.specs.Result.{result_err, result_unwrap_or}
+use Rattle.std.proofs.Math.Nat.{max-le, pow-le-pow_right}
+use Rattle.std.proofs.lemmas.Bool.Decides.{eqb_tells}
+use Rattle.std.proofs.lemmas.List.{length-map, take_all}
+use Rattle.std.proofs.lemmas.Option.{slice_get-get_or}
+use Rattle.cfm_memory.specs.Extents.{ArePlaced, LackRoom, no_instances}
+use Rattle.cfm_memory.specs.Placement.{step_of}
 use Rattle.cfm_memory.specs.declared.place.MemoryFault.TheVariants.{NoRoom, OutOfMemory}
-use Rattle.pef_tool.specs.Described.{described_at, described_extent, described_memory, filled}
+use Rattle.cfm_memory.specs.declared.place.Place.{Place}
+use Rattle.cfm_memory.proofs.Laws.{all_find_room, length-placed, most_taken}
+use Rattle.cfm_prepare.specs.Images.{extent_at, extent_in, extents_from, extents_of, filled_at, filled_in, first_image_refusal, image_of, image_refusal}
+use Rattle.cfm_prepare.specs.Prepared.{MayNotPrepare, addresses_at, entry_address, first_reloc_refusal, prepared_at}
+use Rattle.cfm_prepare.specs.declared.fault.PrepareFault.{PrepareFault}
+use Rattle.cfm_prepare.specs.declared.fault.PrepareFault.TheVariants.{Memory, Pack, Reloc}
+use Rattle.pef_loader.specs.Loader.{Loaded, reloc_of}
+use Rattle.pef_reloc.specs.declared.instr.Instr.{Instr}
+use Rattle.pef_reloc.specs.Additions.{AreInside}
+use Rattle.pef_reloc.specs.Applied.{Addresses, Done, address_of}
+use Rattle.pef_reloc.specs.Headers.{program_done, refusal_at, relocated_by, untouched}
+use Rattle.pef_reloc.specs.Instrs.{program_length, spelled}
+use Rattle.pef_reloc.proofs.Laws.{fixups_fit-parts, some_length}
+use Rattle.pef_reloc.proofs.Laws.Headers.{program-described, programs-sound, refusal-of}
+use Rattle.pef_script.specs.Described.{described_at, described_memory}
+use Rattle.pef_script.specs.Script.{DescribedImport, DescribedScript, DescribedSection}
+use Rattle.pef_script.specs.WellFormed.{ImportHolds, SectionHolds, is_kind}
+use Rattle.pef_views.specs.Container.{Contained}
+use Rattle.pef_words.specs.Bytes.{filled}
+use Rattle.pef_words.specs.Refusals.{result_map}
+use Rattle.pef_words.proofs.Laws.Images.{length-filled}
+use Rattle.pef_words.proofs.Laws.Lists.{all-get}
+use Rattle.pef_words.proofs.Laws.Refusals.{first_among-none}
+use Rattle.pef_write.specs.Containers.{part_header}
+use Rattle.pef_write.specs.Linked.{IsLinked, IsProgramFor, LinkedContainer, part_of, programs_from}
+use Rattle.pef_write.specs.ReadBack.{program_read}
+use Rattle.pef_write.proofs.Laws.{section_programs}
+use Rattle.pef_tool.specs.Described.{described_extent, described_extents}
+use Rattle.pef_tool.specs.Kept.Prepared.{IsPreparedAlone}
 use Rattle.pef_tool.specs.Limits.{memory_limit}
-use Rattle.pef_tool.specs.Kept.Lacking.{HasNoRoomFor, LackRoom}
-use Rattle.pef_tool.specs.Kept.Prepared.{extent_in, extent_of, IsPrepared, MayNotPrepare, done_at, filled_at, filled_in, section_done}
-use Rattle.pef_tool.specs.Kept.Relocating.{program_done, refusal_at, relocated_by, untouched}
-use Rattle.pef_tool.specs.Placing.{ArePlaced, Extent, IsPlaceFor, entry_address, addresses_of, no_instances}
 use Rattle.pef_tool.specs.Show.{IsShown}
-use Rattle.pef_tool.proofs.DescribedLemmas.{AreInside, fixups_inside}
-use Rattle.pef_tool.proofs.PlacedLemmas.{IsSmall, none_lacks}
-use Rattle.pef_tool.proofs.PlacingLemmas.{length-placed}
-use Rattle.pef_tool.proofs.ProgramLemmas.{AreHeaders, each_sound, program_makes, section_made, sound}
-use Rattle.pef_write.specs.Linked.{AreProgramsFor, IsProgramFor, part_of, program_of, programs_from}
-
--- a script without imports, and the container and loader section that it becomes with some programs
-pub record IsContainerOf (script : DescribedScript) (programs : List (List Instr)) (c : Contained) (l : Loaded) : Type 0 where
-  pub sections : AllByRecursion (SectionHolds (length script.sections) (length script.imports)) script.sections
-  pub section_count : length script.sections ≤ 8
-  pub imports : length script.imports ≡ 0
-  pub made_of : AreProgramsFor (length script.sections) script.sections programs
-  pub count : c.header.instantiated_section_count ≡ length script.sections
-  pub parts : (k : ℕ) (s : DescribedSection) → slice_get script.sections k ≡ Some s → IsPart c k (part_of s)
-  pub headers : AreHeaders (reloc_of l) 0 (programs_from 0 script.sections programs)
-  pub header_count : l.header.reloc_count ≡ length (programs_from 0 script.sections programs)
-  pub init : init_of l ≡ script.init
-  pub main : main_of l ≡ script.main
-  pub term : term_of l ≡ script.term
+use Rattle.pef_tool.specs.declared.prepared.Prepared.{Prepared}
+use Rattle.pef_tool.proofs.LinkedLemmas.{IsContainerOf}
+use Rattle.pef_tool.proofs.ProgramLemmas.{Owns, fixups_inside, owns_program, section_made}
 
 -- instructions have no more halfwords than their program
 length_most : (instrs : List Instr) → length instrs ≤ program_length instrs
 length_most [] = omega arith
 length_most (x ∷ instrs) = omega (arith, some_length x, length_most instrs)
 
-length-filled : (image : List ℕ) (total : ℕ) → length image ≤ total → length (filled image total) ≡ total
-length-filled image total fits =
-    let more = length-append image (replicate (total - length image) 0) in
-    let zeros = length-replicate {A = ℕ} (total - length image) 0 in
-    omega (arith, more, zeros, fits)
+-- a section of a script is never packed
+not_packed : (kind : ℕ) → is_kind kind ≡ true → (kind == 2) ≡ false
+not_packed kind holds = elim (eqb_tells kind 2) [
+  | inl same ↦ (let packed : is_kind 2 ≡ true = subst (λ n. is_kind n ≡ true) same.1 holds in absurd (cc))
+  | inr other ↦ other.0
+]
 
--- a part is filled with its image
-part_filled : (s : DescribedSection) (at : ℕ) → filled_in (record { header = part_header (part_of s) at; raw = s.image }) ≡ filled s.image s.header.total
-part_filled s at = ap (λ (i : List ℕ). filled i s.header.total) (take_all (length s.image) s.image (omega arith))
+-- so its image is its raw bytes
+image_whole : (s : DescribedSection) (at : ℕ) → is_kind s.header.kind ≡ true → image_of (record { header = part_header (part_of s) at; raw = s.image }) ≡ Ok s.image
+unfolding image_of
+image_whole s at holds = rw (not_packed s.header.kind holds) (ap Ok (take_all (length s.image) s.image (omega arith)))
 
--- a section's extent is the one that the script describes
-extent_same : (script : DescribedScript) (programs : List (List Instr)) (c : Contained) (l : Loaded) → IsContainerOf script programs c l → (k : ℕ) → k < length script.sections
-    → extent_of c k ≡ described_extent script k
-extent_same script programs c l of k under =
-    let d : DescribedSection = record { header = record { name = []; kind = 0; share = 0; align = 0; total = 0 }; image = []; fixups = [] } in
-    let there = slice_get-get_or script.sections k d under in
-    let part = of.parts k (get_or script.sections k d) there in
-    ap (λ o. option_map_or extent_in o (record { size = 0; alignment = 0 })) part.is
-    ∙ sym (ap (λ o. option_map_or (λ (s : DescribedSection). record { size = s.header.total; alignment = s.header.align }) o (record { size = 0; alignment = 0 })) there)
+-- extents that a script's sections need, where each section of a container is one of the script
+extents_same : (c : Contained) (sections : List DescribedSection) (from : ℕ) → ((k : ℕ) (s : DescribedSection) → slice_get sections k ≡ Some s → extent_at c (from + k) ≡ described_extent s)
+    → extents_from c from (length sections) ≡ map described_extent sections
+extents_same c [] from each = refl
+extents_same c (s ∷ sections) from each =
+    let here : from ≡ from + 0 = omega arith in
+    let next : (k : ℕ) → from + 1 + k ≡ from + suc k = λ k. omega arith in
+    ap₂ (λ e es. e ∷ es) (ap (extent_at c) here ∙ each 0 s refl) (extents_same c sections (from + 1) (λ k t there. ap (extent_at c) (next k) ∙ each (suc k) t there))
 
--- section k is made what the script describes
-made : (script : DescribedScript) (programs : List (List Instr)) (c : Contained) (l : Loaded) (a : Addresses) → IsContainerOf script programs c l → length a.sections ≡ length script.sections → length a.imports ≡ 0
-    → (k : ℕ) (s : DescribedSection) → slice_get script.sections k ≡ Some s
-    → relocated_by a k (reloc_of l) 0 l.header.reloc_count (filled s.image s.header.total) ≡ sound (described_memory (address_of a) s)
-made script programs c l a of sections imports k s there =
-    let holds = all-get (SectionHolds (length script.sections) (length script.imports)) script.sections k s of.sections there in
-    let whole : length (filled s.image s.header.total) ≡ s.header.total = length-filled s.image s.header.total holds.image in
-    let H : ℕ → Type 0 = λ n. SectionHolds n (length a.imports) s in
-    let H' : ℕ → Type 0 = λ n. SectionHolds (length script.sections) n s in
-    let inside = fixups_inside a s (subst H (sym sections) (subst H' (of.imports ∙ sym imports) holds)) in
-    let I : ℕ → Type 0 = λ n. AreInside a 0 n s.fixups in
-    let P : ℕ → Type 0 = λ n. (instrs : List Instr) → IsProgramFor n s.fixups instrs → program_done a (spelled instrs) (filled s.image s.header.total) ≡ sound (described_memory (address_of a) s) in
-    let few = (fixups_fit-parts s.fixups holds.fixups).count in
-    let makes : P (length a.sections) = λ instrs program. program_makes a s.fixups instrs (filled s.image s.header.total) program (omega (arith, program.short, few, length_most instrs)) (subst I (sym whole) inside) in
-    let from_0 : k ≡ 0 + k = omega arith in
-    let memory = filled s.image s.header.total in
-    ap (λ n. relocated_by a k (reloc_of l) 0 n memory) of.header_count
-    ∙ ap (λ i. relocated_by a i (reloc_of l) 0 (length (programs_from 0 script.sections programs)) memory) from_0
-    ∙ section_made a (reloc_of l) k 0 0 (length script.sections) script.sections programs s (filled s.image s.header.total) of.made_of of.headers (slice_get_within script.sections k s there) (get_or_from_slice_get script.sections k s s there) (subst P sections makes)
+small_step : (alignment : ℕ) → alignment ≤ 12 → step_of alignment ≤ 2 ^ 12
+unfolding step_of
+small_step alignment small =
+    let two : 0 < 2 = omega arith in
+    max-le (omega arith) (pow-le-pow_right two small)
 
--- .. also as a section of the container
-made_at : (script : DescribedScript) (programs : List (List Instr)) (c : Contained) (l : Loaded) (a : Addresses) → IsContainerOf script programs c l → length a.sections ≡ length script.sections → length a.imports ≡ 0
-    → (k : ℕ) → k < length script.sections → done_at c l a k ≡ sound (described_at (address_of a) script k)
-unfolding section_done
-made_at script programs c l a of sections imports k under =
-    let d : DescribedSection = record { header = record { name = []; kind = 0; share = 0; align = 0; total = 0 }; image = []; fixups = [] } in
-    let s = get_or script.sections k d in
-    let there = slice_get-get_or script.sections k d under in
-    let part = of.parts k s there in
-    ap (λ o. option_map_or (λ t. section_done t k l a) o (untouched [])) part.is
-    ∙ ap (relocated_by a k (reloc_of l) 0 l.header.reloc_count) (part_filled s part.at)
-    ∙ made script programs c l a of sections imports k s there
-    ∙ sym (ap (λ o. sound (option_map_or (described_memory (address_of a)) o [])) there)
+-- the sections of a script take little
+most_small : (n m : ℕ) (sections : List DescribedSection) → AllByRecursion (SectionHolds n m) sections → most_taken (map described_extent sections) ≤ length sections * (2 ^ 24 + 2 ^ 13)
+most_small n m [] each = omega arith
+most_small n m (s ∷ sections) each = omega (arith, each.0.total, small_step s.header.align each.0.align, most_small n m sections each.1)
 
--- places for some extents are places for the same extents
-placed_same : (m : Layout) (extent other : ℕ → Extent) (from n : ℕ) (places : List Place) (after : Layout) → ((k : ℕ) → from ≤ k → k < from + n → extent k ≡ other k) → ArePlaced m extent from n places after → ArePlaced m other from n places after
-placed_same m extent other from zero [] after same placed = placed
-placed_same m extent other from zero (p ∷ places) after same placed = absurd placed
-placed_same m extent other from (suc n) [] after same placed = absurd placed
-placed_same m extent other from (suc n) (p ∷ places) after same placed =
-    let P : Extent → Type 0 = λ e. IsPlaceFor m e p in
-    (subst P (same from (omega arith) (omega arith)) placed.0, placed_same (with_new m p) extent other (from + 1) n places after (λ k low high. same k (omega (arith, low)) (omega (arith, high))) placed.1)
+-- without libraries there are no imports
+no_imports : (libraries : ℕ) (imports : List DescribedImport) → libraries ≡ 0 → AllByRecursion (ImportHolds libraries) imports → length imports ≡ 0
+no_imports libraries [] none each = refl
+no_imports libraries (i ∷ imports) none each = absurd (omega (arith, none, each.0.library))
 
-lack_same : (m : Layout) (extent other : ℕ → Extent) (from n : ℕ) → ((k : ℕ) → from ≤ k → k < from + n → extent k ≡ other k) → LackRoom m extent from n → LackRoom m other from n
-lack_same m extent other from zero same lack = lack
-lack_same m extent other from (suc n) same (inl none) =
-    let P : Extent → Type 0 = λ e. HasNoRoomFor m e in
-    inl (subst P (same from (omega arith) (omega arith)) none)
-lack_same m extent other from (suc n) same (inr (p, placed, later)) =
-    let P : Extent → Type 0 = λ e. IsPlaceFor m e p in
-    inr (p, subst P (same from (omega arith) (omega arith)) placed, lack_same (with_new m p) extent other (from + 1) n (λ k low high. same k (omega (arith, low)) (omega (arith, high))) later)
+-- the addresses of a script's sections, and of its imports
+record AreAddresses (script : DescribedScript) (a : Addresses) : Type 0 where
+  sections : length a.sections ≡ length script.sections
+  imports : length a.imports ≡ length script.imports
 
-length-addresses : (places : List Place) → length (addresses_of places).sections ≡ length places
-length-addresses places = length-map places (λ (p : Place). p.address)
+module _ (script : DescribedScript) (k : LinkedContainer) (linked : IsLinked script k) (c : Contained) (l : Loaded) (of : IsContainerOf script k linked c l) where
+  -- the extents are those that the script describes
+  extents_are : extents_of c ≡ described_extents script
+  extents_are =
+      let from_0 : (i : ℕ) → 0 + i ≡ i = λ i. omega arith in
+      let each : (i : ℕ) (s : DescribedSection) → slice_get script.sections i ≡ Some s → extent_at c (0 + i) ≡ described_extent s = λ i s there.
+      ap (extent_at c) (from_0 i) ∙ ap (λ o. option_map_or extent_in o (record { size = 0; alignment = 0 })) (of.sections.each i s there).is in
+      ap (extents_from c 0) of.sections.instantiated ∙ extents_same c script.sections 0 each
 
--- what was prepared is what the script describes
-pub shown_of : (script : DescribedScript) (programs : List (List Instr)) (c : Contained) (l : Loaded) (p : Prepared) → length script.libraries ≡ 0 → IsContainerOf script programs c l → IsPrepared memory_limit c l p → IsShown script p
-shown_of script programs c l p alone of prepared =
-    let count = length-placed _ _ 0 _ _ _ prepared.placed ∙ of.count in
-    let P : ℕ → Type 0 = λ n. ArePlaced (no_instances memory_limit) (extent_of c) 0 n p.places.items prepared.after in
-    record {
-      alone = alone;
-      after = prepared.after;
-      placed = placed_same _ (extent_of c) (described_extent script) 0 (length script.sections) p.places.items prepared.after (λ k low high. extent_same script programs c l of k (omega (arith, high))) (subst P of.count prepared.placed);
-      stand = λ k under. prepared.stand k under ∙ ap (λ (d : Done). Some d.memory) (made_at script programs c l (addresses_of p.places.items) of (length-addresses p.places.items ∙ count) refl k (omega (arith, under, count)));
-      init = prepared.init ∙ ap (entry_address p.places.items) of.init;
-      main = prepared.main ∙ ap (entry_address p.places.items) of.main;
-      term = prepared.term ∙ ap (entry_address p.places.items) of.term;
-    }
+  -- a section holds
+  held : (i : ℕ) (s : DescribedSection) → slice_get script.sections i ≡ Some s → SectionHolds (length script.sections) (length script.imports) s
+  held i s there = all-get (SectionHolds (length script.sections) (length script.imports)) script.sections i s linked.holds.sections.each there
 
--- the header of each of some relocation programs
-header_there : (header : ℕ → Option (ℕ × List ℕ)) (from i : ℕ) (programs : List ProgramEntry) (p : ProgramEntry) → AreHeaders header from programs → i < length programs → header (from + i) ≡ Some ((get_or programs i p).section, (get_or programs i p).bytes)
-header_there header from i [] p headers under = absurd (omega (arith, under))
-header_there header from zero (q ∷ programs) p headers under =
-    let here : from + 0 ≡ from = omega arith in
-    rw here headers.0
-header_there header from (suc i) (q ∷ programs) p headers under =
-    let next : from + suc i ≡ from + 1 + i = omega arith in
-    rw next (header_there header (from + 1) i programs p headers.1 (omega (arith, under)))
+  -- and is filled with its image
+  filled_is : (i : ℕ) (s : DescribedSection) → slice_get script.sections i ≡ Some s → filled_at c i ≡ filled s.image s.header.total
+  filled_is i s there =
+      let part = of.sections.each i s there in
+      ap (λ o. option_map_or (λ t. result_unwrap_or (filled_in t) []) o []) part.is
+      ∙ ap (λ r. result_unwrap_or (result_map (λ (image : List ℕ). filled image s.header.total) r) []) (image_whole s part.at (held i s there).kind)
 
--- each of the relocation programs of some sections is one of theirs
-program_below : (from i : ℕ) (sections : List DescribedSection) (programs : List (List Instr)) (p : ProgramEntry) → i < length (programs_from from sections programs) → (get_or (programs_from from sections programs) i p).section < from + length sections
-program_below from i [] [] p under = absurd (omega (arith, under))
-program_below from i [] (instrs ∷ programs) p under = absurd (omega (arith, under))
-program_below from i (s ∷ sections) [] p under = absurd (omega (arith, under))
-program_below from i (s ∷ sections) (instrs ∷ programs) p under = go s.fixups i (λ j low. omega (arith, program_below (from + 1) j sections programs p low)) under
-  where
-    go : (fixups : List Fixup) (i : ℕ) → ((j : ℕ) → j < length (programs_from (from + 1) sections programs) → (get_or (programs_from (from + 1) sections programs) j p).section < from + suc (length sections))
-        → i < length (program_of from fixups instrs ++ programs_from (from + 1) sections programs) → (get_or (program_of from fixups instrs ++ programs_from (from + 1) sections programs) i p).section < from + suc (length sections)
-    go [] i later low = later i low
-    go (fixup ∷ fixups) zero later low = omega arith
-    go (fixup ∷ fixups) (suc j) later low = later j (omega (arith, low))
+  image_sound : (i : ℕ) (s : DescribedSection) → slice_get script.sections i ≡ Some s → image_refusal c i ≡ None
+  image_sound i s there =
+      let part = of.sections.each i s there in
+      ap (option_and_then (λ t. result_err (image_of t))) part.is ∙ ap result_err (image_whole s part.at (held i s there).kind)
 
--- no header is refused
-header_sound : (script : DescribedScript) (programs : List (List Instr)) (c : Contained) (l : Loaded) (a : Addresses) → IsContainerOf script programs c l → length a.sections ≡ length script.sections → length a.imports ≡ 0
-    → (i : ℕ) → i < l.header.reloc_count → refusal_at a (filled_at c) (reloc_of l) i ≡ None
-unfolding refusal_at section_done
-header_sound script programs c l a of sections imports i under =
-    let none : ProgramEntry = record { section = 0; bytes = [] } in
-    let entries = programs_from 0 script.sections programs in
-    let p = get_or entries i none in
-    let low : i < length entries = omega (arith, under, of.header_count) in
-    let from_0 : 0 + i ≡ i = omega arith in
-    let header : reloc_of l i ≡ Some (p.section, p.bytes) = ap (reloc_of l) (sym from_0) ∙ header_there (reloc_of l) 0 i entries none of.headers low in
-    let d : DescribedSection = record { header = record { name = []; kind = 0; share = 0; align = 0; total = 0 }; image = []; fixups = [] } in
-    let below : p.section < length script.sections = omega (arith, program_below 0 i script.sections programs none low) in
-    let s = get_or script.sections p.section d in
-    let there = slice_get-get_or script.sections p.section d below in
-    let part = of.parts p.section s there in
-    let filled_is : filled_at c p.section ≡ filled s.image s.header.total = ap (λ o. option_map_or filled_in o []) part.is ∙ part_filled s part.at in
-    let whole = made script programs c l a of sections imports p.section s there in
-    let sound_all : (relocated_by a p.section (reloc_of l) 0 l.header.reloc_count (filled_at c p.section)).fault ≡ None =
-    ap (λ (m : List ℕ). (relocated_by a p.section (reloc_of l) 0 l.header.reloc_count m).fault) filled_is ∙ ap (λ (x : Done). x.fault) whole in
-    rw header (each_sound a p.section (reloc_of l) i 0 l.header.reloc_count p.bytes (filled_at c p.section) under (ap (reloc_of l) from_0 ∙ header) sound_all)
+  -- section i is made what the script describes
+  made : (a : Addresses) → AreAddresses script a → (i : ℕ) (s : DescribedSection) → slice_get script.sections i ≡ Some s
+      → relocated_by a i (reloc_of l) 0 l.header.reloc_count (filled s.image s.header.total) ≡ untouched (described_memory (address_of a) s)
+  made a there_are i s there =
+      let holds = held i s there in
+      let memory = filled s.image s.header.total in
+      let whole : length memory ≡ s.header.total = length-filled s.image s.header.total holds.image in
+      let H : ℕ → Type 0 = λ n. SectionHolds n (length a.imports) s in
+      let H' : ℕ → Type 0 = λ n. SectionHolds (length script.sections) n s in
+      let inside = fixups_inside a s (subst H (sym there_are.sections) (subst H' (sym there_are.imports) holds)) in
+      let I : ℕ → Type 0 = λ n. AreInside a n s.fixups in
+      let P : ℕ → Type 0 = λ n. (instrs : List Instr) → IsProgramFor n s.fixups instrs → program_done a (spelled instrs) memory ≡ untouched (described_memory (address_of a) s) in
+      let parts = fixups_fit-parts s.fixups holds.fixups in
+      let makes : P (length a.sections) = λ instrs program. program-described a s.fixups instrs memory program.flat program.makes program.names (omega (arith, program.short, parts.count, length_most instrs)) parts.apart (subst I (sym whole) inside) in
+      let entries = programs_from 0 script.sections linked.programs in
+      let from_0 : 0 + i ≡ i = omega arith in
+      let own : Owns (length script.sections) i s.fixups entries = subst (λ j. Owns (length script.sections) j s.fixups entries) from_0 (owns_program (length script.sections) i 0 script.sections linked.programs s linked.are there) in
+      ap (λ n. relocated_by a i (reloc_of l) 0 n memory) of.tables.reloc_count
+      ∙ section_made a (reloc_of l) entries (length script.sections) i s.fixups memory of.tables.relocs own (subst P there_are.sections makes)
 
--- where no place has an answer, there is no first one
-none_among : {F : Type 0} (answer : ℕ → Option F) (from n : ℕ) → ((k : ℕ) → from ≤ k → k < from + n → answer k ≡ None) → first_among answer from n ≡ None
-none_among answer from zero none = refl
-none_among answer from (suc n) none =
-    let later = none_among answer (from + 1) n (λ k low high. none k (omega (arith, low)) (omega (arith, high))) in
-    rw (none from (omega arith) (omega arith), later) refl
+  prepared_is : (a : Addresses) → AreAddresses script a → (i : ℕ) → i < length script.sections → prepared_at c l a i ≡ described_at (address_of a) script i
+  prepared_is a there_are i under =
+      let d : DescribedSection = record { header = record { name = []; kind = 0; share = 0; align = 0; total = 0 }; image = []; fixups = [] } in
+      let s = get_or script.sections i d in
+      let there = slice_get-get_or script.sections i d under in
+      ap (λ (m : List ℕ). (relocated_by a i (reloc_of l) 0 l.header.reloc_count m).memory) (filled_is i s there)
+      ∙ ap (λ (done : Done). done.memory) (made a there_are i s there)
+      ∙ sym (ap (λ o. option_map_or (described_memory (address_of a)) o []) there)
 
--- a section of a script is small
-described_small : (script : DescribedScript) → AllByRecursion (SectionHolds (length script.sections) (length script.imports)) script.sections → (k : ℕ) → IsSmall (described_extent script k)
-described_small script sections k = go (slice_get script.sections k) refl
-  where
-    go : (o : Option DescribedSection) → slice_get script.sections k ≡ o → IsSmall (described_extent script k)
-    go None is = rw is (record { size = omega arith; alignment = omega arith })
-    go (Some s) is =
-        let holds = all-get (SectionHolds (length script.sections) (length script.imports)) script.sections k s sections is in
-        rw is (record { size = omega (arith, holds.total); alignment = omega (arith, holds.align) })
+  -- no relocation header is refused
+  header_sound : (a : Addresses) → AreAddresses script a → (i : ℕ) → i < l.header.reloc_count → refusal_at a (filled_at c) (reloc_of l) i ≡ None
+  header_sound a there_are i under =
+      let entries = programs_from 0 script.sections linked.programs in
+      let low : i < length entries = omega (arith, under, of.tables.reloc_count) in
+      let p = get_or entries i (record { section = 0; bytes = [] }) in
+      let there = slice_get-get_or entries i (record { section = 0; bytes = [] }) low in
+      let own = section_programs script k linked i p there in
+      let header : reloc_of l i ≡ Some (p.section, p.bytes) = of.tables.relocs i ∙ ap (option_map program_read) there in
+      let from_0 : 0 + i ≡ i = omega arith in
+      let sound : (relocated_by a p.section (reloc_of l) 0 l.header.reloc_count (filled_at c p.section)).fault ≡ None =
+      ap (λ (m : List ℕ). (relocated_by a p.section (reloc_of l) 0 l.header.reloc_count m).fault) (filled_is p.section own.section own.there)
+      ∙ ap (λ (done : Done). done.fault) (made a there_are p.section own.section own.there) in
+      refusal-of a (filled_at c) (reloc_of l) i p.section p.bytes header
+      ∙ programs-sound a p.section (reloc_of l) i 0 l.header.reloc_count p.bytes (filled_at c p.section) under (ap (reloc_of l) from_0 ∙ header) sound
 
--- such a container is refused for want of memory alone
-pub never_refused : (script : DescribedScript) (programs : List (List Instr)) (c : Contained) (l : Loaded) (fault : PrepareFault) → IsContainerOf script programs c l → MayNotPrepare memory_limit c l fault → fault ≡ Memory OutOfMemory
-never_refused script programs c l (Memory OutOfMemory) of refused = refl
-never_refused script programs c l (Memory NoRoom) of refused =
-    let P : ℕ → Type 0 = λ n. LackRoom (no_instances memory_limit) (extent_of c) 0 n in
-    let lack = lack_same (no_instances memory_limit) (extent_of c) (described_extent script) 0 (length script.sections) (λ k low high. extent_same script programs c l of k (omega (arith, high))) (subst P of.count refused) in
-    absurd (none_lacks (no_instances memory_limit) (described_extent script) 0 (length script.sections) 65536 (described_small script of.sections) (omega arith) (omega (arith, of.section_count)) tt lack)
-never_refused script programs c l (Reloc fault) of refused =
-    let a = addresses_of refused.places in
-    let count = length-placed _ _ 0 _ _ _ refused.placed ∙ of.count in
-    let none = none_among (refusal_at a (filled_at c) (reloc_of l)) 0 l.header.reloc_count (λ i low high. header_sound script programs c l a of (length-addresses refused.places ∙ count) refl i (omega (arith, high))) in
-    let first = refused.first in
-    absurd (cc)
+  headers_sound : (a : Addresses) → AreAddresses script a → first_reloc_refusal c l a ≡ None
+  headers_sound a there_are = first_among-none (refusal_at a (filled_at c) (reloc_of l)) 0 l.header.reloc_count (λ i low high. header_sound a there_are i (omega (arith, high)))
+
+  images_sound : first_image_refusal c c.header.instantiated_section_count ≡ None
+  images_sound =
+      let d : DescribedSection = record { header = record { name = []; kind = 0; share = 0; align = 0; total = 0 }; image = []; fixups = [] } in
+      first_among-none (image_refusal c) 0 c.header.instantiated_section_count
+      (λ i low high. image_sound i (get_or script.sections i d) (slice_get-get_or script.sections i d (omega (arith, high, of.sections.instantiated))))
+
+  -- the places of its sections are their addresses, where it has no imports
+  addresses_are : length script.libraries ≡ 0 → (places : List Place) → length places ≡ length script.sections → AreAddresses script (addresses_at places [])
+  addresses_are alone places count = record {
+    sections = length-map places (λ (p : Place). p.address) ∙ count;
+    imports = sym (no_imports (length script.libraries) script.imports alone linked.holds.imports.each);
+  }
+
+  length-extents : length (extents_of c) ≡ length script.sections
+  length-extents = ap length extents_are ∙ length-map script.sections described_extent
+
+  -- what was prepared is what the script describes
+  pub shown_of : (p : Prepared) → length script.libraries ≡ 0 → IsPreparedAlone c l p → IsShown script p
+  shown_of p alone is =
+      let places = p.places.items in
+      let count = length-placed (no_instances memory_limit) (extents_of c) places is.prepared.empty is.prepared.placed ∙ length-extents in
+      record {
+        alone = alone;
+        after = is.prepared.empty;
+        placed = subst (λ es. ArePlaced (no_instances memory_limit) es places is.prepared.empty) extents_are is.prepared.placed;
+        stand = λ i under. is.prepared.stand i under ∙ ap Some (prepared_is (addresses_at places []) (addresses_are alone places count) i (omega (arith, under, count)));
+        init = is.init ∙ ap (entry_address places) of.tables.init;
+        main = is.main ∙ ap (entry_address places) of.tables.main;
+        term = is.term ∙ ap (entry_address places) of.tables.term;
+      }
+
+  -- it is refused for want of memory alone
+  pub never_refused : (fault : PrepareFault) → length script.libraries ≡ 0 → MayNotPrepare (no_instances memory_limit) c l [] fault → fault ≡ Memory OutOfMemory
+  never_refused (Memory OutOfMemory) alone refused = refl
+  never_refused (Memory NoRoom) alone refused =
+      let lack = subst (LackRoom (no_instances memory_limit)) extents_are refused in
+      let enough = most_small (length script.sections) (length script.imports) script.sections linked.holds.sections.each in
+      absurd (all_find_room memory_limit (described_extents script) (omega (arith, enough, linked.holds.sections.count)) lack)
+  never_refused (Pack fault) alone refused =
+      let none = images_sound in
+      let first = refused.first in
+      absurd (cc)
+  never_refused (Reloc fault) alone refused =
+      let count = length-placed (no_instances memory_limit) (extents_of c) refused.places refused.empty refused.placed ∙ length-extents in
+      let none = headers_sound (addresses_at refused.places []) (addresses_are alone refused.places count) in
+      let first = refused.first in
+      absurd (cc)

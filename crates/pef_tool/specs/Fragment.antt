@@ -1,8 +1,8 @@
 -- What is printed of a prepared fragment.
-use Rattle.std.specs.Prelude.{ℕ, ◌+◌, List, [], ◌∷◌, ◌++◌, Option, None, Some, length, codes, decimal, map, unwrap_or}
+use Rattle.std.specs.Prelude.{ℕ, ◌+◌, List, [], ◌∷◌, ◌++◌, Option, None, Some, length, codes, decimal, unwrap_or}
 use Rattle.cfm_memory.specs.Instances.{Layout, bytes_at}
 use Rattle.cfm_memory.specs.declared.place.Place.{Place}
-use Rattle.pef_tool.specs.declared.entries.Entries.{Entries}
+use Rattle.cfm_prepare.specs.declared.entries.Entries.{Entries}
 use Rattle.pef_ports.specs.Text.{word_text, dump_text}
 
 -- a section where it was placed, with its memory

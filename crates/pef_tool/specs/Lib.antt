@@ -1,9 +1,11 @@
+pub mod Answers
+pub mod Check
 pub mod Described
 pub mod Fragment
 pub mod Kept
 pub mod Limits
 pub mod Link
-pub mod Placing
+pub mod List
 pub mod Refusals
 pub mod Run
 pub mod Show

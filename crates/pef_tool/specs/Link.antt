@@ -7,12 +7,10 @@ use Rattle.pef_ports.specs.declared.ports.FileFault.TheVariants as file_fault
 use Rattle.pef_script.specs.Grammar.{script_of}
 use Rattle.pef_script.specs.Script.{DescribedScript}
 use Rattle.pef_script.specs.declared.fault.LineFault.{LineFault}
-use Rattle.pef_tool.specs.declared.refusal.NamedRefusal.{NamedRefusal}
-use Rattle.pef_tool.specs.declared.refusal.NamedRefusal.TheVariants.{FileUnreadable, FileUnwritable}
 use Rattle.pef_tool.specs.declared.refusal.Refusal.{Refusal}
 use Rattle.pef_tool.specs.declared.refusal.Refusal.TheVariants.{Script, OutOfMemory}
-use Rattle.pef_tool.specs.declared.reply.Reply.{Reply}
-use Rattle.pef_tool.specs.declared.reply.Reply.TheVariants.{Linked, Refused, RefusedFile}
+use Rattle.pef_tool.specs.Answers.{Answer, answer_done, answer_refused}
+use Rattle.pef_tool.specs.Refusals.{refusal_text, unreadable_text, unwritable_text}
 use Rattle.pef_write.specs.Linked.{IsLinked, LinkedContainer}
 
 -- SCRIPT was read; it is no script, by its first refusal
@@ -45,18 +43,19 @@ LinkRefuses port before after script out (Script fault line) = RefusesFile port 
 LinkRefuses port before after script out OutOfMemory = LinkLacksMemory port before after script out
 LinkRefuses port before after script out _ = ⊥
 
--- .. and with a path: reading SCRIPT failed, or writing OUT
-abbrev pub LinkRefusesFile : {F : Type 0} → FilesPort F → F → F → List ℕ → List ℕ → NamedRefusal → Type 0
-LinkRefusesFile port before after script out (FileUnreadable path) = (path.now ≡ script) × Reads port before after script (Err file_fault.Failed)
-LinkRefusesFile port before after script out (FileUnwritable path) = (path.now ≡ out) × ((l : LinkedContainer) × WritesLinked port before after script out l (Err file_fault.Failed))
-LinkRefusesFile port before after script out _ = ⊥
+-- how `link` ends: it links a container, or can't read SCRIPT, or can't write OUT, or is refused
+pub data LinkOutcome : Type 0 where
+  links : LinkedContainer → LinkOutcome
+  unreadable : LinkOutcome
+  unwritable : LinkOutcome
+  refuses : Refusal → LinkOutcome
 
--- what `link` answers, by how the files stood and stand
-abbrev pub LinkAnswers : {F : Type 0} → FilesPort F → F → F → List ℕ → List ℕ → Reply → Type 0
-LinkAnswers port before after script out (Linked l) = WritesLinked port before after script out l (Ok tt)
-LinkAnswers port before after script out (Refused refusal) = LinkRefuses port before after script out refusal
-LinkAnswers port before after script out (RefusedFile refusal) = LinkRefusesFile port before after script out refusal
-LinkAnswers port before after script out _ = ⊥
+-- when it ends so, by how the files stood and stand
+abbrev pub LinkEnds : {F : Type 0} → FilesPort F → F → F → List ℕ → List ℕ → LinkOutcome → Type 0
+LinkEnds port before after script out (links l) = WritesLinked port before after script out l (Ok tt)
+LinkEnds port before after script out unreadable = Reads port before after script (Err file_fault.Failed)
+LinkEnds port before after script out unwritable = (l : LinkedContainer) × WritesLinked port before after script out l (Err file_fault.Failed)
+LinkEnds port before after script out (refuses refusal) = LinkRefuses port before after script out refusal
 
 -- the line of a container's size in bytes
 unfoldable pub size_text : ℕ → List ℕ
@@ -74,3 +73,14 @@ lengths_text k (len ∷ lengths) = length_text k len ++ lengths_text (k + 1) len
 -- what is printed of what was linked: the container's size, then the length of each section's program
 abbrev pub linked_text : LinkedContainer → List ℕ
 linked_text l = size_text (length l.bytes) ++ lengths_text 0 l.lengths
+
+-- what it says then
+abbrev pub link_answer : List ℕ → List ℕ → LinkOutcome → Answer
+link_answer script out (links l) = answer_done (linked_text l)
+link_answer script out unreadable = answer_refused (unreadable_text script)
+link_answer script out unwritable = answer_refused (unwritable_text out)
+link_answer script out (refuses refusal) = answer_refused (refusal_text refusal)
+
+-- what `link SCRIPT OUT` answers
+abbrev pub LinkAnswers : {F : Type 0} → FilesPort F → F → F → List ℕ → List ℕ → Answer → Type 0
+LinkAnswers port before after script out answer = (outcome : LinkOutcome) × LinkEnds port before after script out outcome × (answer ≡ link_answer script out outcome)

@@ -2,19 +2,25 @@
 use Rattle.std.specs.Prelude.{ℕ, List, [], ◌∷◌, ◌++◌, codes, decimal}
 use Rattle.cfm_memory.specs.Faults as memory
 use Rattle.cfm_memory.specs.declared.place.MemoryFault.TheVariants as memory_fault
+use Rattle.pef_cert_text.specs.Faults as cert
+use Rattle.pef_cert_text.specs.declared.fault.CertFault.TheVariants as cert_fault
+use Rattle.pef_listing.specs.Faults as listing
 use Rattle.pef_ports.specs.Names.{name_text}
 use Rattle.pef_reloc.specs.Faults as reloc
 use Rattle.pef_script.specs.Faults as script
 use Rattle.pef_tool.specs.declared.refusal.NamedRefusal.{NamedRefusal}
 use Rattle.pef_tool.specs.declared.refusal.NamedRefusal.TheVariants.{FileUnreadable, FileUnwritable, LibraryMissing}
 use Rattle.pef_tool.specs.declared.refusal.Refusal.{Refusal}
-use Rattle.pef_tool.specs.declared.refusal.Refusal.TheVariants.{Script, Reloc, NoRoom, InputUnreadable, InputTooLong, OutOfMemory}
+use Rattle.pef_tool.specs.declared.refusal.Refusal.TheVariants.{Script, Listing, Reloc, NoRoom, BadCertificate, SectionsDiffer, InputUnreadable, InputTooLong, OutOfMemory}
 
 -- the numbers of the refusals
 abbrev pub number_of : Refusal → ℕ
 number_of (Script fault line) = script.fault_number fault
+number_of (Listing fault) = listing.fault_number fault
 number_of (Reloc fault) = reloc.fault_number fault
 number_of NoRoom = memory.fault_number memory_fault.NoRoom
+number_of (BadCertificate line) = cert.fault_number (cert_fault.BadCertificate line)
+number_of SectionsDiffer = 52
 number_of InputUnreadable = 73
 number_of InputTooLong = 74
 number_of OutOfMemory = 99
@@ -22,8 +28,11 @@ number_of OutOfMemory = 99
 -- the names of the refusals
 abbrev pub name_of : Refusal → List ℕ
 name_of (Script fault line) = script.fault_name fault
+name_of (Listing fault) = listing.fault_name fault
 name_of (Reloc fault) = reloc.fault_name fault
 name_of NoRoom = memory.fault_name memory_fault.NoRoom
+name_of (BadCertificate line) = cert.fault_name (cert_fault.BadCertificate line)
+name_of SectionsDiffer = codes "SectionsDiffer"
 name_of InputUnreadable = codes "InputUnreadable"
 name_of InputTooLong = codes "InputTooLong"
 name_of OutOfMemory = codes "OutOfMemory"
@@ -31,8 +40,11 @@ name_of OutOfMemory = codes "OutOfMemory"
 -- what else the line says
 abbrev pub place_of : Refusal → List ℕ
 place_of (Script fault line) = codes " line " ++ decimal line
+place_of (Listing fault) = []
 place_of (Reloc fault) = codes " in it"
 place_of NoRoom = codes " in it"
+place_of (BadCertificate line) = codes " line " ++ decimal line
+place_of SectionsDiffer = []
 place_of InputUnreadable = []
 place_of InputTooLong = []
 place_of OutOfMemory = []
@@ -59,6 +71,14 @@ refused_name (LibraryMissing name) = name.now
 -- the line of a refusal with a name
 abbrev pub named_refusal_text : NamedRefusal → List ℕ
 named_refusal_text refusal = named_refusal_start refusal ++ name_end (refused_name refusal)
+
+-- the line of a file that couldn't be read
+abbrev pub unreadable_text : List ℕ → List ℕ
+unreadable_text path = codes "refused 71 FileUnreadable " ++ name_end path
+
+-- the line of a file that couldn't be written
+abbrev pub unwritable_text : List ℕ → List ℕ
+unwritable_text path = codes "refused 72 FileUnwritable " ++ name_end path
 
 -- the line of a missing library
 abbrev pub missing_library_text : List ℕ → List ℕ

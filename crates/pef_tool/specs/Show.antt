@@ -1,20 +1,23 @@
 -- What `show` answers: it reads the whole input, and shows the memory that its script describes.
-use Rattle.std.specs.Prelude.{◌≡◌, ℕ, ◌≤◌, List, Some, Ok, Err, length, option_map, slice_get}
+use Rattle.std.specs.Prelude.{◌≡◌, ℕ, ◌≤◌, List, [], Some, Ok, Err, codes, length, map, option_map, slice_get}
+use Rattle.cfm_memory.specs.Extents.{ArePlaced, Stand, no_instances}
 use Rattle.cfm_memory.specs.Instances.{Layout}
+use Rattle.cfm_prepare.specs.Prepared.{addresses_at, entry_address}
 use Rattle.pef_ports.specs.Input.{IsLonger, IsWhole, WasReadWithin}
 use Rattle.pef_ports.specs.Ports.{Stream, LastFailed, NoneFailed}
 use Rattle.pef_reloc.specs.Applied.{address_of}
+use Rattle.pef_script.specs.Described.{described_at}
 use Rattle.pef_script.specs.Grammar.{script_of}
 use Rattle.pef_script.specs.Script.{DescribedScript}
 use Rattle.pef_script.specs.declared.fault.LineFault.{LineFault}
 use Rattle.pef_tool.specs.declared.prepared.Prepared.{Prepared}
 use Rattle.pef_tool.specs.declared.refusal.Refusal.{Refusal}
 use Rattle.pef_tool.specs.declared.refusal.Refusal.TheVariants.{Script, InputUnreadable, InputTooLong, OutOfMemory}
-use Rattle.pef_tool.specs.declared.reply.Reply.{Reply}
-use Rattle.pef_tool.specs.declared.reply.Reply.TheVariants.{Refused, LibraryMissing, Shown}
-use Rattle.pef_tool.specs.Described.{described_at, described_extent}
+use Rattle.pef_tool.specs.Answers.{Answer, answer_done, answer_refused}
+use Rattle.pef_tool.specs.Described.{described_extents}
+use Rattle.pef_tool.specs.Fragment.{PlacedSection, fragment_text, section_at}
 use Rattle.pef_tool.specs.Limits.{input_limit, memory_limit}
-use Rattle.pef_tool.specs.Placing.{ArePlaced, Stand, addresses_of, entry_address, no_instances}
+use Rattle.pef_tool.specs.Refusals.{missing_library_text, refusal_text}
 
 -- the input was read whole, and is this text
 pub record WasRead (before after : Stream) (text : List ℕ) : Type 0 where
@@ -27,8 +30,8 @@ pub record WasRead (before after : Stream) (text : List ℕ) : Type 0 where
 pub record IsShown (script : DescribedScript) (p : Prepared) : Type 0 where
   pub alone : length script.libraries ≡ 0
   pub after : Layout
-  pub placed : ArePlaced (no_instances memory_limit) (described_extent script) 0 (length script.sections) p.places.items after
-  pub stand : Stand p.memory p.places.items (described_at (address_of (addresses_of p.places.items)) script)
+  pub placed : ArePlaced (no_instances memory_limit) (described_extents script) p.places.items after
+  pub stand : Stand p.memory p.places.items (described_at (address_of (addresses_at p.places.items [])) script)
   pub init : p.entries.init ≡ entry_address p.places.items script.init
   pub main : p.entries.main ≡ entry_address p.places.items script.main
   pub term : p.entries.term ≡ entry_address p.places.items script.term
@@ -68,9 +71,32 @@ ShowRefuses before after InputTooLong = IsLonger before.bytes input_limit × Non
 ShowRefuses before after OutOfMemory = WasReadWithin before after input_limit × NoneFailed before after
 ShowRefuses before after _ = ⊥
 
--- what `show` answers, by how the input stood and stands
-abbrev pub ShowAnswers : Stream → Stream → Reply → Type 0
-ShowAnswers before after (Shown p) = ShowsInput before after p
-ShowAnswers before after (LibraryMissing name) = MissesLibrary before after name.items
-ShowAnswers before after (Refused refusal) = ShowRefuses before after refusal
-ShowAnswers before after _ = ⊥
+-- how `show` ends: it shows a fragment's memory, or misses a library by its name, or is refused
+pub data ShowOutcome : Type 0 where
+  shows : Prepared → ShowOutcome
+  misses : List ℕ → ShowOutcome
+  refuses : Refusal → ShowOutcome
+
+-- when it ends so, by how the input stood and stands
+abbrev pub ShowEnds : Stream → Stream → ShowOutcome → Type 0
+ShowEnds before after (shows p) = ShowsInput before after p
+ShowEnds before after (misses name) = MissesLibrary before after name
+ShowEnds before after (refuses refusal) = ShowRefuses before after refusal
+
+-- the sections of prepared memory, where they were placed
+abbrev pub sections_of : Prepared → List PlacedSection
+sections_of p = map (section_at p.memory) p.places.items
+
+-- what is printed of a prepared fragment
+abbrev pub shown_text : Prepared → List ℕ
+shown_text p = fragment_text (codes "it") (sections_of p) p.entries
+
+-- what it says then
+abbrev pub show_answer : ShowOutcome → Answer
+show_answer (shows p) = answer_done (shown_text p)
+show_answer (misses name) = answer_refused (missing_library_text name)
+show_answer (refuses refusal) = answer_refused (refusal_text refusal)
+
+-- what `show` answers
+abbrev pub ShowAnswers : Stream → Stream → Answer → Type 0
+ShowAnswers before after answer = (outcome : ShowOutcome) × ShowEnds before after outcome × (answer ≡ show_answer outcome)

@@ -1,12 +1,14 @@
 ghost use Rattle.std.specs.Prelude.{Some, map, string_bytes};
 ghost use Rattle.pef_request.specs.CommandLine.{asked_by};
 ghost use Rattle.pef_request.specs.Requests.{asked_of};
-ghost use Rattle.pef_tool.specs.Run.{Delivers, RunAnswers, answer_of};
-ghost use Rattle.pef_tool.specs.declared.reply.Reply.{Reply};
+ghost use Rattle.pef_tool.specs.Answers.{Answer, Delivers};
+ghost use Rattle.pef_tool.specs.Run.{RunAnswers};
 
+use crate::check::check_files;
 use crate::link::link_files;
+use crate::list::list_file;
 use crate::refusal::Refusal;
-use crate::reply::Reply;
+use crate::reply::{Usage, deliver};
 use crate::show::show;
 use pef_ports::{Files, Sink, Source};
 use pef_request::{Request, WordsFault, read_words};
@@ -23,43 +25,38 @@ pub fn run<F: Files, R: Source, W: Sink>(
     input: &mut R,
     out: &mut W,
 ) -> u8
-    ensures { (reply : Reply)
-        × RunAnswers (record { state = F.state; was_read = F.was_read; was_written = F.was_written }) R.stream (asked_by (map string_bytes words.now)) files.old files.new input.old input.new reply
-        × Delivers (W.stream out.old) (W.stream out.new) (answer_of reply) result }
-{
-    let reply = answer(alloc, words, files, input);
-    reply.deliver(out)
-}
-
-/// What the words, the files and the input are answered.
-fn answer<'a, F: Files, R: Source>(
-    alloc: Global,
-    words: &'a [String],
-    files: &mut F,
-    input: &mut R,
-) -> Reply<'a>
-    ensures { RunAnswers (record { state = F.state; was_read = F.was_read; was_written = F.was_written }) R.stream (asked_by (map string_bytes words.entry.now)) files.old files.new input.old input.new result }
+    ensures { (answer : Answer)
+        × RunAnswers (record { state = F.state; was_read = F.was_read; was_written = F.was_written }) R.stream (asked_by (map string_bytes words.now)) files.old files.new input.old input.new answer
+        × Delivers (W.stream out.old) (W.stream out.new) answer result }
 {
     match read_words(alloc, words) {
-        Ok(request) => answer_request(alloc, request, files, input),
-        Err(WordsFault::Usage) => Reply::Usage,
-        Err(WordsFault::OutOfMemory) => Reply::Refused(Refusal::OutOfMemory),
+        Ok(request) => run_request(alloc, request, files, input, out),
+        Err(WordsFault::Usage) => deliver(out, &Usage),
+        Err(WordsFault::OutOfMemory) => deliver(out, &Refusal::OutOfMemory),
     }
 }
 
-/// What a request, the files and the input are answered.
-fn answer_request<'a, F: Files, R: Source>(
+/// Runs the command of a request.
+fn run_request<F: Files, R: Source, W: Sink>(
     alloc: Global,
-    request: Request<'a>,
+    request: Request<'_>,
     files: &mut F,
     input: &mut R,
-) -> Reply<'a>
-    ensures { RunAnswers (record { state = F.state; was_read = F.was_read; was_written = F.was_written }) R.stream (Some (asked_of request.entry)) files.old files.new input.old input.new result }
+    out: &mut W,
+) -> u8
+    ensures { (answer : Answer)
+        × RunAnswers (record { state = F.state; was_read = F.was_read; was_written = F.was_written }) R.stream (Some (asked_of request.entry)) files.old files.new input.old input.new answer
+        × Delivers (W.stream out.old) (W.stream out.new) answer result }
 {
     match request {
-        Request::Show => show(alloc, input),
-        Request::Link { script, out } => {
-            link_files(alloc, files, script.as_bytes(), out.as_bytes())
+        Request::Show => show(alloc, input, out),
+        Request::Link {
+            script,
+            out: target,
+        } => link_files(alloc, files, script.as_bytes(), target.as_bytes(), out),
+        Request::List { file } => list_file(alloc, files, file.as_bytes(), out),
+        Request::Check { script, cert } => {
+            check_files(alloc, files, script.as_bytes(), cert.as_bytes(), out)
         }
     }
 }

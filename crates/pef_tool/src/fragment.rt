@@ -1,13 +1,13 @@
 ghost use Rattle.std.specs.Prelude.{◌≡◌, ◌+◌, ◌≤◌, ◌++◌, All, codes, length, map};
 ghost use Rattle.arrayvec.specs.ArrayVec.{array_vec_len};
 ghost use Rattle.pef_ports.specs.Sent.{Sends};
-ghost use Rattle.pef_tool.specs.Fragment.{entries_text, entry_text, fragment_text, heading_text, section_at, section_text, sections_text};
+ghost use Rattle.pef_tool.specs.Fragment.{entries_text, entry_text, heading_text, section_at, section_text, sections_text};
 ghost use Rattle.pef_tool.specs.Kept.Held.{IsHeld};
-ghost use Rattle.pef_tool.specs.Run.{sections_of};
+ghost use Rattle.pef_tool.specs.Show.{shown_text};
 
-use crate::entries::Entries;
 use crate::prepared::Prepared;
 use cfm_memory::{Memory, Place};
+use cfm_prepare::Entries;
 use pef_ports::{
     Line, Page, Sink, StreamFault, print_memory, push_number, push_text, push_word, send,
 };
@@ -18,7 +18,7 @@ pub fn print_fragment<W: Sink>(
     page: &mut Page,
     fragment: &Prepared,
 ) -> Result<(), StreamFault>
-    ensures { Sends result (W.stream out.old) (W.stream out.new) page.old.items page.new.items (fragment_text (codes "it") (sections_of fragment.now) fragment.now.entries) }
+    ensures { Sends result (W.stream out.old) (W.stream out.new) page.old.items page.new.items (shown_text fragment.now) }
 {
     send(out, page, b"fragment it\n")?;
     print_sections(out, page, &fragment.memory, fragment.places.as_slice())?;

@@ -1,17 +1,18 @@
 //! The commands of `pef`, over any files, input and output.
 //!
-//! A command is one file: a function from what it is handed to a `Reply`, whose clause says what it
-//! answers. `run` chooses the command by the words, and sends the reply.
+//! A command is one file: a function that reads what it is handed, delivers one `Reply` while all that it
+//! borrows is there, and says the status. Its clause says what it answers. `run` chooses the command by
+//! the words.
 #![tactic(auto)]
 
+mod check;
 mod commands;
-mod entries;
 mod fragment;
 mod link;
+mod list;
 mod prepare;
 mod prepared;
 mod refusal;
-mod relocation;
 mod reply;
 mod show;
 

@@ -1,53 +1,62 @@
 ghost use Rattle.std.specs.Prelude.{◌≡◌};
 ghost use Rattle.pef_ports.specs.Sent.{Sends};
+ghost use Rattle.pef_tool.specs.Answers.{Answer, Delivers, answer_done};
 ghost use Rattle.pef_tool.specs.Link.{LinkAnswers, length_text, lengths_text, linked_text, size_text};
 
-use crate::refusal::{NamedRefusal, Refusal};
-use crate::reply::Reply;
+use crate::refusal::{NamedRefusal, Refusal, script_refusal};
+use crate::reply::{DONE, Reply, deliver};
 use pef_ports::{FileFault, Files, Line, Page, Sink, StreamFault, push_number, push_text, send};
-use pef_script::{Script, ScriptFault};
+use pef_script::Script;
 use pef_write::{Linked, link};
 use std::alloc::Global;
 
-/// Links the script at a path, and writes the container to the path `out`.
+/// Links the script at a path, and writes the container to the path `target`.
 ///
 /// The script is read and linked before anything is written, so both may be the same path.
-pub fn link_files<'a, F: Files>(
+pub fn link_files<F: Files, W: Sink>(
     alloc: Global,
     files: &mut F,
-    script: &'a [u8],
-    out: &'a [u8],
-) -> Reply<'a>
-    ensures { LinkAnswers (record { state = F.state; was_read = F.was_read; was_written = F.was_written }) files.old files.new script.entry.now out.entry.now result }
+    script: &[u8],
+    target: &[u8],
+    out: &mut W,
+) -> u8
+    ensures { (answer : Answer)
+        × LinkAnswers (record { state = F.state; was_read = F.was_read; was_written = F.was_written }) files.old files.new script.now target.now answer
+        × Delivers (W.stream out.old) (W.stream out.new) answer result }
 {
     let text = match files.read(alloc, script) {
         Ok(text) => text,
-        Err(FileFault::Failed) => return Reply::RefusedFile(NamedRefusal::FileUnreadable(script)),
-        Err(FileFault::OutOfMemory) => return Reply::Refused(Refusal::OutOfMemory),
+        Err(FileFault::Failed) => return deliver(out, &NamedRefusal::FileUnreadable(script)),
+        Err(FileFault::OutOfMemory) => return deliver(out, &Refusal::OutOfMemory),
     };
     let read = match Script::read(alloc, text.as_slice()) {
         Ok(read) => read,
-        Err(ScriptFault::Refused { fault, line }) => {
-            return Reply::Refused(Refusal::Script { fault, line });
-        }
-        Err(ScriptFault::OutOfMemory) => return Reply::Refused(Refusal::OutOfMemory),
+        Err(fault) => return deliver(out, &script_refusal(fault)),
     };
     let Ok(linked) = link(alloc, &read) else {
-        return Reply::Refused(Refusal::OutOfMemory);
+        return deliver(out, &Refusal::OutOfMemory);
     };
-    match files.write(out, linked.bytes()) {
-        Ok(()) => Reply::Linked(linked),
-        Err(FileFault::Failed) => Reply::RefusedFile(NamedRefusal::FileUnwritable(out)),
-        Err(FileFault::OutOfMemory) => Reply::Refused(Refusal::OutOfMemory),
+    match files.write(target, linked.bytes()) {
+        Ok(()) => deliver(out, &linked),
+        Err(FileFault::Failed) => deliver(out, &NamedRefusal::FileUnwritable(target)),
+        Err(FileFault::OutOfMemory) => deliver(out, &Refusal::OutOfMemory),
+    }
+}
+
+impl Reply for Linked {
+    ghost answer = { λ linked. answer_done (linked_text linked) };
+
+    fn status(&self) -> u8 {
+        DONE
+    }
+
+    fn print<W: Sink>(&self, out: &mut W, page: &mut Page) -> Result<(), StreamFault> {
+        print_linked(out, page, self)
     }
 }
 
 /// Prints how many bytes were linked, and how many halfwords the program of each section has.
-pub fn print_linked<W: Sink>(
-    out: &mut W,
-    page: &mut Page,
-    linked: &Linked,
-) -> Result<(), StreamFault>
+fn print_linked<W: Sink>(out: &mut W, page: &mut Page, linked: &Linked) -> Result<(), StreamFault>
     ensures { Sends result (W.stream out.old) (W.stream out.new) page.old.items page.new.items (linked_text linked.now) }
 {
     let size = linked.bytes().len();

@@ -1,8 +1,8 @@
 ghost use Rattle.std.specs.Prelude.{All};
 ghost use Rattle.pef_tool.specs.Kept.Held.{IsHeld};
 
-use crate::entries::Entries;
 use cfm_memory::{Memory, Place};
+use cfm_prepare::Entries;
 
 /// The memory of a prepared fragment, where its sections were placed, in order, and its entries.
 #[derive(Drop)]

@@ -1,22 +1,33 @@
 ghost use Rattle.std.specs.Prelude.{◌≡◌, ◌≤◌, ◌+◌, ◌++◌, length};
 ghost use Rattle.arrayvec.specs.ArrayVec.{array_vec_len};
 ghost use Rattle.pef_ports.specs.Sent.{Sends};
+ghost use Rattle.pef_tool.specs.Answers.{answer_refused};
+ghost use Rattle.pef_tool.specs.Kept.Showing.{certificate_refusal, script_refusal};
 ghost use Rattle.pef_tool.specs.Refusals.{name_end, name_of, named_refusal_start, named_refusal_text, number_of, place_of, refusal_text, refused_name};
 
+use crate::reply::{REFUSED, Reply};
 use cfm_memory::MemoryFault;
+use pef_cert_text::CertFault;
+use pef_listing::ListFault;
 use pef_ports::{Line, Page, Sink, StreamFault, print_name, push_number, push_text, send};
 use pef_reloc::RelocFault;
-use pef_script::LineFault;
+use pef_script::{LineFault, ScriptFault};
 
 /// Why a run is refused.
 #[derive(Clone, Copy, Debug, PartialEq, Eq)]
 pub enum Refusal {
     /// A line of the script is refused; lines count from 1.
     Script { fault: LineFault, line: usize },
+    /// A container, its loader section or one of its relocation programs is refused where it is listed.
+    Listing(ListFault),
     /// A relocation program of the fragment `it` is no program, or can't be applied.
     Reloc(RelocFault),
     /// No address has room for a section of the fragment `it`.
     NoRoom,
+    /// A line of the certificates is refused; lines count from 1.
+    BadCertificate { line: usize },
+    /// The certificates are for other sections than the script's.
+    SectionsDiffer,
     /// The input failed.
     InputUnreadable,
     /// The input has more bytes than are read.
@@ -32,8 +43,11 @@ impl Refusal {
     {
         match self {
             Refusal::Script { fault, .. } => fault.number(),
+            Refusal::Listing(fault) => fault.number(),
             Refusal::Reloc(fault) => fault.number(),
             Refusal::NoRoom => MemoryFault::NoRoom.number(),
+            Refusal::BadCertificate { line } => CertFault::BadCertificate { line: *line }.number(),
+            Refusal::SectionsDiffer => 52,
             Refusal::InputUnreadable => 73,
             Refusal::InputTooLong => 74,
             Refusal::OutOfMemory => 99,
@@ -48,8 +62,11 @@ impl Refusal {
     {
         match self {
             Refusal::Script { fault, .. } => fault.name(),
+            Refusal::Listing(fault) => fault.name(),
             Refusal::Reloc(fault) => fault.name(),
             Refusal::NoRoom => MemoryFault::NoRoom.name(),
+            Refusal::BadCertificate { line } => CertFault::BadCertificate { line: *line }.name(),
+            Refusal::SectionsDiffer => "SectionsDiffer",
             Refusal::InputUnreadable => "InputUnreadable",
             Refusal::InputTooLong => "InputTooLong",
             Refusal::OutOfMemory => "OutOfMemory",
@@ -63,17 +80,21 @@ impl Refusal {
         ensures len { array_vec_len line.new ≤ array_vec_len line.old + 26 }
     {
         match self {
-            Refusal::Script { line: number, .. } => {
+            Refusal::Script { line: number, .. } | Refusal::BadCertificate { line: number } => {
                 push_text(line, b" line ");
                 push_number(line, *number as u64);
             }
             Refusal::Reloc(_) | Refusal::NoRoom => push_text(line, b" in it"),
-            Refusal::InputUnreadable | Refusal::InputTooLong | Refusal::OutOfMemory => {}
+            Refusal::Listing(_)
+            | Refusal::SectionsDiffer
+            | Refusal::InputUnreadable
+            | Refusal::InputTooLong
+            | Refusal::OutOfMemory => {}
         }
     }
 
     /// The line that ends the run.
-    pub fn line(&self) -> Line
+    fn line(&self) -> Line
         ensures { result.items ≡ refusal_text self.now }
     {
         let mut line = Line::new();
@@ -84,6 +105,38 @@ impl Refusal {
         self.push_place(&mut line);
         push_text(&mut line, b"\n");
         line
+    }
+}
+
+impl Reply for Refusal {
+    ghost answer = { λ refusal. answer_refused (refusal_text refusal) };
+
+    fn status(&self) -> u8 {
+        REFUSED
+    }
+
+    fn print<W: Sink>(&self, out: &mut W, page: &mut Page) -> Result<(), StreamFault> {
+        send(out, page, self.line().as_slice())
+    }
+}
+
+/// What a fault of reading a script is told as.
+pub fn script_refusal(fault: ScriptFault) -> Refusal
+    ensures { result ≡ script_refusal fault }
+{
+    match fault {
+        ScriptFault::Refused { fault, line } => Refusal::Script { fault, line },
+        ScriptFault::OutOfMemory => Refusal::OutOfMemory,
+    }
+}
+
+/// What a fault of reading certificates is told as.
+pub fn certificate_refusal(fault: CertFault) -> Refusal
+    ensures { result ≡ certificate_refusal fault }
+{
+    match fault {
+        CertFault::BadCertificate { line } => Refusal::BadCertificate { line },
+        CertFault::OutOfMemory => Refusal::OutOfMemory,
     }
 }
 
@@ -120,11 +173,16 @@ impl<'a> NamedRefusal<'a> {
             | NamedRefusal::LibraryMissing(name) => name,
         }
     }
+}
 
-    /// Prints the line that ends the run.
-    pub fn print<W: Sink>(&self, out: &mut W, page: &mut Page) -> Result<(), StreamFault>
-        ensures { Sends result (W.stream out.old) (W.stream out.new) page.old.items page.new.items (named_refusal_text self.now) }
-    {
+impl<'a> Reply for NamedRefusal<'a> {
+    ghost answer = { λ refusal. answer_refused (named_refusal_text refusal) };
+
+    fn status(&self) -> u8 {
+        REFUSED
+    }
+
+    fn print<W: Sink>(&self, out: &mut W, page: &mut Page) -> Result<(), StreamFault> {
         send(out, page, self.start())?;
         print_name_end(out, page, self.name())
     }

@@ -1,17 +1,20 @@
 ghost use Rattle.std.specs.Prelude.{◌≡◌, ◌<◌, IfErr, IfOk, length};
 ghost use Rattle.pef_script.specs.WellFormed.{ScriptHolds};
-ghost use Rattle.pef_tool.specs.Kept.Showing.{ScriptAnswers, input_refusal};
-ghost use Rattle.pef_tool.specs.Show.{IsShown, ShowAnswers};
+ghost use Rattle.pef_tool.specs.Answers.{Answer, Delivers, answer_done};
+ghost use Rattle.pef_tool.specs.Kept.Showing.{ScriptEnds, input_refusal};
+ghost use Rattle.pef_tool.specs.Show.{IsShown, ShowAnswers, ShowOutcome, show_answer, shown_text};
 ghost use Rattle.pef_tool.specs.declared.refusal.Refusal.TheVariants.{OutOfMemory};
 
-use crate::prepare::{PrepareFault, prepare};
+use crate::fragment::print_fragment;
+use crate::prepare::prepare_alone;
 use crate::prepared::Prepared;
-use crate::refusal::Refusal;
-use crate::reply::Reply;
+use crate::refusal::{NamedRefusal, Refusal, script_refusal};
+use crate::reply::{DONE, Reply, deliver};
 use cfm_memory::MemoryFault;
+use cfm_prepare::PrepareFault;
 use pef_loader::Loader;
-use pef_ports::{InputFault, Source, read_input};
-use pef_script::{Script, ScriptFault};
+use pef_ports::{InputFault, Page, Sink, Source, StreamFault, read_input};
+use pef_script::Script;
 use pef_views::Container;
 use pef_write::link;
 use std::alloc::Global;
@@ -20,19 +23,30 @@ use std::alloc::Global;
 const INPUT_LIMIT: usize = 536_870_912;
 
 /// Links the script on the input, prepares it alone, and shows its memory.
-pub fn show<'a, R: Source>(alloc: Global, input: &mut R) -> Reply<'a>
-    ensures { ShowAnswers (R.stream input.old) (R.stream input.new) result }
+pub fn show<R: Source, W: Sink>(alloc: Global, input: &mut R, out: &mut W) -> u8
+    ensures { (answer : Answer)
+        × ShowAnswers (R.stream input.old) (R.stream input.new) answer
+        × Delivers (W.stream out.old) (W.stream out.new) answer result }
 {
     let text = match read_input(alloc, input, INPUT_LIMIT) {
         Ok(text) => text,
-        Err(fault) => return Reply::Refused(input_refusal(fault)),
+        Err(fault) => return deliver(out, &input_refusal(fault)),
     };
     match Script::read(alloc, text.as_slice()) {
-        Ok(script) => show_script(alloc, &script),
-        Err(ScriptFault::Refused { fault, line }) => {
-            Reply::Refused(Refusal::Script { fault, line })
-        }
-        Err(ScriptFault::OutOfMemory) => Reply::Refused(Refusal::OutOfMemory),
+        Ok(script) => show_script(alloc, &script, out),
+        Err(fault) => deliver(out, &script_refusal(fault)),
+    }
+}
+
+impl Reply for Prepared {
+    ghost answer = { λ prepared. answer_done (shown_text prepared) };
+
+    fn status(&self) -> u8 {
+        DONE
+    }
+
+    fn print<W: Sink>(&self, out: &mut W, page: &mut Page) -> Result<(), StreamFault> {
+        print_fragment(out, page, self)
     }
 }
 
@@ -47,21 +61,23 @@ fn input_refusal(fault: InputFault) -> Refusal
     }
 }
 
-/// Links a script, and prepares it alone; a script with a library isn't shown.
-fn show_script<'a>(alloc: Global, script: &Script<'_>) -> Reply<'a>
-    ensures { ScriptAnswers script.now result }
+/// Links a script, prepares it alone, and shows it; a script with a library isn't shown.
+fn show_script<W: Sink>(alloc: Global, script: &Script<'_>, out: &mut W) -> u8
+    ensures { (outcome : ShowOutcome)
+        × ScriptEnds script.now outcome
+        × Delivers (W.stream out.old) (W.stream out.new) (show_answer outcome) result }
 {
     if script.libraries() > 0 {
-        return missing_library(alloc, script);
+        return miss_library(script, out);
     }
     match prepare_script(alloc, script) {
-        Ok(prepared) => Reply::Shown(prepared),
-        Err(refusal) => Reply::Refused(refusal),
+        Ok(prepared) => deliver(out, &prepared),
+        Err(refusal) => deliver(out, &refusal),
     }
 }
 
-/// Links a script without libraries, and prepares it alone. Of the faults of `prepare` only want of
-/// memory can come: what is linked finds room, and its relocation programs are sound.
+/// Links a script without libraries, and prepares it alone. Of the faults of preparation only want of
+/// memory can come: what is linked isn't packed, finds room, and its relocation programs are sound.
 fn prepare_script(alloc: Global, script: &Script<'_>) -> Result<Prepared, Refusal>
     requires holds { ScriptHolds script.now }
     requires alone { length script.now.libraries ≡ 0 }
@@ -77,25 +93,24 @@ fn prepare_script(alloc: Global, script: &Script<'_>) -> Result<Prepared, Refusa
     let Ok(loader) = Loader::read(&container) else {
         unreachable!()
     };
-    match prepare(alloc, &container, &loader) {
+    match prepare_alone(alloc, &container, &loader) {
         Ok(prepared) => Ok(prepared),
         Err(PrepareFault::Memory(MemoryFault::NoRoom)) => Err(Refusal::NoRoom),
         Err(PrepareFault::Memory(MemoryFault::OutOfMemory)) => Err(Refusal::OutOfMemory),
+        Err(PrepareFault::Pack(_)) => unreachable!(),
         Err(PrepareFault::Reloc(fault)) => Err(Refusal::Reloc(fault)),
     }
 }
 
-/// The first library of a script isn't there. Its name is copied: the script's text is gone by the time
-/// that the line is printed.
-fn missing_library<'a>(alloc: Global, script: &Script<'_>) -> Reply<'a>
+/// Tells that the first library of a script isn't there.
+fn miss_library<W: Sink>(script: &Script<'_>, out: &mut W) -> u8
     requires { 0 < length script.now.libraries }
-    ensures { ScriptAnswers script.now result }
+    ensures { (outcome : ShowOutcome)
+        × ScriptEnds script.now outcome
+        × Delivers (W.stream out.old) (W.stream out.new) (show_answer outcome) result }
 {
     let Some(library) = script.library(0) else {
         unreachable!()
     };
-    match Vec::from_slice(alloc, library.name) {
-        Ok(name) => Reply::LibraryMissing(name),
-        Err(_) => Reply::Refused(Refusal::OutOfMemory),
-    }
+    deliver(out, &NamedRefusal::LibraryMissing(library.name))
 }

@@ -1,5 +1,5 @@
 -- What the code keeps of placed sections.
-use Rattle.std.specs.Prelude.{ℕ, ◌+◌, ◌^◌, ◌≤◌, IsTrue}
+use Rattle.std.specs.Prelude.{◌+◌, ◌^◌, ◌≤◌, IsTrue}
 use Rattle.cfm_memory.specs.Instances.{Layout, holds_place}
 use Rattle.cfm_memory.specs.declared.place.Place.{Place}
 

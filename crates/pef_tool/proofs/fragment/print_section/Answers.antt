@@ -3,7 +3,7 @@ use Rattle.std.proofs.Common.{◌≡◌, ◌++◌, [], List, ℕ, length, sym, a
 use Rattle.pef_ports.specs.Sent.{Sends}
 use Rattle.pef_ports.specs.Text.{dump_text}
 use Rattle.pef_ports.proofs.Laws.Sending.{Sends-short, Sends-then, StopsShort-longer}
-use Rattle.pef_tool.specs.Fragment.{PlacedSection, heading_text, section_at, section_text}
+use Rattle.pef_tool.specs.Fragment.{heading_text, section_at, section_text}
 use Rattle.pef_tool.proofs.fragment.print_section.Goals as goal
 
 pub returns-in_err-send : goal.returns-in_err-send

@@ -1,5 +1,5 @@
 -- Each section sends its text.
-use Rattle.std.proofs.Common.{◌≡◌, ◌+◌, ◌++◌, List, drop, map, refl, ap}
+use Rattle.std.proofs.Common.{◌+◌, List, drop, map, ap}
 use Rattle.std.proofs.lemmas.List.{at_drop_more, drop_all}
 use Rattle.cfm_memory.specs.declared.place.Place.{Place}
 use Rattle.pef_ports.proofs.Laws.Sending.{Sends-short, sent-all, sent-nothing, sent-piece, sent-short}

@@ -1,0 +1,141 @@
+use crate::runs::{Handed, assert_prints};
+use crate::scripts::{VECTORS, VECTORS_CERTIFIED};
+use pef_tool::FileFault;
+use std::test::Fail;
+
+const WORDS: [&str; 3] = ["check", "a", "b"];
+
+/// What is printed of the certificates of both sections.
+const CHECKED: &[u8] = b"section 0 yes 0\nsection 1 yes 1\n";
+
+/// Certificates where a label of section 1 is too small, and one where it is too great.
+const LABELS_BELOW: &[u8] = b"\
+      pefcert 1\nsection 0\nfixups 0\nlength 0\nprogram -\nregisters *\nat 0 0\n\
+      section 1\nfixups 4\nlength 1\nprogram 4601\nregisters 0 1 *\n\
+      at 0 2 0 2 3 2 3 3 2 3\nat 1 3 2 3 2 3 3 3 3 3\nat 2 2 1 2 2 2 2 2 2 2\n\
+      at 3 1 1 1 1 1 1 1 1 1\nat 4 0 0 0 0 0 0 0 0 0\nend\n";
+
+const LABELS_ABOVE: &[u8] = b"\
+      pefcert 1\nsection 0\nfixups 0\nlength 0\nprogram -\nregisters *\nat 0 0\n\
+      section 1\nfixups 4\nlength 1\nprogram 4601\nregisters 0 1 *\n\
+      at 0 9 1 2 3 2 3 3 2 3\nat 1 3 2 3 2 3 3 3 3 3\nat 2 2 1 2 2 2 2 2 2 2\n\
+      at 3 1 1 1 1 1 1 1 1 1\nat 4 0 0 0 0 0 0 0 0 0\nend\n";
+
+/// A certificate of section 0 alone, one of section 1 alone, and those of both in the other order.
+const FIRST: &[u8] =
+    b"pefcert 1\nsection 0\nfixups 0\nlength 0\nprogram -\nregisters *\nat 0 0\nend\n";
+
+const SECOND: &[u8] =
+    b"pefcert 1\nsection 1\nfixups 0\nlength 0\nprogram -\nregisters *\nat 0 0\nend\n";
+
+const TURNED: &[u8] = b"\
+      pefcert 1\nsection 1\nfixups 0\nlength 0\nprogram -\nregisters *\nat 0 0\n\
+      section 0\nfixups 0\nlength 0\nprogram -\nregisters *\nat 0 0\nend\n";
+
+/// A script with one section without fixups.
+const PLAIN: &[u8] = b"section d data process 4 4\n";
+
+/// Scripts and certificates, what is printed of them, and the status.
+#[test]
+fn check(rt: HostRuntime) -> Result<(), Fail> {
+    let rows: [(&[u8], &[u8], &[u8], u8); 13] = [
+        (VECTORS, VECTORS_CERTIFIED, CHECKED, 0),
+        (VECTORS, LABELS_BELOW, b"section 0 yes 0\nsection 1 no\n", 1),
+        (VECTORS, LABELS_ABOVE, b"section 0 yes 0\nsection 1 no\n", 1),
+        (PLAIN, FIRST, b"section 0 yes 0\n", 0),
+        (b"", b"pefcert 1\nend\n", b"", 0),
+        (
+            VECTORS,
+            b"pefcert 1\nend\n",
+            b"refused 52 SectionsDiffer\n",
+            1,
+        ),
+        (VECTORS, FIRST, b"refused 52 SectionsDiffer\n", 1),
+        (PLAIN, SECOND, b"refused 52 SectionsDiffer\n", 1),
+        (VECTORS, TURNED, b"refused 52 SectionsDiffer\n", 1),
+        (
+            VECTORS,
+            b"pefcert 3\n",
+            b"refused 51 BadCertificate line 1\n",
+            1,
+        ),
+        (VECTORS, b"", b"refused 51 BadCertificate line 1\n", 1),
+        (
+            b"section d\n",
+            b"pefcert 3\n",
+            b"refused 41 BadLine line 1\n",
+            1,
+        ),
+        (
+            b"section d data process 4 8\nsection d\n",
+            VECTORS_CERTIFIED,
+            b"refused 41 BadLine line 2\n",
+            1,
+        ),
+    ];
+    for (script, certificates, printed, status) in rows {
+        let handed = Handed::files(&WORDS, script, certificates);
+        let outcome = assert_prints(&rt, rt.alloc(), handed, printed, status)?;
+        assert_eq!(rt; outcome.papers.calls(), (2, 0));
+        assert!(rt; outcome.has(b"a", script) && outcome.has(b"b", certificates));
+    }
+    Ok(())
+}
+
+/// Files that aren't there or can't be read: SCRIPT is read before CERT, and both before a line of either.
+#[test]
+fn check_unreadable(rt: HostRuntime) -> Result<(), Fail> {
+    let missing: [([&str; 3], &[u8], (u64, u64)); 3] = [
+        (
+            ["check", "none", "b"],
+            b"refused 71 FileUnreadable none\n",
+            (1, 0),
+        ),
+        (
+            ["check", "a", "none"],
+            b"refused 71 FileUnreadable none\n",
+            (2, 0),
+        ),
+        (
+            ["check", "x", "y"],
+            b"refused 71 FileUnreadable x\n",
+            (1, 0),
+        ),
+    ];
+    for (words, printed, calls) in missing {
+        let handed = Handed::files(&words, b"no line\n", b"");
+        let outcome = assert_prints(&rt, rt.alloc(), handed, printed, 1)?;
+        assert_eq!(rt; outcome.papers.calls(), calls);
+    }
+    let failing: [(u32, FileFault, &[u8]); 4] = [
+        (1, FileFault::Failed, b"refused 71 FileUnreadable a\n"),
+        (2, FileFault::Failed, b"refused 71 FileUnreadable b\n"),
+        (1, FileFault::OutOfMemory, b"refused 99 OutOfMemory\n"),
+        (2, FileFault::OutOfMemory, b"refused 99 OutOfMemory\n"),
+    ];
+    for (files_fail_at, fault, printed) in failing {
+        let handed = Handed {
+            step: 1000,
+            files_fail_at,
+            fault,
+            ..Handed::files(&WORDS, b"no line\n", b"")
+        };
+        let outcome = assert_prints(&rt, rt.alloc(), handed, printed, 1)?;
+        assert_eq!(rt; outcome.papers.calls(), (u64::from(files_fail_at), 0));
+    }
+    Ok(())
+}
+
+/// An output that takes a byte a call, and fails at call k: k - 1 bytes go out.
+#[test]
+fn check_output_fails(rt: HostRuntime) -> Result<(), Fail> {
+    for k in 1..=CHECKED.len() {
+        let handed = Handed {
+            step: 1,
+            out_fails_at: k as u32,
+            ..Handed::files(&WORDS, VECTORS, VECTORS_CERTIFIED)
+        };
+        assert_prints(&rt, rt.alloc(), handed, &CHECKED[..k - 1], 1)?;
+    }
+    Ok(())
+}

@@ -1,0 +1,158 @@
+use crate::containers::{RICH, RICH_LISTED, VECTORS_LEAST, VECTORS_LISTED};
+use crate::runs::{Handed, assert_prints, run_tool};
+use crate::scripts::EMPTY_CONTAINER;
+use pef_tool::FileFault;
+use std::alloc::Global;
+use std::test::Fail;
+
+/// A copy of a container, with other bytes from a place on.
+fn changed(alloc: Global, container: &[u8], at: usize, other: &[u8]) -> Result<Vec<u8>, Fail> {
+    let (front, rest) = container.split_at(at.min(container.len()));
+    let (_, back) = rest.split_at(other.len().min(rest.len()));
+    let mut bytes = Vec::from_slice(alloc, front)?;
+    bytes.extend_from_slice(other)?;
+    bytes.extend_from_slice(back)?;
+    Ok(bytes)
+}
+
+/// Containers, and what `list` prints of them.
+#[test]
+fn list(rt: HostRuntime) -> Result<(), Fail> {
+    let rows: [(&[u8], &[u8]); 3] = [
+        (VECTORS_LEAST, VECTORS_LISTED),
+        (RICH, RICH_LISTED),
+        (
+            EMPTY_CONTAINER,
+            b"container current 0 olddef 0 oldimp 0 date 0\nsection 0 kind 4 share 4 align 4 total 0 unpacked 0 packed 60 default 00000000 name -\n",
+        ),
+    ];
+    for (container, printed) in rows {
+        let handed = Handed::file(&["list", "a"], container);
+        let outcome = assert_prints(&rt, rt.alloc(), handed, printed, 0)?;
+        assert_eq!(rt; outcome.papers.calls(), (1, 0));
+        assert!(rt; outcome.has(b"a", container));
+    }
+    Ok(())
+}
+
+/// A container that was linked, with its export made a re-export of its import.
+#[test]
+fn list_reexport(rt: HostRuntime) -> Result<(), Fail> {
+    let script =
+        b"versions 1 0 0\nlibrary L 1 0 -\nimport v data strong\nsection m data process 4 4\nexport u data m 0\n";
+    let linked = run_tool(rt.alloc(), Handed::file(&["link", "a", "out"], script))?;
+    let Some(container) = linked.papers.bytes(b"out") else {
+        return Err(Fail::from("nothing was linked"));
+    };
+    let end = container.len().saturating_sub(2);
+    let bytes = changed(rt.alloc(), container, end, b"\xFF\xFD")?;
+    let outcome = run_tool(rt.alloc(), Handed::file(&["list", "a"], bytes.as_slice()))?;
+    assert!(rt;
+        outcome
+            .printed
+            .as_slice()
+            .ends_with(b"\nexport u class 1 section -3 value 00000000\n")
+    );
+    assert_eq!(rt; outcome.status, 0);
+    Ok(())
+}
+
+/// Damaged copies: from which place which bytes are others, and the only line that is printed then.
+#[test]
+fn list_damaged(rt: HostRuntime) -> Result<(), Fail> {
+    let rows: [(&[u8], usize, &[u8], &[u8]); 27] = [
+        (VECTORS_LEAST, 32, b"\xFF", b"refused 1 TooShort\n"),
+        (VECTORS_LEAST, 0, b"j", b"refused 2 BadTag\n"),
+        (VECTORS_LEAST, 8, b"m68k", b"refused 3 BadArchitecture\n"),
+        (VECTORS_LEAST, 15, b"\x02", b"refused 4 BadFormatVersion\n"),
+        (VECTORS_LEAST, 35, b"\x04", b"refused 5 BadSectionCounts\n"),
+        (VECTORS_LEAST, 115, b"\x5B", b"refused 6 SectionOutside\n"),
+        (VECTORS_LEAST, 64, b"\x04", b"refused 7 BadSectionKind\n"),
+        (VECTORS_LEAST, 55, b"\x09", b"refused 8 BadSizes\n"),
+        (VECTORS_LEAST, 66, b"\x20", b"refused 9 BadAlignment\n"),
+        (VECTORS_LEAST, 120, b"\x05", b"refused 10 NoLoader\n"),
+        (VECTORS_LEAST, 115, b"\x37", b"refused 11 LoaderShort\n"),
+        (VECTORS_LEAST, 187, b"\xFF", b"refused 12 BadTableOffset\n"),
+        (VECTORS_LEAST, 236, b"\xFF", b"refused 13 BadName\n"),
+        (RICH, 332, b"\x02", b"refused 14 BadLibraryRange\n"),
+        (RICH, 332, b"\x00", b"refused 15 OrphanImport\n"),
+        (VECTORS_LEAST, 163, b"\x02", b"refused 16 BadEntry\n"),
+        (VECTORS_LEAST, 217, b"\x02", b"refused 17 BadRelocSection\n"),
+        (VECTORS_LEAST, 220, b"\xFF", b"refused 18 RelocOutside\n"),
+        (VECTORS_LEAST, 215, b"\x02", b"refused 19 BadExportTable\n"),
+        (
+            VECTORS_LEAST,
+            248,
+            b"\xFF\xFF",
+            b"refused 20 BadExportSection\n",
+        ),
+        (VECTORS_LEAST, 228, b"\x4C\x00", b"refused 31 BadOpcode\n"),
+        (
+            VECTORS_LEAST,
+            228,
+            b"\xA0\x00",
+            b"refused 32 CutInstruction\n",
+        ),
+        (
+            VECTORS_LEAST,
+            228,
+            b"\x90\x00",
+            b"refused 33 RepeatTooFar\n",
+        ),
+        (RICH, 407, b"\x90\x00", b"refused 34 RepeatCuts\n"),
+        (RICH, 403, b"\x90\x01", b"refused 35 NestedRepeat\n"),
+        (
+            RICH,
+            377,
+            b"\x80\x00\x80\x00\x80\x00\x80\x00\xB0\xFF\xFF\xFF",
+            b"refused 36 TooManySteps\n",
+        ),
+        (b"", 0, b"", b"refused 1 TooShort\n"),
+    ];
+    for (container, at, other, printed) in rows {
+        let bytes = changed(rt.alloc(), container, at, other)?;
+        let handed = Handed::file(&["list", "a"], bytes.as_slice());
+        assert_prints(&rt, rt.alloc(), handed, printed, 1)?;
+    }
+    Ok(())
+}
+
+/// Files that can't be read.
+#[test]
+fn list_unreadable(rt: HostRuntime) -> Result<(), Fail> {
+    let rows: [(&str, u32, FileFault, &[u8]); 3] = [
+        (
+            "a b",
+            0,
+            FileFault::Failed,
+            b"refused 71 FileUnreadable a%20b\n",
+        ),
+        ("a", 1, FileFault::Failed, b"refused 71 FileUnreadable a\n"),
+        ("a", 1, FileFault::OutOfMemory, b"refused 99 OutOfMemory\n"),
+    ];
+    for (path, files_fail_at, fault, printed) in rows {
+        let words = ["list", path];
+        let handed = Handed {
+            files_fail_at,
+            fault,
+            ..Handed::file(&words, VECTORS_LEAST)
+        };
+        let outcome = assert_prints(&rt, rt.alloc(), handed, printed, 1)?;
+        assert_eq!(rt; outcome.papers.calls(), (1, 0));
+    }
+    Ok(())
+}
+
+/// An output that takes a byte a call, and fails at call k: k - 1 bytes go out.
+#[test]
+fn list_output_fails(rt: HostRuntime) -> Result<(), Fail> {
+    for k in 1..=VECTORS_LISTED.len() {
+        let handed = Handed {
+            step: 1,
+            out_fails_at: k as u32,
+            ..Handed::file(&["list", "a"], VECTORS_LEAST)
+        };
+        assert_prints(&rt, rt.alloc(), handed, &VECTORS_LISTED[..k - 1], 1)?;
+    }
+    Ok(())
+}

@@ -1,0 +1,114 @@
+-- Verdicts that are said one after the other.
+use Rattle.std.proofs.Common.{◌≡◌, ◌<◌, ◌≤◌, ℕ, Bool, true, false, zero, suc, ◌+◌, List, [], ◌∷◌, ◌++◌, Option, None, Some, Result, Ok, Err, drop, get_or, length, option_map, slice_get, refl, sym, ap, subst, ◌∙◌, append_assoc, arith}
+use Rattle.std.proofs.lemmas.List.{append-nil, at_drop_more, drop_all}
+use Rattle.pef_cert.specs.Valid.{Certified}
+use Rattle.pef_reloc.specs.declared.fixup.Fixup.{Fixup}
+use Rattle.pef_script.specs.Script.{DescribedScript, DescribedSection}
+use Rattle.pef_cert_text.specs.Grammar.{certificates_of}
+use Rattle.pef_cert_text.specs.Views as cert
+use Rattle.pef_cert_text.specs.declared.fault.CertFault.{CertFault}
+use Rattle.pef_cert_text.specs.declared.fault.CertFault.TheVariants as cert_fault
+use Rattle.pef_ports.specs.Ports.{FilesPort, Reads}
+use Rattle.pef_ports.specs.declared.ports.FileFault.{FileFault}
+use Rattle.pef_script.specs.Grammar.{script_of}
+use Rattle.pef_script.specs.Views.{Fails}
+use Rattle.pef_script.specs.declared.fault.ScriptFault.{ScriptFault}
+use Rattle.pef_script.specs.declared.fault.ScriptFault.TheVariants as script_fault
+use Rattle.pef_tool.specs.Check.{AreVerdicts, DiffersInSections, HasVerdicts, IsVerdict, Judges, JudgesFiles, ReadsSecond, Texts, match_sections}
+use Rattle.pef_tool.specs.Kept.Showing.{certificate_refusal, script_refusal}
+use Rattle.pef_tool.specs.declared.refusal.Refusal.{Refusal}
+use Rattle.pef_tool.specs.declared.check.Verdict.{Verdict}
+
+-- verdicts on the first k certificates: with verdicts on the others they are verdicts on all
+abbrev pub AreSoFar : List DescribedSection → List Certified → ℕ → List Verdict → Type 0
+AreSoFar sections certificates k verdicts = (rest : List Verdict) → AreVerdicts (drop k sections) (drop k certificates) rest → AreVerdicts sections certificates (verdicts ++ rest)
+
+pub none_said : (sections : List DescribedSection) (certificates : List Certified) (verdicts : List Verdict) → verdicts ≡ [] → AreSoFar sections certificates 0 verdicts
+none_said sections certificates verdicts none rest are = subst (λ (vs : List Verdict). AreVerdicts sections certificates (vs ++ rest)) (sym none) are
+
+-- the section whose fixups were found is the next one
+record IsNext (sections : List DescribedSection) (k : ℕ) (fixups : List Fixup) : Type 0 where
+  section : DescribedSection
+  has : fixups ≡ section.fixups
+  next : drop k sections ≡ section ∷ drop (k + 1) sections
+
+some_is : (a b : List Fixup) → Some a ≡ Some b → a ≡ b
+some_is a b same = cc
+
+next_section : (sections : List DescribedSection) (k : ℕ) (fixups : List Fixup) → Some fixups ≡ option_map (λ (s : DescribedSection). s.fixups) (slice_get sections k) → IsNext sections k fixups
+next_section [] k fixups found = absurd (cc)
+next_section (s ∷ sections) zero fixups found = record { section = s; has = some_is fixups s.fixups found; next = refl }
+next_section (s ∷ sections) (suc k) fixups found =
+    let behind = next_section sections k fixups found in
+    let more : suc k + 1 ≡ suc (k + 1) = omega arith in
+    record { section = behind.section; has = behind.has; next = behind.next ∙ ap (λ n. behind.section ∷ drop n (s ∷ sections)) (sym more) }
+
+pub one_said : (sections : List DescribedSection) (certificates : List Certified) (k : ℕ) (verdicts : List Verdict) (fixups : List Fixup) (c d : Certified) (v : Verdict)
+    → AreSoFar sections certificates k verdicts → Some fixups ≡ option_map (λ (s : DescribedSection). s.fixups) (slice_get sections k) → k < length certificates → c ≡ get_or certificates k d → IsVerdict fixups c v
+    → AreSoFar sections certificates (k + 1) (verdicts ++ v ∷ [])
+one_said sections certificates k verdicts fixups c d v before found under element is rest are =
+    let next = at_drop_more (λ (cs : List Certified). cs) certificates k d under ∙ ap (λ (x : Certified). x ∷ drop (k + 1) certificates) (sym element) in
+    let at = next_section sections k fixups found in
+    let here = subst (λ (f : List Fixup). IsVerdict f c v) at.has is in
+    let both : AreVerdicts (at.section ∷ drop (k + 1) sections) (c ∷ drop (k + 1) certificates) (v ∷ rest) = (here, are) in
+    let one = subst (λ (ss : List DescribedSection). AreVerdicts ss (c ∷ drop (k + 1) certificates) (v ∷ rest)) (sym at.next) both in
+    let two = subst (λ (cs : List Certified). AreVerdicts (drop k sections) cs (v ∷ rest)) (sym next) one in
+    subst (λ (vs : List Verdict). AreVerdicts sections certificates vs) (sym (append_assoc verdicts (v ∷ []) rest)) (before (v ∷ rest) two)
+
+pub all_said : (sections : List DescribedSection) (certificates : List Certified) (k : ℕ) (verdicts : List Verdict)
+    → AreSoFar sections certificates k verdicts → length certificates ≡ length sections → length certificates ≤ k → AreVerdicts sections certificates verdicts
+all_said sections certificates k verdicts said same end =
+    let no_section = drop_all k sections (omega (arith, same, end)) in
+    let no_certificate = drop_all k certificates end in
+    let none : AreVerdicts [] [] [] = tt in
+    let one = subst (λ (ss : List DescribedSection). AreVerdicts ss [] []) (sym no_section) none in
+    let two = subst (λ (cs : List Certified). AreVerdicts (drop k sections) cs []) (sym no_certificate) one in
+    subst (λ (vs : List Verdict). AreVerdicts sections certificates vs) (append-nil verdicts) (said [] two)
+
+-- texts whose first is no script
+pub no_script_judged : (texts : Texts) (fault : ScriptFault) (why : Refusal) → why ≡ script_refusal fault → Fails fault (script_of texts.script) → Judges texts (Err why)
+no_script_judged texts (script_fault.Refused fault line) why is fails = rw is fails
+no_script_judged texts script_fault.OutOfMemory why is fails = rw is tt
+
+-- texts whose second has no certificates
+pub no_certificates_judged : (texts : Texts) (script : DescribedScript) (fault : CertFault) (why : Refusal)
+    → why ≡ certificate_refusal fault → script_of texts.script ≡ Ok script → cert.Fails fault (certificates_of texts.certificates) → Judges texts (Err why)
+no_certificates_judged texts script (cert_fault.BadCertificate line) why is has fails = rw is (record { script = script; is_script = has; refused = fails })
+no_certificates_judged texts script cert_fault.OutOfMemory why is has fails = rw is tt
+
+-- the texts of files that were read
+pub files_judged : {F : Type 0} {port : FilesPort F} {before between after : F} {script cert text certificates : List ℕ} {judged : Result (List Verdict) Refusal} (given given' : List ℕ)
+    → Reads port before between script (Ok text) → Reads port between after cert (Ok certificates) → given ≡ text → given' ≡ certificates → Judges (record { script = given; certificates = given' }) judged
+    → JudgesFiles port before after script cert judged
+files_judged {F} {port} {before} {between} {after} {script} {cert} {text} {certificates} {judged} given given' first second same same' judges =
+    let one = subst (λ (t : List ℕ). Judges (record { script = t; certificates = given' }) judged) same judges in
+    record {
+      texts = record { script = text; certificates = certificates };
+      read = record { between = between; first = first; second = second };
+      are = subst (λ (t : List ℕ). Judges (record { script = text; certificates = t }) judged) same' one;
+    }
+
+-- good texts whose sections differ
+pub sections_differ : (texts : Texts) (script : DescribedScript) (certificates given : List Certified) (b : Bool)
+    → script_of texts.script ≡ Ok script → certificates_of texts.certificates ≡ Ok certificates → given ≡ certificates → b ≡ match_sections script given → b ≡ false → DiffersInSections texts
+sections_differ texts script certificates given b is_script are same is differ = record {
+  checked = record { script = script; certificates = certificates };
+  has = record { script = is_script; certificates = are };
+  differ = ap (match_sections script) (sym same) ∙ sym is ∙ differ;
+}
+
+-- good texts for the same sections
+pub verdicts_judged : (texts : Texts) (script : DescribedScript) (certificates given given' : List Certified) (b : Bool) (verdicts : List Verdict)
+    → script_of texts.script ≡ Ok script → certificates_of texts.certificates ≡ Ok certificates → given ≡ certificates → given' ≡ certificates → b ≡ match_sections script given → b ≡ true
+    → AreVerdicts script.sections given' verdicts → HasVerdicts texts verdicts
+verdicts_judged texts script certificates given given' b verdicts is_script are same same' is matches judged = record {
+  checked = record { script = script; certificates = certificates };
+  has = record { script = is_script; certificates = are };
+  matches = ap (match_sections script) (sym same) ∙ sym is ∙ matches;
+  verdicts_are = subst (λ (cs : List Certified). AreVerdicts script.sections cs verdicts) same' judged;
+}
+
+-- a file that was read, and then the other
+pub second_read : {F : Type 0} {port : FilesPort F} {before between after : F} {script cert text : List ℕ} {answer : Result (List ℕ) FileFault}
+    → Reads port before between script (Ok text) → Reads port between after cert answer → ReadsSecond port before after script cert text answer
+second_read {F} {port} {before} {between} first second = record { between = between; first = first; second = second }

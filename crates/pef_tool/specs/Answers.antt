@@ -1,0 +1,22 @@
+-- What a command answers, and how its answer goes out.
+use Rattle.std.specs.Prelude.{◌≡◌, ◌⊎◌, ℕ, List, take}
+use Rattle.pef_ports.specs.Ports.{Stream, Grows, LastFailed, NoneFailed}
+
+-- an answer: what is printed, and the status that the run ends with
+pub record Answer : Type 0 where
+  pub text : List ℕ
+  pub status : ℕ
+
+-- the answer of a command that is done
+abbrev pub answer_done : List ℕ → Answer
+answer_done text = record { text = text; status = 0 }
+
+-- the answer of a command that is refused
+abbrev pub answer_refused : List ℕ → Answer
+answer_refused text = record { text = text; status = 1 }
+
+-- the answer goes out whole; or a front of it, then the output fails at its last call, and the status is 1
+abbrev pub Delivers : Stream → Stream → Answer → ℕ → Type 0
+Delivers before after answer status =
+    (Grows before.bytes after.bytes answer.text × NoneFailed before after × (status ≡ answer.status))
+    ⊎ (((n : ℕ) × Grows before.bytes after.bytes (take n answer.text)) × LastFailed before after × (status ≡ 1))

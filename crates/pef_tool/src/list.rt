@@ -1,0 +1,41 @@
+ghost use Rattle.pef_listing.specs.Listing.{listing_text};
+ghost use Rattle.pef_listing.specs.Views.{parts};
+ghost use Rattle.pef_tool.specs.Answers.{Answer, Delivers, answer_done};
+ghost use Rattle.pef_tool.specs.List.{ListAnswers};
+
+use crate::refusal::{NamedRefusal, Refusal};
+use crate::reply::{DONE, Reply, deliver};
+use pef_listing::Listing;
+use pef_ports::{FileFault, Files, Page, Sink, StreamFault};
+use std::alloc::Global;
+
+/// Lists the container at a path: its sections, libraries, imports, entries, relocation programs and exports.
+///
+/// All of them are read before the first line is printed.
+pub fn list_file<F: Files, W: Sink>(alloc: Global, files: &mut F, path: &[u8], out: &mut W) -> u8
+    ensures { (answer : Answer)
+        × ListAnswers (record { state = F.state; was_read = F.was_read; was_written = F.was_written }) files.old files.new path.now answer
+        × Delivers (W.stream out.old) (W.stream out.new) answer result }
+{
+    let bytes = match files.read(alloc, path) {
+        Ok(bytes) => bytes,
+        Err(FileFault::Failed) => return deliver(out, &NamedRefusal::FileUnreadable(path)),
+        Err(FileFault::OutOfMemory) => return deliver(out, &Refusal::OutOfMemory),
+    };
+    match Listing::read(bytes.as_slice()) {
+        Ok(listing) => deliver(out, &listing),
+        Err(fault) => deliver(out, &Refusal::Listing(fault)),
+    }
+}
+
+impl<'a> Reply for Listing<'a> {
+    ghost answer = { λ listing. answer_done (listing_text (parts listing).container (parts listing).loader) };
+
+    fn status(&self) -> u8 {
+        DONE
+    }
+
+    fn print<W: Sink>(&self, out: &mut W, page: &mut Page) -> Result<(), StreamFault> {
+        Listing::print(self, out, page)
+    }
+}
