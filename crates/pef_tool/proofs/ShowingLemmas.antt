@@ -13,10 +13,10 @@ use Rattle.cfm_memory.specs.Placement.{step_of}
 use Rattle.cfm_memory.specs.declared.place.MemoryFault.TheVariants.{NoRoom, OutOfMemory}
 use Rattle.cfm_memory.specs.declared.place.Place.{Place}
 use Rattle.cfm_memory.proofs.Laws.{all_find_room, length-placed, most_taken}
-use Rattle.cfm_prepare.specs.Images.{extent_at, extent_in, extents_from, extents_of, filled_at, filled_in, first_image_refusal, image_of, image_refusal}
-use Rattle.cfm_prepare.specs.Prepared.{MayNotPrepare, addresses_at, entry_address, first_reloc_refusal, prepared_at}
-use Rattle.cfm_prepare.specs.declared.fault.PrepareFault.{PrepareFault}
-use Rattle.cfm_prepare.specs.declared.fault.PrepareFault.TheVariants.{Memory, Pack, Reloc}
+use Rattle.cfm_fragment.specs.Images.{extent_at, extent_in, extents_from, extents_of, filled_at, filled_in, first_image_refusal, image_of, image_refusal}
+use Rattle.cfm_fragment.specs.Prepared.{MayNotPrepare, addresses_at, entry_address, first_reloc_refusal, prepared_at}
+use Rattle.cfm_fragment.specs.declared.fault.PrepareFault.{PrepareFault}
+use Rattle.cfm_fragment.specs.declared.fault.PrepareFault.TheVariants.{Memory, Pack, Reloc}
 use Rattle.pef_loader.specs.Loader.{Loaded, reloc_of}
 use Rattle.pef_reloc.specs.declared.instr.Instr.{Instr}
 use Rattle.pef_reloc.specs.Additions.{AreInside}

@@ -2,7 +2,7 @@
 use Rattle.std.specs.Prelude.{◌≡◌, ℕ, ◌≤◌, List, [], Some, Ok, Err, codes, length, map, option_map, slice_get}
 use Rattle.cfm_memory.specs.Extents.{ArePlaced, Stand, no_instances}
 use Rattle.cfm_memory.specs.Instances.{Layout}
-use Rattle.cfm_prepare.specs.Prepared.{addresses_at, entry_address}
+use Rattle.cfm_fragment.specs.Prepared.{addresses_at, entry_address}
 use Rattle.pef_ports.specs.Input.{IsLonger, IsWhole, WasReadWithin}
 use Rattle.pef_ports.specs.Ports.{Stream, LastFailed, NoneFailed}
 use Rattle.pef_reloc.specs.Applied.{address_of}

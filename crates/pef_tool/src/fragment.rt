@@ -7,7 +7,7 @@ ghost use Rattle.pef_tool.specs.Show.{shown_text};
 
 use crate::prepared::Prepared;
 use cfm_memory::{Memory, Place};
-use cfm_prepare::Entries;
+use cfm_fragment::Entries;
 use pef_ports::{
     Line, Page, Sink, StreamFault, print_memory, push_number, push_text, push_word, send,
 };

@@ -1,6 +1,6 @@
 ghost use Rattle.std.specs.Prelude.{◌≡◌, [], IfErr, IfOk};
 ghost use Rattle.cfm_memory.specs.Extents.{no_instances};
-ghost use Rattle.cfm_prepare.specs.Prepared.{MayNotPrepare};
+ghost use Rattle.cfm_fragment.specs.Prepared.{MayNotPrepare};
 ghost use Rattle.pef_loader.specs.Views.{loaded};
 ghost use Rattle.pef_views.specs.Views.{contained};
 ghost use Rattle.pef_tool.specs.Kept.Prepared.{IsPreparedAlone};
@@ -8,7 +8,7 @@ ghost use Rattle.pef_tool.specs.Limits.{memory_limit};
 
 use crate::prepared::Prepared;
 use cfm_memory::Memory;
-use cfm_prepare::{PrepareFault, prepare};
+use cfm_fragment::{PrepareFault, prepare};
 use pef_loader::Loader;
 use pef_views::Container;
 use std::alloc::Global;

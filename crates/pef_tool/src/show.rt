@@ -11,7 +11,7 @@ use crate::prepared::Prepared;
 use crate::refusal::{NamedRefusal, Refusal, script_refusal};
 use crate::reply::{DONE, Reply, deliver};
 use cfm_memory::MemoryFault;
-use cfm_prepare::PrepareFault;
+use cfm_fragment::PrepareFault;
 use pef_loader::Loader;
 use pef_ports::{InputFault, Page, Sink, Source, StreamFault, read_input};
 use pef_script::Script;

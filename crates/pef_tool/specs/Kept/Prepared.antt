@@ -1,7 +1,7 @@
 -- A container that was prepared alone.
 use Rattle.std.specs.Prelude.{◌≡◌, []}
 use Rattle.cfm_memory.specs.Extents.{no_instances}
-use Rattle.cfm_prepare.specs.Prepared.{IsPrepared, entry_address}
+use Rattle.cfm_fragment.specs.Prepared.{IsPrepared, entry_address}
 use Rattle.pef_loader.specs.Loader.{Loaded, init_of, main_of, term_of}
 use Rattle.pef_views.specs.Container.{Contained}
 use Rattle.pef_tool.specs.declared.prepared.Prepared.{Prepared}

@@ -1,7 +1,7 @@
 -- What was prepared lies below the limit.
 use Rattle.std.proofs.Common.{ap, arith}
 use Rattle.cfm_memory.specs.Instances.{Layout}
-use Rattle.cfm_prepare.specs.Images.{extents_of}
+use Rattle.cfm_fragment.specs.Images.{extents_of}
 use Rattle.pef_views.specs.Views.{contained}
 use Rattle.pef_tool.proofs.PreparedLemmas.{held_below}
 use Rattle.pef_tool.proofs.prepare.prepare_alone.Goals as goal

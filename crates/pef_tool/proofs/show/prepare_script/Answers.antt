@@ -1,8 +1,8 @@
 -- The container that was linked is read, and prepares to what the script describes.
 use Rattle.std.proofs.Common.{◌≡◌, Ok, Err, Result, sym, ◌∙◌}
 use Rattle.cfm_memory.specs.declared.place.MemoryFault.TheVariants.{NoRoom, OutOfMemory}
-use Rattle.cfm_prepare.specs.declared.fault.PrepareFault.{PrepareFault}
-use Rattle.cfm_prepare.specs.declared.fault.PrepareFault.TheVariants.{Memory, Reloc}
+use Rattle.cfm_fragment.specs.declared.fault.PrepareFault.{PrepareFault}
+use Rattle.cfm_fragment.specs.declared.fault.PrepareFault.TheVariants.{Memory, Reloc}
 use Rattle.pef_loader.specs.Loader.{Loaded}
 use Rattle.pef_loader.specs.Views.{loaded}
 use Rattle.pef_loader.specs.declared.fault.LoaderFault.{LoaderFault}
