@@ -116,10 +116,22 @@ const TEXTS: [(&str, usize); 46] = [
     ("section 0\nfixups 0\nlength 2\nprogram A000 0000\n", 6),
     ("section 0\nfixups 0\nlength 2\nprogram 4200 9001\n", 6),
     ("section 0\nfixups 0\nlength 0\nprogram -\nregisters\n", 6),
-    ("section 0\nfixups 0\nlength 0\nprogram -\nregisters 0 1\n", 6),
-    ("section 0\nfixups 0\nlength 0\nprogram -\nregisters * 1\n", 6),
-    ("section 0\nfixups 0\nlength 0\nprogram -\nregisters 1 0 *\n", 6),
-    ("section 0\nfixups 0\nlength 0\nprogram -\nregisters 1 1 *\n", 6),
+    (
+        "section 0\nfixups 0\nlength 0\nprogram -\nregisters 0 1\n",
+        6,
+    ),
+    (
+        "section 0\nfixups 0\nlength 0\nprogram -\nregisters * 1\n",
+        6,
+    ),
+    (
+        "section 0\nfixups 0\nlength 0\nprogram -\nregisters 1 0 *\n",
+        6,
+    ),
+    (
+        "section 0\nfixups 0\nlength 0\nprogram -\nregisters 1 1 *\n",
+        6,
+    ),
     (
         "section 0\nfixups 0\nlength 0\nprogram -\nregisters 0 1 2 3 4 5 6 7 8 9 10 11 12 13 14 15 16 *\n",
         6,
@@ -128,12 +140,30 @@ const TEXTS: [(&str, usize); 46] = [
         "section 0\nfixups 0\nlength 0\nprogram -\nregisters 0 1 2 3 4 5 6 7 8 9 10 11 12 13 14 15 *\n",
         7,
     ),
-    ("section 0\nfixups 0\nlength 0\nprogram -\nregisters *\nend\n", 7),
-    ("section 0\nfixups 0\nlength 0\nprogram -\nregisters *\nat 1 0\n", 7),
-    ("section 0\nfixups 0\nlength 0\nprogram -\nregisters *\nat 0\n", 7),
-    ("section 0\nfixups 0\nlength 0\nprogram -\nregisters *\nat 0 0 0\n", 7),
-    ("section 0\nfixups 0\nlength 0\nprogram -\nregisters *\nat 0 0\nat 1 0\n", 8),
-    ("section 0\nfixups 1\nlength 0\nprogram -\nregisters *\nat 0 0\nat 0 0\n", 8),
+    (
+        "section 0\nfixups 0\nlength 0\nprogram -\nregisters *\nend\n",
+        7,
+    ),
+    (
+        "section 0\nfixups 0\nlength 0\nprogram -\nregisters *\nat 1 0\n",
+        7,
+    ),
+    (
+        "section 0\nfixups 0\nlength 0\nprogram -\nregisters *\nat 0\n",
+        7,
+    ),
+    (
+        "section 0\nfixups 0\nlength 0\nprogram -\nregisters *\nat 0 0 0\n",
+        7,
+    ),
+    (
+        "section 0\nfixups 0\nlength 0\nprogram -\nregisters *\nat 0 0\nat 1 0\n",
+        8,
+    ),
+    (
+        "section 0\nfixups 1\nlength 0\nprogram -\nregisters *\nat 0 0\nat 0 0\n",
+        8,
+    ),
 ];
 
 #[test]
@@ -168,7 +198,9 @@ fn versions(rt: HostRuntime) {
 #[test]
 fn faults(rt: HostRuntime) -> Result<(), Fail> {
     let alloc = rt.alloc();
-    let fault = read(alloc, b"pefcert 3\nend\n").err().expect(&rt, "refused");
+    let fault = read(alloc, b"pefcert 3\nend\n")
+        .err()
+        .expect(&rt, "refused");
     assert_eq!(rt; fault.number(), 51);
     let text = format!(in alloc; "{fault}")?;
     assert_eq!(rt; text.as_str(), "BadCertificate line 1");

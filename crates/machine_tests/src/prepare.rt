@@ -1,5 +1,5 @@
-use cfm_memory::Memory;
 use cfm_fragment::{Fragment, prepare};
+use cfm_memory::Memory;
 use pef_loader::Loader;
 use pef_views::Container;
 use std::alloc::{AllocError, Global};

@@ -43,6 +43,11 @@ impl ListFault {
 }
 
 impl fmt::Display for ListFault {
+    ghost use Rattle.std.specs.Prelude.{Some};
+    ghost use Rattle.pef_listing.specs.Faults.{fault_name};
+
+    ghost output = { λ fault. Some (fault_name fault) };
+
     fn fmt<W: fmt::Write>(&self, f: &mut fmt::Formatter<W>) -> fmt::Result {
         f.write_str(self.name())
     }

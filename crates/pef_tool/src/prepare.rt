@@ -7,8 +7,8 @@ ghost use Rattle.pef_tool.specs.Kept.Prepared.{IsPreparedAlone};
 ghost use Rattle.pef_tool.specs.Limits.{memory_limit};
 
 use crate::prepared::Prepared;
-use cfm_memory::Memory;
 use cfm_fragment::{PrepareFault, prepare};
+use cfm_memory::Memory;
 use pef_loader::Loader;
 use pef_views::Container;
 use std::alloc::Global;
