@@ -16,7 +16,7 @@ use Rattle.cfm_closure.specs.Stores.{Pair, pair_of}
 use Rattle.cfm_closure.specs.Targets.{exports_among, follow, symbol_of, target_of}
 use Rattle.cfm_closure.specs.Walk.{order_of}
 use Rattle.cfm_closure.proofs.LoopLemmas.{again_in_store, follow-order, for_ever}
-use Rattle.cfm_closure.proofs.OrderFacts.{order-complete, order-last}
+use Rattle.cfm_closure.proofs.OrderFacts.{order-complete, order-last, order-root}
 use Rattle.cfm_closure.proofs.Ranks.{contains_cases}
 use Rattle.cfm_closure.proofs.WalkRules.{came, same_ok}
 
@@ -44,6 +44,9 @@ closed-complete pairs root c is = order-complete pairs root c.order (is_closed p
 
 pub closed-root : (pairs : List Pair) (root : ℕ) (c : Closed) → root < length pairs → closed_of pairs root ≡ Ok c → EndsWith c.order root
 closed-root pairs root c inside is = order-last pairs root c.order (is_closed pairs root c is).order inside
+
+pub closed-member : (pairs : List Pair) (root : ℕ) (c : Closed) → root < length pairs → closed_of pairs root ≡ Ok c → Contains c.order root
+closed-member pairs root c inside is = order-root pairs root c.order (is_closed pairs root c is).order inside
 
 -- where no import is refused, none of a fragment's is
 passes-of : (pairs : List Pair) (order : List ℕ) (p : ℕ) → first_refused pairs order ≡ None → Contains order p → imports_refusal pairs p ≡ None

@@ -29,7 +29,7 @@ pub fragment-name : (pairs : List Pair) (p : ℕ) (f : Fragment) → fragment_of
 unfolding fragment_of
 fragment-name pairs p f is = container-name (pair_of pairs p).name (container_of (pair_of pairs p).bytes) f is
 
-loader_at-is : (pairs : List Pair) (p : ℕ) (f : Fragment) → fragment_of pairs p ≡ Ok f → loader_at pairs p ≡ Some f.loader
+pub loader_at-is : (pairs : List Pair) (p : ℕ) (f : Fragment) → fragment_of pairs p ≡ Ok f → loader_at pairs p ≡ Some f.loader
 loader_at-is pairs p f is = rw is refl
 
 -- an import whose name isn't exported by the fragment of its library

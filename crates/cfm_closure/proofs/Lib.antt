@@ -15,6 +15,8 @@ mod PathLemmas
 mod Pigeons
 mod PlaceLemmas
 mod Ranks
+mod ReadLemmas
 mod TableLemmas
+mod TargetLemmas
 mod WalkFacts
 mod WalkRules

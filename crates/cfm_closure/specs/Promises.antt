@@ -1,9 +1,11 @@
 -- What holds of closures beside their definitions.
-use Rattle.std.specs.Prelude.{◌≡◌, ◌≢◌, ℕ, ◌<◌, ◌≤◌, List, [], ◌∷◌, ◌++◌, length, Option, Some, Result, Ok, Err, Contains, AllPairs}
+use Rattle.std.specs.Prelude.{◌≡◌, ◌≢◌, ⊤, ℕ, ◌<◌, ◌≤◌, List, [], ◌∷◌, ◌++◌, length, Option, None, Some, Result, Ok, Err, Contains, AllPairs}
 use Rattle.std.specs.Option.{option_map_or}
+use Rattle.pef_loader.specs.Loader.{IsLoader, Loaded}
 use Rattle.cfm_closure.specs.declared.targets.Target.{Target}
-use Rattle.cfm_closure.specs.Faults.{Refusal, reexport_loop}
-use Rattle.cfm_closure.specs.Fragments.{Fragment, fragment_of}
+use Rattle.cfm_closure.specs.declared.targets.Target.TheVariants.{Absolute, At}
+use Rattle.cfm_closure.specs.Faults.{Refusal, implementation_too_new, implementation_too_old, init_loop, library_missing, no_container, no_loader, reexport_loop, symbol_missing}
+use Rattle.cfm_closure.specs.Fragments.{Fragment, fragment_of, loader_at}
 use Rattle.cfm_closure.specs.Libraries.{bound_to}
 use Rattle.cfm_closure.specs.Stores.{Pair, pair_of}
 use Rattle.cfm_closure.specs.Targets.{exports_among, follow, symbol_of, target_of}
@@ -30,6 +32,40 @@ pub record IsComplete (pairs : List Pair) (order : List ℕ) : Type 0 where
 -- the last fragment of an order
 abbrev pub EndsWith : List ℕ → ℕ → Type 0
 EndsWith order p = (front : List ℕ) × (order ≡ front ++ p ∷ [])
+
+-- the loader section of a fragment is one of its container
+pub record IsSound (f : Fragment) : Type 0 where
+  pub loader : IsLoader f.loader
+  pub sections : f.loader.sections ≡ f.container.header.instantiated_section_count
+
+-- all fragments of a store are read
+abbrev pub AllRead : List Pair → Type 0
+AllRead pairs = (p : ℕ) → p < length pairs → (f : Fragment) × (fragment_of pairs p ≡ Ok f)
+
+-- a refusal is of libraries, of symbols or of the order of initialization, and of no fragment's bytes
+abbrev pub IsOfBinding : Refusal → Type 0
+IsOfBinding (no_container f v) = ⊥
+IsOfBinding (no_loader f v) = ⊥
+IsOfBinding (library_missing f l) = ⊤
+IsOfBinding (symbol_missing f l s) = ⊤
+IsOfBinding (implementation_too_old f l) = ⊤
+IsOfBinding (implementation_too_new f l) = ⊤
+IsOfBinding (reexport_loop f s) = ⊤
+IsOfBinding (init_loop f) = ⊤
+
+-- a section is an instantiated one of a fragment of an order
+pub record HasSection (pairs : List Pair) (order : List ℕ) (fragment section : ℕ) : Type 0 where
+  pub member : Contains order fragment
+  pub place : fragment < length pairs
+  pub loader : Loaded
+  pub read : loader_at pairs fragment ≡ Some loader
+  pub below : section < loader.sections
+
+-- a target that is a place is in a section that an order has
+abbrev pub LiesInside : List Pair → List ℕ → Option Target → Type 0
+LiesInside pairs order None = ⊤
+LiesInside pairs order (Some (Absolute n)) = ⊤
+LiesInside pairs order (Some (At fragment section offset)) = HasSection pairs order fragment section
 
 -- an import isn't refused
 abbrev pub HasTarget : List Pair → ℕ → ℕ → Type 0

@@ -3,7 +3,7 @@ ghost use Rattle.pef_views.specs.Views.{contained};
 ghost use Rattle.pef_loader.specs.Views.{loaded};
 ghost use Rattle.cfm_closure.specs.Fragments.{container_at, import_count, library_count, loader_at};
 ghost use Rattle.cfm_closure.specs.Libraries.{bound_to};
-ghost use Rattle.cfm_closure.specs.Promises.{IsComplete};
+ghost use Rattle.cfm_closure.specs.Promises.{IsComplete, LiesInside};
 ghost use Rattle.cfm_closure.specs.Targets.{target_of};
 
 use crate::bindings::Bindings;
@@ -82,11 +82,13 @@ impl<'a> Closure<'a> {
     }
 
     /// What an import of a fragment of the closure means, through as many exports as pass it on. `None`
-    /// stands for the address 0: the library is absent, or a weak import's symbol is missing.
+    /// stands for the address 0: the library is absent, or a weak import's symbol is missing. A target that
+    /// is a place is in an instantiated section of a fragment of the closure.
     pub fn target(&self, p: usize, import: usize) -> Option<Target>
         requires there { Contains self.now.order p }
         requires below { import < import_count self.now.pairs p }
-        ensures { target_of self.now.pairs p import ≡ Ok result }
+        ensures target { target_of self.now.pairs p import ≡ Ok result }
+        ensures inside { LiesInside self.now.pairs self.now.order result }
     {
         match self.targets[p].get(import) {
             Some(target) => target,

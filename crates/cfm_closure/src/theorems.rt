@@ -1,8 +1,9 @@
 //! Laws of the definitions, for the proofs of other crates. The functions do nothing.
-ghost use Rattle.std.specs.Prelude.{◌≡◌, ◌<◌, ◌↔◌, ℕ, List, None, Ok, Contains, length};
+ghost use Rattle.std.specs.Prelude.{◌≡◌, ◌<◌, ◌↔◌, ℕ, List, None, Ok, Err, Contains, length};
 ghost use Rattle.cfm_closure.specs.Closures.{Closed, closed_of};
+ghost use Rattle.cfm_closure.specs.Faults.{Refusal};
 ghost use Rattle.cfm_closure.specs.Fragments.{import_count};
-ghost use Rattle.cfm_closure.specs.Promises.{EndsWith, HasTarget, IsComplete, target_within};
+ghost use Rattle.cfm_closure.specs.Promises.{AllRead, EndsWith, HasTarget, IsComplete, IsOfBinding, target_within};
 ghost use Rattle.cfm_closure.specs.Reexports.{MeetsAgain};
 ghost use Rattle.cfm_closure.specs.Stores.{Pair};
 ghost use Rattle.cfm_closure.specs.Targets.{exports_among, follow, target_of};
@@ -30,4 +31,9 @@ pub fn closures_agree()
 /// More hops than the closure of a fragment has exports are just where an export is met a second time.
 pub fn endless_imports()
     ensures { (pairs : List Pair) (order : List ℕ) (p j : ℕ) → IsComplete pairs order → Contains order p → (follow (exports_among pairs order) pairs p j ≡ None) ↔ MeetsAgain pairs (p, j) }
+{}
+
+/// Where all fragments of a store are read, none of its closures is refused by the bytes of a fragment.
+pub fn readable_stores()
+    ensures { (pairs : List Pair) (root : ℕ) (r : Refusal) → AllRead pairs → root < length pairs → closed_of pairs root ≡ Err r → IsOfBinding r }
 {}

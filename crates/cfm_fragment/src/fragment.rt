@@ -64,8 +64,16 @@ pub fn prepare(
     }
 }
 
-/// Fills and relocates the instantiated sections of a container, which were just placed.
-fn prepare_placed(
+/// Fills and relocates the instantiated sections of a container, which were just placed and are zeros.
+///
+/// `places` are theirs, and `imports` the addresses of the targets of its imports, which may lie in these
+/// places.
+///
+/// # Errors
+///
+/// `Memory` where the machine refuses memory; else `Pack` with the first refusal among the images; else
+/// `Reloc` with the first refusal among the relocation headers. Nothing is given back.
+pub fn prepare_placed(
     alloc: Global,
     memory: &mut Memory,
     places: &[Place],

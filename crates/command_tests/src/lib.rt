@@ -12,6 +12,8 @@ mod containers;
 #[cfg(test)]
 mod failures;
 #[cfg(test)]
+mod libraries;
+#[cfg(test)]
 mod limits;
 #[cfg(test)]
 mod link;

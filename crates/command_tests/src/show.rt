@@ -5,7 +5,7 @@ use std::test::Fail;
 /// Scripts on the input, what `show` prints of them, and its status.
 #[test]
 fn show(rt: HostRuntime) -> Result<(), Fail> {
-    let rows: [(&[u8], &[u8], u8); 18] = [
+    let rows: [(&[u8], &[u8], u8); 16] = [
         (EXAMPLE, EXAMPLE_SHOWN, 0),
         (b"", b"fragment it\n", 0),
         (
@@ -72,16 +72,6 @@ fn show(rt: HostRuntime) -> Result<(), Fail> {
         (
             b"section d odd process 4 8\n",
             b"refused 49 BadKind line 1\n",
-            1,
-        ),
-        (
-            b"library L 1 0 weak\nimport v data weak\nsection d data process 4 4\nfix d 0 import v\n",
-            b"refused 61 LibraryMissing in it library L\n",
-            1,
-        ),
-        (
-            b"library a%b 0 0 -\nlibrary c 0 0 before\n",
-            b"refused 61 LibraryMissing in it library a%25b\n",
             1,
         ),
     ];

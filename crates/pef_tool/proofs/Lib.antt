@@ -1,4 +1,6 @@
+mod AddressLemmas
 mod CheckLemmas
+mod DescribedLemmas
 mod LinkLemmas
 mod LinkedLemmas
 mod OutcomeLemmas

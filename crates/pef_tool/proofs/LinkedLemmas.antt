@@ -1,10 +1,10 @@
--- What is linked of a script is read back as the script's container.
-use Rattle.std.proofs.Common.{◌≡◌, List, ℕ, Ok, Result, sym, ap, subst, ◌∙◌}
-use Rattle.pef_loader.specs.Loader.{Loaded, loaded_of}
-use Rattle.pef_loader.specs.declared.fault.LoaderFault.{LoaderFault}
+-- What is linked of a script is read back as the script's container, under any name and in any store.
+use Rattle.std.proofs.Common.{◌≡◌, List, ℕ, Ok, sym, ap, subst, ◌∙◌}
+use Rattle.cfm_closure.specs.Fragments.{Fragment, fragment_of, with_container, with_loader}
+use Rattle.cfm_closure.specs.Stores.{Pair, pair_of}
+use Rattle.pef_loader.specs.Loader.{Loaded}
 use Rattle.pef_script.specs.Script.{DescribedScript}
 use Rattle.pef_views.specs.Container.{Contained, container_of}
-use Rattle.pef_views.specs.declared.fault.ViewFault.{ViewFault}
 use Rattle.pef_write.specs.Linked.{IsLinked, LinkedContainer}
 use Rattle.pef_write.specs.ReadBack.{HasSections, HasTables}
 use Rattle.pef_write.proofs.Laws.{is_read_back}
@@ -14,29 +14,22 @@ pub record IsContainerOf (script : DescribedScript) (k : LinkedContainer) (linke
   pub sections : HasSections script c
   pub tables : HasTables script linked.programs l
 
-module _ (script : DescribedScript) (k : LinkedContainer) (bytes : List ℕ) (linked : IsLinked script k) (is : bytes ≡ k.bytes) where
-  -- the bytes that are linked are read as a container ..
-  pub container_read : container_of bytes ≡ Ok (is_read_back script k linked).container
-  container_read = ap container_of is ∙ (is_read_back script k linked).read
+module _ (script : DescribedScript) (k : LinkedContainer) (linked : IsLinked script k) (pairs : List Pair) (p : ℕ) where
+  -- the fragment in a place that has the linked bytes ..
+  abbrev pub read_fragment : Fragment
+  read_fragment = record { name = (pair_of pairs p).name; container = (is_read_back script k linked).container; loader = (is_read_back script k linked).loader }
 
-  -- .. and its loader section
-  pub loader_read : (c : Contained) → ◌≡◌ {A = Result Contained ViewFault} (Ok c) (container_of bytes) → loaded_of c.header.instantiated_section_count c.loader ≡ Ok (is_read_back script k linked).loader
-  loader_read c read =
+  pub record FragmentLinked : Type 0 where
+    pub read : fragment_of pairs p ≡ Ok read_fragment
+    pub of : IsContainerOf script k linked read_fragment.container read_fragment.loader
+
+  -- .. is read, as the script's
+  pub fragment_linked : (pair_of pairs p).bytes ≡ k.bytes → FragmentLinked
+  unfolding fragment_of
+  fragment_linked is =
       let back = is_read_back script k linked in
-      let e : ◌≡◌ {A = Result Contained ViewFault} (Ok c) (Ok back.container) = read ∙ container_read in
-      let same : c ≡ back.container = cc in
-      ap (λ (d : Contained). loaded_of d.header.instantiated_section_count d.loader) same ∙ back.loaded
-
-  -- .. which are the script's
-  pub was_read : (c : Contained) (l : Loaded) → ◌≡◌ {A = Result Contained ViewFault} (Ok c) (container_of bytes) → ◌≡◌ {A = Result Loaded LoaderFault} (Ok l) (loaded_of c.header.instantiated_section_count c.loader) → IsContainerOf script k linked c l
-  was_read c l read loads =
-      let back = is_read_back script k linked in
-      let e : ◌≡◌ {A = Result Contained ViewFault} (Ok c) (Ok back.container) = read ∙ container_read in
-      let f : ◌≡◌ {A = Result Loaded LoaderFault} (Ok l) (Ok back.loader) = loads ∙ loader_read c read in
-      let same : c ≡ back.container = cc in
-      let same_loader : l ≡ back.loader = cc in
-      record { sections = subst (HasSections script) (sym same) back.sections; tables = subst (HasTables script linked.programs) (sym same_loader) back.tables }
-
--- so the loader section knows the number of its sections
-pub sections_read : (script : DescribedScript) (k : LinkedContainer) (linked : IsLinked script k) (c : Contained) (l : Loaded) → IsContainerOf script k linked c l → l.sections ≡ c.header.instantiated_section_count
-sections_read script k linked c l of = of.tables.sections ∙ sym of.sections.instantiated
+      let name = (pair_of pairs p).name in
+      record {
+        read = ap (with_container name) (ap container_of is ∙ back.read) ∙ ap (with_loader name back.container) back.loaded;
+        of = record { sections = back.sections; tables = back.tables };
+      }

@@ -20,7 +20,7 @@ use Rattle.pef_tool.specs.Link as link
 use Rattle.pef_tool.specs.List as list
 use Rattle.pef_tool.specs.Refusals.{refusal_text}
 use Rattle.pef_tool.specs.Run.{RunAnswers}
-use Rattle.pef_tool.specs.Show.{ShowEnds, ShowOutcome, shows, misses, refuses}
+use Rattle.pef_tool.specs.Show.{ShowEnds, ShowOutcome, refuses, shows, unbound}
 use Rattle.pef_tool.specs.declared.refusal.Refusal.{Refusal}
 use Rattle.pef_tool.specs.declared.refusal.Refusal.TheVariants as refusal
 
@@ -34,12 +34,12 @@ ends_with before after read text script (shows p) reads same is ends = record {
   is_script = ap script_of (sym same) ∙ is;
   shown = ends;
 }
-ends_with before after read text script (misses name) reads same is ends = record {
+ends_with before after read text script (unbound fault) reads same is ends = record {
   text = read.items;
   input = record { whole = reads.0; short = reads.2; sound = reads.3 };
   script = script;
   is_script = ap script_of (sym same) ∙ is;
-  first = ends;
+  lacks = ends;
 }
 ends_with before after read text script (refuses why) reads same is ends = rw ends ((read.items, reads.1, reads.2), reads.3)
 

@@ -1,10 +1,15 @@
--- Names of refusals are short.
-use Rattle.std.proofs.Common.{◌≤◌, length, arith}
+-- Names of refusals are short, and their lines are sent piece by piece.
+use Rattle.std.proofs.Common.{◌≡◌, ◌≤◌, List, ℕ, length, subst, arith}
+use Rattle.cfm_closure.specs.Faults as binds
+use Rattle.cfm_closure.specs.declared.fault.BindFault.{BindFault}
+use Rattle.cfm_closure.specs.declared.fault.BindFault.TheVariants as bind
 use Rattle.pef_listing.specs.declared.fault.ListFault.{ListFault}
 use Rattle.pef_listing.specs.declared.fault.ListFault.TheVariants as listing
 use Rattle.pef_loader.specs.Faults as loaders
 use Rattle.pef_loader.specs.declared.fault.LoaderFault.{LoaderFault}
 use Rattle.pef_loader.specs.declared.fault.LoaderFault.TheVariants as loader
+use Rattle.pef_ports.specs.Ports.{Stream}
+use Rattle.pef_ports.specs.Sent.{Prints, StopsShort}
 use Rattle.pef_reloc.specs.Faults as relocs
 use Rattle.pef_reloc.specs.declared.fault.RelocFault.{RelocFault}
 use Rattle.pef_reloc.specs.declared.fault.RelocFault.TheVariants as reloc
@@ -15,7 +20,7 @@ use Rattle.pef_views.specs.declared.fault.ViewFault.{ViewFault}
 use Rattle.pef_views.specs.declared.fault.ViewFault.TheVariants as view
 use Rattle.pef_tool.specs.Refusals.{name_of}
 use Rattle.pef_tool.specs.declared.refusal.Refusal.{Refusal}
-use Rattle.pef_tool.specs.declared.refusal.Refusal.TheVariants.{Script, Listing, Reloc, NoRoom, BadCertificate, SectionsDiffer, InputUnreadable, InputTooLong, OutOfMemory}
+use Rattle.pef_tool.specs.declared.refusal.Refusal.TheVariants.{Script, Listing, BadCertificate, SectionsDiffer, InputUnreadable, InputTooLong, OutOfMemory}
 
 view_name : (fault : ViewFault) → length (views.fault_name fault) ≤ 16
 view_name view.TooShort = omega arith
@@ -40,6 +45,18 @@ loader_name loader.BadRelocSection = omega arith
 loader_name loader.RelocOutside = omega arith
 loader_name loader.BadExportTable = omega arith
 loader_name loader.BadExportSection = omega arith
+
+-- names of the refusals of closures are short
+pub short_bind_name : (fault : BindFault) → length (binds.fault_name fault) ≤ 20
+short_bind_name (bind.Container f v) = omega (arith, view_name v)
+short_bind_name (bind.Loader f v) = omega (arith, loader_name v)
+short_bind_name (bind.LibraryMissing f l) = omega arith
+short_bind_name (bind.SymbolMissing f l s) = omega arith
+short_bind_name (bind.ImplementationTooOld f l) = omega arith
+short_bind_name (bind.ImplementationTooNew f l) = omega arith
+short_bind_name (bind.ReexportLoop f s) = omega arith
+short_bind_name (bind.InitLoop f) = omega arith
+short_bind_name bind.OutOfMemory = omega arith
 
 reloc_name : (fault : RelocFault) → length (relocs.fault_name fault) ≤ 16
 reloc_name reloc.BadOpcode = omega arith
@@ -72,10 +89,15 @@ short_name (Listing fault) = go fault
     go (listing.View fault) = view_name fault
     go (listing.Loader fault) = loader_name fault
     go (listing.Reloc fault) = reloc_name fault
-short_name (Reloc fault) = reloc_name fault
-short_name NoRoom = omega arith
 short_name (BadCertificate line) = omega arith
 short_name SectionsDiffer = omega arith
 short_name InputUnreadable = omega arith
 short_name InputTooLong = omega arith
 short_name OutOfMemory = omega arith
+
+-- a piece that is the same was sent, or stopped short
+pub same_printed : {a b : Stream} {p l t u : List ℕ} → t ≡ u → Prints a b p l t → Prints a b p l u
+same_printed {a} {b} {p} {l} {t} {u} same prints = subst (Prints a b p l) same prints
+
+pub same_short : {a b : Stream} {p t u : List ℕ} → t ≡ u → StopsShort a b p t → StopsShort a b p u
+same_short {a} {b} {p} {t} {u} same short = subst (StopsShort a b p) same short

@@ -1,76 +1,36 @@
--- A container that was linked of a script prepares to what the script describes, and is never refused.
-use Rattle.std.proofs.Common.{◌≡◌, ℕ, suc, ◌+◌, ◌*◌, ◌^◌, ◌<◌, ◌≤◌, ◌==◌, true, false, List, [], ◌∷◌, None, Some, get_or, length, map, option_map, inl, inr, refl, sym, ap, ap₂, subst, ◌∙◌, arith}
-use Rattle.std.specs.List.{AllByRecursion, slice_get}
-use Rattle.std.specs.Option.{option_and_then, option_map_or}
-use Rattle.std.specs.Prelude.{Ok}
-use Rattle.std.specs.Result.{result_err, result_unwrap_or}
+-- What is linked of a script and prepared alone is shown as the script describes, and only memory can be wanting; where
+-- it has no closure, none of its bytes is the reason.
+use Rattle.std.proofs.Common.{◌≡◌, ℕ, zero, suc, ◌+◌, ◌*◌, ◌^◌, ◌<◌, ◌≤◌, List, [], ◌∷◌, Ok, Err, length, map, refl, sym, ap, subst, ◌∙◌, arith}
+use Rattle.std.specs.List.{AllByRecursion}
 use Rattle.std.proofs.Math.Nat.{max-le, pow-le-pow_right}
-use Rattle.std.proofs.lemmas.Bool.Decides.{eqb_tells}
-use Rattle.std.proofs.lemmas.List.{length-map, take_all}
-use Rattle.std.proofs.lemmas.Option.{slice_get-get_or}
-use Rattle.cfm_memory.specs.Extents.{ArePlaced, LackRoom, no_instances}
+use Rattle.cfm_closure.specs.Closures.{Closed, closed_of}
+use Rattle.cfm_closure.specs.Faults.{Fails, Refusal}
+use Rattle.cfm_closure.specs.Fragments.{Fragment, fragment_of}
+use Rattle.cfm_closure.specs.Promises.{AllRead, IsOfBinding}
+use Rattle.cfm_closure.specs.Stores.{Pair}
+use Rattle.cfm_closure.specs.declared.fault.BindFault.{BindFault}
+use Rattle.cfm_closure.specs.declared.fault.BindFault.TheVariants as bind_fault
+use Rattle.cfm_closure.proofs.Laws.{closed-refused}
+use Rattle.cfm_memory.specs.Extents.{MayNotPlace, no_instances}
 use Rattle.cfm_memory.specs.Placement.{step_of}
+use Rattle.cfm_memory.specs.declared.place.MemoryFault.{MemoryFault}
 use Rattle.cfm_memory.specs.declared.place.MemoryFault.TheVariants.{NoRoom, OutOfMemory}
-use Rattle.cfm_memory.specs.declared.place.Place.{Place}
-use Rattle.cfm_memory.proofs.Laws.{all_find_room, length-placed, most_taken}
-use Rattle.cfm_fragment.specs.Images.{extent_at, extent_in, extents_from, extents_of, filled_at, filled_in, first_image_refusal, image_of, image_refusal}
-use Rattle.cfm_fragment.specs.Prepared.{MayNotPrepare, addresses_at, entry_address, first_reloc_refusal, prepared_at}
+use Rattle.cfm_memory.proofs.Laws.{all_find_room, most_taken}
+use Rattle.cfm_fragment.specs.Prepared.{entry_address}
 use Rattle.cfm_fragment.specs.declared.fault.PrepareFault.{PrepareFault}
-use Rattle.cfm_fragment.specs.declared.fault.PrepareFault.TheVariants.{Memory, Pack, Reloc}
-use Rattle.pef_loader.specs.Loader.{Loaded, reloc_of}
-use Rattle.pef_reloc.specs.declared.instr.Instr.{Instr}
-use Rattle.pef_reloc.specs.Additions.{AreInside}
-use Rattle.pef_reloc.specs.Applied.{Addresses, Done, address_of}
-use Rattle.pef_reloc.specs.Headers.{program_done, refusal_at, relocated_by, untouched}
-use Rattle.pef_reloc.specs.Instrs.{program_length, spelled}
-use Rattle.pef_reloc.proofs.Laws.{fixups_fit-parts, some_length}
-use Rattle.pef_reloc.proofs.Laws.Headers.{program-described, programs-sound, refusal-of}
-use Rattle.pef_script.specs.Described.{described_at, described_memory}
-use Rattle.pef_script.specs.Script.{DescribedImport, DescribedScript, DescribedSection}
-use Rattle.pef_script.specs.WellFormed.{ImportHolds, SectionHolds, is_kind}
-use Rattle.pef_views.specs.Container.{Contained}
-use Rattle.pef_words.specs.Bytes.{filled}
-use Rattle.pef_words.specs.Refusals.{result_map}
-use Rattle.pef_words.proofs.Laws.Images.{length-filled}
-use Rattle.pef_words.proofs.Laws.Lists.{all-get}
-use Rattle.pef_words.proofs.Laws.Refusals.{first_among-none}
-use Rattle.pef_write.specs.Containers.{part_header}
-use Rattle.pef_write.specs.Linked.{IsLinked, IsProgramFor, LinkedContainer, part_of, programs_from}
-use Rattle.pef_write.specs.ReadBack.{program_read}
-use Rattle.pef_write.proofs.Laws.{section_programs}
+use Rattle.cfm_fragment.specs.declared.fault.PrepareFault.TheVariants.{Memory}
+use Rattle.pef_script.specs.Script.{DescribedScript, DescribedSection}
+use Rattle.pef_script.specs.WellFormed.{SectionHolds}
+use Rattle.pef_write.specs.Linked.{IsLinked, LinkedContainer}
+use Rattle.pef_tool.specs.Alone.{import_addresses, it_alone, lies_at}
 use Rattle.pef_tool.specs.Described.{described_extent, described_extents}
-use Rattle.pef_tool.specs.Kept.Prepared.{IsPreparedAlone}
+use Rattle.pef_tool.specs.Kept.Prepared.{IsPreparedAlone, IsRefusedAlone}
 use Rattle.pef_tool.specs.Limits.{memory_limit}
-use Rattle.pef_tool.specs.Show.{IsShown}
+use Rattle.pef_tool.specs.Show.{FailsToBind, IsShown}
 use Rattle.pef_tool.specs.declared.prepared.Prepared.{Prepared}
-use Rattle.pef_tool.proofs.LinkedLemmas.{IsContainerOf}
-use Rattle.pef_tool.proofs.ProgramLemmas.{Owns, fixups_inside, owns_program, section_made}
-
--- instructions have no more halfwords than their program
-length_most : (instrs : List Instr) → length instrs ≤ program_length instrs
-length_most [] = omega arith
-length_most (x ∷ instrs) = omega (arith, some_length x, length_most instrs)
-
--- a section of a script is never packed
-not_packed : (kind : ℕ) → is_kind kind ≡ true → (kind == 2) ≡ false
-not_packed kind holds = elim (eqb_tells kind 2) [
-  | inl same ↦ (let packed : is_kind 2 ≡ true = subst (λ n. is_kind n ≡ true) same.1 holds in absurd (cc))
-  | inr other ↦ other.0
-]
-
--- so its image is its raw bytes
-image_whole : (s : DescribedSection) (at : ℕ) → is_kind s.header.kind ≡ true → image_of (record { header = part_header (part_of s) at; raw = s.image }) ≡ Ok s.image
-unfolding image_of
-image_whole s at holds = rw (not_packed s.header.kind holds) (ap Ok (take_all (length s.image) s.image (omega arith)))
-
--- extents that a script's sections need, where each section of a container is one of the script
-extents_same : (c : Contained) (sections : List DescribedSection) (from : ℕ) → ((k : ℕ) (s : DescribedSection) → slice_get sections k ≡ Some s → extent_at c (from + k) ≡ described_extent s)
-    → extents_from c from (length sections) ≡ map described_extent sections
-extents_same c [] from each = refl
-extents_same c (s ∷ sections) from each =
-    let here : from ≡ from + 0 = omega arith in
-    let next : (k : ℕ) → from + 1 + k ≡ from + suc k = λ k. omega arith in
-    ap₂ (λ e es. e ∷ es) (ap (extent_at c) here ∙ each 0 s refl) (extents_same c sections (from + 1) (λ k t there. ap (extent_at c) (next k) ∙ each (suc k) t there))
+use Rattle.pef_tool.proofs.AddressLemmas.{length-imports}
+use Rattle.pef_tool.proofs.DescribedLemmas.{described, lacks_room}
+use Rattle.pef_tool.proofs.LinkedLemmas.{fragment_linked, read_fragment}
 
 small_step : (alignment : ℕ) → alignment ≤ 12 → step_of alignment ≤ 2 ^ 12
 unfolding step_of
@@ -83,133 +43,65 @@ most_small : (n m : ℕ) (sections : List DescribedSection) → AllByRecursion (
 most_small n m [] each = omega arith
 most_small n m (s ∷ sections) each = omega (arith, each.0.total, small_step s.header.align each.0.align, most_small n m sections each.1)
 
--- without libraries there are no imports
-no_imports : (libraries : ℕ) (imports : List DescribedImport) → libraries ≡ 0 → AllByRecursion (ImportHolds libraries) imports → length imports ≡ 0
-no_imports libraries [] none each = refl
-no_imports libraries (i ∷ imports) none each = absurd (omega (arith, none, each.0.library))
+-- where all fragments are read, the refusal of a closure isn't of their bytes
+fails_to_bind : (bytes : List ℕ) (fault : BindFault) → ((r : Refusal) → closed_of (it_alone bytes) 0 ≡ Err r → IsOfBinding r) → Fails fault (closed_of (it_alone bytes) 0) → FailsToBind bytes fault
+fails_to_bind bytes (bind_fault.Container f v) of fails = of _ fails
+fails_to_bind bytes (bind_fault.Loader f v) of fails = of _ fails
+fails_to_bind bytes (bind_fault.LibraryMissing f l) of fails = fails
+fails_to_bind bytes (bind_fault.SymbolMissing f l s) of fails = fails
+fails_to_bind bytes (bind_fault.ImplementationTooOld f l) of fails = fails
+fails_to_bind bytes (bind_fault.ImplementationTooNew f l) of fails = fails
+fails_to_bind bytes (bind_fault.ReexportLoop f s) of fails = fails
+fails_to_bind bytes (bind_fault.InitLoop f) of fails = fails
+fails_to_bind bytes bind_fault.OutOfMemory of fails = fails
 
--- the addresses of a script's sections, and of its imports
-record AreAddresses (script : DescribedScript) (a : Addresses) : Type 0 where
-  sections : length a.sections ≡ length script.sections
-  imports : length a.imports ≡ length script.imports
+module _ (script : DescribedScript) (k : LinkedContainer) (linked : IsLinked script k) where
+  abbrev alone : List Pair
+  alone = it_alone k.bytes
 
-module _ (script : DescribedScript) (k : LinkedContainer) (linked : IsLinked script k) (c : Contained) (l : Loaded) (of : IsContainerOf script k linked c l) where
-  -- the extents are those that the script describes
-  extents_are : extents_of c ≡ described_extents script
-  extents_are =
-      let from_0 : (i : ℕ) → 0 + i ≡ i = λ i. omega arith in
-      let each : (i : ℕ) (s : DescribedSection) → slice_get script.sections i ≡ Some s → extent_at c (0 + i) ≡ described_extent s = λ i s there.
-      ap (extent_at c) (from_0 i) ∙ ap (λ o. option_map_or extent_in o (record { size = 0; alignment = 0 })) (of.sections.each i s there).is in
-      ap (extents_from c 0) of.sections.instantiated ∙ extents_same c script.sections 0 each
+  abbrev pub it : Fragment
+  it = read_fragment script k linked alone 0
 
-  -- a section holds
-  held : (i : ℕ) (s : DescribedSection) → slice_get script.sections i ≡ Some s → SectionHolds (length script.sections) (length script.imports) s
-  held i s there = all-get (SectionHolds (length script.sections) (length script.imports)) script.sections i s linked.holds.sections.each there
+  -- it is read
+  pub read_it : fragment_of alone 0 ≡ Ok it
+  read_it = (fragment_linked script k linked alone 0 refl).read
 
-  -- and is filled with its image
-  filled_is : (i : ℕ) (s : DescribedSection) → slice_get script.sections i ≡ Some s → filled_at c i ≡ filled s.image s.header.total
-  filled_is i s there =
-      let part = of.sections.each i s there in
-      ap (λ o. option_map_or (λ t. result_unwrap_or (filled_in t) []) o []) part.is
-      ∙ ap (λ r. result_unwrap_or (result_map (λ (image : List ℕ). filled image s.header.total) r) []) (image_whole s part.at (held i s there).kind)
-
-  image_sound : (i : ℕ) (s : DescribedSection) → slice_get script.sections i ≡ Some s → image_refusal c i ≡ None
-  image_sound i s there =
-      let part = of.sections.each i s there in
-      ap (option_and_then (λ t. result_err (image_of t))) part.is ∙ ap result_err (image_whole s part.at (held i s there).kind)
-
-  -- section i is made what the script describes
-  made : (a : Addresses) → AreAddresses script a → (i : ℕ) (s : DescribedSection) → slice_get script.sections i ≡ Some s
-      → relocated_by a i (reloc_of l) 0 l.header.reloc_count (filled s.image s.header.total) ≡ untouched (described_memory (address_of a) s)
-  made a there_are i s there =
-      let holds = held i s there in
-      let memory = filled s.image s.header.total in
-      let whole : length memory ≡ s.header.total = length-filled s.image s.header.total holds.image in
-      let H : ℕ → Type 0 = λ n. SectionHolds n (length a.imports) s in
-      let H' : ℕ → Type 0 = λ n. SectionHolds (length script.sections) n s in
-      let inside = fixups_inside a s (subst H (sym there_are.sections) (subst H' (sym there_are.imports) holds)) in
-      let I : ℕ → Type 0 = λ n. AreInside a n s.fixups in
-      let P : ℕ → Type 0 = λ n. (instrs : List Instr) → IsProgramFor n s.fixups instrs → program_done a (spelled instrs) memory ≡ untouched (described_memory (address_of a) s) in
-      let parts = fixups_fit-parts s.fixups holds.fixups in
-      let makes : P (length a.sections) = λ instrs program. program-described a s.fixups instrs memory program.flat program.makes program.names (omega (arith, program.short, parts.count, length_most instrs)) parts.apart (subst I (sym whole) inside) in
-      let entries = programs_from 0 script.sections linked.programs in
-      let from_0 : 0 + i ≡ i = omega arith in
-      let own : Owns (length script.sections) i s.fixups entries = subst (λ j. Owns (length script.sections) j s.fixups entries) from_0 (owns_program (length script.sections) i 0 script.sections linked.programs s linked.are there) in
-      ap (λ n. relocated_by a i (reloc_of l) 0 n memory) of.tables.reloc_count
-      ∙ section_made a (reloc_of l) entries (length script.sections) i s.fixups memory of.tables.relocs own (subst P there_are.sections makes)
-
-  prepared_is : (a : Addresses) → AreAddresses script a → (i : ℕ) → i < length script.sections → prepared_at c l a i ≡ described_at (address_of a) script i
-  prepared_is a there_are i under =
-      let d : DescribedSection = record { header = record { name = []; kind = 0; share = 0; align = 0; total = 0 }; image = []; fixups = [] } in
-      let s = get_or script.sections i d in
-      let there = slice_get-get_or script.sections i d under in
-      ap (λ (m : List ℕ). (relocated_by a i (reloc_of l) 0 l.header.reloc_count m).memory) (filled_is i s there)
-      ∙ ap (λ (done : Done). done.memory) (made a there_are i s there)
-      ∙ sym (ap (λ o. option_map_or (described_memory (address_of a)) o []) there)
-
-  -- no relocation header is refused
-  header_sound : (a : Addresses) → AreAddresses script a → (i : ℕ) → i < l.header.reloc_count → refusal_at a (filled_at c) (reloc_of l) i ≡ None
-  header_sound a there_are i under =
-      let entries = programs_from 0 script.sections linked.programs in
-      let low : i < length entries = omega (arith, under, of.tables.reloc_count) in
-      let p = get_or entries i (record { section = 0; bytes = [] }) in
-      let there = slice_get-get_or entries i (record { section = 0; bytes = [] }) low in
-      let own = section_programs script k linked i p there in
-      let header : reloc_of l i ≡ Some (p.section, p.bytes) = of.tables.relocs i ∙ ap (option_map program_read) there in
-      let from_0 : 0 + i ≡ i = omega arith in
-      let sound : (relocated_by a p.section (reloc_of l) 0 l.header.reloc_count (filled_at c p.section)).fault ≡ None =
-      ap (λ (m : List ℕ). (relocated_by a p.section (reloc_of l) 0 l.header.reloc_count m).fault) (filled_is p.section own.section own.there)
-      ∙ ap (λ (done : Done). done.fault) (made a there_are p.section own.section own.there) in
-      refusal-of a (filled_at c) (reloc_of l) i p.section p.bytes header
-      ∙ programs-sound a p.section (reloc_of l) i 0 l.header.reloc_count p.bytes (filled_at c p.section) under (ap (reloc_of l) from_0 ∙ header) sound
-
-  headers_sound : (a : Addresses) → AreAddresses script a → first_reloc_refusal c l a ≡ None
-  headers_sound a there_are = first_among-none (refusal_at a (filled_at c) (reloc_of l)) 0 l.header.reloc_count (λ i low high. header_sound a there_are i (omega (arith, high)))
-
-  images_sound : first_image_refusal c c.header.instantiated_section_count ≡ None
-  images_sound =
-      let d : DescribedSection = record { header = record { name = []; kind = 0; share = 0; align = 0; total = 0 }; image = []; fixups = [] } in
-      first_among-none (image_refusal c) 0 c.header.instantiated_section_count
-      (λ i low high. image_sound i (get_or script.sections i d) (slice_get-get_or script.sections i d (omega (arith, high, of.sections.instantiated))))
-
-  -- the places of its sections are their addresses, where it has no imports
-  addresses_are : length script.libraries ≡ 0 → (places : List Place) → length places ≡ length script.sections → AreAddresses script (addresses_at places [])
-  addresses_are alone places count = record {
-    sections = length-map places (λ (p : Place). p.address) ∙ count;
-    imports = sym (no_imports (length script.libraries) script.imports alone linked.holds.imports.each);
-  }
-
-  length-extents : length (extents_of c) ≡ length script.sections
-  length-extents = ap length extents_are ∙ length-map script.sections described_extent
+  all_read : AllRead alone
+  all_read zero inside = (it, read_it)
+  all_read (suc p) inside = absurd (omega (arith, inside))
 
   -- what was prepared is what the script describes
-  pub shown_of : (p : Prepared) → length script.libraries ≡ 0 → IsPreparedAlone c l p → IsShown script p
-  shown_of p alone is =
+  pub shown_of : (c : Closed) (p : Prepared) → closed_of alone 0 ≡ Ok c → IsPreparedAlone alone it p → IsShown script p
+  shown_of c p closed is =
+      let of = (fragment_linked script k linked alone 0 refl).of in
       let places = p.places.items in
-      let count = length-placed (no_instances memory_limit) (extents_of c) places is.prepared.empty is.prepared.placed ∙ length-extents in
+      let imports = import_addresses (lies_at places) alone 0 in
+      let count = length-imports alone (lies_at places) 0 it read_it ∙ of.tables.import_count in
       record {
-        alone = alone;
-        after = is.prepared.empty;
-        placed = subst (λ es. ArePlaced (no_instances memory_limit) es places is.prepared.empty) extents_are is.prepared.placed;
-        stand = λ i under. is.prepared.stand i under ∙ ap Some (prepared_is (addresses_at places []) (addresses_are alone places count) i (omega (arith, under, count)));
+        container = k;
+        linked = linked;
+        closure = c;
+        closed = closed;
+        described = described script k linked it.container it.loader of (no_instances memory_limit) p.memory imports places count is.prepared;
         init = is.init ∙ ap (entry_address places) of.tables.init;
         main = is.main ∙ ap (entry_address places) of.tables.main;
         term = is.term ∙ ap (entry_address places) of.tables.term;
       }
 
-  -- it is refused for want of memory alone
-  pub never_refused : (fault : PrepareFault) → length script.libraries ≡ 0 → MayNotPrepare (no_instances memory_limit) c l [] fault → fault ≡ Memory OutOfMemory
-  never_refused (Memory OutOfMemory) alone refused = refl
-  never_refused (Memory NoRoom) alone refused =
-      let lack = subst (LackRoom (no_instances memory_limit)) extents_are refused in
+  -- it finds room
+  finds_room : (lack : MemoryFault) → MayNotPlace lack (no_instances memory_limit) (described_extents script) → lack ≡ OutOfMemory
+  finds_room OutOfMemory lacks = refl
+  finds_room NoRoom lacks =
       let enough = most_small (length script.sections) (length script.imports) script.sections linked.holds.sections.each in
-      absurd (all_find_room memory_limit (described_extents script) (omega (arith, enough, linked.holds.sections.count)) lack)
-  never_refused (Pack fault) alone refused =
-      let none = images_sound in
-      let first = refused.first in
-      absurd (cc)
-  never_refused (Reloc fault) alone refused =
-      let count = length-placed (no_instances memory_limit) (extents_of c) refused.places refused.empty refused.placed ∙ length-extents in
-      let none = headers_sound (addresses_at refused.places []) (addresses_are alone refused.places count) in
-      let first = refused.first in
-      absurd (cc)
+      absurd (all_find_room memory_limit (described_extents script) (omega (arith, enough, linked.holds.sections.count)) lacks)
+
+  -- so it is refused for want of memory alone
+  pub never_refused : (fault : PrepareFault) → IsRefusedAlone it fault → fault ≡ Memory OutOfMemory
+  never_refused fault refused =
+      let of = (fragment_linked script k linked alone 0 refl).of in
+      let lack = lacks_room script k linked it.container it.loader of (no_instances memory_limit) refused.imports fault (refused.count ∙ of.tables.import_count) refused.refused in
+      lack.is ∙ ap Memory (finds_room lack.lack lack.lacks)
+
+  -- it has no closure for another reason than its bytes
+  pub lacks_closure : (fault : BindFault) → Fails fault (closed_of alone 0) → FailsToBind k.bytes fault
+  lacks_closure fault fails = fails_to_bind k.bytes fault (λ r is. closed-refused alone all_read 0 r (omega arith) is) fails

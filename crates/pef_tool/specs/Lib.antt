@@ -1,3 +1,4 @@
+pub mod Alone
 pub mod Answers
 pub mod Check
 pub mod Described

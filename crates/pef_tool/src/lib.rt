@@ -5,6 +5,8 @@
 //! the words.
 #![tactic(auto)]
 
+mod addresses;
+mod bind_refusal;
 mod check;
 mod commands;
 mod fragment;

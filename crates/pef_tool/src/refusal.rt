@@ -3,14 +3,12 @@ ghost use Rattle.arrayvec.specs.ArrayVec.{array_vec_len};
 ghost use Rattle.pef_ports.specs.Sent.{Sends};
 ghost use Rattle.pef_tool.specs.Answers.{answer_refused};
 ghost use Rattle.pef_tool.specs.Kept.Showing.{certificate_refusal, script_refusal};
-ghost use Rattle.pef_tool.specs.Refusals.{name_end, name_of, named_refusal_start, named_refusal_text, number_of, place_of, refusal_text, refused_name};
+ghost use Rattle.pef_tool.specs.Refusals.{name_end, name_of, named_refusal_start, named_refusal_text, number_of, place_of, refusal_text, refused_name, refused_text};
 
 use crate::reply::{REFUSED, Reply};
-use cfm_memory::MemoryFault;
 use pef_cert_text::CertFault;
 use pef_listing::ListFault;
 use pef_ports::{Line, Page, Sink, StreamFault, print_name, push_number, push_text, send};
-use pef_reloc::RelocFault;
 use pef_script::{LineFault, ScriptFault};
 
 /// Why a run is refused.
@@ -20,10 +18,6 @@ pub enum Refusal {
     Script { fault: LineFault, line: usize },
     /// A container, its loader section or one of its relocation programs is refused where it is listed.
     Listing(ListFault),
-    /// A relocation program of the fragment `it` is no program, or can't be applied.
-    Reloc(RelocFault),
-    /// No address has room for a section of the fragment `it`.
-    NoRoom,
     /// A line of the certificates is refused; lines count from 1.
     BadCertificate { line: usize },
     /// The certificates are for other sections than the script's.
@@ -44,8 +38,6 @@ impl Refusal {
         match self {
             Refusal::Script { fault, .. } => fault.number(),
             Refusal::Listing(fault) => fault.number(),
-            Refusal::Reloc(fault) => fault.number(),
-            Refusal::NoRoom => MemoryFault::NoRoom.number(),
             Refusal::BadCertificate { line } => CertFault::BadCertificate { line: *line }.number(),
             Refusal::SectionsDiffer => 52,
             Refusal::InputUnreadable => 73,
@@ -63,8 +55,6 @@ impl Refusal {
         match self {
             Refusal::Script { fault, .. } => fault.name(),
             Refusal::Listing(fault) => fault.name(),
-            Refusal::Reloc(fault) => fault.name(),
-            Refusal::NoRoom => MemoryFault::NoRoom.name(),
             Refusal::BadCertificate { line } => CertFault::BadCertificate { line: *line }.name(),
             Refusal::SectionsDiffer => "SectionsDiffer",
             Refusal::InputUnreadable => "InputUnreadable",
@@ -84,7 +74,6 @@ impl Refusal {
                 push_text(line, b" line ");
                 push_number(line, *number as u64);
             }
-            Refusal::Reloc(_) | Refusal::NoRoom => push_text(line, b" in it"),
             Refusal::Listing(_)
             | Refusal::SectionsDiffer
             | Refusal::InputUnreadable
@@ -97,15 +86,25 @@ impl Refusal {
     fn line(&self) -> Line
         ensures { result.items ≡ refusal_text self.now }
     {
-        let mut line = Line::new();
-        push_text(&mut line, b"refused ");
-        push_number(&mut line, u64::from(self.number()));
-        push_text(&mut line, b" ");
-        push_text(&mut line, self.name().as_bytes());
+        let mut line = refused_line(self.number(), self.name());
         self.push_place(&mut line);
         push_text(&mut line, b"\n");
         line
     }
+}
+
+/// What the line of a refusal begins with.
+pub fn refused_line(number: u32, name: &str) -> Line
+    requires { length name.now ≤ 20 }
+    ensures text { result.items ≡ refused_text number name.now }
+    ensures len { array_vec_len result ≤ 49 }
+{
+    let mut line = Line::new();
+    push_text(&mut line, b"refused ");
+    push_number(&mut line, u64::from(number));
+    push_text(&mut line, b" ");
+    push_text(&mut line, name.as_bytes());
+    line
 }
 
 impl Reply for Refusal {
@@ -140,15 +139,13 @@ pub fn certificate_refusal(fault: CertFault) -> Refusal
     }
 }
 
-/// Why a run is refused over something that has a name, which ends the line and may be long.
+/// Why a run is refused over a file, whose path ends the line and may be long.
 #[derive(Clone, Copy, Debug, PartialEq, Eq)]
 pub enum NamedRefusal<'a> {
     /// The file at the path could not be read.
     FileUnreadable(&'a [u8]),
     /// The file at the path could not be written.
     FileUnwritable(&'a [u8]),
-    /// The library of the fragment `it` isn't there.
-    LibraryMissing(&'a [u8]),
 }
 
 impl<'a> NamedRefusal<'a> {
@@ -159,18 +156,15 @@ impl<'a> NamedRefusal<'a> {
         match self {
             NamedRefusal::FileUnreadable(_) => b"refused 71 FileUnreadable ",
             NamedRefusal::FileUnwritable(_) => b"refused 72 FileUnwritable ",
-            NamedRefusal::LibraryMissing(_) => b"refused 61 LibraryMissing in it library ",
         }
     }
 
-    /// The path of the file, or the name of the library.
+    /// The path of the file.
     fn name(&self) -> &'a [u8]
         ensures { result.now ≡ refused_name self.now }
     {
         match self {
-            NamedRefusal::FileUnreadable(name)
-            | NamedRefusal::FileUnwritable(name)
-            | NamedRefusal::LibraryMissing(name) => name,
+            NamedRefusal::FileUnreadable(name) | NamedRefusal::FileUnwritable(name) => name,
         }
     }
 }

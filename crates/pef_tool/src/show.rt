@@ -1,22 +1,25 @@
-ghost use Rattle.std.specs.Prelude.{◌≡◌, ◌<◌, IfErr, IfOk, length};
-ghost use Rattle.pef_script.specs.WellFormed.{ScriptHolds};
+ghost use Rattle.std.specs.Prelude.{◌≡◌, IfErr, IfOk};
+ghost use Rattle.cfm_closure.specs.declared.fault.BindFault.TheVariants as bind_fault;
+ghost use Rattle.cfm_memory.specs.declared.place.MemoryFault.TheVariants as memory_fault;
+ghost use Rattle.cfm_fragment.specs.declared.fault.PrepareFault.TheVariants as prepare_fault;
+ghost use Rattle.pef_script.specs.Script.{DescribedScript};
+ghost use Rattle.pef_tool.specs.Alone.{it_alone};
 ghost use Rattle.pef_tool.specs.Answers.{Answer, Delivers, answer_done};
 ghost use Rattle.pef_tool.specs.Kept.Showing.{ScriptEnds, input_refusal};
-ghost use Rattle.pef_tool.specs.Show.{IsShown, ShowAnswers, ShowOutcome, show_answer, shown_text};
-ghost use Rattle.pef_tool.specs.declared.refusal.Refusal.TheVariants.{OutOfMemory};
+ghost use Rattle.pef_tool.specs.Show.{FailsToBind, IsShown, ShowAnswers, ShowOutcome, show_answer, shown_text};
+ghost use Rattle.pef_write.specs.Linked.{IsLinked};
 
 use crate::fragment::print_fragment;
 use crate::prepare::prepare_alone;
 use crate::prepared::Prepared;
-use crate::refusal::{NamedRefusal, Refusal, script_refusal};
+use crate::refusal::{Refusal, script_refusal};
 use crate::reply::{DONE, Reply, deliver};
+use cfm_closure::{BindFault, Store, StoreFault, closure};
 use cfm_fragment::PrepareFault;
 use cfm_memory::MemoryFault;
-use pef_loader::Loader;
 use pef_ports::{InputFault, Page, Sink, Source, StreamFault, read_input};
 use pef_script::Script;
-use pef_views::Container;
-use pef_write::link;
+use pef_write::{Linked, link};
 use std::alloc::Global;
 
 /// How many bytes of an input are read.
@@ -61,56 +64,57 @@ fn input_refusal(fault: InputFault) -> Refusal
     }
 }
 
-/// Links a script, prepares it alone, and shows it; a script with a library isn't shown.
+/// Links a script, prepares its container alone under the name `it`, and shows it.
 fn show_script<W: Sink>(alloc: Global, script: &Script<'_>, out: &mut W) -> u8
     ensures { (outcome : ShowOutcome)
         × ScriptEnds script.now outcome
         × Delivers (W.stream out.old) (W.stream out.new) (show_answer outcome) result }
 {
-    if script.libraries() > 0 {
-        return miss_library(script, out);
-    }
-    match prepare_script(alloc, script) {
-        Ok(prepared) => deliver(out, &prepared),
-        Err(refusal) => deliver(out, &refusal),
-    }
-}
-
-/// Links a script without libraries, and prepares it alone. Of the faults of preparation only want of
-/// memory can come: what is linked isn't packed, finds room, and its relocation programs are sound.
-fn prepare_script(alloc: Global, script: &Script<'_>) -> Result<Prepared, Refusal>
-    requires holds { ScriptHolds script.now }
-    requires alone { length script.now.libraries ≡ 0 }
-    ensures shown { IfOk result (λ p. IsShown script.now p) }
-    ensures refused { IfErr result (λ refusal. refusal ≡ OutOfMemory) }
-{
     let Ok(linked) = link(alloc, script) else {
-        return Err(Refusal::OutOfMemory);
+        return deliver(out, &Refusal::OutOfMemory);
     };
-    let Ok(container) = Container::read(linked.bytes()) else {
-        unreachable!()
-    };
-    let Ok(loader) = Loader::read(&container) else {
-        unreachable!()
-    };
-    match prepare_alone(alloc, &container, &loader) {
-        Ok(prepared) => Ok(prepared),
-        Err(PrepareFault::Memory(MemoryFault::NoRoom)) => Err(Refusal::NoRoom),
-        Err(PrepareFault::Memory(MemoryFault::OutOfMemory)) => Err(Refusal::OutOfMemory),
-        Err(PrepareFault::Pack(_)) => unreachable!(),
-        Err(PrepareFault::Reloc(fault)) => Err(Refusal::Reloc(fault)),
+    match prepare_linked(alloc, &linked) {
+        Ok(prepared) => deliver(out, &prepared),
+        Err(fault) => deliver(out, &fault),
     }
 }
 
-/// Tells that the first library of a script isn't there.
-fn miss_library<W: Sink>(script: &Script<'_>, out: &mut W) -> u8
-    requires { 0 < length script.now.libraries }
-    ensures { (outcome : ShowOutcome)
-        × ScriptEnds script.now outcome
-        × Delivers (W.stream out.old) (W.stream out.new) (show_answer outcome) result }
+/// Prepares what was linked of a script, alone under the name `it`. It may have no closure. Of the faults of
+/// preparation only want of memory can come: what is linked isn't packed, finds room, and its relocation
+/// programs are sound.
+fn prepare_linked<'a>(alloc: Global, linked: &'a Linked) -> Result<Prepared, BindFault<'a>>
+    requires { (script : DescribedScript) × IsLinked script linked.now }
+    ensures shown { IfOk result (λ p. (script : DescribedScript) → IsLinked script linked.now → IsShown script p) }
+    ensures refused { IfErr result (λ fault. FailsToBind linked.now.bytes fault) }
 {
-    let Some(library) = script.library(0) else {
-        unreachable!()
+    let Ok(store) = it_alone(alloc, linked.bytes()) else {
+        return Err(BindFault::OutOfMemory);
     };
-    deliver(out, &NamedRefusal::LibraryMissing(library.name))
+    let closure = closure(alloc, &store, 0)?;
+    match prepare_alone(alloc, &closure) {
+        Ok(prepared) => Ok(prepared),
+        Err(fault) => Err(want_of_memory(fault)),
+    }
+}
+
+/// The store of the fragment `it` and no other.
+fn it_alone<'a>(alloc: Global, bytes: &'a [u8]) -> Result<Store<'a>, StoreFault>
+    ensures { IfOk result (λ store. store ≡ it_alone bytes.now) }
+{
+    let mut store = Store::new(alloc);
+    store.add(b"it", bytes)?;
+    Ok(store)
+}
+
+/// What want of memory is told as.
+fn want_of_memory<'a>(fault: PrepareFault) -> BindFault<'a>
+    requires { fault ≡ prepare_fault.Memory memory_fault.OutOfMemory }
+    ensures { result ≡ bind_fault.OutOfMemory }
+{
+    match fault {
+        PrepareFault::Memory(MemoryFault::OutOfMemory) => BindFault::OutOfMemory,
+        PrepareFault::Memory(MemoryFault::NoRoom)
+        | PrepareFault::Pack(_)
+        | PrepareFault::Reloc(_) => unreachable!(),
+    }
 }

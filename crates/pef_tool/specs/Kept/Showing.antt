@@ -9,7 +9,7 @@ use Rattle.pef_script.specs.declared.fault.ScriptFault.{ScriptFault}
 use Rattle.pef_script.specs.declared.fault.ScriptFault.TheVariants as script_fault
 use Rattle.pef_tool.specs.declared.refusal.Refusal.{Refusal}
 use Rattle.pef_tool.specs.declared.refusal.Refusal.TheVariants as refusal
-use Rattle.pef_tool.specs.Show.{IsFirstLibrary, IsShown, ShowOutcome, shows, misses, refuses}
+use Rattle.pef_tool.specs.Show.{IsShown, LacksClosure, ShowOutcome, refuses, shows, unbound}
 
 -- what a fault of reading the input is told as
 abbrev pub input_refusal : InputFault → Refusal
@@ -27,8 +27,8 @@ abbrev pub certificate_refusal : CertFault → Refusal
 certificate_refusal (cert_fault.BadCertificate line) = refusal.BadCertificate line
 certificate_refusal cert_fault.OutOfMemory = refusal.OutOfMemory
 
--- how `show` ends with a script: it is shown, or its first library is missing, or memory was refused
+-- how `show` ends with a script: it is shown, or has no closure, or memory was refused
 abbrev pub ScriptEnds : DescribedScript → ShowOutcome → Type 0
 ScriptEnds script (shows p) = IsShown script p
-ScriptEnds script (misses name) = IsFirstLibrary script name
+ScriptEnds script (unbound fault) = LacksClosure script fault
 ScriptEnds script (refuses why) = why ≡ refusal.OutOfMemory

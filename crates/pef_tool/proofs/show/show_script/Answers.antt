@@ -1,9 +1,14 @@
--- What was prepared is shown, else memory was refused.
-use Rattle.pef_tool.specs.Show.{refuses, shows}
+-- What was prepared is shown, else why not.
+use Rattle.std.proofs.Common.{refl}
+use Rattle.pef_tool.specs.Show.{refuses, shows, unbound}
+use Rattle.pef_tool.specs.declared.refusal.Refusal.TheVariants.{OutOfMemory}
 use Rattle.pef_tool.proofs.show.show_script.Goals as goal
 
-pub returns-in-Ok : goal.returns-in-Ok
-returns-in-Ok g c = (shows c.in-Ok.prepared, c.in-Ok.ensures.shown, c.deliver.ensures)
+pub returns-in_default : goal.returns-in_default
+returns-in_default g c = (refuses OutOfMemory, refl, c.deliver.ensures)
 
-pub returns-in-Err : goal.returns-in-Err
-returns-in-Err g c = (refuses c.in-Err.refusal, c.in-Err.ensures.refused, c.deliver-in-Err.ensures)
+pub returns-in-Ok-prepare_linked : goal.returns-in-Ok-prepare_linked
+returns-in-Ok-prepare_linked g c = (shows c.in-Ok-prepare_linked.prepared, c.in-Ok-prepare_linked.ensures.shown c.args.script.now c.in-Ok.ensures, c.deliver-in-Ok-prepare_linked.ensures)
+
+pub returns : goal.returns
+returns g c = (unbound c.in-Err.fault, record { container = c.in-Ok.linked; linked = c.in-Ok.ensures; fails = c.in-Err.ensures.refused }, c.deliver-in-Err.ensures)

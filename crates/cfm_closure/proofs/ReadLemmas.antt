@@ -1,0 +1,200 @@
+-- Where all fragments of a store are read, a closure is refused by no fragment's bytes.
+use Rattle.std.proofs.Common.{◌≡◌, ℕ, zero, suc, ◌+◌, ◌<◌, ◌==◌, Bool, true, false, cond, List, [], ◌∷◌, length, Option, None, Some, Ok, Err, refl, sym, ap, ◌∙◌, subst, negsuc, pos}
+use Rattle.std.specs.Prelude.{⊤, Result}
+use Rattle.std.specs.Option.{option_and_then, option_map_or, option_or}
+use Rattle.std.specs.Result.{result_err}
+use Rattle.pef_loader.specs.Export.{Export}
+use Rattle.pef_loader.specs.Import.{Import}
+use Rattle.pef_loader.specs.Library.{Library}
+use Rattle.pef_loader.specs.Loader.{library_of}
+use Rattle.pef_words.specs.Refusals.{first_among, unless}
+use Rattle.cfm_closure.specs.declared.targets.Target.{Target}
+use Rattle.cfm_closure.specs.declared.versions.Fit.{Fit}
+use Rattle.cfm_closure.specs.declared.versions.Fit.TheVariants.{Fits, TooOld, TooNew}
+use Rattle.cfm_closure.specs.Closures.{Closed, closed_of, first_refused, import_refusal, imports_refusal}
+use Rattle.cfm_closure.specs.Faults.{◌>>=◌, Refusal, implementation_too_new, implementation_too_old, library_missing, reexport_loop, symbol_missing}
+use Rattle.cfm_closure.specs.Fragments.{Fragment, fragment_of, import_at, import_count, loader_at}
+use Rattle.cfm_closure.specs.Initialization.{first_left, init_order_of, next_ready, take_next, take_ready, taken_all}
+use Rattle.cfm_closure.specs.Libraries.{absent_or, bound, bound_at, bound_by, bound_to, fit_with, is_weak, library_at}
+use Rattle.cfm_closure.specs.Promises.{AllRead, IsOfBinding}
+use Rattle.cfm_closure.specs.Stores.{Pair, pair_of, place_of}
+use Rattle.cfm_closure.specs.Targets.{Hop, ends, exported, exports_in, follow, followed, hop, hop_from, hop_of, hop_to, symbol_of, target_of, through}
+use Rattle.cfm_closure.specs.Walk.{Walked, is_marked, joining, marking, order_of, unwalked, walk, walk_at, walk_to, walks_from}
+use Rattle.cfm_closure.proofs.BoundLemmas.{stands_for}
+use Rattle.cfm_closure.proofs.PlaceLemmas.{place_of-below}
+
+-- a refusal, where there is one, is of binding
+abbrev Binds : {A : Type 0} → Result A Refusal → Type 0
+Binds (Ok x) = ⊤
+Binds (Err r) = IsOfBinding r
+
+-- .. and so are those of what follows
+binds-then : {A B : Type 0} (r : Result A Refusal) (f : A → Result B Refusal) → Binds r → ((x : A) → r ≡ Ok x → Binds (f x)) → Binds (r >>= f)
+binds-then (Ok x) f first later = later x refl
+binds-then (Err e) f first later = first
+
+absent-binds : (weak : Bool) (r : Refusal) → IsOfBinding r → Binds (absent_or weak r)
+absent-binds true r of = tt
+absent-binds false r of = of
+
+fit-binds : (fit : Fit) (name : List ℕ) (l : Library) (q : ℕ) → Binds (bound_by fit name l q)
+fit-binds Fits name l q = tt
+fit-binds TooOld name l q = absent-binds (is_weak l) (implementation_too_old name l.name) tt
+fit-binds TooNew name l q = absent-binds (is_weak l) (implementation_too_new name l.name) tt
+
+take-binds : (n : ℕ) (pairs : List Pair) (order : List ℕ) (s : Walked) → Binds (take_ready n pairs order s)
+unfolding take_ready
+take-binds zero pairs order s = by (first_left s order)
+  where
+    by : (o : Option ℕ) → Binds (taken_all pairs s o)
+    by None = tt
+    by (Some p) = tt
+take-binds (suc n) pairs order s = next (next_ready pairs s order) (λ t. take-binds n pairs order t)
+  where
+    by : (o : Option ℕ) → Binds (taken_all pairs s o)
+    by None = tt
+    by (Some p) = tt
+
+    next : (o : Option ℕ) → ((t : Walked) → Binds (take_ready n pairs order t)) → Binds (take_next (take_ready n pairs order) pairs order s o)
+    next None deeper = by (first_left s order)
+    next (Some p) deeper = deeper (joining p (marking p s))
+
+module _ (pairs : List Pair) (read : AllRead pairs) where
+  fragment-binds : (p : ℕ) → p < length pairs → Binds (fragment_of pairs p)
+  fragment-binds p inside = let r = read p inside in subst Binds (sym r.1) tt
+
+  library-binds : (name : List ℕ) (l : Library) → Binds (bound pairs name l)
+  unfolding bound
+  library-binds name l = by (place_of pairs l.name) refl
+    where
+      by : (o : Option ℕ) → place_of pairs l.name ≡ o → Binds (bound_at pairs name l o)
+      by None was = absent-binds (is_weak l) (library_missing name l.name) tt
+      by (Some q) was = binds-then (fragment_of pairs q) (λ f. bound_by (fit_with l f) name l q) (fragment-binds q (place_of-below pairs l.name q was)) (λ f is. fit-binds (fit_with l f) name l q)
+
+  entry-binds : (p l : ℕ) → p < length pairs → Binds (bound_to pairs p l)
+  unfolding bound_to
+  entry-binds p l inside = binds-then (fragment_of pairs p) (λ f. option_map_or (bound pairs f.name) (library_of f.loader l) (Ok None)) (fragment-binds p inside) (λ f is. by f (library_of f.loader l))
+    where
+      by : (f : Fragment) (o : Option Library) → Binds (option_map_or (bound pairs f.name) o (Ok None))
+      by f None = tt
+      by f (Some x) = library-binds f.name x
+
+  walks-bind : (v : ℕ → Walked → Result Walked Refusal) → ((q : ℕ) (s : Walked) → q < length pairs → Binds (v q s)) → (p l n : ℕ) (s : Walked) → p < length pairs → Binds (walks_from v pairs p l n s)
+  walks-bind v each p l zero s inside = tt
+  walks-bind v each p l (suc n) s inside =
+      binds-then (bound_to pairs p l) (λ q. walk_to v q s >>= walks_from v pairs p (l + 1) n) (entry-binds p l inside)
+      (λ q is. binds-then (walk_to v q s) (walks_from v pairs p (l + 1) n) (to q is) (λ t there. walks-bind v each p (l + 1) n t inside))
+    where
+      to : (o : Option ℕ) → bound_to pairs p l ≡ Ok o → Binds (walk_to v o s)
+      to None is = tt
+      to (Some q) is = each q s (stands_for pairs p l q is).inside
+
+  walk-binds : (n p : ℕ) (s : Walked) → p < length pairs → Binds (walk n pairs p s)
+  unfolding walk
+  walk-binds zero p s inside = tt
+  walk-binds (suc n) p s inside = by (is_marked s p) (λ q t there. walk-binds n q t there)
+    where
+      by : (marked : Bool) → ((q : ℕ) (t : Walked) → q < length pairs → Binds (walk n pairs q t)) → Binds (walk_at (walk n pairs) pairs p s marked)
+      by true deeper = tt
+      by false deeper =
+          binds-then (fragment_of pairs p) (λ f. walks_from (walk n pairs) pairs p 0 f.loader.header.library_count (marking p s) >>= (λ s. Ok (joining p s))) (fragment-binds p inside)
+          (λ f is. binds-then (walks_from (walk n pairs) pairs p 0 f.loader.header.library_count (marking p s)) (λ s. Ok (joining p s)) (walks-bind (walk n pairs) deeper p 0 f.loader.header.library_count (marking p s) inside) (λ t there. tt))
+
+  order-binds : (root : ℕ) → root < length pairs → Binds (order_of pairs root)
+  unfolding order_of
+  order-binds root inside = binds-then (walk (length pairs) pairs root (unwalked pairs)) (λ s. Ok s.order) (walk-binds (length pairs) root (unwalked pairs) inside) (λ s is. tt)
+
+  hop-binds : (p j : ℕ) → Binds (hop pairs p j)
+  unfolding hop
+  hop-binds p j = of (import_at pairs p j)
+    where
+      weak : (b : Bool) (r : Refusal) → IsOfBinding r → Binds {A = Hop} (cond b (Ok (ends None)) (Err r))
+      weak true r is = tt
+      weak false r is = is
+
+      to : (q : ℕ) (i : Import) (o : Option (ℕ × Export)) → Binds (hop_to (pair_of pairs p).name (pair_of pairs q).name i q o)
+      to q i None = weak i.weak (symbol_missing (pair_of pairs p).name (pair_of pairs q).name i.name) tt
+      to q i (Some x) = tt
+
+      from : (i : Import) (o : Option ℕ) → Binds (hop_from pairs p i o)
+      from i None = tt
+      from i (Some q) = to q i (option_and_then (exported i.name) (loader_at pairs q))
+
+      of : (o : Option Import) → Binds (hop_of pairs p o)
+      of None = tt
+      of (Some i) = from i (library_at pairs p i.library)
+
+  -- an answer, where there is one
+  abbrev AnswerBinds : Option (Result (Option Target) Refusal) → Type 0
+  AnswerBinds None = ⊤
+  AnswerBinds (Some answer) = Binds answer
+
+  follow-binds : (n p j : ℕ) → AnswerBinds (follow n pairs p j)
+  unfolding follow
+  follow-binds zero p j = by (hop pairs p j) (hop-binds p j)
+    where
+      by : (r : Result Hop Refusal) → Binds r → AnswerBinds (followed (λ q k. None) r)
+      by (Ok (ends t)) binds = tt
+      by (Ok (through q e k)) binds = tt
+      by (Err r) binds = binds
+  follow-binds (suc n) p j = by (hop pairs p j) (hop-binds p j) (λ q k. follow-binds n q k)
+    where
+      by : (r : Result Hop Refusal) → Binds r → ((q k : ℕ) → AnswerBinds (follow n pairs q k)) → AnswerBinds (followed (follow n pairs) r)
+      by (Ok (ends t)) binds deeper = tt
+      by (Ok (through q e k)) binds deeper = deeper q k
+      by (Err r) binds deeper = binds
+
+  target-binds : (p j : ℕ) → Binds (target_of pairs p j)
+  unfolding target_of
+  target-binds p j = by (follow (exports_in pairs) pairs p j) (follow-binds (exports_in pairs) p j)
+    where
+      by : (o : Option (Result (Option Target) Refusal)) → AnswerBinds o → Binds (option_map_or (λ answer. answer) o (Err (reexport_loop (pair_of pairs p).name (symbol_of pairs p j))))
+      by None binds = tt
+      by (Some answer) binds = binds
+
+  -- a refusal that is there is of binding
+  abbrev RefusalBinds : Option Refusal → Type 0
+  RefusalBinds None = ⊤
+  RefusalBinds (Some r) = IsOfBinding r
+
+  or-binds : (o rest : Option Refusal) → RefusalBinds o → RefusalBinds rest → RefusalBinds (option_or o rest)
+  or-binds None rest first later = later
+  or-binds (Some r) rest first later = first
+
+  import-binds : (p j : ℕ) → RefusalBinds (import_refusal pairs p j)
+  import-binds p j = by (target_of pairs p j) (target-binds p j)
+    where
+      by : (r : Result (Option Target) Refusal) → Binds r → RefusalBinds (result_err r)
+      by (Ok t) binds = tt
+      by (Err r) binds = binds
+
+  among-binds : (p from n : ℕ) → RefusalBinds (first_among (import_refusal pairs p) from n)
+  among-binds p from zero = tt
+  among-binds p from (suc n) = or-binds (import_refusal pairs p from) (first_among (import_refusal pairs p) (from + 1) n) (import-binds p from) (among-binds p (from + 1) n)
+
+  imports-bind : (order : List ℕ) → RefusalBinds (first_refused pairs order)
+  imports-bind [] = tt
+  imports-bind (p ∷ order) = or-binds (imports_refusal pairs p) (first_refused pairs order) (among-binds p 0 (import_count pairs p)) (imports-bind order)
+
+  ordered-binds : (order : List ℕ) → Binds (init_order_of pairs order)
+  unfolding init_order_of
+  ordered-binds order = take-binds (length order) pairs order (unwalked pairs)
+
+  abbrev with_order : List ℕ → List ℕ → Closed
+  with_order order init_order = record { pairs = pairs; order = order; init_order = init_order }
+
+  -- what follows a closure order
+  abbrev behind : List ℕ → Option Refusal → Result Closed Refusal
+  behind order refusal = unless refusal (init_order_of pairs order >>= (λ init_order. Ok (with_order order init_order)))
+
+  behind-binds : (order : List ℕ) (refusal : Option Refusal) → RefusalBinds refusal → Binds (behind order refusal)
+  behind-binds order None binds = binds-then (init_order_of pairs order) (λ init_order. Ok (with_order order init_order)) (ordered-binds order) (λ init_order is. tt)
+  behind-binds order (Some r) binds = binds
+
+  closed-binds : (root : ℕ) → root < length pairs → Binds (closed_of pairs root)
+  unfolding closed_of
+  closed-binds root inside = binds-then (order_of pairs root) (λ order. behind order (first_refused pairs order)) (order-binds root inside) (λ order is. behind-binds order (first_refused pairs order) (imports-bind order))
+
+  -- so the refusal of a closure is of binding
+  pub closed-refused : (root : ℕ) (r : Refusal) → root < length pairs → closed_of pairs root ≡ Err r → IsOfBinding r
+  closed-refused root r inside is = subst Binds is (closed-binds root inside)
