@@ -1,8 +1,8 @@
-ghost use Rattle.std.specs.Prelude.{◌≡◌, ◌<◌, ◌≤◌, ℕ, List, IsTrue, None, option_map};
+ghost use Rattle.std.specs.Prelude.{◌≡◌, ◌<◌, ◌≤◌, ℕ, List, IsTrue, None, Some, option_map};
 ghost use Rattle.std.specs.Option.{option_copied};
 ghost use Rattle.pef_views.specs.Views.{contained};
 ghost use Rattle.pef_loader.specs.Loader.{export_of, import_of, library_of, reloc_of};
-ghost use Rattle.pef_loader.specs.Views.{loaded};
+ghost use Rattle.pef_loader.specs.Views.{import_seen, loaded};
 ghost use Rattle.pef_ports.specs.Sent.{Sends};
 ghost use Rattle.pef_listing.specs.Listed.{programs_fault};
 ghost use Rattle.pef_listing.specs.Listing.{container_text, each_text, entry_text, export_lines, import_lines, library_lines, magnitude, reloc_lines, section_lines, section_name_text, sign_text, strength_text};
@@ -10,7 +10,7 @@ ghost use Rattle.pef_listing.specs.Pieces.{piece_text};
 
 use crate::instructions::print_program;
 use crate::pieces::{Piece, print_pieces};
-use pef_loader::{ExportView, Loader};
+use pef_loader::{ExportView, ImportReader, ImportView, Loader};
 use pef_ports::{Page, Sink, StreamFault};
 use pef_reloc::Program;
 use pef_views::{Container, Header};
@@ -172,44 +172,54 @@ impl<'a> Lines for Libraries<'a> {
     }
 }
 
-/// The imported symbols of a loader section.
-#[derive(Clone, Copy, Debug)]
-pub struct Imports<'a> {
-    pub loader: Loader<'a>,
+/// Prints the lines of the imported symbols, whose libraries are found for many imports at once.
+pub fn print_imports<W: Sink>(
+    out: &mut W,
+    page: &mut Page,
+    loader: Loader<'_>,
+) -> Result<(), StreamFault>
+    ensures { Sends result (W.stream out.old) (W.stream out.new) page.old.items page.new.items (each_text (import_lines (loaded loader.entry)) 0 (loaded loader.entry).header.import_count) }
+{
+    let mut imports = ImportReader::new(loader);
+    for j in 0..loader.imports() as usize {
+        let Some(import) = imports.import(j) else {
+            unreachable!()
+        };
+        print_import(out, page, loader, j, import)?;
+    }
+    Ok(())
 }
 
-impl<'a> Lines for Imports<'a> {
-    ghost many = { λ l. (loaded l.loader).header.import_count };
-
-    ghost text = { λ l. import_lines (loaded l.loader) };
-
-    fn len(&self) -> usize {
-        self.loader.imports() as usize
-    }
-
-    fn print_at<W: Sink>(&self, out: &mut W, page: &mut Page, i: usize) -> Result<(), StreamFault> {
-        let Some(import) = self.loader.import(i) else {
-            unreachable!()
-        };
-        let Some(library) = self.loader.library(import.library as usize) else {
-            unreachable!()
-        };
-        print_pieces(
-            out,
-            page,
-            &[
-                Piece::Text(b"import "),
-                Piece::Number(i as u64),
-                Piece::Text(b" "),
-                Piece::Name(import.name),
-                Piece::Text(b" of "),
-                Piece::Name(library.name),
-                Piece::Text(b" class "),
-                Piece::Number(u64::from(import.class)),
-                Piece::Text(strength(import.weak)),
-            ],
-        )
-    }
+/// Prints the line of import `j`.
+fn print_import<'a, W: Sink>(
+    out: &mut W,
+    page: &mut Page,
+    loader: Loader<'a>,
+    j: usize,
+    import: ImportView<'a>,
+) -> Result<(), StreamFault>
+    requires import { import_of (loaded loader) j ≡ Some (import_seen import) }
+    requires library { import.library < (loaded loader).header.library_count }
+    ensures { Sends result (W.stream out.old) (W.stream out.new) page.old.items page.new.items (import_lines (loaded loader.entry) j) }
+{
+    let Some(library) = loader.library(import.library) else {
+        unreachable!()
+    };
+    print_pieces(
+        out,
+        page,
+        &[
+            Piece::Text(b"import "),
+            Piece::Number(j as u64),
+            Piece::Text(b" "),
+            Piece::Name(import.name),
+            Piece::Text(b" of "),
+            Piece::Name(library.name),
+            Piece::Text(b" class "),
+            Piece::Number(u64::from(import.class)),
+            Piece::Text(strength(import.weak)),
+        ],
+    )
 }
 
 /// The exported symbols of a loader section.

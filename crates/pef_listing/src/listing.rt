@@ -9,7 +9,8 @@ ghost use Rattle.pef_listing.specs.Listed.{listed_of, program_refusal, programs_
 
 use crate::fault::ListFault;
 use crate::lines::{
-    Exported, Imports, Libraries, Relocations, Sections, print_each, print_entry, print_header,
+    Exported, Libraries, Relocations, Sections, print_each, print_entry, print_header,
+    print_imports,
 };
 use pef_loader::Loader;
 use pef_ports::{Page, Sink, StreamFault};
@@ -88,7 +89,7 @@ fn print_imported<W: Sink>(
     ensures { Sends result (W.stream out.old) (W.stream out.new) page.old.items page.new.items (imported_lines (loaded loader.entry)) }
 {
     print_each(out, page, &Libraries { loader })?;
-    print_each(out, page, &Imports { loader })
+    print_imports(out, page, loader)
 }
 
 /// Prints where a container is entered.

@@ -1,3 +1,4 @@
+mod BlockLemmas
 pub mod Laws
 mod Loaders
 mod NameEnds

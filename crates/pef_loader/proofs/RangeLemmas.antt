@@ -80,10 +80,10 @@ ends_rise bytes n i k order low under =
           omega arith)
     ]
 
-unowned : (bytes : List ℕ) (j i : ℕ) → owns bytes j i ≡ false → owner_at bytes j i ≡ None
+pub unowned : (bytes : List ℕ) (j i : ℕ) → owns bytes j i ≡ false → owner_at bytes j i ≡ None
 unowned bytes j i not = rw not refl
 
-owned : (bytes : List ℕ) (j i : ℕ) → owns bytes j i ≡ true → owner_at bytes j i ≡ Some i
+pub owned : (bytes : List ℕ) (j i : ℕ) → owns bytes j i ≡ true → owner_at bytes j i ≡ Some i
 owned bytes j i has = rw has refl
 
 -- the first library whose range ends behind an import owns it

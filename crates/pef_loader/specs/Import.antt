@@ -1,6 +1,6 @@
 -- Imported symbols (Mac OS Runtime Architectures, "PEF Structure", "Imported Symbol Table";
 -- PEFImportedSymbol of PEFBinaryFormat.h).
-use Rattle.std.specs.Prelude.{ℕ, ◌+◌, ◌*◌, ◌/◌, ◌%◌, ◌^◌, ◌==◌, Bool, List, [], ◌∷◌, Option, Some, None, nat_lt, if◌then◌else◌}
+use Rattle.std.specs.Prelude.{ℕ, ◌+◌, ◌/◌, ◌%◌, ◌^◌, ◌==◌, Bool, List, [], ◌∷◌, Option, Some, None, nat_lt, if◌then◌else◌}
 use Rattle.std.specs.Option.{is_none, option_map_or}
 use Rattle.pef_words.specs.Bytes.{name_at, number_at}
 use Rattle.pef_words.specs.Refusals.{◌>>=◌, first_among, first_met}

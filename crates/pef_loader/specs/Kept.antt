@@ -1,5 +1,6 @@
 -- What only proofs and private contracts speak of.
 pub mod Accepted
+pub mod Blocks
 pub mod Names
 pub mod Ranges
 pub mod Tests

@@ -1,6 +1,6 @@
 -- Imported libraries (Mac OS Runtime Architectures, "PEF Structure", "Imported Library Table";
 -- PEFImportedLibrary of PEFBinaryFormat.h).
-use Rattle.std.specs.Prelude.{ℕ, ◌+◌, ◌*◌, Bool, false, List, [], ◌∷◌, Option, Some, None, nat_lt, nat_le, ◌&&◌, if◌then◌else◌}
+use Rattle.std.specs.Prelude.{ℕ, ◌+◌, Bool, false, List, [], ◌∷◌, Option, Some, None, nat_lt, nat_le, ◌&&◌, if◌then◌else◌}
 use Rattle.std.specs.Option.{is_none, option_map_or}
 use Rattle.pef_words.specs.Bytes.{name_at, number_at}
 use Rattle.pef_words.specs.Refusals.{◌>>=◌, first_met}

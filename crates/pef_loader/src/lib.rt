@@ -5,10 +5,12 @@
 //! copied and nothing is allocated.
 #![tactic(auto)]
 
+mod block;
 mod export;
 mod fault;
 mod header;
 mod import;
+mod import_reader;
 pub mod layout;
 mod library;
 mod names;
@@ -19,5 +21,6 @@ mod tables;
 pub use export::ExportView;
 pub use fault::LoaderFault;
 pub use import::ImportView;
+pub use import_reader::ImportReader;
 pub use library::LibraryView;
 pub use tables::Loader;

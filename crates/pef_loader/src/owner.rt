@@ -1,7 +1,7 @@
 ghost use Rattle.std.specs.Prelude.{◌≡◌, ◌<◌, ◌≤◌, ◌^◌, ◌↔◌, IsTrue};
 ghost use Rattle.pef_loader.specs.Import.{owner_of};
 ghost use Rattle.pef_loader.specs.Library.{owns};
-ghost use Rattle.pef_loader.specs.Kept.Ranges.{AreBehind, AreInOrder, IsFirstPast, end_of, first_of};
+ghost use Rattle.pef_loader.specs.Kept.Ranges.{AreInOrder, IsFirstPast, end_of, first_of};
 
 use crate::header::LoaderHeader;
 use crate::library::read_library;
@@ -9,10 +9,11 @@ use pef_words::Cut;
 use std::ops::Range;
 
 /// The imports of library `i`, from its first one up to its end.
-fn imports_of(cut: Cut<'_>, i: usize) -> Range<usize>
+pub(crate) fn imports_of(cut: Cut<'_>, i: usize) -> Range<usize>
     requires { i < 2 ^ 32 }
     ensures start { result.start ≡ first_of cut.entry.bytes.now i }
     ensures end { result.end ≡ end_of cut.entry.bytes.now i }
+    ensures order { result.start ≤ result.end }
 {
     match read_library(cut, i) {
         Some(library) => {
@@ -50,45 +51,8 @@ pub(crate) fn owner(cut: Cut<'_>, header: LoaderHeader, in_order: bool, j: usize
     owner_among(cut, header, library, j)
 }
 
-/// The same for imports in turn: no library before `from` ends behind import `j`. Beside the owner it
-/// gives the library from which to go on at the next import.
-pub(crate) fn next_owner(
-    cut: Cut<'_>,
-    header: LoaderHeader,
-    in_order: bool,
-    from: usize,
-    j: usize,
-) -> (usize, Option<usize>)
-    requires order { IsTrue in_order → AreInOrder cut.bytes.now header.library_count }
-    requires within { from ≤ header.library_count }
-    requires behind { AreBehind cut.bytes.now from j }
-    ensures within { result.0 ≤ header.library_count }
-    ensures behind { AreBehind cut.entry.bytes.now result.0 j }
-    ensures owner { result.1 ≡ owner_of cut.entry.bytes.now header j }
-{
-    if !in_order {
-        return (from, find_owner(cut, header, j));
-    }
-    let library = advance(cut, header, from, j);
-    (library, owner_among(cut, header, library, j))
-}
-
-/// The first library from `from` on whose imports end behind import `j`.
-fn advance(cut: Cut<'_>, header: LoaderHeader, from: usize, j: usize) -> usize
-    requires within { from ≤ header.library_count }
-    requires behind { AreBehind cut.bytes.now from j }
-    ensures { IsFirstPast cut.entry.bytes.now header.library_count j result }
-{
-    for i in from..header.library_count as usize {
-        if j < imports_of(cut, i).end {
-            return i;
-        }
-    }
-    header.library_count as usize
-}
-
 /// The first library whose imports end behind import `j`, by halving.
-fn first_past(cut: Cut<'_>, header: LoaderHeader, j: usize) -> usize
+pub(crate) fn first_past(cut: Cut<'_>, header: LoaderHeader, j: usize) -> usize
     requires { AreInOrder cut.bytes.now header.library_count }
     ensures { IsFirstPast cut.entry.bytes.now header.library_count j result }
 {

@@ -1,9 +1,9 @@
-ghost use Rattle.std.specs.Prelude.{◌≡◌, ℕ, ◌+◌, ◌<◌, ◌≤◌, ◌↔◌, Ok, IfSome, IsSome, IsTrue, option_map};
+ghost use Rattle.std.specs.Prelude.{◌≡◌, ℕ, ◌+◌, ◌<◌, ◌≤◌, ◌^◌, ◌↔◌, Ok, Some, IfSome, IsSome, IsTrue, option_map};
 ghost use Rattle.std.specs.Result.{result_err};
 ghost use Rattle.pef_words.specs.Refusals.{first_among, result_map};
 ghost use Rattle.pef_loader.specs.Export.{export_refusal, has_exports, has_section};
 ghost use Rattle.pef_loader.specs.Header.{entry_of, is_entry};
-ghost use Rattle.pef_loader.specs.Import.{import_refusal};
+ghost use Rattle.pef_loader.specs.Import.{import_refusal, owner_of};
 ghost use Rattle.pef_loader.specs.Library.{library_refusal};
 ghost use Rattle.pef_loader.specs.Loader.{export_of, fault_if, has_entries, import_of, init_of, library_of, loaded_of, main_of, named_of, reloc_of, term_of};
 ghost use Rattle.pef_loader.specs.Kept.Names.{NamesEndAt};
@@ -11,6 +11,7 @@ ghost use Rattle.pef_loader.specs.Kept.Tests.{TestsEach};
 ghost use Rattle.pef_loader.specs.Kept.Ranges.{AreInOrder};
 ghost use Rattle.pef_loader.specs.Reloc.{reloc_refusal};
 
+use crate::block::OwnerBlock;
 use crate::export::{ExportView, exports, has_exports, test_export};
 use crate::fault::LoaderFault;
 use crate::header::{LoaderHeader, is_entry, read_header};
@@ -18,7 +19,7 @@ use crate::import::{ImportView, read_import, test_import};
 use crate::layout::NO_SECTION;
 use crate::library::{LibraryView, read_library, test_library};
 use crate::names::names_end;
-use crate::owner::{are_in_order, next_owner, owner};
+use crate::owner::{are_in_order, owner};
 use crate::reloc::{instructions, read_reloc, test_reloc};
 use pef_views::Container;
 use pef_words::Cut;
@@ -29,10 +30,10 @@ use pef_words::Cut;
 /// bytes that it was read from, which live as long as those.
 #[derive(Clone, Copy, Debug)]
 pub struct Loader<'a> {
-    cut: Cut<'a>,
-    header: LoaderHeader,
+    pub(crate) cut: Cut<'a>,
+    pub(crate) header: LoaderHeader,
     sections: u16,
-    in_order: bool,
+    pub(crate) in_order: bool,
     ghost ordered: { IsTrue in_order → AreInOrder cut.bytes.now header.library_count },
     pub ghost accepted: { loaded_of sections cut.bytes.now ≡ Ok (record {
       sections = sections;
@@ -142,12 +143,26 @@ impl<'a> Loader<'a> {
         if j >= self.imports() as usize {
             return None;
         }
+        let library = owner(self.cut, self.header, self.in_order, j)?;
+        self.import_of(library, j)
+    }
+
+    /// Import `j`, of which this is the first library.
+    #[tactic(auto, unfolding(crate::specs::Loader::import_of, crate::specs::Import::import_in))]
+    pub(crate) fn import_of(&self, library: usize, j: usize) -> Option<ImportView<'a>>
+        requires small { j < 2 ^ 32 }
+        requires place { j < (loaded self.now).header.import_count }
+        requires library { owner_of (loaded self.now).bytes (loaded self.now).header j ≡ Some library }
+        ensures value { option_map import_seen result ≡ import_of (loaded self.now) j }
+        ensures there { IsSome result }
+        ensures library { IfSome result (λ v. v.library < (loaded self.now).header.library_count) }
+    {
         let import = read_import(self.cut, self.header, j)?;
         Some(ImportView {
             name: self.cut.name_at(self.header.name(import.name_offset))?,
             class: import.class,
             weak: import.weak,
-            library: owner(self.cut, self.header, self.in_order, j)?,
+            library,
         })
     }
 
@@ -258,11 +273,10 @@ fn test_imports(
     ensures { result_err result
         ≡ first_among (import_refusal cut.entry.bytes.now header) 0 header.import_count }
 {
-    let mut library = 0;
+    let mut owners = OwnerBlock::paint(cut, header, in_order, 0);
     for j in 0..header.import_count as usize {
-        let (next, owner) = next_owner(cut, header, in_order, library, j);
+        let owner = owners.owner(cut, header, in_order, j);
         test_import(cut, header, names_end, owner, j)?;
-        library = next;
     }
     Ok(())
 }

@@ -6,4 +6,4 @@ pub returns-in_err-print_each : goal.returns-in_err-print_each
 returns-in_err-print_each g c = Sends-short _ c.from_residual.result _ c.from_residual.ensures.1 (StopsShort-longer _ c.in_err-print_each.ensures)
 
 pub returns : goal.returns
-returns g c = Sends-then c.print_each-2.result (g.W.Sink.stream c.print_each-2.new.out) _ _ c.in_ok-print_each.ensures c.print_each-2.ensures
+returns g c = Sends-then c.print_imports.result (g.W.Sink.stream c.print_imports.new.out) _ _ c.in_ok-print_each.ensures c.print_imports.ensures

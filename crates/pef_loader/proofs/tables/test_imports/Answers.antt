@@ -1,17 +1,21 @@
 -- A place without a refusal is passed over, and the first one with a refusal ends the search.
-use Rattle.std.proofs.Common.{◌∙◌, ◌<◌, sym, arith}
+use Rattle.std.proofs.Common.{◌≡◌, ◌∙◌, ◌-◌, ◌<◌, refl, sym, arith}
 use Rattle.std.proofs.lemmas.Result.{err_from_is_err_and}
 use Rattle.pef_words.proofs.Laws.Refusals.{first_among-here, first_among-next}
 use Rattle.pef_loader.specs.Import.{import_refusal}
 use Rattle.pef_loader.proofs.tables.test_imports.Goals as goal
+
+pub loop-j-init : goal.loop-j-init
+loop-j-init c =
+    let all : c.args.header.import_count - 0 ≡ c.args.header.import_count = omega arith in
+    record { left = rw all refl; owners = c.paint-owners.ensures.owners }
 
 pub loop-j-preserved : goal.loop-j-preserved
 loop-j-preserved c =
     let under : c.loop-j.j < c.args.header.import_count = omega arith in
     record {
       left = sym (first_among-next (import_refusal c.args.cut.bytes.now c.args.header) _ _ under (sym c.in_ok-test_import.ensures)) ∙ c.loop-j.invariant.left;
-      within = c.next_owner-next.ensures.within;
-      behind = λ i less. (let end = c.next_owner-next.ensures.behind i less in omega arith);
+      owners = c.owner-owner.ensures.owners;
     }
 
 pub returns-in_err-test_import : goal.returns-in_err-test_import

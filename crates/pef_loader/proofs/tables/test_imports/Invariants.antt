@@ -1,14 +1,13 @@
--- What is left decides, and the libraries before this one end before the imports that are left.
-use Rattle.std.proofs.Common.{◌≡◌, ◌-◌, ◌≤◌}
+-- What is left decides, and the block says the owners of its imports.
+use Rattle.std.proofs.Common.{◌≡◌, ◌-◌}
 use Rattle.pef_words.specs.Refusals.{first_among}
 use Rattle.pef_loader.specs.Import.{import_refusal}
-use Rattle.pef_loader.specs.Kept.Ranges.{AreBehind}
+use Rattle.pef_loader.specs.Kept.Blocks.{AreOwners}
 use Rattle.pef_loader.proofs.tables.test_imports.Given as goal
 
 abbrev pub invariant-loop-j : goal.invariant-loop-j
 invariant-loop-j l = record {
   left : first_among (import_refusal l.cut.bytes.now l.header) l.j (l.header.import_count - l.j)
       ≡ first_among (import_refusal l.cut.bytes.now l.header) 0 l.header.import_count;
-  within : l.library ≤ l.header.library_count;
-  behind : AreBehind l.cut.bytes.now l.library l.j;
+  owners : AreOwners l.cut.bytes.now l.header l.owners.from l.owners.cells;
 }
