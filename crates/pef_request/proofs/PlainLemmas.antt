@@ -4,7 +4,7 @@ use Rattle.std.specs.Str.{bytes_eq}
 use Rattle.clap.proofs.OnLiterals.{clap_on_literals}
 use Rattle.clap.specs.Walk.{Text}
 use Rattle.pef_request.specs.CommandLine.{asked_by, pef}
-use Rattle.pef_request.specs.Plain.{ArePlain, plain_check, plain_link, plain_list, plain_show, plain_words}
+use Rattle.pef_request.specs.Plain.{ArePlain, plain_check, plain_distances, plain_link, plain_list, plain_show, plain_words}
 use Rattle.pef_request.proofs.LoadLemmas.{load_operands}
 use Rattle.pef_request.proofs.NameLemmas.{IsNoFlag, at_end, command_named, is_or_not, named, no_flag}
 
@@ -62,6 +62,18 @@ check_operands (script ∷ cert ∷ word ∷ words) plain =
     let c = no_flag word plain.1.1.0 in
     rw (a.dashes, a.long, a.short, b.dashes, b.long, b.short, c.dashes, c.long, c.short) refl
 
+-- the operand of `distances`
+distances_operands : (words : List Text) → ArePlain words → at_end (named (codes "distances") words) [] ≡ plain_distances words
+unfolding pef clap_on_literals named at_end
+distances_operands [] plain = refl
+distances_operands (script ∷ []) plain =
+    let a = no_flag script plain.0 in
+    rw (a.dashes, a.long, a.short) refl
+distances_operands (script ∷ word ∷ words) plain =
+    let a = no_flag script plain.0 in
+    let b = no_flag word plain.1.0 in
+    rw (a.dashes, a.long, a.short, b.dashes, b.long, b.short) refl
+
 none_asked : asked_by [] ≡ None
 unfolding asked_by pef clap_on_literals
 none_asked = refl
@@ -70,9 +82,9 @@ program_asked : (program : Text) → asked_by (program ∷ []) ≡ None
 unfolding asked_by pef clap_on_literals
 program_asked program = refl
 
-unknown_asked : (program name : Text) (words : List Text) → bytes_eq (codes "show") name ≡ false → bytes_eq (codes "link") name ≡ false → bytes_eq (codes "list") name ≡ false → bytes_eq (codes "check") name ≡ false → bytes_eq (codes "load") name ≡ false → IsNoFlag name → asked_by (program ∷ name ∷ words) ≡ None
+unknown_asked : (program name : Text) (words : List Text) → bytes_eq (codes "show") name ≡ false → bytes_eq (codes "link") name ≡ false → bytes_eq (codes "list") name ≡ false → bytes_eq (codes "check") name ≡ false → bytes_eq (codes "load") name ≡ false → bytes_eq (codes "distances") name ≡ false → IsNoFlag name → asked_by (program ∷ name ∷ words) ≡ None
 unfolding asked_by pef clap_on_literals
-unknown_asked program name words a b c d e free = rw (a, b, c, d, e, free.dashes, free.long, free.short) refl
+unknown_asked program name words a b c d e f free = rw (a, b, c, d, e, f, free.dashes, free.long, free.short) refl
 
 -- words that don't begin with `-` ask for what they plainly say
 pub asked_plain : (words : List Text) → ArePlain (drop 1 words) → asked_by words ≡ plain_words words
@@ -89,7 +101,10 @@ asked_plain (program ∷ name ∷ words) plain = elim (is_or_not (bytes_eq (code
         | inl d ↦ rw (a, b, c, d) (command_named program name (codes "check") words (rw (a, b, c, d) refl) refl ∙ check_operands words plain.1)
         | inr d ↦ elim (is_or_not (bytes_eq (codes "load") name)) [
           | inl e ↦ rw (a, b, c, d, e) (command_named program name (codes "load") words (rw (a, b, c, d, e) refl) refl ∙ load_operands words plain.1)
-          | inr e ↦ rw (a, b, c, d, e) (unknown_asked program name words a b c d e (no_flag name plain.0))
+          | inr e ↦ elim (is_or_not (bytes_eq (codes "distances") name)) [
+            | inl f ↦ rw (a, b, c, d, e, f) (command_named program name (codes "distances") words (rw (a, b, c, d, e, f) refl) refl ∙ distances_operands words plain.1)
+            | inr f ↦ rw (a, b, c, d, e, f) (unknown_asked program name words a b c d e f (no_flag name plain.0))
+          ]
         ]
       ]
     ]

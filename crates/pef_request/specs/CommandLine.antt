@@ -5,7 +5,7 @@ use Rattle.std.specs.Str.{bytes_eq}
 use Rattle.clap.specs.Walk.{Row, Rule, Text, all_of, first_of}
 use Rattle.clap.specs.Words.{App, Kinds, new_app, new_rule, with_rule, with_subcommand, fault_of, subcommand_of}
 use Rattle.pef_request.specs.Files.{named_files}
-use Rattle.pef_request.specs.Requests.{Asked, check, link, list, load, show}
+use Rattle.pef_request.specs.Requests.{Asked, check, distances, link, list, load, show}
 
 -- an operand that has to be there
 abbrev pub operand : Text → Rule
@@ -39,6 +39,10 @@ files_operand = record (operand (codes "NAME=FILE")) { range = Some (record { st
 abbrev pub load_command : App
 load_command = with_rule (new_app (codes "load")) files_operand
 
+-- `distances SCRIPT`
+abbrev pub distances_command : App
+distances_command = with_rule (new_app (codes "distances")) (operand (codes "SCRIPT"))
+
 -- the program, which wants a command and has no help
 abbrev pub top_command : App
 top_command =
@@ -47,7 +51,7 @@ top_command =
 
 -- the program's commands
 unfoldable pub pef : App
-pef = with_subcommand (with_subcommand (with_subcommand (with_subcommand (with_subcommand top_command show_command.top) link_command.top) list_command.top) check_command.top) load_command.top
+pef = with_subcommand (with_subcommand (with_subcommand (with_subcommand (with_subcommand (with_subcommand top_command show_command.top) link_command.top) list_command.top) check_command.top) load_command.top) distances_command.top
 
 -- what the operands of `link` ask for
 abbrev pub link_asked : List Row → Option Asked
@@ -65,6 +69,10 @@ check_asked rows = option_and_then (λ script. option_map (check script) (first_
 abbrev pub load_asked : List Row → Option Asked
 load_asked rows = option_and_then (λ words. option_map load (named_files words)) (all_of (codes "NAME=FILE") rows)
 
+-- what the operand of `distances` asks for
+abbrev pub distances_asked : List Row → Option Asked
+distances_asked rows = option_map distances (first_of (codes "SCRIPT") rows)
+
 -- what a command's name and operands ask for
 abbrev pub command_asked : Text → List Row → Option Asked
 command_asked name rows =
@@ -72,7 +80,8 @@ command_asked name rows =
     else if bytes_eq name (codes "link") then link_asked rows
     else if bytes_eq name (codes "list") then list_asked rows
     else if bytes_eq name (codes "check") then check_asked rows
-    else if bytes_eq name (codes "load") then load_asked rows else None
+    else if bytes_eq name (codes "load") then load_asked rows
+    else if bytes_eq name (codes "distances") then distances_asked rows else None
 
 -- a line without a fault asks for what its command asks for
 abbrev pub asked_at : Kinds → Option (Text × List Row) → Option Asked

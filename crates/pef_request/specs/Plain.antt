@@ -2,7 +2,7 @@
 use Rattle.std.specs.Prelude.{◌≢◌, ℕ, ⊤, List, [], ◌∷◌, length, nat_le, Option, None, Some, codes, if◌then◌else◌, option_map}
 use Rattle.std.specs.Str.{bytes_eq}
 use Rattle.pef_request.specs.Files.{named_files}
-use Rattle.pef_request.specs.Requests.{Asked, check, link, list, load, show}
+use Rattle.pef_request.specs.Requests.{Asked, check, distances, link, list, load, show}
 
 -- a word that doesn't begin with `-`
 abbrev pub IsPlain : List ℕ → Type 0
@@ -43,6 +43,12 @@ abbrev pub plain_load : List (List ℕ) → Option Asked
 plain_load [] = None
 plain_load (word ∷ words) = if nat_le (length (word ∷ words)) 256 then option_map load (named_files (word ∷ words)) else None
 
+-- `distances SCRIPT`, and no more
+abbrev pub plain_distances : List (List ℕ) → Option Asked
+plain_distances [] = None
+plain_distances (script ∷ []) = Some (distances script)
+plain_distances (script ∷ word ∷ words) = None
+
 -- a command by its name, with its operands
 abbrev pub plain_command : List ℕ → List (List ℕ) → Option Asked
 plain_command name operands =
@@ -51,6 +57,7 @@ plain_command name operands =
     else if bytes_eq (codes "list") name then plain_list operands
     else if bytes_eq (codes "check") name then plain_check operands
     else if bytes_eq (codes "load") name then plain_load operands
+    else if bytes_eq (codes "distances") name then plain_distances operands
     else None
 
 -- what words ask for, of which the first is the program's name

@@ -12,6 +12,7 @@ pub data Asked : Type 0 where
   link : List ℕ → List ℕ → Asked
   load : List (List ℕ × List ℕ) → Asked
   list : List ℕ → Asked
+  distances : List ℕ → Asked
   check : List ℕ → List ℕ → Asked
 
 -- a file's name and its path
@@ -24,6 +25,7 @@ asked_of request.Show = show
 asked_of (request.Link script out) = link script.now out.now
 asked_of (request.Load files) = load (map pair_of files.items)
 asked_of (request.List file) = list file.now
+asked_of (request.Distances script) = distances script.now
 asked_of (request.Check script cert) = check script.now cert.now
 
 -- the answer to a command line: what it asks for, or that it is none of this program

@@ -1,7 +1,7 @@
 ghost use Rattle.std.specs.Prelude.{◌≡◌, IfOk, false, map, string_bytes};
 ghost use Rattle.clap.specs.Words.{app_of, found_of, rows_of};
 ghost use Rattle.clap.specs.declared.builder.command.Command.TheViews.{out-Command};
-ghost use Rattle.pef_request.specs.CommandLine.{asked_by, check_asked, check_command, command_asked, link_asked, link_command, list_asked, list_command, load_asked, load_command, pef};
+ghost use Rattle.pef_request.specs.CommandLine.{asked_by, check_asked, check_command, command_asked, distances_asked, distances_command, link_asked, link_command, list_asked, list_command, load_asked, load_command, pef};
 ghost use Rattle.pef_request.specs.Kept.Kinds.{fault_of_kind};
 ghost use Rattle.pef_request.specs.Requests.{AnswersWords};
 
@@ -25,6 +25,8 @@ pub enum Request<'a> {
     Load { files: Vec<NamedFile<'a>> },
     /// List the container at a path.
     List { file: &'a str },
+    /// Print the certificates of the sections of the script at a path.
+    Distances { script: &'a str },
     /// Check the certificates at a path for the sections of the script at another.
     Check { script: &'a str, cert: &'a str },
 }
@@ -84,6 +86,7 @@ fn command<'a>(alloc: Global) -> Result<Command<'a>, AllocError>
     let list = list_command(alloc)?;
     let check = check_command(alloc)?;
     let load = load_command(alloc)?;
+    let distances = distances_command(alloc)?;
     let top = Command::new(alloc, "pef")
         .subcommand_required(true)
         .disable_help_flag(true)
@@ -92,7 +95,8 @@ fn command<'a>(alloc: Global) -> Result<Command<'a>, AllocError>
         .subcommand(link)?
         .subcommand(list)?
         .subcommand(check)?
-        .subcommand(load)
+        .subcommand(load)?
+        .subcommand(distances)
 }
 
 /// The command `link SCRIPT OUT`.
@@ -135,6 +139,15 @@ fn load_command<'a>(alloc: Global) -> Result<Command<'a>, AllocError>
     Command::new(alloc, "load").arg(files)
 }
 
+/// The command `distances SCRIPT`.
+fn distances_command<'a>(alloc: Global) -> Result<Command<'a>, AllocError>
+    ensures app { IfOk result (λ c. app_of c ≡ distances_command) }
+    ensures local { IfOk result (λ c. (out-Command c).has_globals ≡ false) }
+{
+    let script = Arg::new(alloc, "SCRIPT").required(true);
+    Command::new(alloc, "distances").arg(script)
+}
+
 /// The request of a command's name and operands.
 fn command_request<'a>(
     alloc: Global,
@@ -149,6 +162,7 @@ fn command_request<'a>(
         "list" => list_request(operands),
         "check" => check_request(operands),
         "load" => load_request(alloc, operands),
+        "distances" => distances_request(operands),
         _ => Err(WordsFault::Usage),
     }
 }
@@ -202,6 +216,17 @@ fn load_request<'a>(alloc: Global, operands: &ArgMatches<'a>) -> Result<Request<
     };
     let files = named_files(alloc, words)?;
     Ok(Request::Load { files })
+}
+
+/// The request of the operands of `distances`.
+#[tactic(auto, using(crate::proofs::LineLemmas::first_in_rows))]
+fn distances_request<'a>(operands: &ArgMatches<'a>) -> Result<Request<'a>, WordsFault>
+    ensures { AnswersWords result (distances_asked (rows_of (found_of operands.now))) }
+{
+    let Some(script) = operands.get_str("SCRIPT") else {
+        return Err(WordsFault::Usage);
+    };
+    Ok(Request::Distances { script })
 }
 
 /// Why `clap` refused a line.
