@@ -1,2 +1,5 @@
+mod FileLemmas
 mod LineLemmas
+mod LoadLemmas
+mod NameLemmas
 mod PlainLemmas

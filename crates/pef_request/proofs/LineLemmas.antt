@@ -3,9 +3,9 @@ use Rattle.std.proofs.Common.{◌≡◌, ◌⊎◌, true, List, [], ◌∷◌, O
 use Rattle.std.specs.Box.{box_value}
 use Rattle.std.specs.declared.boxed.Box.{Box}
 use Rattle.clap.proofs.OnLiterals.{clap_on_literals}
-use Rattle.clap.proofs.WalkLemmas.{first_value-rows}
-use Rattle.clap.specs.Matches.{first_value, found_of}
-use Rattle.clap.specs.Walk.{Row, Text, first_of, rows_of}
+use Rattle.clap.proofs.WalkLemmas.{first_value-rows, raw_values-rows}
+use Rattle.clap.specs.Matches.{first_value, found_of, matched_of, raw_values}
+use Rattle.clap.specs.Walk.{Row, Text, all_of, first_of, rows_of}
 use Rattle.clap.specs.Faults.{is_simple_and_free, fault_of}
 use Rattle.clap.specs.Kinds.{Kinds, IsAmong}
 use Rattle.clap.specs.Simple.{is_simple, subcommand_of, subcommand_rows}
@@ -67,3 +67,7 @@ module _ {Z : Type 0} where
 -- the first value of an operand
 pub first_in_rows : (found : Found) (name : Text) → first_value found name ≡ first_of name (rows_of found)
 first_in_rows found name = first_value-rows found name
+
+-- the values of an operand
+pub all_in_rows : (found : Found) (name : Text) → option_map raw_values (matched_of found name) ≡ all_of name (rows_of found)
+all_in_rows found name = raw_values-rows found name

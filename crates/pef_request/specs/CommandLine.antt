@@ -1,10 +1,11 @@
 -- What the words of a command line ask for, by `clap`'s own function of the words at this program's
 -- commands.
-use Rattle.std.specs.Prelude.{true, List, [], ◌∷◌, Option, None, Some, codes, if◌then◌else◌, option_and_then, option_map}
+use Rattle.std.specs.Prelude.{ℕ, true, List, [], ◌∷◌, Option, None, Some, codes, if◌then◌else◌, option_and_then, option_map}
 use Rattle.std.specs.Str.{bytes_eq}
-use Rattle.clap.specs.Walk.{Row, Rule, Text, first_of}
+use Rattle.clap.specs.Walk.{Row, Rule, Text, all_of, first_of}
 use Rattle.clap.specs.Words.{App, Kinds, new_app, new_rule, with_rule, with_subcommand, fault_of, subcommand_of}
-use Rattle.pef_request.specs.Requests.{Asked, check, link, list, show}
+use Rattle.pef_request.specs.Files.{named_files}
+use Rattle.pef_request.specs.Requests.{Asked, check, distances, link, list, load, show}
 
 -- an operand that has to be there
 abbrev pub operand : Text → Rule
@@ -26,6 +27,22 @@ list_command = with_rule (new_app (codes "list")) (operand (codes "FILE"))
 abbrev pub check_command : App
 check_command = with_rule (with_rule (new_app (codes "check")) (operand (codes "SCRIPT"))) (operand (codes "CERT"))
 
+-- the most files of `load`
+abbrev pub most_files : ℕ
+most_files = 256
+
+-- the operand of `load`, which is one word or more
+abbrev pub files_operand : Rule
+files_operand = record (operand (codes "NAME=FILE")) { range = Some (record { start_inclusive = 1; end_inclusive = most_files }) }
+
+-- `load NAME=FILE ..`
+abbrev pub load_command : App
+load_command = with_rule (new_app (codes "load")) files_operand
+
+-- `distances SCRIPT`
+abbrev pub distances_command : App
+distances_command = with_rule (new_app (codes "distances")) (operand (codes "SCRIPT"))
+
 -- the program, which wants a command and has no help
 abbrev pub top_command : App
 top_command =
@@ -34,7 +51,7 @@ top_command =
 
 -- the program's commands
 unfoldable pub pef : App
-pef = with_subcommand (with_subcommand (with_subcommand (with_subcommand top_command show_command.top) link_command.top) list_command.top) check_command.top
+pef = with_subcommand (with_subcommand (with_subcommand (with_subcommand (with_subcommand (with_subcommand top_command show_command.top) link_command.top) list_command.top) check_command.top) load_command.top) distances_command.top
 
 -- what the operands of `link` ask for
 abbrev pub link_asked : List Row → Option Asked
@@ -48,13 +65,23 @@ list_asked rows = option_map list (first_of (codes "FILE") rows)
 abbrev pub check_asked : List Row → Option Asked
 check_asked rows = option_and_then (λ script. option_map (check script) (first_of (codes "CERT") rows)) (first_of (codes "SCRIPT") rows)
 
+-- what the operands of `load` ask for
+abbrev pub load_asked : List Row → Option Asked
+load_asked rows = option_and_then (λ words. option_map load (named_files words)) (all_of (codes "NAME=FILE") rows)
+
+-- what the operand of `distances` asks for
+abbrev pub distances_asked : List Row → Option Asked
+distances_asked rows = option_map distances (first_of (codes "SCRIPT") rows)
+
 -- what a command's name and operands ask for
 abbrev pub command_asked : Text → List Row → Option Asked
 command_asked name rows =
     if bytes_eq name (codes "show") then Some show
     else if bytes_eq name (codes "link") then link_asked rows
     else if bytes_eq name (codes "list") then list_asked rows
-    else if bytes_eq name (codes "check") then check_asked rows else None
+    else if bytes_eq name (codes "check") then check_asked rows
+    else if bytes_eq name (codes "load") then load_asked rows
+    else if bytes_eq name (codes "distances") then distances_asked rows else None
 
 -- a line without a fault asks for what its command asks for
 abbrev pub asked_at : Kinds → Option (Text × List Row) → Option Asked

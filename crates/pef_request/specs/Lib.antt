@@ -1,4 +1,5 @@
 pub mod CommandLine
+pub mod Files
 pub mod Kept
 pub mod Plain
 pub mod Requests

@@ -1,22 +1,31 @@
 -- What a command line can ask for.
-use Rattle.std.specs.Prelude.{◌≡◌, ℕ, ⊤, List, Option, None, Some, Result, Ok, Err}
+use Rattle.std.specs.Prelude.{◌≡◌, ℕ, ⊤, List, map, Option, None, Some, Result, Ok, Err}
+use Rattle.pef_request.specs.declared.files.NamedFile.{NamedFile}
 use Rattle.pef_request.specs.declared.command_line.Request.{Request}
 use Rattle.pef_request.specs.declared.command_line.Request.TheVariants as request
 use Rattle.pef_request.specs.declared.command_line.WordsFault.{WordsFault}
 use Rattle.pef_request.specs.declared.command_line.WordsFault.TheVariants.{Usage, OutOfMemory}
 
--- a command and its operands
+-- a command and its operands; the files of `load` are names, each with its path
 pub data Asked : Type 0 where
   show : Asked
   link : List ℕ → List ℕ → Asked
+  load : List (List ℕ × List ℕ) → Asked
   list : List ℕ → Asked
+  distances : List ℕ → Asked
   check : List ℕ → List ℕ → Asked
+
+-- a file's name and its path
+abbrev pub pair_of : NamedFile → List ℕ × List ℕ
+pair_of file = (file.name.now, file.path.now)
 
 -- what a request asks for
 abbrev pub asked_of : Request → Asked
 asked_of request.Show = show
 asked_of (request.Link script out) = link script.now out.now
+asked_of (request.Load files) = load (map pair_of files.items)
 asked_of (request.List file) = list file.now
+asked_of (request.Distances script) = distances script.now
 asked_of (request.Check script cert) = check script.now cert.now
 
 -- the answer to a command line: what it asks for, or that it is none of this program

@@ -1,23 +1,32 @@
 ghost use Rattle.std.specs.Prelude.{◌≡◌, IfOk, false, map, string_bytes};
 ghost use Rattle.clap.specs.Words.{app_of, found_of, rows_of};
 ghost use Rattle.clap.specs.declared.builder.command.Command.TheViews.{out-Command};
-ghost use Rattle.pef_request.specs.CommandLine.{asked_by, check_asked, check_command, command_asked, link_asked, link_command, list_asked, list_command, pef};
+ghost use Rattle.pef_request.specs.CommandLine.{asked_by, check_asked, check_command, command_asked, distances_asked, distances_command, link_asked, link_command, list_asked, list_command, load_asked, load_command, pef};
 ghost use Rattle.pef_request.specs.Kept.Kinds.{fault_of_kind};
 ghost use Rattle.pef_request.specs.Requests.{AnswersWords};
 
+use crate::files::{NamedFile, named_files};
 use clap::error::ErrorKind;
 use clap::{Arg, ArgMatches, Command};
-use std::alloc::{AllocError, Global};
+use std::alloc::{AllocError, AllocFailed, Global};
+
+/// The most files of `load`.
+const MOST_FILES: usize = 256;
 
 /// What a command line asks for.
-#[derive(Clone, Copy, Debug, PartialEq, Eq)]
+#[derive(Debug, Drop, PartialEq, Eq)]
 pub enum Request<'a> {
     /// Link the script on the input, prepare it, and print its memory.
     Show,
     /// Link the script at a path, and write the container to another.
     Link { script: &'a str, out: &'a str },
+    /// Prepare the first of these 1 to 256 containers, whose libraries are those of them that have the names,
+    /// and print the memory.
+    Load { files: Vec<NamedFile<'a>> },
     /// List the container at a path.
     List { file: &'a str },
+    /// Print the certificates of the sections of the script at a path.
+    Distances { script: &'a str },
     /// Check the certificates at a path for the sections of the script at another.
     Check { script: &'a str, cert: &'a str },
 }
@@ -42,6 +51,17 @@ impl From<AllocError> for WordsFault {
     }
 }
 
+impl<T: Drop> From<AllocFailed<T>> for WordsFault {
+    ghost use Rattle.std.specs.Prelude.{◌≡◌};
+    ghost use Rattle.pef_request.specs.declared.command_line.WordsFault.TheVariants.{OutOfMemory};
+
+    ghost from_gives = { λ _ e. e ≡ OutOfMemory };
+
+    fn from(_error: AllocFailed<T>) -> WordsFault {
+        WordsFault::OutOfMemory
+    }
+}
+
 /// Reads the words of a command line, of which the first is the program's name.
 pub fn read_words<'a>(alloc: Global, words: &'a [String]) -> Result<Request<'a>, WordsFault>
     ensures { AnswersWords result (asked_by (map string_bytes words.entry.now)) }
@@ -52,7 +72,7 @@ pub fn read_words<'a>(alloc: Global, words: &'a [String]) -> Result<Request<'a>,
         Err(error) => return Err(words_fault(error.kind())),
     };
     match matches.subcommand() {
-        Some((name, operands)) => command_request(name, operands),
+        Some((name, operands)) => command_request(alloc, name, operands),
         None => Err(WordsFault::Usage),
     }
 }
@@ -65,6 +85,8 @@ fn command<'a>(alloc: Global) -> Result<Command<'a>, AllocError>
     let link = link_command(alloc)?;
     let list = list_command(alloc)?;
     let check = check_command(alloc)?;
+    let load = load_command(alloc)?;
+    let distances = distances_command(alloc)?;
     let top = Command::new(alloc, "pef")
         .subcommand_required(true)
         .disable_help_flag(true)
@@ -72,7 +94,9 @@ fn command<'a>(alloc: Global) -> Result<Command<'a>, AllocError>
     top.subcommand(show)?
         .subcommand(link)?
         .subcommand(list)?
-        .subcommand(check)
+        .subcommand(check)?
+        .subcommand(load)?
+        .subcommand(distances)
 }
 
 /// The command `link SCRIPT OUT`.
@@ -104,8 +128,32 @@ fn check_command<'a>(alloc: Global) -> Result<Command<'a>, AllocError>
     Command::new(alloc, "check").arg(script)?.arg(cert)
 }
 
+/// The command `load NAME=FILE ..`.
+fn load_command<'a>(alloc: Global) -> Result<Command<'a>, AllocError>
+    ensures app { IfOk result (λ c. app_of c ≡ load_command) }
+    ensures local { IfOk result (λ c. (out-Command c).has_globals ≡ false) }
+{
+    let files = Arg::new(alloc, "NAME=FILE")
+        .required(true)
+        .num_args(1..=MOST_FILES);
+    Command::new(alloc, "load").arg(files)
+}
+
+/// The command `distances SCRIPT`.
+fn distances_command<'a>(alloc: Global) -> Result<Command<'a>, AllocError>
+    ensures app { IfOk result (λ c. app_of c ≡ distances_command) }
+    ensures local { IfOk result (λ c. (out-Command c).has_globals ≡ false) }
+{
+    let script = Arg::new(alloc, "SCRIPT").required(true);
+    Command::new(alloc, "distances").arg(script)
+}
+
 /// The request of a command's name and operands.
-fn command_request<'a>(name: &str, operands: &ArgMatches<'a>) -> Result<Request<'a>, WordsFault>
+fn command_request<'a>(
+    alloc: Global,
+    name: &str,
+    operands: &ArgMatches<'a>,
+) -> Result<Request<'a>, WordsFault>
     ensures { AnswersWords result (command_asked name.now (rows_of (found_of operands.now))) }
 {
     match name {
@@ -113,6 +161,8 @@ fn command_request<'a>(name: &str, operands: &ArgMatches<'a>) -> Result<Request<
         "link" => link_request(operands),
         "list" => list_request(operands),
         "check" => check_request(operands),
+        "load" => load_request(alloc, operands),
+        "distances" => distances_request(operands),
         _ => Err(WordsFault::Usage),
     }
 }
@@ -154,6 +204,29 @@ fn check_request<'a>(operands: &ArgMatches<'a>) -> Result<Request<'a>, WordsFaul
         return Err(WordsFault::Usage);
     };
     Ok(Request::Check { script, cert })
+}
+
+/// The request of the operands of `load`.
+#[tactic(auto, using(crate::proofs::LineLemmas::all_in_rows))]
+fn load_request<'a>(alloc: Global, operands: &ArgMatches<'a>) -> Result<Request<'a>, WordsFault>
+    ensures { AnswersWords result (load_asked (rows_of (found_of operands.now))) }
+{
+    let Some(words) = operands.get_strs("NAME=FILE") else {
+        return Err(WordsFault::Usage);
+    };
+    let files = named_files(alloc, words)?;
+    Ok(Request::Load { files })
+}
+
+/// The request of the operands of `distances`.
+#[tactic(auto, using(crate::proofs::LineLemmas::first_in_rows))]
+fn distances_request<'a>(operands: &ArgMatches<'a>) -> Result<Request<'a>, WordsFault>
+    ensures { AnswersWords result (distances_asked (rows_of (found_of operands.now))) }
+{
+    let Some(script) = operands.get_str("SCRIPT") else {
+        return Err(WordsFault::Usage);
+    };
+    Ok(Request::Distances { script })
 }
 
 /// Why `clap` refused a line.

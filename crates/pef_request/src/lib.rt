@@ -2,7 +2,9 @@
 #![tactic(auto)]
 
 mod command_line;
+mod files;
 mod theorems;
 
 pub use command_line::{Request, WordsFault, read_words};
+pub use files::NamedFile;
 pub use theorems::plain_words;

@@ -6,7 +6,7 @@ use Rattle.pef_ports.specs.Input.{ReadsInput}
 use Rattle.pef_ports.specs.Ports.{Begins, FilesPort, Reads, Stream}
 use Rattle.pef_ports.specs.declared.input.InputFault.{InputFault}
 use Rattle.pef_ports.specs.declared.input.InputFault.TheVariants.{Unreadable, TooLong, OutOfMemory}
-use Rattle.pef_request.specs.Requests.{Asked, check, link, list, show}
+use Rattle.pef_request.specs.Requests.{Asked, check, distances, link, list, load, show}
 use Rattle.pef_script.specs.Grammar.{script_of}
 use Rattle.pef_script.specs.Script.{DescribedScript}
 use Rattle.pef_script.specs.Views.{Fails}
@@ -79,3 +79,5 @@ lacks_memory port stream (Some show) files input = ((refuses refusal.OutOfMemory
 lacks_memory port stream (Some (link script out)) files input = ((link.refuses refusal.OutOfMemory, inl refl, refl), refl)
 lacks_memory port stream (Some (list path)) files input = ((list.lacks_memory, inl refl, refl), refl)
 lacks_memory port stream (Some (check script cert)) files input = ((check.lacks_memory, inl refl, refl), refl)
+lacks_memory port stream (Some (load named)) files input = (inr refl, refl, refl)
+lacks_memory port stream (Some (distances script)) files input = (inr refl, refl, refl)
