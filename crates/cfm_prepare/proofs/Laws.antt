@@ -1,0 +1,1 @@
+-- What this crate offers to the proofs of others: facts of contexts, as `specs/` defines them.

@@ -1,0 +1,10 @@
+mod BegunLemmas
+mod FragmentLemmas
+mod GroupLemmas
+pub mod Laws
+mod OpenLemmas
+mod PlacedLemmas
+mod PlacingLemmas
+mod ReadyLemmas
+mod ReleaseLemmas
+mod StepLemmas

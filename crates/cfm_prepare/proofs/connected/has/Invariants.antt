@@ -1,0 +1,6 @@
+use Rattle.std.proofs.Common.{◌≡◌, ◌+◌, ◌-◌, ◌<◌, ◌≤◌, ℕ, List, ◌++◌, drop, take, length}
+use Rattle.cfm_prepare.specs.Contexts.{has}
+use Rattle.cfm_prepare.proofs.connected.has.Given as goal
+
+abbrev pub invariant-loop-other : goal.invariant-loop-other
+invariant-loop-other l = has (drop l.other-index l.numbers) l.number ≡ has l.numbers l.number

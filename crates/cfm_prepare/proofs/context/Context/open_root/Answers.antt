@@ -1,0 +1,69 @@
+-- The closure is that of the store; its new fragments are prepared, or the first refusal is that of all.
+use Rattle.std.proofs.Common.{rules, ◌≡◌, ◌<◌, ◌++◌, ◌∷◌, ℕ, List, [], length, Ok, Some, All, Contains, refl, sym, ap, subst, ◌∙◌}
+use Rattle.std.proofs.lemmas.Result.{err_from_is_err_and}
+use Rattle.cfm_closure.specs.Closures.{closed_of}
+use Rattle.cfm_closure.specs.Faults.{Fails}
+use Rattle.cfm_closure.specs.Stores.{place_of}
+use Rattle.cfm_closure.proofs.Laws.{closed-root, closed-store}
+use Rattle.cfm_prepare.specs.Contexts.{State, most_connections}
+use Rattle.cfm_prepare.specs.Fragments.{new_among}
+use Rattle.cfm_prepare.specs.Placing.{ArePrepared}
+use Rattle.cfm_prepare.specs.Steps.{HasClosure, HasRoot, MayNotPrepareNew}
+use Rattle.cfm_prepare.proofs.BegunLemmas.{new-members}
+use Rattle.cfm_prepare.proofs.OpenLemmas.{ends-contains, refused-late}
+use Rattle.cfm_prepare.proofs.context.Context.open_root.Goals as goal
+
+pub returns-in_err-closure-clause-refused : goal.returns-in_err-closure-clause-refused
+returns-in_err-closure-clause-refused c = λ name is.
+    let p = err_from_is_err_and c.from_residual.result c.from_residual.ensures.1 in
+    let has : HasRoot c.args.self.now name = record { left = c.requires.left; root = c.args.root; is = is } in
+    let fails : Fails c.in_err-closure.field-0.0 (closed_of c.args.self.now.pairs c.args.root) = rw (← c.self.view_is) c.in_err-closure.ensures in
+    rw (p.1, p.2) (has, fails)
+
+pub prepare_new-requires-clause-store : goal.prepare_new-requires-clause-store
+prepare_new-requires-clause-store c = sym (closed-store c.self.inside.store c.args.root c.in_ok-closure.closure c.in_ok-closure.ensures)
+
+pub prepare_new-requires-clause-members : goal.prepare_new-requires-clause-members
+prepare_new-requires-clause-members c =
+    let order = c.in_ok-closure.closure.order in
+    let is : c.deref-2.result.now ≡ new_among c.deref.result.now order = c.deref-2.ensures.value ∙ c.in_ok-new.ensures ∙ ap (new_among c.deref.result.now) c.order.ensures.order in
+    let P : List ℕ → Type 0 = λ ps. All (λ p. Contains order p) ps in
+    subst P (sym is) (new-members c.deref.result.now order)
+
+pub returns-in_err-prepare_new-clause-refused : goal.returns-in_err-prepare_new-clause-refused
+returns-in_err-prepare_new-clause-refused c = λ name is.
+    let s : State = c.args.self.now in
+    let closed = c.in_ok-closure.closure in
+    let e = c.in_err-prepare_new.field-0.0 in
+    let p = err_from_is_err_and c.from_residual-in_err-prepare_new.result c.from_residual-in_err-prepare_new.ensures.1 in
+    let closes : closed_of s.pairs c.args.root ≡ Ok closed = rw (← c.self.view_is) c.in_ok-closure.ensures in
+    let closure : HasClosure s name = record { has = record { left = c.requires.left; root = c.args.root; is = is }; closed = closed; is = closes } in
+    let new : c.deref-2.result.now ≡ new_among c.self.inside.present.items closed.order = c.deref-2.ensures.value ∙ c.in_ok-new.ensures ∙ ap (new_among c.deref.result.now) c.order.ensures.order ∙ ap (λ fs. new_among fs closed.order) c.deref.ensures.value in
+    let P : List ℕ → Type 0 = λ ps. MayNotPrepareNew c.self.inside.store c.self.inside.present.items c.self.inside.memory ps e in
+    let why : MayNotPrepareNew s.pairs s.present s.memory (new_among s.present closed.order) e = rw (← c.self.view_is) (subst P new c.in_err-prepare_new.ensures.refused) in
+    rw (p.1, p.2) (refused-late e s name closure why)
+
+pub new-requires : goal.new-requires
+new-requires c =
+    let P : State → Type 0 = λ s. c.args.root < length s.pairs in
+    ends-contains c.in_ok-closure.closure.order c.args.root (closed-root c.self.inside.store c.args.root c.in_ok-closure.closure (subst P (sym c.self.view_is) c.requires.root) c.in_ok-closure.ensures)
+
+pub returns-clause-prepared : goal.returns-clause-prepared
+returns-clause-prepared c = λ name is.
+    let closed = c.in_ok-closure.closure in
+    let done = c.in_ok-prepare_new.ensures.prepared in
+    let new : c.deref-2.result.now ≡ new_among c.self.inside.present.items closed.order = c.deref-2.ensures.value ∙ c.in_ok-new.ensures ∙ ap (new_among c.deref.result.now) c.order.ensures.order ∙ ap (λ fs. new_among fs closed.order) c.deref.ensures.value in
+    let P : List ℕ → Type 0 = λ ps. ArePrepared c.self.inside.store c.self.inside.present.items c.self.inside.memory ps done.0 c.prepare_new.new.memory in
+    let Q : State → Type 0 = λ s. place_of s.pairs name ≡ Some c.args.root in
+    let R : State → Type 0 = λ s. s.given < most_connections in
+    let pushed : c.push.new.self.items ≡ c.self.inside.connections.items ++ (record { number = c.self.inside.given; root = c.args.root; closed = closed }) ∷ [] = search rules in
+    rw (← c.self.view_is) (record {
+      closure = record { has = record { left = subst R (sym c.self.view_is) c.requires.left; root = c.args.root; is = subst Q (sym c.self.view_is) is }; closed = closed; is = c.in_ok-closure.ensures };
+      fresh = done.0;
+      prepared = subst P new done.2;
+      number = refl;
+      pairs = refl;
+      given = refl;
+      connections = pushed;
+      present = done.1;
+    })

@@ -1,0 +1,8 @@
+use Rattle.std.proofs.Common.{◌≡◌, ◌+◌, ◌-◌, ◌<◌, ◌≤◌, ℕ, List, ◌++◌, drop, take, length}
+use Rattle.cfm_closure.specs.Fragments.{import_count}
+use Rattle.cfm_prepare.specs.Addresses.{imports_from}
+use Rattle.cfm_prepare.proofs.relocating.import_addresses.Given as goal
+
+abbrev pub invariant-loop-import : goal.invariant-loop-import
+invariant-loop-import l =
+    l.addresses.items ++ imports_from l.closure.pairs l.all l.position l.import (l.count - l.import) ≡ imports_from l.closure.pairs l.all l.position 0 l.count

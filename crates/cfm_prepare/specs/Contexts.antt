@@ -1,0 +1,64 @@
+-- Contexts: which connections are open, and which fragments are present in memory for them (Mac OS Runtime
+-- Architectures, "Code Fragment Manager", "Preparing a Fragment", "Releasing Fragments"). That there is one
+-- context, whose fragments are shared by all its connections, and how connections are numbered, is this
+-- project's own rule.
+use Rattle.std.specs.Prelude.{◌==◌, ℕ, ◌+◌, Bool, false, true, List, [], ◌∷◌, Option, None, Some, if◌then◌else◌}
+use Rattle.cfm_memory.specs.Extents.{no_instances}
+use Rattle.cfm_memory.specs.Instances.{Layout}
+use Rattle.cfm_closure.specs.Closures.{Closed}
+use Rattle.cfm_closure.specs.Stores.{Pair}
+use Rattle.cfm_prepare.specs.Fragments.{Present}
+
+-- how many connections a context gives in all
+abbrev pub most_connections : ℕ
+most_connections = 65536
+
+-- an open connection: its number, the fragment that was asked for by its place in the store, and the closure
+-- of that
+pub record Open : Type 0 where
+  pub number : ℕ
+  pub root : ℕ
+  pub closed : Closed
+
+-- a context: the store and the memory that it is of, how many numbers were given, the open connections, and
+-- the fragments that are present
+pub record State : Type 0 where
+  pub pairs : List Pair
+  pub memory : Layout
+  pub given : ℕ
+  pub connections : List Open
+  pub present : List Present
+
+-- nothing was prepared
+abbrev pub fresh_state : List Pair → ℕ → State
+fresh_state pairs limit = record { pairs = pairs; memory = no_instances limit; given = 0; connections = []; present = [] }
+
+-- the open connection of a number
+abbrev pub open_of : List Open → ℕ → Option Open
+open_of [] number = None
+open_of (o ∷ os) number = if o.number == number then Some o else open_of os number
+
+-- the open connections without that of a number
+abbrev pub open_without : List Open → ℕ → List Open
+open_without [] number = []
+open_without (o ∷ os) number = if o.number == number then os else o ∷ open_without os number
+
+-- whether a list has a number
+abbrev pub has : List ℕ → ℕ → Bool
+has [] p = false
+has (q ∷ qs) p = if q == p then true else has qs p
+
+-- whether an open connection's closure has a fragment
+abbrev pub is_needed : List Open → ℕ → Bool
+is_needed [] p = false
+is_needed (o ∷ os) p = if has o.closed.order p then true else is_needed os p
+
+-- the fragments that an open connection's closure has
+abbrev pub needed_of : List Open → List Present → List Present
+needed_of connections [] = []
+needed_of connections (f ∷ fs) = if is_needed connections f.position then f ∷ needed_of connections fs else needed_of connections fs
+
+-- those that none has
+abbrev pub unneeded_of : List Open → List Present → List Present
+unneeded_of connections [] = []
+unneeded_of connections (f ∷ fs) = if is_needed connections f.position then unneeded_of connections fs else f ∷ unneeded_of connections fs

@@ -1,0 +1,96 @@
+-- What is kept of present fragments: their sections stand in memory, each at an address of its own.
+use Rattle.std.specs.Prelude.{◌≡◌, ◌≢◌, ℕ, ◌<◌, ◌≤◌, List, length, ◌++◌, Contains, Result, Ok, Err, Option, None, Some}
+use Rattle.cfm_memory.specs.Extents.{AreApart, AreHeld, ArePlaced, LackRoom, place_at}
+use Rattle.cfm_memory.specs.Instances.{Layout}
+use Rattle.pef_pidata.specs.declared.fault.PackFault.{PackFault}
+use Rattle.pef_reloc.specs.declared.fault.RelocFault.{RelocFault}
+use Rattle.cfm_closure.specs.Stores.{Pair, pair_of}
+use Rattle.cfm_prepare.specs.Contexts.{most_connections}
+use Rattle.cfm_prepare.specs.Fragments.{Present, all_given_back, extents_in, positions, present_at}
+use Rattle.cfm_prepare.specs.Placing.{AllPlaced}
+use Rattle.cfm_prepare.specs.declared.fault.PrepareFault.{PrepareFault}
+use Rattle.cfm_prepare.specs.declared.fault.PrepareFault.TheVariants as fault
+
+-- each section is held at its size
+abbrev pub AllHeld : Layout → List Present → Type 0
+AllHeld m fs = (i : ℕ) → i < length fs → AreHeld m (present_at fs i).places
+
+-- no two sections of one fragment have one address
+abbrev pub OwnApart : List Present → Type 0
+OwnApart fs = (i : ℕ) → i < length fs → AreApart (present_at fs i).places
+
+-- nor two sections of different fragments
+abbrev pub AllApart : List Present → Type 0
+AllApart fs = (i j a b : ℕ) → i < length fs → j < length fs → i ≢ j → a < length (present_at fs i).places → b < length (present_at fs j).places
+    → (place_at (present_at fs i).places a).address ≢ (place_at (present_at fs j).places b).address
+
+-- fragments that can be written to and given back, one by one
+pub record AreReady (m : Layout) (fs : List Present) : Type 0 where
+  pub held : AllHeld m fs
+  pub own : OwnApart fs
+  pub apart : AllApart fs
+
+-- the places of a fragment are those of its sections
+pub record Fits (pairs : List Pair) (f : Present) : Type 0 where
+  pub before : Layout
+  pub after : Layout
+  pub placed : ArePlaced before (extents_in pairs f.position) f.places after
+
+abbrev pub AllFit : List Pair → List Present → Type 0
+AllFit pairs fs = (i : ℕ) → i < length fs → Fits pairs (present_at fs i)
+
+-- the fragments are of a closure
+abbrev pub AllIn : List ℕ → List Present → Type 0
+AllIn order fs = (i : ℕ) → i < length fs → Contains order (present_at fs i).position
+
+-- fragments with new positions were placed behind those that are there
+pub record HavePlaced (pairs : List Pair) (m : Layout) (there : List Present) (new : List ℕ) (now : List Present) (after : Layout) : Type 0 where
+  pub fresh : List Present
+  pub behind : now ≡ there ++ fresh
+  pub are : positions fresh ≡ new
+  pub placed : AllPlaced pairs m fresh after
+
+-- what stands behind some fragments can be given back, and then memory is as it was
+pub record HaveBegun (m : Layout) (there now : List Present) (after : Layout) : Type 0 where
+  pub fresh : List Present
+  pub behind : now ≡ there ++ fresh
+  pub others : all_given_back after fresh ≡ m
+  pub ready : AreReady after now
+
+-- why a fragment isn't placed
+abbrev pub IsNotPlaced : List Pair → ℕ → Layout → PrepareFault → Type 0
+IsNotPlaced pairs p m fault.TooManyConnections = ⊥
+IsNotPlaced pairs p m fault.RootMissing = ⊥
+IsNotPlaced pairs p m (fault.Bind f) = ⊥
+IsNotPlaced pairs p m (fault.NoRoom f) = LackRoom m (extents_in pairs p) × (f.now ≡ (pair_of pairs p).name)
+IsNotPlaced pairs p m (fault.Pack f k) = ⊥
+IsNotPlaced pairs p m (fault.Reloc f k) = ⊥
+IsNotPlaced pairs p m fault.OutOfMemory = Unit {0}
+
+-- what filling answers: the first refusal of an image, or that there is none
+abbrev pub FillsUpTo : {A : Type 0} → Result A PrepareFault → Option (List ℕ × PackFault) → Type 0
+FillsUpTo (Ok done) first = first ≡ None
+FillsUpTo (Err fault.TooManyConnections) first = ⊥
+FillsUpTo (Err fault.RootMissing) first = ⊥
+FillsUpTo (Err (fault.Bind f)) first = ⊥
+FillsUpTo (Err (fault.NoRoom f)) first = ⊥
+FillsUpTo (Err (fault.Pack f k)) first = first ≡ Some (f.now, k)
+FillsUpTo (Err (fault.Reloc f k)) first = ⊥
+FillsUpTo (Err fault.OutOfMemory) first = ⊥
+
+-- what relocating answers: the first refusal of a relocation header, or that there is none; or that memory was
+-- refused
+abbrev pub RelocatesUpTo : {A : Type 0} → Result A PrepareFault → Option (List ℕ × RelocFault) → Type 0
+RelocatesUpTo (Ok done) first = first ≡ None
+RelocatesUpTo (Err fault.TooManyConnections) first = ⊥
+RelocatesUpTo (Err fault.RootMissing) first = ⊥
+RelocatesUpTo (Err (fault.Bind f)) first = ⊥
+RelocatesUpTo (Err (fault.NoRoom f)) first = ⊥
+RelocatesUpTo (Err (fault.Pack f k)) first = ⊥
+RelocatesUpTo (Err (fault.Reloc f k)) first = first ≡ Some (f.now, k)
+RelocatesUpTo (Err fault.OutOfMemory) first = Unit {0}
+
+-- what is kept of a context
+pub record IsKept (m : Layout) (given : ℕ) (present : List Present) : Type 0 where
+  pub ready : AreReady m present
+  pub few : given ≤ most_connections

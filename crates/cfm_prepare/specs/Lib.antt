@@ -1,0 +1,9 @@
+pub mod Addresses
+pub mod Contexts
+pub mod Faults
+pub mod Fragments
+pub mod Kept
+pub mod Placing
+pub mod Readers
+pub mod Seen
+pub mod Steps

@@ -1,0 +1,42 @@
+-- What a context tells: where the sections of fragments that are present lie, what they hold, and where a
+-- connection's root is entered (Mac OS Runtime Architectures, "Code Fragment Manager", "Finding Symbols").
+use Rattle.std.specs.Prelude.{ℕ, ◌==◌, ℤ, pos, negsuc, List, Option, None, Some, if◌then◌else◌, option_map, slice_get}
+use Rattle.std.specs.Option.{option_and_then}
+use Rattle.cfm_memory.specs.Instances.{Layout, bytes_at}
+use Rattle.cfm_memory.specs.declared.place.Place.{Place}
+use Rattle.pef_loader.specs.Loader.{export_of, main_of, named_of}
+use Rattle.cfm_closure.specs.Fragments.{loader_at}
+use Rattle.cfm_closure.specs.Stores.{Pair}
+use Rattle.cfm_closure.specs.declared.targets.Target.TheVariants.{At}
+use Rattle.cfm_fragment.specs.Prepared.{entry_address}
+use Rattle.cfm_prepare.specs.Addresses.{import_address, target_address}
+use Rattle.cfm_prepare.specs.Contexts.{Open, State, open_of}
+use Rattle.cfm_prepare.specs.Fragments.{Present, places_of}
+
+-- what stands at a place: its address and its bytes
+abbrev pub held_at : Layout → Place → Option (ℕ × List ℕ)
+held_at m p = option_map (λ bytes. (p.address, bytes)) (bytes_at m.instances p.address)
+
+-- section i of the fragment in a place of the store; none where the fragment isn't present
+abbrev pub section_in : State → ℕ → ℕ → Option (ℕ × List ℕ)
+section_in s p i = option_and_then (held_at s.memory) (slice_get (places_of s.present p) i)
+
+-- section i of a connection's root
+abbrev pub root_section : State → ℕ → ℕ → Option (ℕ × List ℕ)
+root_section s number i = option_and_then (λ o. section_in s o.root i) (open_of s.connections number)
+
+-- the address of an export of a fragment, by its value and its section: in a section, an absolute number, or
+-- that of the import that it passes on
+abbrev pub export_address : List Pair → List Present → ℕ → ℕ → ℤ → ℕ
+export_address pairs all p value (pos section) = target_address all (Some (At p section value))
+export_address pairs all p value (negsuc n) = if n == 1 then value else import_address pairs all p value
+
+-- the address of the first export of a name, of a connection's root
+abbrev pub symbol_address : List Present → Open → List ℕ → Option ℕ
+symbol_address all o name =
+    option_map (λ x. export_address o.closed.pairs all o.root x.value x.section)
+    (option_and_then (λ l. option_and_then (export_of l) (named_of l name)) (loader_at o.closed.pairs o.root))
+
+-- the address of the main entry of a connection's root
+abbrev pub main_address : List Present → Open → Option ℕ
+main_address all o = entry_address (places_of all o.root) (option_and_then main_of (loader_at o.closed.pairs o.root))

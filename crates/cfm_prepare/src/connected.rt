@@ -1,0 +1,160 @@
+ghost use Rattle.std.specs.Prelude.{◌≡◌, Contains, IsTrue, Some};
+ghost use Rattle.std.specs.Option.{option_copied};
+ghost use Rattle.pef_loader.specs.Export.{has_section};
+ghost use Rattle.pef_loader.specs.Views.{loaded};
+ghost use Rattle.cfm_closure.specs.Fragments.{loader_at};
+ghost use Rattle.cfm_prepare.specs.Contexts.{has, is_needed, open_of};
+ghost use Rattle.cfm_prepare.specs.Readers.{export_address, main_address, symbol_address};
+ghost use Rattle.cfm_prepare.specs.Kept.Connections.{index_in};
+
+use crate::present::Placed;
+use crate::relocating::{section_address, target_address};
+use cfm_closure::Closure;
+use pef_loader::layout::{ABSOLUTE_EXPORT, REEXPORTED_IMPORT};
+use pef_loader::{ExportView, Loader};
+use std::marker::Model;
+
+/// An open connection.
+#[derive(Drop)]
+pub(crate) struct Connected<'a> {
+    number: u32,
+    root: usize,
+    closure: Closure<'a>,
+}
+
+impl<'a> Model for Connected<'a> {
+    ghost use Rattle.cfm_prepare.specs.Contexts.{Open};
+
+    ghost Value = { Open };
+
+    ghost use Rattle.std.specs.Prelude.{Contains};
+
+    ghost view = { λ c. record { number = c.number; root = c.root; closed = c.closure } };
+
+    ghost invariant = { λ c. Contains c.closure.order c.root };
+}
+
+impl<'a> Connected<'a> {
+    pub fn new(number: u32, root: usize, closure: Closure<'a>) -> Connected<'a>
+        requires { Contains closure.order root }
+        ensures { result ≡ record { number = number; root = root; closed = closure.entry } }
+    {
+        Connected {
+            number,
+            root,
+            closure,
+        }
+    }
+
+    pub fn number(&self) -> u32
+        ensures { result ≡ self.now.number }
+    {
+        self.number
+    }
+
+    pub fn root(&self) -> usize
+        ensures { result ≡ self.now.root }
+    {
+        self.root
+    }
+
+    pub fn closure(&self) -> &Closure<'a>
+        ensures { result.now ≡ self.now.closed }
+    {
+        &self.closure
+    }
+
+    /// The address of the root's first export of a name.
+    #[tactic(auto, unfolding(crate::specs::Readers::symbol_address))]
+    pub fn symbol(&self, present: &[Placed], name: &[u8]) -> Option<u32>
+        ensures { result ≡ symbol_address present.now self.now name.now }
+    {
+        let loader = self.closure.loader(self.root);
+        let index = loader.export_named(name)?;
+        let export = loader.export(index)?;
+        Some(self.export_address(present, &loader, export))
+    }
+
+    /// The address of an export of the root.
+    fn export_address(
+        &self,
+        present: &[Placed],
+        loader: &Loader<'_>,
+        export: ExportView<'_>,
+    ) -> u32
+        requires loader { loader_at self.now.closed.pairs self.now.root ≡ Some (loaded loader.now) }
+        requires section { IsTrue (has_section (loaded loader.now).header (loaded loader.now).sections export.value export.section) }
+        ensures { result ≡ export_address self.now.closed.pairs present.now self.now.root export.entry.value export.entry.section }
+    {
+        match export.section {
+            ABSOLUTE_EXPORT => export.value,
+            REEXPORTED_IMPORT => {
+                let target = self.closure.target(self.root, export.value as usize);
+                target_address(present, target)
+            }
+            section => {
+                let address = section_address(present, self.root, section.cast_unsigned());
+                address.wrapping_add(export.value)
+            }
+        }
+    }
+
+    /// The address of the root's main entry.
+    pub fn main(&self, present: &[Placed]) -> Option<u32>
+        ensures { result ≡ main_address present.now self.now }
+    {
+        let (section, offset) = self.closure.loader(self.root).main()?;
+        Some(section_address(present, self.root, section).wrapping_add(offset))
+    }
+}
+
+/// The open connection of a number.
+pub(crate) fn find_open<'r, 'a>(
+    connections: &'r [Connected<'a>],
+    number: u32,
+) -> Option<&'r Connected<'a>>
+    ensures { option_copied result ≡ open_of connections.now number }
+{
+    for connected in connections {
+        if connected.number() == number {
+            return Some(connected);
+        }
+    }
+    None
+}
+
+/// How many open connections stand before that of a number; all where there is none.
+pub(crate) fn index_of(connections: &[Connected<'_>], number: u32) -> usize
+    ensures { result ≡ index_in connections.now number }
+{
+    for (i, connected) in connections.iter().enumerate() {
+        if connected.number() == number {
+            return i;
+        }
+    }
+    connections.len()
+}
+
+/// Whether a list has a number.
+fn has(numbers: &[usize], number: usize) -> bool
+    ensures { result ≡ has numbers.now number }
+{
+    for other in numbers {
+        if *other == number {
+            return true;
+        }
+    }
+    false
+}
+
+/// Whether the closure of an open connection has a fragment.
+pub(crate) fn is_needed(connections: &[Connected<'_>], position: usize) -> bool
+    ensures { result ≡ is_needed connections.now position }
+{
+    for connected in connections {
+        if has(connected.closure().order(), position) {
+            return true;
+        }
+    }
+    false
+}

@@ -1,0 +1,179 @@
+ghost use Rattle.std.specs.Prelude.{◌≡◌, ◌<◌, ℕ, List, IfErr, IfOk, None, OnErr, OnOk, Some, length, option_map};
+ghost use Rattle.std.specs.Option.{option_and_then, option_copied};
+ghost use Rattle.cfm_closure.specs.Stores.{place_of};
+ghost use Rattle.cfm_prepare.specs.Contexts.{fresh_state, most_connections, open_of};
+ghost use Rattle.cfm_prepare.specs.Readers.{main_address, root_section, section_in, symbol_address};
+ghost use Rattle.cfm_prepare.specs.Seen.{section_seen};
+ghost use Rattle.cfm_prepare.specs.Steps.{Closes, MayNotPrepare, Prepares};
+
+use crate::connected::{Connected, find_open, index_of};
+use crate::fault::{CloseFault, PrepareFault};
+use crate::preparing::prepare_new;
+use crate::present::{Placed, new_among, places_of};
+use crate::releasing::release;
+use cfm_closure::{Store, closure};
+use cfm_memory::Memory;
+use std::alloc::Global;
+use std::marker::Model;
+
+/// How many connections a context gives in all.
+const MOST_CONNECTIONS: u32 = 65_536;
+
+/// A connection to a fragment that was prepared, by its number. No number comes twice in a context.
+#[derive(Clone, Copy, Debug, PartialEq, Eq)]
+pub struct Connection(pub u32);
+
+/// Fragments in one memory, which are prepared and shared as connections need them.
+///
+/// A fragment is present exactly where the closure of an open connection has it. While it is present it
+/// keeps its addresses.
+#[derive(Drop)]
+pub struct Context<'a> {
+    alloc: Global,
+    store: Store<'a>,
+    memory: Memory,
+    /// How many connections were given.
+    given: u32,
+    /// The open connections, in the order of their numbers.
+    connections: Vec<Connected<'a>>,
+    present: Vec<Placed>,
+}
+
+impl<'a> Model for Context<'a> {
+    ghost use Rattle.cfm_prepare.specs.Contexts.{State};
+
+    ghost Value = { State };
+
+    ghost use Rattle.cfm_prepare.specs.Kept.Ready.{IsKept};
+
+    ghost view = { λ c. record { pairs = c.store; memory = c.memory; given = c.given; connections = c.connections.items; present = c.present.items } };
+
+    ghost invariant = { λ c. IsKept c.memory c.given c.present.items };
+}
+
+impl<'a> Context<'a> {
+    /// A context over the fragments of a store, in which nothing is prepared. No section may pass the
+    /// address `limit`. Nothing is allocated yet.
+    pub fn new(alloc: Global, store: Store<'a>, limit: u32) -> Context<'a>
+        ensures { result ≡ fresh_state store.entry limit }
+    {
+        Context {
+            alloc,
+            store,
+            memory: Memory::new(alloc, limit),
+            given: 0,
+            connections: Vec::new(alloc),
+            present: Vec::new(alloc),
+        }
+    }
+
+    /// Opens a connection to the fragment of a name: the fragments of its closure that aren't present are
+    /// placed, filled and relocated.
+    ///
+    /// # Errors
+    ///
+    /// `TooManyConnections` where all numbers were given; else `RootMissing` where the store has no such
+    /// name; else the first refusal of the closure, of placement, of the images, of the relocation
+    /// headers, in this order; or `OutOfMemory`. The context is then as it was.
+    pub fn prepare(&mut self, name: &[u8]) -> Result<Connection, PrepareFault<'a>>
+        ensures prepared { IfOk result (λ connection. Prepares self.old name.now connection.0 self.new) }
+        ensures refused { IfErr result (λ fault. MayNotPrepare self.old name.now fault) }
+        ensures unchanged { OnErr result (self.new ≡ self.old) }
+    {
+        if self.given >= MOST_CONNECTIONS {
+            return Err(PrepareFault::TooManyConnections);
+        }
+        let Some(root) = self.store.find(name) else {
+            return Err(PrepareFault::RootMissing);
+        };
+        self.open_root(root)
+    }
+
+    /// Opens a connection to the fragment in a place of the store.
+    fn open_root(&mut self, root: usize) -> Result<Connection, PrepareFault<'a>>
+        requires root { root < length self.old.pairs }
+        requires left { self.old.given < most_connections }
+        ensures prepared { (name : List ℕ) → place_of self.old.pairs name ≡ Some root → IfOk result (λ connection. Prepares self.old name connection.0 self.new) }
+        ensures refused { (name : List ℕ) → place_of self.old.pairs name ≡ Some root → IfErr result (λ fault. MayNotPrepare self.old name fault) }
+        ensures unchanged { OnErr result (self.new ≡ self.old) }
+    {
+        let closure = closure(self.alloc, &self.store, root)?;
+        let new = new_among(self.alloc, &self.present, closure.order())?;
+        self.connections.reserve(1)?;
+        prepare_new(self.alloc, &mut self.memory, &self.store, &closure, &new, &mut self.present)?;
+        let number = self.given;
+        self.given += 1;
+        self.connections.push(Connected::new(number, root, closure)).unwrap();
+        Ok(Connection(number))
+    }
+
+    /// Closes a connection: the fragments that no other open connection needs are given back.
+    ///
+    /// # Errors
+    ///
+    /// `BadConnection` where no open connection has this number. The context is then as it was.
+    pub fn close(&mut self, connection: Connection) -> Result<(), CloseFault>
+        ensures closed { OnOk result (Closes self.old connection.0 self.new) }
+        ensures refused { OnErr result (open_of self.old.connections connection.0 ≡ None) }
+        ensures unchanged { OnErr result (self.new ≡ self.old) }
+    {
+        let index = index_of(&self.connections, connection.0);
+        if index == self.connections.len() {
+            return Err(CloseFault::BadConnection);
+        }
+        self.connections.remove(index);
+        release(&mut self.memory, &self.connections, &mut self.present);
+        Ok(())
+    }
+
+    /// The address of the first export of a name, of the fragment that a connection was opened to. `None`
+    /// where there is none, or the connection isn't open.
+    pub fn symbol(&self, connection: Connection, name: &[u8]) -> Option<u32>
+        ensures { result ≡ option_and_then (λ o. symbol_address self.now.present o name.now) (open_of self.now.connections connection.0) }
+    {
+        let connected = find_open(&self.connections, connection.0)?;
+        connected.symbol(&self.present, name)
+    }
+
+    /// The address and the bytes of section `i` of the fragment that a connection was opened to.
+    pub fn section(&self, connection: Connection, i: usize) -> Option<(u32, &[u8])>
+        ensures { option_map section_seen result ≡ root_section self.now connection.0 i }
+    {
+        let connected = find_open(&self.connections, connection.0)?;
+        self.fragment_section(connected.root(), i)
+    }
+
+    /// The address of the main entry of the fragment that a connection was opened to.
+    pub fn main(&self, connection: Connection) -> Option<u32>
+        ensures { result ≡ option_and_then (λ o. main_address self.now.present o) (open_of self.now.connections connection.0) }
+    {
+        let connected = find_open(&self.connections, connection.0)?;
+        connected.main(&self.present)
+    }
+
+    /// The fragments of a connection's closure in the order of their initialization, by their places in
+    /// the store.
+    pub fn init_order(&self, connection: Connection) -> Option<&[usize]>
+        ensures { option_copied result ≡ option_map (λ o. o.closed.init_order) (open_of self.now.connections connection.0) }
+    {
+        let connected = find_open(&self.connections, connection.0)?;
+        Some(connected.closure().init_order())
+    }
+
+    /// The fragments of a connection's closure in closure order, by their places in the store.
+    pub fn fragments(&self, connection: Connection) -> Option<&[usize]>
+        ensures { option_copied result ≡ option_map (λ o. o.closed.order) (open_of self.now.connections connection.0) }
+    {
+        let connected = find_open(&self.connections, connection.0)?;
+        Some(connected.closure().order())
+    }
+
+    /// The address and the bytes of section `i` of the fragment in a place of the store. `None` where the
+    /// fragment isn't present, or has no such section.
+    pub fn fragment_section(&self, position: usize, i: usize) -> Option<(u32, &[u8])>
+        ensures { option_map section_seen result ≡ section_in self.now position i }
+    {
+        let place = *places_of(&self.present, position).get(i)?;
+        Some((place.address, self.memory.part(place)))
+    }
+}

@@ -1,0 +1,157 @@
+ghost use Rattle.std.specs.Prelude.{◌≡◌};
+ghost use Rattle.cfm_prepare.specs.Faults.{close_fault_name, close_fault_number, fault_name, fault_number};
+
+use cfm_closure::BindFault;
+use pef_pidata::PackFault;
+use pef_reloc::RelocFault;
+use std::alloc::{AllocError, AllocFailed};
+use std::fmt;
+use thiserror::Error;
+
+/// Why a fragment isn't prepared. Its text is its name; `fragment` is the name of the fragment that is
+/// refused.
+#[derive(Clone, Copy, Debug, PartialEq, Eq, Error)]
+pub enum PrepareFault<'a> {
+    /// All numbers of connections were given.
+    TooManyConnections,
+
+    /// The store has no fragment of that name.
+    RootMissing,
+
+    /// The fragment has no closure.
+    Bind(BindFault<'a>),
+
+    /// A section finds no room in memory.
+    NoRoom {
+        fragment: &'a [u8],
+    },
+
+    /// The raw bytes of a section of pattern-initialized data don't spell its image.
+    Pack {
+        fragment: &'a [u8],
+        fault: PackFault,
+    },
+
+    /// A relocation program is no program, or can't be applied.
+    Reloc {
+        fragment: &'a [u8],
+        fault: RelocFault,
+    },
+
+    /// The machine refused memory.
+    OutOfMemory,
+}
+
+impl<'a> PrepareFault<'a> {
+    /// The refusal's number: 69, 60, that of the closure's refusal, 67, 21 to 25, 31 to 39, or 99.
+    pub fn number(&self) -> u32
+        ensures { result ≡ fault_number self.now }
+    {
+        match self {
+            PrepareFault::TooManyConnections => 69,
+            PrepareFault::RootMissing => 60,
+            PrepareFault::Bind(fault) => fault.number(),
+            PrepareFault::NoRoom { .. } => 67,
+            PrepareFault::Pack { fault, .. } => fault.number(),
+            PrepareFault::Reloc { fault, .. } => fault.number(),
+            PrepareFault::OutOfMemory => 99,
+        }
+    }
+
+    /// The refusal's name, which is its text.
+    pub fn name(&self) -> &'static str
+        ensures { result.now ≡ fault_name self.now }
+    {
+        match self {
+            PrepareFault::TooManyConnections => "TooManyConnections",
+            PrepareFault::RootMissing => "RootMissing",
+            PrepareFault::Bind(fault) => fault.name(),
+            PrepareFault::NoRoom { .. } => "NoRoom",
+            PrepareFault::Pack { fault, .. } => fault.name(),
+            PrepareFault::Reloc { fault, .. } => fault.name(),
+            PrepareFault::OutOfMemory => "OutOfMemory",
+        }
+    }
+}
+
+impl<'a> fmt::Display for PrepareFault<'a> {
+    ghost use Rattle.std.specs.Prelude.{Some};
+    ghost use Rattle.cfm_prepare.specs.Faults.{fault_name};
+
+    ghost output = { λ fault. Some (fault_name fault) };
+
+    fn fmt<W: fmt::Write>(&self, f: &mut fmt::Formatter<W>) -> fmt::Result {
+        f.write_str(self.name())
+    }
+}
+
+impl<'a> From<BindFault<'a>> for PrepareFault<'a> {
+    ghost use Rattle.std.specs.Prelude.{◌≡◌};
+    ghost use Rattle.cfm_prepare.specs.declared.fault.PrepareFault.TheVariants as prepare_fault;
+
+    ghost from_gives = { λ fault e. e ≡ prepare_fault.Bind fault };
+
+    fn from(fault: BindFault<'a>) -> PrepareFault<'a> {
+        PrepareFault::Bind(fault)
+    }
+}
+
+impl<'a> From<AllocError> for PrepareFault<'a> {
+    ghost use Rattle.std.specs.Prelude.{◌≡◌};
+    ghost use Rattle.cfm_prepare.specs.declared.fault.PrepareFault.TheVariants.{OutOfMemory};
+
+    ghost from_gives = { λ _ e. e ≡ OutOfMemory };
+
+    fn from(_error: AllocError) -> PrepareFault<'a> {
+        PrepareFault::OutOfMemory
+    }
+}
+
+impl<'a, T: Drop> From<AllocFailed<T>> for PrepareFault<'a> {
+    ghost use Rattle.std.specs.Prelude.{◌≡◌};
+    ghost use Rattle.cfm_prepare.specs.declared.fault.PrepareFault.TheVariants.{OutOfMemory};
+
+    ghost from_gives = { λ _ e. e ≡ OutOfMemory };
+
+    fn from(_error: AllocFailed<T>) -> PrepareFault<'a> {
+        PrepareFault::OutOfMemory
+    }
+}
+
+/// Why a connection isn't closed. Its text is its name.
+#[derive(Clone, Copy, Debug, PartialEq, Eq, Error)]
+pub enum CloseFault {
+    /// No open connection has this number.
+    BadConnection,
+}
+
+impl CloseFault {
+    /// The refusal's number.
+    pub fn number(&self) -> u32
+        ensures { result ≡ close_fault_number self.now }
+    {
+        match self {
+            CloseFault::BadConnection => 68,
+        }
+    }
+
+    /// The refusal's name, which is its text.
+    pub fn name(&self) -> &'static str
+        ensures { result.now ≡ close_fault_name self.now }
+    {
+        match self {
+            CloseFault::BadConnection => "BadConnection",
+        }
+    }
+}
+
+impl fmt::Display for CloseFault {
+    ghost use Rattle.std.specs.Prelude.{Some};
+    ghost use Rattle.cfm_prepare.specs.Faults.{close_fault_name};
+
+    ghost output = { λ fault. Some (close_fault_name fault) };
+
+    fn fmt<W: fmt::Write>(&self, f: &mut fmt::Formatter<W>) -> fmt::Result {
+        f.write_str(self.name())
+    }
+}

@@ -1,0 +1,81 @@
+ghost use Rattle.std.specs.Prelude.{◌≡◌, ◌≤◌, ◌++◌, List, All, Contains, IfErr, OnErr, OnOk, drop, length, take};
+ghost use Rattle.cfm_prepare.specs.Fragments.{Present, all_given_back};
+ghost use Rattle.cfm_prepare.specs.Placing.{ArePrepared};
+ghost use Rattle.cfm_prepare.specs.Steps.{MayNotPrepareNew};
+ghost use Rattle.cfm_prepare.specs.Kept.Ready.{AreReady, HaveBegun};
+
+use crate::fault::PrepareFault;
+use crate::filling::fill_fragments;
+use crate::placing::place_fragments;
+use crate::present::Placed;
+use crate::relocating::relocate_fragments;
+use cfm_closure::{Closure, Store};
+use cfm_fragment::give_back;
+use cfm_memory::Memory;
+use std::alloc::Global;
+
+/// Prepares new fragments of a closure, and puts them behind those that are present. Where it is refused,
+/// what was placed is given back.
+pub(crate) fn prepare_new<'a>(
+    alloc: Global,
+    memory: &mut Memory,
+    store: &Store<'a>,
+    closure: &Closure<'_>,
+    new: &[usize],
+    present: &mut Vec<Placed>,
+) -> Result<(), PrepareFault<'a>>
+    requires store { store.now ≡ closure.now.pairs }
+    requires members { All (λ p. Contains closure.now.order p) new.now }
+    requires ready { AreReady memory.old present.old.items }
+    ensures prepared { OnOk result ((fresh : List Present) × (present.new.items ≡ present.old.items ++ fresh) × ArePrepared store.now present.old.items memory.old new.now fresh memory.new) }
+    ensures refused { IfErr result (λ fault. MayNotPrepareNew store.now present.old.items memory.old new.now fault) }
+    ensures unchanged { OnErr result ((memory.new ≡ memory.old) × (present.new.items ≡ present.old.items)) }
+    ensures ready { AreReady memory.new present.new.items }
+{
+    let before = present.len();
+    match try_prepare(alloc, memory, store, closure, new, present) {
+        Ok(()) => Ok(()),
+        Err(fault) => {
+            give_back_from(memory, present, before);
+            Err(fault)
+        }
+    }
+}
+
+/// Prepares new fragments of a closure, up to the first refusal.
+fn try_prepare<'a>(
+    alloc: Global,
+    memory: &mut Memory,
+    store: &Store<'a>,
+    closure: &Closure<'_>,
+    new: &[usize],
+    present: &mut Vec<Placed>,
+) -> Result<(), PrepareFault<'a>>
+    requires store { store.now ≡ closure.now.pairs }
+    requires members { All (λ p. Contains closure.now.order p) new.now }
+    requires ready { AreReady memory.old present.old.items }
+    ensures prepared { OnOk result ((fresh : List Present) × (present.new.items ≡ present.old.items ++ fresh) × ArePrepared store.now present.old.items memory.old new.now fresh memory.new) }
+    ensures refused { IfErr result (λ fault. MayNotPrepareNew store.now present.old.items memory.old new.now fault) }
+    ensures begun { HaveBegun memory.old present.old.items present.new.items memory.new }
+{
+    let before = present.len();
+    place_fragments(alloc, memory, store, closure, new, present)?;
+    let (_, fresh) = present.split_at(before);
+    fill_fragments(memory, store, closure, fresh)?;
+    relocate_fragments(alloc, memory, store, closure, present, fresh)
+}
+
+/// Gives back the fragments behind the first `kept`.
+fn give_back_from(memory: &mut Memory, present: &mut Vec<Placed>, kept: usize)
+    requires kept { kept ≤ length present.old.items }
+    requires ready { AreReady memory.old present.old.items }
+    ensures memory { memory.new ≡ all_given_back memory.old (drop kept present.old.items) }
+    ensures present { present.new.items ≡ take kept present.old.items }
+    ensures ready { AreReady memory.new present.new.items }
+{
+    while present.len() > kept {
+        if let Some(fragment) = present.pop() {
+            give_back(memory, fragment.places());
+        }
+    }
+}
