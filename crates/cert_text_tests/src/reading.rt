@@ -1,3 +1,4 @@
+use crate::texts::TWO_SECTIONS;
 use pef_cert::Certificate;
 use pef_cert_text::read;
 use pef_reloc::Instr;
@@ -5,28 +6,6 @@ use std::alloc::{AllocError, Global};
 use std::fmt::Write;
 use std::process::Abort;
 use std::test::Fail;
-
-/// The certificates of a script with two sections, of which the second has two transition vectors.
-const TWO_SECTIONS: &str = "\
-pefcert 1
-section 0
-fixups 0
-length 0
-program -
-registers *
-at 0 0
-section 1
-fixups 4
-length 1
-program 4601
-registers 0 1 *
-at 0 2 1 2 3 2 3 3 2 3
-at 1 3 2 3 2 3 3 3 3 3
-at 2 2 1 2 2 2 2 2 2 2
-at 3 1 1 1 1 1 1 1 1 1
-at 4 0 0 0 0 0 0 0 0 0
-end
-";
 
 /// The line of a refusal, 0 where the text is read, and 1,000,000 where memory is refused.
 fn refused_line(alloc: Global, text: &str) -> usize {
@@ -116,10 +95,22 @@ const TEXTS: [(&str, usize); 46] = [
     ("section 0\nfixups 0\nlength 2\nprogram A000 0000\n", 6),
     ("section 0\nfixups 0\nlength 2\nprogram 4200 9001\n", 6),
     ("section 0\nfixups 0\nlength 0\nprogram -\nregisters\n", 6),
-    ("section 0\nfixups 0\nlength 0\nprogram -\nregisters 0 1\n", 6),
-    ("section 0\nfixups 0\nlength 0\nprogram -\nregisters * 1\n", 6),
-    ("section 0\nfixups 0\nlength 0\nprogram -\nregisters 1 0 *\n", 6),
-    ("section 0\nfixups 0\nlength 0\nprogram -\nregisters 1 1 *\n", 6),
+    (
+        "section 0\nfixups 0\nlength 0\nprogram -\nregisters 0 1\n",
+        6,
+    ),
+    (
+        "section 0\nfixups 0\nlength 0\nprogram -\nregisters * 1\n",
+        6,
+    ),
+    (
+        "section 0\nfixups 0\nlength 0\nprogram -\nregisters 1 0 *\n",
+        6,
+    ),
+    (
+        "section 0\nfixups 0\nlength 0\nprogram -\nregisters 1 1 *\n",
+        6,
+    ),
     (
         "section 0\nfixups 0\nlength 0\nprogram -\nregisters 0 1 2 3 4 5 6 7 8 9 10 11 12 13 14 15 16 *\n",
         6,
@@ -128,12 +119,30 @@ const TEXTS: [(&str, usize); 46] = [
         "section 0\nfixups 0\nlength 0\nprogram -\nregisters 0 1 2 3 4 5 6 7 8 9 10 11 12 13 14 15 *\n",
         7,
     ),
-    ("section 0\nfixups 0\nlength 0\nprogram -\nregisters *\nend\n", 7),
-    ("section 0\nfixups 0\nlength 0\nprogram -\nregisters *\nat 1 0\n", 7),
-    ("section 0\nfixups 0\nlength 0\nprogram -\nregisters *\nat 0\n", 7),
-    ("section 0\nfixups 0\nlength 0\nprogram -\nregisters *\nat 0 0 0\n", 7),
-    ("section 0\nfixups 0\nlength 0\nprogram -\nregisters *\nat 0 0\nat 1 0\n", 8),
-    ("section 0\nfixups 1\nlength 0\nprogram -\nregisters *\nat 0 0\nat 0 0\n", 8),
+    (
+        "section 0\nfixups 0\nlength 0\nprogram -\nregisters *\nend\n",
+        7,
+    ),
+    (
+        "section 0\nfixups 0\nlength 0\nprogram -\nregisters *\nat 1 0\n",
+        7,
+    ),
+    (
+        "section 0\nfixups 0\nlength 0\nprogram -\nregisters *\nat 0\n",
+        7,
+    ),
+    (
+        "section 0\nfixups 0\nlength 0\nprogram -\nregisters *\nat 0 0 0\n",
+        7,
+    ),
+    (
+        "section 0\nfixups 0\nlength 0\nprogram -\nregisters *\nat 0 0\nat 1 0\n",
+        8,
+    ),
+    (
+        "section 0\nfixups 1\nlength 0\nprogram -\nregisters *\nat 0 0\nat 0 0\n",
+        8,
+    ),
 ];
 
 #[test]
@@ -168,7 +177,9 @@ fn versions(rt: HostRuntime) {
 #[test]
 fn faults(rt: HostRuntime) -> Result<(), Fail> {
     let alloc = rt.alloc();
-    let fault = read(alloc, b"pefcert 3\nend\n").err().expect(&rt, "refused");
+    let fault = read(alloc, b"pefcert 3\nend\n")
+        .err()
+        .expect(&rt, "refused");
     assert_eq!(rt; fault.number(), 51);
     let text = format!(in alloc; "{fault}")?;
     assert_eq!(rt; text.as_str(), "BadCertificate line 1");
