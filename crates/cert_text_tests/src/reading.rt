@@ -1,3 +1,4 @@
+use crate::texts::TWO_SECTIONS;
 use pef_cert::Certificate;
 use pef_cert_text::read;
 use pef_reloc::Instr;
@@ -5,28 +6,6 @@ use std::alloc::{AllocError, Global};
 use std::fmt::Write;
 use std::process::Abort;
 use std::test::Fail;
-
-/// The certificates of a script with two sections, of which the second has two transition vectors.
-const TWO_SECTIONS: &str = "\
-pefcert 1
-section 0
-fixups 0
-length 0
-program -
-registers *
-at 0 0
-section 1
-fixups 4
-length 1
-program 4601
-registers 0 1 *
-at 0 2 1 2 3 2 3 3 2 3
-at 1 3 2 3 2 3 3 3 3 3
-at 2 2 1 2 2 2 2 2 2 2
-at 3 1 1 1 1 1 1 1 1 1
-at 4 0 0 0 0 0 0 0 0 0
-end
-";
 
 /// The line of a refusal, 0 where the text is read, and 1,000,000 where memory is refused.
 fn refused_line(alloc: Global, text: &str) -> usize {

@@ -1,7 +1,11 @@
+mod LinesRead
+mod PartsRead
 mod PrintLemmas
 mod ProgramLemmas
 mod ReadLemmas
 mod ReadsBack
 mod RoundLemmas
 mod TextLemmas
+mod TextsRead
 mod WordLemmas
+mod WordsRead

@@ -40,14 +40,14 @@ unfolding version_line
 version_line-text = refl
 
 -- the lines behind the first of a certificate
-abbrev body_text : Certified → List ℕ → List ℕ
+abbrev pub body_text : Certified → List ℕ → List ℕ
 body_text c rest = line_text (codes "fixups") (decimal (length c.labels - 1) ∷ [])
     ++ (line_text (codes "length") (decimal (program_length c.program) ∷ [])
     ++ (line_text (codes "program") (program_words c.program)
     ++ (line_text (codes "registers") (number_words c.registers ++ codes "*" ∷ [])
     ++ (rows_text 0 c.labels ++ rest))))
 
-certificate_text-parts : (c : Certified) (rest : List ℕ) → certificate_text c ++ rest ≡ line_text (codes "section") (decimal c.section ∷ []) ++ body_text c rest
+pub certificate_text-parts : (c : Certified) (rest : List ℕ) → certificate_text c ++ rest ≡ line_text (codes "section") (decimal c.section ∷ []) ++ body_text c rest
 unfolding certificate_text
 certificate_text-parts c rest = assoc (line_text (codes "section") (decimal c.section ∷ [])) (line_text (codes "fixups") (decimal (length c.labels - 1) ∷ []))
     (line_text (codes "length") (decimal (program_length c.program) ∷ [])) (line_text (codes "program") (program_words c.program))
@@ -73,7 +73,7 @@ certificate_read-text c number rest p =
     record { number = rows.number; is = rw (fixups, halfwords, program, registers, count, rows.is) refl }
 
 -- the last line
-abbrev end_text : List ℕ
+abbrev pub end_text : List ℕ
 end_text = line_text (codes "end") []
 
 certificates_read-text : (n : ℕ) (before certificates : List Certified) (number : ℕ) → AllByRecursion Printable certificates → length certificates < n

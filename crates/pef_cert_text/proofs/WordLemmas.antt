@@ -6,11 +6,11 @@ use Rattle.pef_lines.specs.Lines.{cut_at, longer_first}
 use Rattle.pef_cert_text.specs.Words.{none_left, words_of}
 
 -- the two parts of a cut
-abbrev front : Option (List ℕ × List ℕ) → List ℕ
+abbrev pub front : Option (List ℕ × List ℕ) → List ℕ
 front None = []
 front (Some p) = p.0
 
-abbrev back : Option (List ℕ × List ℕ) → List ℕ
+abbrev pub back : Option (List ℕ × List ℕ) → List ℕ
 back None = []
 back (Some p) = p.1
 

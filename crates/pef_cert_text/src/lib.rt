@@ -1,6 +1,7 @@
 //! The text of certificates, version 1: a certificate for each section of a script, line by line.
 //!
-//! [`read`] takes a text, and says the first line that breaks a rule.
+//! [`read`] takes a text, and says the first line that breaks a rule; [`print`] gives the text of
+//! certificates. Each list of certificates has one text, and each text at most one list.
 #![tactic(auto)]
 
 mod fault;
@@ -16,4 +17,4 @@ mod words;
 pub use fault::CertFault;
 pub use printer::print;
 pub use reader::read;
-pub use theorems::printed_texts;
+pub use theorems::{printed_texts, read_texts};

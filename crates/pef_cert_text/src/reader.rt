@@ -1,8 +1,10 @@
 ghost use Rattle.std.specs.Prelude.{◌≡◌, ◌+◌, ◌*◌, ◌<◌, ◌≤◌, [], length, vec_len, IfOk, OnOk};
+ghost use Rattle.std.specs.List.{AllByRecursion};
 ghost use Rattle.pef_words.specs.Refusals.{result_map};
 ghost use Rattle.pef_cert_text.specs.Grammar.{certificate_read, certificates_of, line_read, rows_read};
 ghost use Rattle.pef_cert_text.specs.Kept.Reading.{Takes, left};
 ghost use Rattle.pef_cert_text.specs.Lines.{fixups_line, head_line, length_line, program_line, registers_line, row_line, version_line};
+ghost use Rattle.pef_cert_text.specs.Printed.{Printable};
 ghost use Rattle.pef_cert_text.specs.Views.{Reads};
 
 use crate::CertFault;
@@ -20,8 +22,10 @@ use std::alloc::Global;
 ///
 /// `BadCertificate` with the number of the first line that breaks a rule by itself or against the lines
 /// before it, or, where a line is missing, of the one behind the last; `OutOfMemory`.
+#[tactic(auto, using(crate::proofs::TextsRead::read_can_be_printed))]
 pub fn read(alloc: Global, text: &[u8]) -> Result<Vec<Certificate>, CertFault>
-    ensures { Reads (result_map (λ v. v.items) result) (certificates_of text.now) }
+    ensures certificates { Reads (result_map (λ v. v.items) result) (certificates_of text.now) }
+    ensures printable { IfOk result (λ v. AllByRecursion Printable v.items) }
 {
     let mut lines = Lines::new(text);
     read_version(&mut lines)?;

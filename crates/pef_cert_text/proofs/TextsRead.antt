@@ -1,0 +1,177 @@
+-- What is read is what is printed: certificates. So a list has one text, and a text at most one list.
+use Rattle.std.proofs.Common.{◌≡◌, ℕ, zero, suc, ◌+◌, ◌-◌, ◌==◌, Bool, true, false, cond, List, [], ◌∷◌, ◌++◌, Result, Ok, Err, length, refl, sym, ap, ap₂, ◌∙◌, subst, append_assoc, arith}
+use Rattle.std.specs.Prelude.{codes, decimal}
+use Rattle.std.specs.List.{AllByRecursion}
+use Rattle.std.proofs.lemmas.Bool.{eqb-true}
+use Rattle.std.proofs.lemmas.List.{append-nil}
+use Rattle.pef_cert.specs.Valid.{Certified}
+use Rattle.pef_reloc.specs.Instrs.{program_length}
+use Rattle.pef_cert_text.specs.declared.fields.Head.{Head}
+use Rattle.pef_cert_text.specs.declared.fields.Head.TheVariants.{Section, End}
+use Rattle.pef_cert_text.specs.Grammar.{◌>>=◌, Left, certificate_read, certificates_of, certificates_read, headed, line_read, row_width, rows_read, text_ended}
+use Rattle.pef_cert_text.specs.Lines.{fixups_line, head_line, length_line, program_line, registers_line, row_line, version_line}
+use Rattle.pef_cert_text.specs.Printed.{IsNumber, IsRow, Printable, certificate_text, certificates_text, each_text, line_text, number_words, program_words, rows_text, words_text}
+use Rattle.pef_cert_text.proofs.LinesRead.{line_read-ok, step_ok, value_or}
+use Rattle.pef_cert_text.proofs.PartsRead.{HeadText, fixups_line-is, head_line-is, length_line-is, program_line-is, registers_line-is, row_line-is, version_line-is}
+use Rattle.pef_cert_text.proofs.ReadsBack.{body_text, certificate_text-parts, end_text}
+
+-- a line of words in front of a text
+line_in : (text word rest : List ℕ) (words : List (List ℕ)) (line : List ℕ) → text ≡ line ++ 0x0A ∷ rest → line ≡ word ++ words_text words → text ≡ line_text word words ++ rest
+line_in text word rest words line parts is =
+    parts ∙ ap (λ (l : List ℕ). l ++ 0x0A ∷ rest) is ∙ sym (append_assoc (word ++ words_text words) (0x0A ∷ []) rest)
+
+-- rows of labels, behind those that were read before
+record RowsText (width at n : ℕ) (before : List (List ℕ)) (old : Left) (all : List (List ℕ)) (new : Left) : Type 0 where
+  more : List (List ℕ)
+  are : all ≡ before ++ more
+  count : length more ≡ n
+  text : old.text ≡ rows_text at more ++ new.text
+  wide : AllByRecursion (IsRow width) more
+
+rows_read-are : (width at n : ℕ) (before : List (List ℕ)) (old new : Left) (all : List (List ℕ)) → rows_read width at n before old ≡ Ok (all, new) → RowsText width at n before old all new
+rows_read-are width at zero before old new all is =
+    let same : before ≡ all = ap (λ (r : Result (List (List ℕ) × Left) ℕ). (value_or (all, new) r).0) is in
+    let left : old.text ≡ new.text = ap (λ (r : Result (List (List ℕ) × Left) ℕ). (value_or (all, new) r).1.text) is in
+    record { more = []; are = sym same ∙ sym (append-nil before); count = refl; text = left; wide = tt }
+rows_read-are width at (suc n) before old new all is =
+    step_ok (line_read (row_line width at) old) (λ row. rows_read width (at + 1) n (before ++ row.0 ∷ []) row.1) (all, new) is (λ row first rest.
+    line_read-ok (row_line width at) old row.1 row.0 first (λ line said parts.
+    let t = row_line-is width at line row.0 said in
+    let others = rows_read-are width (at + 1) n (before ++ row.0 ∷ []) row.1 new all rest in
+    let words = decimal at ∷ number_words row.0 in
+    record {
+      more = row.0 ∷ others.more;
+      are = others.are ∙ append_assoc before (row.0 ∷ []) others.more;
+      count = (let count = others.count in omega (arith, count));
+      text = line_in old.text (codes "at") (row.1).text words line parts t.text
+          ∙ ap (λ (rest : List ℕ). line_text (codes "at") words ++ rest) others.text
+          ∙ sym (append_assoc (line_text (codes "at") words) (rows_text (at + 1) others.more) new.text);
+      wide = (t.wide, others.wide);
+    }))
+
+-- a certificate
+record CertificateText (section : ℕ) (old : Left) (c : Certified) (new : Left) : Type 0 where
+  section_is : c.section ≡ section
+  printable : IsNumber section → Printable c
+  text : old.text ≡ body_text c new.text
+
+certificate_read-is : (section : ℕ) (old new : Left) (c : Certified) → certificate_read section old ≡ Ok (c, new) → CertificateText section old c new
+unfolding certificate_read
+certificate_read-is section old new c is =
+    step_ok (line_read fixups_line old) (λ fixups. line_read length_line fixups.1 >>= λ halfwords. line_read (program_line halfwords.0) halfwords.1 >>= λ program. line_read registers_line program.1 >>= λ registers. rows_read (row_width registers.0) 0 (fixups.0 + 1) [] registers.1 >>= λ labels. Ok (record { section = section; program = program.0; registers = registers.0; labels = labels.0 }, labels.1)) (c, new) is (λ fixups fixups_read rest1.
+    step_ok (line_read length_line fixups.1) (λ halfwords. line_read (program_line halfwords.0) halfwords.1 >>= λ program. line_read registers_line program.1 >>= λ registers. rows_read (row_width registers.0) 0 (fixups.0 + 1) [] registers.1 >>= λ labels. Ok (record { section = section; program = program.0; registers = registers.0; labels = labels.0 }, labels.1)) (c, new) rest1 (λ halfwords length_read rest2.
+    step_ok (line_read (program_line halfwords.0) halfwords.1) (λ program. line_read registers_line program.1 >>= λ registers. rows_read (row_width registers.0) 0 (fixups.0 + 1) [] registers.1 >>= λ labels. Ok (record { section = section; program = program.0; registers = registers.0; labels = labels.0 }, labels.1)) (c, new) rest2 (λ program program_read rest3.
+    step_ok (line_read registers_line program.1) (λ registers. rows_read (row_width registers.0) 0 (fixups.0 + 1) [] registers.1 >>= λ labels. Ok (record { section = section; program = program.0; registers = registers.0; labels = labels.0 }, labels.1)) (c, new) rest3 (λ registers registers_read rest4.
+    step_ok (rows_read (row_width registers.0) 0 (fixups.0 + 1) [] registers.1) (λ labels. Ok (record { section = section; program = program.0; registers = registers.0; labels = labels.0 }, labels.1)) (c, new) rest4 (λ labels rows_are made.
+    line_read-ok fixups_line old fixups.1 fixups.0 fixups_read (λ fixups_l fixups_said fixups_parts.
+    line_read-ok length_line fixups.1 halfwords.1 halfwords.0 length_read (λ length_l length_said length_parts.
+    line_read-ok (program_line halfwords.0) halfwords.1 program.1 program.0 program_read (λ program_l program_said program_parts.
+    line_read-ok registers_line program.1 registers.1 registers.0 registers_read (λ registers_l registers_said registers_parts.
+    let same : record { section = section; program = program.0; registers = registers.0; labels = labels.0 } ≡ c = ap (λ (r : Result (Certified × Left) ℕ). (value_or (c, new) r).0) made in
+    let behind : (labels.1).text ≡ new.text = ap (λ (r : Result (Certified × Left) ℕ). (value_or (c, new) r).1.text) made in
+    let f = fixups_line-is fixups_l fixups.0 fixups_said in
+    let few = f.1 in
+    let h = length_line-is length_l halfwords.0 length_said in
+    let p = program_line-is halfwords.0 program_l program.0 program_said in
+    let g = registers_line-is registers_l registers.0 registers_said in
+    let r = rows_read-are (row_width registers.0) 0 (fixups.0 + 1) [] registers.1 labels.1 labels.0 rows_are in
+    let count = ap length r.are ∙ r.count in
+    let fixups_are : fixups.0 ≡ length labels.0 - 1 = omega (arith, count) in
+    subst (λ (c : Certified). CertificateText section old c new) same (record {
+      section_is = refl;
+      printable = λ small. record {
+        section = small;
+        fits = p.fits;
+        readable = p.readable;
+        halfwords = subst IsNumber (sym p.halfwords_are) h.1;
+        rising = g.rising;
+        few = g.few;
+        registers = g.numbers;
+        some = omega (arith, count);
+        most = omega (arith, count, few);
+        rows = subst (AllByRecursion (IsRow (row_width registers.0))) (sym r.are) r.wide;
+      };
+      text = line_in old.text (codes "fixups") (fixups.1).text (decimal (length labels.0 - 1) ∷ []) fixups_l fixups_parts (f.0 ∙ ap (λ (n : ℕ). codes "fixups" ++ words_text (decimal n ∷ [])) fixups_are)
+          ∙ ap (λ (rest : List ℕ). line_text (codes "fixups") (decimal (length labels.0 - 1) ∷ []) ++ rest)
+          (line_in (fixups.1).text (codes "length") (halfwords.1).text (decimal (program_length program.0) ∷ []) length_l length_parts (h.0 ∙ ap (λ (n : ℕ). codes "length" ++ words_text (decimal n ∷ [])) (sym p.halfwords_are))
+          ∙ ap (λ (rest : List ℕ). line_text (codes "length") (decimal (program_length program.0) ∷ []) ++ rest)
+          (line_in (halfwords.1).text (codes "program") (program.1).text (program_words program.0) program_l program_parts p.text
+          ∙ ap (λ (rest : List ℕ). line_text (codes "program") (program_words program.0) ++ rest)
+          (line_in (program.1).text (codes "registers") (registers.1).text (number_words registers.0 ++ codes "*" ∷ []) registers_l registers_parts g.text
+          ∙ ap (λ (rest : List ℕ). line_text (codes "registers") (number_words registers.0 ++ codes "*" ∷ []) ++ rest)
+          (r.text ∙ ap₂ (λ (rows : List (List ℕ)) (rest : List ℕ). rows_text 0 rows ++ rest) (sym r.are) behind))));
+    }))))))))))
+
+-- certificates behind others
+record CertificatesText (before : List Certified) (old : Left) (all : List Certified) : Type 0 where
+  more : List Certified
+  are : all ≡ before ++ more
+  printable : AllByRecursion Printable more
+  text : old.text ≡ each_text more ++ end_text
+
+nothing : {A : Type 0} (xs : List A) → length xs ≡ 0 → xs ≡ []
+nothing [] none = refl
+nothing (x ∷ xs) none = absurd (omega (arith, none))
+
+-- the text ends
+ended-are : (before all : List Certified) (old left : Left) (line : List ℕ) → line ≡ codes "end" ++ words_text [] → old.text ≡ line ++ 0x0A ∷ left.text → text_ended before left ≡ Ok all → CertificatesText before old all
+ended-are before all old left line is parts read = by (length left.text == 0) refl read
+  where
+    by : (none : Bool) → (length left.text == 0) ≡ none → cond none (Ok before) (Err left.number) ≡ Ok all → CertificatesText before old all
+    by true none read =
+        let same : before ≡ all = cc in
+        record {
+          more = [];
+          are = sym same ∙ sym (append-nil before);
+          printable = tt;
+          text = line_in old.text (codes "end") left.text [] line parts is ∙ ap (λ (t : List ℕ). line_text (codes "end") [] ++ t) (nothing left.text (eqb-true (length left.text) 0 none));
+        }
+    by false none read = absurd (cc)
+
+-- or another certificate stands there, and others behind it
+one_more : (section : ℕ) (before all : List Certified) (old left next : Left) (line : List ℕ) (c : Certified) → (line ≡ codes "section" ++ words_text (decimal section ∷ [])) × IsNumber section → old.text ≡ line ++ 0x0A ∷ left.text
+    → CertificateText section left c next → CertificatesText (before ++ c ∷ []) next all → CertificatesText before old all
+one_more section before all old left next line c is parts one others = record {
+  more = c ∷ others.more;
+  are = others.are ∙ append_assoc before (c ∷ []) others.more;
+  printable = (one.printable is.1, others.printable);
+  text = line_in old.text (codes "section") left.text (decimal section ∷ []) line parts is.0
+      ∙ ap (λ (n : ℕ). line_text (codes "section") (decimal n ∷ []) ++ left.text) (sym one.section_is)
+      ∙ ap (λ (t : List ℕ). line_text (codes "section") (decimal c.section ∷ []) ++ t) (one.text ∙ ap (body_text c) others.text)
+      ∙ sym (certificate_text-parts c (each_text others.more ++ end_text))
+      ∙ sym (append_assoc (certificate_text c) (each_text others.more) end_text);
+}
+
+headed-are : (n : ℕ) (head : Head) (before all : List Certified) (old left : Left) (line : List ℕ) → HeadText head line → old.text ≡ line ++ 0x0A ∷ left.text → headed head before left (certificates_read n) ≡ Ok all
+    → ((others : List Certified) (next : Left) → certificates_read n others next ≡ Ok all → CertificatesText others next all) → CertificatesText before old all
+headed-are n End before all old left line is parts read others = ended-are before all old left line is parts read
+headed-are n (Section section) before all old left line is parts read others =
+    step_ok (certificate_read section left) (λ certificate. certificates_read n (before ++ certificate.0 ∷ []) certificate.1) all read
+    (λ c one rest. one_more section before all old left c.1 line c.0 is parts (certificate_read-is section left c.1 c.0 one) (others (before ++ c.0 ∷ []) c.1 rest))
+
+certificates_read-are : (n : ℕ) (before all : List Certified) (old : Left) → certificates_read n before old ≡ Ok all → CertificatesText before old all
+certificates_read-are zero before all old is = absurd (cc)
+certificates_read-are (suc n) before all old is =
+    step_ok (line_read head_line old) (λ head. headed head.0 before head.1 (certificates_read n)) all is (λ head first rest.
+    line_read-ok head_line old head.1 head.0 first (λ line said parts.
+    headed-are n head.0 before all old head.1 line (head_line-is line head.0 said) parts rest (λ others next read. certificates_read-are n others all next read)))
+
+-- a text that is read is that of what is read, which can be printed
+texts_read : (text : List ℕ) (certificates : List Certified) → certificates_of text ≡ Ok certificates → AllByRecursion Printable certificates × (text ≡ certificates_text certificates)
+unfolding certificates_of certificates_text
+texts_read text certificates is =
+    step_ok (line_read version_line (record { number = 1; text = text })) (λ version. certificates_read (length text) [] version.1) certificates is (λ version first rest.
+    line_read-ok version_line (record { number = 1; text = text }) version.1 version.0 first (λ line said parts.
+    let others = certificates_read-are (length text) [] certificates version.1 rest in
+    let v = version_line-is line version.0 said in (
+      subst (AllByRecursion Printable) (sym others.are) others.printable,
+      line_in text (codes "pefcert") (version.1).text (codes "1" ∷ []) line parts v
+          ∙ ap (λ (t : List ℕ). line_text (codes "pefcert") (codes "1" ∷ []) ++ t) (others.text ∙ ap (λ (cs : List Certified). each_text cs ++ end_text) (sym others.are))
+          ∙ sym (append_assoc (line_text (codes "pefcert") (codes "1" ∷ [])) (each_text certificates) end_text),
+    )))
+
+pub read_can_be_printed : (text : List ℕ) (certificates : List Certified) → certificates_of text ≡ Ok certificates → AllByRecursion Printable certificates
+read_can_be_printed text certificates is = (texts_read text certificates is).0
+
+pub read_text_is : (text : List ℕ) (certificates : List Certified) → certificates_of text ≡ Ok certificates → text ≡ certificates_text certificates
+read_text_is text certificates is = (texts_read text certificates is).1
