@@ -3,6 +3,7 @@ mod BuiltLemmas
 mod NamedExports
 mod Places
 mod RegularLemmas
+mod SearchLemmas
 mod SlotLists
 mod Slots
 mod Tables

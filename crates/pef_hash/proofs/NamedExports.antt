@@ -14,7 +14,7 @@ named_here t name i is =
     rw (is, same) refl
 
 -- and what is found at a place is an export of that name
-named_only : (o : Option (List ℕ)) (name : List ℕ) (i x : ℕ) → cond (option_map_or (λ found. bytes_eq found name) o false) (Some i) None ≡ Some x → (i ≡ x) × (o ≡ Some name)
+pub named_only : (o : Option (List ℕ)) (name : List ℕ) (i x : ℕ) → cond (option_map_or (λ found. bytes_eq found name) o false) (Some i) None ≡ Some x → (i ≡ x) × (o ≡ Some name)
 named_only None name i x is = absurd (cc)
 named_only (Some found) name i x is =
     let met = cond_some (bytes_eq found name) i x is in

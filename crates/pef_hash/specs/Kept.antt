@@ -1,3 +1,4 @@
 -- What only proofs and private contracts speak of.
 pub mod Chains
 pub mod Counts
+pub mod Searches

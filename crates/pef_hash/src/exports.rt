@@ -1,13 +1,18 @@
-ghost use Rattle.std.specs.Prelude.{◌≡◌, ◌^◌, ◌<◌, ◌≤◌, length, IsTrue};
+ghost use Rattle.std.specs.Prelude.{◌≡◌, ◌-◌, ◌^◌, ◌<◌, ◌≤◌, length, IsTrue};
 ghost use Rattle.std.specs.Option.{option_copied};
-ghost use Rattle.pef_hash.specs.Exports.{entry_at, entry_of, export_place, export_named, has_table, is_named, key_place, key_of, name_of};
+ghost use Rattle.pef_words.specs.Refusals.{first_among};
+ghost use Rattle.pef_hash.specs.Exports.{entry_at, entry_of, export_place, export_named, has_table, is_named, key_place, key_of, name_of, named_at, slot_word_of};
 ghost use Rattle.pef_hash.specs.Limits.{most_power};
+ghost use Rattle.pef_hash.specs.Kept.Searches.{LeadsToAll};
 
 use crate::layout::{
     CLASS_COUNT, CLASS_SHIFT, EXPORT_CLASS_AND_NAME_AT, EXPORT_SECTION_AT, EXPORT_SIZE,
-    EXPORT_VALUE_AT, KEY_LENGTH_SHIFT, KEY_SIZE, SLOT_SIZE,
+    EXPORT_VALUE_AT, KEY_LENGTH_SHIFT, KEY_SIZE, MOST_NAME_LENGTH, SLOT_SIZE,
 };
+use crate::chain::places_in;
+use crate::word::{hash_word, slot};
 use pef_words::Cut;
+use std::ops::Range;
 
 /// A table that can be read has at most two to this power of slots.
 const MOST_POWER: u32 = 30;
@@ -27,11 +32,19 @@ pub struct Entry {
 /// A view of an export hash table, which it borrows.
 #[derive(Clone, Copy, Debug)]
 pub struct Exports<'a> {
-    power: u32,
-    count: u32,
+    pub(crate) power: u32,
+    pub(crate) count: u32,
     table: &'a [u8],
-    strings: &'a [u8],
+    pub(crate) strings: &'a [u8],
+    regular: bool,
     ghost complete: { IsTrue (has_table power count table.now) },
+    ghost small: { IsTrue regular → power ≤ most_power },
+    ghost leads: { IsTrue regular → LeadsToAll (record {
+      power = power;
+      count = count;
+      bytes = table.now;
+      strings = strings.now;
+    }) },
 }
 
 impl<'a> Exports<'a> {
@@ -55,27 +68,50 @@ impl<'a> Exports<'a> {
 
     /// The view of `count` exports in a table of `2^power` slots, whose bytes begin at `table`, with
     /// names in `strings`.
+    ///
+    /// It looks at each slot and each key once, to learn whether the table is regular.
     pub fn new(power: u32, count: u32, table: &'a [u8], strings: &'a [u8]) -> Exports<'a>
         requires { IsTrue (has_table power count table.now) }
         ensures { table_of result ≡ record { power = power; count = count; bytes = table.entry.now; strings = strings.entry.now } }
     {
+        let unsearched = Exports {
+            power,
+            count,
+            table,
+            strings,
+            regular: false,
+        };
+        let regular = unsearched.is_regular();
         Exports {
             power,
             count,
             table,
             strings,
+            regular,
         }
     }
 
     /// The hash word that the table has for export `i`, or `None` where there is no such export.
     #[tactic(auto, unfolding(crate::specs::Exports::key_of))]
-    fn key(&self, i: usize) -> Option<u32>
+    pub(crate) fn key(&self, i: usize) -> Option<u32>
         ensures { result ≡ key_of (table_of self.now) i }
     {
         if i >= self.count as usize {
             return None;
         }
         Cut::new(self.table).u32_at(key_place(self.power, i))
+    }
+
+    /// Slot word `s`, or `None` where there is no such slot or it passes the end.
+    #[tactic(auto, unfolding(crate::specs::Exports::slot_word_of))]
+    pub(crate) fn slot_word(&self, s: usize) -> Option<u32>
+        requires { self.now.power ≤ most_power }
+        ensures { result ≡ slot_word_of (table_of self.now) s }
+    {
+        if s >= 1 << self.power {
+            return None;
+        }
+        Cut::new(self.table).u32_at(SLOT_SIZE * s)
     }
 
     /// Export `i` without its name, or `None` where there is no such export.
@@ -104,12 +140,41 @@ impl<'a> Exports<'a> {
         Some(name.bytes())
     }
 
-    /// The first export with this name, in every table: hash words and slots have no say.
+    /// The first export with this name, in every table: hash words and slots have no say. A regular
+    /// table, where they lead to each export, is searched by them.
     #[tactic(auto, unfolding(crate::specs::Exports::export_named))]
     pub fn find(&self, name: &[u8]) -> Option<usize>
         ensures { result ≡ export_named (table_of self.now) name.now }
     {
-        for i in 0..self.count as usize {
+        if self.regular {
+            return self.find_in_chain(name);
+        }
+        self.first_named(0..self.count as usize, name)
+    }
+
+    /// The first export with this name, where the slot of each name's hash word counts its export.
+    #[tactic(auto, unfolding(crate::specs::Exports::export_named))]
+    fn find_in_chain(&self, name: &[u8]) -> Option<usize>
+        requires small { self.now.power ≤ most_power }
+        requires leads { LeadsToAll (table_of self.now) }
+        ensures { result ≡ export_named (table_of self.now) name.now }
+    {
+        if name.len() > MOST_NAME_LENGTH {
+            return None;
+        }
+        let slot = slot(hash_word(name), self.power);
+        match self.slot_word(slot as usize) {
+            Some(word) => self.first_named(places_in(word), name),
+            None => None,
+        }
+    }
+
+    /// The first of some exports with this name.
+    fn first_named(&self, places: Range<usize>, name: &[u8]) -> Option<usize>
+        requires { places.start ≤ places.end }
+        ensures { result ≡ first_among (named_at (table_of self.now) name.now) places.start (places.end - places.start) }
+    {
+        for i in places.start..places.end {
             if self.is_named(i, name) {
                 return Some(i);
             }

@@ -24,6 +24,9 @@ pub const SLOT_COUNT_SHIFT: u32 = 18;
 /// A key has the length of the name from this bit on, and the hash below.
 pub const KEY_LENGTH_SHIFT: u32 = 16;
 
+/// The longest name whose length a key can have.
+pub const MOST_NAME_LENGTH: usize = 65_535;
+
 /// The first word of a symbol has its class byte from this bit on, and the offset of its name below.
 pub const CLASS_SHIFT: u32 = 24;
 

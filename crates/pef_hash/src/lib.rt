@@ -3,6 +3,7 @@
 #![tactic(auto)]
 
 mod builder;
+mod chain;
 mod exports;
 mod fault;
 pub mod layout;

@@ -64,10 +64,6 @@ fault_unmet : (test : Bool) (fault : LoaderFault) → fault_if test fault ≡ No
 fault_unmet true fault none = absurd (cc)
 fault_unmet false fault none = refl
 
--- the export table is whole
-pub exports_whole : (l : Loaded) → IsLoader l → IsTrue (has_exports l.bytes l.header)
-exports_whole l ok = not-false _ (fault_unmet _ BadExportTable (accepted l ok).table)
-
 -- each entry is in an instantiated section or isn't there
 pub record HasEntries (l : Loaded) : Type 0 where
   pub main : IsTrue (is_entry l.sections l.header.main_section)

@@ -54,15 +54,15 @@ pub(crate) fn exports<'a>(cut: Cut<'a>, header: LoaderHeader) -> Exports<'a>
 /// The first rule that export `i` breaks.
 #[tactic(auto, unfolding(crate::specs::Export::export_tests))]
 pub(crate) fn test_export(
+    exports: Exports<'_>,
     cut: Cut<'_>,
     header: LoaderHeader,
     sections: u16,
     i: usize,
 ) -> Result<(), LoaderFault>
-    requires { IsTrue (has_exports cut.bytes.now header) }
+    requires { table_of exports ≡ export_table cut.bytes.now header }
     ensures { result_err result ≡ export_refusal cut.entry.bytes.now header sections i }
 {
-    let exports = exports(cut, header);
     let export = exports.entry(i).ok_or(LoaderFault::BadExportTable)?;
     if header.strings_offset as usize > cut.len() || exports.name(i).is_none() {
         return Err(LoaderFault::BadName);

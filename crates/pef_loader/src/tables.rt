@@ -1,7 +1,8 @@
 ghost use Rattle.std.specs.Prelude.{◌≡◌, ℕ, ◌+◌, ◌<◌, ◌≤◌, ◌^◌, ◌↔◌, Ok, Some, IfSome, IsSome, IsTrue, option_map};
 ghost use Rattle.std.specs.Result.{result_err};
 ghost use Rattle.pef_words.specs.Refusals.{first_among, result_map};
-ghost use Rattle.pef_loader.specs.Export.{export_refusal, has_exports, has_section};
+ghost use Rattle.pef_hash.specs.Views.{table_of};
+ghost use Rattle.pef_loader.specs.Export.{export_refusal, export_table, has_exports, has_section};
 ghost use Rattle.pef_loader.specs.Header.{entry_of, is_entry};
 ghost use Rattle.pef_loader.specs.Import.{import_refusal, owner_of};
 ghost use Rattle.pef_loader.specs.Library.{library_refusal};
@@ -21,6 +22,7 @@ use crate::library::{LibraryView, read_library, test_library};
 use crate::names::names_end;
 use crate::owner::{are_in_order, owner};
 use crate::reloc::{instructions, read_reloc, test_reloc};
+use pef_hash::Exports;
 use pef_views::Container;
 use pef_words::Cut;
 
@@ -34,7 +36,9 @@ pub struct Loader<'a> {
     pub(crate) header: LoaderHeader,
     sections: u16,
     pub(crate) in_order: bool,
+    exports: Exports<'a>,
     ghost ordered: { IsTrue in_order → AreInOrder cut.bytes.now header.library_count },
+    ghost tabled: { table_of exports ≡ export_table cut.bytes.now header },
     pub ghost accepted: { loaded_of sections cut.bytes.now ≡ Ok (record {
       sections = sections;
       bytes = cut.bytes.now;
@@ -75,12 +79,14 @@ impl<'a> Loader<'a> {
         if !has_exports(cut, header) {
             return Err(LoaderFault::BadExportTable);
         }
-        test_exports(cut, header, sections)?;
+        let exports = exports(cut, header);
+        test_exports(exports, cut, header, sections)?;
         Ok(Loader {
             cut,
             header,
             sections,
             in_order,
+            exports,
         })
     }
 
@@ -192,9 +198,8 @@ impl<'a> Loader<'a> {
         if i >= self.exports() as usize {
             return None;
         }
-        let exports = exports(self.cut, self.header);
-        let export = exports.entry(i)?;
-        let name = exports.name(i)?;
+        let export = self.exports.entry(i)?;
+        let name = self.exports.name(i)?;
         Some(ExportView {
             name,
             class: export.class,
@@ -209,7 +214,7 @@ impl<'a> Loader<'a> {
         ensures value { result ≡ named_of (loaded self.now) name.now }
         ensures below { IfSome result (λ i. i < (loaded self.now).header.export_count) }
     {
-        exports(self.cut, self.header).find(name)
+        self.exports.find(name)
     }
 
     /// The section and offset of the main entry, where there is one.
@@ -299,14 +304,19 @@ fn test_relocs(cut: Cut<'_>, header: LoaderHeader, sections: u16) -> Result<(), 
 }
 
 /// The first refusal of an export, export by export.
-fn test_exports(cut: Cut<'_>, header: LoaderHeader, sections: u16) -> Result<(), LoaderFault>
-    requires { IsTrue (has_exports cut.bytes.now header) }
+fn test_exports(
+    exports: Exports<'_>,
+    cut: Cut<'_>,
+    header: LoaderHeader,
+    sections: u16,
+) -> Result<(), LoaderFault>
+    requires { table_of exports ≡ export_table cut.bytes.now header }
     ensures { result_err result
         ≡ first_among (export_refusal cut.entry.bytes.now header sections) 0 header.export_count }
 {
     test_each(
         header.export_count,
-        |i| test_export(cut, header, sections, i),
+        |i| test_export(exports, cut, header, sections, i),
     )
 }
 

@@ -7,30 +7,27 @@ use Rattle.pef_hash.specs.Exports.{entry_of, name_of}
 use Rattle.pef_loader.specs.Export.{export_in}
 use Rattle.pef_loader.specs.Loader.{export_of}
 use Rattle.pef_loader.specs.Views.{loaded}
-use Rattle.pef_loader.proofs.Loaders.{export_is, export_with, exports_whole}
+use Rattle.pef_loader.proofs.Loaders.{export_is, export_with}
 use Rattle.pef_loader.proofs.tables.Loader.export.Goals as goal
 
 pub returns-then-i-exports-clause-value : goal.returns-then-i-exports-clause-value
 unfolding export_of export_in entry_of
 returns-then-i-exports-clause-value c = rw (le-ltb c.args.i c.args.self.now.header.export_count (omega arith)) refl
 
-pub exports-exports-requires : goal.exports-exports-requires
-exports-exports-requires c = exports_whole (loaded c.args.self.now) c.args.self.now.accepted
-
 pub returns-in_err-export-clause-there : goal.returns-in_err-export-clause-there
 returns-in_err-export-clause-there c =
     let is = export_is (loaded c.args.self.now) c.args.i c.args.self.now.accepted (omega arith) in
-    let nowhere = c.in_err-export.ensures ∙ ap (λ t. entry_of t c.args.i) c.exports-exports.ensures ∙ is.1 in
+    let nowhere = c.in_err-export.ensures ∙ ap (λ t. entry_of t c.args.i) c.args.self.now.tabled ∙ is.1 in
     absurd (cc)
 
 pub returns-in_err-name-clause-there : goal.returns-in_err-name-clause-there
 returns-in_err-name-clause-there c =
     let is = export_is (loaded c.args.self.now) c.args.i c.args.self.now.accepted (omega arith) in
-    let nowhere = c.in_err-name.ensures ∙ ap (λ t. name_of t c.args.i) c.exports-exports.ensures ∙ is.2.named in
+    let nowhere = c.in_err-name.ensures ∙ ap (λ t. name_of t c.args.i) c.args.self.now.tabled ∙ is.2.named in
     absurd (cc)
 
 pub returns-clause-section : goal.returns-clause-section
 returns-clause-section c =
     let cast : cast_signed w32 (cast_unsigned w32 c.in_ok-export.export.section) ≡ c.in_ok-export.export.section = search (arith, to_z-of_z) in
-    let at = c.in_ok-export.ensures ∙ ap (λ t. entry_of t c.args.i) c.exports-exports.ensures in
+    let at = c.in_ok-export.ensures ∙ ap (λ t. entry_of t c.args.i) c.args.self.now.tabled in
     rw cast (export_with (loaded c.args.self.now) c.args.i c.in_ok-export.export c.args.self.now.accepted (omega arith) (sym at)).section
