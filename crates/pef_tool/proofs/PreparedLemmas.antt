@@ -67,7 +67,7 @@ module _ (pairs : List Pair) (f : Fragment) (read : fragment_of pairs 0 ≡ Ok f
       imports = imports;
       count = ap length given ∙ length-imports pairs (lies_at places) 0 f read;
       refused = subst (λ (l : Loaded). MayNotPrepare (no_instances memory_limit) f.container l imports fault) (sym (loader-is l is_loader))
-      (subst (λ (c : Contained). MayNotPrepare (no_instances memory_limit) c l imports fault) (sym (container-is c is)) (subst (λ m. MayNotPrepare m c l imports fault) fresh refused));
+          (subst (λ (c : Contained). MayNotPrepare (no_instances memory_limit) c l imports fault) (sym (container-is c is)) (subst (λ m. MayNotPrepare m c l imports fault) fresh refused));
     }
 
   -- or its addresses aren't had

@@ -46,7 +46,9 @@ fn target_address(target: Option<Target>, places: &[Place]) -> u32
     match target {
         Target::Absolute(address) => address,
         Target::At {
-            section, offset, ..
+            section,
+            offset,
+            ..
         } => places[section as usize].address.wrapping_add(offset),
     }
 }

@@ -6,8 +6,8 @@ ghost use Rattle.pef_tool.specs.Kept.Held.{IsHeld};
 ghost use Rattle.pef_tool.specs.Show.{shown_text};
 
 use crate::prepared::Prepared;
-use cfm_memory::{Memory, Place};
 use cfm_fragment::Entries;
+use cfm_memory::{Memory, Place};
 use pef_ports::{
     Line, Page, Sink, StreamFault, print_memory, push_number, push_text, push_word, send,
 };

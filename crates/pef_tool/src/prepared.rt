@@ -1,8 +1,8 @@
 ghost use Rattle.std.specs.Prelude.{All};
 ghost use Rattle.pef_tool.specs.Kept.Held.{IsHeld};
 
-use cfm_memory::{Memory, Place};
 use cfm_fragment::Entries;
+use cfm_memory::{Memory, Place};
 
 /// The memory of a prepared fragment, where its sections were placed, in order, and its entries.
 #[derive(Drop)]
