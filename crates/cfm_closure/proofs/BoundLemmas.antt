@@ -1,5 +1,5 @@
 -- Which fragments library entries stand for.
-use Rattle.std.proofs.Common.{◌≡◌, ℕ, ◌<◌, ◌==◌, Bool, true, false, cond, List, length, Option, None, Some, Ok, Err, refl, sym, ap, ◌∙◌, subst, arith}
+use Rattle.std.proofs.Common.{◌≡◌, ℕ, ◌<◌, Bool, true, false, cond, List, length, Option, None, Some, Ok, Err, refl, ap}
 use Rattle.std.specs.Prelude.{Result, nat_lt}
 use Rattle.std.specs.Option.{option_map_or}
 use Rattle.std.specs.Result.{result_unwrap_or}
@@ -8,7 +8,7 @@ use Rattle.pef_loader.specs.Library.{Library, library_in}
 use Rattle.pef_loader.specs.Loader.{Loaded, library_of}
 use Rattle.cfm_closure.specs.declared.versions.Fit.{Fit}
 use Rattle.cfm_closure.specs.declared.versions.Fit.TheVariants.{Fits, TooOld, TooNew}
-use Rattle.cfm_closure.specs.Faults.{◌>>=◌, Refusal, library_missing, implementation_too_old, implementation_too_new}
+use Rattle.cfm_closure.specs.Faults.{Refusal, library_missing, implementation_too_old, implementation_too_new}
 use Rattle.cfm_closure.specs.Fragments.{Fragment, fragment_of}
 use Rattle.cfm_closure.specs.Libraries.{absent_or, bound, bound_at, bound_by, bound_to, fit_with, is_weak, library_at}
 use Rattle.cfm_closure.specs.Stores.{Pair, place_of}

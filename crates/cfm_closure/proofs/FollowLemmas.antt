@@ -1,16 +1,13 @@
 -- What follows many hops.
-use Rattle.std.proofs.Common.{◌≡◌, ◌≢◌, ℕ, zero, suc, ◌+◌, ◌-◌, ◌<◌, ◌≤◌, ◌⊎◌, Bool, true, false, cond, List, [], ◌∷◌, length, Option, None, Some, Ok, Err, refl, sym, ap, ap₂, ◌∙◌, subst, inl, inr, arith}
-use Rattle.std.specs.Prelude.{Result, slice_index_or}
+use Rattle.std.proofs.Common.{◌≡◌, ℕ, zero, suc, ◌+◌, ◌-◌, ◌<◌, List, Option, None, Some, Ok, Err, refl, sym, ap, ◌∙◌, subst, arith}
+use Rattle.std.specs.Prelude.{Result}
 use Rattle.std.specs.Option.{option_and_then, option_map_or}
-use Rattle.std.proofs.lemmas.Bool.Decides.{eqb_tells}
 use Rattle.pef_loader.specs.Export.{Export}
-use Rattle.pef_loader.specs.Import.{Import}
-use Rattle.pef_loader.specs.Loader.{Loaded, export_of, named_of}
+use Rattle.pef_loader.specs.Loader.{Loaded, export_of}
 use Rattle.pef_loader.proofs.Laws.{named_is}
-use Rattle.cfm_closure.specs.declared.targets.Target.{Target}
 use Rattle.cfm_closure.specs.Faults.{Refusal}
-use Rattle.cfm_closure.specs.Fragments.{export_count, import_at, loader_at}
-use Rattle.cfm_closure.specs.Reexports.{MeetsAgain, after, hops, met, next_of}
+use Rattle.cfm_closure.specs.Fragments.{export_count, loader_at}
+use Rattle.cfm_closure.specs.Reexports.{MeetsAgain, hops, met, next_of}
 use Rattle.cfm_closure.specs.Stores.{Pair}
 use Rattle.cfm_closure.specs.Targets.{Hop, ends, follow, followed, hop, through}
 use Rattle.cfm_closure.proofs.HopLemmas.{GoesOn, goes_on}

@@ -1,5 +1,5 @@
 -- A frame of the path, with one library entry more.
-use Rattle.std.proofs.Common.{◌≡◌, ℕ, zero, suc, ◌+◌, ◌<◌, ◌≤◌, ◌⊎◌, Bool, true, false, cond, List, [], ◌∷◌, ◌++◌, length, Option, None, Some, Ok, Err, refl, sym, ap, ◌∙◌, subst, get_or, inl, inr, arith}
+use Rattle.std.proofs.Common.{◌≡◌, ℕ, zero, suc, ◌+◌, ◌<◌, ◌⊎◌, Bool, true, false, cond, List, [], ◌∷◌, ◌++◌, length, Option, None, Some, Ok, refl, sym, ap, ◌∙◌, subst, get_or, inl, inr, arith}
 use Rattle.std.specs.Prelude.{slice_get, IfSome}
 use Rattle.std.proofs.lemmas.List.{length_push}
 use Rattle.pef_loader.specs.Library.{Library}
@@ -7,7 +7,7 @@ use Rattle.pef_loader.specs.Loader.{library_of}
 use Rattle.cfm_closure.specs.declared.fault.BindFault.{BindFault}
 use Rattle.cfm_closure.specs.declared.fragment.FragmentView.{FragmentView}
 use Rattle.cfm_closure.specs.declared.walk.Frame.{Frame}
-use Rattle.cfm_closure.specs.Faults.{◌>>=◌, Fails, Refusal}
+use Rattle.cfm_closure.specs.Faults.{◌>>=◌, Fails}
 use Rattle.cfm_closure.specs.Libraries.{bound, bound_to}
 use Rattle.cfm_closure.specs.Stores.{Pair}
 use Rattle.cfm_closure.specs.Walk.{Walked, walk_to}

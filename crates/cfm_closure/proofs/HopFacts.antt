@@ -1,20 +1,18 @@
 -- Hops by what was read of the fragments.
-use Rattle.std.proofs.Common.{◌≡◌, ◌≢◌, ℕ, ◌==◌, Bool, true, false, cond, List, [], Option, None, Some, Ok, Err, refl, sym, ap, ◌∙◌, ℤ, pos, negsuc, ◌<ℤ◌, arith}
+use Rattle.std.proofs.Common.{◌≡◌, ℕ, List, [], None, Some, Ok, Err, refl, sym, ap, ◌∙◌}
 use Rattle.std.specs.Prelude.{Result, option_map}
 use Rattle.std.specs.Option.{option_and_then, option_map_or}
 use Rattle.std.specs.Result.{result_unwrap_or}
-use Rattle.std.proofs.lemmas.Bool.{ne_eqb}
 use Rattle.pef_views.specs.Container.{Contained, container_of}
 use Rattle.pef_views.specs.declared.fault.ViewFault.{ViewFault}
 use Rattle.pef_loader.specs.Import.{Import}
 use Rattle.pef_loader.specs.Loader.{Loaded, export_of, import_of, loaded_of, named_of}
 use Rattle.pef_loader.specs.declared.fault.LoaderFault.{LoaderFault}
-use Rattle.cfm_closure.specs.declared.targets.Target.TheVariants.{Absolute}
-use Rattle.cfm_closure.specs.Faults.{Refusal, reexport_loop}
+use Rattle.cfm_closure.specs.Faults.{reexport_loop}
 use Rattle.cfm_closure.specs.Fragments.{Fragment, fragment_of, import_at, loader_at, with_container, with_loader}
 use Rattle.cfm_closure.specs.Libraries.{bound_to, library_at}
 use Rattle.cfm_closure.specs.Stores.{Pair, pair_of}
-use Rattle.cfm_closure.specs.Targets.{Hop, ends, exported, hop, hop_by, hop_from, hop_of, hop_to, symbol_of, through}
+use Rattle.cfm_closure.specs.Targets.{exported, hop, hop_from, hop_of, hop_to, symbol_of}
 
 loader-name : (name : List ℕ) (c : Contained) (l : Result Loaded LoaderFault) (f : Fragment) → with_loader name c l ≡ Ok f → f.name ≡ name
 loader-name name c (Ok l) f is = cc

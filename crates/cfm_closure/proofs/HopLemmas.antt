@@ -1,7 +1,7 @@
 -- Where a hop leads that goes on, and what many hops do.
-use Rattle.std.proofs.Common.{◌≡◌, ◌≢◌, ℕ, zero, suc, ◌+◌, ◌-◌, ◌<◌, ◌≤◌, ◌⊎◌, ◌==◌, Bool, true, false, cond, List, [], ◌∷◌, length, Option, None, Some, Ok, Err, refl, sym, ap, ◌∙◌, subst, inl, inr, pos, negsuc, arith}
-use Rattle.std.specs.Prelude.{Result, ℤ, option_map}
-use Rattle.std.specs.Option.{option_and_then, option_map_or}
+use Rattle.std.proofs.Common.{◌≡◌, ℕ, ◌==◌, Bool, true, false, cond, List, Option, None, Some, Ok, Err, refl, ap, ◌∙◌, subst, pos, negsuc}
+use Rattle.std.specs.Prelude.{ℤ, option_map}
+use Rattle.std.specs.Option.{option_and_then}
 use Rattle.pef_loader.specs.Export.{Export}
 use Rattle.pef_loader.specs.Import.{Import}
 use Rattle.pef_loader.specs.Loader.{Loaded, export_of, named_of}
@@ -9,9 +9,8 @@ use Rattle.cfm_closure.specs.declared.targets.Target.TheVariants.{Absolute}
 use Rattle.cfm_closure.specs.Faults.{Refusal, symbol_missing}
 use Rattle.cfm_closure.specs.Fragments.{import_at, loader_at}
 use Rattle.cfm_closure.specs.Libraries.{library_at}
-use Rattle.cfm_closure.specs.Reexports.{after, hops, met, next_of}
 use Rattle.cfm_closure.specs.Stores.{Pair, pair_of}
-use Rattle.cfm_closure.specs.Targets.{Hop, ends, exported, follow, followed, hop, hop_by, hop_from, hop_of, hop_to, through}
+use Rattle.cfm_closure.specs.Targets.{ends, exported, hop, hop_by, hop_from, hop_of, hop_to, through}
 
 -- a hop that goes on: through an export of a library's fragment that passes on an import
 pub record GoesOn (pairs : List Pair) (p j q e k : ℕ) : Type 0 where

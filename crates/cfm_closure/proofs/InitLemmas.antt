@@ -1,6 +1,6 @@
 -- Fragments that are taken for initialization.
-use Rattle.std.proofs.Common.{◌≡◌, ◌≢◌, ℕ, zero, suc, ◌+◌, ◌-◌, ◌<◌, ◌≤◌, ◌==◌, Bool, true, false, cond, not, List, [], ◌∷◌, length, drop, Option, None, Some, Ok, Err, refl, sym, ap, ◌∙◌, subst, get_or, set, inl, inr, arith, Contains}
-use Rattle.std.specs.Prelude.{◌&&◌, Result, replicate}
+use Rattle.std.proofs.Common.{◌≡◌, ℕ, zero, suc, ◌+◌, ◌-◌, ◌<◌, ◌≤◌, ◌==◌, Bool, true, false, cond, not, List, length, drop, Option, None, Some, refl, sym, ap, ◌∙◌, subst, get_or, set, inl, inr, arith, Contains}
+use Rattle.std.specs.Prelude.{◌&&◌, replicate}
 use Rattle.std.specs.Option.{is_none, is_some, option_and_then}
 use Rattle.std.proofs.lemmas.Bool.{cases_lt, eq-eqb, ne_eqb}
 use Rattle.std.proofs.lemmas.Bool.Decides.{eqb_tells}
@@ -8,7 +8,6 @@ use Rattle.std.proofs.lemmas.List.{at_drop_more, get_or-replicate, get_or-set_ot
 use Rattle.std.proofs.lemmas.List.Elements.{Contains-get_or}
 use Rattle.pef_words.proofs.Laws.Refusals.{first_among-at, first_among-none}
 use Rattle.cfm_closure.specs.declared.init_order.Taking.{Taking}
-use Rattle.cfm_closure.specs.Faults.{Refusal}
 use Rattle.cfm_closure.specs.Fragments.{library_count}
 use Rattle.cfm_closure.specs.Initialization.{awaits, before_of, first_left, init_order_of, is_ready, next_ready, take_next, take_ready, taken_all}
 use Rattle.cfm_closure.specs.Promises.{IsComplete}

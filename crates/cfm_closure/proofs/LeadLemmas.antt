@@ -1,5 +1,5 @@
 -- Where imports lead to.
-use Rattle.std.proofs.Common.{◌≡◌, ℕ, zero, suc, ◌+◌, ◌<◌, List, Option, None, Some, Ok, Err, refl, sym, ap, ◌∙◌, subst, arith, Contains}
+use Rattle.std.proofs.Common.{◌≡◌, ℕ, zero, suc, ◌+◌, ◌<◌, List, Option, None, Some, Ok, Err, refl, sym, ap, ◌∙◌, arith, Contains}
 use Rattle.std.specs.Prelude.{Result}
 use Rattle.std.specs.Option.{option_and_then, option_map_or}
 use Rattle.cfm_closure.specs.declared.targets.Target.{Target}

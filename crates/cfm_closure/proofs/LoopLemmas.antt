@@ -1,9 +1,8 @@
 -- More hops than there are exports meet one of them again.
-use Rattle.std.proofs.Common.{◌≡◌, ℕ, zero, suc, ◌+◌, ◌-◌, ◌<◌, ◌≤◌, List, length, Option, None, Some, Ok, refl, sym, ap, ◌∙◌, subst, arith, Contains}
+use Rattle.std.proofs.Common.{◌≡◌, ℕ, zero, suc, ◌+◌, ◌-◌, ◌<◌, List, length, Option, None, Some, Ok, refl, sym, ap, ◌∙◌, subst, arith, Contains}
 use Rattle.std.specs.Prelude.{Result, Err, unwrap_or}
 use Rattle.std.specs.List.{range_with_len}
 use Rattle.std.specs.Option.{option_and_then}
-use Rattle.std.proofs.lemmas.List.Elements.{Contains-get_or}
 use Rattle.std.proofs.lemmas.List.FromFn.{get_or-range_with_len, length-range_with_len}
 use Rattle.cfm_closure.specs.declared.targets.Target.{Target}
 use Rattle.cfm_closure.specs.Faults.{Refusal}
@@ -15,7 +14,7 @@ use Rattle.cfm_closure.specs.Targets.{Hop, ends, exports_among, exports_in, foll
 use Rattle.cfm_closure.proofs.BoundLemmas.{library_at-is, stands_for}
 use Rattle.cfm_closure.proofs.FollowLemmas.{Goes, Step, follow-none, follow-on, hops-before, meets_again-for_ever, onward, step_at}
 use Rattle.cfm_closure.proofs.OrderFacts.{bound-inside}
-use Rattle.cfm_closure.proofs.Pigeons.{Twice, pigeons}
+use Rattle.cfm_closure.proofs.Pigeons.{pigeons}
 use Rattle.cfm_closure.proofs.Ranks.{IsAmong, rank, rank-below, rank-same}
 
 -- fragments with a property that hops keep, and whose exports are among those of some fragments

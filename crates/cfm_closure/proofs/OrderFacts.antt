@@ -1,17 +1,17 @@
 -- What holds of a closure order.
-use Rattle.std.proofs.Common.{◌≡◌, ◌≢◌, ℕ, ◌+◌, ◌<◌, ◌≤◌, ◌⊎◌, Bool, true, false, not, List, [], ◌∷◌, length, Option, None, Some, Ok, Err, refl, sym, ap, ◌∙◌, subst, get_or, inl, inr, true≢false, arith, Contains}
-use Rattle.std.specs.Prelude.{Result, AllPairs, IfSome, replicate}
+use Rattle.std.proofs.Common.{◌≡◌, ℕ, ◌<◌, ◌≤◌, true, false, not, List, [], length, Option, None, Some, Ok, sym, ap, ◌∙◌, subst, inl, inr, true≢false, arith, Contains}
+use Rattle.std.specs.Prelude.{IfSome, replicate}
 use Rattle.std.specs.List.{AllByRecursion}
 use Rattle.std.proofs.lemmas.List.{get_or-replicate, length-replicate}
 use Rattle.std.proofs.lemmas.List.Sums.{count_by-le-length}
 use Rattle.pef_words.proofs.Laws.Lists.{all-at}
-use Rattle.cfm_closure.specs.Faults.{◌>>=◌, Refusal}
+use Rattle.cfm_closure.specs.Faults.{◌>>=◌}
 use Rattle.cfm_closure.specs.Fragments.{Fragment, fragment_of}
 use Rattle.cfm_closure.specs.Libraries.{bound_to}
 use Rattle.cfm_closure.specs.Promises.{EndsWith, HasLibrary, IsComplete, IsMember}
 use Rattle.cfm_closure.specs.Stores.{Pair}
 use Rattle.cfm_closure.specs.Walk.{Walked, is_marked, joining, left, marking, order_of, unwalked, walk, walk_at, walks_from}
-use Rattle.cfm_closure.specs.Kept.Walks.{IsBound, IsDone, IsTidy, Reaches}
+use Rattle.cfm_closure.specs.Kept.Walks.{IsBound, IsTidy, Reaches}
 use Rattle.cfm_closure.proofs.BoundLemmas.{stands_for}
 use Rattle.cfm_closure.proofs.WalkFacts.{Walks, walk-does}
 use Rattle.cfm_closure.proofs.WalkRules.{came, same_ok, unmarked_inside, walk-rule}

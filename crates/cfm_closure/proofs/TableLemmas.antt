@@ -1,6 +1,5 @@
 -- The tables of a walk stay sound.
-use Rattle.std.proofs.Common.{◌≡◌, ◌≢◌, ℕ, ◌+◌, ◌<◌, ◌≤◌, Bool, true, false, List, [], ◌∷◌, ◌++◌, length, Option, None, Some, Ok, Err, refl, sym, ap, ◌∙◌, subst, get_or, set, inl, inr, arith}
-use Rattle.std.specs.List.{AllByRecursion}
+use Rattle.std.proofs.Common.{◌≡◌, ℕ, Bool, true, List, [], ◌∷◌, ◌++◌, length, Option, sym, ap, ◌∙◌, subst, get_or, set, inl, inr, arith}
 use Rattle.std.proofs.lemmas.Bool.Decides.{eqb_tells}
 use Rattle.std.proofs.lemmas.List.{get_or-set_same, get_or-set_other, length-set}
 use Rattle.pef_words.proofs.Laws.Lists.{all-append, all-weaker}
@@ -8,7 +7,7 @@ use Rattle.cfm_closure.specs.declared.fragment.FragmentView.{FragmentView}
 use Rattle.cfm_closure.specs.declared.walk.Frame.{Frame}
 use Rattle.cfm_closure.specs.Stores.{Pair}
 use Rattle.cfm_closure.specs.Kept.Paths.{AreTables, IsFrame, IsWalked, count_of}
-use Rattle.cfm_closure.specs.Kept.Views.{AreKept, AreRead, fragment_at, fragment_seen}
+use Rattle.cfm_closure.specs.Kept.Views.{AreKept, AreRead, fragment_seen}
 
 module _ (pairs : List Pair) (table table' : List (Option FragmentView)) (kept : AreKept table table') where
   -- what was read stays so

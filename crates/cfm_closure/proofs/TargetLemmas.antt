@@ -1,21 +1,21 @@
 -- A target is in a section of a fragment of the order.
-use Rattle.std.proofs.Common.{◌≡◌, ℕ, zero, suc, ◌<◌, ◌==◌, Bool, true, false, cond, List, length, Option, None, Some, Ok, Err, refl, sym, ap, ◌∙◌, subst, ℤ, pos, negsuc, arith, Contains}
-use Rattle.std.specs.Prelude.{Result, nat_lt, option_map, IsTrue, IfSome}
+use Rattle.std.proofs.Common.{◌≡◌, ℕ, zero, suc, ◌==◌, Bool, true, false, cond, List, Option, None, Some, Ok, Err, refl, sym, ap, ◌∙◌, subst, ℤ, pos, negsuc, Contains}
+use Rattle.std.specs.Prelude.{Result, option_map, IsTrue}
 use Rattle.std.specs.Option.{option_and_then, option_map_or}
 use Rattle.std.proofs.lemmas.Bool.{ltb-true}
 use Rattle.pef_views.specs.Container.{Contained, container_of}
 use Rattle.pef_views.specs.declared.fault.ViewFault.{ViewFault}
 use Rattle.pef_loader.specs.Export.{Export, has_section}
 use Rattle.pef_loader.specs.Import.{Import}
-use Rattle.pef_loader.specs.Loader.{IsLoader, Loaded, export_of, loaded_of, named_of}
+use Rattle.pef_loader.specs.Loader.{Loaded, export_of, loaded_of, named_of}
 use Rattle.pef_loader.specs.declared.fault.LoaderFault.{LoaderFault}
 use Rattle.pef_loader.proofs.Laws.{loaded_of-ok, named_there}
 use Rattle.cfm_closure.specs.declared.targets.Target.{Target}
 use Rattle.cfm_closure.specs.declared.targets.Target.TheVariants.{Absolute, At}
 use Rattle.cfm_closure.specs.Faults.{Refusal, reexport_loop, symbol_missing}
-use Rattle.cfm_closure.specs.Fragments.{Fragment, fragment_of, import_at, loader_at, with_container, with_loader}
+use Rattle.cfm_closure.specs.Fragments.{Fragment, fragment_of, import_at, with_container, with_loader}
 use Rattle.cfm_closure.specs.Libraries.{library_at}
-use Rattle.cfm_closure.specs.Promises.{HasSection, IsComplete, IsSound, LiesInside}
+use Rattle.cfm_closure.specs.Promises.{IsComplete, IsSound, LiesInside}
 use Rattle.cfm_closure.specs.Stores.{Pair, pair_of}
 use Rattle.cfm_closure.specs.Targets.{Hop, ends, exported, exports_in, follow, followed, hop, hop_by, hop_from, hop_of, hop_to, symbol_of, target_of, through}
 use Rattle.cfm_closure.proofs.BoundLemmas.{library_at-is}

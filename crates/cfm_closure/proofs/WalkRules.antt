@@ -1,8 +1,7 @@
 -- The walk never meets its bound: with as many steps as fragments are left it meets its rule as if there
 -- were no bound.
-use Rattle.std.proofs.Common.{◌≡◌, ℕ, zero, suc, ◌+◌, ◌<◌, ◌≤◌, ◌⊎◌, Bool, true, false, cond, not, List, [], ◌∷◌, ◌++◌, length, Option, None, Some, Ok, Err, refl, sym, ap, ap₂, ◌∙◌, subst, get_or, inl, inr, arith}
-use Rattle.std.specs.Prelude.{Result, slice_set, replicate, count_by}
-use Rattle.std.proofs.lemmas.List.{get_or-set_same, get_or-set_other}
+use Rattle.std.proofs.Common.{◌≡◌, ℕ, zero, suc, ◌+◌, ◌<◌, ◌≤◌, Bool, true, false, cond, not, List, [], ◌∷◌, length, Option, None, Some, Ok, Err, refl, ap, subst, get_or, arith}
+use Rattle.std.specs.Prelude.{Result}
 use Rattle.std.proofs.lemmas.List.Sums.{sum_by-set}
 use Rattle.cfm_closure.specs.Faults.{◌>>=◌, Refusal}
 use Rattle.cfm_closure.specs.Fragments.{Fragment, fragment_of}

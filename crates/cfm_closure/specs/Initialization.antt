@@ -1,7 +1,7 @@
 -- The order of initialization routines (Mac OS Runtime Architectures, "Code Fragment Manager",
 -- "Fragment-Defined Initialization and Termination Routines").
 use Rattle.std.specs.Prelude.{ℕ, zero, suc, not, ◌&&◌, Bool, List, [], ◌∷◌, length, Option, None, Some, Result, Ok, Err, if◌then◌else◌}
-use Rattle.std.specs.Option.{is_none, option_and_then, option_map_or}
+use Rattle.std.specs.Option.{is_none, option_and_then}
 use Rattle.pef_words.specs.Refusals.{first_among}
 use Rattle.pef_loader.specs.Library.{Library}
 use Rattle.pef_loader.specs.Loader.{library_of}

@@ -1,6 +1,6 @@
 -- What an import means (Mac OS Runtime Architectures, "Code Fragment Manager", "Resolving Imports"; the
 -- sections of exports are those of PEFExportedSymbol).
-use Rattle.std.specs.Prelude.{ℕ, ℤ, pos, negsuc, zero, suc, ◌==◌, List, [], length, map, Option, None, Some, option_map, Result, Ok, Err, if◌then◌else◌}
+use Rattle.std.specs.Prelude.{ℕ, ℤ, pos, negsuc, zero, suc, ◌==◌, List, [], length, Option, None, Some, option_map, Result, Ok, Err, if◌then◌else◌}
 use Rattle.std.specs.List.{range_with_len, sum_by}
 use Rattle.std.specs.Option.{option_and_then, option_map_or}
 use Rattle.pef_loader.specs.Export.{Export}

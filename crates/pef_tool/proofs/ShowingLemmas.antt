@@ -1,6 +1,6 @@
 -- What is linked of a script and prepared alone is shown as the script describes, and only memory can be wanting; where
 -- it has no closure, none of its bytes is the reason.
-use Rattle.std.proofs.Common.{◌≡◌, ℕ, zero, suc, ◌+◌, ◌*◌, ◌^◌, ◌<◌, ◌≤◌, List, [], ◌∷◌, Ok, Err, length, map, refl, sym, ap, subst, ◌∙◌, arith}
+use Rattle.std.proofs.Common.{◌≡◌, ℕ, zero, suc, ◌+◌, ◌*◌, ◌^◌, ◌<◌, ◌≤◌, List, [], ◌∷◌, Ok, Err, length, map, refl, ap, ◌∙◌, arith}
 use Rattle.std.specs.List.{AllByRecursion}
 use Rattle.std.proofs.Math.Nat.{max-le, pow-le-pow_right}
 use Rattle.cfm_closure.specs.Closures.{Closed, closed_of}

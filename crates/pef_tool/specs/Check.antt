@@ -10,7 +10,6 @@ use Rattle.pef_reloc.specs.Instrs.{program_length}
 use Rattle.pef_reloc.specs.declared.fixup.Fixup.{Fixup}
 use Rattle.pef_script.specs.Grammar.{script_of}
 use Rattle.pef_script.specs.Script.{DescribedScript, DescribedSection}
-use Rattle.pef_script.specs.declared.fault.LineFault.{LineFault}
 use Rattle.pef_tool.specs.Answers.{Answer, answer_refused}
 use Rattle.pef_tool.specs.Refusals.{refusal_text, unreadable_text}
 use Rattle.pef_tool.specs.declared.check.Verdict.{Verdict}

@@ -1,5 +1,5 @@
 -- Where the code's hops lead.
-use Rattle.std.specs.Prelude.{◌≡◌, ℕ, ◌<◌, List, Option, Some, Result, Ok, Err, Contains}
+use Rattle.std.specs.Prelude.{◌≡◌, ℕ, ◌<◌, List, Some, Result, Ok, Err, Contains}
 use Rattle.pef_loader.specs.Export.{Export}
 use Rattle.pef_loader.specs.Loader.{Loaded, export_of}
 use Rattle.cfm_closure.specs.declared.fault.BindFault.{BindFault}

@@ -1,14 +1,13 @@
 -- What the walk keeps instead of a recursion: the fragments that were met and aren't done, each with its
 -- library entries that are.
-use Rattle.std.specs.Prelude.{◌≡◌, ℕ, ◌+◌, ◌-◌, ◌*◌, ◌^◌, ◌<◌, ◌≤◌, Bool, false, List, [], ◌∷◌, length, slice_get, slice_index_or, Option, None, Some, Result, Ok, Err, if◌then◌else◌}
-use Rattle.std.specs.List.{AllByRecursion, sum_by}
-use Rattle.std.specs.Option.{option_and_then}
+use Rattle.std.specs.Prelude.{◌≡◌, ℕ, ◌+◌, ◌-◌, ◌*◌, ◌<◌, ◌≤◌, Bool, false, List, [], ◌∷◌, length, slice_get, slice_index_or, Option, None, Some, Result, Ok, Err}
+use Rattle.std.specs.List.{AllByRecursion}
 use Rattle.cfm_closure.specs.declared.fault.BindFault.{BindFault}
 use Rattle.cfm_closure.specs.declared.fragment.FragmentView.{FragmentView}
 use Rattle.cfm_closure.specs.declared.walk.Frame.{Frame}
 use Rattle.cfm_closure.specs.declared.walk.Walk.{Walk}
 use Rattle.cfm_closure.specs.Faults.{◌>>=◌, Fails, Refusal}
-use Rattle.cfm_closure.specs.Fragments.{Fragment, fragment_of}
+use Rattle.cfm_closure.specs.Fragments.{Fragment}
 use Rattle.cfm_closure.specs.Libraries.{bound_to}
 use Rattle.cfm_closure.specs.Stores.{Pair}
 use Rattle.cfm_closure.specs.Walk.{Walked, is_marked, joining, left, walk, walks_from}

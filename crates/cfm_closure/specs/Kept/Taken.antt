@@ -1,5 +1,5 @@
 -- What is kept while fragments are taken for initialization.
-use Rattle.std.specs.Prelude.{◌≡◌, ℕ, ◌<◌, List, [], length, replicate, slice_index_or, false, None, Contains}
+use Rattle.std.specs.Prelude.{◌≡◌, ℕ, ◌<◌, List, [], length, replicate, slice_index_or, false, None}
 use Rattle.cfm_closure.specs.declared.init_order.Taking.{Taking}
 use Rattle.cfm_closure.specs.Initialization.{awaits}
 use Rattle.cfm_closure.specs.Promises.{IsComplete}

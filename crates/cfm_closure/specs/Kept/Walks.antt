@@ -1,5 +1,5 @@
 -- What a walk has done.
-use Rattle.std.specs.Prelude.{◌≡◌, ◌≢◌, ℕ, ◌+◌, ◌<◌, ◌≤◌, Bool, true, false, List, length, slice_index_or, Option, None, Some, Result, Ok, Contains, AllPairs, ◌⊎◌, if◌then◌else◌}
+use Rattle.std.specs.Prelude.{◌≡◌, ◌≢◌, ℕ, ◌+◌, ◌<◌, ◌≤◌, Bool, true, false, List, length, slice_index_or, Option, None, Some, Ok, Contains, AllPairs, ◌⊎◌, if◌then◌else◌}
 use Rattle.std.specs.Option.{option_and_then}
 use Rattle.cfm_closure.specs.Fragments.{Fragment, fragment_of}
 use Rattle.cfm_closure.specs.Libraries.{bound_to}

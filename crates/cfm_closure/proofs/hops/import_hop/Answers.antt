@@ -1,5 +1,5 @@
 -- A missing symbol is told by its fragment, library and name.
-use Rattle.std.proofs.Common.{subst, sym, ◌∙◌}
+use Rattle.std.proofs.Common.{subst, sym}
 use Rattle.pef_loader.specs.Views.{import_seen}
 use Rattle.cfm_closure.specs.Kept.Hops.{LeadsTo}
 use Rattle.cfm_closure.specs.Kept.Views.{fragment_seen}

@@ -1,5 +1,5 @@
 -- The next import of the way has its place.
-use Rattle.std.proofs.Common.{◌≡◌, ◌+◌, drop, sym, subst, get_or, ◌∙◌, arith, ap}
+use Rattle.std.proofs.Common.{◌+◌, drop, sym, subst, get_or, ◌∙◌, ap}
 use Rattle.std.specs.List.{AllByRecursion}
 use Rattle.std.proofs.lemmas.List.{at_drop_more}
 use Rattle.pef_words.proofs.Laws.Lists.{all-at, all-weaker}

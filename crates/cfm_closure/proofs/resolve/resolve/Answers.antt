@@ -1,5 +1,5 @@
 -- The imports of the way have the target, and so has the first one.
-use Rattle.std.proofs.Common.{◌≡◌, Ok, sym, subst}
+use Rattle.std.proofs.Common.{sym, subst}
 use Rattle.std.specs.List.{AllByRecursion}
 use Rattle.cfm_closure.specs.Kept.Targets.{IsOnWay}
 use Rattle.cfm_closure.proofs.KnownLemmas.{Resolves, between_inside, resolves, way_in_table}

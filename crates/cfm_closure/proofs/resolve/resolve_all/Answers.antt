@@ -1,5 +1,5 @@
 -- The next fragment with an import that is refused has the first.
-use Rattle.std.proofs.Common.{◌≡◌, ℕ, ◌<◌, ◌+◌, ◌≤◌, List, length, Ok, Err, None, Some, Contains, drop, get_or, inl, inr, sym, ap, subst, ◌∙◌, arith}
+use Rattle.std.proofs.Common.{◌≡◌, ℕ, ◌<◌, ◌≤◌, List, length, Ok, None, get_or, sym, ap, subst, ◌∙◌, arith}
 use Rattle.std.proofs.lemmas.Result.{err_from_is_err_and}
 use Rattle.pef_words.specs.Refusals.{unless}
 use Rattle.cfm_closure.specs.Closures.{first_refused, imports_refusal}

@@ -1,5 +1,5 @@
 -- A row more, of which nothing is known.
-use Rattle.std.proofs.Common.{◌≡◌, ◌+◌, ◌∷◌, ◌++◌, [], None, Some, length, replicate, ap, sym, subst, ◌∙◌, arith}
+use Rattle.std.proofs.Common.{◌≡◌, ◌+◌, ◌∷◌, ◌++◌, [], None, Some, length, replicate, ap, sym, ◌∙◌, arith}
 use Rattle.std.proofs.lemmas.List.{length_push}
 use Rattle.cfm_closure.specs.Kept.Targets.{known_at}
 use Rattle.cfm_closure.proofs.KnownLemmas.{counts-push, unknown-push}

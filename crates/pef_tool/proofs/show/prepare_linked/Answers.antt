@@ -1,5 +1,5 @@
 -- What was linked is read, and prepares to what the script describes.
-use Rattle.std.proofs.Common.{◌≡◌, ◌<◌, List, Ok, length, sym, ap, subst, ◌∙◌, arith}
+use Rattle.std.proofs.Common.{◌≡◌, List, Ok, length, sym, ap, subst, ◌∙◌, arith}
 use Rattle.std.proofs.lemmas.Result.{err_from_is_err_and}
 use Rattle.cfm_closure.specs.Closures.{closed_of}
 use Rattle.cfm_closure.specs.Faults.{Fails}

@@ -1,5 +1,5 @@
 -- What is known of an import is its target.
-use Rattle.std.proofs.Common.{Ok, sym}
+use Rattle.std.proofs.Common.{Ok}
 use Rattle.cfm_closure.proofs.KnownLemmas.{in_table, known_at-index}
 use Rattle.cfm_closure.proofs.LeadLemmas.{target-led}
 use Rattle.cfm_closure.proofs.TargetLemmas.{target-inside}

@@ -1,5 +1,5 @@
 -- A fragment of the order is one of the store.
-use Rattle.std.proofs.Common.{◌≡◌, ◌<◌, length, true, sym, ◌∙◌, arith}
+use Rattle.std.proofs.Common.{◌<◌, length, true, sym, ◌∙◌, arith}
 use Rattle.std.proofs.lemmas.List.{get_or_default}
 use Rattle.cfm_closure.specs.Kept.Taken.{taken_of}
 use Rattle.cfm_closure.proofs.InitLemmas.{awaits-some}

@@ -1,5 +1,5 @@
 -- The entries that wait for nothing are noted.
-use Rattle.std.proofs.Common.{◌≡◌, ◌<◌, length, refl, arith}
+use Rattle.std.proofs.Common.{refl, arith}
 use Rattle.cfm_closure.proofs.InitLemmas.{taking-passed}
 use Rattle.cfm_closure.proofs.init_order.Taking.is_ready.Goals as goal
 

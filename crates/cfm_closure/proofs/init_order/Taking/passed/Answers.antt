@@ -1,5 +1,5 @@
 -- The first entry that waits decides.
-use Rattle.std.proofs.Common.{◌≡◌, ◌<◌, ◌==◌, length, get_or, sym, ap, ◌∙◌, arith}
+use Rattle.std.proofs.Common.{◌<◌, ◌==◌, length, sym, ap, ◌∙◌, arith}
 use Rattle.std.proofs.lemmas.List.{get_or_default}
 use Rattle.cfm_closure.specs.Fragments.{library_count}
 use Rattle.cfm_closure.specs.Kept.Taken.{taken_of}

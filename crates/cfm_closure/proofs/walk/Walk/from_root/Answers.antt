@@ -2,7 +2,6 @@
 use Rattle.std.proofs.Common.{Ok, ap, ◌∙◌}
 use Rattle.std.proofs.lemmas.Result.{err_from_is_err_and}
 use Rattle.cfm_closure.specs.Faults.{◌>>=◌}
-use Rattle.cfm_closure.specs.Kept.Paths.{state_of}
 use Rattle.cfm_closure.proofs.PathLemmas.{Fails-also, order_of-start}
 use Rattle.cfm_closure.proofs.walk.Walk.from_root.Goals as goal
 

@@ -1,5 +1,5 @@
 -- A frame goes on with the next fragment that wasn't met, or its fragment is done.
-use Rattle.std.proofs.Common.{◌≡◌, ◌<◌, ◌+◌, ◌∙◌, [], ◌∷◌, ◌++◌, length, sym, ap, subst, arith}
+use Rattle.std.proofs.Common.{◌≡◌, ◌∙◌, length, sym, ap, subst, arith}
 use Rattle.std.proofs.lemmas.List.{with_items_is}
 use Rattle.cfm_closure.specs.Faults.{◌>>=◌}
 use Rattle.cfm_closure.specs.Kept.Paths.{Continues, rest_of_path, state_of, visit_and_rest}
