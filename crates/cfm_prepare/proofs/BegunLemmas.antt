@@ -47,14 +47,17 @@ pub prepared-after : {A : Type 0} (r : Result A PrepareFault) (pairs : List Pair
     → OnOk r ((fresh : List Present) × (now ≡ there ++ fresh) × ArePrepared pairs there m ps fresh after)
 prepared-after (Err e) pairs m there now ps mid after all have all_is filled same relocated stand = tt
 prepared-after (Ok x) pairs m there now ps mid after all have all_is filled same relocated stand =
-    let whole : all ≡ there ++ have.fresh = all_is ∙ have.behind in
-    (have.fresh, have.behind, record {
-      are = new-of pairs m there now ps mid have;
-      others = same ∙ placed-back pairs m have.fresh mid have.placed;
-      filled = filled;
-      relocated = subst (λ fs. first_bad_program pairs fs have.fresh ≡ None) whole relocated;
-      stand = subst (λ fs. StandAll after have.fresh (section_of pairs fs)) whole stand;
-    })
+    let whole : all ≡ there ++ have.fresh = all_is ∙ have.behind in (
+      have.fresh,
+      have.behind,
+      record {
+        are = new-of pairs m there now ps mid have;
+        others = same ∙ placed-back pairs m have.fresh mid have.placed;
+        filled = filled;
+        relocated = subst (λ fs. first_bad_program pairs fs have.fresh ≡ None) whole relocated;
+        stand = subst (λ fs. StandAll after have.fresh (section_of pairs fs)) whole stand;
+      },
+    )
 
 pub image-refused : (e : PrepareFault) (pairs : List Pair) (m : Layout) (there now : List Present) (ps : List ℕ) (mid : Layout) (have : HavePlaced pairs m there ps now mid)
     → FillsUpTo {A = Unit {0}} (Err e) (first_bad_image pairs have.fresh) → MayNotPrepareNew pairs there m ps e

@@ -17,13 +17,13 @@ without-swap [] a b = refl
 without-swap (x ∷ xs) a b =
     elim (eqb_tells x.address a) [
       | inl here ↦ elim (eqb_tells x.address b) [
-          | inl there ↦ rw here.0 (rw there.0 (ap (without xs) (sym there.1 ∙ here.1)))
-          | inr other ↦ rw here.0 (rw other.0 (rw here.0 refl))
-        ]
+        | inl there ↦ rw here.0 (rw there.0 (ap (without xs) (sym there.1 ∙ here.1)))
+        | inr other ↦ rw here.0 (rw other.0 (rw here.0 refl))
+      ]
       | inr apart ↦ elim (eqb_tells x.address b) [
-          | inl there ↦ rw apart.0 (rw there.0 refl)
-          | inr other ↦ rw apart.0 (rw other.0 (rw apart.0 (ap (λ ys. x ∷ ys) (without-swap xs a b))))
-        ]
+        | inl there ↦ rw apart.0 (rw there.0 refl)
+        | inr other ↦ rw apart.0 (rw other.0 (rw apart.0 (ap (λ ys. x ∷ ys) (without-swap xs a b))))
+      ]
     ]
 
 gone-first : (m : Layout) (a : ℕ) (ps : List Place) → given_back (with_instances m (without m.instances a)) ps ≡ with_instances (given_back m ps) (without (given_back m ps).instances a)

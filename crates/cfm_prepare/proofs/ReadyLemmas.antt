@@ -57,16 +57,16 @@ append-pair xs ys i j left right cross under high other =
     let size = length-append xs ys in
     elim (cases_lt i (length xs)) [
       | inl il ↦ elim (cases_lt j (length xs)) [
-          | inl jl ↦ pair-of (present_at (xs ++ ys) i) (present_at (xs ++ ys) j) (present_at xs i) (present_at xs j) (get_or_append_left xs ys none i il) (get_or_append_left xs ys none j jl) (λ a b. left i j a b il jl other)
-          | inr jr ↦ pair-of (present_at (xs ++ ys) i) (present_at (xs ++ ys) j) (present_at xs i) (present_at ys (j - length xs)) (get_or_append_left xs ys none i il) (get_or-append_right xs ys j none jr)
-              (cross i (j - length xs) il (omega (arith, jr, high, size)))
-        ]
+        | inl jl ↦ pair-of (present_at (xs ++ ys) i) (present_at (xs ++ ys) j) (present_at xs i) (present_at xs j) (get_or_append_left xs ys none i il) (get_or_append_left xs ys none j jl) (λ a b. left i j a b il jl other)
+        | inr jr ↦ pair-of (present_at (xs ++ ys) i) (present_at (xs ++ ys) j) (present_at xs i) (present_at ys (j - length xs)) (get_or_append_left xs ys none i il) (get_or-append_right xs ys j none jr)
+            (cross i (j - length xs) il (omega (arith, jr, high, size)))
+      ]
       | inr ir ↦ elim (cases_lt j (length xs)) [
-          | inl jl ↦ pair-of (present_at (xs ++ ys) i) (present_at (xs ++ ys) j) (present_at ys (i - length xs)) (present_at xs j) (get_or-append_right xs ys i none ir) (get_or_append_left xs ys none j jl)
-              (turned (present_at xs j) (present_at ys (i - length xs)) (cross j (i - length xs) jl (omega (arith, ir, under, size))))
-          | inr jr ↦ pair-of (present_at (xs ++ ys) i) (present_at (xs ++ ys) j) (present_at ys (i - length xs)) (present_at ys (j - length xs)) (get_or-append_right xs ys i none ir) (get_or-append_right xs ys j none jr)
-              (λ a b. right (i - length xs) (j - length xs) a b (omega (arith, ir, under, size)) (omega (arith, jr, high, size)) (λ e. other (omega (arith, e, ir, jr))))
-        ]
+        | inl jl ↦ pair-of (present_at (xs ++ ys) i) (present_at (xs ++ ys) j) (present_at ys (i - length xs)) (present_at xs j) (get_or-append_right xs ys i none ir) (get_or_append_left xs ys none j jl)
+            (turned (present_at xs j) (present_at ys (i - length xs)) (cross j (i - length xs) jl (omega (arith, ir, under, size))))
+        | inr jr ↦ pair-of (present_at (xs ++ ys) i) (present_at (xs ++ ys) j) (present_at ys (i - length xs)) (present_at ys (j - length xs)) (get_or-append_right xs ys i none ir) (get_or-append_right xs ys j none jr)
+            (λ a b. right (i - length xs) (j - length xs) a b (omega (arith, ir, under, size)) (omega (arith, jr, high, size)) (λ e. other (omega (arith, e, ir, jr))))
+      ]
     ]
 
 append-apart : (xs ys : List Present) → AllApart xs → AllApart ys → AreCross xs ys → AllApart (xs ++ ys)
@@ -100,8 +100,8 @@ pub ready-behind : (pairs : List Pair) (m : Layout) (there fresh : List Present)
 ready-behind pairs m there fresh after ready placed = record {
   held = each-of (λ f. AreHeld after f.places) there fresh
       (λ i under. held_same m after (present_at there i).places (λ k low.
-          let s = bytes-there m (present_at there i).places k (ready.held i under) low in
-          placed-stays pairs m fresh after (place_at (present_at there i).places k).address s.0 placed s.1 ∙ sym s.1) (ready.held i under))
+      let s = bytes-there m (present_at there i).places k (ready.held i under) low in
+      placed-stays pairs m fresh after (place_at (present_at there i).places k).address s.0 placed s.1 ∙ sym s.1) (ready.held i under))
       (placed-held pairs m fresh after placed);
   own = each-of (λ f. AreApart f.places) there fresh ready.own (placed-own pairs m fresh after placed);
   apart = append-apart there fresh ready.apart (placed-apart pairs m fresh after placed) (λ i j under high a b low less.
@@ -114,10 +114,10 @@ pub held-rejoined : (m after : Layout) (there fresh : List Present) → AreReady
 held-rejoined m after there fresh ready held same = record {
   held = each-of (λ f. AreHeld after f.places) there fresh
       (λ i under. held_same m after (present_at there i).places (λ k low.
-          let apart = λ (j b : ℕ) (high : j < length fresh) (less : b < length (present_at fresh j).places). turned (present_at there i) (present_at fresh j) (cross-of there fresh ready.apart i j under high) b k less low in
-          let address = (place_at (present_at there i).places k).address in
-          sym (all-elsewhere after fresh address apart) ∙ ap (λ (l : Layout). bytes_at l.instances address) same ∙ all-elsewhere m fresh address apart)
-          (left-of (λ f. AreHeld m f.places) there fresh ready.held i under))
+      let apart = λ (j b : ℕ) (high : j < length fresh) (less : b < length (present_at fresh j).places). turned (present_at there i) (present_at fresh j) (cross-of there fresh ready.apart i j under high) b k less low in
+      let address = (place_at (present_at there i).places k).address in
+      sym (all-elsewhere after fresh address apart) ∙ ap (λ (l : Layout). bytes_at l.instances address) same ∙ all-elsewhere m fresh address apart)
+      (left-of (λ f. AreHeld m f.places) there fresh ready.held i under))
       held;
   own = ready.own;
   apart = ready.apart;

@@ -76,12 +76,7 @@ impl<'a> Connected<'a> {
     }
 
     /// The address of an export of the root.
-    fn export_address(
-        &self,
-        present: &[Placed],
-        loader: &Loader<'_>,
-        export: ExportView<'_>,
-    ) -> u32
+    fn export_address(&self, present: &[Placed], loader: &Loader<'_>, export: ExportView<'_>) -> u32
         requires loader { loader_at self.now.closed.pairs self.now.root ≡ Some (loaded loader.now) }
         requires section { IsTrue (has_section (loaded loader.now).header (loaded loader.now).sections export.value export.section) }
         ensures { result ≡ export_address self.now.closed.pairs present.now self.now.root export.entry.value export.entry.section }

@@ -100,10 +100,19 @@ impl<'a> Context<'a> {
         let closure = closure(self.alloc, &self.store, root)?;
         let new = new_among(self.alloc, &self.present, closure.order())?;
         self.connections.reserve(1)?;
-        prepare_new(self.alloc, &mut self.memory, &self.store, &closure, &new, &mut self.present)?;
+        prepare_new(
+            self.alloc,
+            &mut self.memory,
+            &self.store,
+            &closure,
+            &new,
+            &mut self.present,
+        )?;
         let number = self.given;
         self.given += 1;
-        self.connections.push(Connected::new(number, root, closure)).unwrap();
+        self.connections
+            .push(Connected::new(number, root, closure))
+            .unwrap();
         Ok(Connection(number))
     }
 

@@ -103,11 +103,13 @@ pub(crate) fn target_address(all: &[Placed], target: Option<Target>) -> u32
     match target {
         None => 0,
         Some(Target::Absolute(number)) => number,
-        Some(Target::At {
-            fragment,
-            section,
-            offset,
-        }) => section_address(all, fragment, section).wrapping_add(offset),
+        Some(
+            Target::At {
+                fragment,
+                section,
+                offset,
+            },
+        ) => section_address(all, fragment, section).wrapping_add(offset),
     }
 }
 

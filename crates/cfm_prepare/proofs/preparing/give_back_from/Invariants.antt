@@ -3,8 +3,6 @@ use Rattle.cfm_prepare.specs.Fragments.{all_given_back}
 use Rattle.cfm_prepare.specs.Kept.Ready.{AreReady}
 use Rattle.cfm_prepare.proofs.preparing.give_back_from.Given as goal
 
-
-
 abbrev pub invariant-loop-present : goal.invariant-loop-present
 invariant-loop-present l = record {
   memory : all_given_back l.memory (drop l.kept l.present.items) ≡ all_given_back l.fn.memory (drop l.kept l.fn.present.items);

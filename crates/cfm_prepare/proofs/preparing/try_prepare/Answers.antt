@@ -212,4 +212,3 @@ returns-clause-refused c =
     let filled : first_bad_image store have.fresh ≡ None = sym (ap (first_bad_image store) same) ∙ c.in_ok-fill_fragments.ensures.refused in
     let P : List Present → Type 0 = λ fs. RelocatesUpTo c.relocate_fragments.result (first_bad_program store c.deref-2.result.now fs) in
     relocating-refused c.relocate_fragments.result store m there now c.args.new.now mid c.deref-2.result.now have c.deref-2.ensures.value filled (subst P same c.relocate_fragments.ensures.refused)
-

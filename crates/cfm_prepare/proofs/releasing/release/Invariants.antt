@@ -4,8 +4,6 @@ use Rattle.cfm_prepare.specs.Fragments.{all_given_back}
 use Rattle.cfm_prepare.specs.Kept.Ready.{AreReady}
 use Rattle.cfm_prepare.proofs.releasing.release.Given as goal
 
-
-
 abbrev pub invariant-loop-i : goal.invariant-loop-i
 invariant-loop-i l = record {
   present : take l.i l.present.items ++ needed_of l.connections (drop l.i l.present.items) ≡ needed_of l.connections l.fn.present.items;

@@ -30,7 +30,7 @@ returns-in_err-relocate_fragment-clause-others c =
     all-one at.memory after fs i c.loop-fragment-test.true (subst P e c.in_err-relocate_fragment.ensures.others) ∙ at.invariant.others
 
 pub returns-in_err-relocate_fragment-clause-held : goal.returns-in_err-relocate_fragment-clause-held
-returns-in_err-relocate_fragment-clause-held c = 
+returns-in_err-relocate_fragment-clause-held c =
     let at = c.loop-fragment in
     let fs = c.args.fresh.now in
     let i = at.fragment-index in
