@@ -1,10 +1,12 @@
 mod BegunLemmas
 mod FragmentLemmas
 mod GroupLemmas
+mod KeepLemmas
 pub mod Laws
 mod OpenLemmas
 mod PlacedLemmas
 mod PlacingLemmas
 mod ReadyLemmas
 mod ReleaseLemmas
+mod RunLemmas
 mod StepLemmas

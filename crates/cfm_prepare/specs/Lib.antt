@@ -5,5 +5,6 @@ pub mod Fragments
 pub mod Kept
 pub mod Placing
 pub mod Readers
+pub mod Runs
 pub mod Seen
 pub mod Steps

@@ -15,6 +15,7 @@ mod preparing;
 mod present;
 mod releasing;
 mod relocating;
+pub mod theorems;
 
 pub use context::{Connection, Context};
 pub use fault::{CloseFault, PrepareFault};

@@ -1,0 +1,200 @@
+-- What stays of a fragment that is present, over a step behind any list of steps.
+use Rattle.std.proofs.Common.{◌≡◌, ◌≢◌, ℕ, suc, ◌<◌, ◌==◌, Bool, true, false, List, [], ◌∷◌, ◌++◌, Some, cond, length, refl, sym, ap, subst, ◌∙◌, inl, inr, arith}
+use Rattle.std.proofs.lemmas.Bool.Decides.{eqb_tells}
+use Rattle.cfm_memory.specs.Extents.{given_back, place_at}
+use Rattle.cfm_memory.specs.Instances.{Layout, bytes_at}
+use Rattle.cfm_memory.specs.declared.place.Place.{Place}
+use Rattle.cfm_memory.proofs.Laws.{given_back_elsewhere}
+use Rattle.cfm_closure.specs.Stores.{Pair}
+use Rattle.cfm_prepare.specs.Addresses.{section_of}
+use Rattle.cfm_prepare.specs.Contexts.{Open, State, fresh_state, is_needed, needed_of, unneeded_of}
+use Rattle.cfm_prepare.specs.Fragments.{Present, all_given_back, is_present, places_of, present_at}
+use Rattle.cfm_prepare.specs.Runs.{Keeps, Runs, Step, Takes, closed, prepared}
+use Rattle.cfm_prepare.specs.Steps.{Closes, Prepares}
+use Rattle.cfm_prepare.specs.Kept.Ready.{AllApart}
+use Rattle.cfm_prepare.proofs.PlacedLemmas.{placed-apart, placed-new}
+use Rattle.cfm_prepare.proofs.RunLemmas.{present-needed}
+
+-- what holds of each of some fragments
+abbrev AllBy : (Present → Type 0) → List Present → Type 0
+AllBy P [] = Unit {0}
+AllBy P (f ∷ fs) = P f × AllBy P fs
+
+all-append : (P : Present → Type 0) (xs ys : List Present) → AllBy P xs → AllBy P ys → AllBy P (xs ++ ys)
+all-append P [] ys left right = right
+all-append P (f ∷ xs) ys left right = (left.0, all-append P xs ys left.1 right)
+
+all-index : (P : Present → Type 0) (fs : List Present) → ((i : ℕ) → i < length fs → P (present_at fs i)) → AllBy P fs
+all-index P [] each = tt
+all-index P (f ∷ fs) each = (each 0 (omega arith), all-index P fs (λ i under. each (suc i) (omega (arith, under))))
+
+all-map : (P Q : Present → Type 0) (fs : List Present) → ((f : Present) → P f → Q f) → AllBy P fs → AllBy Q fs
+all-map P Q [] gives all = tt
+all-map P Q (f ∷ fs) gives all = (gives f all.0, all-map P Q fs gives all.1)
+
+all-both : (P Q R : Present → Type 0) (fs : List Present) → ((f : Present) → P f → Q f → R f) → AllBy P fs → AllBy Q fs → AllBy R fs
+all-both P Q R [] gives all also = tt
+all-both P Q R (f ∷ fs) gives all also = (gives f all.0 also.0, all-both P Q R fs gives all.1 also.1)
+
+chosen : (P : Present → Type 0) (b : Bool) (f : Present) (fs : List Present) → P f → AllBy P fs → AllBy P (cond b (f ∷ fs) fs)
+chosen P true f fs here rest = (here, rest)
+chosen P false f fs here rest = rest
+
+passed : (P : Present → Type 0) (b : Bool) (f : Present) (fs : List Present) → P f → AllBy P fs → AllBy P (cond b fs (f ∷ fs))
+passed P true f fs here rest = rest
+passed P false f fs here rest = (here, rest)
+
+all-needed : (P : Present → Type 0) (os : List Open) (fs : List Present) → AllBy P fs → AllBy P (needed_of os fs)
+all-needed P os [] all = tt
+all-needed P os (f ∷ fs) all = chosen P (is_needed os f.position) f (needed_of os fs) all.0 (all-needed P os fs all.1)
+
+all-unneeded : (P : Present → Type 0) (os : List Open) (fs : List Present) → AllBy P fs → AllBy P (unneeded_of os fs)
+all-unneeded P os [] all = tt
+all-unneeded P os (f ∷ fs) all = passed P (is_needed os f.position) f (unneeded_of os fs) all.0 (all-unneeded P os fs all.1)
+
+-- no section of one fragment has the address of one of the other
+abbrev ArePair : Present → Present → Type 0
+ArePair f g = (a b : ℕ) → a < length f.places → b < length g.places → (place_at f.places a).address ≢ (place_at g.places b).address
+
+turned : (f g : Present) → ArePair f g → ArePair g f
+turned f g apart a b low less same = apart b a less low (sym same)
+
+abbrev AreApartAll : List Present → Type 0
+AreApartAll [] = Unit {0}
+AreApartAll (f ∷ fs) = AllBy (ArePair f) fs × AreApartAll fs
+
+apart-append : (xs ys : List Present) → AreApartAll xs → AreApartAll ys → AllBy (λ f. AllBy (ArePair f) ys) xs → AreApartAll (xs ++ ys)
+apart-append [] ys left right cross = right
+apart-append (f ∷ xs) ys left right cross = (all-append (ArePair f) xs ys left.0 cross.0, apart-append xs ys left.1 right cross.1)
+
+apart-index : (fs : List Present) → AllApart fs → AreApartAll fs
+apart-index [] apart = tt
+apart-index (f ∷ fs) apart = (all-index (ArePair f) fs (λ i under a b. apart 0 (suc i) a b (omega arith) (omega (arith, under)) (λ e. absurd (omega (arith, e)))),
+    apart-index fs (λ i j a b under high other. apart (suc i) (suc j) a b (omega (arith, under)) (omega (arith, high)) (λ e. other (omega (arith, e)))))
+
+chosen-apart : (b : Bool) (f : Present) (fs : List Present) → AllBy (ArePair f) fs → AreApartAll fs → AreApartAll (cond b (f ∷ fs) fs)
+chosen-apart true f fs here rest = (here, rest)
+chosen-apart false f fs here rest = rest
+
+apart-needed : (os : List Open) (fs : List Present) → AreApartAll fs → AreApartAll (needed_of os fs)
+apart-needed os [] apart = tt
+apart-needed os (f ∷ fs) apart = chosen-apart (is_needed os f.position) f (needed_of os fs) (all-needed (ArePair f) os fs apart.0) (apart-needed os fs apart.1)
+
+-- those that are kept are apart from those that go
+abbrev AreParted : List Present → List Present → Type 0
+AreParted ns us = AllBy (λ h. AllBy (λ g. ArePair g h) us) ns
+
+parted-at : (b : Bool) (f : Present) (ns us : List Present) → AllBy (ArePair f) ns → AllBy (ArePair f) us → AreParted ns us → AreParted (cond b (f ∷ ns) ns) (cond b us (f ∷ us))
+parted-at true f ns us kept gone rest = (all-map (ArePair f) (λ g. ArePair g f) us (λ g. turned f g) gone, rest)
+parted-at false f ns us kept gone rest =
+    all-both (ArePair f) (λ h. AllBy (λ g. ArePair g h) us) (λ h. AllBy (λ g. ArePair g h) (f ∷ us)) ns (λ h here others. (here, others)) kept rest
+
+parted : (os : List Open) (fs : List Present) → AreApartAll fs → AreParted (needed_of os fs) (unneeded_of os fs)
+parted os [] apart = tt
+parted os (f ∷ fs) apart =
+    parted-at (is_needed os f.position) f (needed_of os fs) (unneeded_of os fs) (all-needed (ArePair f) os fs apart.0) (all-unneeded (ArePair f) os fs apart.0) (parted os fs apart.1)
+
+-- each section has bytes
+abbrev IsThere : Layout → Present → Type 0
+IsThere m f = (k : ℕ) → k < length f.places → (bytes : List ℕ) × (bytes_at m.instances (place_at f.places k).address ≡ Some bytes)
+
+keeps-apart : (m : Layout) (gs : List Present) (f : Present) → AllBy (λ g. ArePair g f) gs → Keeps m (all_given_back m gs) f.places
+keeps-apart m [] f apart k under = refl
+keeps-apart m (g ∷ gs) f apart k under =
+    keeps-apart (given_back m g.places) gs f apart.1 k under ∙ given_back_elsewhere m g.places (place_at f.places k).address (λ a low. apart.0 a k low under)
+
+there-kept : (m after : Layout) (f : Present) → IsThere m f → Keeps m after f.places → IsThere after f
+there-kept m after f there keeps k under = ((there k under).0, keeps k under ∙ (there k under).1)
+
+-- what holds of a state
+record IsLaid (s : State) : Type 0 where
+  there : AllBy (IsThere s.memory) s.present
+  apart : AreApartAll s.present
+
+apart-new : (pairs : List Pair) (s t : State) (name : List ℕ) (number : ℕ) (step : Prepares s name number t) (f : Present) → IsThere s.memory f → AllBy (λ g. ArePair g f) step.fresh
+apart-new pairs s t name number step f there =
+    let are = step.prepared.are in
+    all-index (λ g. ArePair g f) step.fresh (λ i under a b low less same.
+        placed-new s.pairs s.memory step.fresh are.empty i a (place_at f.places b).address (there b less).0 are.placed under low (there b less).1 (sym same))
+
+kept-new : (pairs : List Pair) (s t : State) (name : List ℕ) (number : ℕ) (step : Prepares s name number t) (f : Present) → IsThere s.memory f → Keeps s.memory t.memory f.places
+kept-new pairs s t name number step f there k under =
+    sym (keeps-apart t.memory step.fresh f (apart-new pairs s t name number step f there) k under) ∙ ap (λ (m : Layout). bytes_at m.instances (place_at f.places k).address) step.prepared.others
+
+laid-prepare : (pairs : List Pair) (s t : State) (name : List ℕ) (number : ℕ) → IsLaid s → Prepares s name number t → IsLaid t
+laid-prepare pairs s t name number laid step =
+    let are = step.prepared.are in
+    let old = all-map (IsThere s.memory) (IsThere t.memory) s.present (λ f there. there-kept s.memory t.memory f there (kept-new pairs s t name number step f there)) laid.there in
+    let new = all-index (IsThere t.memory) step.fresh (λ i under k low. (section_of s.pairs (s.present ++ step.fresh) (present_at step.fresh i) k, step.prepared.stand i under k low)) in
+    let cross = all-map (IsThere s.memory) (λ f. AllBy (ArePair f) step.fresh) s.present
+        (λ f there. all-map (λ g. ArePair g f) (ArePair f) step.fresh (λ g. turned g f) (apart-new pairs s t name number step f there)) laid.there in
+    record {
+      there = subst (AllBy (IsThere t.memory)) (sym step.present) (all-append (IsThere t.memory) s.present step.fresh old new);
+      apart = subst AreApartAll (sym step.present) (apart-append s.present step.fresh laid.apart (apart-index step.fresh (placed-apart s.pairs s.memory step.fresh are.empty are.placed)) cross);
+    }
+
+-- those that are kept by a closing keep their bytes
+kept-close : (s t : State) (number : ℕ) → IsLaid s → Closes s number t → AllBy (λ f. Keeps s.memory t.memory f.places) (needed_of t.connections s.present)
+kept-close s t number laid step =
+    let us = unneeded_of t.connections s.present in
+    all-map (λ f. AllBy (λ g. ArePair g f) us) (λ f. Keeps s.memory t.memory f.places) (needed_of t.connections s.present)
+    (λ f apart. subst (λ (m : Layout). Keeps s.memory m f.places) (sym step.memory) (keeps-apart s.memory us f apart)) (parted t.connections s.present laid.apart)
+
+laid-close : (s t : State) (number : ℕ) → IsLaid s → Closes s number t → IsLaid t
+laid-close s t number laid step =
+    let kept = needed_of t.connections s.present in
+    record {
+      there = subst (AllBy (IsThere t.memory)) (sym step.present)
+          (all-both (IsThere s.memory) (λ f. Keeps s.memory t.memory f.places) (IsThere t.memory) kept (λ f. there-kept s.memory t.memory f) (all-needed (IsThere s.memory) t.connections s.present laid.there) (kept-close s t number laid step));
+      apart = subst AreApartAll (sym step.present) (apart-needed t.connections s.present laid.apart);
+    }
+
+laid-all : (pairs : List Pair) (s t : State) (steps : List Step) → IsLaid s → Runs s steps t → IsLaid t
+laid-all pairs s t [] laid run = subst IsLaid (sym run) laid
+laid-all pairs s t (prepared name number ∷ steps) laid run = laid-all pairs run.0 t steps (laid-prepare pairs s run.0 name number laid run.1) run.2
+laid-all pairs s t (closed number ∷ steps) laid run = laid-all pairs run.0 t steps (laid-close s run.0 number laid run.1) run.2
+
+-- the places of a fragment keep what those of all do
+places-keep : (m after : Layout) (fs : List Present) (p : ℕ) → AllBy (λ f. Keeps m after f.places) fs → Keeps m after (places_of fs p)
+places-keep m after [] p all k under = absurd (omega arith)
+places-keep m after (f ∷ fs) p all k under = elim (eqb_tells f.position p) [
+  | inl same ↦ (let low : k < length f.places = rw same.0 at under in rw same.0 (all.0 k low))
+  | inr other ↦ (let low : k < length (places_of fs p) = rw other.0 at under in rw other.0 (places-keep m after fs p all.1 k low))
+]
+
+places-before : (xs ys : List Present) (p : ℕ) → is_present xs p ≡ true → places_of (xs ++ ys) p ≡ places_of xs p
+places-before [] ys p is = absurd (cc)
+places-before (f ∷ xs) ys p is = elim (eqb_tells f.position p) [
+  | inl same ↦ rw same.0 refl
+  | inr other ↦ (let left : is_present xs p ≡ true = rw other.0 at is in rw other.0 (places-before xs ys p left))
+]
+
+choose-places : (b : Bool) (f : Present) (ns fs : List Present) (p : ℕ) → (f.position ≡ p → b ≡ true) → places_of ns p ≡ places_of fs p → places_of (cond b (f ∷ ns) ns) p ≡ places_of (f ∷ fs) p
+choose-places true f ns fs p needed rest = ap (λ ps. cond (f.position == p) f.places ps) rest
+choose-places false f ns fs p needed rest = elim (eqb_tells f.position p) [
+  | inl same ↦ (let wrong : false ≡ true = needed same.1 in absurd (cc))
+  | inr other ↦ rw other.0 rest
+]
+
+places-needed : (os : List Open) (fs : List Present) (p : ℕ) → is_needed os p ≡ true → places_of (needed_of os fs) p ≡ places_of fs p
+places-needed os [] p is = refl
+places-needed os (f ∷ fs) p is = choose-places (is_needed os f.position) f (needed_of os fs) fs p (λ same. ap (is_needed os) same ∙ is) (places-needed os fs p is)
+
+both-true : (b c : Bool) → cond b c false ≡ true → b ≡ true
+both-true true c is = refl
+both-true false c is = is
+
+step-keeps : (pairs : List Pair) (s t : State) (x : Step) (p : ℕ) → IsLaid s → Takes s x t → is_present s.present p ≡ true → is_present t.present p ≡ true
+    → (places_of t.present p ≡ places_of s.present p) × Keeps s.memory t.memory (places_of s.present p)
+step-keeps pairs s t (prepared name number) p laid step was is =
+    (ap (λ fs. places_of fs p) step.present ∙ places-before s.present step.fresh p was,
+    places-keep s.memory t.memory s.present p (all-map (IsThere s.memory) (λ f. Keeps s.memory t.memory f.places) s.present (kept-new pairs s t name number step) laid.there))
+step-keeps pairs s t (closed number) p laid step was is =
+    let here : cond (is_needed t.connections p) (is_present s.present p) false ≡ true = sym (ap (λ fs. is_present fs p) step.present ∙ present-needed t.connections s.present p) ∙ is in
+    let same = places-needed t.connections s.present p (both-true (is_needed t.connections p) (is_present s.present p) here) in
+    (ap (λ fs. places_of fs p) step.present ∙ same,
+    subst (Keeps s.memory t.memory) same (places-keep s.memory t.memory (needed_of t.connections s.present) p (kept-close s t number laid step)))
+
+pub run-keeps : (pairs : List Pair) (limit : ℕ) (steps : List Step) (s t : State) (x : Step) (p : ℕ) → Runs (fresh_state pairs limit) steps s → Takes s x t → is_present s.present p ≡ true → is_present t.present p ≡ true
+    → (places_of t.present p ≡ places_of s.present p) × Keeps s.memory t.memory (places_of s.present p)
+run-keeps pairs limit steps s t x p run step was is = step-keeps pairs s t x p (laid-all pairs (fresh_state pairs limit) s steps (record { there = tt; apart = tt }) run) step was is

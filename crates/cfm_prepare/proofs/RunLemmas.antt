@@ -1,0 +1,157 @@
+-- What holds after any list of steps: the fragments that are present are those of the open connections'
+-- closures.
+use Rattle.std.proofs.Common.{◌≡◌, ℕ, ◌==◌, Bool, true, false, List, [], ◌∷◌, ◌++◌, Ok, cond, refl, sym, ap, ap₂, subst, ◌∙◌, inl, inr}
+use Rattle.std.proofs.lemmas.Bool.Decides.{eqb_tells}
+use Rattle.cfm_closure.specs.Closures.{closed_of}
+use Rattle.cfm_closure.specs.Stores.{Pair}
+use Rattle.cfm_prepare.specs.Contexts.{Open, State, fresh_state, has, is_needed, needed_of, open_without}
+use Rattle.cfm_prepare.specs.Fragments.{Present, is_present, new_among, positions}
+use Rattle.cfm_prepare.specs.Runs.{AreClosed, Runs, Step, Takes, closed, prepared}
+use Rattle.cfm_prepare.specs.Steps.{Closes, Prepares}
+
+-- one of some fragments or of others
+present-either : (xs ys : List Present) (p : ℕ) → is_present (xs ++ ys) p ≡ cond (is_present xs p) true (is_present ys p)
+present-either [] ys p = refl
+present-either (f ∷ xs) ys p = elim (eqb_tells f.position p) [ inl same ↦ rw same.0 refl | inr other ↦ rw other.0 (present-either xs ys p) ]
+
+present-position : (fs : List Present) (p : ℕ) → is_present fs p ≡ has (positions fs) p
+present-position [] p = refl
+present-position (f ∷ fs) p = ap (λ b. cond (f.position == p) true b) (present-position fs p)
+
+-- a new one is of the order, and wasn't there
+new-at : (b c : Bool) (q p : ℕ) (news ps : List ℕ) → (q ≡ p → b ≡ c) → has news p ≡ cond c false (has ps p) → has (cond b news (q ∷ news)) p ≡ cond c false (has (q ∷ ps) p)
+new-at true true q p news ps same later = later
+new-at true false q p news ps same later = elim (eqb_tells q p) [
+  | inl is ↦ (let wrong : true ≡ false = same is.1 in absurd (cc))
+  | inr other ↦ rw other.0 later
+]
+new-at false true q p news ps same later = elim (eqb_tells q p) [
+  | inl is ↦ (let wrong : false ≡ true = same is.1 in absurd (cc))
+  | inr other ↦ rw other.0 later
+]
+new-at false false q p news ps same later = ap (λ b. cond (q == p) true b) later
+
+has-new : (fs : List Present) (ps : List ℕ) (p : ℕ) → has (new_among fs ps) p ≡ cond (is_present fs p) false (has ps p)
+has-new fs [] p = none (is_present fs p)
+  where
+    none : (b : Bool) → false ≡ cond b false false
+    none true = refl
+    none false = refl
+has-new fs (q ∷ ps) p = new-at (is_present fs q) (is_present fs p) q p (new_among fs ps) ps (λ is. ap (is_present fs) is) (has-new fs ps p)
+
+-- one connection more needs it, or one of those that were open
+needed-either : (os : List Open) (o : Open) (p : ℕ) → is_needed (os ++ o ∷ []) p ≡ cond (is_needed os p) true (has o.closed.order p)
+needed-either [] o p = last (has o.closed.order p)
+  where
+    last : (b : Bool) → cond b true false ≡ b
+    last true = refl
+    last false = refl
+needed-either (x ∷ os) o p = first (has x.closed.order p) (is_needed os p) (is_needed (os ++ o ∷ []) p) (has o.closed.order p) (needed-either os o p)
+  where
+    first : (a b c d : Bool) → c ≡ cond b true d → cond a true c ≡ cond (cond a true b) true d
+    first true b c d is = refl
+    first false b c d is = is
+
+both : (b h : Bool) → cond b true (cond b false h) ≡ cond b true h
+both true h = refl
+both false h = refl
+
+-- those that are needed are kept
+kept-at : (b c : Bool) (q p : ℕ) (kept here : Bool) → (q ≡ p → b ≡ c) → kept ≡ cond c here false → cond b (cond (q == p) true kept) kept ≡ cond c (cond (q == p) true here) false
+kept-at true true q p kept here same later = ap (λ x. cond (q == p) true x) later
+kept-at true false q p kept here same later = elim (eqb_tells q p) [
+  | inl is ↦ (let wrong : true ≡ false = same is.1 in absurd (cc))
+  | inr other ↦ rw other.0 later
+]
+kept-at false true q p kept here same later = elim (eqb_tells q p) [
+  | inl is ↦ (let wrong : false ≡ true = same is.1 in absurd (cc))
+  | inr other ↦ rw other.0 later
+]
+kept-at false false q p kept here same later = later
+
+choice : (b : Bool) (f : Present) (fs : List Present) (p : ℕ) → is_present (cond b (f ∷ fs) fs) p ≡ cond b (cond (f.position == p) true (is_present fs p)) (is_present fs p)
+choice true f fs p = refl
+choice false f fs p = refl
+
+pub present-needed : (os : List Open) (fs : List Present) (p : ℕ) → is_present (needed_of os fs) p ≡ cond (is_needed os p) (is_present fs p) false
+present-needed os [] p = none (is_needed os p)
+  where
+    none : (b : Bool) → false ≡ cond b false false
+    none true = refl
+    none false = refl
+present-needed os (f ∷ fs) p =
+    choice (is_needed os f.position) f (needed_of os fs) p
+    ∙ kept-at (is_needed os f.position) (is_needed os p) f.position p (is_present (needed_of os fs) p) (is_present fs p) (λ is. ap (is_needed os) is) (present-needed os fs p)
+
+needed-more : (a b : Bool) → b ≡ true → cond a true b ≡ true
+needed-more true b is = refl
+needed-more false b is = is
+
+-- what is needed without a connection is needed with it
+needed-without : (os : List Open) (number p : ℕ) → is_needed (open_without os number) p ≡ true → is_needed os p ≡ true
+needed-without [] number p is = is
+needed-without (o ∷ os) number p is = elim (eqb_tells o.number number) [
+  | inl same ↦ (let left : is_needed os p ≡ true = rw same.0 at is in needed-more (has o.closed.order p) (is_needed os p) left)
+  | inr other ↦ (let left : cond (has o.closed.order p) true (is_needed (open_without os number) p) ≡ true = rw other.0 at is in first (has o.closed.order p) (is_needed (open_without os number) p) (is_needed os p) left (needed-without os number p))
+]
+  where
+    first : (a b c : Bool) → cond a true b ≡ true → (b ≡ true → c ≡ true) → cond a true c ≡ true
+    first true b c is later = refl
+    first false b c is later = later is
+
+within : (b c : Bool) → (b ≡ true → c ≡ true) → cond b c false ≡ b
+within true c gives = gives refl
+within false c gives = refl
+
+-- the closures of open connections
+closed-push : (pairs : List Pair) (os : List Open) (o : Open) → AreClosed pairs os → closed_of pairs o.root ≡ Ok o.closed → AreClosed pairs (os ++ o ∷ [])
+closed-push pairs [] o are is = (is, tt)
+closed-push pairs (x ∷ os) o are is = (are.0, closed-push pairs os o are.1 is)
+
+closed-without : (pairs : List Pair) (os : List Open) (number : ℕ) → AreClosed pairs os → AreClosed pairs (open_without os number)
+closed-without pairs [] number are = are
+closed-without pairs (o ∷ os) number are = elim (eqb_tells o.number number) [ inl same ↦ rw same.0 are.1 | inr other ↦ rw other.0 (are.0, closed-without pairs os number are.1) ]
+
+-- what holds of a state
+record IsSound (pairs : List Pair) (s : State) : Type 0 where
+  store : s.pairs ≡ pairs
+  closures : AreClosed pairs s.connections
+  same : (p : ℕ) → is_present s.present p ≡ is_needed s.connections p
+
+after-prepare : (pairs : List Pair) (s t : State) (name : List ℕ) (number : ℕ) → IsSound pairs s → Prepares s name number t → IsSound pairs t
+after-prepare pairs s t name number sound step =
+    let o : Open = record { number = s.given; root = step.closure.has.root; closed = step.closure.closed } in
+    let closes : closed_of pairs o.root ≡ Ok o.closed = ap (λ ps. closed_of ps o.root) (sym sound.store) ∙ step.closure.is in
+    record {
+      store = step.pairs ∙ sound.store;
+      closures = subst (AreClosed pairs) (sym step.connections) (closed-push pairs s.connections o sound.closures closes);
+      same = λ p.
+          ap (λ fs. is_present fs p) step.present ∙ present-either s.present step.fresh p
+          ∙ ap (λ b. cond (is_present s.present p) true b) (present-position step.fresh p ∙ ap (λ ps. has ps p) step.prepared.are.are ∙ has-new s.present o.closed.order p)
+          ∙ both (is_present s.present p) (has o.closed.order p) ∙ ap (λ b. cond b true (has o.closed.order p)) (sound.same p)
+          ∙ sym (needed-either s.connections o p) ∙ ap (λ os. is_needed os p) (sym step.connections);
+    }
+
+after-close : (pairs : List Pair) (s t : State) (number : ℕ) → IsSound pairs s → Closes s number t → IsSound pairs t
+after-close pairs s t number sound step =
+    record {
+      store = step.pairs ∙ sound.store;
+      closures = subst (AreClosed pairs) (sym step.connections) (closed-without pairs s.connections number sound.closures);
+      same = λ p.
+          ap (λ fs. is_present fs p) step.present ∙ present-needed t.connections s.present p ∙ ap (λ b. cond (is_needed t.connections p) b false) (sound.same p)
+          ∙ within (is_needed t.connections p) (is_needed s.connections p) (λ is. needed-without s.connections number p (ap (λ os. is_needed os p) (sym step.connections) ∙ is));
+    }
+
+after-all : (pairs : List Pair) (s t : State) (steps : List Step) → IsSound pairs s → Runs s steps t → IsSound pairs t
+after-all pairs s t [] sound run = subst (IsSound pairs) (sym run) sound
+after-all pairs s t (prepared name number ∷ steps) sound run = after-all pairs run.0 t steps (after-prepare pairs s run.0 name number sound run.1) run.2
+after-all pairs s t (closed number ∷ steps) sound run = after-all pairs run.0 t steps (after-close pairs s run.0 number sound run.1) run.2
+
+fresh-sound : (pairs : List Pair) (limit : ℕ) → IsSound pairs (fresh_state pairs limit)
+fresh-sound pairs limit = record { store = refl; closures = tt; same = λ p. refl }
+
+pub run-present : (pairs : List Pair) (limit : ℕ) (steps : List Step) (t : State) (p : ℕ) → Runs (fresh_state pairs limit) steps t → is_present t.present p ≡ is_needed t.connections p
+run-present pairs limit steps t p run = (after-all pairs (fresh_state pairs limit) t steps (fresh-sound pairs limit) run).same p
+
+pub run-closed : (pairs : List Pair) (limit : ℕ) (steps : List Step) (t : State) → Runs (fresh_state pairs limit) steps t → AreClosed pairs t.connections
+run-closed pairs limit steps t run = (after-all pairs (fresh_state pairs limit) t steps (fresh-sound pairs limit) run).closures

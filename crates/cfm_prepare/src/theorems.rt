@@ -1,0 +1,20 @@
+//! Laws of the definitions, for the proofs of other crates. The functions do nothing.
+ghost use Rattle.std.specs.Prelude.{◌≡◌, ℕ, List, true};
+ghost use Rattle.cfm_closure.specs.Stores.{Pair};
+ghost use Rattle.cfm_prepare.specs.Contexts.{State, fresh_state, is_needed};
+ghost use Rattle.cfm_prepare.specs.Fragments.{is_present, places_of};
+ghost use Rattle.cfm_prepare.specs.Runs.{AreClosed, Keeps, Runs, Step, Takes};
+
+/// After any list of preparations and closings, a fragment is present exactly where the closure of an open
+/// connection has it; and these closures are those of the connections' roots.
+pub fn present_fragments()
+    ensures present { (pairs : List Pair) (limit : ℕ) (steps : List Step) (t : State) (p : ℕ) → Runs (fresh_state pairs limit) steps t → is_present t.present p ≡ is_needed t.connections p }
+    ensures closed { (pairs : List Pair) (limit : ℕ) (steps : List Step) (t : State) → Runs (fresh_state pairs limit) steps t → AreClosed pairs t.connections }
+{}
+
+/// A fragment that is present before and after a step, behind any list of steps, keeps the places of its
+/// sections and their bytes.
+pub fn kept_fragments()
+    ensures { (pairs : List Pair) (limit : ℕ) (steps : List Step) (s t : State) (step : Step) (p : ℕ) → Runs (fresh_state pairs limit) steps s → Takes s step t → is_present s.present p ≡ true → is_present t.present p ≡ true
+        → (places_of t.present p ≡ places_of s.present p) × Keeps s.memory t.memory (places_of s.present p) }
+{}
