@@ -37,17 +37,23 @@ fn check_all(
 /// One transition vector after another.
 const VECTORS: &[(u32, Base)] = &[(0, S0), (4, S1), (8, S0), (12, S1)];
 
-const TRANSITION: Labelled = (
-    VECTORS,
-    &[0, 1],
-    &[
-        2, 1, 2, 3, 2, 3, 3, 2, 3, //
-        3, 2, 3, 2, 3, 3, 3, 3, 3, //
-        2, 1, 2, 2, 2, 2, 2, 2, 2, //
-        1, 1, 1, 1, 1, 1, 1, 1, 1, //
-        0, 0, 0, 0, 0, 0, 0, 0, 0,
-    ],
-);
+/// The same, a word later.
+const VECTORS_LATER: &[(u32, Base)] = &[(4, S0), (8, S1), (12, S0), (16, S1)];
+
+const TRANSITION_LABELS: &[u32] = &[
+    2, 1, 2, 3, 2, 3, 3, 2, 3, //
+    3, 2, 3, 2, 3, 3, 3, 3, 3, //
+    2, 1, 2, 2, 2, 2, 2, 2, 2, //
+    1, 1, 1, 1, 1, 1, 1, 1, 1, //
+    0, 0, 0, 0, 0, 0, 0, 0, 0,
+];
+
+const TRANSITION: Labelled = (VECTORS, &[0, 1], TRANSITION_LABELS);
+
+const TRANSITION_LATER: Labelled = (VECTORS_LATER, &[0, 1], TRANSITION_LABELS);
+
+/// The greatest label that can be written.
+const MOST: u32 = 4_294_967_295;
 
 /// Nothing to make.
 const NOTHING: Labelled = (&[], &[], &[0]);
@@ -57,6 +63,13 @@ const VTABLE: Labelled = (
     &[(0, S1), (1028, S1)],
     &[1],
     &[2, 3, 2, 3, 1, 1, 1, 1, 0, 0, 0, 0],
+);
+
+/// Behind `VTable8 1` the second word lies 1,024 bytes ahead, 4 more than a skip can go.
+const VTABLE_SHORT: Labelled = (
+    &[(0, S1), (1032, S1)],
+    &[1],
+    &[3, 3, 3, 3, 1, 1, 1, 1, 0, 0, 0, 0],
 );
 
 const VTABLE_FAR: Labelled = (
@@ -171,10 +184,13 @@ fn least_programs(rt: HostRuntime) -> Result<(), Fail> {
         &[1, 1, 1, 2, 0, 0, 0, 1, 1, 1, 1, 1, 0, 0, 0, 0],
     );
     let far: Labelled = (&[(5116, S1)], &[1], &[0, 0, 1, 1, 0, 0, 0, 0]);
-    let rows: [(Labelled, &[u8]); 32] = [
+    let rows: [(Labelled, &[u8]); 35] = [
         (NOTHING, &[]),
         (TRANSITION, &[0x46, 0x01]),
+        // A skip that could add the first vector's two words would be shorter.
+        (TRANSITION_LATER, &[0x80, 0x03, 0x46, 0x01]),
         (VTABLE, &[0x48, 0x00, 0x3F, 0xC1]),
+        (VTABLE_SHORT, &[0x42, 0x00, 0x84, 0x03, 0x42, 0x00]),
         (VTABLE_FAR, &[0x48, 0x00, 0x8F, 0xFF, 0x3F, 0xC1]),
         (SPACED, &[0x64, 0x02, 0x48, 0x02]),
         (SKIPPED, &[0x64, 0x02, 0x00, 0x43]),
@@ -208,6 +224,10 @@ fn least_programs(rt: HostRuntime) -> Result<(), Fail> {
             alone(&[(5116, S0)], &[0]),
             &[0xA0, 0x00, 0x13, 0xFC, 0x40, 0x00],
         ),
+        (
+            alone(&[(5120, S1)], &[1]),
+            &[0xA0, 0x00, 0x14, 0x00, 0x42, 0x00],
+        ),
         (alone(&[(0, S0)], &[0]), &[0x40, 0x00]),
         (alone(&[(0, S0)], &[0]), &[0x66, 0x00]),
         (alone(&[(0, S1)], &[1]), &[0x42, 0x00]),
@@ -223,8 +243,11 @@ fn least_programs(rt: HostRuntime) -> Result<(), Fail> {
 /// Programs that make the fixups, but are longer than feasible labels say.
 #[test]
 fn longer_programs(rt: HostRuntime) -> Result<(), Fail> {
-    let rows: [(Labelled, &[u8]); 10] = [
+    let rows: [(Labelled, &[u8]); 12] = [
         (alone(&[(0, S1)], &[1]), &[0x00, 0x00, 0x42, 0x00]),
+        // The set that a skip needs counts once.
+        (SKIPPED, &[0x64, 0x02, 0x80, 0x03, 0x42, 0x02]),
+        (TRANSITION_LATER, &[0xA0, 0x00, 0x00, 0x04, 0x46, 0x01]),
         (alone(&[(0, S1)], &[1]), &[0x62, 0x01, 0x40, 0x00]),
         (alone(&[(1020, S1)], &[1]), &[0x83, 0xFB, 0x42, 0x00]),
         (
@@ -248,8 +271,11 @@ fn longer_programs(rt: HostRuntime) -> Result<(), Fail> {
 #[test]
 fn labels_too_high(rt: HostRuntime) -> Result<(), Fail> {
     let one: &[(u32, Base)] = &[(0, S1)];
+    let nothing: Labelled = (&[], &[], &[1]);
     let last: Labelled = (one, &[1], &[1, 1, 1, 1, 0, 1, 0, 0]);
-    let huge: Labelled = (one, &[1], &[4_294_967_295; 8]);
+    let huge: Labelled = (one, &[1], &[MOST; 8]);
+    // 2 more than the first labels is 1 in 32 bits.
+    let wrapped: Labelled = (&[(5, S1)], &[1], &[MOST, MOST, MOST, MOST, 0, 0, 0, 0]);
     let set_first: Labelled = (one, &[1], &[1, 1, 2, 2, 0, 0, 0, 0]);
     let vtable: Labelled = (
         &[(0, S1), (1028, S1)],
@@ -309,9 +335,11 @@ fn labels_too_high(rt: HostRuntime) -> Result<(), Fail> {
             0, 0, 0, 0, 0, 0, 0,
         ],
     );
-    let rows: [(Labelled, &[u8]); 15] = [
+    let rows: [(Labelled, &[u8]); 17] = [
+        (nothing, &[]),
         (last, &[0x42, 0x00]),
         (huge, &[0x42, 0x00]),
+        (wrapped, &[0x80, 0x04, 0x42, 0x00]),
         (set_first, &[0x62, 0x01, 0x40, 0x00]),
         (vtable, &[0x42, 0x00, 0x83, 0xFF, 0x42, 0x00]),
         (pair, &[0x46, 0x00, 0x83, 0xFF, 0x42, 0x00]),
@@ -443,11 +471,18 @@ fn long_runs(rt: HostRuntime) -> Result<(), Fail> {
     let two_runs = [Instr::BySectD(1), Instr::BySectD(511)];
     let skip = [Instr::BySectDWithSkip { skip: 1, count: 63 }];
     let no_skip = [Instr::IncrPosition(4), Instr::BySectD(63)];
-    let rows: [(u32, u32, &[Instr], u32, bool); 6] = [
+    let run_and_one = [Instr::BySectD(512), Instr::BySectD(1)];
+    let skip_and_one = [
+        Instr::BySectDWithSkip { skip: 1, count: 63 },
+        Instr::BySectD(1),
+    ];
+    let rows: [(u32, u32, &[Instr], u32, bool); 8] = [
         (0, 512, &run, 1, true),
         (0, 512, &two_runs, 1, false),
         (0, 512, &two_runs, 2, false),
+        (0, 513, &run_and_one, 2, true),
         (4, 63, &skip, 1, true),
+        (4, 64, &skip_and_one, 1, true),
         (4, 63, &no_skip, 1, false),
         (4, 63, &no_skip, 2, false),
     ];
@@ -465,13 +500,8 @@ fn long_runs(rt: HostRuntime) -> Result<(), Fail> {
     Ok(())
 }
 
-#[test]
-fn rows_are_kept(rt: HostRuntime) -> Result<(), Fail> {
-    let alloc = rt.alloc();
-    let mut rows = LabelRows::new(alloc, 2);
-    for row in [[1, 2], [1, 2], [0, 0], [1, 2]] {
-        push(&rt, &mut rows, &row)?;
-    }
+/// Checks that the rows are two of 1 2, one of 0 0 and one of 1 2, and that equal neighbours are kept once.
+fn assert_runs(rt: &impl Abort, rows: &LabelRows) -> Result<(), Fail> {
     assert_eq!(rt; rows.rows(), 4);
     let mut runs = rows.runs();
     for want in [(2, [1, 2]), (1, [0, 0]), (1, [1, 2])] {
@@ -484,6 +514,19 @@ fn rows_are_kept(rt: HostRuntime) -> Result<(), Fail> {
         }
     }
     assert!(rt; runs.next_run().is_none());
+    Ok(())
+}
+
+#[test]
+fn rows_are_kept(rt: HostRuntime) -> Result<(), Fail> {
+    let alloc = rt.alloc();
+    let mut rows = LabelRows::new(alloc, 2);
+    for row in [[1, 2], [1, 2], [0, 0], [1, 2]] {
+        push(&rt, &mut rows, &row)?;
+    }
+    assert_runs(&rt, &rows)?;
+    let same = LabelRows::from_labels(alloc, 4, 2, &[1, 2, 1, 2, 0, 0, 1, 2])?;
+    assert_runs(&rt, &same)?;
     let certificate = Certificate::new(3, Vec::new(alloc), Vec::from_slice(alloc, &[1, 2])?, rows);
     assert_eq!(rt; certificate.section(), 3);
     assert!(rt; certificate.program().is_empty());
