@@ -15,6 +15,7 @@ mod PathLemmas
 mod Pigeons
 mod PlaceLemmas
 mod Ranks
+mod SymbolLemmas
 mod TableLemmas
 mod WalkFacts
 mod WalkRules
