@@ -67,22 +67,22 @@ first_in_places : (t : ExportTable) (name : List ℕ) (word : ℕ) (o : Option �
     → first_among (named_at t name) (slot_first word) (slot_first word + slot_count word - slot_first word) ≡ o → o ≡ first_among (named_at t name) 0 t.count
 first_in_places t name word None leads is none =
     sym (first_among-none (named_at t name) 0 t.count (λ i low high.
-      elim (leb_tells (slot_first word) i) [
-        | inl from ↦ (let l = from.1 in elim (leb_tells (slot_first word + slot_count word) i) [
-            | inl beyond ↦ past_places t name word i leads is (λ counted. absurd (let a = counted.high in let b = beyond.1 in omega arith))
-            | inr within ↦ (let w = within.1 in none_among (named_at t name) (slot_first word) (slot_first word + slot_count word - slot_first word) i none l (omega arith))
-          ])
-        | inr before ↦ past_places t name word i leads is (λ counted. absurd (let a = counted.low in let b = before.1 in omega arith))
-      ]))
+    elim (leb_tells (slot_first word) i) [
+      | inl from ↦ (let l = from.1 in elim (leb_tells (slot_first word + slot_count word) i) [
+        | inl beyond ↦ past_places t name word i leads is (λ counted. absurd (let a = counted.high in let b = beyond.1 in omega arith))
+        | inr within ↦ (let w = within.1 in none_among (named_at t name) (slot_first word) (slot_first word + slot_count word - slot_first word) i none l (omega arith))
+      ])
+      | inr before ↦ past_places t name word i leads is (λ counted. absurd (let a = counted.low in let b = before.1 in omega arith))
+    ]))
 first_in_places t name word (Some x) leads is some =
     let r = some_among (named_at t name) (slot_first word) (slot_first word + slot_count word - slot_first word) x some in
     let under : r.at < t.count = named_inside t name r.at (named_only (name_of t r.at) name r.at x r.is).1 in
     let e : 0 + r.at ≡ r.at = omega arith in
     sym (first_among-at (named_at t name) 0 t.count r.at x under (λ i low high.
-      elim (leb_tells (slot_first word) i) [
-        | inl from ↦ r.before i from.1 (omega arith)
-        | inr before ↦ past_places t name word i leads is (λ counted. absurd (let a = counted.low in let b = before.1 in omega arith))
-      ]) (rw e r.is))
+    elim (leb_tells (slot_first word) i) [
+      | inl from ↦ r.before i from.1 (omega arith)
+      | inr before ↦ past_places t name word i leads is (λ counted. absurd (let a = counted.low in let b = before.1 in omega arith))
+    ]) (rw e r.is))
 
 pub chain_named : (t : ExportTable) (name : List ℕ) (word : ℕ) → LeadsToAll t → slot_word_of t (slot (hash_word name) t.power) ≡ Some word
     → first_among (named_at t name) (slot_first word) (slot_first word + slot_count word - slot_first word) ≡ export_named t name
@@ -122,9 +122,9 @@ same_slot : (t : ExportTable) (s word i k : ℕ) → AreSlotsInTurn t → slot_w
 same_slot t s word i k turn there counted p =
     elim (leb_tells s (slot k t.power)) [
       | inl low ↦ elim (leb_tells (slot k t.power) s) [
-          | inl high ↦ (let a = low.1 in let b = high.1 in omega arith)
-          | inr behind ↦ absurd (let less = turn.turn s (slot k t.power) word p.word i i behind.1 (slot_inside t (slot k t.power) p.word p.is) there p.is counted p.counted in omega arith)
-        ]
+        | inl high ↦ (let a = low.1 in let b = high.1 in omega arith)
+        | inr behind ↦ absurd (let less = turn.turn s (slot k t.power) word p.word i i behind.1 (slot_inside t (slot k t.power) p.word p.is) there p.is counted p.counted in omega arith)
+      ]
       | inr before ↦ absurd (let less = turn.turn (slot k t.power) s p.word word i i before.1 (slot_inside t s word there) p.is there p.counted counted in omega arith)
     ]
 
@@ -158,19 +158,19 @@ turn_none t = record {
 counts_between : (t : ExportTable) (s word old end : ℕ) → slot_word_of t s ≡ Some word → ((i : ℕ) → IsCounted word i → (old ≤ i) × (i < end)) → old ≤ end → AreInTurnTo t s old → AreInTurnTo t (s + 1) end
 counts_between t s word old end there between rise turn = record {
   before = λ r v i less is counted. elim (eqb_tells r s) [
-      | inl same ↦ (let e : slot_word_of t s ≡ Some v = rw same.1 at is in
-          let w : v ≡ word = some_same v word (sym e ∙ there) in
-          (between i (rw w at counted)).1)
-      | inr other ↦ (let apart = other.1 in let low = turn.before r v i (omega arith) is counted in omega arith)
-    ];
+    | inl same ↦ (let e : slot_word_of t s ≡ Some v = rw same.1 at is in
+        let w : v ≡ word = some_same v word (sym e ∙ there) in
+        (between i (rw w at counted)).1)
+    | inr other ↦ (let apart = other.1 in let low = turn.before r v i (omega arith) is counted in omega arith)
+  ];
   turn = λ q r v w i j before less is is' counted counted'. elim (eqb_tells r s) [
-      | inl same ↦ (let at = same.1 in let e : slot_word_of t s ≡ Some w = rw same.1 at is' in
-          let e' : w ≡ word = some_same w word (sym e ∙ there) in
-          let low = turn.before q v i (omega arith) is counted in
-          let high = (between j (rw e' at counted')).0 in
-          omega arith)
-      | inr other ↦ (let apart = other.1 in turn.turn q r v w i j before (omega arith) is is' counted counted')
-    ];
+    | inl same ↦ (let at = same.1 in let e : slot_word_of t s ≡ Some w = rw same.1 at is' in
+        let e' : w ≡ word = some_same w word (sym e ∙ there) in
+        let low = turn.before q v i (omega arith) is counted in
+        let high = (between j (rw e' at counted')).0 in
+        omega arith)
+    | inr other ↦ (let apart = other.1 in turn.turn q r v w i j before (omega arith) is is' counted counted')
+  ];
 }
 
 pub turn_empty : (t : ExportTable) (s word end : ℕ) → slot_word_of t s ≡ Some word → slot_count word ≡ 0 → AreInTurnTo t s end → AreInTurnTo t (s + 1) end

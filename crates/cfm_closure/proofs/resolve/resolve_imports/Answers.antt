@@ -37,8 +37,8 @@ loop-j-preserved c =
       are = c.in_ok-resolve.ensures.rows;
       kept = λ p j was. kept p j (c.loop-j.invariant.kept p j was);
       known = λ k less. elim (eqb_tells k c.loop-j.j) [
-          | inl same ↦ rw same.1 known
-          | inr other ↦ (let apart = other.1 in kept c.args.p k (c.loop-j.invariant.known k (omega arith)))
-        ];
+        | inl same ↦ rw same.1 known
+        | inr other ↦ (let apart = other.1 in kept c.args.p k (c.loop-j.invariant.known k (omega arith)))
+      ];
       rest = sym (first_among-next (import_refusal pairs c.args.p) c.loop-j.j (import_count pairs c.args.p) under (ap result_err c.in_ok-resolve.ensures.answer)) ∙ c.loop-j.invariant.rest;
     }
