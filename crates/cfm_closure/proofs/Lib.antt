@@ -16,6 +16,7 @@ mod Pigeons
 mod PlaceLemmas
 mod Ranks
 mod ReadLemmas
+mod SymbolLemmas
 mod TableLemmas
 mod TargetLemmas
 mod WalkFacts

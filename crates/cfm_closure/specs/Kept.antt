@@ -3,6 +3,7 @@ pub mod Bindings
 pub mod Hops
 pub mod Paths
 pub mod Places
+pub mod Symbols
 pub mod Taken
 pub mod Targets
 pub mod Views

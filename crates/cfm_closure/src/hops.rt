@@ -3,9 +3,11 @@ ghost use Rattle.pef_loader.specs.Export.{has_section};
 ghost use Rattle.pef_loader.specs.Views.{import_seen, loaded};
 ghost use Rattle.cfm_closure.specs.Targets.{hop, hop_by, hop_to};
 ghost use Rattle.cfm_closure.specs.Kept.Hops.{HasHop, IsHop, LeadsTo, StaysInside, StaysBelow};
+ghost use Rattle.cfm_closure.specs.Kept.Symbols.{AreSymbolsOf};
 
 use crate::bindings::Bindings;
 use crate::fault::BindFault;
+use crate::symbols::Symbols;
 use crate::targets::Target;
 use pef_loader::layout::{ABSOLUTE_EXPORT, REEXPORTED_IMPORT};
 use pef_loader::{ExportView, ImportView, Loader};
@@ -54,18 +56,21 @@ fn export_hop_at(fragment: usize, loader: Loader<'_>, e: usize) -> Hop
 }
 
 /// Where an import of a fragment of the closure order leads at once, or that its symbol is missing.
-#[tactic(auto, unfolding(crate::specs::Targets::hop))]
+#[tactic(auto, using(crate::proofs::SymbolLemmas::symbols_here, crate::proofs::SymbolLemmas::symbols_kept), unfolding(crate::specs::Targets::hop))]
 pub(crate) fn import_hop<'a>(
     bindings: &Bindings<'a>,
+    symbols: &mut Symbols<'a>,
     p: usize,
     j: usize,
 ) -> Result<Hop, BindFault<'a>>
-    requires { Contains bindings.now.order p }
+    requires place { Contains bindings.now.order p }
+    requires symbols { AreSymbolsOf bindings.now.pairs symbols.old }
+    ensures symbols { AreSymbolsOf bindings.now.pairs symbols.new }
     ensures answer { LeadsTo result (hop bindings.now.pairs p j) }
     ensures inside { IfOk result (λ h. StaysInside bindings.now.pairs bindings.now.order h) }
 {
     let fragment = bindings.fragment(p);
-    let symbol = match fragment.loader.import(j) {
+    let symbol = match symbols.import(p, fragment.loader, j) {
         Some(symbol) => symbol,
         None => return Ok(Hop::Ends(None)),
     };

@@ -17,6 +17,7 @@ mod init_order;
 mod libraries;
 mod resolve;
 mod store;
+mod symbols;
 mod targets;
 pub mod theorems;
 mod versions;

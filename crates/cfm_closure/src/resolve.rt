@@ -6,11 +6,13 @@ ghost use Rattle.cfm_closure.specs.Fragments.{import_count};
 ghost use Rattle.cfm_closure.specs.Stores.{pair_of};
 ghost use Rattle.cfm_closure.specs.Targets.{exports_among, symbol_of, target_of};
 ghost use Rattle.cfm_closure.specs.declared.targets.Target.{Target};
+ghost use Rattle.cfm_closure.specs.Kept.Symbols.{AreSymbolsOf};
 ghost use Rattle.cfm_closure.specs.Kept.Targets.{AreRows, AreTargets, IsInTable, IsKnown, IsOnWay, IsResolved, KeepsKnown, Passes, all_noted, noted};
 
 use crate::bindings::Bindings;
 use crate::fault::BindFault;
 use crate::hops::{Hop, import_hop};
+use crate::symbols::Symbols;
 use crate::targets::{Target, Targets};
 use std::alloc::{AllocError, Global};
 
@@ -77,6 +79,7 @@ fn endless<'a>(bindings: &Bindings<'a>, p: usize, j: usize) -> BindFault<'a>
 /// there, and tells the imports on the way.
 fn follow<'a>(
     bindings: &Bindings<'a>,
+    symbols: &mut Symbols<'a>,
     exports: usize,
     rows: &[Targets],
     way: &mut Vec<(usize, usize)>,
@@ -89,6 +92,8 @@ fn follow<'a>(
     requires few { exports ≤ 2 ^ 40 }
     requires rows { AreRows bindings.now.pairs bindings.now.order rows.now }
     requires way { way.old.items ≡ [] }
+    requires symbols { AreSymbolsOf bindings.now.pairs symbols.old }
+    ensures symbols { AreSymbolsOf bindings.now.pairs symbols.new }
     ensures answer { Answers (λ target. target) result (target_of bindings.now.pairs p j) }
     ensures way { OnOk result (AllByRecursion (IsOnWay bindings.now.pairs bindings.now.order (p, j)) way.new.items) }
 {
@@ -97,7 +102,7 @@ fn follow<'a>(
         if let Some(target) = rows[at.0].get(at.1) {
             return Ok(target);
         }
-        match import_hop(bindings, at.0, at.1)? {
+        match import_hop(bindings, symbols, at.0, at.1)? {
             Hop::Ends(target) => return Ok(target),
             Hop::Through { fragment, import } => at = (fragment, import),
         }
@@ -110,6 +115,7 @@ fn follow<'a>(
 fn resolve<'a>(
     alloc: Global,
     bindings: &Bindings<'a>,
+    symbols: &mut Symbols<'a>,
     exports: usize,
     rows: &mut [Targets],
     p: usize,
@@ -120,19 +126,22 @@ fn resolve<'a>(
     requires exports { exports ≡ exports_among bindings.now.pairs bindings.now.order }
     requires few { exports ≤ 2 ^ 40 }
     requires rows { AreRows bindings.now.pairs bindings.now.order rows.old }
+    requires symbols { AreSymbolsOf bindings.now.pairs symbols.old }
+    ensures symbols { AreSymbolsOf bindings.now.pairs symbols.new }
     ensures answer { Answers (λ target. target) result (target_of bindings.now.pairs p j) }
     ensures rows { AreRows bindings.now.pairs bindings.now.order rows.new }
     ensures kept { KeepsKnown rows.old rows.new }
     ensures known { OnOk result (IsKnown rows.new p j) }
 {
     let mut way = Vec::new(alloc);
-    let target = follow(bindings, exports, rows, &mut way, p, j)?;
+    let target = follow(bindings, symbols, exports, rows, &mut way, p, j)?;
     note_way(rows, &way, target);
     note(rows, p, j, target);
     Ok(target)
 }
 
 /// Resolves the imports of a fragment, import by import.
+#[tactic(auto, using(crate::proofs::SymbolLemmas::symbols_new))]
 fn resolve_imports<'a>(
     alloc: Global,
     bindings: &Bindings<'a>,
@@ -149,8 +158,10 @@ fn resolve_imports<'a>(
     ensures kept { KeepsKnown rows.old rows.new }
     ensures known { OnOk result (IsResolved bindings.now.pairs rows.new p) }
 {
+    let fragment = bindings.fragment(p);
+    let mut symbols = Symbols::new(p, fragment.loader);
     for j in 0..bindings.imports(p) {
-        resolve(alloc, bindings, exports, rows, p, j)?;
+        resolve(alloc, bindings, &mut symbols, exports, rows, p, j)?;
     }
     Ok(())
 }

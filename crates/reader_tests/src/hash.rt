@@ -1,4 +1,5 @@
 use pef_hash::{Entry, Exports, HashFault, build, hash_word, power_for, slot};
+use std::process::Abort;
 
 #[test]
 fn hash_words(rt: HostRuntime) {
@@ -68,11 +69,13 @@ fn table_of_go(slot: u32, key: u32) -> [u8; 18] {
 
 #[test]
 fn find(rt: HostRuntime) {
-    let rows: [(u32, u32, &[u8], Option<usize>); 8] = [
+    let rows: [(u32, u32, &[u8], Option<usize>); 10] = [
         (0x0004_0000, 0x0002_00A1, b"go", Some(0)),
-        // Another hash word, and a slot without keys.
+        // Another hash word, and a slot without keys, one that begins too far, and one that counts too many.
         (0x0004_0000, 0x0002_00A2, b"go", Some(0)),
         (0, 0x0002_00A1, b"go", Some(0)),
+        (0x0004_0001, 0x0002_00A1, b"go", Some(0)),
+        (0x0008_0000, 0x0002_00A1, b"go", Some(0)),
         (0x0004_0000, 0x0002_00A1, b"g", None),
         (0x0004_0000, 0x0002_00A1, b"gx", None),
         // Another length.
@@ -91,6 +94,81 @@ fn find(rt: HostRuntime) {
     }
     let none = Exports::new(30, 0, b"", b"go");
     assert_eq!(rt; none.find(b"go"), None);
+}
+
+/// The table of `a`, `b` and `c` in two slots, with other slot words or another last key.
+fn table_of_three(rt: &impl Abort, words: [u32; 5]) -> [u8; 50] {
+    let mut table = [0; 50];
+    for (i, word) in words.iter().enumerate() {
+        let [a, b, c, d] = word.to_be_bytes();
+        let at = 4 * i;
+        assert!(rt; at + 4 <= table.len());
+        table[at] = a;
+        table[at + 1] = b;
+        table[at + 2] = c;
+        table[at + 3] = d;
+    }
+    // Where their names begin in the strings.
+    table[33] = 1;
+    table[43] = 2;
+    table
+}
+
+#[test]
+fn find_among_three(rt: HostRuntime) {
+    // The slots of 61, 62 and 63 (hex) are 1, 1 and 0, so `c` comes first.
+    let rows = [
+        // A regular table, and one that is but for its last key.
+        [
+            0x0004_0000,
+            0x0008_0001,
+            0x0001_0063,
+            0x0001_0061,
+            0x0001_0062,
+        ],
+        [
+            0x0004_0000,
+            0x0008_0001,
+            0x0001_0063,
+            0x0001_0061,
+            0x0001_0064,
+        ],
+        // But for a count, one short and one over, and but for a first index that is one too far.
+        [
+            0x0004_0000,
+            0x0004_0001,
+            0x0001_0063,
+            0x0001_0061,
+            0x0001_0062,
+        ],
+        [
+            0x0008_0000,
+            0x0008_0001,
+            0x0001_0063,
+            0x0001_0061,
+            0x0001_0062,
+        ],
+        [
+            0x0004_0000,
+            0x0008_0002,
+            0x0001_0063,
+            0x0001_0061,
+            0x0001_0062,
+        ],
+    ];
+    for words in rows {
+        let table = table_of_three(&rt, words);
+        let exports = Exports::new(1, 3, &table, b"cab");
+        for (i, name) in [b"c", b"a", b"b"].iter().enumerate() {
+            assert_eq!(rt;
+                exports.find(name.as_slice()),
+                Some(i),
+                "words {words:?} export {i}"
+            );
+        }
+        assert_eq!(rt; exports.find(b"d"), None);
+        assert_eq!(rt; exports.find(b""), None);
+    }
 }
 
 #[test]

@@ -1,8 +1,8 @@
-use pef_loader::Loader;
 use pef_loader::layout::{
     ABSOLUTE_EXPORT, CODE_SYMBOL, DATA_SYMBOL, GLUE_SYMBOL, INIT_BEFORE, REEXPORTED_IMPORT,
     TOC_SYMBOL, TRANSITION_VECTOR_SYMBOL, WEAK_LIBRARY,
 };
+use pef_loader::{ImportReader, Loader};
 use pef_views::Container;
 use std::process::Abort;
 
@@ -250,10 +250,59 @@ fn libraries_and_imports(rt: HostRuntime) {
         assert_eq!(rt; import.library, *library);
     }
     assert!(rt; loader.import(3).is_none());
+    let mut reader = ImportReader::new(loader);
+    for (j, (name, class, weak, library)) in imports.iter().enumerate() {
+        let import = reader.import(j).expect(&rt, "an import");
+        assert_eq!(rt; import.name, *name, "import {j}");
+        assert_eq!(rt; (import.class, import.weak), (*class, *weak));
+        assert_eq!(rt; import.library, *library);
+    }
+    assert!(rt; reader.import(3).is_none());
     assert_eq!(rt;
         (loader.main(), loader.init(), loader.term()),
         (None, None, None)
     );
     assert_eq!(rt; (loader.relocs(), loader.exports()), (0, 0));
     assert_eq!(rt; loader.export_named(b""), None);
+}
+
+#[test]
+fn imports_of_two_blocks(rt: HostRuntime) {
+    // A loader section alone, with 2,050 imports and two libraries out of order: library 0 has the last
+    // two imports, and library 1 all but the last.
+    let words = [
+        (0, 0x4A6F_7921),
+        (4, 0x7065_6666),
+        (8, 0x7077_7063),
+        (12, 1),
+        (32, 0x0001_0000),
+        (40, 0xFFFF_FFFF),
+        (56, 8308),
+        (60, 68),
+        (64, 0x0404_0400),
+        // No entries.
+        (68, 0xFFFF_FFFF),
+        (76, 0xFFFF_FFFF),
+        (84, 0xFFFF_FFFF),
+        (92, 2),
+        (96, 2050),
+        (104, 8304),
+        (108, 8304),
+        (112, 8304),
+        // How many imports the libraries have, and the first of them.
+        (136, 2),
+        (140, 2048),
+        (160, 2049),
+        (164, 0),
+    ];
+    let bytes = changed(&rt, &[0; 8376], &words);
+    let container = Container::read(&bytes).expect(&rt, "a container");
+    let loader = Loader::read(&container).expect(&rt, "a loader section");
+    let mut reader = ImportReader::new(loader);
+    // In rising order, and back again.
+    for (j, library) in [(0, 1), (2047, 1), (2048, 0), (2049, 0), (2047, 1), (0, 1)] {
+        let import = reader.import(j).expect(&rt, "an import");
+        assert_eq!(rt; import.library, library, "import {j}");
+    }
+    assert!(rt; reader.import(2050).is_none());
 }

@@ -14,6 +14,7 @@ pub loop-hop-init : goal.loop-hop-init
 loop-hop-init c =
     let P = IsOnWay c.args.bindings.now.pairs c.args.bindings.now.order (c.args.p, c.args.j) in
     record {
+      symbols = c.requires.symbols;
       at = record { place = c.requires.place; import = c.requires.import; leads = refl };
       way = subst (AllByRecursion P) (sym c.requires.way) tt;
       far = hops-none c.args.bindings.now.pairs (c.args.p, c.args.j);
@@ -56,6 +57,7 @@ loop-hop-preserved c =
     let P = IsOnWay pairs order (c.args.p, c.args.j) in
     let here = on_way-more pairs order (c.args.p, c.args.j) at.0 at.1 q is.0 k c.loop-hop.invariant.at is.1 inside.0 inside.1 in
     record {
+      symbols = c.in_ok-target.ensures.symbols;
       at = here;
       way = subst (AllByRecursion P) (sym c.in_ok-push.ensures.items) (all-append P c.loop-hop.way.items ((q, k) ∷ []) c.loop-hop.invariant.way (here, tt));
       far = hops-more pairs c.loop-hop._hop (c.args.p, c.args.j) at.0 at.1 q is.0 k c.loop-hop.invariant.far is.1;
