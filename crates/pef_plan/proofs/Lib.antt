@@ -1,0 +1,3 @@
+pub mod Laws
+mod Leading
+mod Reaching
