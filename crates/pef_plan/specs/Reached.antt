@@ -11,13 +11,17 @@ use Rattle.pef_cert.specs.Extension.{extension_at}
 use Rattle.pef_cert.specs.Feasible.{AtFixup}
 
 -- an instruction that leads on from a state: it fits and is no repeat, it adds just the next of the fixups,
--- one or more or none, and these are left; behind it the extension is lower by its halfwords at least
-pub record LeadsOn (l : Labels) (s : State) (fixups : List Fixup) : Type 0 where
+-- one or more or none, and these are left; its halfwords and the extension behind it are at most a number
+pub record LeadsWithin (l : Labels) (s : State) (fixups : List Fixup) (n : ℕ) : Type 0 where
   pub instr : Instr
   pub left : List Fixup
   pub flat : is_flat_instr instr ≡ true
   pub delivers : Delivers instr s fixups left
-  pub falls : instr_length instr + extension_at l left (next_state instr s) ≤ extension_at l fixups s
+  pub falls : instr_length instr + extension_at l left (next_state instr s) ≤ n
+
+-- the extension falls by its halfwords at least
+abbrev pub LeadsOn : Labels → State → List Fixup → Type 0
+LeadsOn l s fixups = LeadsWithin l s fixups (extension_at l fixups s)
 
 -- there is one from each state at a fixup where others are left
 abbrev pub ReachedAt : Labels → ℕ → Fixup → List Fixup → Type 0
