@@ -86,7 +86,7 @@ label-change l index f rest c d c' d' stands under_c under_d under_c' under_d' =
     ]
 
 -- the section of a class that a word has
-base_counts : (l : Labels) (b : Base) (class : ℕ) → RegisteredBase l.registers b → has_class l.registers class b ≡ true → (k : ℕ) × (class_of l.registers k ≡ class) × (class < length l.registers)
+pub base_counts : (l : Labels) (b : Base) (class : ℕ) → RegisteredBase l.registers b → has_class l.registers class b ≡ true → (k : ℕ) × (class_of l.registers k ≡ class) × (class < length l.registers)
 base_counts l (Section k) class here has =
     elim (eqb_tells (class_of l.registers k) class) [
       | inl same ↦ (k, same.1, omega (arith, here, same.1))

@@ -98,20 +98,20 @@ base_of : Fixup → Base
 base_of f = f.base
 
 -- words of a section follow the fixup, and the tests of its state are met
-falls_row : (l : Labels) (index : ℕ) (f : Fixup) (rest left : List Fixup) (c d k n p w : ℕ) → adds_test l index f rest c d ≡ true → p ≡ f.offset → n < 512 → f ∷ rest ≡ row (suc n) p w (Section k) ++ left → (SectionTests l (l.label (length (f ∷ rest)) c d) k f rest c d → row_test l (l.label (length (f ∷ rest)) c d) w (Section k) c d 512 f.offset (f ∷ rest) ≡ true) → l.label (length (f ∷ rest)) c d ≤ 1 + extension l left (p + w * suc n) c d
+falls_row : (l : Labels) (label index : ℕ) (f : Fixup) (rest left : List Fixup) (c d k n p w : ℕ) → base_test l label index f rest c d f.base ≡ true → p ≡ f.offset → n < 512 → f ∷ rest ≡ row (suc n) p w (Section k) ++ left → (SectionTests l label k f rest c d → row_test l label w (Section k) c d 512 f.offset (f ∷ rest) ≡ true) → label ≤ 1 + extension l left (p + w * suc n) c d
 unfolding row
-falls_row l index f rest left c d k n p w met at few words choose =
+falls_row l label index f rest left c d k n p w met at few words choose =
     let base : f.base ≡ Section k = ap (λ (g : Fixup). g.base) (first_word f (added p (Section k)) rest (row n (p + w) w (Section k) ++ left) words) in
-    let tests = section_tests l (l.label (length (f ∷ rest)) c d) index k f rest c d (subst (λ (b : Base). base_test l (l.label (length (f ∷ rest)) c d) index f rest c d b ≡ true) base met) in
-    let low = row_test-holds l (l.label (length (f ∷ rest)) c d) w (Section k) c d 512 f.offset (f ∷ rest) (choose tests) n left few (words ∙ ap (λ q. row (suc n) q w (Section k) ++ left) at) in
+    let tests = section_tests l label index k f rest c d (subst (λ (b : Base). base_test l label index f rest c d b ≡ true) base met) in
+    let low = row_test-holds l label w (Section k) c d 512 f.offset (f ∷ rest) (choose tests) n left few (words ∙ ap (λ q. row (suc n) q w (Section k) ++ left) at) in
     let same = ap (λ q. extension l left (q + w * suc n) c d) at in
     omega (arith, low, same)
 
-falls_words : (l : Labels) (index : ℕ) (f : Fixup) (rest left : List Fixup) (c d k n p : ℕ) → adds_test l index f rest c d ≡ true → p ≡ f.offset → n < 512 → f ∷ rest ≡ row (suc n) p 4 (Section k) ++ left → (class_of l.registers k == c || class_of l.registers k == d) ≡ true → l.label (length (f ∷ rest)) c d ≤ 1 + extension l left (p + 4 * suc n) c d
-falls_words l index f rest left c d k n p met at few words either = falls_row l index f rest left c d k n p 4 met at few words (λ t. t.words either)
+falls_words : (l : Labels) (label index : ℕ) (f : Fixup) (rest left : List Fixup) (c d k n p : ℕ) → base_test l label index f rest c d f.base ≡ true → p ≡ f.offset → n < 512 → f ∷ rest ≡ row (suc n) p 4 (Section k) ++ left → (class_of l.registers k == c || class_of l.registers k == d) ≡ true → label ≤ 1 + extension l left (p + 4 * suc n) c d
+falls_words l label index f rest left c d k n p met at few words either = falls_row l label index f rest left c d k n p 4 met at few words (λ t. t.words either)
 
-falls_spaced : (l : Labels) (index : ℕ) (f : Fixup) (rest left : List Fixup) (c d k n p : ℕ) → adds_test l index f rest c d ≡ true → p ≡ f.offset → n < 512 → f ∷ rest ≡ row (suc n) p 8 (Section k) ++ left → (class_of l.registers k == d) ≡ true → l.label (length (f ∷ rest)) c d ≤ 1 + extension l left (p + 8 * suc n) c d
-falls_spaced l index f rest left c d k n p met at few words is = falls_row l index f rest left c d k n p 8 met at few words (λ t. t.spaced is)
+falls_spaced : (l : Labels) (label index : ℕ) (f : Fixup) (rest left : List Fixup) (c d k n p : ℕ) → base_test l label index f rest c d f.base ≡ true → p ≡ f.offset → n < 512 → f ∷ rest ≡ row (suc n) p 8 (Section k) ++ left → (class_of l.registers k == d) ≡ true → label ≤ 1 + extension l left (p + 8 * suc n) c d
+falls_spaced l label index f rest left c d k n p met at few words is = falls_row l label index f rest left c d k n p 8 met at few words (λ t. t.spaced is)
 
 -- the two tests of pairs that begin the fixups
 record PairTests (l : Labels) (label k j : ℕ) (c d p : ℕ) (fixups : List Fixup) : Type 0 where
@@ -134,34 +134,34 @@ second_tests l label k j c d w n f (g ∷ rest) left words is e =
     pair_tests l label k j c d f.offset (f ∷ g ∷ rest) is (subst (λ (b : Base). pair_test l label k c d f.offset (f ∷ g ∷ rest) b ≡ true) base e)
 
 -- pairs of sections follow the fixup
-falls_pairs : (l : Labels) (index : ℕ) (f : Fixup) (rest left : List Fixup) (c d k j n p w : ℕ) → adds_test l index f rest c d ≡ true → p ≡ f.offset → n < 512 → f ∷ rest ≡ pairs (suc n) p w (Section k) (Section j) ++ left → (class_of l.registers k == c) ≡ true → (class_of l.registers j == d) ≡ true → (PairTests l (l.label (length (f ∷ rest)) c d) k j c d f.offset (f ∷ rest) → pairs_test l (l.label (length (f ∷ rest)) c d) w (Section k) (Section j) c d 512 f.offset (f ∷ rest) ≡ true) → l.label (length (f ∷ rest)) c d ≤ 1 + extension l left (p + w * suc n) c d
+falls_pairs : (l : Labels) (label index : ℕ) (f : Fixup) (rest left : List Fixup) (c d k j n p w : ℕ) → base_test l label index f rest c d f.base ≡ true → p ≡ f.offset → n < 512 → f ∷ rest ≡ pairs (suc n) p w (Section k) (Section j) ++ left → (class_of l.registers k == c) ≡ true → (class_of l.registers j == d) ≡ true → (PairTests l label k j c d f.offset (f ∷ rest) → pairs_test l label w (Section k) (Section j) c d 512 f.offset (f ∷ rest) ≡ true) → label ≤ 1 + extension l left (p + w * suc n) c d
 unfolding pairs
-falls_pairs l index f rest left c d k j n p w met at few words is also choose =
+falls_pairs l label index f rest left c d k j n p w met at few words is also choose =
     let base : f.base ≡ Section k = ap (λ (g : Fixup). g.base) (first_word f (added p (Section k)) rest (added (p + 4) (Section j) ∷ (pairs n (p + w) w (Section k) (Section j) ++ left)) words) in
-    let tests = section_tests l (l.label (length (f ∷ rest)) c d) index k f rest c d (subst (λ (b : Base). base_test l (l.label (length (f ∷ rest)) c d) index f rest c d b ≡ true) base met) in
+    let tests = section_tests l label index k f rest c d (subst (λ (b : Base). base_test l label index f rest c d b ≡ true) base met) in
     let here : f ∷ rest ≡ pairs (suc n) f.offset w (Section k) (Section j) ++ left = words ∙ ap (λ q. pairs (suc n) q w (Section k) (Section j) ++ left) at in
-    let two = second_tests l (l.label (length (f ∷ rest)) c d) k j c d w n f rest left here also (tests.second is) in
-    let low = pairs_test-holds l (l.label (length (f ∷ rest)) c d) w (Section k) (Section j) c d 512 f.offset (f ∷ rest) (choose two) n left few here in
+    let two = second_tests l label k j c d w n f rest left here also (tests.second is) in
+    let low = pairs_test-holds l label w (Section k) (Section j) c d 512 f.offset (f ∷ rest) (choose two) n left few here in
     let same = ap (λ q. extension l left (q + w * suc n) c d) at in
     omega (arith, low, same)
 
 -- imports in turn follow the fixup
-falls_imports : (l : Labels) (index : ℕ) (f : Fixup) (rest left : List Fixup) (c d n p : ℕ) → adds_test l index f rest c d ≡ true → p ≡ f.offset → n < 512 → f ∷ rest ≡ numbered (suc n) p index ++ left → l.label (length (f ∷ rest)) c d ≤ 1 + extension l left (p + 4 * suc n) c d
+falls_imports : (l : Labels) (label index : ℕ) (f : Fixup) (rest left : List Fixup) (c d n p : ℕ) → base_test l label index f rest c d f.base ≡ true → p ≡ f.offset → n < 512 → f ∷ rest ≡ numbered (suc n) p index ++ left → label ≤ 1 + extension l left (p + 4 * suc n) c d
 unfolding numbered
-falls_imports l index f rest left c d n p met at few words =
+falls_imports l label index f rest left c d n p met at few words =
     let base : f.base ≡ Import index = ap (λ (g : Fixup). g.base) (first_word f (added p (Import index)) rest (numbered n (p + 4) (index + 1) ++ left) words) in
-    let tests = import_tests l (l.label (length (f ∷ rest)) c d) index index f rest c d (subst (λ (b : Base). base_test l (l.label (length (f ∷ rest)) c d) index f rest c d b ≡ true) base met) in
-    let low = numbered_test-holds l (l.label (length (f ∷ rest)) c d) c d 512 f.offset index (f ∷ rest) (tests.imports (eq-eqb index index refl)) n left few (words ∙ ap (λ q. numbered (suc n) q index ++ left) at) in
+    let tests = import_tests l label index index f rest c d (subst (λ (b : Base). base_test l label index f rest c d b ≡ true) base met) in
+    let low = numbered_test-holds l label c d 512 f.offset index (f ∷ rest) (tests.imports (eq-eqb index index refl)) n left few (words ∙ ap (λ q. numbered (suc n) q index ++ left) at) in
     let same = ap (λ q. extension l left (q + 4 * suc n) c d) at in
     omega (arith, low, same)
 
 -- the one fixup is added
-falls_single : (l : Labels) (index : ℕ) (f : Fixup) (rest left : List Fixup) (c d p n : ℕ) (b : Base) → adds_test l index f rest c d ≡ true → p ≡ f.offset → f ∷ rest ≡ added p b ∷ left → ((label : ℕ) → base_test l label index f rest c d b ≡ true → label ≤ n + extension l rest (f.offset + 4) c d) → l.label (length (f ∷ rest)) c d ≤ n + extension l left (p + 4) c d
-falls_single l index f rest left c d p n b met at words choose =
+falls_single : (l : Labels) (label index : ℕ) (f : Fixup) (rest left : List Fixup) (c d p n : ℕ) (b : Base) → base_test l label index f rest c d f.base ≡ true → p ≡ f.offset → f ∷ rest ≡ added p b ∷ left → ((x : ℕ) → base_test l x index f rest c d b ≡ true → x ≤ n + extension l rest (f.offset + 4) c d) → label ≤ n + extension l left (p + 4) c d
+falls_single l label index f rest left c d p n b met at words choose =
     let first = first_word f (added p b) rest left words in
     let others : rest ≡ left = cc in
     let base : f.base ≡ b = ap (λ (g : Fixup). g.base) first in
-    let low = choose (l.label (length (f ∷ rest)) c d) (subst (λ (x : Base). base_test l (l.label (length (f ∷ rest)) c d) index f rest c d x ≡ true) base met) in
+    let low = choose label (subst (λ (x : Base). base_test l label index f rest c d x ≡ true) base met) in
     let same = ap (λ fs. extension l fs (f.offset + 4) c d) others ∙ ap (λ q. extension l left (q + 4) c d) (sym at) in
     omega (arith, low, same)
 
@@ -187,64 +187,64 @@ any_cost k = go (nat_lt k 512)
     go true = omega arith
     go false = omega arith
 
--- what has to be shown
-abbrev Tested : Labels → Instr → State → Fixup → List Fixup → List Fixup → Type 0
-Tested l x s f rest left = label_at l (f ∷ rest) s ≤ instr_length x + extension_at l left (next_state x s)
+-- what has to be shown of a number that meets the tests of a state's label
+abbrev Tested : Labels → ℕ → Instr → State → List Fixup → Type 0
+Tested l label x s left = label ≤ instr_length x + extension_at l left (next_state x s)
 
-nothing_made : (l : Labels) (x : Instr) (s : State) (f : Fixup) (rest left : List Fixup) → f ∷ rest ≡ left → length left < length (f ∷ rest) → Tested l x s f rest left
-nothing_made l x s f rest left same shorter = let e = ap length same in absurd (omega (arith, e))
+nothing_made : (l : Labels) (label : ℕ) (x : Instr) (s : State) (f : Fixup) (rest left : List Fixup) → f ∷ rest ≡ left → length left < length (f ∷ rest) → Tested l label x s left
+nothing_made l label x s f rest left same shorter = let e = ap length same in absurd (omega (arith, e))
 
 count_under : (n : ℕ) → (nat_le 1 (suc n) && nat_le (suc n) 512) ≡ true → n < 512
 count_under n fits = let under = leb-true (suc n) 512 (met_both (nat_le 1 (suc n)) (nat_le (suc n) 512) fits).1 in omega (arith, under)
 
-tested : (l : Labels) (x : Instr) (s : State) (f : Fixup) (rest left : List Fixup) → adds_test l s.import_index f rest (class_of l.registers s.c) (class_of l.registers s.d) ≡ true → s.position ≡ f.offset → is_flat_instr x ≡ true → f ∷ rest ≡ additions x s ++ left → length left < length (f ∷ rest) → Tested l x s f rest left
+pub tested : (l : Labels) (label : ℕ) (x : Instr) (s : State) (f : Fixup) (rest left : List Fixup) → base_test l label s.import_index f rest (class_of l.registers s.c) (class_of l.registers s.d) f.base ≡ true → s.position ≡ f.offset → is_flat_instr x ≡ true → f ∷ rest ≡ additions x s ++ left → length left < length (f ∷ rest) → Tested l label x s left
 unfolding row pairs numbered
-tested l (BySectDWithSkip u zero) s f rest left met at flat words shorter = nothing_made l (BySectDWithSkip u zero) s f rest left words shorter
-tested l (BySectDWithSkip zero (suc t)) s f rest left met at flat words shorter =
+tested l label (BySectDWithSkip u zero) s f rest left met at flat words shorter = nothing_made l label (BySectDWithSkip u zero) s f rest left words shorter
+tested l label (BySectDWithSkip zero (suc t)) s f rest left met at flat words shorter =
     let few = leb-true (suc t) 63 (met_both (nat_le zero 255) (nat_le (suc t) 63) flat).1 in
     let here : s.position + 4 * zero ≡ f.offset = omega (arith, at) in
-    let low = falls_words l s.import_index f rest left (class_of l.registers s.c) (class_of l.registers s.d) s.d t (s.position + 4 * zero) met here (omega (arith, few)) words (or_second (class_of l.registers s.d == class_of l.registers s.c) (class_of l.registers s.d == class_of l.registers s.d) (eq-eqb (class_of l.registers s.d) (class_of l.registers s.d) refl)) in
+    let low = falls_words l label s.import_index f rest left (class_of l.registers s.c) (class_of l.registers s.d) s.d t (s.position + 4 * zero) met here (omega (arith, few)) words (or_second (class_of l.registers s.d == class_of l.registers s.c) (class_of l.registers s.d == class_of l.registers s.d) (eq-eqb (class_of l.registers s.d) (class_of l.registers s.d) refl)) in
     let end : s.position + 4 * zero + 4 * suc t ≡ s.position + (4 * zero + 4 * suc t) = omega arith in
     let same = ap (λ q. extension l left q (class_of l.registers s.c) (class_of l.registers s.d)) end in
     omega (arith, low, same)
-tested l (BySectDWithSkip (suc u) (suc t)) s f rest left met at flat words shorter =
+tested l label (BySectDWithSkip (suc u) (suc t)) s f rest left met at flat words shorter =
     let first = first_word f (added (s.position + 4 * suc u) (Section s.d)) rest (row t (s.position + 4 * suc u + 4) 4 (Section s.d) ++ left) words in
     let apart = ap (λ (g : Fixup). g.offset) first in
     absurd (omega (arith, at, apart))
-tested l (BySectC zero) s f rest left met at flat words shorter = absurd (cc)
-tested l (BySectC (suc n)) s f rest left met at flat words shorter =
-    falls_words l s.import_index f rest left (class_of l.registers s.c) (class_of l.registers s.d) s.c n s.position met at (count_under n flat) words (or_first (class_of l.registers s.c == class_of l.registers s.c) (class_of l.registers s.c == class_of l.registers s.d) (eq-eqb (class_of l.registers s.c) (class_of l.registers s.c) refl))
-tested l (BySectD zero) s f rest left met at flat words shorter = absurd (cc)
-tested l (BySectD (suc n)) s f rest left met at flat words shorter =
-    falls_words l s.import_index f rest left (class_of l.registers s.c) (class_of l.registers s.d) s.d n s.position met at (count_under n flat) words (or_second (class_of l.registers s.d == class_of l.registers s.c) (class_of l.registers s.d == class_of l.registers s.d) (eq-eqb (class_of l.registers s.d) (class_of l.registers s.d) refl))
-tested l (TVector12 zero) s f rest left met at flat words shorter = absurd (cc)
-tested l (TVector12 (suc n)) s f rest left met at flat words shorter =
-    falls_pairs l s.import_index f rest left (class_of l.registers s.c) (class_of l.registers s.d) s.c s.d n s.position 12 met at (count_under n flat) words (eq-eqb (class_of l.registers s.c) (class_of l.registers s.c) refl) (eq-eqb (class_of l.registers s.d) (class_of l.registers s.d) refl) (λ t. t.far)
-tested l (TVector8 zero) s f rest left met at flat words shorter = absurd (cc)
-tested l (TVector8 (suc n)) s f rest left met at flat words shorter =
-    falls_pairs l s.import_index f rest left (class_of l.registers s.c) (class_of l.registers s.d) s.c s.d n s.position 8 met at (count_under n flat) words (eq-eqb (class_of l.registers s.c) (class_of l.registers s.c) refl) (eq-eqb (class_of l.registers s.d) (class_of l.registers s.d) refl) (λ t. t.near)
-tested l (VTable8 zero) s f rest left met at flat words shorter = absurd (cc)
-tested l (VTable8 (suc n)) s f rest left met at flat words shorter =
-    falls_spaced l s.import_index f rest left (class_of l.registers s.c) (class_of l.registers s.d) s.d n s.position met at (count_under n flat) words (eq-eqb (class_of l.registers s.d) (class_of l.registers s.d) refl)
-tested l (ImportRun zero) s f rest left met at flat words shorter = absurd (cc)
-tested l (ImportRun (suc n)) s f rest left met at flat words shorter =
-    falls_imports l s.import_index f rest left (class_of l.registers s.c) (class_of l.registers s.d) n s.position met at (count_under n flat) words
-tested l (SmByImport k) s f rest left met at flat words shorter =
-    falls_single l s.import_index f rest left (class_of l.registers s.c) (class_of l.registers s.d) s.position 1 (Import k) met at words (λ label. single_import l label s.import_index k f rest (class_of l.registers s.c) (class_of l.registers s.d) 1 (small_cost k flat))
-tested l (SmSetSectC k) s f rest left met at flat words shorter = nothing_made l (SmSetSectC k) s f rest left words shorter
-tested l (SmSetSectD k) s f rest left met at flat words shorter = nothing_made l (SmSetSectD k) s f rest left words shorter
-tested l (SmBySection k) s f rest left met at flat words shorter =
-    falls_single l s.import_index f rest left (class_of l.registers s.c) (class_of l.registers s.d) s.position 1 (Section k) met at words (λ label. single_section l label s.import_index k f rest (class_of l.registers s.c) (class_of l.registers s.d) 1 (omega arith))
-tested l (IncrPosition k) s f rest left met at flat words shorter = nothing_made l (IncrPosition k) s f rest left words shorter
-tested l (SmRepeat blocks count) s f rest left met at flat words shorter = absurd (cc)
-tested l (SetPosition k) s f rest left met at flat words shorter = nothing_made l (SetPosition k) s f rest left words shorter
-tested l (LgByImport k) s f rest left met at flat words shorter =
-    falls_single l s.import_index f rest left (class_of l.registers s.c) (class_of l.registers s.d) s.position 2 (Import k) met at words (λ label. single_import l label s.import_index k f rest (class_of l.registers s.c) (class_of l.registers s.d) 2 (any_cost k))
-tested l (LgRepeat blocks count) s f rest left met at flat words shorter = absurd (cc)
-tested l (LgBySection k) s f rest left met at flat words shorter =
-    falls_single l s.import_index f rest left (class_of l.registers s.c) (class_of l.registers s.d) s.position 2 (Section k) met at words (λ label. single_section l label s.import_index k f rest (class_of l.registers s.c) (class_of l.registers s.d) 2 (omega arith))
-tested l (LgSetSectC k) s f rest left met at flat words shorter = nothing_made l (LgSetSectC k) s f rest left words shorter
-tested l (LgSetSectD k) s f rest left met at flat words shorter = nothing_made l (LgSetSectD k) s f rest left words shorter
+tested l label (BySectC zero) s f rest left met at flat words shorter = absurd (cc)
+tested l label (BySectC (suc n)) s f rest left met at flat words shorter =
+    falls_words l label s.import_index f rest left (class_of l.registers s.c) (class_of l.registers s.d) s.c n s.position met at (count_under n flat) words (or_first (class_of l.registers s.c == class_of l.registers s.c) (class_of l.registers s.c == class_of l.registers s.d) (eq-eqb (class_of l.registers s.c) (class_of l.registers s.c) refl))
+tested l label (BySectD zero) s f rest left met at flat words shorter = absurd (cc)
+tested l label (BySectD (suc n)) s f rest left met at flat words shorter =
+    falls_words l label s.import_index f rest left (class_of l.registers s.c) (class_of l.registers s.d) s.d n s.position met at (count_under n flat) words (or_second (class_of l.registers s.d == class_of l.registers s.c) (class_of l.registers s.d == class_of l.registers s.d) (eq-eqb (class_of l.registers s.d) (class_of l.registers s.d) refl))
+tested l label (TVector12 zero) s f rest left met at flat words shorter = absurd (cc)
+tested l label (TVector12 (suc n)) s f rest left met at flat words shorter =
+    falls_pairs l label s.import_index f rest left (class_of l.registers s.c) (class_of l.registers s.d) s.c s.d n s.position 12 met at (count_under n flat) words (eq-eqb (class_of l.registers s.c) (class_of l.registers s.c) refl) (eq-eqb (class_of l.registers s.d) (class_of l.registers s.d) refl) (λ t. t.far)
+tested l label (TVector8 zero) s f rest left met at flat words shorter = absurd (cc)
+tested l label (TVector8 (suc n)) s f rest left met at flat words shorter =
+    falls_pairs l label s.import_index f rest left (class_of l.registers s.c) (class_of l.registers s.d) s.c s.d n s.position 8 met at (count_under n flat) words (eq-eqb (class_of l.registers s.c) (class_of l.registers s.c) refl) (eq-eqb (class_of l.registers s.d) (class_of l.registers s.d) refl) (λ t. t.near)
+tested l label (VTable8 zero) s f rest left met at flat words shorter = absurd (cc)
+tested l label (VTable8 (suc n)) s f rest left met at flat words shorter =
+    falls_spaced l label s.import_index f rest left (class_of l.registers s.c) (class_of l.registers s.d) s.d n s.position met at (count_under n flat) words (eq-eqb (class_of l.registers s.d) (class_of l.registers s.d) refl)
+tested l label (ImportRun zero) s f rest left met at flat words shorter = absurd (cc)
+tested l label (ImportRun (suc n)) s f rest left met at flat words shorter =
+    falls_imports l label s.import_index f rest left (class_of l.registers s.c) (class_of l.registers s.d) n s.position met at (count_under n flat) words
+tested l label (SmByImport k) s f rest left met at flat words shorter =
+    falls_single l label s.import_index f rest left (class_of l.registers s.c) (class_of l.registers s.d) s.position 1 (Import k) met at words (λ x. single_import l x s.import_index k f rest (class_of l.registers s.c) (class_of l.registers s.d) 1 (small_cost k flat))
+tested l label (SmSetSectC k) s f rest left met at flat words shorter = nothing_made l label (SmSetSectC k) s f rest left words shorter
+tested l label (SmSetSectD k) s f rest left met at flat words shorter = nothing_made l label (SmSetSectD k) s f rest left words shorter
+tested l label (SmBySection k) s f rest left met at flat words shorter =
+    falls_single l label s.import_index f rest left (class_of l.registers s.c) (class_of l.registers s.d) s.position 1 (Section k) met at words (λ x. single_section l x s.import_index k f rest (class_of l.registers s.c) (class_of l.registers s.d) 1 (omega arith))
+tested l label (IncrPosition k) s f rest left met at flat words shorter = nothing_made l label (IncrPosition k) s f rest left words shorter
+tested l label (SmRepeat blocks count) s f rest left met at flat words shorter = absurd (cc)
+tested l label (SetPosition k) s f rest left met at flat words shorter = nothing_made l label (SetPosition k) s f rest left words shorter
+tested l label (LgByImport k) s f rest left met at flat words shorter =
+    falls_single l label s.import_index f rest left (class_of l.registers s.c) (class_of l.registers s.d) s.position 2 (Import k) met at words (λ x. single_import l x s.import_index k f rest (class_of l.registers s.c) (class_of l.registers s.d) 2 (any_cost k))
+tested l label (LgRepeat blocks count) s f rest left met at flat words shorter = absurd (cc)
+tested l label (LgBySection k) s f rest left met at flat words shorter =
+    falls_single l label s.import_index f rest left (class_of l.registers s.c) (class_of l.registers s.d) s.position 2 (Section k) met at words (λ x. single_section l x s.import_index k f rest (class_of l.registers s.c) (class_of l.registers s.d) 2 (omega arith))
+tested l label (LgSetSectC k) s f rest left met at flat words shorter = nothing_made l label (LgSetSectC k) s f rest left words shorter
+tested l label (LgSetSectD k) s f rest left met at flat words shorter = nothing_made l label (LgSetSectD k) s f rest left words shorter
 
 set_falls_c : (l : Labels) (index k n : ℕ) (f : Fixup) (rest : List Fixup) (s : State) → SetsHold l (length (f ∷ rest)) → AtFixup f index s → 1 ≤ n → label_at l (f ∷ rest) s ≤ n + extension_at l (f ∷ rest) (record s { c = k })
 set_falls_c l index k n f rest s sets at some =
@@ -271,5 +271,5 @@ feasible-tested l index f rest tests = record {
   sets = λ x s at flat is. sets_falls l index f rest x s tests.sets at is;
   adds = λ x s left at flat delivers shorter.
       let met = tests.adds (class_of l.registers s.c) (class_of l.registers s.d) (class_of-below l s.c) (class_of-below l s.d) in
-      tested l x s f rest left (subst (λ (i : ℕ). adds_test l i f rest (class_of l.registers s.c) (class_of l.registers s.d) ≡ true) (sym at.index_is) met) at.position flat delivers.is shorter;
+      tested l (label_at l (f ∷ rest) s) x s f rest left (subst (λ (i : ℕ). adds_test l i f rest (class_of l.registers s.c) (class_of l.registers s.d) ≡ true) (sym at.index_is) met) at.position flat delivers.is shorter;
 }

@@ -1,0 +1,4 @@
+-- What this crate offers to the proofs of others: facts of labels that are reached.
+
+-- labels that are feasible and reached are least lengths
+pub use Rattle.pef_plan.proofs.Reaching.{reached-exact, reached-least}

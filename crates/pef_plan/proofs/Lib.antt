@@ -1,0 +1,11 @@
+pub mod Laws
+mod FillLemmas
+mod KnownLemmas
+mod Leading
+mod LineLemmas
+mod Reaching
+mod RegisterLemmas
+mod RowLemmas
+mod RunFacts
+mod RunTests
+mod SkipFacts

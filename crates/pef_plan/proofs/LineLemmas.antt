@@ -1,0 +1,146 @@
+-- Lines and squares of numbers: filled place by place, and the least of them.
+use Rattle.std.proofs.Common.{◌≡◌, ℕ, ◌+◌, ◌<◌, ◌≤◌, ◌⊎◌, inl, inr, min, List, [], length, slice_index, refl, ap, sym, ◌∙◌, subst, arith}
+use Rattle.std.specs.Prelude.{slice_index_or, slice_set}
+use Rattle.std.proofs.lemmas.Bool.Decides.{eqb_tells}
+use Rattle.std.proofs.lemmas.List.{get_or-set_other, get_or-set_same}
+use Rattle.pef_plan.specs.Kept.Rows.{ClosedOf, LeastOf, LineOf, LinesOf, SmallLine, SmallSquare}
+use Rattle.pef_plan.specs.Kept.Tables.{number_in}
+
+-- one more place is filled
+pub line-set : (P : ℕ → ℕ → Type 0) (line : List ℕ) (i x : ℕ) → i < length line → ((j : ℕ) → j < i → P j (slice_index line j)) → P i x → (j : ℕ) → j < i + 1 → P j (slice_index (slice_set line i x) j)
+line-set P line i x inside are is j under =
+    elim (eqb_tells j i) [
+      | inl same ↦ subst (λ (y : ℕ). P y (slice_index (slice_set line i x) y)) (sym same.1) (subst (λ (v : ℕ). P i v) (sym (get_or-set_same line i x 0 inside)) is)
+      | inr other ↦ (let apart = other.1 in subst (λ (v : ℕ). P j v) (sym (get_or-set_other line i j x 0 other.1)) (are j (omega (arith, under))))
+    ]
+
+pub square-set : (P : ℕ → List ℕ → Type 0) (square : List (List ℕ)) (i : ℕ) (x : List ℕ) → i < length square → ((j : ℕ) → j < i → P j (slice_index_or square j [])) → P i x → (j : ℕ) → j < i + 1 → P j (slice_index_or (slice_set square i x) j [])
+square-set P square i x inside are is j under =
+    elim (eqb_tells j i) [
+      | inl same ↦ subst (λ (y : ℕ). P y (slice_index_or (slice_set square i x) y [])) (sym same.1) (subst (λ (v : List ℕ). P i v) (sym (get_or-set_same square i x [] inside)) is)
+      | inr other ↦ (let apart = other.1 in subst (λ (v : List ℕ). P j v) (sym (get_or-set_other square i j x [] other.1)) (are j (omega (arith, under))))
+    ]
+
+min_is : (v w : ℕ) → (min v w ≡ v) ⊎ (min v w ≡ w)
+min_is v w = grind arith
+
+-- the least of one more number
+pub least-more : (i : ℕ) (f : ℕ → ℕ) (low next : ℕ) → LeastOf i f low → f i ≡ next → LeastOf (i + 1) f (min low next)
+least-more i f low next l is =
+    elim (min_is low next) [
+      | inl first ↦ record { low = λ x under. below x under; at = l.at; under = (let u = l.under in omega (arith, u)); is = l.is ∙ sym first }
+      | inr second ↦ record { low = λ x under. below x under; at = i; under = omega arith; is = is ∙ sym second }
+    ]
+  where
+    below : (x : ℕ) → x < i + 1 → min low next ≤ f x
+    below x under =
+        elim (eqb_tells x i) [
+          | inl same ↦ (let e = ap f same.1 in omega (arith, e, is))
+          | inr other ↦ (let apart = other.1 in let u = l.low x (omega (arith, under)) in omega (arith, u))
+        ]
+
+pub least-one : (f : ℕ → ℕ) (low : ℕ) → f 0 ≡ low → LeastOf 1 f low
+least-one f low is = record {
+  low = λ x under. let zero : x ≡ 0 = omega (arith, under) in let e = ap f zero in omega (arith, e, is);
+  at = 0;
+  under = omega arith;
+  is = is;
+}
+
+pub least-count : (m n : ℕ) (f : ℕ → ℕ) (low : ℕ) → LeastOf m f low → m ≡ n → LeastOf n f low
+least-count m n f low l same = subst (λ (k : ℕ). LeastOf k f low) same l
+
+-- a number of a line of labels, from the least along the line and in its column
+pub record NumberOf (count : ℕ) (direct : List ℕ) (low same lows number : ℕ) : Type 0 where
+  pub here : number ≤ same
+  pub column : number ≤ lows + 1
+  pub along : (e : ℕ) → e < count → number ≤ slice_index direct e + 1
+  pub all : number ≤ low + 2
+  pub is : ((number ≡ same) ⊎ (number ≡ lows + 1)) ⊎ (((e : ℕ) × (e < count) × (number ≡ slice_index direct e + 1)) ⊎ (number ≡ low + 2))
+
+four_of : (a b s t n : ℕ) → n ≡ min (min a (b + 1)) (min s (t + 1) + 1) → ((n ≡ a) ⊎ (n ≡ b + 1)) ⊎ ((n ≡ s + 1) ⊎ (n ≡ t + 2))
+four_of a b s t n e = grind (arith, e)
+
+pub number-of : (count : ℕ) (direct : List ℕ) (low here column along number : ℕ) → LeastOf count (λ d. slice_index direct d) along → number ≡ min (min here (column + 1)) (min along (low + 1) + 1) → NumberOf count direct low here column number
+number-of count direct low here column along number l e = record {
+  here = omega (arith, e);
+  column = omega (arith, e);
+  along = λ x under. let u = l.low x under in omega (arith, e, u);
+  all = omega (arith, e);
+  is = elim (four_of here column along low number e) [
+    | inl first ↦ inl first
+    | inr second ↦ elim second [
+      | inl line ↦ inr (inl (l.at, l.under, line ∙ ap (λ v. v + 1) (sym l.is)))
+      | inr all ↦ inr (inr all)
+    ]
+  ];
+}
+
+pub line-of : (count : ℕ) (direct lows : List ℕ) (low : ℕ) (line : List ℕ) → ((d : ℕ) → d < count → NumberOf count direct low (slice_index direct d) (slice_index lows d) (slice_index line d)) → LineOf count direct lows low line
+line-of count direct lows low line each = record {
+  here = λ d under. (each d under).here;
+  column = λ d under. (each d under).column;
+  along = λ d e under other. (each d under).along e other;
+  all = λ d under. (each d under).all;
+  is = λ d under. (each d under).is;
+}
+
+-- the least over all changes
+pub closed-of : (count : ℕ) (direct square : List (List ℕ)) (lows : List ℕ) (low : ℕ) → ((d : ℕ) → d < count → LeastOf count (λ c. number_in direct c d) (slice_index lows d)) → LeastOf count (λ d. slice_index lows d) low → LinesOf count direct lows low square → ClosedOf count direct square
+closed-of count direct square lows low columns all lines = record {
+  below = λ c d under_c under_d. (lines c under_c).here d under_d;
+  c_line = λ c e d under_c under_e under_d. c_low c e d under_c under_e under_d ((lines e under_e).is d under_d);
+  d_line = λ c d e under_c under_d under_e. d_low c d e under_c under_d under_e ((lines c under_c).is e under_e);
+  from = λ c d under_c under_d. reach c d under_c under_d ((lines c under_c).is d under_d);
+}
+  where
+    Cases : (c d : ℕ) → Type 0
+    Cases c d = ((number_in square c d ≡ number_in direct c d) ⊎ (number_in square c d ≡ slice_index lows d + 1)) ⊎ (((e : ℕ) × (e < count) × (number_in square c d ≡ number_in direct c e + 1)) ⊎ (number_in square c d ≡ low + 2))
+    least_all : (c d : ℕ) → c < count → d < count → low ≤ number_in direct c d
+    least_all c d under_c under_d =
+        let one = all.low d under_d in
+        let two = (columns d under_d).low c under_c in
+        omega (arith, one, two)
+    c_low : (c e d : ℕ) → c < count → e < count → d < count → Cases e d → number_in square c d ≤ 1 + number_in square e d
+    c_low c e d under_c under_e under_d (inl (inl is)) =
+        let low = (columns d under_d).low e under_e in let mine = (lines c under_c).column d under_d in omega (arith, is, low, mine)
+    c_low c e d under_c under_e under_d (inl (inr is)) = let mine = (lines c under_c).column d under_d in omega (arith, is, mine)
+    c_low c e d under_c under_e under_d (inr (inl is)) =
+        let least = least_all e is.0 under_e is.1 in let mine = (lines c under_c).all d under_d in let same = is.2 in omega (arith, least, mine, same)
+    c_low c e d under_c under_e under_d (inr (inr is)) = let mine = (lines c under_c).all d under_d in omega (arith, is, mine)
+    d_low : (c d e : ℕ) → c < count → d < count → e < count → Cases c e → number_in square c d ≤ 1 + number_in square c e
+    d_low c d e under_c under_d under_e (inl (inl is)) = let mine = (lines c under_c).along d e under_d under_e in omega (arith, is, mine)
+    d_low c d e under_c under_d under_e (inl (inr is)) =
+        let least = all.low e under_e in let mine = (lines c under_c).all d under_d in omega (arith, is, least, mine)
+    d_low c d e under_c under_d under_e (inr (inl is)) = let mine = (lines c under_c).along d is.0 under_d is.1 in let same = is.2 in omega (arith, mine, same)
+    d_low c d e under_c under_d under_e (inr (inr is)) = let mine = (lines c under_c).all d under_d in omega (arith, is, mine)
+    reach : (c d : ℕ) → c < count → d < count → Cases c d → (number_in square c d ≡ number_in direct c d) ⊎ (((e : ℕ) × (e < count) × (1 + number_in square e d ≤ number_in square c d)) ⊎ ((e : ℕ) × (e < count) × (1 + number_in square c e ≤ number_in square c d)))
+    reach c d under_c under_d (inl (inl is)) = inl is
+    reach c d under_c under_d (inl (inr is)) =
+        let column = columns d under_d in
+        let there = (lines column.at column.under).here d under_d in
+        let same = column.is in
+        inr (inl (column.at, column.under, omega (arith, is, there, same)))
+    reach c d under_c under_d (inr (inl is)) =
+        let there = (lines c under_c).here is.0 is.1 in
+        let same = is.2 in
+        inr (inr (is.0, is.1, omega (arith, there, same)))
+    reach c d under_c under_d (inr (inr is)) =
+        let column = columns all.at all.under in
+        let there = (lines column.at column.under).along d all.at under_d all.under in
+        let one = column.is in
+        let two = all.is in
+        inr (inl (column.at, column.under, omega (arith, is, there, one, two)))
+
+-- all that is found in a square of small numbers is small
+pub small-lows : (count : ℕ) (direct : List (List ℕ)) (lows : List ℕ) → 0 < count → SmallSquare count direct → ((d : ℕ) → d < count → LeastOf count (λ c. number_in direct c d) (slice_index lows d)) → SmallLine count lows
+small-lows count direct lows some small columns = λ d under.
+    let least = (columns d under).low 0 some in
+    let top = small 0 some d under in
+    omega (arith, least, top)
+
+pub small-least : (count : ℕ) (line : List ℕ) (low : ℕ) → 0 < count → SmallLine count line → LeastOf count (λ d. slice_index line d) low → low ≤ 1048576
+small-least count line low some small l =
+    let least = l.low 0 some in
+    let top = small 0 some in
+    omega (arith, least, top)

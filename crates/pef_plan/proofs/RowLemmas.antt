@@ -1,0 +1,131 @@
+-- A row of labels: what is chosen at each pair of classes, and what follows for the whole row.
+use Rattle.std.proofs.Common.{◌≡◌, ℕ, ◌+◌, ◌*◌, ◌<◌, ◌≤◌, true, List, [], ◌∷◌, ◌++◌, length, slice_index, Some, refl, ap, ap₂, sym, ◌∙◌, subst, arith}
+use Rattle.std.specs.Prelude.{slice_index_or}
+use Rattle.std.specs.List.{AllByRecursion}
+use Rattle.pef_reloc.specs.Fixups.{fixup_fits}
+use Rattle.pef_reloc.specs.declared.fixup.Fixup.{Fixup}
+use Rattle.pef_reloc.specs.Deliveries.{Delivers}
+use Rattle.pef_reloc.specs.Steps.{State, additions}
+use Rattle.pef_cert.specs.Labels.{Labels, class_of}
+use Rattle.pef_cert.specs.Extension.{extension, extension_at, skips_at}
+use Rattle.pef_reloc.specs.declared.fixup.Base.{Base}
+use Rattle.pef_reloc.specs.declared.fixup.Base.TheVariants.{Section, Import}
+use Rattle.pef_cert.specs.Feasible.{AtFixup}
+use Rattle.pef_cert.specs.Kept.Tests.{base_test}
+use Rattle.pef_plan.specs.declared.known.Known.{Known}
+use Rattle.pef_plan.specs.declared.place.Place.{Place}
+use Rattle.pef_plan.specs.declared.place.Here.{Here}
+use Rattle.pef_plan.specs.declared.place.Choice.{Choice}
+use Rattle.pef_plan.specs.declared.rows.At.{At}
+use Rattle.pef_plan.specs.Kept.Places.{Chosen, Counts, HereOf, InPlace, extension_in}
+use Rattle.pef_plan.specs.Kept.Rows.{AtOf, ClosedOf, DirectIs, DirectLine, DirectSquare, RowOf, SkipsOf, SmallSquare}
+use Rattle.pef_plan.specs.Kept.Tables.{Agrees, Shaped, number_in}
+use Rattle.pef_plan.specs.Reached.{LeadsWithin}
+
+-- the extension at a state in a place
+pub extension-there : (l : Labels) (registers : List ℕ) (q : Place) (s : State) → l.registers ≡ registers → InPlace registers q s → extension_at l q.left.now s ≡ extension_in l q
+extension-there l registers q s same at =
+    ap (λ p. extension l q.left.now p (class_of l.registers s.c) (class_of l.registers s.d)) at.position
+    ∙ ap₂ (λ c d. extension l q.left.now q.position c d) (ap (λ rs. class_of rs s.c) same ∙ at.c) (ap (λ rs. class_of rs s.d) same ∙ at.d)
+
+-- a state of a row, with the registers in two classes
+pub record With (a : At) (c d : ℕ) (h : Here) : Type 0 where
+  pub first : h.first ≡ a.first
+  pub others : h.others.now ≡ a.others.now
+  pub left : h.place.left.now ≡ a.left.now
+  pub position : h.place.position ≡ a.first.offset
+  pub import_index : h.place.import_index ≡ a.import_index
+  pub c_is : h.place.c ≡ c
+  pub d_is : h.place.d ≡ d
+
+pub with-here : (k : Known) (a : At) (c d : ℕ) (h : Here) → AtOf k a → c < length k.registers.now + 1 → d < length k.registers.now + 1 → With a c d h → HereOf k h
+with-here k a c d h at under_c under_d w = record {
+  parts = w.left ∙ (at.parts ∙ ap₂ (λ f fs. f ∷ fs) (sym w.first) (sym w.others));
+  shaped = subst (λ (fs : List Fixup). Shaped k (length fs)) (sym w.others) at.shaped;
+  c = (let e = w.c_is in omega (arith, e, under_c));
+  d = (let e = w.d_is in omega (arith, e, under_d));
+  fit = subst (λ (fs : List Fixup). AllByRecursion (λ f. fixup_fits f ≡ true) fs) whole at.fit;
+  counts = subst (λ (fs : List Fixup). AllByRecursion (λ f. Counts k.registers.now f.base) fs) whole at.counts;
+  import_small = (let e = w.import_index in let small = at.import_small in omega (arith, e, small));
+}
+  where
+    whole : a.first ∷ a.others.now ≡ h.first ∷ h.others.now
+    whole = ap₂ (λ f fs. f ∷ fs) (sym w.first) (sym w.others)
+
+pub direct-is : (k : Known) (a : At) (c d : ℕ) (h : Here) (x : Choice) → AtOf k a → With a c d h → Chosen k h x → ((l : Labels) (n : ℕ) → Agrees l k h.others.now → n ≤ x.value → base_test l n h.place.import_index h.first h.others.now h.place.c h.place.d h.first.base ≡ true) → x.value ≤ 4 * length h.others.now + 4 → DirectIs k a c d x.value
+direct-is k a c d h x at w chosen least small = record {
+  least = λ l n agrees low.
+      subst (λ (m : ℕ). base_test l n m a.first a.others.now c d a.first.base ≡ true) w.import_index
+      (subst (λ (f : Fixup). base_test l n h.place.import_index f a.others.now c d f.base ≡ true) w.first
+      (subst (λ (fs : List Fixup). base_test l n h.place.import_index h.first fs c d h.first.base ≡ true) w.others
+      (subst (λ (e : ℕ). base_test l n h.place.import_index h.first h.others.now e d h.first.base ≡ true) w.c_is
+      (subst (λ (e : ℕ). base_test l n h.place.import_index h.first h.others.now h.place.c e h.first.base ≡ true) w.d_is
+      (least l n (subst (λ (fs : List Fixup). Agrees l k fs) (sym w.others) agrees) low)))));
+  led = λ l s agrees here c_is d_is.
+      let there = subst (λ (fs : List Fixup). Agrees l k fs) (sym w.others) agrees in
+      let same = agrees.same.registers_are in
+      let goes = chosen.goes s (record {
+        position = here.position ∙ sym w.position;
+        import_index = here.index_is ∙ sym w.import_index;
+        c = ap (λ rs. class_of rs s.c) (sym same) ∙ (c_is ∙ sym w.c_is);
+        d = ap (λ rs. class_of rs s.d) (sym same) ∙ (d_is ∙ sym w.d_is);
+      }) in
+      let worth = chosen.worth l there in
+      let end = extension-there l k.registers.now x.step.next _ same goes.next in
+      record {
+        instr = x.step.instr;
+        left = x.step.next.left.now;
+        flat = goes.flat;
+        delivers = record { is = sym at.parts ∙ (sym w.left ∙ goes.delivers.is) };
+        falls = omega (arith, worth, end);
+      };
+  small = (let e = ap length w.others in omega (arith, small, e));
+}
+
+pub direct-small : (k : Known) (a : At) (square : List (List ℕ)) → AtOf k a → DirectSquare k a square → SmallSquare (length k.registers.now + 1) square
+direct-small k a square at direct = λ c under_c d under_d.
+    let small = (direct c under_c d under_d).small in
+    let count = at.shaped.count in
+    omega (arith, small, count)
+
+pub row-of : (k : Known) (a : At) (count : ℕ) (direct square : List (List ℕ)) → count ≡ length k.registers.now + 1 → DirectSquare k a direct → ClosedOf count direct square → RowOf k a square
+row-of k a count direct square same is closed = record {
+  direct = direct;
+  direct_is = is;
+  closed = subst (λ (n : ℕ). ClosedOf n direct square) same closed;
+}
+
+-- the least skip with register C in a class
+pub record SkipIs (k : Known) (a : At) (section c value : ℕ) : Type 0 where
+  pub is : (l : Labels) → Agrees l k a.others.now → skips_at l a.first a.others.now c (class_of k.registers.now section) ≡ Some value
+  pub small : value ≤ 4 * length a.others.now + 4
+
+pub skip-with : (k : Known) (a : At) (section c : ℕ) (h : Here) (value : ℕ) → With a c (class_of k.registers.now section) h → ((l : Labels) → Agrees l k h.others.now → skips_at l h.first h.others.now h.place.c h.place.d ≡ Some value) → value ≤ 4 * length h.others.now + 4 → SkipIs k a section c value
+skip-with k a section c h value w is small = record {
+  is = λ l agrees.
+      subst (λ (f : Fixup). skips_at l f a.others.now c (class_of k.registers.now section) ≡ Some value) w.first
+      (subst (λ (fs : List Fixup). skips_at l h.first fs c (class_of k.registers.now section) ≡ Some value) w.others
+      (subst (λ (e : ℕ). skips_at l h.first h.others.now e (class_of k.registers.now section) ≡ Some value) w.c_is
+      (subst (λ (e : ℕ). skips_at l h.first h.others.now h.place.c e ≡ Some value) w.d_is
+      (is l (subst (λ (fs : List Fixup). Agrees l k fs) (sym w.others) agrees)))));
+  small = (let e = ap length w.others in omega (arith, small, e));
+}
+
+section_same : (j k : ℕ) (b : Base) → b ≡ Section j → b ≡ Section k → j ≡ k
+section_same j k b one two = cc
+
+pub skips-of : (k : Known) (a : At) (section : ℕ) (line : List ℕ) → a.first.base ≡ Section section → ((c : ℕ) → c < length k.registers.now + 1 → SkipIs k a section c (slice_index line c)) → SkipsOf k a line
+skips-of k a section line base each = record {
+  is = λ l other c agrees is under.
+      subst (λ (j : ℕ). skips_at l a.first a.others.now c (class_of k.registers.now j) ≡ Some (slice_index line c)) (section_same section other a.first.base base is) ((each c under).is l agrees);
+  small = λ c under. (each c under).small;
+}
+
+import_section : (j k : ℕ) (b : Base) → b ≡ Import j → b ≡ Section k → ⊥
+import_section j k b one two = absurd (cc)
+
+pub skips-import : (k : Known) (a : At) (import : ℕ) (line : List ℕ) → a.first.base ≡ Import import → ((c : ℕ) → c < length k.registers.now + 1 → slice_index line c ≡ 0) → SkipsOf k a line
+skips-import k a import line base zero = record {
+  is = λ l section c agrees is under. absurd (import_section import section a.first.base base is);
+  small = λ c under. let e = zero c under in omega (arith, e);
+}

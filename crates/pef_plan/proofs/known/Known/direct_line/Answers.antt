@@ -1,0 +1,23 @@
+use Rattle.std.proofs.Common.{ℕ, ◌∙◌, arith}
+use Rattle.std.proofs.lemmas.List.{length-set}
+use Rattle.pef_plan.specs.Kept.Rows.{DirectIs}
+use Rattle.pef_plan.proofs.LineLemmas.{line-set}
+use Rattle.pef_plan.proofs.RowLemmas.{With, direct-is, with-here}
+use Rattle.pef_plan.proofs.known.Known.direct_line.Goals as goal
+
+pub loop-d-preserved : goal.loop-d-preserved
+loop-d-preserved c =
+    let a = c.args in
+    let i = c.loop-d.d in
+    let len = c.loop-d.invariant.len in
+    let few = c.requires.at.shaped.few in
+    let under = c.loop-d-test.true in
+    let end = c.classes-d-end.ensures in
+    let e = c.with.ensures in
+    let w : With a.at a.c i c.with.result = record { first = e.first; others = e.others; left = e.left; position = e.position; import_index = e.import_index; c_is = e.c; d_is = e.d } in
+    record {
+      len = length-set c.loop-d.line i c.direct.result.value ∙ len;
+      are = line-set (λ d v. DirectIs a.self a.at a.c d v) c.loop-d.line i c.direct.result.value
+          (omega (arith, len, few, under, end)) c.loop-d.invariant.are
+          (direct-is a.self a.at a.c i c.with.result c.direct.result c.requires.at w c.direct.ensures.chosen c.direct.ensures.least c.direct.ensures.small);
+    }

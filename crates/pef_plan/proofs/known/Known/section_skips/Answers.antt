@@ -1,0 +1,26 @@
+use Rattle.std.proofs.Common.{ℕ, ◌∙◌, arith}
+use Rattle.std.proofs.lemmas.List.{length-set}
+use Rattle.pef_cert.specs.Labels.{class_of}
+use Rattle.pef_plan.proofs.LineLemmas.{line-set}
+use Rattle.pef_plan.proofs.RowLemmas.{SkipIs, With, skip-with, skips-of, with-here}
+use Rattle.pef_plan.proofs.known.Known.section_skips.Goals as goal
+
+pub loop-c-preserved : goal.loop-c-preserved
+loop-c-preserved c =
+    let a = c.args in
+    let i = c.loop-c.c in
+    let len = c.loop-c.invariant.len in
+    let few = c.requires.at.shaped.few in
+    let under = c.loop-c-test.true in
+    let end = c.classes-c-end.ensures in
+    let e = c.with.ensures in
+    let w : With a.at i (class_of a.self.registers.now a.section) c.with.result = record { first = e.first; others = e.others; left = e.left; position = e.position; import_index = e.import_index; c_is = e.c; d_is = e.d ∙ c.class_of-class.ensures } in
+    record {
+      len = length-set c.loop-c.line i c.best_skip.result.value ∙ len;
+      are = line-set (λ x v. SkipIs a.self a.at a.section x v) c.loop-c.line i c.best_skip.result.value (omega (arith, len, few, under, end)) c.loop-c.invariant.are
+          (skip-with a.self a.at a.section i c.with.result c.best_skip.result.value w c.best_skip.ensures.is c.best_skip.ensures.small);
+    }
+
+pub returns : goal.returns
+returns c = skips-of c.args.self c.args.at c.args.section c.loop-c.line c.requires.base
+    (λ x under. c.loop-c.invariant.are x (let end = c.classes-c-end.ensures in let past = c.loop-c-test.false in omega (arith, under, end, past)))

@@ -1,0 +1,13 @@
+use Rattle.std.proofs.Common.{◌≡◌, ◌≤◌, drop, length, take}
+use Rattle.pef_reloc.specs.Deliveries.{index_after}
+use Rattle.pef_plan.specs.Kept.Tables.{Tabled}
+use Rattle.pef_plan.proofs.tables.fill.Given as goal
+
+abbrev pub decreases-fixups : goal.decreases-fixups
+decreases-fixups l = l.at
+
+abbrev pub invariant-fixups : goal.invariant-fixups
+invariant-fixups l = record {
+  inside : l.at ≤ length l.fixups;
+  tabled : Tabled l.registers l.labels.items l.skips.items (index_after (take l.at l.fixups) 0) (drop l.at l.fixups);
+}

@@ -1,0 +1,78 @@
+-- A row of labels, from what the instructions lead to that add at a fixup.
+use Rattle.std.specs.Prelude.{◌≡◌, ◌≤◌, ◌<◌, ◌⊎◌, ℕ, ◌+◌, ◌*◌, true, List, [], ◌∷◌, length, slice_index, slice_index_or, Some}
+use Rattle.std.specs.List.{AllByRecursion}
+use Rattle.pef_reloc.specs.Fixups.{fixup_fits}
+use Rattle.pef_reloc.specs.Steps.{State}
+use Rattle.pef_cert.specs.Labels.{Labels, class_of}
+use Rattle.pef_cert.specs.Extension.{skips_at}
+use Rattle.pef_cert.specs.Feasible.{AtFixup}
+use Rattle.pef_reloc.specs.declared.fixup.Base.TheVariants.{Section}
+use Rattle.pef_cert.specs.Kept.Tests.{base_test}
+use Rattle.pef_plan.specs.declared.known.Known.{Known}
+use Rattle.pef_plan.specs.declared.rows.At.{At}
+use Rattle.pef_plan.specs.Kept.Places.{Counts}
+use Rattle.pef_plan.specs.Kept.Tables.{Agrees, OffersAre, Shaped, number_in}
+use Rattle.pef_plan.specs.Reached.{LeadsWithin}
+
+-- a fixup, with tables of all that lies behind it
+pub record AtOf (k : Known) (a : At) : Type 0 where
+  pub parts : a.left.now ≡ a.first ∷ a.others.now
+  pub shaped : Shaped k (length a.others.now)
+  pub fit : AllByRecursion (λ f. fixup_fits f ≡ true) (a.first ∷ a.others.now)
+  pub counts : AllByRecursion (λ f. Counts k.registers.now f.base) (a.first ∷ a.others.now)
+  pub import_small : a.import_index ≤ 65536
+
+-- the least that an instruction leads to which adds at a fixup, with the registers in these classes
+pub record DirectIs (k : Known) (a : At) (c d value : ℕ) : Type 0 where
+  pub least : (l : Labels) (n : ℕ) → Agrees l k a.others.now → n ≤ value → base_test l n a.import_index a.first a.others.now c d a.first.base ≡ true
+  pub led : (l : Labels) (s : State) → Agrees l k a.others.now → AtFixup a.first a.import_index s → class_of l.registers s.c ≡ c → class_of l.registers s.d ≡ d → LeadsWithin l s (a.first ∷ a.others.now) value
+  pub small : value ≤ 4 * length a.others.now + 4
+
+abbrev pub DirectLine : Known → At → ℕ → List ℕ → Type 0
+DirectLine k a c line = (d : ℕ) → d < length k.registers.now + 1 → DirectIs k a c d (slice_index line d)
+
+abbrev pub DirectSquare : Known → At → List (List ℕ) → Type 0
+DirectSquare k a square = (c : ℕ) → c < length k.registers.now + 1 → DirectLine k a c (slice_index_or square c [])
+
+-- a number is the least of so many
+pub record LeastOf (count : ℕ) (f : ℕ → ℕ) (value : ℕ) : Type 0 where
+  pub low : (x : ℕ) → x < count → value ≤ f x
+  pub at : ℕ
+  pub under : at < count
+  pub is : f at ≡ value
+
+-- a line of labels from one of what is led to directly, the least of each column, and the least of all
+pub record LineOf (count : ℕ) (direct lows : List ℕ) (low : ℕ) (line : List ℕ) : Type 0 where
+  pub here : (d : ℕ) → d < count → slice_index line d ≤ slice_index direct d
+  pub column : (d : ℕ) → d < count → slice_index line d ≤ slice_index lows d + 1
+  pub along : (d e : ℕ) → d < count → e < count → slice_index line d ≤ slice_index direct e + 1
+  pub all : (d : ℕ) → d < count → slice_index line d ≤ low + 2
+  pub is : (d : ℕ) → d < count → ((slice_index line d ≡ slice_index direct d) ⊎ (slice_index line d ≡ slice_index lows d + 1)) ⊎ (((e : ℕ) × (e < count) × (slice_index line d ≡ slice_index direct e + 1)) ⊎ (slice_index line d ≡ low + 2))
+
+abbrev pub LinesOf : ℕ → List (List ℕ) → List ℕ → ℕ → List (List ℕ) → Type 0
+LinesOf count direct lows low square = (c : ℕ) → c < count → LineOf count (slice_index_or direct c []) lows low (slice_index_or square c [])
+
+-- a square of labels is the least over all changes of registers
+pub record ClosedOf (count : ℕ) (direct square : List (List ℕ)) : Type 0 where
+  pub below : (c d : ℕ) → c < count → d < count → number_in square c d ≤ number_in direct c d
+  pub c_line : (c e d : ℕ) → c < count → e < count → d < count → number_in square c d ≤ 1 + number_in square e d
+  pub d_line : (c d e : ℕ) → c < count → d < count → e < count → number_in square c d ≤ 1 + number_in square c e
+  pub from : (c d : ℕ) → c < count → d < count → (number_in square c d ≡ number_in direct c d) ⊎ (((e : ℕ) × (e < count) × (1 + number_in square e d ≤ number_in square c d)) ⊎ ((e : ℕ) × (e < count) × (1 + number_in square c e ≤ number_in square c d)))
+
+-- the labels at a fixup
+pub record RowOf (k : Known) (a : At) (square : List (List ℕ)) : Type 0 where
+  pub direct : List (List ℕ)
+  pub direct_is : DirectSquare k a direct
+  pub closed : ClosedOf (length k.registers.now + 1) direct square
+
+-- all of so many numbers are small
+abbrev pub SmallLine : ℕ → List ℕ → Type 0
+SmallLine count line = (d : ℕ) → d < count → slice_index line d ≤ 1048576
+
+abbrev pub SmallSquare : ℕ → List (List ℕ) → Type 0
+SmallSquare count square = (c : ℕ) → c < count → SmallLine count (slice_index_or square c [])
+
+-- the least skips at a fixup with a section, by the class of C
+pub record SkipsOf (k : Known) (a : At) (line : List ℕ) : Type 0 where
+  pub is : (l : Labels) (section c : ℕ) → Agrees l k a.others.now → a.first.base ≡ Section section → c < length k.registers.now + 1 → skips_at l a.first a.others.now c (class_of k.registers.now section) ≡ Some (slice_index line c)
+  pub small : (c : ℕ) → c < length k.registers.now + 1 → slice_index line c ≤ 4 * length a.others.now + 4

@@ -1,0 +1,54 @@
+ghost use Rattle.std.specs.Prelude.{◌≡◌, codes};
+
+use std::alloc::{AllocError, AllocFailed};
+use std::fmt;
+use thiserror::Error;
+
+/// Why there is no plan.
+#[derive(Clone, Copy, Debug, PartialEq, Eq, Error)]
+pub enum PlanFault {
+    /// A growth of memory was refused.
+    OutOfMemory,
+}
+
+impl PlanFault {
+    /// The number of the refusal.
+    pub fn number(&self) -> u32
+        ensures { result ≡ 99 }
+    {
+        match self {
+            PlanFault::OutOfMemory => 99,
+        }
+    }
+
+    /// The refusal's name, which is its text.
+    pub fn name(&self) -> &'static str
+        ensures { result.now ≡ codes "OutOfMemory" }
+    {
+        match self {
+            PlanFault::OutOfMemory => "OutOfMemory",
+        }
+    }
+}
+
+impl fmt::Display for PlanFault {
+    ghost use Rattle.std.specs.Prelude.{Some, codes};
+
+    ghost output = { λ fault. Some (codes "OutOfMemory") };
+
+    fn fmt<W: fmt::Write>(&self, f: &mut fmt::Formatter<W>) -> fmt::Result {
+        f.write_str(self.name())
+    }
+}
+
+impl From<AllocError> for PlanFault {
+    fn from(_error: AllocError) -> PlanFault {
+        PlanFault::OutOfMemory
+    }
+}
+
+impl<T: Drop> From<AllocFailed<T>> for PlanFault {
+    fn from(_error: AllocFailed<T>) -> PlanFault {
+        PlanFault::OutOfMemory
+    }
+}

@@ -1,0 +1,164 @@
+ghost use Rattle.std.specs.Prelude.{◌≡◌, ◌+◌, ◌<◌, ◌≤◌, ℕ, [], length, slice_index, slice_index_or};
+ghost use Rattle.pef_plan.specs.Kept.Places.{HereOf};
+ghost use Rattle.pef_plan.specs.Kept.Rows.{AtOf, ClosedOf, DirectLine, DirectSquare, LeastOf, LineOf, LinesOf, RowOf, SmallLine, SmallSquare};
+ghost use Rattle.pef_plan.specs.Kept.Tables.{number_in};
+
+use crate::known::{Known, Line, MAX_CLASSES, Square};
+use crate::place::{Here, Place};
+use pef_reloc::Fixup;
+
+/// A state at a fixup, but for the registers.
+#[derive(Clone, Copy, Debug)]
+pub(crate) struct At<'a> {
+    pub(crate) left: &'a [Fixup],
+    pub(crate) first: Fixup,
+    /// The fixups behind it.
+    pub(crate) others: &'a [Fixup],
+    pub(crate) import_index: u64,
+}
+
+impl<'a> Known<'a> {
+    /// The labels at a fixup, from what is known behind it.
+    pub(crate) fn labels_at(self, at: At<'a>) -> Square
+        requires { AtOf self at }
+        ensures { RowOf self.entry at.entry result }
+    {
+        let direct = self.direct_square(at);
+        closed(&direct, self.classes())
+    }
+
+    /// What the best instructions that add at a fixup lead to, without a change of registers.
+    fn direct_square(self, at: At<'a>) -> Square
+        requires { AtOf self at }
+        ensures { DirectSquare self.entry at.entry result }
+    {
+        let mut square = [[0; MAX_CLASSES]; MAX_CLASSES];
+        for c in 0..self.classes() {
+            square[c] = self.direct_line(at, c);
+        }
+        square
+    }
+
+    /// The same with register C in a class.
+    fn direct_line(self, at: At<'a>, c: usize) -> Line
+        requires at { AtOf self at }
+        requires c { c < length self.registers.now + 1 }
+        ensures { DirectLine self.entry at.entry c result }
+    {
+        let mut line = [0; MAX_CLASSES];
+        for d in 0..self.classes() {
+            line[d] = self.direct(at.with(c, d)).value as u32;
+        }
+        line
+    }
+}
+
+impl<'a> At<'a> {
+    /// The state with the registers in these classes.
+    pub(crate) fn with(self, c: usize, d: usize) -> Here<'a>
+        ensures first { result.first ≡ self.entry.first }
+        ensures others { result.others.now ≡ self.entry.others.now }
+        ensures left { result.place.left.now ≡ self.entry.left.now }
+        ensures position { result.place.position ≡ self.entry.first.offset }
+        ensures import_index { result.place.import_index ≡ self.entry.import_index }
+        ensures c { result.place.c ≡ c }
+        ensures d { result.place.d ≡ d }
+    {
+        Here {
+            place: Place {
+                left: self.left,
+                position: u64::from(self.first.offset),
+                import_index: self.import_index,
+                c,
+                d,
+            },
+            first: self.first,
+            others: self.others,
+        }
+    }
+}
+
+/// The least over all classes, with 1 for each register that changes.
+fn closed(direct: &Square, classes: usize) -> Square
+    requires some { 0 < classes }
+    requires few { classes ≤ 9 }
+    requires small { SmallSquare classes direct.now }
+    ensures { ClosedOf classes direct.now result }
+{
+    let lows = least_columns(direct, classes);
+    let low = least(&lows, classes);
+    closed_lines(direct, &lows, low, classes)
+}
+
+/// The same from the least of each column and of all.
+fn closed_lines(direct: &Square, lows: &Line, low: u32, classes: usize) -> Square
+    requires some { 0 < classes }
+    requires few { classes ≤ 9 }
+    requires small { SmallSquare classes direct.now }
+    requires lows { SmallLine classes lows.now }
+    requires low { low ≤ 1048576 }
+    ensures { LinesOf classes direct.now lows.now low result }
+{
+    let mut square = [[0; MAX_CLASSES]; MAX_CLASSES];
+    for c in 0..classes {
+        square[c] = closed_line(&direct[c], lows, low, classes);
+    }
+    square
+}
+
+/// The same for one class of register C.
+fn closed_line(direct: &Line, lows: &Line, low: u32, classes: usize) -> Line
+    requires some { 0 < classes }
+    requires few { classes ≤ 9 }
+    requires small { SmallLine classes direct.now }
+    requires lows { SmallLine classes lows.now }
+    requires low { low ≤ 1048576 }
+    ensures { LineOf classes direct.now lows.now low result }
+{
+    let mut line = [0; MAX_CLASSES];
+    let along = least(direct, classes).min(low + 1);
+    for d in 0..classes {
+        line[d] = direct[d].min(lows[d] + 1).min(along + 1);
+    }
+    line
+}
+
+/// The least of each column of a square, by the class of register D.
+fn least_columns(square: &Square, classes: usize) -> Line
+    requires some { 0 < classes }
+    requires few { classes ≤ 9 }
+    ensures { (d : ℕ) → d < classes → LeastOf classes (λ c. number_in square.now c d) (slice_index result d) }
+{
+    let mut line = [0; MAX_CLASSES];
+    for d in 0..classes {
+        line[d] = least_in_column(square, d, classes);
+    }
+    line
+}
+
+/// The least of one column.
+fn least_in_column(square: &Square, d: usize, classes: usize) -> u32
+    requires some { 0 < classes }
+    requires few { classes ≤ 9 }
+    requires d { d < classes }
+    ensures { LeastOf classes (λ c. number_in square.now c d) result }
+{
+    let mut low = square[0][d];
+    for c in 1..classes {
+        low = low.min(square[c][d]);
+    }
+    low
+}
+
+/// The least of so many numbers of a line.
+fn least(line: &Line, classes: usize) -> u32
+    requires some { 0 < classes }
+    requires few { classes ≤ 9 }
+    ensures { LeastOf classes (λ d. slice_index line.now d) result }
+{
+    let mut low = line[0];
+    for d in 1..classes {
+        low = low.min(line[d]);
+    }
+    low
+}

@@ -1,0 +1,79 @@
+ghost use Rattle.std.specs.Prelude.{◌≡◌, ◌+◌, ◌*◌, ◌<◌, ◌≤◌, ℕ, Some, length, slice_index};
+ghost use Rattle.pef_cert.specs.Extension.{extension, skips_at};
+ghost use Rattle.pef_cert.specs.Labels.{Labels, class_of};
+ghost use Rattle.pef_plan.specs.Kept.Places.{Chosen, HereOf};
+ghost use Rattle.pef_plan.specs.Kept.Rows.{AtOf, SkipsOf};
+ghost use Rattle.pef_plan.specs.Kept.Runs.{Holds};
+ghost use Rattle.pef_plan.specs.Kept.Tables.{Agrees};
+ghost use Rattle.pef_reloc.specs.declared.fixup.Base.TheVariants.{Section};
+
+use crate::known::{Known, Line, MAX_CLASSES};
+use crate::place::{Choice, Here, Step};
+use crate::registers::class_of;
+use crate::rows::At;
+use crate::runs::Run;
+use pef_reloc::{Base, Instr};
+
+impl<'a> Known<'a> {
+    /// The least skips at a fixup, by the class of register C.
+    pub(crate) fn skips_at(self, at: At<'a>) -> Line
+        requires { AtOf self at }
+        ensures { SkipsOf self.entry at.entry result }
+    {
+        match at.first.base {
+            Base::Section(section) => self.section_skips(at, section),
+            Base::Import(_) => [0; MAX_CLASSES],
+        }
+    }
+
+    /// The same where the fixup has a section.
+    fn section_skips(self, at: At<'a>, section: u32) -> Line
+        requires at { AtOf self at }
+        requires base { at.first.base ≡ Section section }
+        ensures { SkipsOf self.entry at.entry result }
+    {
+        let class = class_of(self.registers, section);
+        let mut line = [0; MAX_CLASSES];
+        for c in 0..self.classes() {
+            line[c] = self.best_skip(at.with(c, class), 0, section).value as u32;
+        }
+        line
+    }
+
+    /// The best skip that passes so many words and then adds at the fixup, which has a section.
+    pub(crate) fn best_skip(self, here: Here<'a>, words: u32, section: u32) -> Choice<'a>
+        requires here { HereOf self here }
+        requires base { here.first.base ≡ Section section }
+        requires holds { Holds self.registers.now section here.place.d }
+        requires words { words ≤ 255 }
+        requires from { here.first.offset ≡ here.place.position + 4 * words }
+        ensures chosen { Chosen self.entry here.entry result }
+        ensures is { (l : Labels) → Agrees l self.entry here.entry.others.now → skips_at l here.entry.first here.entry.others.now here.entry.place.c here.entry.place.d ≡ Some result.value }
+        ensures small { result.value ≤ 4 * length here.entry.others.now + 4 }
+    {
+        let one = self.single_skip(here, words, section);
+        let from = u64::from(here.first.offset);
+        self.best_of_run(here, Run::Skip { words, section }, from, one)
+    }
+
+    /// The skip that adds at the fixup alone.
+    fn single_skip(self, here: Here<'a>, words: u32, section: u32) -> Choice<'a>
+        requires here { HereOf self here }
+        requires base { here.first.base ≡ Section section }
+        requires holds { Holds self.registers.now section here.place.d }
+        requires words { words ≤ 255 }
+        requires from { here.first.offset ≡ here.place.position + 4 * words }
+        ensures chosen { Chosen self.entry here.entry result }
+        ensures value { (l : Labels) → Agrees l self.entry here.entry.others.now → result.value ≡ 1 + extension l here.entry.others.now (here.entry.first.offset + 4) here.entry.place.c here.entry.place.d }
+        ensures small { result.value ≤ 4 * length here.entry.others.now + 4 }
+    {
+        let instr = Instr::BySectDWithSkip {
+            skip: words,
+            count: 1,
+        };
+        let next = here.behind(here.place.import_index);
+        let value = 1 + self.value_behind(here);
+        let step = Step { instr, next };
+        Choice { step, value }
+    }
+}
