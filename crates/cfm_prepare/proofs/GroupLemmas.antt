@@ -8,8 +8,12 @@ use Rattle.cfm_memory.specs.declared.place.Place.{Place}
 use Rattle.cfm_memory.proofs.Laws.{given_back_elsewhere}
 use Rattle.cfm_prepare.specs.Fragments.{Present, all_given_back, present_at}
 
+-- what stands for a place, and for a fragment, past the last one
 abbrev pub nowhere : Place
 nowhere = record { address = 0; size = 0 }
+
+abbrev pub no_fragment : Present
+no_fragment = record { position = 0; places = [] }
 
 -- which of two instances is taken away first doesn't matter
 without-swap : (xs : List Instance) (a b : ℕ) → without (without xs a) b ≡ without (without xs b) a

@@ -13,6 +13,7 @@ use Rattle.cfm_prepare.specs.Runs.{Keeps, Runs, Step, Takes, closed, prepared}
 use Rattle.cfm_prepare.specs.Steps.{Closes, Prepares}
 use Rattle.cfm_prepare.specs.Kept.Ready.{AllApart}
 use Rattle.cfm_prepare.proofs.PlacedLemmas.{placed-apart, placed-new}
+use Rattle.cfm_prepare.proofs.ReadyLemmas.{ArePairApart, turned}
 use Rattle.cfm_prepare.proofs.RunLemmas.{present-needed}
 
 -- what holds of each of some fragments
@@ -52,53 +53,47 @@ all-unneeded : (P : Present → Type 0) (os : List Open) (fs : List Present) →
 all-unneeded P os [] all = tt
 all-unneeded P os (f ∷ fs) all = passed P (is_needed os f.position) f (unneeded_of os fs) all.0 (all-unneeded P os fs all.1)
 
--- no section of one fragment has the address of one of the other
-abbrev ArePair : Present → Present → Type 0
-ArePair f g = (a b : ℕ) → a < length f.places → b < length g.places → (place_at f.places a).address ≢ (place_at g.places b).address
-
-turned : (f g : Present) → ArePair f g → ArePair g f
-turned f g apart a b low less same = apart b a less low (sym same)
-
+-- no two sections of different fragments have one address
 abbrev AreApartAll : List Present → Type 0
 AreApartAll [] = Unit {0}
-AreApartAll (f ∷ fs) = AllBy (ArePair f) fs × AreApartAll fs
+AreApartAll (f ∷ fs) = AllBy (ArePairApart f) fs × AreApartAll fs
 
-apart-append : (xs ys : List Present) → AreApartAll xs → AreApartAll ys → AllBy (λ f. AllBy (ArePair f) ys) xs → AreApartAll (xs ++ ys)
+apart-append : (xs ys : List Present) → AreApartAll xs → AreApartAll ys → AllBy (λ f. AllBy (ArePairApart f) ys) xs → AreApartAll (xs ++ ys)
 apart-append [] ys left right cross = right
-apart-append (f ∷ xs) ys left right cross = (all-append (ArePair f) xs ys left.0 cross.0, apart-append xs ys left.1 right cross.1)
+apart-append (f ∷ xs) ys left right cross = (all-append (ArePairApart f) xs ys left.0 cross.0, apart-append xs ys left.1 right cross.1)
 
 apart-index : (fs : List Present) → AllApart fs → AreApartAll fs
 apart-index [] apart = tt
-apart-index (f ∷ fs) apart = (all-index (ArePair f) fs (λ i under a b. apart 0 (suc i) a b (omega arith) (omega (arith, under)) (λ e. absurd (omega (arith, e)))),
+apart-index (f ∷ fs) apart = (all-index (ArePairApart f) fs (λ i under a b. apart 0 (suc i) a b (omega arith) (omega (arith, under)) (λ e. absurd (omega (arith, e)))),
     apart-index fs (λ i j a b under high other. apart (suc i) (suc j) a b (omega (arith, under)) (omega (arith, high)) (λ e. other (omega (arith, e)))))
 
-chosen-apart : (b : Bool) (f : Present) (fs : List Present) → AllBy (ArePair f) fs → AreApartAll fs → AreApartAll (cond b (f ∷ fs) fs)
+chosen-apart : (b : Bool) (f : Present) (fs : List Present) → AllBy (ArePairApart f) fs → AreApartAll fs → AreApartAll (cond b (f ∷ fs) fs)
 chosen-apart true f fs here rest = (here, rest)
 chosen-apart false f fs here rest = rest
 
 apart-needed : (os : List Open) (fs : List Present) → AreApartAll fs → AreApartAll (needed_of os fs)
 apart-needed os [] apart = tt
-apart-needed os (f ∷ fs) apart = chosen-apart (is_needed os f.position) f (needed_of os fs) (all-needed (ArePair f) os fs apart.0) (apart-needed os fs apart.1)
+apart-needed os (f ∷ fs) apart = chosen-apart (is_needed os f.position) f (needed_of os fs) (all-needed (ArePairApart f) os fs apart.0) (apart-needed os fs apart.1)
 
 -- those that are kept are apart from those that go
 abbrev AreParted : List Present → List Present → Type 0
-AreParted ns us = AllBy (λ h. AllBy (λ g. ArePair g h) us) ns
+AreParted ns us = AllBy (λ h. AllBy (λ g. ArePairApart g h) us) ns
 
-parted-at : (b : Bool) (f : Present) (ns us : List Present) → AllBy (ArePair f) ns → AllBy (ArePair f) us → AreParted ns us → AreParted (cond b (f ∷ ns) ns) (cond b us (f ∷ us))
-parted-at true f ns us kept gone rest = (all-map (ArePair f) (λ g. ArePair g f) us (λ g. turned f g) gone, rest)
+parted-at : (b : Bool) (f : Present) (ns us : List Present) → AllBy (ArePairApart f) ns → AllBy (ArePairApart f) us → AreParted ns us → AreParted (cond b (f ∷ ns) ns) (cond b us (f ∷ us))
+parted-at true f ns us kept gone rest = (all-map (ArePairApart f) (λ g. ArePairApart g f) us (λ g. turned f g) gone, rest)
 parted-at false f ns us kept gone rest =
-    all-both (ArePair f) (λ h. AllBy (λ g. ArePair g h) us) (λ h. AllBy (λ g. ArePair g h) (f ∷ us)) ns (λ h here others. (here, others)) kept rest
+    all-both (ArePairApart f) (λ h. AllBy (λ g. ArePairApart g h) us) (λ h. AllBy (λ g. ArePairApart g h) (f ∷ us)) ns (λ h here others. (here, others)) kept rest
 
 parted : (os : List Open) (fs : List Present) → AreApartAll fs → AreParted (needed_of os fs) (unneeded_of os fs)
 parted os [] apart = tt
 parted os (f ∷ fs) apart =
-    parted-at (is_needed os f.position) f (needed_of os fs) (unneeded_of os fs) (all-needed (ArePair f) os fs apart.0) (all-unneeded (ArePair f) os fs apart.0) (parted os fs apart.1)
+    parted-at (is_needed os f.position) f (needed_of os fs) (unneeded_of os fs) (all-needed (ArePairApart f) os fs apart.0) (all-unneeded (ArePairApart f) os fs apart.0) (parted os fs apart.1)
 
 -- each section has bytes
 abbrev IsThere : Layout → Present → Type 0
 IsThere m f = (k : ℕ) → k < length f.places → (bytes : List ℕ) × (bytes_at m.instances (place_at f.places k).address ≡ Some bytes)
 
-keeps-apart : (m : Layout) (gs : List Present) (f : Present) → AllBy (λ g. ArePair g f) gs → Keeps m (all_given_back m gs) f.places
+keeps-apart : (m : Layout) (gs : List Present) (f : Present) → AllBy (λ g. ArePairApart g f) gs → Keeps m (all_given_back m gs) f.places
 keeps-apart m [] f apart k under = refl
 keeps-apart m (g ∷ gs) f apart k under =
     keeps-apart (given_back m g.places) gs f apart.1 k under ∙ given_back_elsewhere m g.places (place_at f.places k).address (λ a low. apart.0 a k low under)
@@ -111,10 +106,10 @@ record IsLaid (s : State) : Type 0 where
   there : AllBy (IsThere s.memory) s.present
   apart : AreApartAll s.present
 
-apart-new : (pairs : List Pair) (s t : State) (name : List ℕ) (number : ℕ) (step : Prepares s name number t) (f : Present) → IsThere s.memory f → AllBy (λ g. ArePair g f) step.fresh
+apart-new : (pairs : List Pair) (s t : State) (name : List ℕ) (number : ℕ) (step : Prepares s name number t) (f : Present) → IsThere s.memory f → AllBy (λ g. ArePairApart g f) step.fresh
 apart-new pairs s t name number step f there =
     let are = step.prepared.are in
-    all-index (λ g. ArePair g f) step.fresh (λ i under a b low less same.
+    all-index (λ g. ArePairApart g f) step.fresh (λ i under a b low less same.
         placed-new s.pairs s.memory step.fresh are.empty i a (place_at f.places b).address (there b less).0 are.placed under low (there b less).1 (sym same))
 
 kept-new : (pairs : List Pair) (s t : State) (name : List ℕ) (number : ℕ) (step : Prepares s name number t) (f : Present) → IsThere s.memory f → Keeps s.memory t.memory f.places
@@ -126,8 +121,8 @@ laid-prepare pairs s t name number laid step =
     let are = step.prepared.are in
     let old = all-map (IsThere s.memory) (IsThere t.memory) s.present (λ f there. there-kept s.memory t.memory f there (kept-new pairs s t name number step f there)) laid.there in
     let new = all-index (IsThere t.memory) step.fresh (λ i under k low. (section_of s.pairs (s.present ++ step.fresh) (present_at step.fresh i) k, step.prepared.stand i under k low)) in
-    let cross = all-map (IsThere s.memory) (λ f. AllBy (ArePair f) step.fresh) s.present
-        (λ f there. all-map (λ g. ArePair g f) (ArePair f) step.fresh (λ g. turned g f) (apart-new pairs s t name number step f there)) laid.there in
+    let cross = all-map (IsThere s.memory) (λ f. AllBy (ArePairApart f) step.fresh) s.present
+        (λ f there. all-map (λ g. ArePairApart g f) (ArePairApart f) step.fresh (λ g. turned g f) (apart-new pairs s t name number step f there)) laid.there in
     record {
       there = subst (AllBy (IsThere t.memory)) (sym step.present) (all-append (IsThere t.memory) s.present step.fresh old new);
       apart = subst AreApartAll (sym step.present) (apart-append s.present step.fresh laid.apart (apart-index step.fresh (placed-apart s.pairs s.memory step.fresh are.empty are.placed)) cross);
@@ -137,7 +132,7 @@ laid-prepare pairs s t name number laid step =
 kept-close : (s t : State) (number : ℕ) → IsLaid s → Closes s number t → AllBy (λ f. Keeps s.memory t.memory f.places) (needed_of t.connections s.present)
 kept-close s t number laid step =
     let us = unneeded_of t.connections s.present in
-    all-map (λ f. AllBy (λ g. ArePair g f) us) (λ f. Keeps s.memory t.memory f.places) (needed_of t.connections s.present)
+    all-map (λ f. AllBy (λ g. ArePairApart g f) us) (λ f. Keeps s.memory t.memory f.places) (needed_of t.connections s.present)
     (λ f apart. subst (λ (m : Layout). Keeps s.memory m f.places) (sym step.memory) (keeps-apart s.memory us f apart)) (parted t.connections s.present laid.apart)
 
 laid-close : (s t : State) (number : ℕ) → IsLaid s → Closes s number t → IsLaid t

@@ -12,40 +12,37 @@ use Rattle.cfm_closure.specs.Stores.{Pair}
 use Rattle.cfm_prepare.specs.Fragments.{Present, all_given_back, places_of, present_at}
 use Rattle.cfm_prepare.specs.Placing.{AllPlaced}
 use Rattle.cfm_prepare.specs.Kept.Ready.{AllApart, AllHeld, AreReady, OwnApart}
-use Rattle.cfm_prepare.proofs.GroupLemmas.{all-elsewhere, held_same, nowhere}
+use Rattle.cfm_prepare.proofs.GroupLemmas.{all-elsewhere, held_same, no_fragment, nowhere}
 use Rattle.cfm_prepare.proofs.PlacedLemmas.{placed-apart, placed-held, placed-new, placed-own, placed-stays}
-
-abbrev none : Present
-none = record { position = 0; places = [] }
 
 -- what holds of some fragments and of others holds of all
 each-of : (P : Present → Type 0) (xs ys : List Present) → ((i : ℕ) → i < length xs → P (present_at xs i)) → ((i : ℕ) → i < length ys → P (present_at ys i))
     → (i : ℕ) → i < length (xs ++ ys) → P (present_at (xs ++ ys) i)
 each-of P xs ys left right i under = elim (cases_lt i (length xs)) [
-  | inl less ↦ subst P (sym (get_or_append_left xs ys none i less)) (left i less)
-  | inr le ↦ subst P (sym (get_or-append_right xs ys i none le)) (right (i - length xs) (omega (arith, le, under, length-append xs ys)))
+  | inl less ↦ subst P (sym (get_or_append_left xs ys no_fragment i less)) (left i less)
+  | inr le ↦ subst P (sym (get_or-append_right xs ys i no_fragment le)) (right (i - length xs) (omega (arith, le, under, length-append xs ys)))
 ]
 
 left-of : (P : Present → Type 0) (xs ys : List Present) → ((i : ℕ) → i < length (xs ++ ys) → P (present_at (xs ++ ys) i)) → (i : ℕ) → i < length xs → P (present_at xs i)
-left-of P xs ys all i under = subst P (get_or_append_left xs ys none i under) (all i (omega (arith, under, length-append xs ys)))
+left-of P xs ys all i under = subst P (get_or_append_left xs ys no_fragment i under) (all i (omega (arith, under, length-append xs ys)))
 
 index_back : (n j : ℕ) → n + j - n ≡ j
 index_back n j = omega arith
 
 at-right : (xs ys : List Present) (j : ℕ) → present_at (xs ++ ys) (length xs + j) ≡ present_at ys j
-at-right xs ys j = get_or-append_right xs ys (length xs + j) none (omega arith) ∙ ap (present_at ys) (index_back (length xs) j)
+at-right xs ys j = get_or-append_right xs ys (length xs + j) no_fragment (omega arith) ∙ ap (present_at ys) (index_back (length xs) j)
 
 right-of : (P : Present → Type 0) (xs ys : List Present) → ((i : ℕ) → i < length (xs ++ ys) → P (present_at (xs ++ ys) i)) → (i : ℕ) → i < length ys → P (present_at ys i)
 right-of P xs ys all i under = subst P (at-right xs ys i) (all (length xs + i) (omega (arith, under, length-append xs ys)))
 
 -- no section of one fragment has the address of one of the other
-abbrev ArePairApart : Present → Present → Type 0
+abbrev pub ArePairApart : Present → Present → Type 0
 ArePairApart f g = (a b : ℕ) → a < length f.places → b < length g.places → (place_at f.places a).address ≢ (place_at g.places b).address
 
 pair-of : (f g f' g' : Present) → f ≡ f' → g ≡ g' → ArePairApart f' g' → ArePairApart f g
 pair-of f g f' g' p q apart = rw (p, q) apart
 
-turned : (f g : Present) → ArePairApart f g → ArePairApart g f
+pub turned : (f g : Present) → ArePairApart f g → ArePairApart g f
 turned f g apart a b low less same = apart b a less low (sym same)
 
 abbrev AreCross : List Present → List Present → Type 0
@@ -57,14 +54,14 @@ append-pair xs ys i j left right cross under high other =
     let size = length-append xs ys in
     elim (cases_lt i (length xs)) [
       | inl il ↦ elim (cases_lt j (length xs)) [
-        | inl jl ↦ pair-of (present_at (xs ++ ys) i) (present_at (xs ++ ys) j) (present_at xs i) (present_at xs j) (get_or_append_left xs ys none i il) (get_or_append_left xs ys none j jl) (λ a b. left i j a b il jl other)
-        | inr jr ↦ pair-of (present_at (xs ++ ys) i) (present_at (xs ++ ys) j) (present_at xs i) (present_at ys (j - length xs)) (get_or_append_left xs ys none i il) (get_or-append_right xs ys j none jr)
+        | inl jl ↦ pair-of (present_at (xs ++ ys) i) (present_at (xs ++ ys) j) (present_at xs i) (present_at xs j) (get_or_append_left xs ys no_fragment i il) (get_or_append_left xs ys no_fragment j jl) (λ a b. left i j a b il jl other)
+        | inr jr ↦ pair-of (present_at (xs ++ ys) i) (present_at (xs ++ ys) j) (present_at xs i) (present_at ys (j - length xs)) (get_or_append_left xs ys no_fragment i il) (get_or-append_right xs ys j no_fragment jr)
             (cross i (j - length xs) il (omega (arith, jr, high, size)))
       ]
       | inr ir ↦ elim (cases_lt j (length xs)) [
-        | inl jl ↦ pair-of (present_at (xs ++ ys) i) (present_at (xs ++ ys) j) (present_at ys (i - length xs)) (present_at xs j) (get_or-append_right xs ys i none ir) (get_or_append_left xs ys none j jl)
+        | inl jl ↦ pair-of (present_at (xs ++ ys) i) (present_at (xs ++ ys) j) (present_at ys (i - length xs)) (present_at xs j) (get_or-append_right xs ys i no_fragment ir) (get_or_append_left xs ys no_fragment j jl)
             (turned (present_at xs j) (present_at ys (i - length xs)) (cross j (i - length xs) jl (omega (arith, ir, under, size))))
-        | inr jr ↦ pair-of (present_at (xs ++ ys) i) (present_at (xs ++ ys) j) (present_at ys (i - length xs)) (present_at ys (j - length xs)) (get_or-append_right xs ys i none ir) (get_or-append_right xs ys j none jr)
+        | inr jr ↦ pair-of (present_at (xs ++ ys) i) (present_at (xs ++ ys) j) (present_at ys (i - length xs)) (present_at ys (j - length xs)) (get_or-append_right xs ys i no_fragment ir) (get_or-append_right xs ys j no_fragment jr)
             (λ a b. right (i - length xs) (j - length xs) a b (omega (arith, ir, under, size)) (omega (arith, jr, high, size)) (λ e. other (omega (arith, e, ir, jr))))
       ]
     ]
@@ -74,12 +71,12 @@ append-apart xs ys left right cross i j a b under high other low less = append-p
 
 cross-of : (xs ys : List Present) → AllApart (xs ++ ys) → AreCross xs ys
 cross-of xs ys all i j under high =
-    pair-of (present_at xs i) (present_at ys j) (present_at (xs ++ ys) i) (present_at (xs ++ ys) (length xs + j)) (sym (get_or_append_left xs ys none i under)) (sym (at-right xs ys j))
+    pair-of (present_at xs i) (present_at ys j) (present_at (xs ++ ys) i) (present_at (xs ++ ys) (length xs + j)) (sym (get_or_append_left xs ys no_fragment i under)) (sym (at-right xs ys j))
     (λ a b. all i (length xs + j) a b (omega (arith, under, length-append xs ys)) (omega (arith, high, length-append xs ys)) (λ e. absurd (omega (arith, e, under))))
 
 left-apart : (xs ys : List Present) → AllApart (xs ++ ys) → AllApart xs
 left-apart xs ys all i j a b under high other =
-    pair-of (present_at xs i) (present_at xs j) (present_at (xs ++ ys) i) (present_at (xs ++ ys) j) (sym (get_or_append_left xs ys none i under)) (sym (get_or_append_left xs ys none j high))
+    pair-of (present_at xs i) (present_at xs j) (present_at (xs ++ ys) i) (present_at (xs ++ ys) j) (sym (get_or_append_left xs ys no_fragment i under)) (sym (get_or_append_left xs ys no_fragment j high))
     (λ a b. all i j a b (omega (arith, under, length-append xs ys)) (omega (arith, high, length-append xs ys)) other) a b
 
 pub right-apart : (xs ys : List Present) → AllApart (xs ++ ys) → AllApart ys

@@ -10,11 +10,8 @@ use Rattle.cfm_prepare.specs.Contexts.{Open, is_needed, needed_of, open_of, open
 use Rattle.cfm_prepare.specs.Fragments.{Present, all_given_back, present_at}
 use Rattle.cfm_prepare.specs.Kept.Connections.{index_in}
 use Rattle.cfm_prepare.specs.Kept.Ready.{AreReady}
-use Rattle.cfm_prepare.proofs.GroupLemmas.{all-push}
+use Rattle.cfm_prepare.proofs.GroupLemmas.{all-push, no_fragment}
 use Rattle.cfm_prepare.proofs.ReadyLemmas.{held-there, own-there, ready-without}
-
-abbrev none : Present
-none = record { position = 0; places = [] }
 
 -- the last of some fragments is given back
 pub record IsPopped (m after : Layout) (cur now : List Present) (kept : ℕ) : Type 0 where
@@ -40,7 +37,7 @@ popped m after cur now f kept is after_is under ready =
 
 -- a fragment among others
 around : (cur : List Present) (i : ℕ) → i < length cur → cur ≡ take i cur ++ present_at cur i ∷ drop (i + 1) cur
-around cur i under = sym (take-append-drop i cur) ∙ at_drop_more (λ ys. take i cur ++ ys) cur i none under
+around cur i under = sym (take-append-drop i cur) ∙ at_drop_more (λ ys. take i cur ++ ys) cur i no_fragment under
 
 front-back : (front back : List Present) (i : ℕ) → length front ≡ i → take i (front ++ back) ≡ front
 front-back front back i is = ap (λ n. take n (front ++ back)) (sym is) ∙ take-append_seam front back
@@ -74,8 +71,8 @@ released connections m after cur now i under now_is after_is unneeded ready =
     let size : length front ≡ i = length-take-le i cur (omega (arith, under)) in
     let kept : take i now ≡ front = ap (take i) now_is ∙ front-back front back i size in
     let left : drop i now ≡ back = ap (drop i) now_is ∙ front-drop front back i size in
-    let needed : needed_of connections (drop i cur) ≡ needed_of connections back = at_drop_more (needed_of connections) cur i none under ∙ needed-none (is_needed connections f.position) f (needed_of connections back) unneeded in
-    let others : unneeded_of connections (drop i cur) ≡ f ∷ unneeded_of connections back = at_drop_more (unneeded_of connections) cur i none under ∙ unneeded-one (is_needed connections f.position) f (unneeded_of connections back) unneeded in
+    let needed : needed_of connections (drop i cur) ≡ needed_of connections back = at_drop_more (needed_of connections) cur i no_fragment under ∙ needed-none (is_needed connections f.position) f (needed_of connections back) unneeded in
+    let others : unneeded_of connections (drop i cur) ≡ f ∷ unneeded_of connections back = at_drop_more (unneeded_of connections) cur i no_fragment under ∙ unneeded-one (is_needed connections f.position) f (unneeded_of connections back) unneeded in
     let P : List Present → Type 0 = λ fs. AreReady m fs in
     let Q : List Present → Type 0 = λ fs. AreReady (given_back m f.places) fs in
     let R : Layout → Type 0 = λ k. AreReady k now in
@@ -100,7 +97,7 @@ index-within (o ∷ os) number = elim (eqb_tells o.number number) [
 pub open-none : (os : List Open) (number : ℕ) → index_in os number ≡ length os → open_of os number ≡ None
 open-none [] number is = refl
 open-none (o ∷ os) number is = elim (eqb_tells o.number number) [
-  | inl same ↦ (let none : 0 ≡ suc (length os) = rw same.0 at is in absurd (omega (arith, none)))
+  | inl same ↦ (let wrong : 0 ≡ suc (length os) = rw same.0 at is in absurd (omega (arith, wrong)))
   | inr other ↦ (let more : suc (index_in os number) ≡ suc (length os) = rw other.0 at is in rw other.0 (open-none os number (omega (arith, more))))
 ]
 

@@ -9,6 +9,10 @@ use Rattle.cfm_prepare.specs.Fragments.{Present, is_present, new_among, position
 use Rattle.cfm_prepare.specs.Runs.{AreClosed, Runs, Step, Takes, closed, prepared}
 use Rattle.cfm_prepare.specs.Steps.{Closes, Prepares}
 
+never : (b : Bool) → false ≡ cond b false false
+never true = refl
+never false = refl
+
 -- one of some fragments or of others
 present-either : (xs ys : List Present) (p : ℕ) → is_present (xs ++ ys) p ≡ cond (is_present xs p) true (is_present ys p)
 present-either [] ys p = refl
@@ -32,11 +36,7 @@ new-at false true q p news ps same later = elim (eqb_tells q p) [
 new-at false false q p news ps same later = ap (λ b. cond (q == p) true b) later
 
 has-new : (fs : List Present) (ps : List ℕ) (p : ℕ) → has (new_among fs ps) p ≡ cond (is_present fs p) false (has ps p)
-has-new fs [] p = none (is_present fs p)
-  where
-    none : (b : Bool) → false ≡ cond b false false
-    none true = refl
-    none false = refl
+has-new fs [] p = never (is_present fs p)
 has-new fs (q ∷ ps) p = new-at (is_present fs q) (is_present fs p) q p (new_among fs ps) ps (λ is. ap (is_present fs) is) (has-new fs ps p)
 
 -- one connection more needs it, or one of those that were open
@@ -74,11 +74,7 @@ choice true f fs p = refl
 choice false f fs p = refl
 
 pub present-needed : (os : List Open) (fs : List Present) (p : ℕ) → is_present (needed_of os fs) p ≡ cond (is_needed os p) (is_present fs p) false
-present-needed os [] p = none (is_needed os p)
-  where
-    none : (b : Bool) → false ≡ cond b false false
-    none true = refl
-    none false = refl
+present-needed os [] p = never (is_needed os p)
 present-needed os (f ∷ fs) p =
     choice (is_needed os f.position) f (needed_of os fs) p
     ∙ kept-at (is_needed os f.position) (is_needed os p) f.position p (is_present (needed_of os fs) p) (is_present fs p) (λ is. ap (is_needed os) is) (present-needed os fs p)

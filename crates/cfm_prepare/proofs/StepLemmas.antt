@@ -11,10 +11,7 @@ use Rattle.cfm_closure.specs.Stores.{Pair}
 use Rattle.cfm_prepare.specs.Addresses.{addresses_of, first_bad_program}
 use Rattle.cfm_prepare.specs.Fragments.{Present, first_bad_image, image_refusal_in, named, positions, present_at, reloc_refusal_in}
 use Rattle.cfm_prepare.specs.Kept.Ready.{AllApart, AllHeld, AllIn}
-use Rattle.cfm_prepare.proofs.GroupLemmas.{held_other, stand_other}
-
-abbrev none : Present
-none = record { position = 0; places = [] }
+use Rattle.cfm_prepare.proofs.GroupLemmas.{held_other, no_fragment, stand_other}
 
 -- another fragment's sections have what they had
 stays : (m after : Layout) (fs : List Present) (i j : ℕ) (bytes : ℕ → List ℕ) → AllApart fs → i < length fs → j < length fs → i ≢ j
@@ -55,20 +52,20 @@ held-next m after fs i apart under same here held j high = elim (eqb_tells i j) 
 pub image-next : (pairs : List Pair) (fs : List Present) (i : ℕ) → i < length fs → named pairs (present_at fs i).position (image_refusal_in pairs (present_at fs i).position) ≡ None
     → first_bad_image pairs (drop (i + 1) fs) ≡ first_bad_image pairs (drop i fs)
 image-next pairs fs i under unrefused =
-    sym (ap (λ o. option_or o (first_bad_image pairs (drop (i + 1) fs))) unrefused) ∙ sym (at_drop_more (first_bad_image pairs) fs i none under)
+    sym (ap (λ o. option_or o (first_bad_image pairs (drop (i + 1) fs))) unrefused) ∙ sym (at_drop_more (first_bad_image pairs) fs i no_fragment under)
 
 pub program-next : (pairs : List Pair) (all fs : List Present) (i : ℕ) → i < length fs
     → named pairs (present_at fs i).position (reloc_refusal_in pairs (addresses_of pairs all (present_at fs i)) (present_at fs i).position) ≡ None
     → first_bad_program pairs all (drop (i + 1) fs) ≡ first_bad_program pairs all (drop i fs)
 program-next pairs all fs i under unrefused =
-    sym (ap (λ o. option_or o (first_bad_program pairs all (drop (i + 1) fs))) unrefused) ∙ sym (at_drop_more (first_bad_program pairs all) fs i none under)
+    sym (ap (λ o. option_or o (first_bad_program pairs all (drop (i + 1) fs))) unrefused) ∙ sym (at_drop_more (first_bad_program pairs all) fs i no_fragment under)
 
 -- fragments with the positions of a closure are of it
 pub all-in : (order : List ℕ) (fs : List Present) (new : List ℕ) → positions fs ≡ new → All (λ p. Contains order p) new → AllIn order fs
 all-in order fs new are members i under =
     let P : ℕ → Type 0 = λ p. Contains order p in
     let Q : List ℕ → Type 0 = λ ps. All (λ p. Contains order p) ps in
-    subst P (get_or-map (λ (f : Present). f.position) fs i none) (subst Q (sym are) members i 0 (omega (arith, under, length-positions fs)))
+    subst P (get_or-map (λ (f : Present). f.position) fs i no_fragment) (subst Q (sym are) members i 0 (omega (arith, under, length-positions fs)))
   where
     length-positions : (gs : List Present) → length (positions gs) ≡ length gs
     length-positions [] = refl

@@ -4,18 +4,15 @@ use Rattle.std.proofs.lemmas.List.{get_or_default}
 use Rattle.cfm_memory.specs.Extents.{AreHeld, Stand, given_back, zeros_at}
 use Rattle.cfm_prepare.specs.Addresses.{addresses_of, section_of}
 use Rattle.cfm_prepare.specs.Fragments.{Present, filled_in, image_refusal_in, named, present_at, reloc_refusal_in}
-use Rattle.cfm_prepare.proofs.GroupLemmas.{all-one}
+use Rattle.cfm_prepare.proofs.GroupLemmas.{all-one, no_fragment}
 use Rattle.cfm_prepare.proofs.StepLemmas.{done-next, held-next, image-next, left-next}
 use Rattle.cfm_prepare.proofs.filling.fill_fragments.Goals as goal
-
-abbrev none : Present
-none = record { position = 0; places = [] }
 
 pub fill_fragment-requires-clause-member : goal.fill_fragment-requires-clause-member
 fill_fragment-requires-clause-member c =
     let fs = c.args.fresh.now in
     let i = c.loop-fragment.fragment-index in
-    let e : c.fragment-item.result ≡ present_at fs i = c.fragment-item.is ∙ get_or_default fs i c.fragment-item.result none c.loop-fragment-test.true in
+    let e : c.fragment-item.result ≡ present_at fs i = c.fragment-item.is ∙ get_or_default fs i c.fragment-item.result no_fragment c.loop-fragment-test.true in
     let P : Present → Type 0 = λ f. Contains c.args.closure.now.order f.position in
     subst P (sym e) (c.requires.members i c.loop-fragment-test.true)
 
@@ -24,7 +21,7 @@ fill_fragment-requires-clause-zeros c =
     let at = c.loop-fragment in
     let fs = c.args.fresh.now in
     let i = at.fragment-index in
-    let e : c.fragment-item.result ≡ present_at fs i = c.fragment-item.is ∙ get_or_default fs i c.fragment-item.result none c.loop-fragment-test.true in
+    let e : c.fragment-item.result ≡ present_at fs i = c.fragment-item.is ∙ get_or_default fs i c.fragment-item.result no_fragment c.loop-fragment-test.true in
     let P : Present → Type 0 = λ f. Stand at.memory f.places (zeros_at f.places) in
     subst P (sym e) (at.invariant.zeros i (omega arith) c.loop-fragment-test.true)
 
@@ -34,7 +31,7 @@ returns-in_err-fill_fragment-clause-others c =
     let fs = c.args.fresh.now in
     let i = at.fragment-index in
     let after = c.fill_fragment.new.memory in
-    let e : c.fragment-item.result ≡ present_at fs i = c.fragment-item.is ∙ get_or_default fs i c.fragment-item.result none c.loop-fragment-test.true in
+    let e : c.fragment-item.result ≡ present_at fs i = c.fragment-item.is ∙ get_or_default fs i c.fragment-item.result no_fragment c.loop-fragment-test.true in
     let P : Present → Type 0 = λ f. given_back after f.places ≡ given_back at.memory f.places in
     all-one at.memory after fs i c.loop-fragment-test.true (subst P e c.in_err-fill_fragment.ensures.others) ∙ at.invariant.others
 
@@ -44,7 +41,7 @@ returns-in_err-fill_fragment-clause-held c = λ before.
     let fs = c.args.fresh.now in
     let i = at.fragment-index in
     let after = c.fill_fragment.new.memory in
-    let e : c.fragment-item.result ≡ present_at fs i = c.fragment-item.is ∙ get_or_default fs i c.fragment-item.result none c.loop-fragment-test.true in
+    let e : c.fragment-item.result ≡ present_at fs i = c.fragment-item.is ∙ get_or_default fs i c.fragment-item.result no_fragment c.loop-fragment-test.true in
     let P : Present → Type 0 = λ f. given_back after f.places ≡ given_back at.memory f.places in
     let H : Present → Type 0 = λ f. AreHeld at.memory f.places → AreHeld after f.places in
     held-next at.memory after fs i c.requires.apart c.loop-fragment-test.true (subst P e c.in_err-fill_fragment.ensures.others) (subst H e c.in_err-fill_fragment.ensures.held (at.invariant.held before i c.loop-fragment-test.true)) (at.invariant.held before)
@@ -58,7 +55,7 @@ loop-fragment-preserved c =
     let under = c.loop-fragment-test.true in
     let after = c.fill_fragment.new.memory in
     let given = c.in_ok-fill_fragment.ensures in
-    let e : c.fragment-item.result ≡ present_at fs i = c.fragment-item.is ∙ get_or_default fs i c.fragment-item.result none under in
+    let e : c.fragment-item.result ≡ present_at fs i = c.fragment-item.is ∙ get_or_default fs i c.fragment-item.result no_fragment under in
     let P : Present → Type 0 = λ f. given_back after f.places ≡ given_back at.memory f.places in
     let H : Present → Type 0 = λ f. AreHeld at.memory f.places → AreHeld after f.places in
     let N : Present → Type 0 = λ f. named store f.position (image_refusal_in store f.position) ≡ None in
