@@ -1,11 +1,10 @@
 -- What is read is what is printed: lines.
-use Rattle.std.proofs.Common.{◌≡◌, ℕ, ◌+◌, ◌==◌, Bool, true, false, cond, List, [], ◌∷◌, ◌++◌, Option, None, Some, Result, Ok, Err, option_map, refl, ap, ◌∙◌}
+use Rattle.std.proofs.Common.{◌≡◌, ℕ, ◌+◌, List, ◌∷◌, ◌++◌, Option, Some, Result, Ok, Err, refl, ap, ◌∙◌}
 use Rattle.std.specs.Option.{ok_or}
-use Rattle.std.proofs.lemmas.Bool.{eqb-true}
 use Rattle.pef_lines.specs.Lines.{cut_at}
+use Rattle.pef_lines.proofs.Laws.{cut_at-parts}
 use Rattle.pef_cert_text.specs.Grammar.{◌>>=◌, Left, line_read}
 use Rattle.pef_cert_text.proofs.ReadLemmas.{said_first}
-use Rattle.pef_cert_text.proofs.WordLemmas.{back, front}
 
 -- what is led to was led to by what the step gave
 pub step_ok : {A B P : Type 0} (step : Result A ℕ) (others : A → Result B ℕ) (y : B) → (step >>= others) ≡ Ok y → ((x : A) → step ≡ Ok x → others x ≡ Ok y → P) → P
@@ -16,23 +15,6 @@ step_ok (Err line) others y is go = absurd (cc)
 abbrev pub value_or : {A : Type 0} → A → Result A ℕ → A
 value_or other (Ok x) = x
 value_or other (Err line) = other
-
--- a text is what stands before a byte, the byte, and what stands behind it
-cut_at-parts : (byte : ℕ) (text line rest : List ℕ) → cut_at byte text ≡ Some (line, rest) → text ≡ line ++ byte ∷ rest
-cut_at-parts byte [] line rest cut = absurd (cc)
-cut_at-parts byte (b ∷ bytes) line rest cut = by (b == byte) refl (cut_at byte bytes) cut (cut_at-parts byte bytes)
-  where
-    by : (here : Bool) → (b == byte) ≡ here → (later : Option (List ℕ × List ℕ)) → cond {A = Option (List ℕ × List ℕ)} here (Some ([], bytes)) (option_map (λ p. (b ∷ p.0, p.1)) later) ≡ Some (line, rest)
-        → ((l r : List ℕ) → later ≡ Some (l, r) → bytes ≡ l ++ byte ∷ r) → b ∷ bytes ≡ line ++ byte ∷ rest
-    by true is later cut others =
-        let l : [] ≡ line = ap front cut in
-        let r : bytes ≡ rest = ap back cut in
-        rw (← l, ← r) (ap (λ (c : ℕ). c ∷ bytes) (eqb-true b byte is))
-    by false is None cut others = absurd (cc)
-    by false is (Some p) cut others =
-        let l : b ∷ p.0 ≡ line = ap front cut in
-        let r : p.1 ≡ rest = ap back cut in
-        rw (← l, ← r) (ap (λ (t : List ℕ). b ∷ t) (others p.0 p.1 refl))
 
 -- a line that is read stands in front of what is left
 pub line_read-ok : {A P : Type 0} (says : List ℕ → Option A) (old new : Left) (x : A) → line_read says old ≡ Ok (x, new) → ((line : List ℕ) → says line ≡ Some x → old.text ≡ line ++ 0x0A ∷ new.text → P) → P

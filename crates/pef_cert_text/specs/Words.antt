@@ -2,14 +2,13 @@
 -- leading zero; the bytes of a program stand in words of four upper-case hex digits.
 use Rattle.std.specs.Prelude.{ℕ, ◌+◌, ◌*◌, ◌-◌, ◌==◌, ◌&&◌, Bool, true, false, List, [], ◌∷◌, ◌++◌, Option, None, Some, length, nat_le, if◌then◌else◌}
 use Rattle.std.specs.Str.{bytes_eq}
-use Rattle.pef_lines.specs.Lines.{longer_first}
+use Rattle.pef_lines.specs.Lines.{parts_of}
 use Rattle.pef_lines.specs.Numbers.{decimal_number}
 use Rattle.pef_words.specs.Refusals.{◌>>=◌}
 
 -- the words of a line; there are empty ones where two spaces or an end and a space meet
 abbrev pub words_of : List ℕ → List (List ℕ)
-words_of [] = [] ∷ []
-words_of (b ∷ bytes) = if b == 0x20 then [] ∷ words_of bytes else longer_first b (words_of bytes)
+words_of line = parts_of 0x20 line
 
 -- something under a condition
 abbrev pub provided : {A : Type 0} → Bool → A → Option A

@@ -1,5 +1,8 @@
--- What this crate offers to the proofs of others: facts of lines, as `specs/` defines them.
+-- What this crate offers to the proofs of others: facts of parts and lines, as `specs/` defines them.
 
--- a text without a line feed is one line; its first line ends where the first line feed stands; less than the
--- text is behind a cut
-pub use Rattle.pef_lines.proofs.LineLemmas.{lines_of-last, lines_of-cut, cut_at-shorter}
+-- a text without such a byte is one part; its first part ends where the first such byte stands
+pub use Rattle.pef_lines.proofs.LineLemmas.{parts_of-last, parts_of-cut}
+-- the same of lines
+pub use Rattle.pef_lines.proofs.LineLemmas.{lines_of-last, lines_of-cut}
+-- a text is what stands before a cut, its byte, and what stands behind it, which is less than the text
+pub use Rattle.pef_lines.proofs.LineLemmas.{cut_at-parts, cut_at-shorter}

@@ -1,6 +1,7 @@
--- The lines of a text, from their cuts.
-use Rattle.std.proofs.Common.{◌≡◌, ℕ, ◌+◌, ◌≤◌, ◌==◌, Bool, true, false, cond, List, [], ◌∷◌, Option, None, Some, length, option_map, refl, ap, arith}
-use Rattle.pef_lines.specs.Lines.{cut_at, lines_of, longer_first}
+-- The parts of a text, from its cuts.
+use Rattle.std.proofs.Common.{◌≡◌, ℕ, ◌+◌, ◌≤◌, ◌==◌, Bool, true, false, cond, List, [], ◌∷◌, ◌++◌, Option, None, Some, length, option_map, refl, ap, arith}
+use Rattle.std.proofs.lemmas.Bool.{eqb-true}
+use Rattle.pef_lines.specs.Lines.{cut_at, lines_of, longer_first, parts_of}
 
 -- the two parts of a cut
 abbrev front : Option (List ℕ × List ℕ) → List ℕ
@@ -11,34 +12,58 @@ abbrev back : Option (List ℕ × List ℕ) → List ℕ
 back None = []
 back (Some p) = p.1
 
--- a text without a line feed is one line
-pub lines_of-last : (text : List ℕ) → cut_at 0x0A text ≡ None → lines_of text ≡ text ∷ []
-lines_of-last [] none = refl
-lines_of-last (b ∷ bytes) none = by (b == 0x0A) (cut_at 0x0A bytes) none (lines_of-last bytes)
+-- without such a byte there is one part
+pub parts_of-last : (byte : ℕ) (text : List ℕ) → cut_at byte text ≡ None → parts_of byte text ≡ text ∷ []
+parts_of-last byte [] none = refl
+parts_of-last byte (b ∷ bytes) none = by (b == byte) (cut_at byte bytes) none (parts_of-last byte bytes)
   where
-    by : (here : Bool) (later : Option (List ℕ × List ℕ)) → cond {A = Option (List ℕ × List ℕ)} here (Some ([], bytes)) (option_map (λ p. (b ∷ p.0, p.1)) later) ≡ None → (later ≡ None → lines_of bytes ≡ bytes ∷ [])
-        → cond here ([] ∷ lines_of bytes) (longer_first b (lines_of bytes)) ≡ (b ∷ bytes) ∷ []
+    by : (here : Bool) (later : Option (List ℕ × List ℕ)) → cond {A = Option (List ℕ × List ℕ)} here (Some ([], bytes)) (option_map (λ p. (b ∷ p.0, p.1)) later) ≡ None → (later ≡ None → parts_of byte bytes ≡ bytes ∷ [])
+        → cond here ([] ∷ parts_of byte bytes) (longer_first b (parts_of byte bytes)) ≡ (b ∷ bytes) ∷ []
     by true later none others = absurd (cc)
     by false None none others = ap (longer_first b) (others refl)
     by false (Some p) none others = absurd (cc)
 
--- the first line ends where the first line feed stands
-pub lines_of-cut : (text line behind : List ℕ) → cut_at 0x0A text ≡ Some (line, behind) → lines_of text ≡ line ∷ lines_of behind
-lines_of-cut [] line behind cut = absurd (cc)
-lines_of-cut (b ∷ bytes) line behind cut = by (b == 0x0A) (cut_at 0x0A bytes) cut (lines_of-cut bytes)
+-- the first part ends where the first such byte stands
+pub parts_of-cut : (byte : ℕ) (text part behind : List ℕ) → cut_at byte text ≡ Some (part, behind) → parts_of byte text ≡ part ∷ parts_of byte behind
+parts_of-cut byte [] part behind cut = absurd (cc)
+parts_of-cut byte (b ∷ bytes) part behind cut = by (b == byte) (cut_at byte bytes) cut (parts_of-cut byte bytes)
   where
-    by : (here : Bool) (later : Option (List ℕ × List ℕ)) → cond {A = Option (List ℕ × List ℕ)} here (Some ([], bytes)) (option_map (λ p. (b ∷ p.0, p.1)) later) ≡ Some (line, behind)
-        → ((l r : List ℕ) → later ≡ Some (l, r) → lines_of bytes ≡ l ∷ lines_of r)
-        → cond here ([] ∷ lines_of bytes) (longer_first b (lines_of bytes)) ≡ line ∷ lines_of behind
+    by : (here : Bool) (later : Option (List ℕ × List ℕ)) → cond {A = Option (List ℕ × List ℕ)} here (Some ([], bytes)) (option_map (λ p. (b ∷ p.0, p.1)) later) ≡ Some (part, behind)
+        → ((l r : List ℕ) → later ≡ Some (l, r) → parts_of byte bytes ≡ l ∷ parts_of byte r)
+        → cond here ([] ∷ parts_of byte bytes) (longer_first b (parts_of byte bytes)) ≡ part ∷ parts_of byte behind
     by true later cut others =
-        let l : [] ≡ line = ap front cut in
+        let l : [] ≡ part = ap front cut in
         let r : bytes ≡ behind = ap back cut in
         rw (← l, ← r) refl
     by false None cut others = absurd (cc)
     by false (Some p) cut others =
-        let l : b ∷ p.0 ≡ line = ap front cut in
+        let l : b ∷ p.0 ≡ part = ap front cut in
         let r : p.1 ≡ behind = ap back cut in
         rw (others p.0 p.1 refl, ← l, ← r) refl
+
+-- the same of lines
+pub lines_of-last : (text : List ℕ) → cut_at 0x0A text ≡ None → lines_of text ≡ text ∷ []
+lines_of-last text none = parts_of-last 0x0A text none
+
+pub lines_of-cut : (text line behind : List ℕ) → cut_at 0x0A text ≡ Some (line, behind) → lines_of text ≡ line ∷ lines_of behind
+lines_of-cut text line behind cut = parts_of-cut 0x0A text line behind cut
+
+-- a text is what stands before a byte, the byte, and what stands behind it
+pub cut_at-parts : (byte : ℕ) (text before behind : List ℕ) → cut_at byte text ≡ Some (before, behind) → text ≡ before ++ byte ∷ behind
+cut_at-parts byte [] before behind cut = absurd (cc)
+cut_at-parts byte (b ∷ bytes) before behind cut = by (b == byte) refl (cut_at byte bytes) cut (cut_at-parts byte bytes)
+  where
+    by : (here : Bool) → (b == byte) ≡ here → (later : Option (List ℕ × List ℕ)) → cond {A = Option (List ℕ × List ℕ)} here (Some ([], bytes)) (option_map (λ p. (b ∷ p.0, p.1)) later) ≡ Some (before, behind)
+        → ((l r : List ℕ) → later ≡ Some (l, r) → bytes ≡ l ++ byte ∷ r) → b ∷ bytes ≡ before ++ byte ∷ behind
+    by true is later cut others =
+        let l : [] ≡ before = ap front cut in
+        let r : bytes ≡ behind = ap back cut in
+        rw (← l, ← r) (ap (λ (c : ℕ). c ∷ bytes) (eqb-true b byte is))
+    by false is None cut others = absurd (cc)
+    by false is (Some p) cut others =
+        let l : b ∷ p.0 ≡ before = ap front cut in
+        let r : p.1 ≡ behind = ap back cut in
+        rw (← l, ← r) (ap (λ (t : List ℕ). b ∷ t) (others p.0 p.1 refl))
 
 -- less than the text is behind its first line
 pub cut_at-shorter : (byte : ℕ) (text line behind : List ℕ) → cut_at byte text ≡ Some (line, behind) → length behind + 1 ≤ length text
