@@ -9,7 +9,7 @@ pub use Rattle.pef_cert.proofs.Soundness.{valid-least}
 -- numbers of which some may be missing: one that is there and is at most another, and the value away from an offset
 pub use Rattle.pef_cert.proofs.MinimaLemmas.{AtMost, at_most-weaker, Moved, far, near, skips, late, moved-is, moved-skip}
 -- classes and the numbers of sections in them
-pub use Rattle.pef_cert.proofs.ClassLemmas.{NumberOf, Numbers, RegisteredBase, all_registered, class_of-among, class_of-below, class_of-index, class_of-most, class_of-other, class_of-same, numbers}
+pub use Rattle.pef_cert.proofs.ClassLemmas.{NumberOf, Numbers, RegisteredBase, all_registered, class_of-among, class_of-below, class_of-index, class_of-most, class_of-other, is_among-index, class_of-same, numbers}
 -- what a skip is worth, and what an offer is made of
 pub use Rattle.pef_cert.proofs.ExtensionLemmas.{Skipped, length-row, skip-is, skip-most, skips-is}
 pub use Rattle.pef_cert.proofs.LabelFacts.{Offered, Stands, base_counts, extension-label, label-offer, offer-is, offer-most, skip_has}

@@ -2,3 +2,5 @@
 
 -- labels that are feasible and reached are least lengths
 pub use Rattle.pef_plan.proofs.Reaching.{reached-exact, reached-least}
+-- a least program has at most four halfwords for each fixup
+pub use Rattle.pef_plan.proofs.Reaching.{least-short}

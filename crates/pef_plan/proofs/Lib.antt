@@ -9,3 +9,4 @@ mod RowLemmas
 mod RunFacts
 mod RunTests
 mod SkipFacts
+mod StepFacts

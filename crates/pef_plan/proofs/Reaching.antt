@@ -1,12 +1,13 @@
 -- Labels that are feasible and reached are least lengths, and the extension is one everywhere.
-use Rattle.std.proofs.Common.{◌≡◌, ℕ, zero, suc, ◌+◌, ◌≤◌, true, List, [], ◌∷◌, ◌++◌, refl, sym, ◌∙◌, subst, arith}
+use Rattle.std.proofs.Common.{◌≡◌, ℕ, zero, suc, ◌+◌, ◌*◌, ◌≤◌, true, List, [], ◌∷◌, ◌++◌, length, refl, sym, ◌∙◌, subst, arith}
 use Rattle.pef_reloc.specs.declared.fixup.Fixup.{Fixup}
 use Rattle.pef_reloc.specs.declared.instr.Instr.{Instr}
 use Rattle.pef_reloc.specs.Deliveries.{MakesFrom, StandsBehind, index_after}
 use Rattle.pef_reloc.specs.Fixups.{fixups_fit}
 use Rattle.pef_reloc.specs.Instrs.{program_length}
-use Rattle.pef_reloc.specs.Steps.{State, is_flat, next_state}
-use Rattle.pef_reloc.proofs.Laws.{each_fits, flat_more, makes_more, some_length}
+use Rattle.pef_reloc.specs.Plain.{plain_program}
+use Rattle.pef_reloc.specs.Steps.{Least, State, is_flat, next_state}
+use Rattle.pef_reloc.proofs.Laws.{each_fits, flat_more, makes_more, plain-flat, plain-makes, plain-short, some_length}
 use Rattle.pef_cert.specs.Labels.{Labels, class_of}
 use Rattle.pef_cert.specs.Extension.{extension_at}
 use Rattle.pef_cert.specs.Feasible.{AtFixup, Feasible, label_at}
@@ -76,3 +77,10 @@ reached-exact l fixups fit registers feasible reached = record {
       let least = reached-least l fixups made (f ∷ rest) s fit registers feasible reached parts (record { index = here.index_is }) in
       subst (λ (n : ℕ). LeastFrom s (f ∷ rest) n) (extension-here l f rest s.position (class_of l.registers s.c) (class_of l.registers s.d) here.position) least;
 }
+
+-- a least program is no longer than the plain one
+pub least-short : (fixups : List Fixup) (instrs : List Instr) → fixups_fit fixups ≡ true → Least fixups instrs → program_length instrs ≤ 4 * length fixups
+least-short fixups instrs fit least =
+    let low = least.shortest (plain_program fixups) (plain-flat fixups fit) (plain-makes fixups) in
+    let short = plain-short fixups in
+    omega (arith, low, short)

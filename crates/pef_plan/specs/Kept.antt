@@ -1,4 +1,5 @@
 pub mod Places
 pub mod Rows
 pub mod Runs
+pub mod Steps
 pub mod Tables

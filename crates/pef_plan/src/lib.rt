@@ -1,10 +1,12 @@
 //! Plans: for fixups, a relocation program of the fewest halfwords, with the certificate that proves it.
 #![tactic(auto)]
 
-mod fault;
 mod direct;
+mod fault;
 mod known;
+mod moves;
 mod place;
+mod reading;
 mod registers;
 mod rows;
 mod runs;
@@ -14,4 +16,4 @@ mod theorems;
 mod values;
 
 pub use fault::PlanFault;
-pub use theorems::reached_labels_are_least;
+pub use theorems::{least_programs_are_short, reached_labels_are_least};

@@ -1,0 +1,194 @@
+-- Steps from a place: what is known at a fixup, and that one of those that are tried leads on.
+use Rattle.std.proofs.Common.{◌≡◌, ◌≢◌, ℕ, ◌+◌, ◌-◌, ◌*◌, ◌<◌, ◌≤◌, ◌⊎◌, inl, inr, Bool, true, false, ◌==◌, nat_lt, List, [], ◌∷◌, ◌++◌, length, slice_index, refl, ap, ap₂, sym, ◌∙◌, subst, arith, length-append}
+use Rattle.std.specs.List.{AllByRecursion}
+use Rattle.std.proofs.lemmas.Bool.{lt-ltb}
+use Rattle.pef_reloc.specs.declared.fixup.Fixup.{Fixup}
+use Rattle.pef_reloc.specs.declared.instr.Instr.{Instr}
+use Rattle.pef_reloc.specs.declared.instr.Instr.TheVariants.{BySectDWithSkip, BySectC, BySectD, TVector12, TVector8, VTable8, ImportRun, SmByImport, SmSetSectC, SmSetSectD, SmBySection, IncrPosition, SmRepeat, SetPosition, LgByImport, LgRepeat, LgBySection, LgSetSectC, LgSetSectD}
+use Rattle.pef_reloc.specs.Deliveries.{Delivers}
+use Rattle.pef_reloc.specs.Instrs.{instr_length}
+use Rattle.pef_reloc.specs.Steps.{State, additions, next_state}
+use Rattle.pef_reloc.proofs.Laws.{some_length}
+use Rattle.pef_cert.specs.Labels.{Labels, class_of, classes}
+use Rattle.pef_cert.specs.Extension.{extension, extension_at}
+use Rattle.pef_cert.specs.Feasible.{AtFixup}
+use Rattle.pef_cert.specs.Valid.{is_among}
+use Rattle.pef_cert.specs.Kept.Tests.{base_test}
+use Rattle.pef_cert.proofs.Laws.{NumberOf, Numbers, Stands, World, class_of-below, class_of-index, class_of-other, extension-here, is_among-index, label-extension, tested, world-first}
+use Rattle.pef_plan.specs.declared.known.Known.{Known}
+use Rattle.pef_plan.specs.declared.place.Place.{Place}
+use Rattle.pef_plan.specs.declared.place.Here.{Here}
+use Rattle.pef_plan.specs.declared.place.Choice.{Choice}
+use Rattle.pef_plan.specs.declared.place.Step.{Step}
+use Rattle.pef_plan.specs.Kept.Places.{Chosen, Counts, Goes, HereOf, InPlace, extension_in}
+use Rattle.pef_plan.specs.Kept.Steps.{Falls, FallsOn, Sections, Tracked, TrackedHere, labels_tabled}
+use Rattle.pef_plan.specs.Kept.Tables.{Agrees, Shaped, label_in}
+use Rattle.pef_plan.specs.Reached.{LeadsOn, ReachedFrom}
+use Rattle.pef_reloc.specs.Fixups.{fixup_fits}
+use Rattle.pef_plan.proofs.FillLemmas.{registered-all}
+use Rattle.pef_plan.proofs.KnownLemmas.{agrees-behind, shaped_fewer}
+
+-- a section of each class
+pub section_there : (rs : List ℕ) (class : ℕ) → Sections rs → class < length rs → (class_of rs (slice_index rs class) ≡ class) × (slice_index rs class < 8)
+section_there rs class s under = (class_of-index rs class s.rising under, s.below (slice_index rs class) (is_among-index rs class under))
+
+false_of : (b : Bool) → (b ≡ true → ⊥) → b ≡ false
+false_of true never = absurd (never refl)
+false_of false never = refl
+
+pub section_free : (rs : List ℕ) → Sections rs → class_of rs 8 ≡ length rs
+section_free rs s = class_of-other rs 8 (false_of (is_among rs 8) (λ among. let low = s.below 8 among in omega (arith, low)))
+
+pub section_is : (rs : List ℕ) (class : ℕ) → Sections rs → class < length rs → class_of rs (slice_index rs class) ≡ class
+section_is rs class s under = (section_there rs class s under).0
+
+pub section_small : (rs : List ℕ) (class : ℕ) → Sections rs → class < length rs → slice_index rs class < 512
+section_small rs class s under = let low = (section_there rs class s under).1 in omega (arith, low)
+
+pub section_last : (rs : List ℕ) (class : ℕ) → Sections rs → class < length rs + 1 → length rs ≤ class → class_of rs 8 ≡ class
+section_last rs class s under past = let free = section_free rs s in omega (arith, free, under, past)
+
+number_of : (rs : List ℕ) (class : ℕ) → Sections rs → (class < length rs) ⊎ (class ≡ length rs) → NumberOf rs class
+number_of rs class s (inl under) = let there = section_there rs class s under in let low = there.1 in record { number = slice_index rs class; small = omega (arith, low); is = there.0 }
+number_of rs class s (inr last) = record { number = 8; small = omega arith; is = section_free rs s ∙ sym last }
+
+below_or : (a b : ℕ) → a < b + 1 → (a < b) ⊎ (a ≡ b)
+below_or a b under = grind (arith, under)
+
+pub tracked_world : (k : Known) (p : Place) → Tracked k p → World (labels_tabled k) p.import_index p.left.now
+tracked_world k p t = record {
+  numbers = record { of = λ class under. number_of k.registers.now class t.sections (below_or class (length k.registers.now) under) };
+  registered = registered-all k.registers.now p.left.now t.counts;
+  feasible = t.feasible;
+}
+
+-- the tables of what lies behind the first fixup
+pub tracked_here : (k : Known) (h : Here) → TrackedHere k h → HereOf k h
+tracked_here k h t =
+    let count = ap length t.parts in
+    record {
+      parts = t.parts;
+      shaped = shaped_fewer k (length h.place.left.now) (length h.others.now) t.at.shaped (omega (arith, count));
+      c = t.at.c;
+      d = t.at.d;
+      fit = subst (λ (fs : List Fixup). AllByRecursion (λ f. fixup_fits f ≡ true) fs) t.parts t.at.fit;
+      counts = subst (λ (fs : List Fixup). AllByRecursion (λ f. Counts k.registers.now f.base) fs) t.parts t.at.counts;
+      import_small = t.at.import_small;
+    }
+
+pub agrees_others : (k : Known) (h : Here) → TrackedHere k h → Agrees (labels_tabled k) k h.others.now
+agrees_others k h t =
+    let whole = subst (λ (fs : List Fixup). Agrees (labels_tabled k) k fs) t.parts t.at.agrees in
+    agrees-behind (labels_tabled k) k (h.first ∷ []) h.others.now whole
+
+-- the extension at a fixup is its label
+pub extension_label : (k : Known) (h : Here) (c d : ℕ) → TrackedHere k h → h.place.position ≡ h.first.offset → extension (labels_tabled k) h.place.left.now h.place.position c d ≡ label_in k.labels.now (length h.place.left.now) c d
+extension_label k h c d t at =
+    ap (λ fs. extension (labels_tabled k) fs h.place.position c d) t.parts
+    ∙ (extension-here (labels_tabled k) h.first h.others.now h.place.position c d at
+    ∙ ap (λ fs. label_in k.labels.now (length fs) c d) (sym t.parts))
+
+-- an instruction that adds nothing and sets no register
+data Kind (x : Instr) (s : State) : Type 0 where
+  sets_c : (j : ℕ) → next_state x s ≡ record s { c = j } → Kind x s
+  sets_d : (j : ℕ) → next_state x s ≡ record s { d = j } → Kind x s
+  stays : (next_state x s).c ≡ s.c → (next_state x s).d ≡ s.d → Kind x s
+
+kind_of : (x : Instr) (s : State) → Kind x s
+kind_of (BySectDWithSkip u t) s = stays refl refl
+kind_of (BySectC n) s = stays refl refl
+kind_of (BySectD n) s = stays refl refl
+kind_of (TVector12 n) s = stays refl refl
+kind_of (TVector8 n) s = stays refl refl
+kind_of (VTable8 n) s = stays refl refl
+kind_of (ImportRun n) s = stays refl refl
+kind_of (SmByImport n) s = stays refl refl
+kind_of (SmSetSectC n) s = sets_c n refl
+kind_of (SmSetSectD n) s = sets_d n refl
+kind_of (SmBySection n) s = stays refl refl
+kind_of (IncrPosition n) s = stays refl refl
+kind_of (SmRepeat b n) s = stays refl refl
+kind_of (SetPosition n) s = stays refl refl
+kind_of (LgByImport n) s = stays refl refl
+kind_of (LgRepeat b n) s = stays refl refl
+kind_of (LgBySection n) s = stays refl refl
+kind_of (LgSetSectC n) s = sets_c n refl
+kind_of (LgSetSectD n) s = sets_d n refl
+
+-- where no register set leads on, the best that adds does
+none_left : (additions left : List Fixup) (f : Fixup) (rest : List Fixup) → f ∷ rest ≡ additions ++ left → (length left < length (f ∷ rest)) ⊎ (f ∷ rest ≡ left)
+none_left [] left f rest e = inr e
+none_left (a ∷ additions) left f rest e =
+    let count = ap length e in
+    let sum = length-append (a ∷ additions) left in
+    inl (omega (arith, count, sum))
+
+pub best_falls : (k : Known) (h : Here) (s : State) (value label : ℕ) → TrackedHere k h → h.place.position ≡ h.first.offset → InPlace k.registers.now h.place s
+    → base_test (labels_tabled k) value h.place.import_index h.first h.others.now h.place.c h.place.d h.first.base ≡ true
+    → label ≡ label_in k.labels.now (length h.place.left.now) h.place.c h.place.d
+    → ((e : ℕ) → e < length k.registers.now + 1 → label ≤ label_in k.labels.now (length h.place.left.now) e h.place.d)
+    → ((e : ℕ) → e < length k.registers.now + 1 → label ≤ label_in k.labels.now (length h.place.left.now) h.place.c e)
+    → value ≤ label
+best_falls k h s value label t at in_place met is by_c by_d =
+    let l : Labels = labels_tabled k in
+    let here : s.position ≡ h.first.offset = in_place.position ∙ at in
+    let world = subst (λ (fs : List Fixup). World l h.place.import_index fs) t.parts (tracked_world k h.place t.at) in
+    let reached = (subst (λ (fs : List Fixup). ReachedFrom l h.place.import_index fs) t.parts t.at.reached).0 in
+    let first = reached s (record { position = here; index_is = in_place.import_index }) in
+    go l world here first (none_left (additions first.instr s) first.left h.first h.others.now first.delivers.is)
+  where
+    mine : extension_at (labels_tabled k) (h.first ∷ h.others.now) s ≡ label
+    mine =
+        ap (λ fs. extension_at (labels_tabled k) fs s) (sym t.parts)
+        ∙ (ap (λ p. extension (labels_tabled k) h.place.left.now p (class_of k.registers.now s.c) (class_of k.registers.now s.d)) in_place.position
+        ∙ (ap₂ (λ c d. extension (labels_tabled k) h.place.left.now h.place.position c d) in_place.c in_place.d
+        ∙ (extension_label k h h.place.c h.place.d t at ∙ sym is)))
+    adds : (x : LeadsOn (labels_tabled k) s (h.first ∷ h.others.now)) → s.position ≡ h.first.offset → length x.left < length (h.first ∷ h.others.now) → value ≤ label
+    adds x here fewer =
+        let passed : base_test (labels_tabled k) value s.import_index h.first h.others.now (class_of k.registers.now s.c) (class_of k.registers.now s.d) h.first.base ≡ true =
+            subst (λ (m : ℕ). base_test (labels_tabled k) value m h.first h.others.now (class_of k.registers.now s.c) (class_of k.registers.now s.d) h.first.base ≡ true) (sym in_place.import_index)
+            (subst (λ (c : ℕ). base_test (labels_tabled k) value h.place.import_index h.first h.others.now c (class_of k.registers.now s.d) h.first.base ≡ true) (sym in_place.c)
+            (subst (λ (d : ℕ). base_test (labels_tabled k) value h.place.import_index h.first h.others.now h.place.c d h.first.base ≡ true) (sym in_place.d) met)) in
+        let low = tested (labels_tabled k) value x.instr s h.first h.others.now x.left passed here x.flat x.delivers.is fewer in
+        let falls = x.falls in
+        omega (arith, low, falls, mine)
+    stuck : (x : LeadsOn (labels_tabled k) s (h.first ∷ h.others.now)) → World (labels_tabled k) h.place.import_index (h.first ∷ h.others.now) → s.position ≡ h.first.offset → h.first ∷ h.others.now ≡ x.left → Kind x.instr s → value ≤ label
+    stuck x world here same (sets_c j next) =
+        let to = ap (λ q. extension_at (labels_tabled k) (h.first ∷ h.others.now) q) next in
+        let left = ap (λ fs. extension_at (labels_tabled k) fs (next_state x.instr s)) (sym same) in
+        let at_j = extension-here (labels_tabled k) h.first h.others.now s.position (class_of k.registers.now j) (class_of k.registers.now s.d) here in
+        let low = by_c (class_of k.registers.now j) (class_of-below (labels_tabled k) j) in
+        let parts = ap (λ fs. label_in k.labels.now (length fs) (class_of k.registers.now j) h.place.d) t.parts in
+        let turned = ap (λ d. label_in k.labels.now (length (h.first ∷ h.others.now)) (class_of k.registers.now j) d) in_place.d in
+        let some = some_length x.instr in
+        let falls = x.falls in
+        absurd (omega (arith, to, left, at_j, low, parts, turned, some, falls, mine))
+    stuck x world here same (sets_d j next) =
+        let to = ap (λ q. extension_at (labels_tabled k) (h.first ∷ h.others.now) q) next in
+        let left = ap (λ fs. extension_at (labels_tabled k) fs (next_state x.instr s)) (sym same) in
+        let at_j = extension-here (labels_tabled k) h.first h.others.now s.position (class_of k.registers.now s.c) (class_of k.registers.now j) here in
+        let low = by_d (class_of k.registers.now j) (class_of-below (labels_tabled k) j) in
+        let parts = ap (λ fs. label_in k.labels.now (length fs) h.place.c (class_of k.registers.now j)) t.parts in
+        let turned = ap (λ c. label_in k.labels.now (length (h.first ∷ h.others.now)) c (class_of k.registers.now j)) in_place.c in
+        let some = some_length x.instr in
+        let falls = x.falls in
+        absurd (omega (arith, to, left, at_j, low, parts, turned, some, falls, mine))
+    stuck x world here same (stays c_is d_is) =
+        let q : State = next_state x.instr s in
+        let left = ap (λ fs. extension_at (labels_tabled k) fs q) (sym same) in
+        let turned = ap₂ (λ c d. extension (labels_tabled k) (h.first ∷ h.others.now) q.position (class_of k.registers.now c) (class_of k.registers.now d)) c_is d_is in
+        let low = label-extension (labels_tabled k) h.place.import_index h.first h.others.now q.position (class_of k.registers.now s.c) (class_of k.registers.now s.d) (world-first (labels_tabled k) h.place.import_index h.first h.others.now world) (class_of-below (labels_tabled k) s.c) (class_of-below (labels_tabled k) s.d) in
+        let label_here = extension-here (labels_tabled k) h.first h.others.now s.position (class_of k.registers.now s.c) (class_of k.registers.now s.d) here in
+        let some = some_length x.instr in
+        let falls = x.falls in
+        absurd (omega (arith, left, turned, low, label_here, some, falls, mine))
+    go : (l : Labels) → World (labels_tabled k) h.place.import_index (h.first ∷ h.others.now) → s.position ≡ h.first.offset → (x : LeadsOn (labels_tabled k) s (h.first ∷ h.others.now)) → (length x.left < length (h.first ∷ h.others.now)) ⊎ (h.first ∷ h.others.now ≡ x.left) → value ≤ label
+    go l world here x (inl fewer) = adds x here fewer
+    go l world here x (inr same) = stuck x world here same (kind_of x.instr s)
+
+-- the chosen step falls where its value is at most the label
+pub chosen_falls : (k : Known) (h : Here) (x : Choice) → TrackedHere k h → h.place.position ≡ h.first.offset → Chosen k h x → x.value ≤ label_in k.labels.now (length h.place.left.now) h.place.c h.place.d → FallsOn k h.place x.step
+chosen_falls k h x t at chosen low s in_place =
+    let worth = chosen.worth (labels_tabled k) (agrees_others k h t) in
+    let here = extension_label k h h.place.c h.place.d t at in
+    record { goes = chosen.goes s in_place; falls = omega (arith, worth, here, low) }

@@ -1,0 +1,55 @@
+-- The steps by which a program is read off the tables.
+use Rattle.std.specs.Prelude.{◌≡◌, ◌≤◌, ◌<◌, ℕ, ◌+◌, true, List, ◌∷◌, ◌++◌, length}
+use Rattle.std.specs.List.{AllByRecursion}
+use Rattle.pef_reloc.specs.declared.fixup.Fixup.{Fixup}
+use Rattle.pef_reloc.specs.declared.instr.Instr.{Instr}
+use Rattle.pef_reloc.specs.Deliveries.{is_section}
+use Rattle.pef_reloc.specs.Fixups.{fixup_fits}
+use Rattle.pef_reloc.specs.Instrs.{instr_length, program_length}
+use Rattle.pef_reloc.specs.Steps.{Makes, State, is_flat, start}
+use Rattle.pef_cert.specs.Labels.{Labels, class_of}
+use Rattle.pef_cert.specs.Extension.{extension_at}
+use Rattle.pef_cert.specs.Feasible.{FeasibleFrom}
+use Rattle.pef_cert.specs.Valid.{is_among, rises}
+use Rattle.pef_plan.specs.declared.known.Known.{Known}
+use Rattle.pef_plan.specs.declared.place.Place.{Place}
+use Rattle.pef_plan.specs.declared.place.Here.{Here}
+use Rattle.pef_plan.specs.declared.place.Step.{Step}
+use Rattle.pef_plan.specs.Kept.Places.{Counts, Goes, InPlace, extension_in}
+use Rattle.pef_plan.specs.Kept.Tables.{Agrees, Shaped, label_in}
+use Rattle.pef_plan.specs.Reached.{ReachedFrom}
+
+-- the labels of tables
+abbrev pub labels_tabled : Known → Labels
+labels_tabled k = record { registers = k.registers.now; label = λ left c d. label_in k.labels.now left c d }
+
+-- registers that rise, each the number of a section
+pub record Sections (registers : List ℕ) : Type 0 where
+  pub rising : rises registers ≡ true
+  pub below : (k : ℕ) → is_among registers k ≡ true → k < 8
+
+-- a place where fixups are left, with tables of them all
+pub record Tracked (k : Known) (p : Place) : Type 0 where
+  pub sections : Sections k.registers.now
+  pub shaped : Shaped k (length p.left.now)
+  pub c : p.c < length k.registers.now + 1
+  pub d : p.d < length k.registers.now + 1
+  pub fit : AllByRecursion (λ f. fixup_fits f ≡ true) p.left.now
+  pub counts : AllByRecursion (λ f. Counts k.registers.now f.base) p.left.now
+  pub import_small : p.import_index ≤ 65536
+  pub position_small : p.position ≤ 33554432
+  pub agrees : Agrees (labels_tabled k) k p.left.now
+  pub feasible : FeasibleFrom (labels_tabled k) p.import_index p.left.now
+  pub reached : ReachedFrom (labels_tabled k) p.import_index p.left.now
+
+pub record TrackedHere (k : Known) (h : Here) : Type 0 where
+  pub at : Tracked k h.place
+  pub parts : h.place.left.now ≡ h.first ∷ h.others.now
+
+-- a step from a state in a place, along which the extension falls by the instruction's halfwords at least
+pub record Falls (k : Known) (p : Place) (x : Step) (s : State) : Type 0 where
+  pub goes : Goes k.registers.now p x s
+  pub falls : instr_length x.instr + extension_in (labels_tabled k) x.next ≤ extension_in (labels_tabled k) p
+
+abbrev pub FallsOn : Known → Place → Step → Type 0
+FallsOn k p x = (s : State) → InPlace k.registers.now p s → Falls k p x s
