@@ -58,6 +58,7 @@ skips_to k h t away within other also = go _ refl (moved-there k h t away)
   where
     world : World (labels_tabled k) h.place.import_index (h.first ∷ h.others.now)
     world = subst (λ (fs : List Fixup). World (labels_tabled k) h.place.import_index fs) t.parts (tracked_world k h.place t.at)
+
     go : (x : ℕ) → extension_in (labels_tabled k) h.place ≡ x → Moved (h.first.offset - h.place.position) (here_label k h) (offer_at (labels_tabled k) h.first h.others.now h.place.c h.place.d) x → SkipsTo k h
     go x is (far e) = absurd (other (is ∙ e))
     go x is (near after before e) = absurd (also after (is ∙ e))
