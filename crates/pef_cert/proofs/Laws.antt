@@ -7,7 +7,7 @@ pub use Rattle.pef_cert.proofs.Soundness.{trusted-falls}
 -- the program of a valid certificate is least
 pub use Rattle.pef_cert.proofs.Soundness.{valid-least}
 -- numbers of which some may be missing: one that is there and is at most another, and the value away from an offset
-pub use Rattle.pef_cert.proofs.MinimaLemmas.{AtMost, at_most-weaker, Moved, far, near, skips, late, moved-is, moved-skip}
+pub use Rattle.pef_cert.proofs.MinimaLemmas.{AtMost, at_most-weaker, Moved, far, near, skips, late, moved-is, moved-near, moved-skip}
 -- classes and the numbers of sections in them
 pub use Rattle.pef_cert.proofs.ClassLemmas.{NumberOf, Numbers, RegisteredBase, all_registered, class_of-among, class_of-below, class_of-index, class_of-most, class_of-other, is_among-index, class_of-same, numbers}
 -- what a skip is worth, and what an offer is made of

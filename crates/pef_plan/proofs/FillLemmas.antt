@@ -83,9 +83,10 @@ same_last l rs labels row n c d count same under_c under_d =
 
 offers_before : (l : Labels) (skips : List (List ℕ)) (line : List ℕ) (fs : List Fixup) → length fs < length skips → OffersFrom l skips fs → OffersFrom l (skips ++ line ∷ []) fs
 offers_before l skips line [] count offers = tt
-offers_before l skips line (f ∷ rest) count offers =
-    (λ c d under_c under_d. subst (λ (x : ℕ). OfferIs l f rest c d x f.base) (sym (ap (λ xs. slice_index xs c) (get_or-append skips (line ∷ []) [] (length (f ∷ rest)) count))) (offers.0 c d under_c under_d),
-    offers_before l skips line rest (omega (arith, count)) offers.1)
+offers_before l skips line (f ∷ rest) count offers = (
+  λ c d under_c under_d. subst (λ (x : ℕ). OfferIs l f rest c d x f.base) (sym (ap (λ xs. slice_index xs c) (get_or-append skips (line ∷ []) [] (length (f ∷ rest)) count))) (offers.0 c d under_c under_d),
+  offers_before l skips line rest (omega (arith, count)) offers.1,
+)
 
 -- labels that are those of a row, at its fixup
 record RowLabels (l : Labels) (k : Known) (a : At) (row : List (List ℕ)) : Type 0 where
@@ -209,7 +210,7 @@ row_offers l rs labels skips k a row line index t m numbers same c d under_c und
     let count = t.skips_count in
     let there : suc (length a.others.now) ≡ length skips = omega (arith, count) in
     let value : skip_in (skips ++ line ∷ []) (suc (length a.others.now)) c ≡ slice_index line c =
-        ap (λ n. skip_in (skips ++ line ∷ []) n c) there ∙ ap (λ xs. slice_index xs c) (get_or-append_seam skips line [] []) in
+    ap (λ n. skip_in (skips ++ line ∷ []) n c) there ∙ ap (λ xs. slice_index xs c) (get_or-append_seam skips line [] []) in
     subst (λ (x : ℕ). OfferIs l a.first a.others.now c d x a.first.base) (sym value)
     (line_offers l k a line index c d a.first.base world agrees m.line_is counts.0 refl under_c)
 
@@ -263,15 +264,18 @@ tabled-next rs labels skips k a row line index t m here numbers = record {
   last = λ c d under_c under_d.
       let count = t.labels_count in
       ap (λ square. number_in square c d) (get_or-append labels (row ∷ []) [] 0 (omega (arith, count))) ∙ t.last c d under_c under_d;
-  feasible = λ l same.
-      (subst (λ (n : ℕ). FeasibleAt l n a.first a.others.now) here (row_feasible l k a row (row_labels l rs labels skips k a row line (index_past a.first.base index) t m (numbers l same.registers_are) same)),
-      t.feasible l (same_before l rs labels row (length a.others.now) t.labels_count same));
-  reached = λ l same.
-      (subst (λ (n : ℕ). ReachedAt l n a.first a.others.now) here (row_reached l k a row (row_labels l rs labels skips k a row line (index_past a.first.base index) t m (numbers l same.registers_are) same)),
-      t.reached l (same_before l rs labels row (length a.others.now) t.labels_count same));
-  offers = λ l same.
-      (row_offers l rs labels skips k a row line (index_past a.first.base index) t m (numbers l same.registers_are) same,
-      offers_before l skips line a.others.now (let count = t.skips_count in omega (arith, count)) (t.offers l (same_before l rs labels row (length a.others.now) t.labels_count same)));
+  feasible = λ l same. (
+    subst (λ (n : ℕ). FeasibleAt l n a.first a.others.now) here (row_feasible l k a row (row_labels l rs labels skips k a row line (index_past a.first.base index) t m (numbers l same.registers_are) same)),
+    t.feasible l (same_before l rs labels row (length a.others.now) t.labels_count same),
+  );
+  reached = λ l same. (
+    subst (λ (n : ℕ). ReachedAt l n a.first a.others.now) here (row_reached l k a row (row_labels l rs labels skips k a row line (index_past a.first.base index) t m (numbers l same.registers_are) same)),
+    t.reached l (same_before l rs labels row (length a.others.now) t.labels_count same),
+  );
+  offers = λ l same. (
+    row_offers l rs labels skips k a row line (index_past a.first.base index) t m (numbers l same.registers_are) same,
+    offers_before l skips line a.others.now (let count = t.skips_count in omega (arith, count)) (t.offers l (same_before l rs labels row (length a.others.now) t.labels_count same)),
+  );
 }
 
 -- the state at the fixup of an index

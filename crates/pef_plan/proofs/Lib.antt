@@ -3,6 +3,7 @@ mod FillLemmas
 mod KnownLemmas
 mod Leading
 mod LineLemmas
+mod MoveFacts
 mod Reaching
 mod RegisterLemmas
 mod RowLemmas

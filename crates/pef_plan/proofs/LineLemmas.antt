@@ -96,11 +96,13 @@ closed-of count direct square lows low columns all lines = record {
   where
     Cases : (c d : ℕ) → Type 0
     Cases c d = ((number_in square c d ≡ number_in direct c d) ⊎ (number_in square c d ≡ slice_index lows d + 1)) ⊎ (((e : ℕ) × (e < count) × (number_in square c d ≡ number_in direct c e + 1)) ⊎ (number_in square c d ≡ low + 2))
+
     least_all : (c d : ℕ) → c < count → d < count → low ≤ number_in direct c d
     least_all c d under_c under_d =
         let one = all.low d under_d in
         let two = (columns d under_d).low c under_c in
         omega (arith, one, two)
+
     c_low : (c e d : ℕ) → c < count → e < count → d < count → Cases e d → number_in square c d ≤ 1 + number_in square e d
     c_low c e d under_c under_e under_d (inl (inl is)) =
         let low = (columns d under_d).low e under_e in let mine = (lines c under_c).column d under_d in omega (arith, is, low, mine)
@@ -108,12 +110,14 @@ closed-of count direct square lows low columns all lines = record {
     c_low c e d under_c under_e under_d (inr (inl is)) =
         let least = least_all e is.0 under_e is.1 in let mine = (lines c under_c).all d under_d in let same = is.2 in omega (arith, least, mine, same)
     c_low c e d under_c under_e under_d (inr (inr is)) = let mine = (lines c under_c).all d under_d in omega (arith, is, mine)
+
     d_low : (c d e : ℕ) → c < count → d < count → e < count → Cases c e → number_in square c d ≤ 1 + number_in square c e
     d_low c d e under_c under_d under_e (inl (inl is)) = let mine = (lines c under_c).along d e under_d under_e in omega (arith, is, mine)
     d_low c d e under_c under_d under_e (inl (inr is)) =
         let least = all.low e under_e in let mine = (lines c under_c).all d under_d in omega (arith, is, least, mine)
     d_low c d e under_c under_d under_e (inr (inl is)) = let mine = (lines c under_c).along d is.0 under_d is.1 in let same = is.2 in omega (arith, mine, same)
     d_low c d e under_c under_d under_e (inr (inr is)) = let mine = (lines c under_c).all d under_d in omega (arith, is, mine)
+
     reach : (c d : ℕ) → c < count → d < count → Cases c d → (number_in square c d ≡ number_in direct c d) ⊎ (((e : ℕ) × (e < count) × (1 + number_in square e d ≤ number_in square c d)) ⊎ ((e : ℕ) × (e < count) × (1 + number_in square c e ≤ number_in square c d)))
     reach c d under_c under_d (inl (inl is)) = inl is
     reach c d under_c under_d (inl (inr is)) =

@@ -103,6 +103,7 @@ used_all fixups most rs fit enough u = record {
     past k over =
         false_of (is_among rs k) (λ among. let low = u.below k among in omega (arith, low))
         ∙ sym (false_of (uses_section fixups k) (λ used. let low = used_section-below fixups k fit used in omega (arith, low)))
+
     go : (k : ℕ) (b : Bool) → nat_lt k most ≡ b → is_among rs k ≡ uses_section fixups k
     go k true e = u.used k (ltb-true k most e)
     go k false e = past k (ltb-false k most e)

@@ -166,10 +166,10 @@ along-next r start p q from n a next = record {
   d = next.d ∙ a.d;
   behind = λ j left is.
       let more : p.left.now ≡ units r (suc j) p.position p.import_index ++ left =
-          next.left
-          ∙ (ap (λ fs. unit r p.position p.import_index ++ fs) (is ∙ ap₂ (λ x y. units r j x y ++ left) next.position next.import_index)
-          ∙ (sym (append_assoc (unit r p.position p.import_index) (units r j (p.position + stride r) (p.import_index + imports r)) left)
-          ∙ ap (λ fs. fs ++ left) (sym (units-more r j p.position p.import_index)))) in
+      next.left
+      ∙ (ap (λ fs. unit r p.position p.import_index ++ fs) (is ∙ ap₂ (λ x y. units r j x y ++ left) next.position next.import_index)
+      ∙ (sym (append_assoc (unit r p.position p.import_index) (units r j (p.position + stride r) (p.import_index + imports r)) left)
+      ∙ ap (λ fs. fs ++ left) (sym (units-more r j p.position p.import_index)))) in
       let count : n + suc j ≡ n + 1 + j = omega arith in
       a.behind (suc j) left more ∙ ap (λ m. units r m from start.import_index ++ left) count;
 }
@@ -308,5 +308,6 @@ one_goes k h r from q here of is left position index c d = λ s at. record {
     some_limit (SpacedPairs i j) = omega arith
     some_limit Imports = omega arith
     some_limit (Skip w j) = omega arith
+
     one_unit : (r : Run) (p m : ℕ) → unit r p m ≡ units r 1 p m
     one_unit r p m = sym (units-more r 0 p m ∙ (ap (λ fs. unit r p m ++ fs) (units-none r (p + stride r) (m + imports r)) ∙ append-nil (unit r p m)))

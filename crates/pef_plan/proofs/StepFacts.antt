@@ -143,15 +143,17 @@ best_falls k h s value label t at in_place met is by_c by_d =
         ∙ (ap (λ p. extension (labels_tabled k) h.place.left.now p (class_of k.registers.now s.c) (class_of k.registers.now s.d)) in_place.position
         ∙ (ap₂ (λ c d. extension (labels_tabled k) h.place.left.now h.place.position c d) in_place.c in_place.d
         ∙ (extension_label k h h.place.c h.place.d t at ∙ sym is)))
+
     adds : (x : LeadsOn (labels_tabled k) s (h.first ∷ h.others.now)) → s.position ≡ h.first.offset → length x.left < length (h.first ∷ h.others.now) → value ≤ label
     adds x here fewer =
         let passed : base_test (labels_tabled k) value s.import_index h.first h.others.now (class_of k.registers.now s.c) (class_of k.registers.now s.d) h.first.base ≡ true =
-            subst (λ (m : ℕ). base_test (labels_tabled k) value m h.first h.others.now (class_of k.registers.now s.c) (class_of k.registers.now s.d) h.first.base ≡ true) (sym in_place.import_index)
-            (subst (λ (c : ℕ). base_test (labels_tabled k) value h.place.import_index h.first h.others.now c (class_of k.registers.now s.d) h.first.base ≡ true) (sym in_place.c)
-            (subst (λ (d : ℕ). base_test (labels_tabled k) value h.place.import_index h.first h.others.now h.place.c d h.first.base ≡ true) (sym in_place.d) met)) in
+        subst (λ (m : ℕ). base_test (labels_tabled k) value m h.first h.others.now (class_of k.registers.now s.c) (class_of k.registers.now s.d) h.first.base ≡ true) (sym in_place.import_index)
+        (subst (λ (c : ℕ). base_test (labels_tabled k) value h.place.import_index h.first h.others.now c (class_of k.registers.now s.d) h.first.base ≡ true) (sym in_place.c)
+        (subst (λ (d : ℕ). base_test (labels_tabled k) value h.place.import_index h.first h.others.now h.place.c d h.first.base ≡ true) (sym in_place.d) met)) in
         let low = tested (labels_tabled k) value x.instr s h.first h.others.now x.left passed here x.flat x.delivers.is fewer in
         let falls = x.falls in
         omega (arith, low, falls, mine)
+
     stuck : (x : LeadsOn (labels_tabled k) s (h.first ∷ h.others.now)) → World (labels_tabled k) h.place.import_index (h.first ∷ h.others.now) → s.position ≡ h.first.offset → h.first ∷ h.others.now ≡ x.left → Kind x.instr s → value ≤ label
     stuck x world here same (sets_c j next) =
         let to = ap (λ q. extension_at (labels_tabled k) (h.first ∷ h.others.now) q) next in
@@ -182,6 +184,7 @@ best_falls k h s value label t at in_place met is by_c by_d =
         let some = some_length x.instr in
         let falls = x.falls in
         absurd (omega (arith, left, turned, low, label_here, some, falls, mine))
+
     go : (l : Labels) → World (labels_tabled k) h.place.import_index (h.first ∷ h.others.now) → s.position ≡ h.first.offset → (x : LeadsOn (labels_tabled k) s (h.first ∷ h.others.now)) → (length x.left < length (h.first ∷ h.others.now)) ⊎ (h.first ∷ h.others.now ≡ x.left) → value ≤ label
     go l world here x (inl fewer) = adds x here fewer
     go l world here x (inr same) = stuck x world here same (kind_of x.instr s)

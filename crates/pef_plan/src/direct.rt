@@ -144,13 +144,7 @@ impl<'a> Known<'a> {
         }
     }
 
-    fn best_of_two(
-        self,
-        here: Here<'a>,
-        section: u32,
-        second: u32,
-        first: Choice<'a>,
-    ) -> Choice<'a>
+    fn best_of_two(self, here: Here<'a>, section: u32, second: u32, first: Choice<'a>) -> Choice<'a>
         requires here { HereOf self here }
         requires at { here.place.position ≡ here.first.offset }
         requires holds { Holds self.registers.now section here.place.c }

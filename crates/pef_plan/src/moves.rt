@@ -2,11 +2,11 @@ ghost use Rattle.std.specs.Prelude.{◌≡◌, ◌+◌, ◌<◌, ◌≤◌, leng
 ghost use Rattle.pef_cert.specs.Extension.{extension};
 ghost use Rattle.pef_cert.specs.Labels.{class_of};
 ghost use Rattle.pef_plan.specs.Kept.Places.{extension_in};
-ghost use Rattle.pef_plan.specs.Kept.Steps.{FallsOn, Sections, Tracked, labels_tabled};
+ghost use Rattle.pef_plan.specs.Kept.Steps.{FallsOn, Sections, Tracked, TrackedHere, labels_tabled};
 ghost use Rattle.pef_plan.specs.Kept.Tables.{Shaped, label_in};
 
 use crate::known::Known;
-use crate::place::{Place, Step};
+use crate::place::{Here, Place, Step};
 use pef_reloc::{Instr, MAX_SECTIONS};
 
 impl<'a> Known<'a> {
@@ -56,6 +56,38 @@ impl<'a> Known<'a> {
     {
         let next = Place { d: class, ..place };
         let instr = Instr::SmSetSectD(self.section_of(class));
+        Step { instr, next }
+    }
+}
+
+impl<'a> Known<'a> {
+    /// The step to the offset of the next fixup, from anywhere.
+    pub(crate) fn set_position(self, here: Here<'a>) -> Step<'a>
+        requires here { TrackedHere self here }
+        requires low { 2 + extension (labels_tabled self) here.place.left.now here.first.offset here.place.c here.place.d ≤ extension_in (labels_tabled self) here.place }
+        requires fits { here.first.offset < 67108864 }
+        ensures { FallsOn self.entry here.entry.place result }
+    {
+        let position = u64::from(here.first.offset);
+        let next = Place {
+            position,
+            ..here.place
+        };
+        let instr = Instr::SetPosition(here.first.offset);
+        Step { instr, next }
+    }
+
+    /// The step by so many bytes.
+    pub(crate) fn increment(self, place: Place<'a>, bytes: u64) -> Step<'a>
+        requires tracked { Tracked self place }
+        requires some { 1 ≤ bytes }
+        requires few { bytes ≤ 4096 }
+        requires low { 1 + extension (labels_tabled self) place.left.now (place.position + bytes) place.c place.d ≤ extension_in (labels_tabled self) place }
+        ensures { FallsOn self.entry place.entry result }
+    {
+        let position = place.position + bytes;
+        let next = Place { position, ..place };
+        let instr = Instr::IncrPosition(bytes as u32);
         Step { instr, next }
     }
 }

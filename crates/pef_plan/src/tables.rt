@@ -17,11 +17,7 @@ pub(crate) struct Tables {
 }
 
 /// Fills the tables from the last fixup to the first.
-pub(crate) fn fill(
-    alloc: Global,
-    fixups: &[Fixup],
-    registers: &[u32],
-) -> Result<Tables, AllocError>
+pub(crate) fn fill(alloc: Global, fixups: &[Fixup], registers: &[u32]) -> Result<Tables, AllocError>
     requires fit { fixups_fit fixups.now ≡ true }
     requires registers { RegistersOf fixups.now registers.now }
     ensures { IfOk result (λ t. Tabled registers.now t.labels.items t.skips.items 0 fixups.now) }

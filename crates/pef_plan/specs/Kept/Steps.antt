@@ -1,5 +1,5 @@
 -- The steps by which a program is read off the tables.
-use Rattle.std.specs.Prelude.{◌≡◌, ◌≤◌, ◌<◌, ℕ, ◌+◌, true, List, ◌∷◌, ◌++◌, length}
+use Rattle.std.specs.Prelude.{◌≡◌, ◌≤◌, ◌<◌, ℕ, ◌+◌, ◌-◌, ◌%◌, ◌==◌, Some, true, List, ◌∷◌, ◌++◌, length}
 use Rattle.std.specs.List.{AllByRecursion}
 use Rattle.pef_reloc.specs.declared.fixup.Fixup.{Fixup}
 use Rattle.pef_reloc.specs.declared.instr.Instr.{Instr}
@@ -8,7 +8,7 @@ use Rattle.pef_reloc.specs.Fixups.{fixup_fits}
 use Rattle.pef_reloc.specs.Instrs.{instr_length, program_length}
 use Rattle.pef_reloc.specs.Steps.{Makes, State, is_flat, start}
 use Rattle.pef_cert.specs.Labels.{Labels, class_of}
-use Rattle.pef_cert.specs.Extension.{extension_at}
+use Rattle.pef_cert.specs.Extension.{offer_at}
 use Rattle.pef_cert.specs.Feasible.{FeasibleFrom}
 use Rattle.pef_cert.specs.Valid.{is_among, rises}
 use Rattle.pef_plan.specs.declared.known.Known.{Known}
@@ -53,3 +53,10 @@ pub record Falls (k : Known) (p : Place) (x : Step) (s : State) : Type 0 where
 
 abbrev pub FallsOn : Known → Place → Step → Type 0
 FallsOn k p x = (s : State) → InPlace k.registers.now p s → Falls k p x s
+
+-- a place so far before a fixup that the extension there is an offer
+pub record SkipsTo (k : Known) (h : Here) : Type 0 where
+  pub after : 4 ≤ h.first.offset - h.place.position
+  pub before : h.first.offset - h.place.position ≤ 1020
+  pub even : ((h.first.offset - h.place.position) % 4 == 0) ≡ true
+  pub offer : offer_at (labels_tabled k) h.first h.others.now h.place.c h.place.d ≡ Some (extension_in (labels_tabled k) h.place)

@@ -38,6 +38,6 @@ returns c = λ s in_place.
     let is = c.label-label.ensures in
     let met = c.direct-best.ensures.least (labels_tabled k) c.direct-best.result.value (agrees_others k h c.requires.here) (omega arith) in
     let low = best_falls k h s c.direct-best.result.value c.label-label.result c.requires.here c.requires.at in_place met is
-        (λ e under. c.loop-class.invariant.by_c e (omega (arith, under, end, past)))
-        (λ e under. c.loop-class.invariant.by_d e (omega (arith, under, end, past))) in
+    (λ e under. c.loop-class.invariant.by_c e (omega (arith, under, end, past)))
+    (λ e under. c.loop-class.invariant.by_d e (omega (arith, under, end, past))) in
     chosen_falls k h c.direct-best.result c.requires.here c.requires.at c.direct-best.ensures.chosen (omega (arith, low, is)) s in_place
