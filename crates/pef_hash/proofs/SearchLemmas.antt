@@ -1,12 +1,12 @@
 -- Tables whose slots lead to their exports.
 use Rattle.std.proofs.Common.{◌≡◌, ℕ, ◌+◌, ◌-◌, ◌^◌, ◌<◌, ◌≤◌, inl, inr, List, Option, None, Some, length, refl, sym, ◌∙◌, arith}
-use Rattle.std.specs.Prelude.{IsTrue, nat_le, nat_lt, ◌&&◌}
+use Rattle.std.specs.Prelude.{IsTrue, nat_le, nat_lt}
 use Rattle.std.proofs.lemmas.Bool.{and_parts, leb-true, ltb-true}
 use Rattle.std.proofs.lemmas.Bool.Decides.{eqb_tells, leb_tells}
 use Rattle.pef_words.specs.Refusals.{◌>>=◌, first_among}
 use Rattle.pef_words.proofs.Laws.Refusals.{first_among-at, first_among-none, none_among, some_among}
 use Rattle.pef_hash.specs.Exports.{ExportTable, export_named, key_of, name_of, named_at, slot_count, slot_first, slot_word_of}
-use Rattle.pef_hash.specs.Regular.{IsCounted, IsKeyOf, IsRegular}
+use Rattle.pef_hash.specs.Regular.{IsCounted, IsRegular}
 use Rattle.pef_hash.specs.Word.{hash_word, slot}
 use Rattle.pef_hash.specs.Kept.Searches.{AreInTurnTo, AreSlotsInTurn, IsHashed, LeadsToAll, leads_to}
 use Rattle.pef_hash.proofs.NamedExports.{named_only}

@@ -1,0 +1,150 @@
+use cfm_closure::{BindFault, Store};
+use cfm_prepare::{Connection, Context, PrepareFault};
+use pef_script::Script;
+use pef_write::link;
+use std::alloc::{AllocError, Global};
+use std::fmt::Write;
+use std::process::Abort;
+use std::test::Fail;
+
+/// A fragment: its name, its script, and what is written over some bytes of its container.
+pub(crate) type Fragment = (&'static str, &'static str, &'static [(usize, u8)]);
+
+/// What is done: a fragment is prepared, or a connection closed.
+#[derive(Clone, Copy, Debug)]
+pub(crate) enum Step {
+    Prepare(&'static str),
+    Close(u32),
+}
+
+/// The container of a script, with other bytes in some places, which count from the end where they are
+/// 1,000 and more.
+fn container(alloc: Global, fragment: &Fragment) -> Result<Vec<u8>, Fail> {
+    let script = Script::read(alloc, fragment.1.as_bytes())?;
+    let linked = link(alloc, &script)?;
+    let mut bytes = Vec::from_slice(alloc, linked.bytes())?;
+    let len = bytes.len();
+    for (place, byte) in fragment.2 {
+        let at = if *place < 1_000 {
+            *place
+        } else {
+            len.saturating_sub(*place - 1_000)
+        };
+        if at < bytes.len() {
+            bytes[at] = *byte;
+        }
+    }
+    Ok(bytes)
+}
+
+/// The containers of some fragments.
+pub(crate) fn containers(alloc: Global, fragments: &[Fragment]) -> Result<Vec<Vec<u8>>, Fail> {
+    let mut containers = Vec::new(alloc);
+    for fragment in fragments {
+        let bytes = container(alloc, fragment)?;
+        containers.push(bytes)?;
+    }
+    Ok(containers)
+}
+
+/// Takes steps in a context over some fragments, and compares after each what was answered, and which
+/// sections are present.
+pub(crate) fn take_steps(
+    rt: &impl Abort,
+    alloc: Global,
+    fragments: &[Fragment],
+    limit: u32,
+    steps: &[(Step, &str)],
+) -> Result<(), Fail> {
+    let containers = containers(alloc, fragments)?;
+    let mut names = Vec::new(alloc);
+    let mut store = Store::new(alloc);
+    for (fragment, bytes) in fragments.iter().zip(&containers) {
+        assert!(rt; store.len() < 256);
+        store.add(fragment.0.as_bytes(), bytes)?;
+        names.push(fragment.0)?;
+    }
+    take_steps_in(rt, alloc, store, &names, limit, steps)
+}
+
+/// The same in a context over a store, whose fragments have some names.
+pub(crate) fn take_steps_in(
+    rt: &impl Abort,
+    alloc: Global,
+    store: Store<'_>,
+    names: &[&str],
+    limit: u32,
+    steps: &[(Step, &str)],
+) -> Result<(), Fail> {
+    let mut context = Context::new(alloc, store, limit);
+    for (step, wanted) in steps {
+        let mut text = String::new(alloc);
+        take_step(&mut text, &mut context, *step)?;
+        for (p, name) in names.iter().enumerate() {
+            tell_sections(&mut text, &context, p, name)?;
+        }
+        assert_eq!(rt; text.as_str(), *wanted);
+    }
+    Ok(())
+}
+
+fn take_step(text: &mut String, context: &mut Context<'_>, step: Step) -> Result<(), AllocError> {
+    match step {
+        Step::Prepare(name) => match context.prepare(name.as_bytes()) {
+            Ok(connection) => write!(text, "{}", connection.0)?,
+            Err(fault) => tell_fault(text, fault)?,
+        },
+        Step::Close(number) => match context.close(Connection(number)) {
+            Ok(()) => text.push_str("closed")?,
+            Err(fault) => write!(text, "{} {fault}", fault.number())?,
+        },
+    }
+    Ok(())
+}
+
+/// The sections of a fragment that is present, each with its address and its bytes.
+fn tell_sections(
+    text: &mut String,
+    context: &Context<'_>,
+    position: usize,
+    name: &str,
+) -> Result<(), AllocError> {
+    for i in 0..8 {
+        match context.fragment_section(position, i) {
+            Some((address, bytes)) => {
+                write!(text, ", {name} {address:08X} ")?;
+                for byte in bytes {
+                    write!(text, "{byte:02X}")?;
+                }
+            }
+            None => {}
+        }
+    }
+    Ok(())
+}
+
+fn tell_fault(text: &mut String, fault: PrepareFault<'_>) -> Result<(), AllocError> {
+    write!(text, "{} {fault}", fault.number())?;
+    match fault {
+        PrepareFault::NoRoom { fragment }
+        | PrepareFault::Pack { fragment, .. }
+        | PrepareFault::Reloc { fragment, .. }
+        | PrepareFault::Bind(BindFault::Container { fragment, .. })
+        | PrepareFault::Bind(BindFault::Loader { fragment, .. })
+        | PrepareFault::Bind(BindFault::LibraryMissing { fragment, .. })
+        | PrepareFault::Bind(BindFault::SymbolMissing { fragment, .. })
+        | PrepareFault::Bind(BindFault::ImplementationTooOld { fragment, .. })
+        | PrepareFault::Bind(BindFault::ImplementationTooNew { fragment, .. })
+        | PrepareFault::Bind(BindFault::ReexportLoop { fragment, .. })
+        | PrepareFault::Bind(BindFault::InitLoop { fragment }) => tell_name(text, fragment),
+        _ => Ok(()),
+    }
+}
+
+fn tell_name(text: &mut String, name: &[u8]) -> Result<(), AllocError> {
+    text.push(' ')?;
+    for byte in name {
+        text.push(char::from(*byte))?;
+    }
+    Ok(())
+}

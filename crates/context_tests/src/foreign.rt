@@ -1,0 +1,134 @@
+use crate::fixture::Step::Prepare;
+use crate::fixture::{Fragment, take_steps, take_steps_in};
+use cfm_closure::Store;
+use std::test::Fail;
+
+const LIMIT: u32 = 0x1000_0000;
+
+/// Two sections, a relocation program of one halfword for the second, and an export `go`.
+const GO: [u8; 250] = [
+    0x4A, 0x6F, 0x79, 0x21, 0x70, 0x65, 0x66, 0x66, 0x70, 0x77, 0x70, 0x63, 0x00, 0x00, 0x00, 0x01,
+    0x00, 0x00, 0x00, 0x00, 0x00, 0x00, 0x00, 0x00, 0x00, 0x00, 0x00, 0x00, 0x00, 0x00, 0x00, 0x01,
+    0x00, 0x03, 0x00, 0x02, 0x00, 0x00, 0x00, 0x00, 0xFF, 0xFF, 0xFF, 0xFF, 0x00, 0x00, 0x00, 0x00,
+    0x00, 0x00, 0x00, 0x08, 0x00, 0x00, 0x00, 0x08, 0x00, 0x00, 0x00, 0x08, 0x00, 0x00, 0x00, 0x80,
+    0x00, 0x04, 0x04, 0x00, 0xFF, 0xFF, 0xFF, 0xFF, 0x00, 0x00, 0x00, 0x00, 0x00, 0x00, 0x00, 0x10,
+    0x00, 0x00, 0x00, 0x10, 0x00, 0x00, 0x00, 0x10, 0x00, 0x00, 0x00, 0x90, 0x01, 0x01, 0x04, 0x00,
+    0xFF, 0xFF, 0xFF, 0xFF, 0x00, 0x00, 0x00, 0x00, 0x00, 0x00, 0x00, 0x00, 0x00, 0x00, 0x00, 0x00,
+    0x00, 0x00, 0x00, 0x5A, 0x00, 0x00, 0x00, 0xA0, 0x04, 0x04, 0x04, 0x00, 0x00, 0x00, 0x00, 0x00,
+    0x00, 0x11, 0x22, 0x33, 0x44, 0x55, 0x66, 0x77, 0x00, 0x00, 0x00, 0x00, 0x00, 0x00, 0x00, 0x00,
+    0x00, 0x00, 0x00, 0x00, 0x00, 0x00, 0x00, 0x00, 0x00, 0x00, 0x00, 0x04, 0x00, 0x00, 0x00, 0x00,
+    0x00, 0x00, 0x00, 0x01, 0x00, 0x00, 0x00, 0x00, 0xFF, 0xFF, 0xFF, 0xFF, 0x00, 0x00, 0x00, 0x00,
+    0xFF, 0xFF, 0xFF, 0xFF, 0x00, 0x00, 0x00, 0x00, 0x00, 0x00, 0x00, 0x00, 0x00, 0x00, 0x00, 0x00,
+    0x00, 0x00, 0x00, 0x01, 0x00, 0x00, 0x00, 0x44, 0x00, 0x00, 0x00, 0x46, 0x00, 0x00, 0x00, 0x48,
+    0x00, 0x00, 0x00, 0x00, 0x00, 0x00, 0x00, 0x01, 0x00, 0x01, 0x00, 0x00, 0x00, 0x00, 0x00, 0x01,
+    0x00, 0x00, 0x00, 0x00, 0x46, 0x01, 0x67, 0x6F, 0x00, 0x04, 0x00, 0x00, 0x00, 0x02, 0x00, 0xA1,
+    0x02, 0x00, 0x00, 0x00, 0x00, 0x00, 0x00, 0x00, 0x00, 0x01,
+];
+
+/// With one halfword more, the program names a section that isn't there.
+#[test]
+fn bad_program(rt: HostRuntime) -> Result<(), Fail> {
+    let alloc = rt.alloc();
+    let mut bad = GO;
+    bad[223] = 2;
+    let mut store = Store::new(alloc);
+    store.add(b"x", &bad)?;
+    store.add(b"y", &GO)?;
+    let steps = [
+        (Prepare("x"), "39 SectionOutside x"),
+        (
+            Prepare("y"),
+            "0, y 00010000 0011223344556677, y 00010010 00010000000100100001000400010010",
+        ),
+    ];
+    take_steps_in(&rt, alloc, store, &["x", "y"], LIMIT, &steps)
+}
+
+const A: &str =
+    "library L 1 0 -\nimport v data strong\nsection a data process 4 4\nfix a 0 import v\n";
+
+/// A library of pattern-initialized data: seven packed bytes for eight.
+const PACKED: Fragment = (
+    "L",
+    "versions 1 0 0\nsection l data process 4 8\nbytes l 620102AABB0102\nexport v data l 0\n",
+    &[(55, 8), (64, 2)],
+);
+
+/// The same, with a byte that is no opcode.
+const BAD_PACKED: Fragment = (
+    "L",
+    "versions 1 0 0\nsection l data process 4 8\nbytes l A2\nexport v data l 0\n",
+    &[(55, 1), (64, 2)],
+);
+
+#[test]
+fn packed_library(rt: HostRuntime) -> Result<(), Fail> {
+    let steps = [(
+        Prepare("A"),
+        "0, A 00010010 00010000, L 00010000 AABB01AABB02AABB",
+    )];
+    take_steps(&rt, rt.alloc(), &[("A", A, &[]), PACKED], LIMIT, &steps)?;
+    let steps = [(Prepare("A"), "22 BadOpcode L")];
+    take_steps(&rt, rt.alloc(), &[("A", A, &[]), BAD_PACKED], LIMIT, &steps)
+}
+
+/// An import that two fragments pass on, from one to the next.
+#[test]
+fn passed_on_twice(rt: HostRuntime) -> Result<(), Fail> {
+    let a = "library N 1 0 -\nimport t data strong\nsection a data process 4 4\nfix a 0 import t\n";
+    let n =
+        "versions 1 0 0\nlibrary M 1 0 -\nimport u data strong\nsection n data process 4 4\nexport t data n 0\n";
+    let m =
+        "versions 1 0 0\nlibrary L 1 0 -\nimport v data strong\nsection m data process 4 4\nexport u data m 0\n";
+    let l = "versions 1 0 0\nsection l data process 4 8\nexport v data l 4\n";
+    let passed: &[(usize, u8)] = &[(1_002, 0xFF), (1_001, 0xFD)];
+    let steps = [(
+        Prepare("A"),
+        "0, A 00010030 00010004, N 00010020 00000000, M 00010010 00000000, L 00010000 0000000000000000",
+    )];
+    let fragments = [
+        ("A", a, &[] as &[(usize, u8)]),
+        ("N", n, passed),
+        ("M", m, passed),
+        ("L", l, &[]),
+    ];
+    take_steps(&rt, rt.alloc(), &fragments, LIMIT, &steps)
+}
+
+/// What a weak import, a missing library and a circle lead to.
+#[test]
+fn binding(rt: HostRuntime) -> Result<(), Fail> {
+    let l = "versions 1 0 0\nsection l data process 4 4\nbytes l 0000002A\nexport v data l 0\n";
+    let weak =
+        "library L 1 0 -\nimport w data weak\nsection a data process 4 4\nbytes a 00000007\nfix a 0 import w\n";
+    let strong =
+        "library L 1 0 -\nimport w data strong\nsection a data process 4 4\nfix a 0 import w\n";
+    let absent =
+        "library L 1 0 weak\nimport v data strong\nsection a data process 4 4\nbytes a 00000007\nfix a 0 import v\n";
+    let steps = [(Prepare("A"), "0, A 00010010 00000007, L 00010000 0000002A")];
+    take_steps(
+        &rt,
+        rt.alloc(),
+        &[("A", weak, &[]), ("L", l, &[])],
+        LIMIT,
+        &steps,
+    )?;
+    let steps = [(Prepare("A"), "62 SymbolMissing A")];
+    take_steps(
+        &rt,
+        rt.alloc(),
+        &[("A", strong, &[]), ("L", l, &[])],
+        LIMIT,
+        &steps,
+    )?;
+    let steps = [(Prepare("A"), "61 LibraryMissing A")];
+    take_steps(&rt, rt.alloc(), &[("A", A, &[])], LIMIT, &steps)?;
+    let steps = [(Prepare("A"), "0, A 00010000 00000007")];
+    take_steps(&rt, rt.alloc(), &[("A", absent, &[])], LIMIT, &steps)?;
+    let steps = [(Prepare("A"), "66 InitLoop B")];
+    let circle = [
+        ("A", "library B 0 0 before\n", &[] as &[(usize, u8)]),
+        ("B", "library A 0 0 before\n", &[]),
+    ];
+    take_steps(&rt, rt.alloc(), &circle, LIMIT, &steps)
+}
