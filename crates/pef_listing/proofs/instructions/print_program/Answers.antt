@@ -1,7 +1,6 @@
 -- Each instruction sends its line.
-use Rattle.std.proofs.Common.{◌≡◌, ◌++◌, List, ℕ, [], sym, ap, ◌∙◌}
-use Rattle.pef_reloc.specs.Unrolled.{instrs_of}
-use Rattle.pef_reloc.specs.Views.{listed, program_bytes}
+use Rattle.std.proofs.Common.{◌≡◌, ◌++◌, List, ℕ, sym, ap, ◌∙◌}
+use Rattle.pef_reloc.specs.Views.{listed}
 use Rattle.pef_listing.specs.Instructions.{program_text}
 use Rattle.pef_ports.proofs.Laws.Sending.{Sends-short, sent-all, sent-piece, sent-short}
 use Rattle.pef_listing.proofs.instructions.print_program.Goals as goal

@@ -1,5 +1,5 @@
 -- Each thing sends its lines.
-use Rattle.std.proofs.Common.{◌≡◌, ◌+◌, ◌-◌, ◌++◌, suc, List, ℕ, [], refl, sym, ap, ◌∙◌, arith}
+use Rattle.std.proofs.Common.{◌≡◌, ◌-◌, arith}
 use Rattle.pef_listing.specs.Listing.{each_text}
 use Rattle.pef_listing.proofs.PieceLemmas.{each_text-more, each_text-none}
 use Rattle.pef_ports.proofs.Laws.Sending.{Sends-short, sent-all, sent-nothing, sent-piece, sent-short}

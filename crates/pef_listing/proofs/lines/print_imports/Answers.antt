@@ -1,5 +1,5 @@
 -- Each import sends its line.
-use Rattle.std.proofs.Common.{◌≡◌, ◌-◌, ◌∙◌, ℕ, refl, arith}
+use Rattle.std.proofs.Common.{◌≡◌, ◌-◌, ◌∙◌, ℕ, arith}
 use Rattle.pef_loader.specs.Views.{loaded}
 use Rattle.pef_listing.specs.Listing.{each_text, import_lines}
 use Rattle.pef_listing.proofs.PieceLemmas.{each_text-more, each_text-none}

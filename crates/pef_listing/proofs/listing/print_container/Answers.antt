@@ -1,5 +1,5 @@
 -- Text after text.
-use Rattle.pef_ports.proofs.Laws.Sending.{Prints-then, Sends-short, Sends-then, StopsShort-longer, StopsShort-then}
+use Rattle.pef_ports.proofs.Laws.Sending.{Sends-short, Sends-then, StopsShort-longer}
 use Rattle.std.proofs.Common.{◌++◌, subst}
 use Rattle.pef_views.specs.Views.{contained}
 use Rattle.pef_views.specs.declared.header.Header.{Header}

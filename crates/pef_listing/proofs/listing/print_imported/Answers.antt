@@ -1,5 +1,5 @@
 -- Text after text.
-use Rattle.pef_ports.proofs.Laws.Sending.{Prints-then, Sends-short, Sends-then, StopsShort-longer, StopsShort-then}
+use Rattle.pef_ports.proofs.Laws.Sending.{Sends-short, Sends-then, StopsShort-longer}
 use Rattle.pef_listing.proofs.listing.print_imported.Goals as goal
 
 pub returns-in_err-print_each : goal.returns-in_err-print_each

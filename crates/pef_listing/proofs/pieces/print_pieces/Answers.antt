@@ -1,7 +1,7 @@
 -- Each piece sends its text.
-use Rattle.std.proofs.Common.{◌≡◌, ◌+◌, ◌++◌, drop, get_or, sym, ap, ◌∙◌}
+use Rattle.std.proofs.Common.{◌+◌, drop, get_or, ap, ◌∙◌}
 use Rattle.std.proofs.lemmas.List.{at_drop_more, drop_all}
-use Rattle.pef_listing.specs.Pieces.{piece_text, pieces_text}
+use Rattle.pef_listing.specs.Pieces.{pieces_text}
 use Rattle.pef_listing.specs.declared.pieces.Piece.TheVariants.{Number}
 use Rattle.pef_listing.proofs.PieceLemmas.{pieces-more}
 use Rattle.pef_ports.proofs.Laws.Sending.{Sends-short, sent-all, sent-nothing, sent-piece, sent-short}

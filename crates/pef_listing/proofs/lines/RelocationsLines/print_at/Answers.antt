@@ -1,7 +1,6 @@
 -- The line of the header and the program, which is readable.
-use Rattle.std.proofs.Common.{◌≡◌, ◌+◌, ◌/◌, ◌++◌, ℕ, List, None, Some, length, refl, sym, ap, ◌∙◌, subst, arith}
+use Rattle.std.proofs.Common.{◌≡◌, ℕ, List, None, subst, arith}
 use Rattle.pef_words.proofs.Laws.Refusals.{none_among}
-use Rattle.pef_loader.specs.Loader.{reloc_of}
 use Rattle.pef_loader.specs.Views.{loaded}
 use Rattle.pef_reloc.specs.Unrolled.{instrs_of, program_fault}
 use Rattle.pef_reloc.specs.Views.{program_bytes}
