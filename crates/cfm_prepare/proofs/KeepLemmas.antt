@@ -64,8 +64,10 @@ apart-append (f ∷ xs) ys left right cross = (all-append (ArePairApart f) xs ys
 
 apart-index : (fs : List Present) → AllApart fs → AreApartAll fs
 apart-index [] apart = tt
-apart-index (f ∷ fs) apart = (all-index (ArePairApart f) fs (λ i under a b. apart 0 (suc i) a b (omega arith) (omega (arith, under)) (λ e. absurd (omega (arith, e)))),
-    apart-index fs (λ i j a b under high other. apart (suc i) (suc j) a b (omega (arith, under)) (omega (arith, high)) (λ e. other (omega (arith, e)))))
+apart-index (f ∷ fs) apart = (
+  all-index (ArePairApart f) fs (λ i under a b. apart 0 (suc i) a b (omega arith) (omega (arith, under)) (λ e. absurd (omega (arith, e)))),
+  apart-index fs (λ i j a b under high other. apart (suc i) (suc j) a b (omega (arith, under)) (omega (arith, high)) (λ e. other (omega (arith, e)))),
+)
 
 chosen-apart : (b : Bool) (f : Present) (fs : List Present) → AllBy (ArePairApart f) fs → AreApartAll fs → AreApartAll (cond b (f ∷ fs) fs)
 chosen-apart true f fs here rest = (here, rest)
@@ -110,7 +112,7 @@ apart-new : (pairs : List Pair) (s t : State) (name : List ℕ) (number : ℕ) (
 apart-new pairs s t name number step f there =
     let are = step.prepared.are in
     all-index (λ g. ArePairApart g f) step.fresh (λ i under a b low less same.
-        placed-new s.pairs s.memory step.fresh are.empty i a (place_at f.places b).address (there b less).0 are.placed under low (there b less).1 (sym same))
+    placed-new s.pairs s.memory step.fresh are.empty i a (place_at f.places b).address (there b less).0 are.placed under low (there b less).1 (sym same))
 
 kept-new : (pairs : List Pair) (s t : State) (name : List ℕ) (number : ℕ) (step : Prepares s name number t) (f : Present) → IsThere s.memory f → Keeps s.memory t.memory f.places
 kept-new pairs s t name number step f there k under =
@@ -122,7 +124,7 @@ laid-prepare pairs s t name number laid step =
     let old = all-map (IsThere s.memory) (IsThere t.memory) s.present (λ f there. there-kept s.memory t.memory f there (kept-new pairs s t name number step f there)) laid.there in
     let new = all-index (IsThere t.memory) step.fresh (λ i under k low. (section_of s.pairs (s.present ++ step.fresh) (present_at step.fresh i) k, step.prepared.stand i under k low)) in
     let cross = all-map (IsThere s.memory) (λ f. AllBy (ArePairApart f) step.fresh) s.present
-        (λ f there. all-map (λ g. ArePairApart g f) (ArePairApart f) step.fresh (λ g. turned g f) (apart-new pairs s t name number step f there)) laid.there in
+    (λ f there. all-map (λ g. ArePairApart g f) (ArePairApart f) step.fresh (λ g. turned g f) (apart-new pairs s t name number step f there)) laid.there in
     record {
       there = subst (AllBy (IsThere t.memory)) (sym step.present) (all-append (IsThere t.memory) s.present step.fresh old new);
       apart = subst AreApartAll (sym step.present) (apart-append s.present step.fresh laid.apart (apart-index step.fresh (placed-apart s.pairs s.memory step.fresh are.empty are.placed)) cross);
@@ -181,14 +183,16 @@ both-true false c is = is
 
 step-keeps : (pairs : List Pair) (s t : State) (x : Step) (p : ℕ) → IsLaid s → Takes s x t → is_present s.present p ≡ true → is_present t.present p ≡ true
     → (places_of t.present p ≡ places_of s.present p) × Keeps s.memory t.memory (places_of s.present p)
-step-keeps pairs s t (prepared name number) p laid step was is =
-    (ap (λ fs. places_of fs p) step.present ∙ places-before s.present step.fresh p was,
-    places-keep s.memory t.memory s.present p (all-map (IsThere s.memory) (λ f. Keeps s.memory t.memory f.places) s.present (kept-new pairs s t name number step) laid.there))
+step-keeps pairs s t (prepared name number) p laid step was is = (
+  ap (λ fs. places_of fs p) step.present ∙ places-before s.present step.fresh p was,
+  places-keep s.memory t.memory s.present p (all-map (IsThere s.memory) (λ f. Keeps s.memory t.memory f.places) s.present (kept-new pairs s t name number step) laid.there),
+)
 step-keeps pairs s t (closed number) p laid step was is =
     let here : cond (is_needed t.connections p) (is_present s.present p) false ≡ true = sym (ap (λ fs. is_present fs p) step.present ∙ present-needed t.connections s.present p) ∙ is in
-    let same = places-needed t.connections s.present p (both-true (is_needed t.connections p) (is_present s.present p) here) in
-    (ap (λ fs. places_of fs p) step.present ∙ same,
-    subst (Keeps s.memory t.memory) same (places-keep s.memory t.memory (needed_of t.connections s.present) p (kept-close s t number laid step)))
+    let same = places-needed t.connections s.present p (both-true (is_needed t.connections p) (is_present s.present p) here) in (
+      ap (λ fs. places_of fs p) step.present ∙ same,
+      subst (Keeps s.memory t.memory) same (places-keep s.memory t.memory (needed_of t.connections s.present) p (kept-close s t number laid step)),
+    )
 
 pub run-keeps : (pairs : List Pair) (limit : ℕ) (steps : List Step) (s t : State) (x : Step) (p : ℕ) → Runs (fresh_state pairs limit) steps s → Takes s x t → is_present s.present p ≡ true → is_present t.present p ≡ true
     → (places_of t.present p ≡ places_of s.present p) × Keeps s.memory t.memory (places_of s.present p)
