@@ -5,6 +5,7 @@ pub mod Laws
 mod OpenLemmas
 mod PlacedLemmas
 mod PlacingLemmas
+mod ReaderLemmas
 mod ReadyLemmas
 mod ReleaseLemmas
 mod StepLemmas
