@@ -6,6 +6,7 @@ pub mod Laws
 mod OpenLemmas
 mod PlacedLemmas
 mod PlacingLemmas
+mod ReaderLemmas
 mod ReadyLemmas
 mod ReleaseLemmas
 mod RunLemmas

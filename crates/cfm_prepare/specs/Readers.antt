@@ -1,16 +1,17 @@
--- What a context tells: where the sections of fragments that are present lie, what they hold, and where a
--- connection's root is entered (Mac OS Runtime Architectures, "Code Fragment Manager", "Finding Symbols").
+-- What a context tells: where the sections of fragments that are present lie, what they hold, and where the
+-- fragments of a connection are entered (Mac OS Runtime Architectures, "Code Fragment Manager", "Finding Symbols").
 use Rattle.std.specs.Prelude.{ℕ, ◌==◌, ℤ, pos, negsuc, List, Option, None, Some, if◌then◌else◌, option_map, slice_get}
 use Rattle.std.specs.Option.{option_and_then}
 use Rattle.cfm_memory.specs.Instances.{Layout, bytes_at}
 use Rattle.cfm_memory.specs.declared.place.Place.{Place}
-use Rattle.pef_loader.specs.Loader.{export_of, main_of, named_of}
+use Rattle.pef_loader.specs.Loader.{export_of, init_of, main_of, named_of, term_of}
 use Rattle.cfm_closure.specs.Fragments.{loader_at}
 use Rattle.cfm_closure.specs.Stores.{Pair}
 use Rattle.cfm_closure.specs.declared.targets.Target.TheVariants.{At}
 use Rattle.cfm_fragment.specs.Prepared.{entry_address}
+use Rattle.cfm_fragment.specs.declared.entries.Entries.{Entries}
 use Rattle.cfm_prepare.specs.Addresses.{import_address, target_address}
-use Rattle.cfm_prepare.specs.Contexts.{Open, State, open_of}
+use Rattle.cfm_prepare.specs.Contexts.{Open, State, has, open_of}
 use Rattle.cfm_prepare.specs.Fragments.{Present, places_of}
 
 -- what stands at a place: its address and its bytes
@@ -40,3 +41,15 @@ symbol_address all o name =
 -- the address of the main entry of a connection's root
 abbrev pub main_address : List Present → Open → Option ℕ
 main_address all o = entry_address (places_of all o.root) (option_and_then main_of (loader_at o.closed.pairs o.root))
+
+-- the addresses at which a fragment is entered
+abbrev pub entries_at : List Pair → List Present → ℕ → Entries
+entries_at pairs all p = record {
+  init = entry_address (places_of all p) (option_and_then init_of (loader_at pairs p));
+  main = entry_address (places_of all p) (option_and_then main_of (loader_at pairs p));
+  term = entry_address (places_of all p) (option_and_then term_of (loader_at pairs p));
+}
+
+-- the same, where a connection's closure has the fragment
+abbrev pub entries_of : List Present → Open → ℕ → Option Entries
+entries_of all o p = if has o.closed.order p then Some (entries_at o.closed.pairs all p) else None

@@ -4,12 +4,15 @@ ghost use Rattle.pef_loader.specs.Export.{has_section};
 ghost use Rattle.pef_loader.specs.Views.{loaded};
 ghost use Rattle.cfm_closure.specs.Fragments.{loader_at};
 ghost use Rattle.cfm_prepare.specs.Contexts.{has, is_needed, open_of};
-ghost use Rattle.cfm_prepare.specs.Readers.{export_address, main_address, symbol_address};
+ghost use Rattle.cfm_fragment.specs.Prepared.{entry_address};
+ghost use Rattle.cfm_prepare.specs.Fragments.{places_of};
+ghost use Rattle.cfm_prepare.specs.Readers.{entries_of, export_address, main_address, symbol_address};
 ghost use Rattle.cfm_prepare.specs.Kept.Connections.{index_in};
 
 use crate::present::Placed;
 use crate::relocating::{section_address, target_address};
 use cfm_closure::Closure;
+use cfm_fragment::Entries;
 use pef_loader::layout::{ABSOLUTE_EXPORT, REEXPORTED_IMPORT};
 use pef_loader::{ExportView, Loader};
 use std::marker::Model;
@@ -101,6 +104,29 @@ impl<'a> Connected<'a> {
         let (section, offset) = self.closure.loader(self.root).main()?;
         Some(section_address(present, self.root, section).wrapping_add(offset))
     }
+
+    /// The addresses at which a fragment of the closure is entered.
+    pub fn entries(&self, present: &[Placed], position: usize) -> Option<Entries>
+        ensures { result ≡ entries_of present.now self.now position }
+    {
+        if !has(self.closure.order(), position) {
+            return None;
+        }
+        let loader = self.closure.loader(position);
+        Some(Entries {
+            init: entry_address(present, position, loader.init()),
+            main: entry_address(present, position, loader.main()),
+            term: entry_address(present, position, loader.term()),
+        })
+    }
+}
+
+/// The address of an entry of a fragment, given by its section and the offset in it.
+fn entry_address(present: &[Placed], position: usize, entry: Option<(u32, u32)>) -> Option<u32>
+    ensures { result ≡ entry_address (places_of present.now position) entry }
+{
+    let (section, offset) = entry?;
+    Some(section_address(present, position, section).wrapping_add(offset))
 }
 
 /// The open connection of a number.

@@ -1,8 +1,9 @@
-ghost use Rattle.std.specs.Prelude.{◌≡◌, ◌<◌, ℕ, List, IfErr, IfOk, None, OnErr, OnOk, Some, length, option_map};
+ghost use Rattle.std.specs.Prelude.{◌≡◌, ◌<◌, ◌≤◌, ◌+◌, ℕ, List, IfErr, IfOk, MatchOption, None, OnErr, OnOk, Some, length, option_map, slice_get};
 ghost use Rattle.std.specs.Option.{option_and_then, option_copied};
 ghost use Rattle.cfm_closure.specs.Stores.{place_of};
 ghost use Rattle.cfm_prepare.specs.Contexts.{fresh_state, most_connections, open_of};
-ghost use Rattle.cfm_prepare.specs.Readers.{main_address, root_section, section_in, symbol_address};
+ghost use Rattle.cfm_prepare.specs.Fragments.{places_of};
+ghost use Rattle.cfm_prepare.specs.Readers.{entries_of, main_address, root_section, section_in, symbol_address};
 ghost use Rattle.cfm_prepare.specs.Seen.{section_seen};
 ghost use Rattle.cfm_prepare.specs.Steps.{Closes, MayNotPrepare, Prepares};
 
@@ -12,6 +13,7 @@ use crate::preparing::prepare_new;
 use crate::present::{Placed, new_among, places_of};
 use crate::releasing::release;
 use cfm_closure::{Store, closure};
+use cfm_fragment::Entries;
 use cfm_memory::Memory;
 use std::alloc::Global;
 use std::marker::Model;
@@ -180,9 +182,34 @@ impl<'a> Context<'a> {
     /// The address and the bytes of section `i` of the fragment in a place of the store. `None` where the
     /// fragment isn't present, or has no such section.
     pub fn fragment_section(&self, position: usize, i: usize) -> Option<(u32, &[u8])>
-        ensures { option_map section_seen result ≡ section_in self.now position i }
+        ensures section { option_map section_seen result ≡ section_in self.now position i }
+        ensures within { MatchOption result (length (places_of self.now.present position) ≤ i) (λ s. s.0 + length s.1.now ≤ self.now.memory.limit) }
     {
         let place = *places_of(&self.present, position).get(i)?;
         Some((place.address, self.memory.part(place)))
+    }
+
+    /// How many instantiated sections the fragment in a place of the store has; none where it isn't present.
+    pub fn section_count(&self, position: usize) -> usize
+        ensures { result ≡ length (places_of self.now.present position) }
+    {
+        places_of(&self.present, position).len()
+    }
+
+    /// The addresses at which a fragment of a connection's closure is entered, given by its place in the
+    /// store. `None` where the closure lacks the fragment, or the connection isn't open.
+    pub fn fragment_entries(&self, connection: Connection, position: usize) -> Option<Entries>
+        ensures { result ≡ option_and_then (λ o. entries_of self.now.present o position) (open_of self.now.connections connection.0) }
+    {
+        let connected = find_open(&self.connections, connection.0)?;
+        connected.entries(&self.present, position)
+    }
+
+    /// The name of the fragment in a place of the store. `None` past the last place.
+    pub fn name(&self, position: usize) -> Option<&'a [u8]>
+        ensures { option_map (λ n. n.now) result ≡ option_map (λ p. p.name) (slice_get self.now.pairs position) }
+    {
+        let (name, _) = self.store.pair(position)?;
+        Some(name)
     }
 }

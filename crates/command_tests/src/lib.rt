@@ -19,6 +19,8 @@ mod limits;
 mod link;
 #[cfg(test)]
 mod list;
+#[cfg(test)]
+mod load;
 pub mod ports;
 #[cfg(test)]
 mod runs;

@@ -6,7 +6,7 @@ use std::alloc::Global;
 use std::test::Fail;
 
 /// A copy of a container, with other bytes from a place on.
-fn changed(alloc: Global, container: &[u8], at: usize, other: &[u8]) -> Result<Vec<u8>, Fail> {
+pub fn changed(alloc: Global, container: &[u8], at: usize, other: &[u8]) -> Result<Vec<u8>, Fail> {
     let (front, rest) = container.split_at(at.min(container.len()));
     let (_, back) = rest.split_at(other.len().min(rest.len()));
     let mut bytes = Vec::from_slice(alloc, front)?;

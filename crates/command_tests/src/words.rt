@@ -5,9 +5,13 @@ use std::test::Fail;
 /// Words that are no command, a request for help among them: the usage, and nothing is read or written.
 #[test]
 fn usage(rt: HostRuntime) -> Result<(), Fail> {
-    let rows: [&[&str]; 20] = [
+    let rows: [&[&str]; 24] = [
         &[],
         &["load"],
+        &["load", "a"],
+        &["load", "=a"],
+        &["load", "it=a", "a"],
+        &["load", "--help"],
         &["Show"],
         &[""],
         &["show", "it"],

@@ -3,6 +3,8 @@ mod CheckLemmas
 mod DescribedLemmas
 mod LinkLemmas
 mod LinkedLemmas
+mod LoadLemmas
+mod LoadedLemmas
 mod OutcomeLemmas
 mod PreparedLemmas
 mod ProgramLemmas

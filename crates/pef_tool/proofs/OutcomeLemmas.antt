@@ -18,6 +18,7 @@ use Rattle.pef_tool.specs.Kept.Showing.{ScriptEnds, input_refusal, script_refusa
 use Rattle.pef_tool.specs.Limits.{input_limit}
 use Rattle.pef_tool.specs.Link as link
 use Rattle.pef_tool.specs.List as list
+use Rattle.pef_tool.specs.Load as load
 use Rattle.pef_tool.specs.Refusals.{refusal_text}
 use Rattle.pef_tool.specs.Run.{RunAnswers}
 use Rattle.pef_tool.specs.Show.{ShowEnds, ShowOutcome, refuses, shows, unbound}
@@ -79,5 +80,5 @@ lacks_memory port stream (Some show) files input = ((refuses refusal.OutOfMemory
 lacks_memory port stream (Some (link script out)) files input = ((link.refuses refusal.OutOfMemory, inl refl, refl), refl)
 lacks_memory port stream (Some (list path)) files input = ((list.lacks_memory, inl refl, refl), refl)
 lacks_memory port stream (Some (check script cert)) files input = ((check.lacks_memory, inl refl, refl), refl)
-lacks_memory port stream (Some (load named)) files input = (inr refl, refl, refl)
+lacks_memory port stream (Some (load named)) files input = ((load.lacks_memory, inl (0, [], refl), refl), refl)
 lacks_memory port stream (Some (distances script)) files input = (inr refl, refl, refl)

@@ -3,11 +3,17 @@ use Rattle.std.proofs.Common.{◌≡◌, ◌≤◌, List, ℕ, length, subst, ar
 use Rattle.cfm_closure.specs.Faults as binds
 use Rattle.cfm_closure.specs.declared.fault.BindFault.{BindFault}
 use Rattle.cfm_closure.specs.declared.fault.BindFault.TheVariants as bind
+use Rattle.cfm_prepare.specs.Faults as prepares
+use Rattle.cfm_prepare.specs.declared.fault.PrepareFault.{PrepareFault}
+use Rattle.cfm_prepare.specs.declared.fault.PrepareFault.TheVariants as prepare
 use Rattle.pef_listing.specs.declared.fault.ListFault.{ListFault}
 use Rattle.pef_listing.specs.declared.fault.ListFault.TheVariants as listing
 use Rattle.pef_loader.specs.Faults as loaders
 use Rattle.pef_loader.specs.declared.fault.LoaderFault.{LoaderFault}
 use Rattle.pef_loader.specs.declared.fault.LoaderFault.TheVariants as loader
+use Rattle.pef_pidata.specs.Faults as packs
+use Rattle.pef_pidata.specs.declared.fault.PackFault.{PackFault}
+use Rattle.pef_pidata.specs.declared.fault.PackFault.TheVariants as pack
 use Rattle.pef_ports.specs.Ports.{Stream}
 use Rattle.pef_ports.specs.Sent.{Prints, StopsShort}
 use Rattle.pef_reloc.specs.Faults as relocs
@@ -69,6 +75,23 @@ reloc_name reloc.WordOutside = omega arith
 reloc_name reloc.ImportOutside = omega arith
 reloc_name reloc.SectionOutside = omega arith
 reloc_name reloc.OutOfMemory = omega arith
+
+pack_name : (fault : PackFault) → length (packs.fault_name fault) ≤ 16
+pack_name pack.Truncated = omega arith
+pack_name pack.BadOpcode = omega arith
+pack_name pack.CountTooLarge = omega arith
+pack_name pack.TooLong = omega arith
+pack_name pack.TooShort = omega arith
+
+-- names of the refusals of preparation are short
+pub short_prepare_name : (fault : PrepareFault) → length (prepares.fault_name fault) ≤ 20
+short_prepare_name prepare.TooManyConnections = omega arith
+short_prepare_name prepare.RootMissing = omega arith
+short_prepare_name (prepare.Bind f) = short_bind_name f
+short_prepare_name (prepare.NoRoom f) = omega arith
+short_prepare_name (prepare.Pack f k) = omega (arith, pack_name k)
+short_prepare_name (prepare.Reloc f k) = omega (arith, reloc_name k)
+short_prepare_name prepare.OutOfMemory = omega arith
 
 pub short_name : (refusal : Refusal) → length (name_of refusal) ≤ 16
 short_name (Script fault line) = go fault

@@ -1,5 +1,5 @@
 -- What a command answers, and how its answer goes out.
-use Rattle.std.specs.Prelude.{◌≡◌, ◌⊎◌, ℕ, List, take}
+use Rattle.std.specs.Prelude.{◌≡◌, ◌⊎◌, ℕ, List, codes, take}
 use Rattle.pef_ports.specs.Ports.{Stream, Grows, LastFailed, NoneFailed}
 
 -- an answer: what is printed, and the status that the run ends with
@@ -14,6 +14,10 @@ answer_done text = record { text = text; status = 0 }
 -- the answer of a command that is refused
 abbrev pub answer_refused : List ℕ → Answer
 answer_refused text = record { text = text; status = 1 }
+
+-- the answer to words that are no line of this program
+abbrev pub answer_usage : Answer
+answer_usage = record { text = codes "usage\n"; status = 2 }
 
 -- the answer goes out whole; or a front of it, then the output fails at its last call, and the status is 1
 abbrev pub Delivers : Stream → Stream → Answer → ℕ → Type 0

@@ -1,3 +1,4 @@
 pub mod Held
+pub mod Loading
 pub mod Prepared
 pub mod Showing

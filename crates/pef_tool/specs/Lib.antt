@@ -7,6 +7,8 @@ pub mod Kept
 pub mod Limits
 pub mod Link
 pub mod List
+pub mod Load
+pub mod Loaded
 pub mod Refusals
 pub mod Run
 pub mod Show

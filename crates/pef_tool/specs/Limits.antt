@@ -8,3 +8,7 @@ input_limit = 536870912
 -- addresses of a fragment's memory end below this one
 abbrev pub memory_limit : ℕ
 memory_limit = 0x10000000
+
+-- the most files of `load`
+abbrev pub most_files : ℕ
+most_files = 256

@@ -3,6 +3,9 @@ use Rattle.std.specs.Prelude.{ℕ, List, [], ◌∷◌, ◌++◌, Option, None, 
 use Rattle.cfm_closure.specs.Faults as bind
 use Rattle.cfm_closure.specs.declared.fault.BindFault.{BindFault}
 use Rattle.cfm_closure.specs.declared.fault.BindFault.TheVariants as bind_fault
+use Rattle.cfm_prepare.specs.Faults as prepare
+use Rattle.cfm_prepare.specs.declared.fault.PrepareFault.{PrepareFault}
+use Rattle.cfm_prepare.specs.declared.fault.PrepareFault.TheVariants as prepare_fault
 use Rattle.pef_cert_text.specs.Faults as cert
 use Rattle.pef_cert_text.specs.declared.fault.CertFault.TheVariants as cert_fault
 use Rattle.pef_listing.specs.Faults as listing
@@ -88,6 +91,22 @@ bind_refusal_text fault =
     ++ told_text (codes " library ") (told_library fault)
     ++ told_text (codes " symbol ") (told_symbol fault)
     ++ 10 ∷ []
+
+-- the name of the fragment that isn't prepared, where its closure isn't the reason
+abbrev pub told_unprepared : PrepareFault → Option (List ℕ)
+told_unprepared (prepare_fault.NoRoom f) = Some f.now
+told_unprepared (prepare_fault.Pack f k) = Some f.now
+told_unprepared (prepare_fault.Reloc f k) = Some f.now
+told_unprepared _ = None
+
+-- the line of a fragment that isn't prepared, where its closure isn't the reason
+abbrev pub unprepared_text : PrepareFault → List ℕ
+unprepared_text fault = refused_text (prepare.fault_number fault) (prepare.fault_name fault) ++ told_text (codes " in ") (told_unprepared fault) ++ 10 ∷ []
+
+-- the line of a fragment that isn't prepared
+abbrev pub prepare_refusal_text : PrepareFault → List ℕ
+prepare_refusal_text (prepare_fault.Bind f) = bind_refusal_text f
+prepare_refusal_text fault = unprepared_text fault
 
 -- a name as it ends a line
 abbrev pub name_end : List ℕ → List ℕ

@@ -1,18 +1,15 @@
 -- What a run answers: a command has a line here, and its answers in a file of their own.
-use Rattle.std.specs.Prelude.{◌≡◌, ◌⊎◌, Option, None, Some, codes}
+use Rattle.std.specs.Prelude.{◌≡◌, ◌⊎◌, Option, None, Some}
 use Rattle.pef_ports.specs.Ports.{FilesPort, Stream}
 use Rattle.pef_request.specs.Requests.{Asked, check, distances, link, list, load, show}
-use Rattle.pef_tool.specs.Answers.{Answer, answer_refused}
+use Rattle.pef_tool.specs.Answers.{Answer, answer_refused, answer_usage}
 use Rattle.pef_tool.specs.Check.{CheckAnswers}
 use Rattle.pef_tool.specs.Link.{LinkAnswers}
 use Rattle.pef_tool.specs.List.{ListAnswers}
+use Rattle.pef_tool.specs.Load.{LoadAnswers}
 use Rattle.pef_tool.specs.Refusals.{refusal_text}
 use Rattle.pef_tool.specs.Show.{ShowAnswers}
 use Rattle.pef_tool.specs.declared.refusal.Refusal.TheVariants.{OutOfMemory}
-
--- the answer to words that are no line of this program
-abbrev pub answer_usage : Answer
-answer_usage = record { text = codes "usage\n"; status = 2 }
 
 -- what words that ask for no command are answered; memory may be refused before that is seen
 abbrev pub UsageAnswers : Answer → Type 0
@@ -26,6 +23,6 @@ RunAnswers port stream (Some show) files files' input input' answer = ShowAnswer
 RunAnswers port stream (Some (link script out)) files files' input input' answer = LinkAnswers port files files' script out answer × (input' ≡ input)
 RunAnswers port stream (Some (list path)) files files' input input' answer = ListAnswers port files files' path answer × (input' ≡ input)
 RunAnswers port stream (Some (check script cert)) files files' input input' answer = CheckAnswers port files files' script cert answer × (input' ≡ input)
--- `load` and `distances` aren't there yet
-RunAnswers port stream (Some (load named)) files files' input input' answer = UsageAnswers answer × (files' ≡ files) × (input' ≡ input)
+RunAnswers port stream (Some (load named)) files files' input input' answer = LoadAnswers port files files' named answer × (input' ≡ input)
+-- `distances` isn't there yet
 RunAnswers port stream (Some (distances script)) files files' input input' answer = UsageAnswers answer × (files' ≡ files) × (input' ≡ input)

@@ -87,7 +87,7 @@ fn told_symbol<'a>(fault: &BindFault<'a>) -> Option<&'a [u8]>
 }
 
 /// Prints a name behind a word, where it is told.
-fn print_told<W: Sink>(
+pub fn print_told<W: Sink>(
     out: &mut W,
     page: &mut Page,
     word: &[u8],
@@ -102,7 +102,7 @@ fn print_told<W: Sink>(
 }
 
 /// Prints a name behind a word.
-fn print_behind<W: Sink>(
+pub fn print_behind<W: Sink>(
     out: &mut W,
     page: &mut Page,
     word: &[u8],

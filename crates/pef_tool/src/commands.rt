@@ -7,6 +7,7 @@ ghost use Rattle.pef_tool.specs.Run.{RunAnswers};
 use crate::check::check_files;
 use crate::link::link_files;
 use crate::list::list_file;
+use crate::load::load_files;
 use crate::refusal::Refusal;
 use crate::reply::{Usage, deliver};
 use crate::show::show;
@@ -58,7 +59,8 @@ fn run_request<F: Files, R: Source, W: Sink>(
         Request::Check { script, cert } => {
             check_files(alloc, files, script.as_bytes(), cert.as_bytes(), out)
         }
-        // Their words are known, what they answer isn't there yet.
-        Request::Load { .. } | Request::Distances { .. } => deliver(out, &Usage),
+        Request::Load { files: named } => load_files(alloc, files, named.as_slice(), out),
+        // The words are known, what they answer isn't there yet.
+        Request::Distances { .. } => deliver(out, &Usage),
     }
 }

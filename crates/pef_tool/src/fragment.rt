@@ -1,4 +1,4 @@
-ghost use Rattle.std.specs.Prelude.{◌≡◌, ◌+◌, ◌≤◌, ◌++◌, All, codes, length, map};
+ghost use Rattle.std.specs.Prelude.{◌≡◌, ◌+◌, ◌≤◌, ◌^◌, ◌++◌, All, codes, length, map};
 ghost use Rattle.arrayvec.specs.ArrayVec.{array_vec_len};
 ghost use Rattle.pef_ports.specs.Sent.{Sends};
 ghost use Rattle.pef_tool.specs.Fragment.{entries_text, entry_text, heading_text, section_at, section_text, sections_text};
@@ -52,23 +52,36 @@ fn print_section<W: Sink>(
     requires { IsHeld memory.now place }
     ensures { Sends result (W.stream out.old) (W.stream out.new) page.old.items page.new.items (section_text i (section_at memory.now place)) }
 {
-    let bytes = memory.part(place);
-    send(out, page, heading(i, place).as_slice())?;
-    print_memory(out, page, place.address, bytes)
+    print_bytes(out, page, i, place.address, memory.part(place))
+}
+
+/// Prints a section with its number: where it begins, and its bytes.
+pub fn print_bytes<W: Sink>(
+    out: &mut W,
+    page: &mut Page,
+    i: usize,
+    address: u32,
+    bytes: &[u8],
+) -> Result<(), StreamFault>
+    requires { address + length bytes.now ≤ 2 ^ 32 }
+    ensures { Sends result (W.stream out.old) (W.stream out.new) page.old.items page.new.items (section_text i (record { address = address; bytes = bytes.now })) }
+{
+    send(out, page, heading(i, address, bytes.len()).as_slice())?;
+    print_memory(out, page, address, bytes)
 }
 
 /// The line above a section's memory.
 #[tactic(auto, unfolding(crate::specs::Fragment::heading_text))]
-fn heading(i: usize, place: Place) -> Line
-    ensures { result.items ≡ heading_text i place.address place.size }
+fn heading(i: usize, address: u32, size: usize) -> Line
+    ensures { result.items ≡ heading_text i address size }
 {
     let mut line = Line::new();
     push_text(&mut line, b"section ");
     push_number(&mut line, i as u64);
     push_text(&mut line, b" at ");
-    push_word(&mut line, place.address);
+    push_word(&mut line, address);
     push_text(&mut line, b" size ");
-    push_number(&mut line, u64::from(place.size));
+    push_number(&mut line, size as u64);
     push_text(&mut line, b"\n");
     line
 }
@@ -95,4 +108,14 @@ fn push_entry(line: &mut Line, label: &[u8], address: Option<u32>)
         push_word(line, address);
         push_text(line, b"\n");
     }
+}
+
+/// The line of an entry, where the entry is there.
+pub fn entry_line(label: &[u8], address: Option<u32>) -> Line
+    requires { length label.now ≤ 80 }
+    ensures { result.items ≡ entry_text label.now address }
+{
+    let mut line = Line::new();
+    push_entry(&mut line, label, address);
+    line
 }

@@ -183,7 +183,7 @@ impl<'a> Reply for NamedRefusal<'a> {
 }
 
 /// Prints a name, and ends its line.
-fn print_name_end<W: Sink>(out: &mut W, page: &mut Page, name: &[u8]) -> Result<(), StreamFault>
+pub fn print_name_end<W: Sink>(out: &mut W, page: &mut Page, name: &[u8]) -> Result<(), StreamFault>
     ensures { Sends result (W.stream out.old) (W.stream out.new) page.old.items page.new.items (name_end name.now) }
 {
     print_name(out, page, name)?;

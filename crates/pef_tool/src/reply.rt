@@ -1,7 +1,6 @@
 ghost use Rattle.std.specs.Prelude.{◌≡◌, OnOk, []};
 ghost use Rattle.pef_ports.specs.Sent.{Sends};
-ghost use Rattle.pef_tool.specs.Answers.{Answer, Delivers};
-ghost use Rattle.pef_tool.specs.Run.{answer_usage};
+ghost use Rattle.pef_tool.specs.Answers.{Answer, Delivers, answer_usage};
 
 use pef_ports::{Page, Sink, StreamFault, flush, send};
 
