@@ -4,6 +4,7 @@ mod KnownLemmas
 mod Leading
 mod LineLemmas
 mod MoveFacts
+mod ProgramFacts
 mod Reaching
 mod RegisterLemmas
 mod RowLemmas

@@ -6,6 +6,7 @@ mod fault;
 mod known;
 mod moves;
 mod place;
+mod program;
 mod reading;
 mod registers;
 mod rows;
