@@ -1,5 +1,5 @@
 -- One more row in the tables, and what holds of each.
-use Rattle.std.proofs.Common.{◌≡◌, ◌≢◌, ℕ, zero, suc, ◌+◌, ◌*◌, ◌<◌, ◌≤◌, ◌⊎◌, inl, inr, true, ◌==◌, nat_lt, List, [], ◌∷◌, ◌++◌, length, take, drop, slice_index, Some, refl, ap, ap₂, sym, ◌∙◌, subst, arith, length-append}
+use Rattle.std.proofs.Common.{◌≡◌, ℕ, zero, suc, ◌+◌, ◌*◌, ◌<◌, ◌≤◌, inl, inr, true, List, [], ◌∷◌, ◌++◌, length, take, drop, slice_index, refl, ap, sym, ◌∙◌, subst, arith, length-append}
 use Rattle.std.specs.Prelude.{slice_index_or}
 use Rattle.std.specs.List.{AllByRecursion}
 use Rattle.std.proofs.Math.ListN.{get_or-append}
@@ -13,21 +13,19 @@ use Rattle.pef_reloc.specs.declared.fixup.Fixup.{Fixup}
 use Rattle.pef_reloc.specs.declared.instr.Instr.TheVariants.{SmSetSectC, SmSetSectD}
 use Rattle.pef_reloc.specs.Deliveries.{index_after, index_past}
 use Rattle.pef_reloc.specs.Fixups.{base_fits, fixup_fits, fixups_fit}
-use Rattle.pef_reloc.specs.Steps.{State}
 use Rattle.pef_reloc.proofs.Laws.{each_fits, fixup_fits-parts, fixups_fit-parts, used_section-below}
 use Rattle.pef_cert.specs.Labels.{Labels, class_of, classes}
-use Rattle.pef_cert.specs.Extension.{extension, extension_at, skips_at}
-use Rattle.pef_cert.specs.Feasible.{AtFixup, FeasibleAt, FeasibleFrom}
+use Rattle.pef_cert.specs.Extension.{extension, skips_at}
+use Rattle.pef_cert.specs.Feasible.{FeasibleAt}
 use Rattle.pef_cert.specs.Valid.{RegistersOf}
 use Rattle.pef_cert.specs.Kept.Claims.{OfferIs}
-use Rattle.pef_cert.specs.Kept.Tests.{TestsHold}
 use Rattle.pef_cert.proofs.Laws.{Numbers, RegisteredBase, World, all_registered, class_of-below, extension-here, feasible-tested, few_rising, index_behind, numbers, offer-import, offer-section}
 use Rattle.pef_plan.specs.declared.known.Known.{Known}
 use Rattle.pef_plan.specs.declared.rows.At.{At}
 use Rattle.pef_plan.specs.Kept.Places.{Counts}
-use Rattle.pef_plan.specs.Kept.Rows.{AtOf, ClosedOf, DirectIs, DirectSquare, RowOf, SkipsOf}
+use Rattle.pef_plan.specs.Kept.Rows.{AtOf, RowOf, SkipsOf}
 use Rattle.pef_plan.specs.Kept.Tables.{Agrees, OffersAre, OffersFrom, SameLabels, Shaped, Tabled, label_in, number_in, skip_in}
-use Rattle.pef_plan.specs.Reached.{LeadsOn, LeadsWithin, ReachedAt, ReachedFrom}
+use Rattle.pef_plan.specs.Reached.{LeadsWithin, ReachedAt}
 
 counts-one : (rs : List ℕ) (b : Base) → RegisteredBase rs b → Counts rs b
 counts-one rs (Section k) is = is

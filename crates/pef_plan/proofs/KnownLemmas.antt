@@ -1,13 +1,12 @@
 -- What tables tell of the extension.
-use Rattle.std.proofs.Common.{◌≡◌, ◌≢◌, ℕ, suc, ◌+◌, ◌-◌, ◌*◌, ◌<◌, ◌≤◌, List, [], ◌∷◌, ◌++◌, length, Option, None, Some, refl, ap, ap₂, sym, ◌∙◌, subst, arith, length-append}
-use Rattle.pef_reloc.specs.declared.fixup.Base.{Base}
+use Rattle.std.proofs.Common.{◌≡◌, ◌≢◌, ℕ, ◌+◌, ◌-◌, ◌<◌, ◌≤◌, List, [], ◌∷◌, ◌++◌, length, Option, None, Some, ap, ap₂, sym, ◌∙◌, subst, arith}
 use Rattle.pef_reloc.specs.declared.fixup.Base.TheVariants.{Section, Import}
 use Rattle.pef_reloc.specs.declared.fixup.Fixup.{Fixup}
-use Rattle.pef_cert.specs.Labels.{Labels, class_of, classes}
+use Rattle.pef_cert.specs.Labels.{Labels, class_of}
 use Rattle.pef_cert.specs.Extension.{change, extension, moved_value, offer_at}
 use Rattle.pef_cert.proofs.Laws.{extension-away, extension-end, extension-here, offer-kept_import, offer-kept_section}
 use Rattle.pef_plan.specs.declared.known.Known.{Known}
-use Rattle.pef_plan.specs.Kept.Tables.{Agrees, OffersFrom, SameLabels, Shaped, label_in, skip_in}
+use Rattle.pef_plan.specs.Kept.Tables.{Agrees, SameLabels, Shaped, label_in, skip_in}
 
 pub value-end : (l : Labels) (fixups : List Fixup) (p c d : ℕ) → length fixups ≡ 0 → 0 ≡ extension l fixups p c d
 value-end l [] p c d none = sym (extension-end l p c d)

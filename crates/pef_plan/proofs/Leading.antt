@@ -1,5 +1,5 @@
 -- From every state an instruction leads on, where labels are feasible and reached.
-use Rattle.std.proofs.Common.{◌≡◌, ◌≢◌, ℕ, zero, suc, ◌+◌, ◌-◌, ◌*◌, ◌/◌, ◌%◌, ◌<◌, ◌≤◌, ◌⊎◌, inl, inr, Bool, true, false, ◌==◌, nat_le, List, [], ◌∷◌, ◌++◌, length, Option, Some, refl, ap, ap₂, sym, ◌∙◌, subst, arith, eq-eqb}
+use Rattle.std.proofs.Common.{◌≡◌, ◌≢◌, ℕ, suc, ◌+◌, ◌-◌, ◌*◌, ◌/◌, ◌%◌, ◌<◌, ◌≤◌, ◌⊎◌, inl, inr, true, false, ◌==◌, nat_le, List, [], ◌∷◌, ◌++◌, length, Some, refl, ap, sym, ◌∙◌, subst, arith, eq-eqb}
 use Rattle.std.specs.List.{AllByRecursion}
 use Rattle.std.proofs.lemmas.Bool.{le-leb, lt-ltb}
 use Rattle.std.proofs.lemmas.Bool.Decides.{eqb_tells}
@@ -9,15 +9,14 @@ use Rattle.pef_reloc.specs.declared.instr.Instr.{Instr}
 use Rattle.pef_reloc.specs.declared.instr.Instr.TheVariants.{BySectDWithSkip, IncrPosition, SetPosition, SmSetSectC, SmSetSectD}
 use Rattle.pef_reloc.specs.Deliveries.{Delivers, index_after, index_past, is_flat_instr}
 use Rattle.pef_reloc.specs.Fixups.{fixup_fits}
-use Rattle.pef_reloc.specs.Limits.{offset_limit}
 use Rattle.pef_reloc.specs.Steps.{State, additions, next_state, row}
 use Rattle.pef_reloc.proofs.Laws.{fixup_fits-parts, index_kept}
 use Rattle.pef_words.proofs.Laws.Tests.{both_met}
-use Rattle.pef_cert.specs.Labels.{Labels, class_of, classes, has_class}
+use Rattle.pef_cert.specs.Labels.{Labels, class_of, has_class}
 use Rattle.pef_cert.specs.Extension.{change, extension, extension_at, offer_at, skip, skips_at}
-use Rattle.pef_cert.specs.Feasible.{AtFixup, label_at}
-use Rattle.pef_cert.proofs.Laws.{AtMost, Moved, Offered, World, at_most-weaker, base_counts, class_of-below, class_of-same, extension-away, extension-here, far, label-offer, late, moved-is, moved-skip, near, offer-is, offer-most, skip-is, skip_has, skips, skips-is, world-behind, world-first, world-next}
-use Rattle.pef_plan.specs.Reached.{LeadsOn, ReachedAt, ReachedFrom}
+use Rattle.pef_cert.specs.Feasible.{label_at}
+use Rattle.pef_cert.proofs.Laws.{AtMost, Moved, Offered, World, at_most-weaker, base_counts, class_of-below, class_of-same, extension-away, extension-here, far, label-offer, late, moved-is, moved-skip, near, offer-is, offer-most, skip-is, skip_has, skips, skips-is, world-first, world-next}
+use Rattle.pef_plan.specs.Reached.{LeadsOn, ReachedFrom}
 
 -- labels that are feasible and reached from some fixups on, with the import index there
 pub record Planned (l : Labels) (index : ℕ) (fixups : List Fixup) : Type 0 where

@@ -2,8 +2,11 @@ pub mod Laws
 mod FillLemmas
 mod KnownLemmas
 mod Leading
+mod LaidLemmas
 mod LineLemmas
 mod MoveFacts
+mod PlanFacts
+mod ProgramFacts
 mod Reaching
 mod RegisterLemmas
 mod RowLemmas

@@ -1,5 +1,5 @@
 -- Moves to a fixup: which of them leads on.
-use Rattle.std.proofs.Common.{◌≡◌, ◌≢◌, ℕ, ◌+◌, ◌-◌, ◌*◌, ◌/◌, ◌%◌, ◌<◌, ◌≤◌, inl, inr, true, ◌==◌, List, ◌∷◌, length, Option, None, Some, refl, ap, ap₂, sym, ◌∙◌, subst, arith, eq-eqb}
+use Rattle.std.proofs.Common.{◌≡◌, ◌≢◌, ℕ, ◌+◌, ◌-◌, ◌%◌, ◌<◌, ◌≤◌, List, ◌∷◌, length, Option, None, Some, refl, ap, sym, ◌∙◌, subst, arith, eq-eqb}
 use Rattle.std.specs.List.{AllByRecursion}
 use Rattle.std.proofs.lemmas.Bool.{ne_eqb}
 use Rattle.pef_reloc.specs.Deliveries.{index_past}

@@ -1,8 +1,8 @@
 -- Labels that are feasible and reached are least lengths, and the extension is one everywhere.
-use Rattle.std.proofs.Common.{◌≡◌, ℕ, zero, suc, ◌+◌, ◌*◌, ◌≤◌, true, List, [], ◌∷◌, ◌++◌, length, refl, sym, ◌∙◌, subst, arith}
+use Rattle.std.proofs.Common.{◌≡◌, ℕ, zero, suc, ◌*◌, ◌≤◌, true, List, [], ◌∷◌, ◌++◌, length, refl, sym, subst, arith}
 use Rattle.pef_reloc.specs.declared.fixup.Fixup.{Fixup}
 use Rattle.pef_reloc.specs.declared.instr.Instr.{Instr}
-use Rattle.pef_reloc.specs.Deliveries.{MakesFrom, StandsBehind, index_after}
+use Rattle.pef_reloc.specs.Deliveries.{MakesFrom, StandsBehind}
 use Rattle.pef_reloc.specs.Fixups.{fixups_fit}
 use Rattle.pef_reloc.specs.Instrs.{program_length}
 use Rattle.pef_reloc.specs.Plain.{plain_program}
@@ -10,11 +10,11 @@ use Rattle.pef_reloc.specs.Steps.{Least, State, is_flat, next_state}
 use Rattle.pef_reloc.proofs.Laws.{each_fits, flat_more, makes_more, plain-flat, plain-makes, plain-short, some_length}
 use Rattle.pef_cert.specs.Labels.{Labels, class_of}
 use Rattle.pef_cert.specs.Extension.{extension_at}
-use Rattle.pef_cert.specs.Feasible.{AtFixup, Feasible, label_at}
+use Rattle.pef_cert.specs.Feasible.{Feasible}
 use Rattle.pef_cert.specs.Valid.{RegistersOf}
 use Rattle.pef_cert.proofs.Laws.{extension-here, none_shorter, whole_world}
 use Rattle.pef_plan.specs.Exact.{Exact, LeastFrom}
-use Rattle.pef_plan.specs.Reached.{LeadsOn, ReachedFrom}
+use Rattle.pef_plan.specs.Reached.{ReachedFrom}
 use Rattle.pef_plan.proofs.Leading.{Planned, leads, planned-behind, planned_left}
 
 -- a flat list that makes some fixups from a state, within a number of halfwords

@@ -1,16 +1,13 @@
 -- A row of labels: what is chosen at each pair of classes, and what follows for the whole row.
-use Rattle.std.proofs.Common.{◌≡◌, ℕ, ◌+◌, ◌*◌, ◌<◌, ◌≤◌, true, List, [], ◌∷◌, ◌++◌, length, slice_index, Some, refl, ap, ap₂, sym, ◌∙◌, subst, arith}
-use Rattle.std.specs.Prelude.{slice_index_or}
+use Rattle.std.proofs.Common.{◌≡◌, ℕ, ◌+◌, ◌*◌, ◌<◌, ◌≤◌, true, List, ◌∷◌, length, slice_index, Some, ap, ap₂, sym, ◌∙◌, subst, arith}
 use Rattle.std.specs.List.{AllByRecursion}
 use Rattle.pef_reloc.specs.Fixups.{fixup_fits}
 use Rattle.pef_reloc.specs.declared.fixup.Fixup.{Fixup}
-use Rattle.pef_reloc.specs.Deliveries.{Delivers}
-use Rattle.pef_reloc.specs.Steps.{State, additions}
+use Rattle.pef_reloc.specs.Steps.{State}
 use Rattle.pef_cert.specs.Labels.{Labels, class_of}
 use Rattle.pef_cert.specs.Extension.{extension, extension_at, skips_at}
 use Rattle.pef_reloc.specs.declared.fixup.Base.{Base}
 use Rattle.pef_reloc.specs.declared.fixup.Base.TheVariants.{Section, Import}
-use Rattle.pef_cert.specs.Feasible.{AtFixup}
 use Rattle.pef_cert.specs.Kept.Tests.{base_test}
 use Rattle.pef_plan.specs.declared.known.Known.{Known}
 use Rattle.pef_plan.specs.declared.place.Place.{Place}
@@ -18,9 +15,8 @@ use Rattle.pef_plan.specs.declared.place.Here.{Here}
 use Rattle.pef_plan.specs.declared.place.Choice.{Choice}
 use Rattle.pef_plan.specs.declared.rows.At.{At}
 use Rattle.pef_plan.specs.Kept.Places.{Chosen, Counts, HereOf, InPlace, extension_in}
-use Rattle.pef_plan.specs.Kept.Rows.{AtOf, ClosedOf, DirectIs, DirectLine, DirectSquare, RowOf, SkipsOf, SmallSquare}
-use Rattle.pef_plan.specs.Kept.Tables.{Agrees, Shaped, number_in}
-use Rattle.pef_plan.specs.Reached.{LeadsWithin}
+use Rattle.pef_plan.specs.Kept.Rows.{AtOf, ClosedOf, DirectIs, DirectSquare, RowOf, SkipsOf, SmallSquare}
+use Rattle.pef_plan.specs.Kept.Tables.{Agrees, Shaped}
 
 -- the extension at a state in a place
 pub extension-there : (l : Labels) (registers : List ℕ) (q : Place) (s : State) → l.registers ≡ registers → InPlace registers q s → extension_at l q.left.now s ≡ extension_in l q

@@ -5,7 +5,7 @@ use Rattle.std.proofs.lemmas.List.{append-nil, append_assoc, append_cancel_left}
 use Rattle.std.proofs.Math.Nat.{mul-add}
 use Rattle.pef_reloc.specs.declared.fixup.Base.TheVariants.{Section, Import}
 use Rattle.pef_reloc.specs.declared.fixup.Fixup.{Fixup}
-use Rattle.pef_reloc.specs.Deliveries.{Delivers, is_flat_instr}
+use Rattle.pef_reloc.specs.Deliveries.{is_flat_instr}
 use Rattle.pef_reloc.specs.Instrs.{instr_length}
 use Rattle.pef_reloc.specs.Steps.{State, added, additions, next_state, numbered, pairs, row}
 use Rattle.pef_words.proofs.Laws.Tests.{both_met}
@@ -19,7 +19,7 @@ use Rattle.pef_plan.specs.declared.place.Step.{Step}
 use Rattle.pef_plan.specs.declared.place.Choice.{Choice}
 use Rattle.pef_plan.specs.declared.runs.Run.{Run}
 use Rattle.pef_plan.specs.declared.runs.Run.TheVariants.{WordsOfC, WordsOfD, Spaced, Pairs, SpacedPairs, Imports, Skip}
-use Rattle.pef_plan.specs.Kept.Places.{Chosen, Goes, GoesOn, HereOf, InPlace, extension_in}
+use Rattle.pef_plan.specs.Kept.Places.{Chosen, GoesOn, HereOf, InPlace, extension_in}
 use Rattle.pef_plan.specs.Kept.Runs.{Along, EndOf, Ends, EndsFrom, Holds, Next, RunOf, SoFar, imports, limit, run_instr, stride, unit, units}
 use Rattle.pef_plan.specs.Kept.Tables.{Agrees, Shaped}
 use Rattle.pef_plan.proofs.KnownLemmas.{agrees-left, shaped_fewer}

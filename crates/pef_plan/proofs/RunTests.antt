@@ -1,5 +1,5 @@
 -- Runs against the tests of a label.
-use Rattle.std.proofs.Common.{◌≡◌, ℕ, suc, ◌+◌, ◌<◌, ◌≤◌, Bool, true, false, ◌||◌, ◌==◌, List, ◌∷◌, ◌++◌, length, refl, ap, sym, ◌∙◌, subst, arith}
+use Rattle.std.proofs.Common.{◌≡◌, ℕ, suc, ◌+◌, ◌≤◌, Bool, true, false, ◌||◌, ◌==◌, List, ◌∷◌, ◌++◌, refl, ap, ◌∙◌, subst}
 use Rattle.std.proofs.lemmas.Bool.{le-leb}
 use Rattle.pef_reloc.specs.declared.fixup.Base.TheVariants.{Section, Import}
 use Rattle.pef_reloc.specs.declared.fixup.Fixup.{Fixup}
@@ -11,7 +11,7 @@ use Rattle.pef_cert.proofs.Laws.{asked-met, import_tests-met, numbered_test-met,
 use Rattle.pef_plan.specs.declared.known.Known.{Known}
 use Rattle.pef_plan.specs.declared.place.Here.{Here}
 use Rattle.pef_plan.specs.declared.runs.Run.{Run}
-use Rattle.pef_plan.specs.declared.runs.Run.TheVariants.{WordsOfC, WordsOfD, Spaced, Pairs, SpacedPairs, Imports, Skip}
+use Rattle.pef_plan.specs.declared.runs.Run.TheVariants.{WordsOfC, WordsOfD, Spaced, Pairs, SpacedPairs, Imports}
 use Rattle.pef_plan.specs.Kept.Places.{HereOf}
 use Rattle.pef_plan.specs.Kept.Runs.{Ends, EndsFrom, MetInC, MetInD, PairsMet, limit}
 use Rattle.pef_plan.proofs.RunFacts.{units_c, units_d, units_far, units_imports, units_pairs, units_spaced}

@@ -1,28 +1,23 @@
 -- Steps from a place: what is known at a fixup, and that one of those that are tried leads on.
-use Rattle.std.proofs.Common.{◌≡◌, ◌≢◌, ℕ, ◌+◌, ◌-◌, ◌*◌, ◌<◌, ◌≤◌, ◌⊎◌, inl, inr, Bool, true, false, ◌==◌, nat_lt, List, [], ◌∷◌, ◌++◌, length, slice_index, refl, ap, ap₂, sym, ◌∙◌, subst, arith, length-append}
+use Rattle.std.proofs.Common.{◌≡◌, ℕ, ◌+◌, ◌<◌, ◌≤◌, ◌⊎◌, inl, inr, Bool, true, false, List, [], ◌∷◌, ◌++◌, length, slice_index, refl, ap, ap₂, sym, ◌∙◌, subst, arith, length-append}
 use Rattle.std.specs.List.{AllByRecursion}
-use Rattle.std.proofs.lemmas.Bool.{lt-ltb}
 use Rattle.pef_reloc.specs.declared.fixup.Fixup.{Fixup}
 use Rattle.pef_reloc.specs.declared.instr.Instr.{Instr}
 use Rattle.pef_reloc.specs.declared.instr.Instr.TheVariants.{BySectDWithSkip, BySectC, BySectD, TVector12, TVector8, VTable8, ImportRun, SmByImport, SmSetSectC, SmSetSectD, SmBySection, IncrPosition, SmRepeat, SetPosition, LgByImport, LgRepeat, LgBySection, LgSetSectC, LgSetSectD}
-use Rattle.pef_reloc.specs.Deliveries.{Delivers}
-use Rattle.pef_reloc.specs.Instrs.{instr_length}
 use Rattle.pef_reloc.specs.Steps.{State, additions, next_state}
 use Rattle.pef_reloc.proofs.Laws.{some_length}
-use Rattle.pef_cert.specs.Labels.{Labels, class_of, classes}
+use Rattle.pef_cert.specs.Labels.{Labels, class_of}
 use Rattle.pef_cert.specs.Extension.{extension, extension_at}
-use Rattle.pef_cert.specs.Feasible.{AtFixup}
 use Rattle.pef_cert.specs.Valid.{is_among}
 use Rattle.pef_cert.specs.Kept.Tests.{base_test}
-use Rattle.pef_cert.proofs.Laws.{NumberOf, Numbers, Stands, World, class_of-below, class_of-index, class_of-other, extension-here, is_among-index, label-extension, tested, world-first}
+use Rattle.pef_cert.proofs.Laws.{NumberOf, World, class_of-below, class_of-index, class_of-other, extension-here, is_among-index, label-extension, tested, world-first}
 use Rattle.pef_plan.specs.declared.known.Known.{Known}
 use Rattle.pef_plan.specs.declared.place.Place.{Place}
 use Rattle.pef_plan.specs.declared.place.Here.{Here}
 use Rattle.pef_plan.specs.declared.place.Choice.{Choice}
-use Rattle.pef_plan.specs.declared.place.Step.{Step}
-use Rattle.pef_plan.specs.Kept.Places.{Chosen, Counts, Goes, HereOf, InPlace, extension_in}
-use Rattle.pef_plan.specs.Kept.Steps.{Falls, FallsOn, Sections, Tracked, TrackedHere, labels_tabled}
-use Rattle.pef_plan.specs.Kept.Tables.{Agrees, Shaped, label_in}
+use Rattle.pef_plan.specs.Kept.Places.{Chosen, Counts, HereOf, InPlace}
+use Rattle.pef_plan.specs.Kept.Steps.{FallsOn, Sections, Tracked, TrackedHere, labels_tabled}
+use Rattle.pef_plan.specs.Kept.Tables.{Agrees, label_in}
 use Rattle.pef_plan.specs.Reached.{LeadsOn, ReachedFrom}
 use Rattle.pef_reloc.specs.Fixups.{fixup_fits}
 use Rattle.pef_plan.proofs.FillLemmas.{registered-all}

@@ -1,3 +1,4 @@
+pub mod Laid
 pub mod Places
 pub mod Rows
 pub mod Runs

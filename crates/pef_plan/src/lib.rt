@@ -6,6 +6,8 @@ mod fault;
 mod known;
 mod moves;
 mod place;
+mod planner;
+mod program;
 mod reading;
 mod registers;
 mod rows;
@@ -16,4 +18,5 @@ mod theorems;
 mod values;
 
 pub use fault::PlanFault;
+pub use planner::plan;
 pub use theorems::{least_programs_are_short, reached_labels_are_least};

@@ -1,14 +1,13 @@
 -- The steps by which a program is read off the tables.
-use Rattle.std.specs.Prelude.{◌≡◌, ◌≤◌, ◌<◌, ℕ, ◌+◌, ◌-◌, ◌%◌, ◌==◌, Some, true, List, ◌∷◌, ◌++◌, length}
+use Rattle.std.specs.Prelude.{◌≡◌, ◌≤◌, ◌<◌, ℕ, ◌+◌, ◌-◌, ◌*◌, ◌%◌, ◌==◌, Some, true, List, ◌∷◌, ◌++◌, length}
 use Rattle.std.specs.List.{AllByRecursion}
 use Rattle.pef_reloc.specs.declared.fixup.Fixup.{Fixup}
 use Rattle.pef_reloc.specs.declared.instr.Instr.{Instr}
-use Rattle.pef_reloc.specs.Deliveries.{is_section}
 use Rattle.pef_reloc.specs.Fixups.{fixup_fits}
 use Rattle.pef_reloc.specs.Instrs.{instr_length, program_length}
-use Rattle.pef_reloc.specs.Steps.{Makes, State, is_flat, start}
-use Rattle.pef_cert.specs.Labels.{Labels, class_of}
-use Rattle.pef_cert.specs.Extension.{offer_at}
+use Rattle.pef_reloc.specs.Steps.{State, is_flat, start, state_after, trace}
+use Rattle.pef_cert.specs.Labels.{Labels}
+use Rattle.pef_cert.specs.Extension.{extension_at, offer_at}
 use Rattle.pef_cert.specs.Feasible.{FeasibleFrom}
 use Rattle.pef_cert.specs.Valid.{is_among, rises}
 use Rattle.pef_plan.specs.declared.known.Known.{Known}
@@ -37,7 +36,7 @@ pub record Tracked (k : Known) (p : Place) : Type 0 where
   pub fit : AllByRecursion (λ f. fixup_fits f ≡ true) p.left.now
   pub counts : AllByRecursion (λ f. Counts k.registers.now f.base) p.left.now
   pub import_small : p.import_index ≤ 65536
-  pub position_small : p.position ≤ 33554432
+  pub position_small : p.position ≤ 1073741824
   pub agrees : Agrees (labels_tabled k) k p.left.now
   pub feasible : FeasibleFrom (labels_tabled k) p.import_index p.left.now
   pub reached : ReachedFrom (labels_tabled k) p.import_index p.left.now
@@ -60,3 +59,13 @@ pub record SkipsTo (k : Known) (h : Here) : Type 0 where
   pub before : h.first.offset - h.place.position ≤ 1020
   pub even : ((h.first.offset - h.place.position) % 4 == 0) ≡ true
   pub offer : offer_at (labels_tabled k) h.first h.others.now h.place.c h.place.d ≡ Some (extension_in (labels_tabled k) h.place)
+
+-- instructions that were read off tables of fixups so far, and the place behind them: a halfword moves by
+-- fewer than 8,192 bytes
+pub record ReadTo (k : Known) (fixups : List Fixup) (instrs : List Instr) (p : Place) : Type 0 where
+  pub tracked : Tracked k p
+  pub in_place : InPlace k.registers.now p (state_after instrs start)
+  pub flat : is_flat instrs ≡ true
+  pub made : fixups ≡ trace instrs start ++ p.left.now
+  pub short : program_length instrs + extension_in (labels_tabled k) p ≤ extension_at (labels_tabled k) fixups start
+  pub near : p.position + 8192 * extension_in (labels_tabled k) p ≤ 1073741824

@@ -1,4 +1,4 @@
-use Rattle.pef_plan.proofs.LineLemmas.{closed-of, small-least, small-lows}
+use Rattle.pef_plan.proofs.LineLemmas.{closed-of, small-lows}
 use Rattle.pef_plan.proofs.rows.closed.Goals as goal
 
 pub returns : goal.returns

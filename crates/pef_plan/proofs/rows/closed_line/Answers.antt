@@ -1,4 +1,4 @@
-use Rattle.std.proofs.Common.{ℕ, ◌+◌, ◌∙◌, ap₂, arith, length, min, slice_index}
+use Rattle.std.proofs.Common.{◌+◌, ◌∙◌, ap₂, arith, min, slice_index}
 use Rattle.std.proofs.lemmas.List.{length-set}
 use Rattle.pef_plan.proofs.LineLemmas.{NumberOf, line-set, number-of}
 use Rattle.pef_plan.proofs.rows.closed_line.Goals as goal

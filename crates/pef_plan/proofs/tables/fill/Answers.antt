@@ -1,4 +1,4 @@
-use Rattle.std.proofs.Common.{◌+◌, ◌-◌, ◌++◌, ◌∷◌, ◌∙◌, List, ℕ, [], drop, take, refl, subst, sym, arith}
+use Rattle.std.proofs.Common.{◌-◌, ◌++◌, ◌∷◌, List, ℕ, [], drop, take, refl, subst, sym, arith}
 use Rattle.pef_reloc.specs.Deliveries.{index_after}
 use Rattle.pef_plan.specs.Kept.Tables.{Tabled}
 use Rattle.pef_plan.proofs.FillLemmas.{fill-at, fill-next}

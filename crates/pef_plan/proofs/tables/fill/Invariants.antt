@@ -1,4 +1,4 @@
-use Rattle.std.proofs.Common.{◌≡◌, ◌≤◌, drop, length, take}
+use Rattle.std.proofs.Common.{◌≤◌, drop, length, take}
 use Rattle.pef_reloc.specs.Deliveries.{index_after}
 use Rattle.pef_plan.specs.Kept.Tables.{Tabled}
 use Rattle.pef_plan.proofs.tables.fill.Given as goal

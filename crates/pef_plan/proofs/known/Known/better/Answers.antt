@@ -1,4 +1,4 @@
-use Rattle.std.proofs.Common.{◌+◌, ◌∙◌, ap, ap₂, arith, inr, sym}
+use Rattle.std.proofs.Common.{◌+◌, ap, ap₂, arith, inr, sym}
 use Rattle.pef_plan.proofs.known.Known.better.Goals as goal
 
 pub returns-then-value-best-clause-chosen : goal.returns-then-value-best-clause-chosen

@@ -1,4 +1,4 @@
-use Rattle.std.proofs.Common.{◌≡◌, ◌∷◌, ◌∙◌, ℕ, true, arith, subst, sym}
+use Rattle.std.proofs.Common.{◌≡◌, ◌∷◌, ℕ, true, arith, subst}
 use Rattle.pef_cert.specs.Kept.Tests.{numbered_test}
 use Rattle.pef_plan.specs.declared.runs.Run.TheVariants.{Imports}
 use Rattle.pef_plan.proofs.RunTests.{ends_here, import_met, imports_met}

@@ -1,8 +1,8 @@
-use Rattle.std.proofs.Common.{ℕ, ◌∙◌, arith}
+use Rattle.std.proofs.Common.{◌∙◌, arith}
 use Rattle.std.proofs.lemmas.List.{length-set}
 use Rattle.pef_plan.specs.Kept.Rows.{DirectIs}
 use Rattle.pef_plan.proofs.LineLemmas.{line-set}
-use Rattle.pef_plan.proofs.RowLemmas.{With, direct-is, with-here}
+use Rattle.pef_plan.proofs.RowLemmas.{With, direct-is}
 use Rattle.pef_plan.proofs.known.Known.direct_line.Goals as goal
 
 pub loop-d-preserved : goal.loop-d-preserved

@@ -1,4 +1,4 @@
-use Rattle.std.proofs.Common.{List, ℕ, ◌∙◌, arith}
+use Rattle.std.proofs.Common.{◌∙◌, arith}
 use Rattle.std.proofs.lemmas.List.{length-set}
 use Rattle.pef_plan.specs.Kept.Rows.{DirectLine}
 use Rattle.pef_plan.proofs.LineLemmas.{square-set}

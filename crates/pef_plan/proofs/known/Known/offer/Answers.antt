@@ -1,4 +1,4 @@
-use Rattle.std.proofs.Common.{arith, ap, sym, ◌∙◌}
+use Rattle.std.proofs.Common.{ap, ◌∙◌}
 use Rattle.pef_cert.specs.Extension.{change}
 use Rattle.pef_plan.proofs.KnownLemmas.{offer-import_kept, offer-section_kept}
 use Rattle.pef_plan.proofs.known.Known.offer.Goals as goal

@@ -1,8 +1,8 @@
-use Rattle.std.proofs.Common.{ℕ, ◌∙◌, arith}
+use Rattle.std.proofs.Common.{◌∙◌, arith}
 use Rattle.std.proofs.lemmas.List.{length-set}
 use Rattle.pef_cert.specs.Labels.{class_of}
 use Rattle.pef_plan.proofs.LineLemmas.{line-set}
-use Rattle.pef_plan.proofs.RowLemmas.{SkipIs, With, skip-with, skips-of, with-here}
+use Rattle.pef_plan.proofs.RowLemmas.{SkipIs, With, skip-with, skips-of}
 use Rattle.pef_plan.proofs.known.Known.section_skips.Goals as goal
 
 pub loop-c-preserved : goal.loop-c-preserved

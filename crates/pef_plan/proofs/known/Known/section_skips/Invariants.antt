@@ -1,5 +1,4 @@
-use Rattle.std.proofs.Common.{◌≡◌, ◌+◌, ◌*◌, ◌<◌, ◌≤◌, ℕ, Some, length, slice_index}
-use Rattle.pef_cert.specs.Labels.{Labels, class_of}
+use Rattle.std.proofs.Common.{◌≡◌, ◌<◌, ℕ, length, slice_index}
 use Rattle.pef_plan.proofs.RowLemmas.{SkipIs}
 use Rattle.pef_plan.proofs.known.Known.section_skips.Given as goal
 

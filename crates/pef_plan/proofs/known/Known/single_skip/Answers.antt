@@ -1,4 +1,4 @@
-use Rattle.std.proofs.Common.{◌≡◌, ◌∷◌, [], ap, arith}
+use Rattle.std.proofs.Common.{arith}
 use Rattle.pef_plan.specs.declared.runs.Run.TheVariants.{Skip}
 use Rattle.pef_plan.proofs.RunFacts.{one_goes}
 use Rattle.pef_plan.proofs.SkipFacts.{skip_unit, skip_worth}

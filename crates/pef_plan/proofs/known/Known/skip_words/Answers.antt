@@ -1,4 +1,4 @@
-use Rattle.std.proofs.Common.{◌≡◌, ◌≢◌, ◌∙◌, arith, sym}
+use Rattle.std.proofs.Common.{◌∙◌, arith, sym}
 use Rattle.pef_plan.specs.Kept.Steps.{labels_tabled}
 use Rattle.pef_plan.proofs.MoveFacts.{counts_here, skip_set, skip_taken}
 use Rattle.pef_plan.proofs.StepFacts.{agrees_others}

@@ -1,4 +1,4 @@
-use Rattle.std.proofs.Common.{ℕ, arith}
+use Rattle.std.proofs.Common.{arith}
 use Rattle.pef_plan.specs.Kept.Steps.{labels_tabled}
 use Rattle.pef_plan.proofs.StepFacts.{agrees_others, best_falls, chosen_falls, extension_label}
 use Rattle.pef_plan.proofs.known.Known.step_at.Goals as goal

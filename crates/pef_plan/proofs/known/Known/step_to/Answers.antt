@@ -1,4 +1,4 @@
-use Rattle.std.proofs.Common.{◌≡◌, ◌≢◌, ◌≤◌, ◌+◌, ◌-◌, ◌∙◌, ℕ, ap, arith, refl, sym}
+use Rattle.std.proofs.Common.{◌≢◌, ◌+◌, ◌-◌, ◌∙◌, ap, arith, refl, sym}
 use Rattle.pef_plan.specs.Kept.Places.{extension_in}
 use Rattle.pef_plan.specs.Kept.Steps.{labels_tabled}
 use Rattle.pef_plan.specs.Kept.Tables.{label_in}

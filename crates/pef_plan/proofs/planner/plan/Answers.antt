@@ -1,0 +1,38 @@
+use Rattle.std.proofs.Common.{◌≡◌, ◌+◌, List, ℕ, ap, arith, length, refl, subst, sym}
+use Rattle.pef_cert.specs.Valid.{Certified}
+use Rattle.pef_plan.specs.Kept.Laid.{LaidLabels}
+use Rattle.pef_plan.specs.Kept.Tables.{Tabled}
+use Rattle.pef_plan.proofs.PlanFacts.{PlanOf, few_classes, plan_exact, plan_valid}
+use Rattle.pef_plan.proofs.planner.plan.Goals as goal
+
+pub rows-requires : goal.rows-requires
+rows-requires c =
+    let few = few_classes c.args.fixups.now c.in_ok-registers.registers.items c.requires.fit c.in_ok-registers.ensures in
+    let is = c.len.ensures in
+    let len = c.deref.ensures.len in
+    let same = ap length c.deref.ensures.value in
+    omega (arith, few, is, len, same)
+
+made : (c : goal.After-drop-tables-3) → PlanOf c.args.fixups.now c.in_ok-tables.tables.labels.items c.in_ok-tables.tables.skips.items c.in_ok-labels.labels c.new.result
+made c =
+    let classes : c.len.result + 1 ≡ length c.in_ok-registers.registers.items + 1 =
+    (let is = c.len.ensures in
+    let len = c.deref.ensures.len in
+    let same = ap length c.deref.ensures.value in
+    omega (arith, is, len, same)) in
+    let whole : Certified = record { section = c.args.section; program = c.in_ok-program.program.items; registers = c.in_ok-registers.registers.items; labels = c.in_ok-labels.labels.rows } in
+    subst (λ (x : Certified). PlanOf c.args.fixups.now c.in_ok-tables.tables.labels.items c.in_ok-tables.tables.skips.items c.in_ok-labels.labels x) {x = whole} (sym c.new.ensures) (record {
+      fit = c.requires.fit;
+      registers = c.in_ok-registers.ensures;
+      tabled = subst (λ (xs : List ℕ). Tabled xs c.in_ok-tables.tables.labels.items c.in_ok-tables.tables.skips.items 0 c.args.fixups.now) c.deref.ensures.value c.in_ok-tables.ensures;
+      least = c.in_ok-program.ensures;
+      laid = subst (λ (n : ℕ). LaidLabels n c.in_ok-tables.tables.labels.items c.in_ok-labels.labels) classes
+          (subst (λ (ls : List (List (List ℕ))). LaidLabels (c.len.result + 1) ls c.in_ok-labels.labels) c.deref-5.ensures.value c.in_ok-labels.ensures);
+      rows_are = refl;
+    })
+
+pub returns-clause-valid : goal.returns-clause-valid
+returns-clause-valid c = plan_valid c.args.fixups.now c.in_ok-tables.tables.labels.items c.in_ok-tables.tables.skips.items c.in_ok-labels.labels c.new.result (made c)
+
+pub returns-clause-exact : goal.returns-clause-exact
+returns-clause-exact c = plan_exact c.args.fixups.now c.in_ok-tables.tables.labels.items c.in_ok-tables.tables.skips.items c.in_ok-labels.labels c.new.result (made c)

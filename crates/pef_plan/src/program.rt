@@ -1,0 +1,58 @@
+ghost use Rattle.std.specs.Prelude.{◌≡◌, IfOk, true};
+ghost use Rattle.pef_cert.specs.Valid.{RegistersOf};
+ghost use Rattle.pef_plan.specs.Kept.Steps.{FallsOn, TrackedHere};
+ghost use Rattle.pef_plan.specs.Kept.Tables.{Tabled};
+ghost use Rattle.pef_reloc.specs.Fixups.{fixups_fit};
+ghost use Rattle.pef_reloc.specs.Steps.{Least};
+
+use crate::known::Known;
+use crate::place::{Here, Place, Step};
+use crate::registers::class_of;
+use pef_reloc::{Fixup, Instr};
+use std::alloc::{AllocError, Global};
+
+impl<'a> Known<'a> {
+    /// A program of the fewest halfwords that makes fixups, read off their tables.
+    pub(crate) fn program(
+        self,
+        alloc: Global,
+        fixups: &'a [Fixup],
+    ) -> Result<Vec<Instr>, AllocError>
+        requires fit { fixups_fit fixups.now ≡ true }
+        requires registers { RegistersOf fixups.now self.registers.now }
+        requires tabled { Tabled self.registers.now self.labels.now self.skips.now 0 fixups.now }
+        ensures { IfOk result (λ program. Least fixups.entry.now program.items) }
+    {
+        let mut program = Vec::new(alloc);
+        let mut place = Place {
+            left: fixups,
+            position: 0,
+            import_index: 0,
+            c: class_of(self.registers, 0),
+            d: class_of(self.registers, 1),
+        };
+        'steps: while let Some((first, others)) = place.left.split_first() {
+            let first = *first;
+            let step = self.step(Here {
+                place,
+                first,
+                others,
+            });
+            program.push(step.instr)?;
+            place = step.next;
+        }
+        Ok(program)
+    }
+
+    /// An instruction that leads on.
+    fn step(self, here: Here<'a>) -> Step<'a>
+        requires { TrackedHere self here }
+        ensures { FallsOn self.entry here.entry.place result }
+    {
+        if here.place.position == u64::from(here.first.offset) {
+            self.step_at(here)
+        } else {
+            self.step_to(here)
+        }
+    }
+}
