@@ -1,5 +1,5 @@
 -- What is printed of a connection, piece by piece.
-use Rattle.std.proofs.Common.{◌≡◌, ℕ, zero, suc, ◌+◌, ◌<◌, List, [], ◌∷◌, ◌++◌, Option, None, Some, codes, get_or, length, option_map, slice_get, take, unwrap_or, refl, sym, ap, ap₂, ◌∙◌, append_assoc, arith}
+use Rattle.std.proofs.Common.{◌≡◌, ℕ, zero, suc, ◌+◌, ◌<◌, List, [], ◌∷◌, ◌++◌, Option, None, Some, codes, get_or, length, option_map, slice_get, take, unwrap_or, sym, ap, ap₂, ◌∙◌, append_assoc, arith}
 use Rattle.std.specs.Option.{option_and_then}
 use Rattle.std.proofs.lemmas.List.{append-nil, take_more}
 use Rattle.cfm_memory.specs.Instances.{Layout, bytes_at}

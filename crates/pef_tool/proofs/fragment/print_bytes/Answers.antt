@@ -1,6 +1,5 @@
 -- The line and then the memory.
-use Rattle.std.proofs.Common.{◌≡◌, ◌++◌, List, ℕ, length, ap, subst, ◌∙◌}
-use Rattle.pef_ports.specs.Sent.{Sends}
+use Rattle.std.proofs.Common.{◌≡◌, length, ◌∙◌}
 use Rattle.pef_ports.specs.Text.{dump_text}
 use Rattle.pef_ports.proofs.Laws.Sending.{Sends-short, Sends-then, StopsShort-longer}
 use Rattle.pef_tool.specs.Fragment.{heading_text}

@@ -1,5 +1,5 @@
 -- The bytes are those that stand at the place.
-use Rattle.std.proofs.Common.{◌≡◌, [], List, ℕ, sym, ap, subst, unwrap_or, arith}
+use Rattle.std.proofs.Common.{◌≡◌, [], sym, ap, subst, unwrap_or, arith}
 use Rattle.pef_ports.specs.Sent.{Sends}
 use Rattle.pef_tool.specs.Fragment.{PlacedSection, section_at, section_text}
 use Rattle.pef_tool.proofs.fragment.print_section.Goals as goal

@@ -1,5 +1,5 @@
 -- All files are read, and then the first fragment is prepared.
-use Rattle.std.proofs.Common.{◌≡◌, ◌<◌, List, ℕ, Ok, inl, length, map, refl, sym, ap, subst, ◌∙◌, arith}
+use Rattle.std.proofs.Common.{◌≡◌, ◌<◌, List, ℕ, inl, length, map, refl, sym, ap, subst, ◌∙◌}
 use Rattle.std.proofs.lemmas.List.{length-map}
 use Rattle.std.specs.Borrow.{Bor}
 use Rattle.std.specs.declared.alloc.Global.{Global}

@@ -1,5 +1,5 @@
 -- The name and then the sections.
-use Rattle.std.proofs.Common.{◌++◌, codes, ap}
+use Rattle.std.proofs.Common.{ap}
 use Rattle.pef_ports.proofs.Laws.Sending.{Prints-then, Sends-short, Sends-then, StopsShort-longer, StopsShort-then}
 use Rattle.pef_tool.specs.Fragment.{sections_text}
 use Rattle.pef_tool.specs.Loaded.{name_in, sections_in}

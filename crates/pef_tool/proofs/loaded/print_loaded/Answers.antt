@@ -1,5 +1,5 @@
 -- The fragments, the initialization routines, the main entry, and the termination routines.
-use Rattle.std.proofs.Common.{◌≡◌, ◌++◌, List, ℕ, codes, ap, subst, ◌∙◌}
+use Rattle.std.proofs.Common.{◌≡◌, List, ℕ, codes, ap, subst, ◌∙◌}
 use Rattle.pef_ports.specs.Sent.{Sends}
 use Rattle.pef_ports.proofs.Laws.Sending.{Prints-then, Sends-short, Sends-then, StopsShort-longer, StopsShort-then}
 use Rattle.pef_tool.specs.Fragment.{entry_text}
