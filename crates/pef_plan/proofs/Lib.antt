@@ -5,6 +5,7 @@ mod Leading
 mod LaidLemmas
 mod LineLemmas
 mod MoveFacts
+mod NameFacts
 mod PlanFacts
 mod ProgramFacts
 mod Reaching

@@ -19,4 +19,6 @@ mod values;
 
 pub use fault::PlanFault;
 pub use planner::plan;
-pub use theorems::{least_programs_are_short, reached_labels_are_least};
+pub use theorems::{
+    least_programs_are_short, least_programs_name_what_is_used, reached_labels_are_least,
+};

@@ -6,7 +6,7 @@ ghost use Rattle.pef_cert.specs.Labels.{Labels};
 ghost use Rattle.pef_cert.specs.Valid.{RegistersOf};
 ghost use Rattle.pef_plan.specs.Exact.{Exact, LeastFrom};
 ghost use Rattle.pef_plan.specs.Reached.{ReachedFrom};
-ghost use Rattle.pef_reloc.specs.Deliveries.{StandsBehind};
+ghost use Rattle.pef_reloc.specs.Deliveries.{StandsBehind, names_used};
 ghost use Rattle.pef_reloc.specs.Fixups.{fixups_fit};
 ghost use Rattle.pef_reloc.specs.Instrs.{program_length};
 ghost use Rattle.pef_reloc.specs.Steps.{Least, State};
@@ -23,4 +23,9 @@ pub fn reached_labels_are_least()
 /// A least program has at most four halfwords for each fixup.
 pub fn least_programs_are_short()
     ensures { (fixups : List Fixup) (instrs : List Instr) → fixups_fit fixups ≡ true → Least fixups instrs → program_length instrs ≤ 4 * length fixups }
+{}
+
+/// A least program names only sections and imports of its fixups.
+pub fn least_programs_name_what_is_used()
+    ensures { (fixups : List Fixup) (instrs : List Instr) → Least fixups instrs → names_used fixups instrs ≡ true }
 {}
