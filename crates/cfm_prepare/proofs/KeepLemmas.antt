@@ -1,9 +1,8 @@
 -- What stays of a fragment that is present, over a step behind any list of steps.
-use Rattle.std.proofs.Common.{◌≡◌, ◌≢◌, ℕ, suc, ◌<◌, ◌==◌, Bool, true, false, List, [], ◌∷◌, ◌++◌, Some, cond, length, refl, sym, ap, subst, ◌∙◌, inl, inr, arith}
+use Rattle.std.proofs.Common.{◌≡◌, ℕ, suc, ◌<◌, ◌==◌, Bool, true, false, List, [], ◌∷◌, ◌++◌, Some, cond, length, refl, sym, ap, subst, ◌∙◌, inl, inr, arith}
 use Rattle.std.proofs.lemmas.Bool.Decides.{eqb_tells}
 use Rattle.cfm_memory.specs.Extents.{given_back, place_at}
 use Rattle.cfm_memory.specs.Instances.{Layout, bytes_at}
-use Rattle.cfm_memory.specs.declared.place.Place.{Place}
 use Rattle.cfm_memory.proofs.Laws.{given_back_elsewhere}
 use Rattle.cfm_closure.specs.Stores.{Pair}
 use Rattle.cfm_prepare.specs.Addresses.{section_of}
@@ -17,23 +16,23 @@ use Rattle.cfm_prepare.proofs.ReadyLemmas.{ArePairApart, turned}
 use Rattle.cfm_prepare.proofs.RunLemmas.{present-needed}
 
 -- what holds of each of some fragments
-abbrev AllBy : (Present → Type 0) → List Present → Type 0
+abbrev pub AllBy : (Present → Type 0) → List Present → Type 0
 AllBy P [] = Unit {0}
 AllBy P (f ∷ fs) = P f × AllBy P fs
 
-all-append : (P : Present → Type 0) (xs ys : List Present) → AllBy P xs → AllBy P ys → AllBy P (xs ++ ys)
+pub all-append : (P : Present → Type 0) (xs ys : List Present) → AllBy P xs → AllBy P ys → AllBy P (xs ++ ys)
 all-append P [] ys left right = right
 all-append P (f ∷ xs) ys left right = (left.0, all-append P xs ys left.1 right)
 
-all-index : (P : Present → Type 0) (fs : List Present) → ((i : ℕ) → i < length fs → P (present_at fs i)) → AllBy P fs
+pub all-index : (P : Present → Type 0) (fs : List Present) → ((i : ℕ) → i < length fs → P (present_at fs i)) → AllBy P fs
 all-index P [] each = tt
 all-index P (f ∷ fs) each = (each 0 (omega arith), all-index P fs (λ i under. each (suc i) (omega (arith, under))))
 
-all-map : (P Q : Present → Type 0) (fs : List Present) → ((f : Present) → P f → Q f) → AllBy P fs → AllBy Q fs
+pub all-map : (P Q : Present → Type 0) (fs : List Present) → ((f : Present) → P f → Q f) → AllBy P fs → AllBy Q fs
 all-map P Q [] gives all = tt
 all-map P Q (f ∷ fs) gives all = (gives f all.0, all-map P Q fs gives all.1)
 
-all-both : (P Q R : Present → Type 0) (fs : List Present) → ((f : Present) → P f → Q f → R f) → AllBy P fs → AllBy Q fs → AllBy R fs
+pub all-both : (P Q R : Present → Type 0) (fs : List Present) → ((f : Present) → P f → Q f → R f) → AllBy P fs → AllBy Q fs → AllBy R fs
 all-both P Q R [] gives all also = tt
 all-both P Q R (f ∷ fs) gives all also = (gives f all.0 also.0, all-both P Q R fs gives all.1 also.1)
 
@@ -45,7 +44,7 @@ passed : (P : Present → Type 0) (b : Bool) (f : Present) (fs : List Present) �
 passed P true f fs here rest = rest
 passed P false f fs here rest = (here, rest)
 
-all-needed : (P : Present → Type 0) (os : List Open) (fs : List Present) → AllBy P fs → AllBy P (needed_of os fs)
+pub all-needed : (P : Present → Type 0) (os : List Open) (fs : List Present) → AllBy P fs → AllBy P (needed_of os fs)
 all-needed P os [] all = tt
 all-needed P os (f ∷ fs) all = chosen P (is_needed os f.position) f (needed_of os fs) all.0 (all-needed P os fs all.1)
 
@@ -54,7 +53,7 @@ all-unneeded P os [] all = tt
 all-unneeded P os (f ∷ fs) all = passed P (is_needed os f.position) f (unneeded_of os fs) all.0 (all-unneeded P os fs all.1)
 
 -- no two sections of different fragments have one address
-abbrev AreApartAll : List Present → Type 0
+abbrev pub AreApartAll : List Present → Type 0
 AreApartAll [] = Unit {0}
 AreApartAll (f ∷ fs) = AllBy (ArePairApart f) fs × AreApartAll fs
 
@@ -92,7 +91,7 @@ parted os (f ∷ fs) apart =
     parted-at (is_needed os f.position) f (needed_of os fs) (unneeded_of os fs) (all-needed (ArePairApart f) os fs apart.0) (all-unneeded (ArePairApart f) os fs apart.0) (parted os fs apart.1)
 
 -- each section has bytes
-abbrev IsThere : Layout → Present → Type 0
+abbrev pub IsThere : Layout → Present → Type 0
 IsThere m f = (k : ℕ) → k < length f.places → (bytes : List ℕ) × (bytes_at m.instances (place_at f.places k).address ≡ Some bytes)
 
 keeps-apart : (m : Layout) (gs : List Present) (f : Present) → AllBy (λ g. ArePairApart g f) gs → Keeps m (all_given_back m gs) f.places
@@ -104,9 +103,9 @@ there-kept : (m after : Layout) (f : Present) → IsThere m f → Keeps m after 
 there-kept m after f there keeps k under = ((there k under).0, keeps k under ∙ (there k under).1)
 
 -- what holds of a state
-record IsLaid (s : State) : Type 0 where
-  there : AllBy (IsThere s.memory) s.present
-  apart : AreApartAll s.present
+pub record IsLaid (s : State) : Type 0 where
+  pub there : AllBy (IsThere s.memory) s.present
+  pub apart : AreApartAll s.present
 
 apart-new : (pairs : List Pair) (s t : State) (name : List ℕ) (number : ℕ) (step : Prepares s name number t) (f : Present) → IsThere s.memory f → AllBy (λ g. ArePairApart g f) step.fresh
 apart-new pairs s t name number step f there =
@@ -114,11 +113,11 @@ apart-new pairs s t name number step f there =
     all-index (λ g. ArePairApart g f) step.fresh (λ i under a b low less same.
     placed-new s.pairs s.memory step.fresh are.empty i a (place_at f.places b).address (there b less).0 are.placed under low (there b less).1 (sym same))
 
-kept-new : (pairs : List Pair) (s t : State) (name : List ℕ) (number : ℕ) (step : Prepares s name number t) (f : Present) → IsThere s.memory f → Keeps s.memory t.memory f.places
+pub kept-new : (pairs : List Pair) (s t : State) (name : List ℕ) (number : ℕ) (step : Prepares s name number t) (f : Present) → IsThere s.memory f → Keeps s.memory t.memory f.places
 kept-new pairs s t name number step f there k under =
     sym (keeps-apart t.memory step.fresh f (apart-new pairs s t name number step f there) k under) ∙ ap (λ (m : Layout). bytes_at m.instances (place_at f.places k).address) step.prepared.others
 
-laid-prepare : (pairs : List Pair) (s t : State) (name : List ℕ) (number : ℕ) → IsLaid s → Prepares s name number t → IsLaid t
+pub laid-prepare : (pairs : List Pair) (s t : State) (name : List ℕ) (number : ℕ) → IsLaid s → Prepares s name number t → IsLaid t
 laid-prepare pairs s t name number laid step =
     let are = step.prepared.are in
     let old = all-map (IsThere s.memory) (IsThere t.memory) s.present (λ f there. there-kept s.memory t.memory f there (kept-new pairs s t name number step f there)) laid.there in
@@ -131,13 +130,13 @@ laid-prepare pairs s t name number laid step =
     }
 
 -- those that are kept by a closing keep their bytes
-kept-close : (s t : State) (number : ℕ) → IsLaid s → Closes s number t → AllBy (λ f. Keeps s.memory t.memory f.places) (needed_of t.connections s.present)
+pub kept-close : (s t : State) (number : ℕ) → IsLaid s → Closes s number t → AllBy (λ f. Keeps s.memory t.memory f.places) (needed_of t.connections s.present)
 kept-close s t number laid step =
     let us = unneeded_of t.connections s.present in
     all-map (λ f. AllBy (λ g. ArePairApart g f) us) (λ f. Keeps s.memory t.memory f.places) (needed_of t.connections s.present)
     (λ f apart. subst (λ (m : Layout). Keeps s.memory m f.places) (sym step.memory) (keeps-apart s.memory us f apart)) (parted t.connections s.present laid.apart)
 
-laid-close : (s t : State) (number : ℕ) → IsLaid s → Closes s number t → IsLaid t
+pub laid-close : (s t : State) (number : ℕ) → IsLaid s → Closes s number t → IsLaid t
 laid-close s t number laid step =
     let kept = needed_of t.connections s.present in
     record {
@@ -159,7 +158,7 @@ places-keep m after (f ∷ fs) p all k under = elim (eqb_tells f.position p) [
   | inr other ↦ (let low : k < length (places_of fs p) = rw other.0 at under in rw other.0 (places-keep m after fs p all.1 k low))
 ]
 
-places-before : (xs ys : List Present) (p : ℕ) → is_present xs p ≡ true → places_of (xs ++ ys) p ≡ places_of xs p
+pub places-before : (xs ys : List Present) (p : ℕ) → is_present xs p ≡ true → places_of (xs ++ ys) p ≡ places_of xs p
 places-before [] ys p is = absurd (cc)
 places-before (f ∷ xs) ys p is = elim (eqb_tells f.position p) [
   | inl same ↦ rw same.0 refl
@@ -173,7 +172,7 @@ choose-places false f ns fs p needed rest = elim (eqb_tells f.position p) [
   | inr other ↦ rw other.0 rest
 ]
 
-places-needed : (os : List Open) (fs : List Present) (p : ℕ) → is_needed os p ≡ true → places_of (needed_of os fs) p ≡ places_of fs p
+pub places-needed : (os : List Open) (fs : List Present) (p : ℕ) → is_needed os p ≡ true → places_of (needed_of os fs) p ≡ places_of fs p
 places-needed os [] p is = refl
 places-needed os (f ∷ fs) p is = choose-places (is_needed os f.position) f (needed_of os fs) fs p (λ same. ap (is_needed os) same ∙ is) (places-needed os fs p is)
 

@@ -3,6 +3,7 @@ mod FragmentLemmas
 mod GroupLemmas
 mod KeepLemmas
 pub mod Laws
+mod NowLemmas
 mod OpenLemmas
 mod PlacedLemmas
 mod PlacingLemmas

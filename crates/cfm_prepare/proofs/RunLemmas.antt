@@ -1,12 +1,12 @@
 -- What holds after any list of steps: the fragments that are present are those of the open connections'
 -- closures.
-use Rattle.std.proofs.Common.{◌≡◌, ℕ, ◌==◌, Bool, true, false, List, [], ◌∷◌, ◌++◌, Ok, cond, refl, sym, ap, ap₂, subst, ◌∙◌, inl, inr}
+use Rattle.std.proofs.Common.{◌≡◌, ℕ, ◌==◌, Bool, true, false, List, [], ◌∷◌, ◌++◌, Ok, cond, refl, sym, ap, subst, ◌∙◌, inl, inr}
 use Rattle.std.proofs.lemmas.Bool.Decides.{eqb_tells}
 use Rattle.cfm_closure.specs.Closures.{closed_of}
 use Rattle.cfm_closure.specs.Stores.{Pair}
 use Rattle.cfm_prepare.specs.Contexts.{Open, State, fresh_state, has, is_needed, needed_of, open_without}
 use Rattle.cfm_prepare.specs.Fragments.{Present, is_present, new_among, positions}
-use Rattle.cfm_prepare.specs.Runs.{AreClosed, Runs, Step, Takes, closed, prepared}
+use Rattle.cfm_prepare.specs.Runs.{AreClosed, Runs, Step, closed, prepared}
 use Rattle.cfm_prepare.specs.Steps.{Closes, Prepares}
 
 never : (b : Bool) → false ≡ cond b false false
@@ -40,7 +40,7 @@ has-new fs [] p = never (is_present fs p)
 has-new fs (q ∷ ps) p = new-at (is_present fs q) (is_present fs p) q p (new_among fs ps) ps (λ is. ap (is_present fs) is) (has-new fs ps p)
 
 -- one connection more needs it, or one of those that were open
-needed-either : (os : List Open) (o : Open) (p : ℕ) → is_needed (os ++ o ∷ []) p ≡ cond (is_needed os p) true (has o.closed.order p)
+pub needed-either : (os : List Open) (o : Open) (p : ℕ) → is_needed (os ++ o ∷ []) p ≡ cond (is_needed os p) true (has o.closed.order p)
 needed-either [] o p = last (has o.closed.order p)
   where
     last : (b : Bool) → cond b true false ≡ b
@@ -109,12 +109,12 @@ closed-without pairs [] number are = are
 closed-without pairs (o ∷ os) number are = elim (eqb_tells o.number number) [ inl same ↦ rw same.0 are.1 | inr other ↦ rw other.0 (are.0, closed-without pairs os number are.1) ]
 
 -- what holds of a state
-record IsSound (pairs : List Pair) (s : State) : Type 0 where
-  store : s.pairs ≡ pairs
-  closures : AreClosed pairs s.connections
-  same : (p : ℕ) → is_present s.present p ≡ is_needed s.connections p
+pub record IsSound (pairs : List Pair) (s : State) : Type 0 where
+  pub store : s.pairs ≡ pairs
+  pub closures : AreClosed pairs s.connections
+  pub same : (p : ℕ) → is_present s.present p ≡ is_needed s.connections p
 
-after-prepare : (pairs : List Pair) (s t : State) (name : List ℕ) (number : ℕ) → IsSound pairs s → Prepares s name number t → IsSound pairs t
+pub after-prepare : (pairs : List Pair) (s t : State) (name : List ℕ) (number : ℕ) → IsSound pairs s → Prepares s name number t → IsSound pairs t
 after-prepare pairs s t name number sound step =
     let o : Open = record { number = s.given; root = step.closure.has.root; closed = step.closure.closed } in
     let closes : closed_of pairs o.root ≡ Ok o.closed = ap (λ ps. closed_of ps o.root) (sym sound.store) ∙ step.closure.is in
@@ -128,7 +128,7 @@ after-prepare pairs s t name number sound step =
           ∙ sym (needed-either s.connections o p) ∙ ap (λ os. is_needed os p) (sym step.connections);
     }
 
-after-close : (pairs : List Pair) (s t : State) (number : ℕ) → IsSound pairs s → Closes s number t → IsSound pairs t
+pub after-close : (pairs : List Pair) (s t : State) (number : ℕ) → IsSound pairs s → Closes s number t → IsSound pairs t
 after-close pairs s t number sound step =
     record {
       store = step.pairs ∙ sound.store;
@@ -143,7 +143,7 @@ after-all pairs s t [] sound run = subst (IsSound pairs) (sym run) sound
 after-all pairs s t (prepared name number ∷ steps) sound run = after-all pairs run.0 t steps (after-prepare pairs s run.0 name number sound run.1) run.2
 after-all pairs s t (closed number ∷ steps) sound run = after-all pairs run.0 t steps (after-close pairs s run.0 number sound run.1) run.2
 
-fresh-sound : (pairs : List Pair) (limit : ℕ) → IsSound pairs (fresh_state pairs limit)
+pub fresh-sound : (pairs : List Pair) (limit : ℕ) → IsSound pairs (fresh_state pairs limit)
 fresh-sound pairs limit = record { store = refl; closures = tt; same = λ p. refl }
 
 pub run-present : (pairs : List Pair) (limit : ℕ) (steps : List Step) (t : State) (p : ℕ) → Runs (fresh_state pairs limit) steps t → is_present t.present p ≡ is_needed t.connections p

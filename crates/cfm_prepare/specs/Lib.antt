@@ -3,6 +3,7 @@ pub mod Contexts
 pub mod Faults
 pub mod Fragments
 pub mod Kept
+pub mod Now
 pub mod Placing
 pub mod Readers
 pub mod Runs

@@ -1,0 +1,205 @@
+-- A fragment that is present is prepared as its container says, with the addresses of now, after any list of steps.
+use Rattle.std.proofs.Common.{◌≡◌, ℕ, zero, suc, ◌+◌, ◌==◌, ◌%◌, ◌^◌, Bool, true, false, List, [], ◌∷◌, ◌++◌, Option, None, Some, Ok, Err, Contains, cond, refl, sym, ap, ap₂, subst, ◌∙◌, inl, inr, arith}
+use Rattle.std.specs.Prelude.{Result}
+use Rattle.std.specs.Result.{result_unwrap_or}
+use Rattle.std.proofs.lemmas.Bool.Decides.{eqb_tells}
+use Rattle.cfm_memory.specs.Extents.{Stand, place_at}
+use Rattle.cfm_memory.specs.Instances.{Layout}
+use Rattle.cfm_memory.specs.declared.place.Place.{Place}
+use Rattle.cfm_closure.specs.Closures.{closed_of}
+use Rattle.cfm_closure.specs.Faults.{Refusal}
+use Rattle.cfm_closure.specs.Fragments.{import_count}
+use Rattle.cfm_closure.specs.Promises.{LiesInside}
+use Rattle.cfm_closure.specs.Stores.{Pair}
+use Rattle.cfm_closure.specs.Targets.{target_of}
+use Rattle.cfm_closure.specs.declared.targets.Target.{Target}
+use Rattle.cfm_closure.specs.declared.targets.Target.TheVariants.{Absolute, At}
+use Rattle.cfm_closure.proofs.Laws.{closed-complete, target-inside}
+use Rattle.cfm_fragment.specs.Prepared.{addresses_at}
+use Rattle.cfm_prepare.specs.Addresses.{import_address, imports_from, section_of, target_address}
+use Rattle.cfm_prepare.specs.Contexts.{Open, State, fresh_state, has, is_needed, needed_of}
+use Rattle.cfm_prepare.specs.Fragments.{Present, is_present, places_of, prepared_in}
+use Rattle.cfm_prepare.specs.Now.{IsPreparedNow}
+use Rattle.cfm_prepare.specs.Runs.{AreClosed, Keeps, Runs, Step, closed, prepared}
+use Rattle.cfm_prepare.specs.Steps.{Closes, Prepares}
+use Rattle.cfm_prepare.specs.Kept.Ready.{Fits}
+use Rattle.cfm_prepare.proofs.KeepLemmas.{AllBy, IsLaid, IsThere, all-append, all-both, all-index, all-map, all-needed, kept-close, kept-new, laid-close, laid-prepare, places-before, places-needed}
+use Rattle.cfm_prepare.proofs.PlacedLemmas.{placed-fit}
+use Rattle.cfm_prepare.proofs.ReaderLemmas.{has-contains}
+use Rattle.cfm_prepare.proofs.RunLemmas.{IsSound, after-close, after-prepare, fresh-sound, needed-either}
+
+-- what is in a list, the list has
+has-at : (ps : List ℕ) (p : ℕ) → Contains ps p → has ps p ≡ true
+has-at [] p there = absurd (let low = there.1 in omega arith)
+has-at (q ∷ qs) p (zero, low, is) = elim (eqb_tells q p) [ inl same ↦ rw same.0 refl | inr other ↦ (let same : q ≡ p = is in absurd (other.1 same)) ]
+has-at (q ∷ qs) p (suc k, low, is) = elim (eqb_tells q p) [ inl same ↦ rw same.0 refl | inr other ↦ rw other.0 (has-at qs p (k, omega (arith, low), is)) ]
+
+-- two lists of fragments have the places that some connections need
+abbrev AgreeOn : List Open → List Present → List Present → Type 0
+AgreeOn os all now = (q : ℕ) → is_needed os q ≡ true → places_of now q ≡ places_of all q
+
+-- a target in a fragment that is needed has the same address in both
+target-same : (pairs : List Pair) (os : List Open) (all now : List Present) (order : List ℕ) (t : Option Target) → AgreeOn os all now → ((q : ℕ) → has order q ≡ true → is_needed os q ≡ true)
+    → LiesInside pairs order t → target_address now t ≡ target_address all t
+target-same pairs os all now order None agree needed inside = refl
+target-same pairs os all now order (Some (Absolute number)) agree needed inside = refl
+target-same pairs os all now order (Some (At q section offset)) agree needed inside =
+    ap (λ (ps : List Place). ((place_at ps section).address + offset) % 2 ^ 32) (agree q (needed q (has-at order q inside.member)))
+
+result-same : (pairs : List Pair) (os : List Open) (all now : List Present) (order : List ℕ) (r : Result (Option Target) Refusal) → AgreeOn os all now → ((q : ℕ) → has order q ≡ true → is_needed os q ≡ true)
+    → ((t : Option Target) → r ≡ Ok t → LiesInside pairs order t) → target_address now (result_unwrap_or r None) ≡ target_address all (result_unwrap_or r None)
+result-same pairs os all now order (Ok t) agree needed inside = target-same pairs os all now order t agree needed (inside t refl)
+result-same pairs os all now order (Err e) agree needed inside = refl
+
+-- an open connection whose closure has a fragment
+record HasOpen (pairs : List Pair) (os : List Open) (p : ℕ) : Type 0 where
+  link : Open
+  closes : closed_of pairs link.root ≡ Ok link.closed
+  has_it : has link.closed.order p ≡ true
+  needed : (q : ℕ) → has link.closed.order q ≡ true → is_needed os q ≡ true
+
+needed-first : (b c : Bool) → b ≡ true → cond b true c ≡ true
+needed-first true c is = refl
+needed-first false c is = absurd (cc)
+
+needed-later : (b c : Bool) → c ≡ true → cond b true c ≡ true
+needed-later true c is = refl
+needed-later false c is = is
+
+open-with : (pairs : List Pair) (os : List Open) (p : ℕ) → AreClosed pairs os → is_needed os p ≡ true → HasOpen pairs os p
+open-with pairs [] p are is = absurd (cc)
+open-with pairs (o ∷ os) p are is = by (has o.closed.order p) refl is (λ left. open-with pairs os p are.1 left)
+  where
+    by : (b : Bool) → has o.closed.order p ≡ b → cond b true (is_needed os p) ≡ true → (is_needed os p ≡ true → HasOpen pairs os p) → HasOpen pairs (o ∷ os) p
+    by true was is later = record { link = o; closes = are.0; has_it = was; needed = λ q there. needed-first (has o.closed.order q) (is_needed os q) there }
+    by false was is later =
+        let rest = later is in
+        record { link = rest.link; closes = rest.closes; has_it = rest.has_it; needed = λ q there. needed-later (has o.closed.order q) (is_needed os q) (rest.needed q there) }
+
+module _ (pairs : List Pair) (os : List Open) (are : AreClosed pairs os) (all now : List Present) (agree : AgreeOn os all now) where
+  import-same : (p j : ℕ) → is_needed os p ≡ true → import_address pairs now p j ≡ import_address pairs all p j
+  import-same p j needed =
+      let o = open-with pairs os p are needed in
+      let order = o.link.closed.order in
+      let complete = closed-complete pairs o.link.root o.link.closed o.closes in
+      result-same pairs os all now order (target_of pairs p j) agree o.needed (λ t is. target-inside pairs order complete p j t (has-contains order p o.has_it) is)
+
+  imports-same : (p from n : ℕ) → is_needed os p ≡ true → imports_from pairs now p from n ≡ imports_from pairs all p from n
+  imports-same p from zero needed = refl
+  imports-same p from (suc n) needed = ap₂ (λ (a : ℕ) (rest : List ℕ). a ∷ rest) (import-same p from needed) (imports-same p (from + 1) n needed)
+
+  -- so its sections are prepared to the same
+  section-same : (f : Present) (k : ℕ) → is_needed os f.position ≡ true → section_of pairs now f k ≡ section_of pairs all f k
+  section-same f k needed =
+      ap (λ (is : List ℕ). prepared_in pairs (addresses_at f.places is) f.position k) (imports-same f.position 0 (import_count pairs f.position) needed)
+
+  stand-same : (m after : Layout) (f : Present) → is_needed os f.position ≡ true → Keeps m after f.places → Stand m f.places (section_of pairs all f) → Stand after f.places (section_of pairs now f)
+  stand-same m after f needed keeps stand k under = keeps k under ∙ stand k under ∙ ap Some (sym (section-same f k needed))
+
+-- each of some fragments is one of them
+own-more : (b c : Bool) → c ≡ true → cond b true c ≡ true
+own-more b c is = needed-later b c is
+
+own-present : (fs : List Present) → AllBy (λ f. is_present fs f.position ≡ true) fs
+own-present [] = tt
+own-present (f ∷ fs) = (
+  first,
+  all-map (λ g. is_present fs g.position ≡ true) (λ g. is_present (f ∷ fs) g.position ≡ true) fs (λ g is. own-more (f.position == g.position) (is_present fs g.position) is) (own-present fs),
+)
+  where
+    first : is_present (f ∷ fs) f.position ≡ true
+    first = elim (eqb_tells f.position f.position) [ inl same ↦ rw same.0 refl | inr other ↦ absurd (other.1 refl) ]
+
+own-needed : (pairs : List Pair) (s : State) → IsSound pairs s → AllBy (λ f. is_needed s.connections f.position ≡ true) s.present
+own-needed pairs s sound = all-map (λ f. is_present s.present f.position ≡ true) (λ f. is_needed s.connections f.position ≡ true) s.present (λ f is. sym (sound.same f.position) ∙ is) (own-present s.present)
+
+-- what holds of a state
+abbrev StandsNow : List Pair → Layout → List Present → Present → Type 0
+StandsNow pairs m all f = Stand m f.places (section_of pairs all f)
+
+record IsNow (pairs : List Pair) (s : State) : Type 0 where
+  sound : IsSound pairs s
+  laid : IsLaid s
+  fits : AllBy (Fits pairs) s.present
+  stand : AllBy (StandsNow pairs s.memory s.present) s.present
+
+now-prepare : (pairs : List Pair) (s t : State) (name : List ℕ) (number : ℕ) → IsNow pairs s → Prepares s name number t → IsNow pairs t
+now-prepare pairs s t name number now step =
+    let sound = now.sound in
+    let all : List Present = s.present ++ step.fresh in
+    let agree : AgreeOn s.connections s.present all = λ q needed. places-before s.present step.fresh q (sound.same q ∙ needed) in
+    let keep : AllBy (λ f. Keeps s.memory t.memory f.places) s.present =
+    all-map (IsThere s.memory) (λ f. Keeps s.memory t.memory f.places) s.present (λ f there. kept-new pairs s t name number step f there) now.laid.there in
+    let ready : AllBy (λ f. (is_needed s.connections f.position ≡ true) × Keeps s.memory t.memory f.places) s.present =
+    all-both (λ f. is_needed s.connections f.position ≡ true) (λ f. Keeps s.memory t.memory f.places) (λ f. (is_needed s.connections f.position ≡ true) × Keeps s.memory t.memory f.places) s.present (λ f a b. (a, b)) (own-needed pairs s sound) keep in
+    let old : AllBy (StandsNow pairs t.memory all) s.present =
+    all-both (λ f. (is_needed s.connections f.position ≡ true) × Keeps s.memory t.memory f.places) (StandsNow pairs s.memory s.present) (StandsNow pairs t.memory all) s.present
+    (λ f here stand. stand-same pairs s.connections sound.closures s.present all agree s.memory t.memory f here.0 here.1 stand) ready now.stand in
+    let P : List Pair → Type 0 = λ ps. AllBy (StandsNow ps t.memory all) step.fresh in
+    let new : P pairs = subst P sound.store (all-index (StandsNow s.pairs t.memory all) step.fresh (λ i under. step.prepared.stand i under)) in
+    let Q : List Pair → Type 0 = λ ps. AllBy (Fits ps) step.fresh in
+    let fit : Q pairs = subst Q sound.store (all-index (Fits s.pairs) step.fresh (placed-fit s.pairs s.memory step.fresh step.prepared.are.empty step.prepared.are.placed)) in
+    record {
+      sound = after-prepare pairs s t name number sound step;
+      laid = laid-prepare pairs s t name number now.laid step;
+      fits = subst (AllBy (Fits pairs)) (sym step.present) (all-append (Fits pairs) s.present step.fresh now.fits fit);
+      stand = subst (λ fs. AllBy (StandsNow pairs t.memory fs) fs) (sym step.present) (all-append (StandsNow pairs t.memory all) s.present step.fresh old new);
+    }
+
+now-close : (pairs : List Pair) (s t : State) (number : ℕ) → IsNow pairs s → Closes s number t → IsNow pairs t
+now-close pairs s t number now step =
+    let after = after-close pairs s t number now.sound step in
+    let left : List Present = needed_of t.connections s.present in
+    let agree : AgreeOn t.connections s.present left = λ q needed. places-needed t.connections s.present q needed in
+    let N : Present → Type 0 = λ f. is_needed t.connections f.position ≡ true in
+    let K : Present → Type 0 = λ f. Keeps s.memory t.memory f.places in
+    let B : Present → Type 0 = λ f. N f × K f in
+    let own : AllBy N left = subst (AllBy N) step.present (own-needed pairs t after) in
+    let ready : AllBy B left = all-both N K B left (λ f a b. (a, b)) own (kept-close s t number now.laid step) in
+    let stand : AllBy (StandsNow pairs t.memory left) left =
+    all-both B (StandsNow pairs s.memory s.present) (StandsNow pairs t.memory left) left
+    (λ f here stand. stand-same pairs t.connections after.closures s.present left agree s.memory t.memory f here.0 here.1 stand) ready (all-needed (StandsNow pairs s.memory s.present) t.connections s.present now.stand) in
+    record {
+      sound = after;
+      laid = laid-close s t number now.laid step;
+      fits = subst (AllBy (Fits pairs)) (sym step.present) (all-needed (Fits pairs) t.connections s.present now.fits);
+      stand = subst (λ fs. AllBy (StandsNow pairs t.memory fs) fs) (sym step.present) stand;
+    }
+
+now-all : (pairs : List Pair) (s t : State) (steps : List Step) → IsNow pairs s → Runs s steps t → IsNow pairs t
+now-all pairs s t [] now run = subst (IsNow pairs) (sym run) now
+now-all pairs s t (prepared name number ∷ steps) now run = now-all pairs run.0 t steps (now-prepare pairs s run.0 name number now run.1) run.2
+now-all pairs s t (closed number ∷ steps) now run = now-all pairs run.0 t steps (now-close pairs s run.0 number now run.1) run.2
+
+fresh-now : (pairs : List Pair) (limit : ℕ) → IsNow pairs (fresh_state pairs limit)
+fresh-now pairs limit = record { sound = fresh-sound pairs limit; laid = record { there = tt; apart = tt }; fits = tt; stand = tt }
+
+-- what holds of each, holds of the one of a position
+at-position : (P : ℕ → List Place → Type 0) (fs : List Present) (p : ℕ) → AllBy (λ f. P f.position f.places) fs → is_present fs p ≡ true → P p (places_of fs p)
+at-position P [] p all is = absurd (cc)
+at-position P (f ∷ fs) p all is = elim (eqb_tells f.position p) [
+  | inl same ↦ rw same.0 (subst (λ n. P n f.places) same.1 all.0)
+  | inr other ↦ (let left : is_present fs p ≡ true = rw other.0 at is in rw other.0 (at-position P fs p all.1 left))
+]
+
+now-at : (pairs : List Pair) (s : State) (p : ℕ) → IsNow pairs s → is_present s.present p ≡ true → IsPreparedNow pairs s p
+now-at pairs s p now is =
+    let fit = at-position (λ q places. Fits pairs (record { position = q; places = places })) s.present p now.fits is in
+    record {
+      before = fit.before;
+      empty = fit.after;
+      placed = fit.placed;
+      stand = at-position (λ q places. StandsNow pairs s.memory s.present (record { position = q; places = places })) s.present p now.stand is;
+    }
+
+pub run-now : (pairs : List Pair) (limit : ℕ) (steps : List Step) (s : State) (p : ℕ) → Runs (fresh_state pairs limit) steps s → is_present s.present p ≡ true → IsPreparedNow pairs s p
+run-now pairs limit steps s p run is = now-at pairs s p (now-all pairs (fresh_state pairs limit) s steps (fresh-now pairs limit) run) is
+
+-- and a step that prepares leaves each fragment of its closure so
+pub run-prepares : (pairs : List Pair) (limit : ℕ) (steps : List Step) (s t : State) (name : List ℕ) (number p : ℕ) → Runs (fresh_state pairs limit) steps s → (step : Prepares s name number t) → Contains step.closure.closed.order p
+    → (is_present t.present p ≡ true) × IsPreparedNow pairs t p
+run-prepares pairs limit steps s t name number p run step there =
+    let now = now-prepare pairs s t name number (now-all pairs (fresh_state pairs limit) s steps (fresh-now pairs limit) run) step in
+    let o : Open = record { number = s.given; root = step.closure.has.root; closed = step.closure.closed } in
+    let is : is_present t.present p ≡ true =
+    now.sound.same p ∙ ap (λ os. is_needed os p) step.connections ∙ needed-either s.connections o p ∙ needed-later (is_needed s.connections p) (has o.closed.order p) (has-at o.closed.order p there) in (is, now-at pairs t p now is)

@@ -1,0 +1,5 @@
+use Rattle.cfm_prepare.proofs.NowLemmas.{run-now, run-prepares}
+use Rattle.cfm_prepare.proofs.theorems.prepared_fragments.Goals as goal
+
+pub returns : goal.returns
+returns c = record { now = run-now; closure = run-prepares }

@@ -1,0 +1,21 @@
+-- What a fragment that is present has in memory (Mac OS Runtime Architectures, "Code Fragment Manager",
+-- "Preparing a Fragment").
+use Rattle.std.specs.Prelude.{ℕ, List}
+use Rattle.cfm_memory.specs.Extents.{ArePlaced, Stand}
+use Rattle.cfm_memory.specs.Instances.{Layout}
+use Rattle.cfm_closure.specs.Stores.{Pair}
+use Rattle.cfm_prepare.specs.Addresses.{section_of}
+use Rattle.cfm_prepare.specs.Contexts.{State}
+use Rattle.cfm_prepare.specs.Fragments.{Present, extents_in, places_of}
+
+-- the fragment of a position, with the places that it has among some
+abbrev pub present_of : List Present → ℕ → Present
+present_of all p = record { position = p; places = places_of all p }
+
+-- a fragment's sections were placed, as its container says, in a memory as it was then; and in the memory of now
+-- each has what it is prepared to, with the addresses that its sections and its imports' targets have now
+pub record IsPreparedNow (pairs : List Pair) (s : State) (p : ℕ) : Type 0 where
+  pub before : Layout
+  pub empty : Layout
+  pub placed : ArePlaced before (extents_in pairs p) (places_of s.present p) empty
+  pub stand : Stand s.memory (places_of s.present p) (section_of pairs s.present (present_of s.present p))
