@@ -5,6 +5,7 @@ mod LinkLemmas
 mod LinkedLemmas
 mod LoadLemmas
 mod LoadedLemmas
+mod NowLemmas
 mod OutcomeLemmas
 mod PreparedLemmas
 mod ProgramLemmas
