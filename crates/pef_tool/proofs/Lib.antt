@@ -10,4 +10,5 @@ mod OutcomeLemmas
 mod PreparedLemmas
 mod ProgramLemmas
 mod RefusalLemmas
+mod RefusedLemmas
 mod ShowingLemmas

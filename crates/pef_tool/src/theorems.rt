@@ -10,9 +10,11 @@ ghost use Rattle.cfm_prepare.specs.Addresses.{addresses_of};
 ghost use Rattle.cfm_prepare.specs.Contexts.{State, fresh_state};
 ghost use Rattle.cfm_prepare.specs.Fragments.{Present, extents_in, image_refusal_in, is_present, reloc_refusal_in};
 ghost use Rattle.cfm_prepare.specs.Runs.{Runs, Step};
-ghost use Rattle.cfm_prepare.specs.Steps.{Prepares};
+ghost use Rattle.cfm_prepare.specs.Steps.{HasBadImage, HasBadProgram, Prepares};
+ghost use Rattle.pef_pidata.specs.declared.fault.PackFault.{PackFault};
+ghost use Rattle.pef_reloc.specs.declared.fault.RelocFault.{RelocFault};
 ghost use Rattle.pef_script.specs.Script.{DescribedScript};
-ghost use Rattle.pef_tool.specs.Now.{IsDescribedNow};
+ghost use Rattle.pef_tool.specs.Now.{HasUnlinked, IsDescribedNow};
 ghost use Rattle.pef_write.specs.Linked.{IsLinked, LinkedContainer};
 
 /// A container that was linked of a script prepares to exactly the memory that the script describes.
@@ -34,4 +36,11 @@ pub fn linked_is_sound()
     ensures filled { (script : DescribedScript) (linked : LinkedContainer) (pairs : List Pair) (p : ℕ) → IsLinked script linked → (pair_of pairs p).bytes ≡ linked.bytes → image_refusal_in pairs p ≡ None }
     ensures relocated { (script : DescribedScript) (linked : LinkedContainer) (pairs : List Pair) (p : ℕ) (all : List Present) (before empty : Layout) (places : List Place) → IsLinked script linked → (pair_of pairs p).bytes ≡ linked.bytes
         → ArePlaced before (extents_in pairs p) places empty → reloc_refusal_in pairs (addresses_of pairs all (record { position = p; places = places })) p ≡ None }
+{}
+
+/// So where the fragments of a closure are refused for an image or a relocation header, the refusal names
+/// one of them that wasn't linked of any script.
+pub fn refusals_are_of_others()
+    ensures image { (pairs : List Pair) (m : Layout) (new : List ℕ) (name : List ℕ) (k : PackFault) → HasBadImage pairs m new name k → HasUnlinked pairs new name }
+    ensures program { (pairs : List Pair) (there : List Present) (m : Layout) (new : List ℕ) (name : List ℕ) (k : RelocFault) → HasBadProgram pairs there m new name k → HasUnlinked pairs new name }
 {}
