@@ -69,13 +69,13 @@ extents_same c (s ∷ sections) from each =
     ap₂ (λ e es. e ∷ es) (ap (extent_at c) here ∙ each 0 s refl) (extents_same c sections (from + 1) (λ k t there. ap (extent_at c) (next k) ∙ each (suc k) t there))
 
 -- the addresses of a script's sections, and of its imports
-record AreAddresses (script : DescribedScript) (a : Addresses) : Type 0 where
-  sections : length a.sections ≡ length script.sections
-  imports : length a.imports ≡ length script.imports
+pub record AreAddresses (script : DescribedScript) (a : Addresses) : Type 0 where
+  pub sections : length a.sections ≡ length script.sections
+  pub imports : length a.imports ≡ length script.imports
 
 module _ (script : DescribedScript) (k : LinkedContainer) (linked : IsLinked script k) (c : Contained) (l : Loaded) (of : IsContainerOf script k linked c l) where
   -- the extents are those that the script describes
-  extents_are : extents_of c ≡ described_extents script
+  pub extents_are : extents_of c ≡ described_extents script
   extents_are =
       let from_0 : (i : ℕ) → 0 + i ≡ i = λ i. omega arith in
       let each : (i : ℕ) (s : DescribedSection) → slice_get script.sections i ≡ Some s → extent_at c (0 + i) ≡ described_extent s = λ i s there.
@@ -118,7 +118,7 @@ module _ (script : DescribedScript) (k : LinkedContainer) (linked : IsLinked scr
       ap (λ n. relocated_by a i (reloc_of l) 0 n memory) of.tables.reloc_count
       ∙ section_made a (reloc_of l) entries (length script.sections) i s.fixups memory of.tables.relocs own (subst P there_are.sections makes)
 
-  prepared_is : (a : Addresses) → AreAddresses script a → (i : ℕ) → i < length script.sections → prepared_at c l a i ≡ described_at (address_of a) script i
+  pub prepared_is : (a : Addresses) → AreAddresses script a → (i : ℕ) → i < length script.sections → prepared_at c l a i ≡ described_at (address_of a) script i
   prepared_is a there_are i under =
       let d : DescribedSection = record { header = record { name = []; kind = 0; share = 0; align = 0; total = 0 }; image = []; fixups = [] } in
       let s = get_or script.sections i d in
@@ -143,20 +143,20 @@ module _ (script : DescribedScript) (k : LinkedContainer) (linked : IsLinked scr
       refusal-of a (filled_at c) (reloc_of l) i p.section p.bytes header
       ∙ programs-sound a p.section (reloc_of l) i 0 l.header.reloc_count p.bytes (filled_at c p.section) under (ap (reloc_of l) from_0 ∙ header) sound
 
-  headers_sound : (a : Addresses) → AreAddresses script a → first_reloc_refusal c l a ≡ None
+  pub headers_sound : (a : Addresses) → AreAddresses script a → first_reloc_refusal c l a ≡ None
   headers_sound a there_are = first_among-none (refusal_at a (filled_at c) (reloc_of l)) 0 l.header.reloc_count (λ i low high. header_sound a there_are i (omega (arith, high)))
 
-  images_sound : first_image_refusal c c.header.instantiated_section_count ≡ None
+  pub images_sound : first_image_refusal c c.header.instantiated_section_count ≡ None
   images_sound =
       let d : DescribedSection = record { header = record { name = []; kind = 0; share = 0; align = 0; total = 0 }; image = []; fixups = [] } in
       first_among-none (image_refusal c) 0 c.header.instantiated_section_count
       (λ i low high. image_sound i (get_or script.sections i d) (slice_get-get_or script.sections i d (omega (arith, high, of.sections.instantiated))))
 
-  length-extents : length (extents_of c) ≡ length script.sections
+  pub length-extents : length (extents_of c) ≡ length script.sections
   length-extents = ap length extents_are ∙ length-map script.sections described_extent
 
   -- places of its sections give addresses, with as many as it has imports
-  addresses_are : (before empty : Layout) (imports : List ℕ) (places : List Place) → length imports ≡ length script.imports → ArePlaced before (extents_of c) places empty → AreAddresses script (addresses_at places imports)
+  pub addresses_are : (before empty : Layout) (imports : List ℕ) (places : List Place) → length imports ≡ length script.imports → ArePlaced before (extents_of c) places empty → AreAddresses script (addresses_at places imports)
   addresses_are before empty imports places count placed = record {
     sections = length-map places (λ (p : Place). p.address) ∙ length-placed before (extents_of c) places empty placed ∙ length-extents;
     imports = count;

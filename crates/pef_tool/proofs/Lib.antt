@@ -5,8 +5,10 @@ mod LinkLemmas
 mod LinkedLemmas
 mod LoadLemmas
 mod LoadedLemmas
+mod NowLemmas
 mod OutcomeLemmas
 mod PreparedLemmas
 mod ProgramLemmas
 mod RefusalLemmas
+mod RefusedLemmas
 mod ShowingLemmas

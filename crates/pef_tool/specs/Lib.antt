@@ -9,6 +9,7 @@ pub mod Link
 pub mod List
 pub mod Load
 pub mod Loaded
+pub mod Now
 pub mod Refusals
 pub mod Run
 pub mod Show

@@ -20,6 +20,7 @@ mod prepared;
 mod refusal;
 mod reply;
 mod show;
+pub mod theorems;
 
 pub use commands::run;
 pub use pef_ports::{FileFault, Files, Sink, Source, StreamFault};

@@ -1,0 +1,60 @@
+-- Where new fragments are refused for an image or a relocation header, it is one with bytes that weren't linked.
+use Rattle.std.proofs.Common.{◌≡◌, ℕ, suc, List, [], ◌∷◌, ◌++◌, Option, None, Some, refl, sym, ap, subst, arith}
+use Rattle.std.specs.Option.{option_or}
+use Rattle.cfm_closure.specs.Stores.{Pair, pair_of}
+use Rattle.cfm_memory.specs.Instances.{Layout}
+use Rattle.cfm_prepare.specs.Addresses.{addresses_of, first_bad_program}
+use Rattle.cfm_prepare.specs.Fragments.{Present, first_bad_image, image_refusal_in, named, positions, reloc_refusal_in}
+use Rattle.cfm_prepare.specs.Placing.{AllPlaced}
+use Rattle.cfm_prepare.specs.Steps.{HasBadImage, HasBadProgram}
+use Rattle.pef_pidata.specs.declared.fault.PackFault.{PackFault}
+use Rattle.pef_reloc.specs.declared.fault.RelocFault.{RelocFault}
+use Rattle.pef_tool.specs.Now.{HasUnlinked}
+use Rattle.pef_tool.proofs.NowLemmas.{linked-filled, linked-relocated}
+
+behind : (pairs : List Pair) (p : ℕ) (ps : List ℕ) (name : List ℕ) → HasUnlinked pairs ps name → HasUnlinked pairs (p ∷ ps) name
+behind pairs p ps name has = record { position = has.position; member = (suc has.member.0, omega (arith, has.member.1), has.member.2); is = has.is; other = has.other }
+
+-- the name of a refusal
+abbrev named-by : {F : Type 0} → List ℕ → Option (List ℕ × F) → List ℕ
+named-by name None = name
+named-by name (Some refusal) = refusal.0
+
+told : {F : Type 0} (name here : List ℕ) (k e : F) → ◌≡◌ {A = Option (List ℕ × F)} (Some (here, e)) (Some (name, k)) → name ≡ here
+told name here k e same = sym (ap (named-by name) same)
+
+bad-image : (pairs : List Pair) (fs : List Present) (name : List ℕ) (k : PackFault) → first_bad_image pairs fs ≡ Some (name, k) → HasUnlinked pairs (positions fs) name
+bad-image pairs [] name k is = absurd (cc)
+bad-image pairs (f ∷ fs) name k is = by (image_refusal_in pairs f.position) refl is (bad-image pairs fs name k)
+  where
+    by : (o : Option PackFault) → image_refusal_in pairs f.position ≡ o → option_or (named pairs f.position o) (first_bad_image pairs fs) ≡ Some (name, k) → (first_bad_image pairs fs ≡ Some (name, k) → HasUnlinked pairs (positions fs) name)
+        → HasUnlinked pairs (positions (f ∷ fs)) name
+    by None was is later = behind pairs f.position (positions fs) name (later is)
+    by (Some e) was is later = record {
+      position = f.position;
+      member = (0, omega arith, refl);
+      is = told name (pair_of pairs f.position).name k e is;
+      other = λ script l linked holds. (let none : image_refusal_in pairs f.position ≡ None = linked-filled script l pairs f.position linked holds in absurd (cc));
+    }
+
+bad-program : (pairs : List Pair) (all : List Present) (m after : Layout) (fs : List Present) (name : List ℕ) (k : RelocFault) → AllPlaced pairs m fs after → first_bad_program pairs all fs ≡ Some (name, k) → HasUnlinked pairs (positions fs) name
+bad-program pairs all m after [] name k placed is = absurd (cc)
+bad-program pairs all m after (f ∷ fs) name k placed is = by (reloc_refusal_in pairs (addresses_of pairs all f) f.position) refl is (bad-program pairs all placed.0 after fs name k placed.2)
+  where
+    by : (o : Option RelocFault) → reloc_refusal_in pairs (addresses_of pairs all f) f.position ≡ o → option_or (named pairs f.position o) (first_bad_program pairs all fs) ≡ Some (name, k)
+        → (first_bad_program pairs all fs ≡ Some (name, k) → HasUnlinked pairs (positions fs) name) → HasUnlinked pairs (positions (f ∷ fs)) name
+    by None was is later = behind pairs f.position (positions fs) name (later is)
+    by (Some e) was is later = record {
+      position = f.position;
+      member = (0, omega arith, refl);
+      is = told name (pair_of pairs f.position).name k e is;
+      other = λ script l linked holds.
+          (let none : reloc_refusal_in pairs (addresses_of pairs all f) f.position ≡ None = linked-relocated script l pairs f.position all m placed.0 f.places linked holds placed.1 in absurd (cc));
+    }
+
+pub refused-image : (pairs : List Pair) (m : Layout) (new : List ℕ) (name : List ℕ) (k : PackFault) → HasBadImage pairs m new name k → HasUnlinked pairs new name
+refused-image pairs m new name k bad = subst (λ ps. HasUnlinked pairs ps name) bad.are.are (bad-image pairs bad.fresh name k bad.first)
+
+pub refused-program : (pairs : List Pair) (there : List Present) (m : Layout) (new : List ℕ) (name : List ℕ) (k : RelocFault) → HasBadProgram pairs there m new name k → HasUnlinked pairs new name
+refused-program pairs there m new name k bad =
+    subst (λ ps. HasUnlinked pairs ps name) bad.are.are (bad-program pairs (there ++ bad.fresh) m bad.are.empty bad.fresh name k bad.are.placed bad.first)

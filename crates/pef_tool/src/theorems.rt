@@ -1,0 +1,46 @@
+//! What the linker writes, the loader prepares to the memory that the script describes: laws of their
+//! definitions. The functions do nothing.
+ghost use Rattle.std.specs.Prelude.{◌≡◌, ℕ, List, None, Ok, Contains, true};
+ghost use Rattle.cfm_closure.specs.Fragments.{Fragment, fragment_of};
+ghost use Rattle.cfm_closure.specs.Stores.{Pair, pair_of};
+ghost use Rattle.cfm_memory.specs.Extents.{ArePlaced};
+ghost use Rattle.cfm_memory.specs.Instances.{Layout};
+ghost use Rattle.cfm_memory.specs.declared.place.Place.{Place};
+ghost use Rattle.cfm_prepare.specs.Addresses.{addresses_of};
+ghost use Rattle.cfm_prepare.specs.Contexts.{State, fresh_state};
+ghost use Rattle.cfm_prepare.specs.Fragments.{Present, extents_in, image_refusal_in, is_present, reloc_refusal_in};
+ghost use Rattle.cfm_prepare.specs.Runs.{Runs, Step};
+ghost use Rattle.cfm_prepare.specs.Steps.{HasBadImage, HasBadProgram, Prepares};
+ghost use Rattle.pef_pidata.specs.declared.fault.PackFault.{PackFault};
+ghost use Rattle.pef_reloc.specs.declared.fault.RelocFault.{RelocFault};
+ghost use Rattle.pef_script.specs.Script.{DescribedScript};
+ghost use Rattle.pef_tool.specs.Now.{HasUnlinked, IsDescribedNow};
+ghost use Rattle.pef_write.specs.Linked.{IsLinked, LinkedContainer};
+
+/// A container that was linked of a script prepares to exactly the memory that the script describes.
+///
+/// In a store that has the linked bytes in a place, and behind any list of preparations and closings: a
+/// preparation of any root whose closure has this place leaves its fragment present, and with the
+/// described memory; and so has it, under the addresses of now, as long as it is present.
+pub fn linked_prepares()
+    ensures prepares { (script : DescribedScript) (linked : LinkedContainer) (pairs : List Pair) (limit : ℕ) (steps : List Step) (s t : State) (name : List ℕ) (number p : ℕ) → IsLinked script linked → (pair_of pairs p).bytes ≡ linked.bytes
+        → Runs (fresh_state pairs limit) steps s → (step : Prepares s name number t) → Contains step.closure.closed.order p → (is_present t.present p ≡ true) × IsDescribedNow pairs t script p }
+    ensures present { (script : DescribedScript) (linked : LinkedContainer) (pairs : List Pair) (limit : ℕ) (steps : List Step) (s : State) (p : ℕ) → IsLinked script linked → (pair_of pairs p).bytes ≡ linked.bytes
+        → Runs (fresh_state pairs limit) steps s → is_present s.present p ≡ true → IsDescribedNow pairs s script p }
+{}
+
+/// Such a container is never what a preparation is refused for: it is read, none of its images is refused,
+/// and, where its sections have places, none of its relocation headers.
+pub fn linked_is_sound()
+    ensures read { (script : DescribedScript) (linked : LinkedContainer) (pairs : List Pair) (p : ℕ) → IsLinked script linked → (pair_of pairs p).bytes ≡ linked.bytes → (f : Fragment) × (fragment_of pairs p ≡ Ok f) }
+    ensures filled { (script : DescribedScript) (linked : LinkedContainer) (pairs : List Pair) (p : ℕ) → IsLinked script linked → (pair_of pairs p).bytes ≡ linked.bytes → image_refusal_in pairs p ≡ None }
+    ensures relocated { (script : DescribedScript) (linked : LinkedContainer) (pairs : List Pair) (p : ℕ) (all : List Present) (before empty : Layout) (places : List Place) → IsLinked script linked → (pair_of pairs p).bytes ≡ linked.bytes
+        → ArePlaced before (extents_in pairs p) places empty → reloc_refusal_in pairs (addresses_of pairs all (record { position = p; places = places })) p ≡ None }
+{}
+
+/// So where the fragments of a closure are refused for an image or a relocation header, the refusal names
+/// one of them that wasn't linked of any script.
+pub fn refusals_are_of_others()
+    ensures image { (pairs : List Pair) (m : Layout) (new : List ℕ) (name : List ℕ) (k : PackFault) → HasBadImage pairs m new name k → HasUnlinked pairs new name }
+    ensures program { (pairs : List Pair) (there : List Present) (m : Layout) (new : List ℕ) (name : List ℕ) (k : RelocFault) → HasBadProgram pairs there m new name k → HasUnlinked pairs new name }
+{}
