@@ -1,5 +1,5 @@
 -- Certificates for the sections of a script: their programs are programs for the sections, and least ones.
-use Rattle.std.proofs.Common.{◌≡◌, ◌∙◌, ℕ, zero, suc, ◌+◌, ◌<◌, ◌==◌, Bool, true, false, ◌&&◌, ◌||◌, List, [], ◌∷◌, ◌++◌, Option, None, Some, option_map, slice_get, length, take, map, refl, sym, ap, subst, arith}
+use Rattle.std.proofs.Common.{◌≡◌, ◌∙◌, ℕ, zero, suc, ◌+◌, ◌<◌, Bool, true, false, ◌&&◌, ◌||◌, List, [], ◌∷◌, ◌++◌, None, Some, option_map, slice_get, length, take, map, refl, sym, ap, subst, arith}
 use Rattle.std.specs.List.{All, AllByRecursion}
 use Rattle.std.proofs.lemmas.Bool.{eqb-true, lt-ltb}
 use Rattle.std.proofs.lemmas.List.{length-append, length-take-le, take_all, take_more}
@@ -15,7 +15,7 @@ use Rattle.pef_reloc.specs.declared.instr.Instr.{Instr}
 use Rattle.pef_reloc.specs.Deliveries.{all_meet, is_section, named_imports, names_used, uses_import, uses_section}
 use Rattle.pef_reloc.specs.Instrs.{instrs_fit, repeat_free}
 use Rattle.pef_reloc.specs.Steps.{Least, all_below, named_sections, names_below}
-use Rattle.pef_script.specs.Script.{DescribedScript, DescribedSection}
+use Rattle.pef_script.specs.Script.{DescribedSection}
 use Rattle.pef_script.specs.WellFormed.{BaseThere, SectionHolds}
 use Rattle.pef_words.proofs.Laws.Tests.{both_met, met_both}
 use Rattle.pef_write.specs.Linked.{AreCertified, AreProgramsFor, IsCertified, IsProgramFor}
