@@ -1,4 +1,4 @@
-mod AddressLemmas
+mod AloneLemmas
 mod CheckLemmas
 mod DescribedLemmas
 mod LinkLemmas
@@ -7,7 +7,6 @@ mod LoadLemmas
 mod LoadedLemmas
 mod NowLemmas
 mod OutcomeLemmas
-mod PreparedLemmas
 mod ProgramLemmas
 mod RefusedLemmas
-mod ShowingLemmas
+mod ShowLemmas

@@ -29,7 +29,7 @@ use Rattle.pef_answers.specs.declared.refusal.Refusal.TheVariants as refusal
 -- `show` ends as its script does
 pub ends_with : (before after : Stream) (read : Vec ℕ Global) (text : List ℕ) (script : DescribedScript) (o : ShowOutcome)
     → ReadsInput (Ok read) before after input_limit → text ≡ read.items → script_of text ≡ Ok script → ScriptEnds script o → ShowEnds before after o
-ends_with before after read text script (shows p) reads same is ends = record {
+ends_with before after read text script (shows s number) reads same is ends = record {
   text = read.items;
   input = record { whole = reads.0; short = reads.2; sound = reads.3 };
   script = script;

@@ -1,6 +1,4 @@
-pub mod Alone
 pub mod Check
-pub mod Described
 pub mod Fragment
 pub mod Kept
 pub mod Limits

@@ -5,7 +5,6 @@
 //! the words.
 #![tactic(auto)]
 
-mod addresses;
 mod check;
 mod commands;
 mod fragment;
@@ -13,8 +12,6 @@ mod link;
 mod list;
 mod load;
 mod loaded;
-mod prepare;
-mod prepared;
 mod show;
 pub mod theorems;
 

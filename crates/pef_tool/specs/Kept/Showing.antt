@@ -6,6 +6,6 @@ use Rattle.pef_tool.specs.Show.{IsShown, LacksClosure, ShowOutcome, refuses, sho
 
 -- how `show` ends with a script: it is shown, or has no closure, or memory was refused
 abbrev pub ScriptEnds : DescribedScript → ShowOutcome → Type 0
-ScriptEnds script (shows p) = IsShown script p
+ScriptEnds script (shows s number) = IsShown script s number
 ScriptEnds script (unbound fault) = LacksClosure script fault
 ScriptEnds script (refuses why) = why ≡ refusal.OutOfMemory

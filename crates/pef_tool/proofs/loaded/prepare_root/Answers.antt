@@ -3,7 +3,7 @@ use Rattle.std.proofs.Common.{subst}
 use Rattle.cfm_prepare.specs.Contexts.{State}
 use Rattle.cfm_prepare.specs.Steps.{MayNotPrepare, Prepares}
 use Rattle.pef_tool.proofs.LoadLemmas.{prepared-limit}
-use Rattle.pef_tool.proofs.load.prepare_first.Goals as goal
+use Rattle.pef_tool.proofs.loaded.prepare_root.Goals as goal
 
 pub invariant_of-result : goal.invariant_of-result
 invariant_of-result c =
