@@ -1,7 +1,7 @@
 -- Files in memory.
 use Rattle.std.specs.Prelude.{ℕ, List, [], ◌∷◌, Option, None, Some, if◌then◌else◌, map}
 use Rattle.std.specs.Str.{bytes_eq}
-use Rattle.command_tests.specs.declared.ports.Paper.{Paper}
+use Rattle.test_bench.specs.declared.ports.Paper.{Paper}
 
 -- papers as a path and bytes each
 abbrev pub seen : List Paper → List (List ℕ × List ℕ)

@@ -1,4 +1,6 @@
-//! Containers that are listed, with what is listed of them.
+//! Containers that are spelled by hand.
+
+use std::alloc::{AllocError, Global};
 
 /// The container of the script with two transition vectors, whose program is one halfword.
 pub const VECTORS_LEAST: &[u8] = b"\
@@ -18,18 +20,6 @@ pub const VECTORS_LEAST: &[u8] = b"\
       \x00\x00\x00\x00\x00\x00\x00\x01\x00\x01\x00\x00\x00\x00\x00\x01\
       \x00\x00\x00\x00\x46\x01\x67\x6F\x00\x04\x00\x00\x00\x02\x00\xA1\
       \x02\x00\x00\x00\x00\x00\x00\x00\x00\x01";
-
-/// Its listing.
-pub const VECTORS_LISTED: &[u8] = b"\
-container current 1 olddef 0 oldimp 0 date 0
-section 0 kind 0 share 4 align 4 total 8 unpacked 8 packed 8 default 00000000 name -
-section 1 kind 1 share 1 align 4 total 16 unpacked 16 packed 16 default 00000000 name -
-section 2 kind 4 share 4 align 4 total 0 unpacked 0 packed 90 default 00000000 name -
-main 1 00000000
-reloc section 1 halfwords 1
-4601 TVector8 2
-export go class 2 section 1 value 00000000
-";
 
 /// What `link` doesn't write: sections that aren't instantiated, sections with a name, one of them `-`, one
 /// empty and one with bytes that are escaped; a weak import of a weak library; each kind of relocation
@@ -70,46 +60,52 @@ pub const RICH: &[u8] = b"\
       \x00\x00\x14\xDE\xAD\xBE\xEF\xFF\xFE\x01\x00\x00\x17\x00\x00\x00\
       \x02\xFF\xFD";
 
-/// Its listing.
-pub const RICH_LISTED: &[u8] = b"\
-container current 7 olddef 5 oldimp 6 date 2592832621
-section 0 kind 0 share 4 align 4 total 16 unpacked 16 packed 16 default 00000000 name %2D
-section 1 kind 1 share 1 align 2 total 64 unpacked 0 packed 0 default 10002000 name\x20
-section 2 kind 2 share 1 align 3 total 16 unpacked 8 packed 2 default 00000000 name data%20%25%E9
-section 3 kind 4 share 4 align 4 total 0 unpacked 0 packed 262 default 00000000 name -
-section 4 kind 5 share 255 align 40 total 0 unpacked 9 packed 3 default FFFFFFFF name -
-section 5 kind 8 share 0 align 0 total 1 unpacked 2 packed 0 default 00000000 name -
-library Tools current 3 oldimp 2 options 00
-library A%20b current 1 oldimp 1 options C0
-import 0 f of Tools class 2 strong
-import 1 v of Tools class 1 weak
-import 2 w%20x of A%20b class 4 weak
-main 0 00000004
-init 1 00000008
-term 2 0000000C
-reloc section 1 halfwords 26
-0041 BySectDWithSkip 1 1
-4001 BySectC 2
-4202 BySectD 3
-4403 TVector12 4
-4601 TVector8 2
-4805 VTable8 6
-4A06 ImportRun 7
-61FF SmByImport 511
-6202 SmSetSectC 2
-6401 SmSetSectD 1
-6600 SmBySection 0
-8FFF IncrPosition 4096
-9001 SmRepeat 1 2
-A000 0004 SetPosition 4
-A400 0258 LgByImport 600
-B440 0002 LgSetSectC 2
-B480 0001 LgSetSectD 1
-B400 0003 LgBySection 3
-4000 BySectC 1
-B000 0003 LgRepeat 1 3
-reloc section 0 halfwords 0
-export go class 2 section 1 value 00000010
-export abs class 0 section -2 value DEADBEEF
-export u class 1 section -3 value 00000002
-";
+/// A library with one section of 16 bytes, whose first ten are raw, and with a program of six halfwords: a
+/// move to offset 4, an addition of section 0, a move to 12, and another addition. The section's header
+/// begins at byte 40, that of the loader section at 68, the raw bytes at 96 and the program at 180.
+pub const SPELLED: &[u8] = b"\
+      \x4A\x6F\x79\x21\x70\x65\x66\x66\x70\x77\x70\x63\x00\x00\x00\x01\
+      \x00\x00\x00\x00\x00\x00\x00\x00\x00\x00\x00\x00\x00\x00\x00\x00\
+      \x00\x02\x00\x01\x00\x00\x00\x00\xFF\xFF\xFF\xFF\x00\x00\x00\x00\
+      \x00\x00\x00\x10\x00\x00\x00\x0A\x00\x00\x00\x0A\x00\x00\x00\x60\
+      \x01\x01\x04\x00\xFF\xFF\xFF\xFF\x00\x00\x00\x00\x00\x00\x00\x00\
+      \x00\x00\x00\x00\x00\x00\x00\x54\x00\x00\x00\x70\x04\x04\x04\x00\
+      \x20\xFF\xFF\xFF\xFF\x7F\x01\x02\x03\x04\x00\x00\x00\x00\x00\x00\
+      \xFF\xFF\xFF\xFF\x00\x00\x00\x00\xFF\xFF\xFF\xFF\x00\x00\x00\x00\
+      \xFF\xFF\xFF\xFF\x00\x00\x00\x00\x00\x00\x00\x00\x00\x00\x00\x00\
+      \x00\x00\x00\x01\x00\x00\x00\x44\x00\x00\x00\x50\x00\x00\x00\x50\
+      \x00\x00\x00\x00\x00\x00\x00\x00\x00\x00\x00\x00\x00\x00\x00\x06\
+      \x00\x00\x00\x00\xA0\x00\x00\x04\x66\x00\xA0\x00\x00\x0C\x66\x00\
+      \x00\x00\x00\x00";
+
+/// A library with the same section, and with two relocation headers for it. The first has a move to offset 4
+/// and an addition of section 0, the second two such additions. Its programs begin at bytes 192 and 198.
+pub const TWICE: &[u8] = b"\
+      \x4A\x6F\x79\x21\x70\x65\x66\x66\x70\x77\x70\x63\x00\x00\x00\x01\
+      \x00\x00\x00\x00\x00\x00\x00\x00\x00\x00\x00\x00\x00\x00\x00\x00\
+      \x00\x02\x00\x01\x00\x00\x00\x00\xFF\xFF\xFF\xFF\x00\x00\x00\x00\
+      \x00\x00\x00\x10\x00\x00\x00\x0A\x00\x00\x00\x0A\x00\x00\x00\x60\
+      \x01\x01\x04\x00\xFF\xFF\xFF\xFF\x00\x00\x00\x00\x00\x00\x00\x00\
+      \x00\x00\x00\x00\x00\x00\x00\x60\x00\x00\x00\x70\x04\x04\x04\x00\
+      \x20\xFF\xFF\xFF\xFF\x7F\x01\x02\x03\x04\x00\x00\x00\x00\x00\x00\
+      \xFF\xFF\xFF\xFF\x00\x00\x00\x00\xFF\xFF\xFF\xFF\x00\x00\x00\x00\
+      \xFF\xFF\xFF\xFF\x00\x00\x00\x00\x00\x00\x00\x00\x00\x00\x00\x00\
+      \x00\x00\x00\x02\x00\x00\x00\x50\x00\x00\x00\x5A\x00\x00\x00\x5C\
+      \x00\x00\x00\x00\x00\x00\x00\x00\x00\x00\x00\x00\x00\x00\x00\x03\
+      \x00\x00\x00\x00\x00\x00\x00\x00\x00\x00\x00\x02\x00\x00\x00\x06\
+      \xA0\x00\x00\x04\x66\x00\x66\x00\x66\x00\x00\x00\x00\x00\x00\x00";
+
+/// A copy of a container, with other bytes from a place on.
+pub fn changed(
+    alloc: Global,
+    container: &[u8],
+    at: usize,
+    other: &[u8],
+) -> Result<Vec<u8>, AllocError> {
+    let (front, rest) = container.split_at(at.min(container.len()));
+    let (_, back) = rest.split_at(other.len().min(rest.len()));
+    let mut bytes = Vec::from_slice(alloc, front)?;
+    bytes.extend_from_slice(other)?;
+    bytes.extend_from_slice(back)?;
+    Ok(bytes)
+}

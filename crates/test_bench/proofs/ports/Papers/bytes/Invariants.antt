@@ -1,6 +1,6 @@
 use Rattle.std.proofs.Common.{◌≡◌, drop}
-use Rattle.command_tests.specs.Papers.{found_at, seen}
-use Rattle.command_tests.proofs.ports.Papers.bytes.Given as goal
+use Rattle.test_bench.specs.Papers.{found_at, seen}
+use Rattle.test_bench.proofs.ports.Papers.bytes.Given as goal
 
 -- what is left decides
 abbrev pub invariant-loop-paper : goal.invariant-loop-paper

@@ -4,8 +4,7 @@ ghost use Rattle.std.specs.Prelude.{◌<◌};
 
 use crate::ports::{Papers, Sheet, Text};
 use pef_tool::{FileFault, run};
-use std::alloc::Global;
-use std::process::Abort;
+use std::alloc::{AllocError, Global};
 use std::test::Fail;
 
 /// What a run is handed. Where a call is numbered 0, none fails.
@@ -87,27 +86,42 @@ impl Outcome {
     }
 }
 
+/// Runs the tool on words over files: its status.
+fn run_words(
+    alloc: Global,
+    words: &[&str],
+    papers: &mut Papers,
+    input: &mut Text<'_>,
+    out: &mut Sheet,
+) -> Result<u8, AllocError> {
+    let mut line = Vec::new(alloc);
+    line.push(String::from_str(alloc, "pef")?)?;
+    for word in words {
+        line.push(String::from_str(alloc, word)?)?;
+    }
+    Ok(run(alloc, line.as_slice(), papers, input, out))
+}
+
+/// Puts a file at a path.
+pub fn put_file(papers: &mut Papers, path: &str, bytes: &[u8]) -> Result<(), Fail> {
+    match papers.put(path.as_bytes(), bytes) {
+        Ok(()) => Ok(()),
+        Err(_) => Err(Fail::new("no memory for a file")),
+    }
+}
+
 /// Runs the tool.
 pub fn run_tool(alloc: Global, handed: Handed<'_>) -> Result<Outcome, Fail>
     requires { 0 < handed.step }
 {
-    let mut words = Vec::new(alloc);
-    words.push(String::from_str(alloc, "pef")?)?;
-    for word in handed.words {
-        words.push(String::from_str(alloc, word)?)?;
-    }
     let mut papers = Papers::new(alloc, handed.files_fail_at, handed.fault);
-    if papers.put(b"a", handed.file).is_err() {
-        return Err(Fail::from("no memory for a file"));
-    }
+    put_file(&mut papers, "a", handed.file)?;
     if let Some(second) = handed.second {
-        if papers.put(b"b", second).is_err() {
-            return Err(Fail::from("no memory for a file"));
-        }
+        put_file(&mut papers, "b", second)?;
     }
     let mut input = Text::new(handed.input, handed.step, handed.input_fails_at);
     let mut out = Sheet::new(alloc, handed.step, handed.out_fails_at);
-    let status = run(alloc, words.as_slice(), &mut papers, &mut input, &mut out);
+    let status = run_words(alloc, handed.words, &mut papers, &mut input, &mut out)?;
     Ok(Outcome {
         printed: out.into_bytes(),
         status,
@@ -116,9 +130,8 @@ pub fn run_tool(alloc: Global, handed: Handed<'_>) -> Result<Outcome, Fail>
     })
 }
 
-/// Runs the tool, which prints this and ends with this status.
+/// Runs the tool, which must print this and end with this status.
 pub fn assert_prints(
-    rt: &impl Abort,
     alloc: Global,
     handed: Handed<'_>,
     printed: &[u8],
@@ -127,12 +140,57 @@ pub fn assert_prints(
     requires { 0 < handed.step }
 {
     let outcome = run_tool(alloc, handed)?;
-    assert_eq!(rt;
-        outcome.printed.as_slice(),
-        printed,
-        "at {:?}",
-        handed.words
-    );
-    assert_eq!(rt; outcome.status, status, "at {:?}", handed.words);
+    if outcome.printed.as_slice() != printed || outcome.status != status {
+        return Err(unlike(handed.words, &outcome.printed, outcome.status));
+    }
     Ok(outcome)
+}
+
+/// Runs the tool over files, with an empty input. It must print this and end with this status.
+pub fn assert_prints_over(
+    alloc: Global,
+    papers: &mut Papers,
+    words: &[&str],
+    printed: &[u8],
+    status: u8,
+) -> Result<(), Fail> {
+    let (told, ended) = run_over(alloc, papers, words)?;
+    if told.as_slice() != printed || ended != status {
+        return Err(unlike(words, &told, ended));
+    }
+    Ok(())
+}
+
+/// Runs the tool over files, with an empty input: what it prints, and its status.
+pub fn run_over(
+    alloc: Global,
+    papers: &mut Papers,
+    words: &[&str],
+) -> Result<(Vec<u8>, u8), AllocError> {
+    let mut input = Text::new(b"", 1000, 0);
+    let mut out = Sheet::new(alloc, 1000, 0);
+    let status = run_words(alloc, words, papers, &mut input, &mut out)?;
+    Ok((out.into_bytes(), status))
+}
+
+/// Puts the container of a script at a path, and the script at `script`.
+pub fn put_linked(
+    alloc: Global,
+    papers: &mut Papers,
+    path: &str,
+    script: &[u8],
+) -> Result<(), Fail> {
+    put_file(papers, "script", script)?;
+    let words = ["link", "script", path];
+    let (told, status) = run_over(alloc, papers, &words)?;
+    if status != 0 {
+        return Err(unlike(&words, &told, status));
+    }
+    Ok(())
+}
+
+/// A failure that tells what a run printed, and its status.
+fn unlike(words: &[&str], printed: &[u8], status: u8) -> Fail {
+    let printed = str::from_utf8(printed).unwrap_or("no text");
+    Fail::new(format_args!("{words:?} ends with {status} and prints {printed}"))
 }

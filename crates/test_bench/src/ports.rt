@@ -2,7 +2,7 @@
 
 ghost use Rattle.std.specs.Prelude.{◌<◌};
 
-use pef_tool::{FileFault, Files, Sink, Source, StreamFault};
+use pef_ports::{FileFault, Files, Sink, Source, StreamFault};
 use std::alloc::Global;
 
 /// An input that gives so many bytes a call, and fails at one call: the first where `fails_at` is 1, and
@@ -130,7 +130,7 @@ pub struct Papers {
 
 impl Papers {
     ghost use Rattle.std.specs.Prelude.{◌≡◌, ◌∷◌, IfErr, OnOk, option_map};
-    ghost use Rattle.command_tests.specs.Papers.{found_at, seen};
+    ghost use Rattle.test_bench.specs.Papers.{found_at, seen};
     ghost use Rattle.pef_ports.specs.Ports.{counted};
     ghost use Rattle.pef_ports.specs.declared.ports.FileFault.TheVariants.{OutOfMemory};
 
@@ -207,7 +207,7 @@ impl Papers {
 
 impl Files for Papers {
     ghost use Rattle.std.specs.Prelude.{◌≡◌, Some};
-    ghost use Rattle.command_tests.specs.Papers.{found_at, seen};
+    ghost use Rattle.test_bench.specs.Papers.{found_at, seen};
     ghost use Rattle.pef_ports.specs.Ports.{one_more};
 
     ghost state = { λ files. record {
