@@ -14,8 +14,6 @@ pub use Rattle.pef_reloc.proofs.FlatLaws.{instrs_of-spelled}
 pub use Rattle.pef_reloc.proofs.Readback.{spelled-instrs_of, instrs_of-fit}
 -- the bytes of a flat program are refused nowhere, and do what its list does, which is its trace
 pub use Rattle.pef_reloc.proofs.FlatLaws.{program_fault-spelled, relocated-spelled, applied-trace}
--- until there is the planner: the plain program of fixups is flat, makes them, names no other section, and is short
-pub use Rattle.pef_reloc.proofs.PlainLaws.{plain-flat, plain-makes, plain-names, plain-short}
 -- lists of instructions in a row: what they add, how long they are, and that they are flat
 pub use Rattle.pef_reloc.proofs.ActLists.{state_after-append}
 pub use Rattle.pef_reloc.proofs.DeliveryLaws.{trace-append, program_length-append, flat-append, flat-before, flat-behind}

@@ -10,7 +10,6 @@ mod DeliveryLaws
 mod FixupLemmas
 mod Halfwords
 mod FlatLaws
-mod PlainLaws
 mod Readback
 mod Readings
 mod Rows

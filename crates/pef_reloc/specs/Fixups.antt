@@ -28,12 +28,3 @@ fixups_end end (fixup ∷ fixups) = fixups_end (fixup.offset + 4) fixups
 -- the fixups stand in address order, apart and within the limits
 unfoldable pub fixups_fit : List Fixup → Bool
 fixups_fit fixups = nat_le (length fixups) most_fixups && fixups_from 0 fixups
-
--- the sections of the fixups are numbered below a count
-abbrev pub base_below : ℕ → Base → Bool
-base_below count (Section section) = nat_lt section count
-base_below count (Import import) = true
-
-abbrev pub bases_below : ℕ → List Fixup → Bool
-bases_below count [] = true
-bases_below count (fixup ∷ fixups) = base_below count fixup.base && bases_below count fixups

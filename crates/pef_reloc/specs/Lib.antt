@@ -8,7 +8,6 @@ pub mod Headers
 pub mod Instrs
 pub mod Kept
 pub mod Limits
-pub mod Plain
 pub mod Steps
 pub mod Unrolled
 pub mod Views

@@ -26,6 +26,4 @@ pub use instr::{Instr, Repeat};
 pub use program::{Instrs, Program};
 pub use recent::MAX_STEPS;
 pub use relocate::apply;
-pub use theorems::{
-    acts_in_turn, additions_inside, plain_programs, readable_programs, spelled_programs,
-};
+pub use theorems::{acts_in_turn, additions_inside, readable_programs, spelled_programs};

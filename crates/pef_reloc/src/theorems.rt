@@ -1,11 +1,10 @@
 //! Laws of the definitions, for the proofs of crates that write programs. The functions do nothing.
-ghost use Rattle.std.specs.Prelude.{◌≡◌, ◌≤◌, ◌<◌, ◌*◌, ◌++◌, ℕ, List, None, length, map, slice_index, true};
+ghost use Rattle.std.specs.Prelude.{◌≡◌, ◌≤◌, ◌<◌, ◌++◌, ℕ, List, None, length, map, slice_index, true};
 ghost use Rattle.pef_reloc.specs.Additions.{AreInside, all_added, with_bases};
 ghost use Rattle.pef_reloc.specs.Applied.{Addresses, address_of, applied, relocated, then_done};
-ghost use Rattle.pef_reloc.specs.Fixups.{bases_below, fixups_fit};
-ghost use Rattle.pef_reloc.specs.Instrs.{instrs_fit, program_length, spelled};
-ghost use Rattle.pef_reloc.specs.Plain.{plain_program};
-ghost use Rattle.pef_reloc.specs.Steps.{Act, Makes, State, acts_from, add, is_flat, names_below, start, trace};
+ghost use Rattle.pef_reloc.specs.Fixups.{fixups_fit};
+ghost use Rattle.pef_reloc.specs.Instrs.{instrs_fit, spelled};
+ghost use Rattle.pef_reloc.specs.Steps.{Act, State, acts_from, add, is_flat, names_below, start, trace};
 ghost use Rattle.pef_reloc.specs.Limits.{step_limit};
 ghost use Rattle.pef_reloc.specs.Unrolled.{instrs_of, program_fault};
 ghost use Rattle.pef_reloc.specs.declared.fixup.Fixup.{Fixup};
@@ -37,14 +36,4 @@ pub fn readable_programs()
 pub fn additions_inside()
     ensures done { (a : Addresses) (fixups : List Fixup) (memory : List ℕ) → AreInside a (length memory) fixups → applied a (map add fixups) memory ≡ record { memory = all_added a fixups memory; fault = None } }
     ensures described { (a : Addresses) (fixups : List Fixup) (memory : List ℕ) → fixups_fit fixups ≡ true → AreInside a (length memory) fixups → all_added a fixups memory ≡ with_bases (address_of a) 0 fixups memory }
-{}
-
-/// The plain program of some fixups makes them, fits where they fit, has at most four halfwords and
-/// two instructions a fixup, and names no other sections.
-pub fn plain_programs()
-    ensures makes { (fixups : List Fixup) → Makes fixups (plain_program fixups) }
-    ensures flat { (fixups : List Fixup) → fixups_fit fixups ≡ true → is_flat (plain_program fixups) ≡ true }
-    ensures short { (fixups : List Fixup) → program_length (plain_program fixups) ≤ 4 * length fixups }
-    ensures count { (fixups : List Fixup) → length (plain_program fixups) ≤ 2 * length fixups }
-    ensures names { (count : ℕ) (fixups : List Fixup) → bases_below count fixups ≡ true → names_below count (plain_program fixups) ≡ true }
 {}

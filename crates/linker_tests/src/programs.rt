@@ -1,0 +1,206 @@
+//! The relocation programs that are linked, and their certificates.
+use pef_loader::Loader;
+use pef_reloc::{Base, Fixup, Instr, Program};
+use pef_script::Script;
+use pef_views::Container;
+use pef_write::link;
+use std::alloc::{AllocError, Global};
+use std::fmt::Write;
+use std::process::Abort;
+use std::test::Fail;
+
+const S0: Base = Base::Section(0);
+
+const S1: Base = Base::Section(1);
+
+const S2: Base = Base::Section(2);
+
+/// Fixups by offset and base.
+type Listed = &'static [(u32, Base)];
+
+/// Fixups of a section, how many halfwords their shortest program has, and its bytes where there is one
+/// such program alone.
+const LISTS: [(Listed, u32, &[u8]); 16] = [
+    (&[], 0, &[]),
+    (&[(0, S0), (4, S1), (8, Base::Import(0))], 2, &[]),
+    (&[(0, S0), (4, S1), (12, S0), (16, S1)], 1, &[0x44, 0x01]),
+    (&[(4, S1)], 1, &[0x00, 0x41]),
+    (&[(5116, S1)], 2, &[0x8F, 0xFF, 0x3F, 0xC1]),
+    (&[(5000, S1)], 2, &[]),
+    (&[(5117, S1)], 3, &[]),
+    (&[(0, S1), (8, S0)], 2, &[]),
+    (&[(0, S1), (8, S1), (12, S0)], 3, &[]),
+    (
+        &[(0, Base::Import(511)), (4, Base::Import(512))],
+        2,
+        &[0x61, 0xFF, 0x4A, 0x00],
+    ),
+    (&[(0, Base::Import(600))], 2, &[0xA4, 0x00, 0x02, 0x58]),
+    (&[(0, S2), (4, S2), (8, S2)], 2, &[]),
+    (&[(0, S2), (4, S2)], 2, &[]),
+    (&[(1020, S1)], 1, &[0x3F, 0xC1]),
+    (&[(0, S1), (4104, S0)], 3, &[]),
+    (
+        &[(0, S0), (4, S1), (12, S0), (16, S1), (20, S0), (24, S1)],
+        2,
+        &[0x44, 0x00, 0x46, 0x01],
+    ),
+];
+
+/// The number of the section that has the fixups.
+const OWN: usize = 1;
+
+/// How many imports are declared.
+const IMPORTS: u32 = 601;
+
+/// A script of three sections, of which the second has these fixups.
+fn script_of(alloc: Global, listed: &[(u32, Base)]) -> Result<String, AllocError> {
+    let mut text = String::new(alloc);
+    text.push_str("library Tools 1 0 -\n")?;
+    for number in 0..IMPORTS {
+        write!(text, "import i{number} data strong\n")?;
+    }
+    for number in 0..3 {
+        write!(text, "section s{number} data process 4 8192\n")?;
+    }
+    for fixup in listed {
+        let (offset, base) = *fixup;
+        match base {
+            Base::Section(number) => {
+                write!(text, "fix s{OWN} {offset} section s{number}\n")?;
+            }
+            Base::Import(number) => {
+                write!(text, "fix s{OWN} {offset} import i{number}\n")?;
+            }
+        }
+    }
+    Ok(text)
+}
+
+/// The instructions of a program that is written.
+fn instrs(alloc: Global, bytes: &[u8]) -> Result<Vec<Instr>, Fail> {
+    let mut instrs = Vec::new(alloc);
+    let mut walk = Program::read(bytes)?.instrs();
+    for _ in 0..bytes.len() {
+        if let Some(instr) = walk.next_instr() {
+            instrs.push(instr)?;
+        }
+    }
+    Ok(instrs)
+}
+
+/// Links a script whose second section has these fixups, and tests the program of that section: its
+/// length, that it is the one of the certificate, and its bytes where some are given.
+fn test_program(
+    rt: &impl Abort,
+    alloc: Global,
+    listed: &[(u32, Base)],
+    halfwords: u32,
+    bytes: &[u8],
+) -> Result<(), Fail> {
+    let text = script_of(alloc, listed)?;
+    let script = Script::read(alloc, text.as_bytes())?;
+    let linked = link(alloc, &script)?;
+    assert_eq!(rt;
+        linked.lengths(),
+        [0, halfwords, 0].as_slice(),
+        "{listed:?}"
+    );
+    let container = Container::read(linked.bytes())?;
+    let loader = Loader::read(&container)?;
+    if listed.is_empty() {
+        assert_eq!(rt; loader.relocs(), 0);
+        return Ok(());
+    }
+    assert_eq!(rt; loader.relocs(), 1, "{listed:?}");
+    let (section, written) = loader.reloc(0).unwrap_or((0, &[]));
+    assert_eq!(rt; section, OWN as u32, "{listed:?}");
+    assert_eq!(rt; written.len(), 2 * halfwords as usize, "{listed:?}");
+    if !bytes.is_empty() {
+        assert_eq!(rt; written, bytes, "{listed:?}");
+    }
+    let Some(certificate) = linked.certificate(OWN) else {
+        panic!(rt; "no certificate of {listed:?}");
+    };
+    assert_eq!(rt; certificate.section(), OWN as u32);
+    assert_eq!(rt; certificate.program(), instrs(alloc, written)?.as_slice());
+    assert_eq!(rt; certificate.program_length(), u64::from(halfwords));
+    Ok(())
+}
+
+#[test]
+fn shortest_programs(rt: HostRuntime) -> Result<(), Fail> {
+    for row in &LISTS {
+        let (listed, halfwords, bytes) = *row;
+        test_program(&rt, rt.alloc(), listed, halfwords, bytes)?;
+    }
+    Ok(())
+}
+
+/// How many words of section 1 in a row, the offset of the first, and their shortest program as above.
+const WORDS: [(u32, u32, u32, &[u8]); 3] = [
+    (512, 0, 1, &[0x43, 0xFF]),
+    (513, 0, 2, &[]),
+    (64, 4, 2, &[]),
+];
+
+#[test]
+fn words_in_a_row(rt: HostRuntime) -> Result<(), Fail> {
+    for (count, from, halfwords, bytes) in WORDS {
+        let mut listed = Vec::new(rt.alloc());
+        for i in 0..count {
+            listed.push((from.wrapping_add(i.wrapping_mul(4)), S1))?;
+        }
+        test_program(&rt, rt.alloc(), &listed, halfwords, bytes)?;
+    }
+    Ok(())
+}
+
+/// Two transition vectors, side by side, of which each has the code's address and the data's.
+const VECTORS: &[u8] = b"section code code global 4 8
+section data data process 4 16
+tvector data 0 code data
+tvector data 8 code data
+";
+
+/// The labels of the certificate of the vectors, where more fixups are left first.
+const LABELS: [u32; 45] = [
+    2, 1, 2, 3, 2, 3, 3, 2, 3, 3, 2, 3, 2, 3, 3, 3, 3, 3, 2, 1, 2, 2, 2, 2, 2, 2, 2, 1, 1, 1, 1, 1,
+    1, 1, 1, 1, 0, 0, 0, 0, 0, 0, 0, 0, 0,
+];
+
+/// The section, the program, the registers and the labels of each certificate.
+const CERTIFIED: [(u32, &[Instr], &[u32], &[u32]); 2] = [
+    (0, &[], &[], &[0]),
+    (1, &[Instr::TVector8(2)], &[0, 1], &LABELS),
+];
+
+#[test]
+fn certificates(rt: HostRuntime) -> Result<(), Fail> {
+    let alloc = rt.alloc();
+    let script = Script::read(alloc, VECTORS)?;
+    let linked = link(alloc, &script)?;
+    assert_eq!(rt; linked.certificates().len(), CERTIFIED.len());
+    assert!(rt; linked.certificate(CERTIFIED.len()).is_none());
+    for (k, certificate) in linked.certificates().iter().enumerate() {
+        let (section, program, registers, labels) = CERTIFIED[k];
+        assert_eq!(rt; certificate.section(), section);
+        assert_eq!(rt; certificate.program(), program);
+        assert_eq!(rt; certificate.registers(), registers);
+        assert_eq!(rt;
+            linked.certificate(k).map_or(9, |own| own.section()),
+            section
+        );
+        let mut found = Vec::new(alloc);
+        let mut runs = certificate.labels().runs();
+        for _ in 0..certificate.labels().rows() {
+            if let Some(run) = runs.next_run() {
+                for _ in 0..run.rows {
+                    found.extend_from_slice(run.labels)?;
+                }
+            }
+        }
+        assert_eq!(rt; found.as_slice(), labels, "section {k}");
+    }
+    Ok(())
+}
