@@ -9,6 +9,5 @@ mod NowLemmas
 mod OutcomeLemmas
 mod PreparedLemmas
 mod ProgramLemmas
-mod RefusalLemmas
 mod RefusedLemmas
 mod ShowingLemmas

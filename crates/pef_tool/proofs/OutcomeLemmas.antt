@@ -12,18 +12,19 @@ use Rattle.pef_script.specs.Script.{DescribedScript}
 use Rattle.pef_script.specs.Views.{Fails}
 use Rattle.pef_script.specs.declared.fault.ScriptFault.{ScriptFault}
 use Rattle.pef_script.specs.declared.fault.ScriptFault.TheVariants as script_fault
-use Rattle.pef_tool.specs.Answers.{answer_refused}
+use Rattle.pef_answers.specs.Answers.{answer_refused}
 use Rattle.pef_tool.specs.Check as check
-use Rattle.pef_tool.specs.Kept.Showing.{ScriptEnds, input_refusal, script_refusal}
+use Rattle.pef_answers.specs.Kept.Faults.{input_refusal, script_refusal}
+use Rattle.pef_tool.specs.Kept.Showing.{ScriptEnds}
 use Rattle.pef_tool.specs.Limits.{input_limit}
 use Rattle.pef_tool.specs.Link as link
 use Rattle.pef_tool.specs.List as list
 use Rattle.pef_tool.specs.Load as load
-use Rattle.pef_tool.specs.Refusals.{refusal_text}
+use Rattle.pef_answers.specs.Refusals.{refusal_text}
 use Rattle.pef_tool.specs.Run.{RunAnswers}
 use Rattle.pef_tool.specs.Show.{ShowEnds, ShowOutcome, refuses, shows, unbound}
-use Rattle.pef_tool.specs.declared.refusal.Refusal.{Refusal}
-use Rattle.pef_tool.specs.declared.refusal.Refusal.TheVariants as refusal
+use Rattle.pef_answers.specs.declared.refusal.Refusal.{Refusal}
+use Rattle.pef_answers.specs.declared.refusal.Refusal.TheVariants as refusal
 
 -- `show` ends as its script does
 pub ends_with : (before after : Stream) (read : Vec ℕ Global) (text : List ℕ) (script : DescribedScript) (o : ShowOutcome)

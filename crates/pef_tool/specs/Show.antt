@@ -12,14 +12,14 @@ use Rattle.pef_script.specs.Grammar.{script_of}
 use Rattle.pef_script.specs.Script.{DescribedScript}
 use Rattle.pef_script.specs.declared.fault.LineFault.{LineFault}
 use Rattle.pef_tool.specs.declared.prepared.Prepared.{Prepared}
-use Rattle.pef_tool.specs.declared.refusal.Refusal.{Refusal}
-use Rattle.pef_tool.specs.declared.refusal.Refusal.TheVariants.{Script, InputUnreadable, InputTooLong, OutOfMemory}
+use Rattle.pef_answers.specs.declared.refusal.Refusal.{Refusal}
+use Rattle.pef_answers.specs.declared.refusal.Refusal.TheVariants.{Script, InputUnreadable, InputTooLong, OutOfMemory}
 use Rattle.pef_tool.specs.Alone.{import_addresses, it_alone, lies_at}
-use Rattle.pef_tool.specs.Answers.{Answer, answer_done, answer_refused}
+use Rattle.pef_answers.specs.Answers.{Answer, answer_done, answer_refused}
 use Rattle.pef_tool.specs.Described.{IsDescribed}
 use Rattle.pef_tool.specs.Fragment.{PlacedSection, fragment_text, section_at}
 use Rattle.pef_tool.specs.Limits.{input_limit, memory_limit}
-use Rattle.pef_tool.specs.Refusals.{bind_refusal_text, refusal_text}
+use Rattle.pef_answers.specs.Refusals.{bind_refusal_text, refusal_text}
 use Rattle.pef_write.specs.Linked.{IsLinked, LinkedContainer}
 
 -- the input was read whole, and is this text

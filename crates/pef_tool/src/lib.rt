@@ -6,7 +6,6 @@
 #![tactic(auto)]
 
 mod addresses;
-mod bind_refusal;
 mod check;
 mod commands;
 mod fragment;
@@ -15,10 +14,7 @@ mod list;
 mod load;
 mod loaded;
 mod prepare;
-mod prepare_refusal;
 mod prepared;
-mod refusal;
-mod reply;
 mod show;
 pub mod theorems;
 

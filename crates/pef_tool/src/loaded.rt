@@ -3,10 +3,9 @@ ghost use Rattle.pef_ports.specs.Sent.{Sends};
 ghost use Rattle.pef_tool.specs.Fragment.{entry_text, sections_text};
 ghost use Rattle.pef_tool.specs.Loaded.{entry_label, fragment_text, fragments_text, init_order_in, init_text, inits_text, loaded_text, name_in, order_in, sections_in, term_text, terms_text};
 
-use crate::bind_refusal::print_behind;
 use crate::fragment::{entry_line, print_bytes};
-use crate::refusal::print_name_end;
 use cfm_prepare::{Connection, Context};
+use pef_answers::{print_behind, print_name_end};
 use pef_ports::{Page, Sink, StreamFault, send};
 
 /// Prints the fragments of a connection's closure with their sections, and then where they are entered.

@@ -4,20 +4,19 @@ ghost use Rattle.cfm_memory.specs.declared.place.MemoryFault.TheVariants as memo
 ghost use Rattle.cfm_fragment.specs.declared.fault.PrepareFault.TheVariants as prepare_fault;
 ghost use Rattle.pef_script.specs.Script.{DescribedScript};
 ghost use Rattle.pef_tool.specs.Alone.{it_alone};
-ghost use Rattle.pef_tool.specs.Answers.{Answer, Delivers, answer_done};
-ghost use Rattle.pef_tool.specs.Kept.Showing.{ScriptEnds, input_refusal};
+ghost use Rattle.pef_answers.specs.Answers.{Answer, Delivers, answer_done};
+ghost use Rattle.pef_tool.specs.Kept.Showing.{ScriptEnds};
 ghost use Rattle.pef_tool.specs.Show.{FailsToBind, IsShown, ShowAnswers, ShowOutcome, show_answer, shown_text};
 ghost use Rattle.pef_write.specs.Linked.{IsLinked};
 
 use crate::fragment::print_fragment;
 use crate::prepare::prepare_alone;
 use crate::prepared::Prepared;
-use crate::refusal::{Refusal, script_refusal};
-use crate::reply::{DONE, Reply, deliver};
 use cfm_closure::{BindFault, Store, StoreFault, closure};
 use cfm_fragment::PrepareFault;
 use cfm_memory::MemoryFault;
-use pef_ports::{InputFault, Page, Sink, Source, StreamFault, read_input};
+use pef_answers::{DONE, Refusal, Reply, deliver, input_refusal, script_refusal};
+use pef_ports::{Page, Sink, Source, StreamFault, read_input};
 use pef_script::Script;
 use pef_write::{Linked, link};
 use std::alloc::Global;
@@ -50,17 +49,6 @@ impl Reply for Prepared {
 
     fn print<W: Sink>(&self, out: &mut W, page: &mut Page) -> Result<(), StreamFault> {
         print_fragment(out, page, self)
-    }
-}
-
-/// What a fault of reading the input is told as.
-fn input_refusal(fault: InputFault) -> Refusal
-    ensures { result ≡ input_refusal fault }
-{
-    match fault {
-        InputFault::Unreadable => Refusal::InputUnreadable,
-        InputFault::TooLong => Refusal::InputTooLong,
-        InputFault::OutOfMemory => Refusal::OutOfMemory,
     }
 }
 

@@ -9,12 +9,12 @@ use Rattle.cfm_prepare.specs.Contexts.{fresh_state}
 use Rattle.cfm_prepare.specs.Steps.{MayNotPrepare, Prepares}
 use Rattle.pef_ports.specs.Ports.{FilesPort}
 use Rattle.pef_request.specs.Requests.{pair_of}
-use Rattle.pef_tool.specs.Answers.{Delivers, answer_done, answer_refused}
+use Rattle.pef_answers.specs.Answers.{Delivers, answer_done, answer_refused}
 use Rattle.pef_tool.specs.Limits.{memory_limit}
 use Rattle.pef_tool.specs.Load.{context_of, first_name, lacks_memory, loads, paired, refuses, unreadable}
 use Rattle.pef_tool.specs.Loaded.{loaded_text}
-use Rattle.pef_tool.specs.Refusals.{prepare_refusal_text, refusal_text, unreadable_text}
-use Rattle.pef_tool.specs.declared.refusal.Refusal.TheVariants.{OutOfMemory}
+use Rattle.pef_answers.specs.Refusals.{prepare_refusal_text, refusal_text, unreadable_text}
+use Rattle.pef_answers.specs.declared.refusal.Refusal.TheVariants.{OutOfMemory}
 use Rattle.pef_tool.proofs.LoadLemmas.{first-is, lacks-all, some-files, were-length}
 use Rattle.pef_tool.proofs.load.load_files.Goals as goal
 

@@ -1,7 +1,7 @@
 -- What was prepared is shown, else why not.
 use Rattle.std.proofs.Common.{refl}
 use Rattle.pef_tool.specs.Show.{refuses, shows, unbound}
-use Rattle.pef_tool.specs.declared.refusal.Refusal.TheVariants.{OutOfMemory}
+use Rattle.pef_answers.specs.declared.refusal.Refusal.TheVariants.{OutOfMemory}
 use Rattle.pef_tool.proofs.show.show_script.Goals as goal
 
 pub returns-in_default : goal.returns-in_default
