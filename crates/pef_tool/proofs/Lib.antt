@@ -1,6 +1,8 @@
 mod AddressLemmas
 mod CheckLemmas
 mod DescribedLemmas
+mod DistancesLemmas
+mod LeastLemmas
 mod LinkLemmas
 mod LinkedLemmas
 mod LoadLemmas

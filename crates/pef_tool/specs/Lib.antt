@@ -1,8 +1,10 @@
 pub mod Alone
 pub mod Check
 pub mod Described
+pub mod Distances
 pub mod Fragment
 pub mod Kept
+pub mod Least
 pub mod Limits
 pub mod Link
 pub mod List

@@ -8,6 +8,7 @@
 mod addresses;
 mod check;
 mod commands;
+mod distances;
 mod fragment;
 mod link;
 mod list;
