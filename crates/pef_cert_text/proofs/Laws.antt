@@ -2,3 +2,5 @@
 
 -- a valid certificate can be printed
 pub use Rattle.pef_cert_text.proofs.ValidPrints.{valid_prints}
+-- what is printed of certificates is read as these
+pub use Rattle.pef_cert_text.proofs.ReadsBack.{reads_back}

@@ -1,6 +1,8 @@
 mod AloneLemmas
 mod CheckLemmas
 mod DescribedLemmas
+mod DistancesLemmas
+mod LeastLemmas
 mod LinkLemmas
 mod LinkedLemmas
 mod LoadLemmas

@@ -15,6 +15,7 @@ use Rattle.pef_script.specs.declared.fault.ScriptFault.TheVariants as script_fau
 use Rattle.pef_answers.specs.Answers.{answer_refused}
 use Rattle.pef_tool.specs.Check as check
 use Rattle.pef_answers.specs.Kept.Faults.{input_refusal, script_refusal}
+use Rattle.pef_tool.specs.Distances as distances
 use Rattle.pef_tool.specs.Kept.Showing.{ScriptEnds}
 use Rattle.pef_tool.specs.Limits.{input_limit}
 use Rattle.pef_tool.specs.Link as link
@@ -68,6 +69,13 @@ no_script_linked port before after script out read text (script_fault.Refused fa
     rw is (record { text = read; read = reads; refused = ap script_of (sym same) ∙ fails })
 no_script_linked port before after script out read text script_fault.OutOfMemory why is reads same fails = rw is (inr (inr (inl (read, reads))))
 
+-- and `distances`
+pub no_script_certified : {F : Type 0} (port : FilesPort F) (before after : F) (script read text : List ℕ) (fault : ScriptFault) (why : Refusal)
+    → why ≡ script_refusal fault → Reads port before after script (Ok read) → text ≡ read → Fails fault (script_of text) → distances.DistancesEnd port before after script (distances.refuses why)
+no_script_certified port before after script read text (script_fault.Refused fault line) why is reads same fails =
+    rw is (record { text = read; read = reads; refused = ap script_of (sym same) ∙ fails })
+no_script_certified port before after script read text script_fault.OutOfMemory why is reads same fails = rw is (inr (inr (read, reads)))
+
 -- nothing of an input was read
 nothing_read : (told : Option (List ℕ)) → Begins told told []
 nothing_read None = tt
@@ -82,4 +90,4 @@ lacks_memory port stream (Some (link script out)) files input = ((link.refuses r
 lacks_memory port stream (Some (list path)) files input = ((list.lacks_memory, inl refl, refl), refl)
 lacks_memory port stream (Some (check script cert)) files input = ((check.lacks_memory, inl refl, refl), refl)
 lacks_memory port stream (Some (load named)) files input = ((load.lacks_memory, inl (0, [], refl), refl), refl)
-lacks_memory port stream (Some (distances script)) files input = (inr refl, refl, refl)
+lacks_memory port stream (Some (distances script)) files input = ((distances.refuses refusal.OutOfMemory, inl refl, refl), refl)

@@ -1,6 +1,8 @@
 pub mod Check
+pub mod Distances
 pub mod Fragment
 pub mod Kept
+pub mod Least
 pub mod Limits
 pub mod Link
 pub mod List

@@ -4,6 +4,7 @@ use Rattle.pef_ports.specs.Ports.{FilesPort, Stream}
 use Rattle.pef_request.specs.Requests.{Asked, check, distances, link, list, load, show}
 use Rattle.pef_answers.specs.Answers.{Answer, answer_refused, answer_usage}
 use Rattle.pef_tool.specs.Check.{CheckAnswers}
+use Rattle.pef_tool.specs.Distances.{DistancesAnswers}
 use Rattle.pef_tool.specs.Link.{LinkAnswers}
 use Rattle.pef_tool.specs.List.{ListAnswers}
 use Rattle.pef_tool.specs.Load.{LoadAnswers}
@@ -24,5 +25,4 @@ RunAnswers port stream (Some (link script out)) files files' input input' answer
 RunAnswers port stream (Some (list path)) files files' input input' answer = ListAnswers port files files' path answer × (input' ≡ input)
 RunAnswers port stream (Some (check script cert)) files files' input input' answer = CheckAnswers port files files' script cert answer × (input' ≡ input)
 RunAnswers port stream (Some (load named)) files files' input input' answer = LoadAnswers port files files' named answer × (input' ≡ input)
--- `distances` isn't there yet
-RunAnswers port stream (Some (distances script)) files files' input input' answer = UsageAnswers answer × (files' ≡ files) × (input' ≡ input)
+RunAnswers port stream (Some (distances script)) files files' input input' answer = DistancesAnswers port files files' script answer × (input' ≡ input)

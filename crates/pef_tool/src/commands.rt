@@ -5,6 +5,7 @@ ghost use Rattle.pef_answers.specs.Answers.{Answer, Delivers};
 ghost use Rattle.pef_tool.specs.Run.{RunAnswers};
 
 use crate::check::check_files;
+use crate::distances::print_distances;
 use crate::link::link_files;
 use crate::list::list_file;
 use crate::load::load_files;
@@ -59,7 +60,6 @@ fn run_request<F: Files, R: Source, W: Sink>(
             check_files(alloc, files, script.as_bytes(), cert.as_bytes(), out)
         }
         Request::Load { files: named } => load_files(alloc, files, named.as_slice(), out),
-        // The words are known, what they answer isn't there yet.
-        Request::Distances { .. } => deliver(out, &Usage),
+        Request::Distances { script } => print_distances(alloc, files, script.as_bytes(), out),
     }
 }

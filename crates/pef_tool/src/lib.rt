@@ -7,6 +7,7 @@
 
 mod check;
 mod commands;
+mod distances;
 mod fragment;
 mod link;
 mod list;

@@ -1,6 +1,6 @@
-//! What the linker writes, the loader prepares to the memory that the script describes: laws of their
-//! definitions. The functions do nothing.
-ghost use Rattle.std.specs.Prelude.{◌≡◌, ◌⊎◌, ℕ, List, None, Ok, Contains, true};
+//! The headline, and what stands beside it: laws of the definitions that the commands' crates promise by.
+//! The functions do nothing.
+ghost use Rattle.std.specs.Prelude.{◌≡◌, ◌⊎◌, ℕ, List, None, Some, Result, Ok, Contains, slice_get, true};
 ghost use Rattle.cfm_closure.specs.Fragments.{Fragment, fragment_of};
 ghost use Rattle.cfm_closure.specs.Stores.{Pair, pair_of};
 ghost use Rattle.cfm_memory.specs.Extents.{ArePlaced};
@@ -14,22 +14,40 @@ ghost use Rattle.cfm_prepare.specs.Faults.{fault_number};
 ghost use Rattle.cfm_prepare.specs.Placing.{LacksRoom};
 ghost use Rattle.cfm_prepare.specs.Steps.{HasBadImage, HasBadProgram, HasClosure, MayNotPrepare, Prepares, new_of};
 ghost use Rattle.cfm_prepare.specs.declared.fault.PrepareFault.{PrepareFault};
+ghost use Rattle.pef_cert_text.specs.Printed.{certificates_text};
 ghost use Rattle.pef_pidata.specs.declared.fault.PackFault.{PackFault};
 ghost use Rattle.pef_reloc.specs.declared.fault.RelocFault.{RelocFault};
-ghost use Rattle.pef_script.specs.Script.{DescribedScript};
+ghost use Rattle.pef_script.specs.Grammar.{script_of};
+ghost use Rattle.pef_script.specs.Script.{DescribedScript, DescribedSection};
+ghost use Rattle.pef_tool.specs.Check.{Judges, Texts};
+ghost use Rattle.pef_tool.specs.Distances.{IsYesToAll};
+ghost use Rattle.pef_tool.specs.Least.{HasLeast};
 ghost use Rattle.pef_tool.specs.Now.{HasUnlinked, IsDescribedNow};
+ghost use Rattle.pef_tool.specs.declared.check.Verdict.{Verdict};
+ghost use Rattle.pef_answers.specs.declared.refusal.Refusal.{Refusal};
 ghost use Rattle.pef_write.specs.Linked.{IsLinked, LinkedContainer};
 
-/// A container that was linked of a script prepares to exactly the memory that the script describes.
+/// The headline. Every container that the linker writes prepares, wherever its libraries resolve and its
+/// sections find room, to exactly the memory that its script describes; and for each section its relocation
+/// program has no more halfwords than any repeat-free program that makes the script's fixups, each once and
+/// in address order.
 ///
-/// In a store that has the linked bytes in a place, and behind any list of preparations and closings: a
-/// preparation of any root whose closure has this place leaves its fragment present, and with the
-/// described memory; and so has it, under the addresses of now, as long as it is present.
-pub fn linked_prepares()
+/// The first half: in a store that has the linked bytes in a place, and behind any list of preparations and
+/// closings, a preparation of any root whose closure has this place leaves its fragment present, and with
+/// the described memory; and so has it, under the addresses of now, as long as it is present. And where a
+/// fragment has a closure, for a number is left and its libraries resolve, and its new sections find room, it
+/// is refused for want of memory alone, or has a new fragment that wasn't linked of any script. The second
+/// half: the loader section that is read of these bytes has for each section such a least program, and what
+/// was linked has a valid certificate of it.
+pub fn headline()
     ensures prepares { (script : DescribedScript) (linked : LinkedContainer) (pairs : List Pair) (limit : ℕ) (steps : List Step) (s t : State) (name : List ℕ) (number p : ℕ) → IsLinked script linked → (pair_of pairs p).bytes ≡ linked.bytes
         → Runs (fresh_state pairs limit) steps s → (step : Prepares s name number t) → Contains step.closure.closed.order p → (is_present t.present p ≡ true) × IsDescribedNow pairs t script p }
     ensures present { (script : DescribedScript) (linked : LinkedContainer) (pairs : List Pair) (limit : ℕ) (steps : List Step) (s : State) (p : ℕ) → IsLinked script linked → (pair_of pairs p).bytes ≡ linked.bytes
         → Runs (fresh_state pairs limit) steps s → is_present s.present p ≡ true → IsDescribedNow pairs s script p }
+    ensures bound { (s : State) (name : List ℕ) (closure : HasClosure s name) (f : PrepareFault) → ((other : List ℕ) → LacksRoom s.pairs s.memory (new_of s closure.closed) other → ⊥) → MayNotPrepare s name f
+        → (fault_number f ≡ 99) ⊎ ((other : List ℕ) × HasUnlinked s.pairs (new_of s closure.closed) other) }
+    ensures least { (script : DescribedScript) (linked : LinkedContainer) (pairs : List Pair) (p : ℕ) (f : Fragment) (k : ℕ) (section : DescribedSection) → IsLinked script linked → (pair_of pairs p).bytes ≡ linked.bytes
+        → fragment_of pairs p ≡ Ok f → slice_get script.sections k ≡ Some section → HasLeast linked f.loader k section.fixups }
 {}
 
 /// Such a container is never what a preparation is refused for: it is read, none of its images is refused,
@@ -42,12 +60,15 @@ pub fn linked_is_sound()
 {}
 
 /// So where the fragments of a closure are refused for an image or a relocation header, the refusal names
-/// one of them that wasn't linked of any script. And where a fragment has a closure, for a number is left and
-/// its libraries resolve, and the new sections find room, it is refused for want of memory alone, or there is
-/// such a one among them.
+/// one of them that wasn't linked of any script.
 pub fn refusals_are_of_others()
     ensures image { (pairs : List Pair) (m : Layout) (new : List ℕ) (name : List ℕ) (k : PackFault) → HasBadImage pairs m new name k → HasUnlinked pairs new name }
     ensures program { (pairs : List Pair) (there : List Present) (m : Layout) (new : List ℕ) (name : List ℕ) (k : RelocFault) → HasBadProgram pairs there m new name k → HasUnlinked pairs new name }
-    ensures bound { (s : State) (name : List ℕ) (closure : HasClosure s name) (f : PrepareFault) → ((other : List ℕ) → LacksRoom s.pairs s.memory (new_of s closure.closed) other → ⊥) → MayNotPrepare s name f
-        → (fault_number f ≡ 99) ⊎ ((other : List ℕ) × HasUnlinked s.pairs (new_of s closure.closed) other) }
+{}
+
+/// What `distances` prints of a script, `check` accepts: it says yes to the certificate of each section, and
+/// how many halfwords the section's program has, or that memory was refused.
+pub fn distances_are_accepted()
+    ensures { (texts : Texts) (script : DescribedScript) (linked : LinkedContainer) (judged : Result (List Verdict) Refusal) → script_of texts.script ≡ Ok script → IsLinked script linked → texts.certificates ≡ certificates_text linked.certificates
+        → Judges texts judged → IsYesToAll linked.certificates judged }
 {}

@@ -1,0 +1,108 @@
+-- The certificates of what was linked can be printed, and `check` says yes to each.
+use Rattle.std.proofs.Common.{◌≡◌, ℕ, ◌+◌, ◌^◌, ◌≤◌, ◌==◌, suc, true, false, List, [], ◌∷◌, Result, Ok, Err, length, map, refl, sym, ap, ap₂, subst, ◌∙◌, eq-eqb, arith}
+use Rattle.std.specs.List.{AllByRecursion}
+use Rattle.pef_cert.specs.Valid.{Certified}
+use Rattle.pef_cert_text.specs.Grammar.{certificates_of}
+use Rattle.pef_cert_text.specs.Printed.{Printable, certificates_text}
+use Rattle.pef_cert_text.proofs.Laws.{reads_back, valid_prints}
+use Rattle.pef_ports.specs.Ports.{FilesPort, Reads}
+use Rattle.pef_reloc.specs.Instrs.{program_length}
+use Rattle.pef_script.specs.Grammar as grammar
+use Rattle.pef_script.specs.Grammar.{script_of}
+use Rattle.pef_script.specs.Script.{DescribedScript, DescribedSection}
+use Rattle.pef_script.specs.WellFormed.{SectionHolds}
+use Rattle.pef_words.proofs.Laws.Tests.{both_met}
+use Rattle.pef_write.specs.Linked.{AreCertified, IsLinked, LinkedContainer}
+use Rattle.pef_tool.specs.Check.{AreVerdicts, Judges, Texts, are_numbered, match_sections}
+use Rattle.pef_tool.specs.Distances.{IsYesToAll, LinksFile}
+use Rattle.pef_tool.specs.declared.check.Verdict.{Verdict}
+use Rattle.pef_tool.specs.declared.check.Verdict.TheVariants.{Yes, No}
+use Rattle.pef_answers.specs.declared.refusal.Refusal.{Refusal}
+use Rattle.pef_answers.specs.declared.refusal.Refusal.TheVariants.{Script, Listing, BadCertificate, SectionsDiffer, InputUnreadable, InputTooLong, OutOfMemory}
+
+-- certificates for the sections of a script can be printed
+certified_print : (sections imports k : ℕ) (each : List DescribedSection) (certificates : List Certified) → AllByRecursion (SectionHolds sections imports) each → AreCertified k each certificates → k + length each ≤ 2 ^ 32 → AllByRecursion Printable certificates
+certified_print sections imports k [] [] hold are few = tt
+certified_print sections imports k [] (c ∷ certificates) hold are few = absurd are
+certified_print sections imports k (s ∷ each) [] hold are few = absurd are
+certified_print sections imports k (s ∷ each) (c ∷ certificates) hold are few =
+    let own = are.0.section in
+    (valid_prints s.fixups c hold.0.fixups are.0.valid (omega (arith, own, few)), certified_print sections imports (k + 1) each certificates hold.1 are.1 (omega (arith, few)))
+
+pub linked_prints : (script : DescribedScript) (l : LinkedContainer) (given : List Certified) → IsLinked script l → given ≡ l.certificates → AllByRecursion Printable given
+linked_prints script l given linked is =
+    let few = linked.holds.sections.count in
+    subst (AllByRecursion Printable) (sym is) (certified_print (length script.sections) (length script.imports) 0 script.sections l.certificates linked.holds.sections.each linked.certified (omega (arith, few)))
+
+-- a file whose script was linked
+pub files_linked : {F : Type 0} {port : FilesPort F} {before after : F} {path text : List ℕ} {l : LinkedContainer} (given : List ℕ) (script : DescribedScript)
+    → Reads port before after path (Ok text) → given ≡ text → script_of given ≡ Ok script → IsLinked script l → LinksFile port before after path l
+files_linked {F} {port} {before} {after} {path} {text} {l} given script read same reads linked = record {
+  text = text;
+  read = read;
+  script = script;
+  is_script = ap script_of (sym same) ∙ reads;
+  linked = linked;
+}
+
+-- certificates of the sections of a script are numbered as these, and there are as many
+certified_numbered : (k : ℕ) (sections : List DescribedSection) (certificates : List Certified) → AreCertified k sections certificates → are_numbered k certificates ≡ true
+certified_numbered k [] [] are = refl
+certified_numbered k [] (c ∷ certificates) are = absurd are
+certified_numbered k (s ∷ sections) [] are = absurd are
+certified_numbered k (s ∷ sections) (c ∷ certificates) are = both_met (c.section == k) (are_numbered (k + 1) certificates) (eq-eqb c.section k are.0.section) (certified_numbered (k + 1) sections certificates are.1)
+
+certified_count : (k : ℕ) (sections : List DescribedSection) (certificates : List Certified) → AreCertified k sections certificates → length certificates ≡ length sections
+certified_count k [] [] are = refl
+certified_count k [] (c ∷ certificates) are = absurd are
+certified_count k (s ∷ sections) [] are = absurd are
+certified_count k (s ∷ sections) (c ∷ certificates) are = ap suc (certified_count (k + 1) sections certificates are.1)
+
+linked_match : (script : DescribedScript) (l : LinkedContainer) → IsLinked script l → match_sections script l.certificates ≡ true
+linked_match script l linked =
+    both_met (length l.certificates == length script.sections) (are_numbered 0 l.certificates)
+    (eq-eqb (length l.certificates) (length script.sections) (certified_count 0 script.sections l.certificates linked.certified))
+    (certified_numbered 0 script.sections l.certificates linked.certified)
+
+-- each verdict on them is a yes
+all_yes : (k : ℕ) (sections : List DescribedSection) (certificates : List Certified) (verdicts : List Verdict) → AreCertified k sections certificates → AreVerdicts sections certificates verdicts → verdicts ≡ map (λ c. Yes (program_length c.program)) certificates
+all_yes k [] [] [] are said = refl
+all_yes k [] [] (v ∷ verdicts) are said = absurd said
+all_yes k [] (c ∷ certificates) verdicts are said = absurd are
+all_yes k (s ∷ sections) [] verdicts are said = absurd are
+all_yes k (s ∷ sections) (c ∷ certificates) [] are said = absurd said
+all_yes k (s ∷ sections) (c ∷ certificates) (Yes halfwords ∷ verdicts) are said = ap₂ (λ (v : Verdict) vs. v ∷ vs) (ap Yes said.0.1) (all_yes (k + 1) sections certificates verdicts are.1 said.1)
+all_yes k (s ∷ sections) (c ∷ certificates) (No ∷ verdicts) are said = absurd (said.0 are.0.valid)
+
+-- one result can be only one script, and only one list of certificates
+same_script : (r : Result DescribedScript grammar.Refusal) (s t : DescribedScript) → r ≡ Ok s → r ≡ Ok t → s ≡ t
+same_script r s t one two = let both = sym one ∙ two in cc
+
+same_certificates : (r : Result (List Certified) ℕ) (cs ds : List Certified) → r ≡ Ok cs → r ≡ Ok ds → cs ≡ ds
+same_certificates r cs ds one two = let both = sym one ∙ two in cc
+
+-- what two texts come to, of which the first is a script, and the second what is printed of its certificates
+pub accepted : (texts : Texts) (script : DescribedScript) (l : LinkedContainer) (judged : Result (List Verdict) Refusal)
+    → script_of texts.script ≡ Ok script → IsLinked script l → texts.certificates ≡ certificates_text l.certificates → Judges texts judged → IsYesToAll l.certificates judged
+accepted texts script l judged is linked printed judges = by judged judges
+  where
+    reads : certificates_of texts.certificates ≡ Ok l.certificates
+    reads = ap certificates_of printed ∙ reads_back l.certificates (linked_prints script l l.certificates linked refl)
+
+    by : (judged : Result (List Verdict) Refusal) → Judges texts judged → IsYesToAll l.certificates judged
+    by (Ok verdicts) has =
+        let one = same_script (script_of texts.script) has.checked.script script has.has.script is in
+        let two = same_certificates (certificates_of texts.certificates) has.checked.certificates l.certificates has.has.certificates reads in
+        let first = subst (λ (s : DescribedScript). AreVerdicts s.sections has.checked.certificates verdicts) one has.verdicts_are in
+        all_yes 0 script.sections l.certificates verdicts linked.certified (subst (λ (cs : List Certified). AreVerdicts script.sections cs verdicts) two first)
+    by (Err (Script fault line)) refused = let wrong = sym is ∙ refused in absurd (cc)
+    by (Err (BadCertificate line)) refuses = let wrong = sym reads ∙ refuses.refused in absurd (cc)
+    by (Err SectionsDiffer) has =
+        let one = same_script (script_of texts.script) has.checked.script script has.has.script is in
+        let two = same_certificates (certificates_of texts.certificates) has.checked.certificates l.certificates has.has.certificates reads in
+        let wrong : true ≡ false = sym (linked_match script l linked) ∙ (ap₂ match_sections (sym one) (sym two) ∙ has.differ) in
+        absurd (cc)
+    by (Err OutOfMemory) any = refl
+    by (Err (Listing fault)) never = absurd never
+    by (Err InputUnreadable) never = absurd never
+    by (Err InputTooLong) never = absurd never

@@ -1,0 +1,66 @@
+-- What `distances SCRIPT` answers: it reads SCRIPT, links it, and prints the certificates of its sections. No other call is
+-- made on files: the container isn't written.
+use Rattle.std.specs.Prelude.{◌≡◌, ◌⊎◌, ℕ, List, Result, Ok, Err, map}
+use Rattle.pef_cert.specs.Valid.{Certified}
+use Rattle.pef_cert_text.specs.Printed.{certificates_text}
+use Rattle.pef_ports.specs.Ports.{FilesPort, Reads}
+use Rattle.pef_ports.specs.declared.ports.FileFault.TheVariants as file_fault
+use Rattle.pef_reloc.specs.Instrs.{program_length}
+use Rattle.pef_script.specs.Grammar.{script_of}
+use Rattle.pef_script.specs.Script.{DescribedScript}
+use Rattle.pef_answers.specs.Answers.{Answer, answer_done, answer_refused}
+use Rattle.pef_tool.specs.Link.{RefusesFile}
+use Rattle.pef_answers.specs.Refusals.{refusal_text, unreadable_text}
+use Rattle.pef_tool.specs.declared.check.Verdict.{Verdict}
+use Rattle.pef_tool.specs.declared.check.Verdict.TheVariants.{Yes}
+use Rattle.pef_answers.specs.declared.refusal.Refusal.{Refusal}
+use Rattle.pef_answers.specs.declared.refusal.Refusal.TheVariants.{Script, OutOfMemory}
+use Rattle.pef_write.specs.Linked.{IsLinked, LinkedContainer}
+
+-- SCRIPT was read, and its script linked
+pub record LinksFile {F : Type 0} (port : FilesPort F) (before after : F) (path : List ℕ) (l : LinkedContainer) : Type 0 where
+  pub text : List ℕ
+  pub read : Reads port before after path (Ok text)
+  pub script : DescribedScript
+  pub is_script : script_of text ≡ Ok script
+  pub linked : IsLinked script l
+
+-- memory was refused: before SCRIPT was read, or by reading it, or behind that
+abbrev pub DistancesLackMemory : {F : Type 0} → FilesPort F → F → F → List ℕ → Type 0
+DistancesLackMemory port before after script =
+    (after ≡ before)
+    ⊎ Reads port before after script (Err file_fault.OutOfMemory)
+    ⊎ ((text : List ℕ) × Reads port before after script (Ok text))
+
+-- why `distances` is refused without a path
+abbrev pub DistancesRefuse : {F : Type 0} → FilesPort F → F → F → List ℕ → Refusal → Type 0
+DistancesRefuse port before after script (Script fault line) = RefusesFile port before after script fault line
+DistancesRefuse port before after script OutOfMemory = DistancesLackMemory port before after script
+DistancesRefuse port before after script _ = ⊥
+
+-- how `distances` ends: it prints the certificates of what was linked, or can't read SCRIPT, or is refused
+pub data DistancesOutcome : Type 0 where
+  certifies : LinkedContainer → DistancesOutcome
+  unreadable : DistancesOutcome
+  refuses : Refusal → DistancesOutcome
+
+-- when it ends so, by how the files stood and stand
+abbrev pub DistancesEnd : {F : Type 0} → FilesPort F → F → F → List ℕ → DistancesOutcome → Type 0
+DistancesEnd port before after script (certifies l) = LinksFile port before after script l
+DistancesEnd port before after script unreadable = Reads port before after script (Err file_fault.Failed)
+DistancesEnd port before after script (refuses refusal) = DistancesRefuse port before after script refusal
+
+-- what it says then
+abbrev pub distances_answer : List ℕ → DistancesOutcome → Answer
+distances_answer script (certifies l) = answer_done (certificates_text l.certificates)
+distances_answer script unreadable = answer_refused (unreadable_text script)
+distances_answer script (refuses refusal) = answer_refused (refusal_text refusal)
+
+-- what `distances SCRIPT` answers
+abbrev pub DistancesAnswers : {F : Type 0} → FilesPort F → F → F → List ℕ → Answer → Type 0
+DistancesAnswers port before after script answer = (outcome : DistancesOutcome) × DistancesEnd port before after script outcome × (answer ≡ distances_answer script outcome)
+
+-- what `check` comes to where it says yes to certificates: to each, with its program's length; or memory was refused
+abbrev pub IsYesToAll : List Certified → Result (List Verdict) Refusal → Type 0
+IsYesToAll certificates (Ok verdicts) = verdicts ≡ map (λ c. Yes (program_length c.program)) certificates
+IsYesToAll certificates (Err why) = why ≡ OutOfMemory

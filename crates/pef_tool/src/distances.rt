@@ -1,0 +1,60 @@
+ghost use Rattle.pef_answers.specs.Answers.{Answer, Delivers, answer_done};
+ghost use Rattle.pef_tool.specs.Distances.{DistancesAnswers};
+
+use pef_answers::{DONE, NamedRefusal, Refusal, Reply, deliver, script_refusal};
+use pef_cert_text::print;
+use pef_ports::{FileFault, Files, Page, Sink, StreamFault, send};
+use pef_script::Script;
+use pef_write::link;
+use std::alloc::Global;
+
+/// Prints the certificates of the script at a path: for each section that no program is shorter than the
+/// one that `link` writes.
+///
+/// The whole text is made before the first line is printed.
+#[tactic(auto, using(crate::proofs::DistancesLemmas::linked_prints))]
+pub fn print_distances<F: Files, W: Sink>(
+    alloc: Global,
+    files: &mut F,
+    script: &[u8],
+    out: &mut W,
+) -> u8
+    ensures { (answer : Answer)
+        × DistancesAnswers (record { state = F.state; was_read = F.was_read; was_written = F.was_written }) files.old files.new script.now answer
+        × Delivers (W.stream out.old) (W.stream out.new) answer result }
+{
+    let text = match files.read(alloc, script) {
+        Ok(text) => text,
+        Err(FileFault::Failed) => return deliver(out, &NamedRefusal::FileUnreadable(script)),
+        Err(FileFault::OutOfMemory) => return deliver(out, &Refusal::OutOfMemory),
+    };
+    let read = match Script::read(alloc, text.as_slice()) {
+        Ok(read) => read,
+        Err(fault) => return deliver(out, &script_refusal(fault)),
+    };
+    let Ok(linked) = link(alloc, &read) else {
+        return deliver(out, &Refusal::OutOfMemory);
+    };
+    match print(alloc, linked.certificates()) {
+        Ok(text) => deliver(out, &Distances { text }),
+        Err(_) => deliver(out, &Refusal::OutOfMemory),
+    }
+}
+
+/// The certificates of a script's sections, as they are printed.
+#[derive(Debug, Drop)]
+struct Distances {
+    text: Vec<u8>,
+}
+
+impl Reply for Distances {
+    ghost answer = { λ distances. answer_done distances.text.items };
+
+    fn status(&self) -> u8 {
+        DONE
+    }
+
+    fn print<W: Sink>(&self, out: &mut W, page: &mut Page) -> Result<(), StreamFault> {
+        send(out, page, &self.text)
+    }
+}
