@@ -1,10 +1,11 @@
 mod Changes
 mod Contents
+mod Entries
+mod Fronts
 mod GivenBack
-mod Held
 mod InTurn
-pub mod Laws
 mod Placed
 mod Placing
 mod Ranges
 mod Rooms
+pub mod Laws

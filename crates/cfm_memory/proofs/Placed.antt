@@ -1,27 +1,56 @@
--- The instances stay laid out with a new one at an address that has room.
-use Rattle.std.proofs.Common.{◌≡◌, ℕ, ◌+◌, ◌≤◌, List, map, length, subst, sym, ◌∙◌, arith}
-use Rattle.std.proofs.lemmas.List.{length-map}
-use Rattle.std.specs.List.{insert}
+-- What is kept of a memory when an instance comes or goes, or is written to.
+use Rattle.std.proofs.Common.{◌≡◌, ℕ, ◌+◌, ◌≤◌, min, List, Some, length, subst, sym, arith}
+use Rattle.std.specs.BTreeMap.{insert_entry}
+use Rattle.std.specs.Global.{Vec}
+use Rattle.std.specs.Ordering.{nat_cmp}
 use Rattle.cfm_memory.specs.Limits.{first_address}
-use Rattle.cfm_memory.specs.declared.memory.Slot.{Slot}
-use Rattle.cfm_memory.specs.Instances.{Instance, Layout, with_instance}
-use Rattle.cfm_memory.specs.Placement.{taken, IsFree, IsRoom, IsLowest, IsLaidOut}
-use Rattle.cfm_memory.specs.Kept.Searches.{rank_in}
-use Rattle.cfm_memory.specs.Kept.Views.{slot_seen}
-use Rattle.cfm_memory.proofs.Changes.{map-insert, with_instance_is, rank_within, laid_out_with}
+use Rattle.cfm_memory.specs.Instances.{Instance, Layout, bytes_at, with_bytes, with_instance, without}
+use Rattle.cfm_memory.specs.Placement.{taken, IsFree, IsRoom, IsLowest}
+use Rattle.cfm_memory.specs.Kept.Searches.{IsKept}
+use Rattle.cfm_memory.proofs.Changes.{laid_out_with, laid_out_without, laid_out_written}
+use Rattle.cfm_memory.proofs.Contents.{nothing_at_free}
+use Rattle.cfm_memory.proofs.Entries.{inserted_is, instances}
+use Rattle.cfm_memory.proofs.Fronts.{front_below, front_with_new, front_without, front_written}
+use Rattle.cfm_memory.proofs.Placing.{some_taken}
+use Rattle.cfm_memory.proofs.Ranges.{begins_behind}
 
-pub placed_laid_out : (m : Layout) (limit size alignment address : ℕ) (bytes : List ℕ) (xs : List Instance) → record { limit = limit; instances = xs } ≡ m → length bytes ≡ size
-    → IsLowest m size alignment address → IsLaidOut first_address limit xs → IsLaidOut first_address limit (with_instance xs (record { address = address; bytes = bytes }))
-placed_laid_out m limit size alignment address bytes xs view_is size_is lowest laid =
+-- an address that has room has it among the instances that the code keeps
+room_seen : (m : Layout) (limit size alignment address : ℕ) (xs : List Instance) → record { limit = limit; instances = xs } ≡ m → IsLowest m size alignment address → IsRoom (record { limit = limit; instances = xs }) size alignment address
+room_seen m limit size alignment address xs view_is lowest =
     let P : Layout → Type 0 = λ k. IsRoom k size alignment address in
-    let room = subst P (sym view_is) lowest.room in
+    subst P (sym view_is) lowest.room
+
+pub placed_kept : (m : Layout) (limit front size alignment address : ℕ) (bytes : List ℕ) (xs : List Instance) → record { limit = limit; instances = xs } ≡ m → length bytes ≡ size
+    → IsLowest m size alignment address → IsKept limit xs front → IsKept limit (with_instance xs (record { address = address; bytes = bytes })) front
+placed_kept m limit front size alignment address bytes xs view_is size_is lowest kept =
+    let room = room_seen m limit size alignment address xs view_is lowest in
+    let some = some_taken size in
     let Q : ℕ → Type 0 = λ n. (address + taken n ≤ limit) × IsFree address (address + taken n) xs in
     let there = subst Q (sym size_is) (room.inside, room.free) in
-    laid_out_with first_address limit xs (record { address = address; bytes = bytes }) room.from there.0 there.1 laid
+    record {
+      laid_out = laid_out_with first_address limit xs (record { address = address; bytes = bytes }) room.from there.0 there.1 kept.laid_out;
+      is_front = front_with_new xs (record { address = address; bytes = bytes }) front (front_below xs front address (address + taken size) kept.is_front room.from (omega (arith, some)) room.free) kept.is_front;
+      small = kept.small;
+    }
 
--- the slots with one more at its rank
-pub placed_slots : (old now : List Slot) (rank : ℕ) (slot : Slot) → rank ≡ rank_in (map slot_seen old) slot.address → now ≡ insert old rank slot → map slot_seen now ≡ with_instance (map slot_seen old) (slot_seen slot)
-placed_slots old now rank slot rank_is now_is = rw (now_is, rank_is) (map-insert slot_seen old _ slot ∙ sym (with_instance_is (map slot_seen old) (slot_seen slot)))
+-- the map with a new entry has a new instance
+pub placed_is : (m : Layout) (limit size alignment address : ℕ) (v : Vec ℕ) (es : List (ℕ × Vec ℕ)) → record { limit = limit; instances = instances es } ≡ m → IsLowest m size alignment address
+    → instances (insert_entry nat_cmp es address v) ≡ with_instance (instances es) (record { address = address; bytes = v.items })
+placed_is m limit size alignment address v es view_is lowest =
+    let room = room_seen m limit size alignment address (instances es) view_is lowest in
+    let some = some_taken size in
+    inserted_is es address v (nothing_at_free (instances es) address (address + taken size) (omega (arith, some)) room.free)
 
-pub rank_inside : (slots : List Slot) (address : ℕ) → rank_in (map slot_seen slots) address ≤ length slots
-rank_inside slots address = omega (arith, rank_within (map slot_seen slots) address, length-map slots slot_seen)
+pub given_back_kept : (limit front address : ℕ) (bytes : List ℕ) (xs : List Instance) → bytes_at xs address ≡ Some bytes → IsKept limit xs front → IsKept limit (without xs address) (min front address)
+given_back_kept limit front address bytes xs there kept = record {
+  laid_out = laid_out_without first_address limit xs address kept.laid_out;
+  is_front = front_without limit xs front address bytes (begins_behind xs address first_address limit bytes kept.laid_out there) kept.laid_out there kept.is_front;
+  small = kept.small;
+}
+
+pub written_kept : (limit front address : ℕ) (w : List ℕ) (xs : List Instance) → IsKept limit xs front → IsKept limit (with_bytes xs address w) front
+written_kept limit front address w xs kept = record {
+  laid_out = laid_out_written first_address limit xs address w kept.laid_out;
+  is_front = front_written xs front address w kept.is_front;
+  small = kept.small;
+}

@@ -10,7 +10,7 @@ use Rattle.cfm_memory.proofs.Contents.{nothing_before}
 use Rattle.cfm_memory.proofs.Placing.{within_taken}
 
 -- an instance among those from an address on begins there or behind it
-begins_behind : (xs : List Instance) (address from limit : ℕ) (bytes : List ℕ) → IsLaidOut from limit xs → bytes_at xs address ≡ Some bytes → from ≤ address
+pub begins_behind : (xs : List Instance) (address from limit : ℕ) (bytes : List ℕ) → IsLaidOut from limit xs → bytes_at xs address ≡ Some bytes → from ≤ address
 begins_behind xs address from limit bytes laid is =
     elim (cases_lt address from) [
       | inl less ↦ (let none = nothing_before xs address from limit less laid in absurd (cc))

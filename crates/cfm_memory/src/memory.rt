@@ -2,29 +2,22 @@ ghost use Rattle.std.specs.Prelude.{◌≡◌, ℕ, ◌+◌, ◌*◌, ◌/◌, �
 ghost use Rattle.std.specs.Option.{option_copied};
 ghost use Rattle.std.specs.Result.{IfErr, OnErr};
 ghost use Rattle.std.specs.Borrow.{sem};
-ghost use Rattle.cfm_memory.specs.Instances.{bytes_at, holds_place, range_at, range_in, with_instances, without};
+ghost use Rattle.cfm_memory.specs.Instances.{bytes_at, holds_place, range_at, with_instances, without};
 ghost use Rattle.cfm_memory.specs.Lending.{LendsPart};
 ghost use Rattle.cfm_memory.specs.Limits.{first_address, greatest_alignment};
-ghost use Rattle.cfm_memory.specs.Placement.{end_of, taken, step_of, IsInOrder, IsLaidOut, IsLowest, IsRoom, MayRefuse, with_new};
-ghost use Rattle.cfm_memory.specs.Kept.Views.{slot_seen};
-ghost use Rattle.cfm_memory.specs.Kept.Searches.{index_in, rank_in, IsFirstFree};
+ghost use Rattle.cfm_memory.specs.Placement.{taken, step_of, IsInOrder, IsLowest, IsRoom, MayRefuse, with_new};
+ghost use Rattle.cfm_memory.specs.Kept.Searches.{IsFirstFree, IsFront, part_of};
 
 use crate::place::{MemoryFault, Place};
 use std::alloc::{AllocError, Global};
+use std::collections::BTreeMap;
 use std::marker::Model;
 
 /// The lowest address of an instance.
-const FIRST_ADDRESS: u64 = 0x0001_0000;
+const FIRST_ADDRESS: u32 = 0x0001_0000;
 
 /// The addresses of instances, and how many bytes each takes, are multiples of this.
 const GRAIN: u64 = 16;
-
-/// An instance as it is kept: where it begins, and its readable bytes.
-#[derive(Drop)]
-struct Slot {
-    address: u32,
-    bytes: Vec<u8>,
-}
 
 /// Memory that holds instances of sections, each at an address of its own.
 ///
@@ -33,8 +26,10 @@ struct Slot {
 pub struct Memory {
     alloc: Global,
     limit: u32,
-    /// In the order of their addresses.
-    slots: Vec<Slot>,
+    /// No address below this one has room, and no instance lies across it.
+    front: u32,
+    /// The readable bytes of the instances, by their addresses.
+    instances: BTreeMap<u32, Vec<u8>>,
 }
 
 impl Model for Memory {
@@ -43,13 +38,12 @@ impl Model for Memory {
     ghost Value = { Layout };
 
     ghost use Rattle.std.specs.Prelude.{map};
-    ghost use Rattle.cfm_memory.specs.Kept.Views.{layout, slot_seen};
-    ghost use Rattle.cfm_memory.specs.Limits.{first_address};
-    ghost use Rattle.cfm_memory.specs.Placement.{IsLaidOut};
+    ghost use Rattle.cfm_memory.specs.Kept.Searches.{IsKept};
+    ghost use Rattle.cfm_memory.specs.Kept.Views.{instance_seen, layout};
 
     ghost view = { layout };
 
-    ghost invariant = { λ m. IsLaidOut first_address m.limit (map slot_seen m.slots.items) };
+    ghost invariant = { λ m. IsKept m.limit (map instance_seen m.instances.entries) m.front };
 }
 
 impl Memory {
@@ -60,7 +54,8 @@ impl Memory {
         Memory {
             alloc,
             limit,
-            slots: Vec::new(alloc),
+            front: FIRST_ADDRESS,
+            instances: BTreeMap::new(alloc),
         }
     }
 
@@ -84,13 +79,13 @@ impl Memory {
         ensures unchanged { OnErr result (self.new ≡ self.old) }
         ensures in_order { IsInOrder self.old }
     {
+        self.front = self.next_front();
         let address = match self.lowest_room(size, alignment) {
             Some(address) => address,
             None => return Err(MemoryFault::NoRoom),
         };
         let bytes = zeros(self.alloc, size as usize)?;
-        let rank = rank_of(&self.slots, address);
-        self.slots.insert(rank, Slot { address, bytes })?;
+        self.instances.insert(address, bytes)?;
         Ok(Place { address, size })
     }
 
@@ -101,11 +96,41 @@ impl Memory {
     {
         let limit = self.limit;
         let taken = taken_by(u64::from(size));
-        let address = first_free(&self.slots, taken, step_by(alignment));
+        let address = self.first_free(taken, step_by(alignment));
         if address + taken > u64::from(limit) {
             return None;
         }
         Some(address as u32)
+    }
+
+    /// The lowest multiple of `step` from which on `taken` bytes meet no instance.
+    fn first_free(&self, taken: u64, step: u64) -> u64
+        requires taken { (0 < taken) × (taken ≤ 2 ^ 33) }
+        requires step { (0 < step) × (step ≤ 2 ^ 31) }
+        ensures first { IsFirstFree taken step first_address self.now.instances result }
+        ensures bound { result < 2 ^ 33 }
+    {
+        let mut address = u64::from(self.front).next_multiple_of(step);
+        for (start, bytes) in self.instances.range(self.front..) {
+            let start = u64::from(*start);
+            if address + taken <= start {
+                return address;
+            }
+            let end = start + taken_by(bytes.len() as u64);
+            address = address.max(end.next_multiple_of(step));
+        }
+        address
+    }
+
+    /// The address behind the instances that stand at the front, one behind the other.
+    fn next_front(&self) -> u32
+        ensures { IsFront self.now.instances result }
+    {
+        let mut front = self.front;
+        while let Some(bytes) = self.instances.get(&front) {
+            front = (u64::from(front) + taken_by(bytes.len() as u64)) as u32;
+        }
+        front
     }
 
     /// Whether an instance has just this address and size.
@@ -114,8 +139,10 @@ impl Memory {
         ensures held { result ≡ holds_place self.now place }
         ensures in_order { IsInOrder self.now }
     {
-        let index = index_of(&self.slots, place.address);
-        index < self.slots.len() && self.slots[index].bytes.len() == place.size as usize
+        match self.instances.get(&place.address) {
+            Some(bytes) => bytes.len() == place.size as usize,
+            None => false,
+        }
     }
 
     /// The bytes of the instance at `place`.
@@ -126,9 +153,7 @@ impl Memory {
         ensures len { length result.now ≡ place.size }
         ensures in_order { IsInOrder self.now }
     {
-        let index = index_of(&self.slots, place.address);
-        let slot = &self.slots[index];
-        slot.bytes.as_slice()
+        self.instances[&place.address].as_slice()
     }
 
     /// The bytes of the instance at `place`, to be written. All others keep theirs.
@@ -138,9 +163,8 @@ impl Memory {
         ensures bytes { bytes_at self.old.instances place.address ≡ Some result.now }
         ensures len { length result.now ≡ place.size }
     {
-        let index = index_of(&self.slots, place.address);
-        let slot = &mut self.slots[index];
-        slot.bytes.as_mut_slice()
+        let bytes = self.instances.get_mut(&place.address).unwrap();
+        bytes.as_mut_slice()
     }
 
     /// Takes away the instance at `place`. All others keep their addresses and bytes.
@@ -150,8 +174,8 @@ impl Memory {
         ensures given_back { self.new ≡ with_instances self.old (without self.old.instances place.address) }
         ensures in_order { IsInOrder self.old }
     {
-        let index = index_of(&self.slots, place.address);
-        self.slots.remove(index);
+        self.instances.remove(&place.address);
+        self.front = self.front.min(place.address);
     }
 
     /// The `len` bytes from `address` on, or `None` where they don't lie inside one instance. An empty
@@ -161,34 +185,21 @@ impl Memory {
         ensures range { option_copied result ≡ range_at self.now.instances address len }
         ensures in_order { IsInOrder self.now }
     {
-        range_of(&self.slots, address, len)
+        let (start, bytes) = self.instances.range(..=address).next_back()?;
+        range_of(bytes, address - *start, len)
     }
 }
 
-impl Slot {
-    /// The `len` bytes from `address` on, where they lie inside the instance.
-    fn range(&self, address: u32, len: u32) -> Option<&[u8]>
-        ensures { option_copied result ≡ range_in (slot_seen self.now) address len }
-    {
-        if address < self.address {
-            return None;
-        }
-        let from = (address - self.address) as usize;
-        let len = len as usize;
-        if from > self.bytes.len() || len > self.bytes.len() - from {
-            return None;
-        }
-        Some(&self.bytes[from..from + len])
+/// The `len` bytes of an instance from an offset on, where they lie inside it.
+fn range_of(bytes: &[u8], from: u32, len: u32) -> Option<&[u8]>
+    ensures { option_copied result ≡ part_of bytes.now from len }
+{
+    let from = from as usize;
+    let len = len as usize;
+    if from > bytes.len() || len > bytes.len() - from {
+        return None;
     }
-
-    /// The address behind what the instance takes.
-    #[tactic(auto, using(crate::proofs::Placing::within_taken))]
-    fn end(&self) -> u64
-        requires { end_of (slot_seen self.now) ≤ 2 ^ 32 }
-        ensures { result ≡ end_of (slot_seen self.now) }
-    {
-        u64::from(self.address) + taken_by(self.bytes.len() as u64)
-    }
+    Some(&bytes[from..from + len])
 }
 
 /// `len` zero bytes.
@@ -215,59 +226,4 @@ fn step_by(alignment: u8) -> u64
     ensures bounds { (0 < result) × (result ≤ 2 ^ 31) }
 {
     GRAIN.max(1 << alignment)
-}
-
-/// The lowest multiple of `step` from which on `taken` bytes meet no instance.
-fn first_free(slots: &[Slot], taken: u64, step: u64) -> u64
-    requires taken { (0 < taken) × (taken ≤ 2 ^ 33) }
-    requires step { (0 < step) × (step ≤ 2 ^ 31) }
-    requires laid_out { IsLaidOut first_address (2 ^ 32) (map slot_seen slots.now) }
-    ensures first { IsFirstFree taken step first_address (map slot_seen slots.now) result }
-    ensures bound { result < 2 ^ 33 }
-{
-    let mut address = FIRST_ADDRESS.next_multiple_of(step);
-    for slot in slots {
-        if address + taken <= u64::from(slot.address) {
-            return address;
-        }
-        address = address.max(slot.end().next_multiple_of(step));
-    }
-    address
-}
-
-/// How many slots stand before the one at `address`; all where there is none.
-fn index_of(slots: &[Slot], address: u32) -> usize
-    ensures { result ≡ index_in (map slot_seen slots.now) address }
-{
-    for (i, slot) in slots.iter().enumerate() {
-        if slot.address == address {
-            return i;
-        }
-    }
-    slots.len()
-}
-
-/// How many slots stand before the place of a new one at `address`.
-fn rank_of(slots: &[Slot], address: u32) -> usize
-    ensures { result ≡ rank_in (map slot_seen slots.now) address }
-{
-    for (i, slot) in slots.iter().enumerate() {
-        if address <= slot.address {
-            return i;
-        }
-    }
-    slots.len()
-}
-
-/// The `len` bytes from `address` on in the first slot that has them.
-fn range_of(slots: &[Slot], address: u32, len: u32) -> Option<&[u8]>
-    ensures { option_copied result ≡ range_at (map slot_seen slots.now) address len }
-{
-    for slot in slots {
-        match slot.range(address, len) {
-            Some(range) => return Some(range),
-            None => {}
-        }
-    }
-    None
 }

@@ -1,17 +1,20 @@
 -- What the searches through the instances answer, each over a list.
-use Rattle.std.specs.Prelude.{◌≡◌, ℕ, ◌+◌, ◌==◌, ◌%◌, ◌≤◌, List, [], ◌∷◌, suc, nat_lt, if◌then◌else◌}
+use Rattle.std.specs.Prelude.{◌≡◌, ℕ, ◌+◌, ◌%◌, ◌^◌, ◌<◌, ◌≤◌, List, Option, None, Some, if◌then◌else◌, length, take, drop, nat_le}
 use Rattle.cfm_memory.specs.Instances.{Instance}
-use Rattle.cfm_memory.specs.Placement.{IsFree}
+use Rattle.cfm_memory.specs.Limits.{first_address}
+use Rattle.cfm_memory.specs.Placement.{IsFree, IsLaidOut}
 
--- how many instances stand before the one at an address; all where there is none
-abbrev pub index_in : List Instance → ℕ → ℕ
-index_in [] address = 0
-index_in (x ∷ xs) address = if x.address == address then 0 else suc (index_in xs address)
+-- an address below which nothing is free, and across which no instance lies
+pub record IsFront (xs : List Instance) (front : ℕ) : Type 0 where
+  pub low : first_address ≤ front
+  pub between : IsFree front front xs
+  pub full : (other : ℕ) → first_address ≤ other → IsFree other (other + 1) xs → front ≤ other
 
--- how many instances stand before the first that begins at an address or behind it
-abbrev pub rank_in : List Instance → ℕ → ℕ
-rank_in [] address = 0
-rank_in (x ∷ xs) address = if nat_lt x.address address then suc (rank_in xs address) else 0
+-- what is kept of a memory: its instances are laid out, its front is one, and its limit has 32 bits
+pub record IsKept (limit : ℕ) (xs : List Instance) (front : ℕ) : Type 0 where
+  pub laid_out : IsLaidOut first_address limit xs
+  pub is_front : IsFront xs front
+  pub small : limit < 2 ^ 32
 
 -- the first multiple of a step, from an address on, at which some bytes meet no instance
 pub record IsFirstFree (bytes step from : ℕ) (xs : List Instance) (address : ℕ) : Type 0 where
@@ -19,3 +22,7 @@ pub record IsFirstFree (bytes step from : ℕ) (xs : List Instance) (address : �
   pub aligned : address % step ≡ 0
   pub free : IsFree address (address + bytes) xs
   pub first : (other : ℕ) → from ≤ other → other % step ≡ 0 → IsFree other (other + bytes) xs → address ≤ other
+
+-- the len bytes from a place on, where they are there
+abbrev pub part_of : List ℕ → ℕ → ℕ → Option (List ℕ)
+part_of bytes from len = if nat_le (from + len) (length bytes) then Some (take len (drop from bytes)) else None

@@ -1,7 +1,5 @@
--- What an instance takes and where the instances end are small enough for the search.
-use Rattle.std.proofs.Common.{◌^◌, arith}
-use Rattle.cfm_memory.specs.Limits.{first_address}
-use Rattle.cfm_memory.proofs.Changes.{laid_out_to}
+-- What an instance takes and where the first free address lies are small enough for the sum.
+use Rattle.std.proofs.Common.{arith}
 use Rattle.cfm_memory.proofs.Placing.{some_taken, taken_most}
 use Rattle.cfm_memory.proofs.memory.Memory.lowest_room.Goals as goal
 
@@ -10,9 +8,6 @@ first_free-address-requires-clause-taken c =
     let some = some_taken c.from.result in
     let most = taken_most c.from.result in
     (omega arith, omega arith)
-
-pub first_free-address-requires-clause-laid_out : goal.first_free-address-requires-clause-laid_out
-first_free-address-requires-clause-laid_out c = rw c.deref.ensures.value (laid_out_to first_address c.self.inside.limit (2 ^ 32) _ (omega arith) c.self.invariant)
 
 pub overflow_add-address : goal.overflow_add-address
 overflow_add-address c =

@@ -1,43 +1,38 @@
--- What is left behind the part is in that slot alone.
-use Rattle.std.proofs.Common.{length, map, refl, sym, ap, ◌∙◌, arith}
+-- What is left behind the part is in that entry alone.
+use Rattle.std.proofs.Common.{◌≡◌, Some, refl, sym, ap, ◌∙◌}
+use Rattle.std.specs.Option.{option_copied_mut}
 use Rattle.std.specs.Vec.{with_items}
-use Rattle.cfm_memory.specs.Limits.{first_address}
-use Rattle.cfm_memory.specs.Kept.Searches.{index_in}
-use Rattle.cfm_memory.specs.Kept.Views.{slot_seen}
-use Rattle.cfm_memory.proofs.Changes.{laid_out_written}
-use Rattle.cfm_memory.proofs.Held.{held_under, held_slot, held_length, slot_written}
+use Rattle.cfm_memory.specs.Instances.{with_bytes}
+use Rattle.cfm_memory.proofs.Entries.{bytes_found, found, held_found, held_length, instances, lent_there, written_is}
+use Rattle.cfm_memory.proofs.Placed.{written_kept}
 use Rattle.cfm_memory.proofs.memory.Memory.part_mut.Goals as goal
 
-pub index_mut-slot-requires : goal.index_mut-slot-requires
-index_mut-slot-requires c =
-    let under = held_under c.self.inside.slots.items c.self.inside.limit c.args.place c.args.self.now c.self.view_is c.requires in
-    let is = c.index_of-index.ensures ∙ ap (λ s. index_in (map slot_seen s) c.args.place.address) c.deref.ensures.value in
-    let len = sym (ap length c.deref.ensures.value) ∙ c.deref.ensures.len in
-    omega arith
+pub unwrap-bytes-requires : goal.unwrap-bytes-requires
+unwrap-bytes-requires c = lent_there c.get_mut.result _ c.get_mut.ensures.value (held_found c.self.inside.instances.entries c.self.inside.limit c.args.place c.args.self.now c.self.view_is c.requires)
 
 pub invariant_of-self-lent : goal.invariant_of-self-lent
 invariant_of-self-lent c = λ w.
-    let under = held_under c.self.inside.slots.items c.self.inside.limit c.args.place c.args.self.now c.self.view_is c.requires in
-    let is = c.index_of-index.ensures ∙ ap (λ s. index_in (map slot_seen s) c.args.place.address) c.deref.ensures.value in
-    let written = slot_written c.self.inside.slots.items c.args.place.address c.index_of-index.result c.index_mut-slot.result.now (record { address = c.index_mut-slot.result.now.address; bytes = with_items c.index_mut-slot.result.now.bytes w }) w
-    is (omega arith) c.index_mut-slot.ensures.value (rw (c.index_mut-slot.result.now.bytes.ok.0) refl) in
-    rw written (laid_out_written first_address c.self.inside.limit _ c.args.place.address w c.self.invariant)
+    let es = c.self.inside.instances.entries in
+    let v = c.unwrap-bytes.result.now in
+    let there : Some v ≡ found es c.args.place.address = ap option_copied_mut (sym c.unwrap-bytes.ensures) ∙ c.get_mut.ensures.value in
+    let is : instances (c.get_mut.follows.lender (with_items v w)).entries ≡ with_bytes (instances es) c.args.place.address w = ap instances (c.get_mut.follows.holds (with_items v w)).0 ∙ written_is es c.args.place.address v (with_items v w) w there (rw (v.ok.0) refl) in
+    rw is (written_kept c.self.inside.limit c.self.inside.front c.args.place.address w (instances es) c.self.invariant)
 
 pub returns : goal.returns
 returns c =
-    let under = held_under c.self.inside.slots.items c.self.inside.limit c.args.place c.args.self.now c.self.view_is c.requires in
-    let is = c.index_of-index.ensures ∙ ap (λ s. index_in (map slot_seen s) c.args.place.address) c.deref.ensures.value in
-    let bytes = held_slot c.self.inside.slots.items c.args.place.address c.index_of-index.result c.index_mut-slot.result.now is (omega arith) c.index_mut-slot.ensures.value in (
+    let es = c.self.inside.instances.entries in
+    let v = c.unwrap-bytes.result.now in
+    let there : Some v ≡ found es c.args.place.address = ap option_copied_mut (sym c.unwrap-bytes.ensures) ∙ c.get_mut.ensures.value in
+    let bytes = bytes_found es c.args.place.address v there in (
       (
         refl,
         λ w.
-            let written = slot_written c.self.inside.slots.items c.args.place.address c.index_of-index.result c.index_mut-slot.result.now (record { address = c.index_mut-slot.result.now.address; bytes = with_items c.index_mut-slot.result.now.bytes w }) w
-            is (omega arith) c.index_mut-slot.ensures.value (rw (c.index_mut-slot.result.now.bytes.ok.0) refl) in
-            rw (← c.self.view_is, written) refl,
+            let is : instances (c.get_mut.follows.lender (with_items v w)).entries ≡ with_bytes (instances es) c.args.place.address w = ap instances (c.get_mut.follows.holds (with_items v w)).0 ∙ written_is es c.args.place.address v (with_items v w) w there (rw (v.ok.0) refl) in
+            rw (← c.self.view_is, is) refl,
       ),
       record {
         writes_back = tt;
         bytes = rw (← c.self.view_is, c.as_mut_slice.ensures.value) bytes;
-        len = rw c.as_mut_slice.ensures.value (held_length _ _ c.args.place c.args.self.now _ c.self.view_is c.requires bytes);
+        len = rw c.as_mut_slice.ensures.value (held_length es c.self.inside.limit c.args.place c.args.self.now v.items c.self.view_is c.requires bytes);
       },
     )

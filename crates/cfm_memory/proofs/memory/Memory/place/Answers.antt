@@ -1,26 +1,23 @@
--- The new slot stands at its rank, and its bytes are zeros.
-use Rattle.std.proofs.Common.{length, map, refl, sym, ap, ◌∙◌, arith}
+-- The map has the new instance, and nothing below the front is free yet.
+use Rattle.std.proofs.Common.{◌≡◌, length, refl, sym, ap, subst, ◌∙◌}
 use Rattle.std.proofs.lemmas.List.{length-replicate}
-use Rattle.cfm_memory.specs.Kept.Searches.{rank_in}
-use Rattle.cfm_memory.specs.Kept.Views.{slot_seen}
-use Rattle.cfm_memory.proofs.Placed.{placed_laid_out, placed_slots, rank_inside}
+use Rattle.cfm_memory.specs.Instances.{Layout, with_instance}
+use Rattle.cfm_memory.specs.Kept.Searches.{IsFront, IsKept}
+use Rattle.cfm_memory.proofs.Entries.{instances}
+use Rattle.cfm_memory.proofs.Placed.{placed_is, placed_kept}
 use Rattle.cfm_memory.proofs.memory.Memory.place.Goals as goal
-
-pub insert-requires : goal.insert-requires
-insert-requires c =
-    let is = c.rank_of-rank.ensures ∙ ap (λ s. rank_in (map slot_seen s) c.in-Some.address) c.deref.ensures.value in
-    let len = sym (ap length c.deref.ensures.value) ∙ c.deref.ensures.len in
-    let inside = rank_inside c.self.inside.slots.items c.in-Some.address in
-    omega arith
 
 pub invariant_of-self-2 : goal.invariant_of-self-2
 invariant_of-self-2 c =
-    let is = c.rank_of-rank.ensures ∙ ap (λ s. rank_in (map slot_seen s) c.in-Some.address) c.deref.ensures.value in
-    let slots = placed_slots c.self.inside.slots.items c.insert.new.self.items c.rank_of-rank.result (record { address = c.in-Some.address; bytes = c.in_ok-bytes.bytes }) is c.in_ok-insert.ensures.items in
-    rw slots (placed_laid_out c.args.self.now c.self.inside.limit c.args.size c.args.alignment c.in-Some.address c.in_ok-bytes.bytes.items _ c.self.view_is (ap length c.in_ok-bytes.ensures ∙ length-replicate _ 0) c.in-Some.ensures c.self.invariant)
+    let es = c.self.inside.instances.entries in
+    let v = c.in_ok-bytes.bytes in
+    let kept : IsKept c.self.inside.limit (instances es) c.next_front-self-inside.result = record { laid_out = c.self.invariant.laid_out; is_front = subst (λ (m : Layout). IsFront m.instances c.next_front-self-inside.result) (sym c.self.view_is) c.next_front-self-inside.ensures; small = c.self.invariant.small } in
+    let is : instances c.insert.new.self.entries ≡ with_instance (instances es) (record { address = c.in-Some.address; bytes = v.items }) = ap instances c.in_ok-insert.ensures.entries ∙ placed_is _ c.self.inside.limit c.args.size c.args.alignment c.in-Some.address v es refl c.in-Some.ensures in
+    rw is (placed_kept _ c.self.inside.limit c.next_front-self-inside.result c.args.size c.args.alignment c.in-Some.address v.items (instances es) refl (ap length c.in_ok-bytes.ensures ∙ length-replicate c.args.size 0) c.in-Some.ensures kept)
 
 pub returns-clause-placed : goal.returns-clause-placed
 returns-clause-placed c =
-    let is = c.rank_of-rank.ensures ∙ ap (λ s. rank_in (map slot_seen s) c.in-Some.address) c.deref.ensures.value in
-    let slots = placed_slots c.self.inside.slots.items c.insert.new.self.items c.rank_of-rank.result (record { address = c.in-Some.address; bytes = c.in_ok-bytes.bytes }) is c.in_ok-insert.ensures.items in
-    rw (← c.self.view_is, slots, c.in_ok-bytes.ensures) refl
+    let es = c.self.inside.instances.entries in
+    let v = c.in_ok-bytes.bytes in
+    let is : instances c.insert.new.self.entries ≡ with_instance (instances es) (record { address = c.in-Some.address; bytes = v.items }) = ap instances c.in_ok-insert.ensures.entries ∙ placed_is _ c.self.inside.limit c.args.size c.args.alignment c.in-Some.address v es refl c.in-Some.ensures in
+    rw (← c.self.view_is, is, c.in_ok-bytes.ensures) refl

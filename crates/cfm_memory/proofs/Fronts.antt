@@ -1,0 +1,168 @@
+-- The address below which nothing is free.
+use Rattle.std.proofs.Common.{◌≡◌, ◌+◌, ◌≤◌, ◌<◌, ℕ, suc, min, List, [], ◌∷◌, Some, length, ap, ◌∙◌, ◌⊎◌, sym, subst, inl, inr, arith}
+use Rattle.std.proofs.lemmas.Bool.{cases_lt}
+use Rattle.std.proofs.lemmas.Bool.Decides.{eqb_tells, leb_tells}
+use Rattle.cfm_memory.specs.Limits.{first_address}
+use Rattle.cfm_memory.specs.Instances.{Instance, bytes_at, with_bytes, with_instance, without}
+use Rattle.cfm_memory.specs.Kept.Searches.{IsFront}
+use Rattle.cfm_memory.specs.Placement.{end_of, taken, IsFree, IsLaidOut}
+use Rattle.cfm_memory.proofs.Changes.{length-fitted}
+use Rattle.std.proofs.lemmas.Option.{same_Some}
+use Rattle.cfm_memory.proofs.Placing.{some_taken, free_before}
+use Rattle.cfm_memory.proofs.Ranges.{begins_behind}
+
+pub no_front : IsFront [] first_address
+no_front = record { low = omega arith; between = tt; full = λ other low free. low }
+
+-- with a new instance less is free
+free_without_new : (address end : ℕ) (xs : List Instance) (y : Instance) → IsFree address end (with_instance xs y) → IsFree address end xs
+free_without_new address end [] y free = tt
+free_without_new address end (x ∷ xs) y free =
+    elim (leb_tells (suc x.address) y.address) [
+      | inl below ↦ (let there = rw below.0 at free in (there.0, free_without_new address end xs y there.1))
+      | inr above ↦ (let there = rw above.0 at free in there.1)
+    ]
+
+free_with_new : (address end : ℕ) (xs : List Instance) (y : Instance) → (end ≤ y.address) ⊎ (end_of y ≤ address) → IsFree address end xs → IsFree address end (with_instance xs y)
+free_with_new address end [] y apart free = (apart, tt)
+free_with_new address end (x ∷ xs) y apart free =
+    elim (leb_tells (suc x.address) y.address) [
+      | inl below ↦ rw below.0 (free.0, free_with_new address end xs y apart free.1)
+      | inr above ↦ rw above.0 (apart, free)
+    ]
+
+-- a new instance stands at the front or behind it
+pub front_with_new : (xs : List Instance) (y : Instance) (front : ℕ) → front ≤ y.address → IsFront xs front → IsFront (with_instance xs y) front
+front_with_new xs y front behind is = record {
+  low = is.low;
+  between = free_with_new front front xs y (inl behind) is.between;
+  full = λ other low free. is.full other low (free_without_new other (other + 1) xs y free);
+}
+
+-- what is free for some bytes is so for one
+free_for_one : (address end : ℕ) (xs : List Instance) → address < end → IsFree address end xs → IsFree address (address + 1) xs
+free_for_one address end [] some free = tt
+free_for_one address end (x ∷ xs) some free =
+    (elim (free.0) as (λ _. (address + 1 ≤ x.address) ⊎ (end_of x ≤ address)) [ inl h ↦ inl (omega (arith, h, some)) | inr h ↦ inr h ], free_for_one address end xs some free.1)
+
+pub front_below : (xs : List Instance) (front address end : ℕ) → IsFront xs front → first_address ≤ address → address < end → IsFree address end xs → front ≤ address
+front_below xs front address end is low some free = is.full address low (free_for_one address end xs some free)
+
+-- the instance at an address ends behind it, and no other lies across its end
+ends_between : (from limit : ℕ) (xs : List Instance) (address : ℕ) (bytes : List ℕ) → IsLaidOut from limit xs → bytes_at xs address ≡ Some bytes → IsFree (address + taken (length bytes)) (address + taken (length bytes)) xs
+ends_between from limit [] address bytes laid is = absurd (cc)
+ends_between from limit (x ∷ xs) address bytes laid is =
+    elim (eqb_tells x.address address) [
+      | inl same ↦
+          (let e : x.bytes ≡ bytes = same_Some x.bytes bytes (rw same.0 at is) in
+          let ends : end_of x ≡ address + taken (length bytes) = ap (λ a. a + taken (length x.bytes)) same.1 ∙ ap (λ (b : List ℕ). address + taken (length b)) e in
+          (inr (omega (arith, ends)), free_before (address + taken (length bytes)) (address + taken (length bytes)) (end_of x) limit xs (omega (arith, ends)) laid.2))
+      | inr other ↦
+          (let there : bytes_at xs address ≡ Some bytes = rw other.0 at is in
+          let behind = begins_behind xs address (end_of x) limit bytes laid.2 there in
+          (inr (omega (arith, behind)), ends_between (end_of x) limit xs address bytes laid.2 there))
+    ]
+
+-- nothing is free inside the instance at an address
+none_inside : (xs : List Instance) (address other : ℕ) (bytes : List ℕ) → bytes_at xs address ≡ Some bytes → IsFree other (other + 1) xs → address ≤ other → address + taken (length bytes) ≤ other
+none_inside [] address other bytes is free low = absurd (cc)
+none_inside (x ∷ xs) address other bytes is free low =
+    elim (eqb_tells x.address address) [
+      | inl same ↦
+          (let e : x.bytes ≡ bytes = same_Some x.bytes bytes (rw same.0 at is) in
+          let ends : end_of x ≡ address + taken (length bytes) = ap (λ a. a + taken (length x.bytes)) same.1 ∙ ap (λ (b : List ℕ). address + taken (length b)) e in
+          elim (free.0) as (λ _. address + taken (length bytes) ≤ other) [ inl h ↦ absurd (omega (arith, h, low, same.1)) | inr h ↦ omega (arith, h, ends) ])
+      | inr apart ↦ none_inside xs address other bytes (rw apart.0 at is) free.1 low
+    ]
+
+-- the front passes the instance that stands at it
+pub front_behind : (limit : ℕ) (xs : List Instance) (front : ℕ) (bytes : List ℕ) → IsLaidOut first_address limit xs → bytes_at xs front ≡ Some bytes → IsFront xs front → IsFront xs (front + taken (length bytes))
+front_behind limit xs front bytes laid at is = record {
+  low = (let h = is.low in omega arith);
+  between = ends_between first_address limit xs front bytes laid at;
+  full = λ other low free. none_inside xs front other bytes at free (is.full other low free);
+}
+
+-- which ends below the limit
+pub ends_below : (from limit : ℕ) (xs : List Instance) (address : ℕ) (bytes : List ℕ) → IsLaidOut from limit xs → bytes_at xs address ≡ Some bytes → address + taken (length bytes) ≤ limit
+ends_below from limit [] address bytes laid is = absurd (cc)
+ends_below from limit (x ∷ xs) address bytes laid is =
+    elim (eqb_tells x.address address) [
+      | inl same ↦
+          (let e : x.bytes ≡ bytes = same_Some x.bytes bytes (rw same.0 at is) in
+          let ends : end_of x ≡ address + taken (length bytes) = ap (λ a. a + taken (length x.bytes)) same.1 ∙ ap (λ (b : List ℕ). address + taken (length b)) e in
+          omega (arith, ends, laid.1))
+      | inr other ↦ ends_below (end_of x) limit xs address bytes laid.2 (rw other.0 at is)
+    ]
+
+-- no instance lies across the address of one
+begins_between : (from limit : ℕ) (xs : List Instance) (address : ℕ) (bytes : List ℕ) → IsLaidOut from limit xs → bytes_at xs address ≡ Some bytes → IsFree address address xs
+begins_between from limit [] address bytes laid is = absurd (cc)
+begins_between from limit (x ∷ xs) address bytes laid is =
+    elim (eqb_tells x.address address) [
+      | inl same ↦ (let some = some_taken (length x.bytes) in (inl (omega (arith, same.1)), free_before address address (end_of x) limit xs (omega (arith, same.1, some)) laid.2))
+      | inr other ↦
+          (let there : bytes_at xs address ≡ Some bytes = rw other.0 at is in
+          let behind = begins_behind xs address (end_of x) limit bytes laid.2 there in
+          (inr behind, begins_between (end_of x) limit xs address bytes laid.2 there))
+    ]
+
+free_without : (address end other : ℕ) (xs : List Instance) → IsFree address end xs → IsFree address end (without xs other)
+free_without address end other [] free = tt
+free_without address end other (x ∷ xs) free =
+    elim (eqb_tells x.address other) [
+      | inl same ↦ rw same.0 free.1
+      | inr apart ↦ rw apart.0 (free.0, free_without address end other xs free.1)
+    ]
+
+-- what is free below the address of an instance is so with it
+free_below : (xs : List Instance) (other address : ℕ) → other < address → IsFree other (other + 1) (without xs address) → IsFree other (other + 1) xs
+free_below [] other address less free = tt
+free_below (x ∷ xs) other address less free =
+    elim (eqb_tells x.address address) [
+      | inl same ↦ (let there = rw same.0 at free in (inl (omega (arith, same.1, less)), there))
+      | inr apart ↦ (let there = rw apart.0 at free in (there.0, free_below xs other address less there.1))
+    ]
+
+min_between : (a b : ℕ) (xs : List Instance) → IsFree a a xs → IsFree b b xs → IsFree (min a b) (min a b) xs
+min_between a b xs at_a at_b =
+    let P : ℕ → Type 0 = λ n. IsFree n n xs in
+    elim (cases_lt a b) [
+      | inl less ↦ (let e : a ≡ min a b = omega arith in subst P e at_a)
+      | inr le ↦ (let e : b ≡ min a b = omega arith in subst P e at_b)
+    ]
+
+-- an instance that goes leaves its address free
+pub front_without : (limit : ℕ) (xs : List Instance) (front address : ℕ) (bytes : List ℕ) → first_address ≤ address → IsLaidOut first_address limit xs → bytes_at xs address ≡ Some bytes → IsFront xs front → IsFront (without xs address) (min front address)
+front_without limit xs front address bytes from laid at is = record {
+  low = (let h = is.low in omega arith);
+  between = min_between front address (without xs address) (free_without front front address xs is.between) (free_without address address address xs (begins_between first_address limit xs address bytes laid at));
+  full = λ other low free. elim (cases_lt other address) as (λ _. min front address ≤ other) [
+    | inl less ↦ (let h = is.full other low (free_below xs other address less free) in omega arith)
+    | inr le ↦ omega arith
+  ];
+}
+
+free_written : (address end other : ℕ) (w : List ℕ) (xs : List Instance) → IsFree address end xs → IsFree address end (with_bytes xs other w)
+free_written address end other w [] free = tt
+free_written address end other w (x ∷ xs) free =
+    elim (eqb_tells x.address other) [
+      | inl same ↦ (let P : ℕ → Type 0 = λ n. ((end ≤ x.address) ⊎ (x.address + taken n ≤ address)) × IsFree address end xs in rw same.0 (subst P (sym (length-fitted x.bytes w)) free))
+      | inr apart ↦ rw apart.0 (free.0, free_written address end other w xs free.1)
+    ]
+
+free_unwritten : (address end other : ℕ) (w : List ℕ) (xs : List Instance) → IsFree address end (with_bytes xs other w) → IsFree address end xs
+free_unwritten address end other w [] free = tt
+free_unwritten address end other w (x ∷ xs) free =
+    elim (eqb_tells x.address other) [
+      | inl same ↦ (let P : ℕ → Type 0 = λ n. ((end ≤ x.address) ⊎ (x.address + taken n ≤ address)) × IsFree address end xs in subst P (length-fitted x.bytes w) (rw same.0 at free))
+      | inr apart ↦ (let there = rw apart.0 at free in (there.0, free_unwritten address end other w xs there.1))
+    ]
+
+-- what is written moves nothing
+pub front_written : (xs : List Instance) (front address : ℕ) (w : List ℕ) → IsFront xs front → IsFront (with_bytes xs address w) front
+front_written xs front address w is = record {
+  low = is.low;
+  between = free_written front front address w xs is.between;
+  full = λ other low free. is.full other low (free_unwritten other (other + 1) address w xs free);
+}

@@ -1,0 +1,10 @@
+-- So far all instances that were passed stand one behind the other.
+use Rattle.std.proofs.Common.{◌-◌, ◌^◌}
+use Rattle.cfm_memory.specs.Kept.Searches.{IsFront}
+use Rattle.cfm_memory.proofs.memory.Memory.next_front.Given as goal
+
+abbrev pub invariant-loop-bytes : goal.invariant-loop-bytes
+invariant-loop-bytes l = IsFront l.self.instances l.front
+
+abbrev pub decreases-loop-bytes : goal.decreases-loop-bytes
+decreases-loop-bytes l = 2 ^ 32 - l.front
