@@ -36,7 +36,7 @@ unfolding bound
 bound-place pairs name l q is = bound_at-place pairs name l (place_of pairs l.name) q is
 
 -- only entries that are there stand for a fragment
-met_if : {A : Type 0} (b : Bool) (o : Option A) (x : A) → cond b o None ≡ Some x → b ≡ true
+pub met_if : {A : Type 0} (b : Bool) (o : Option A) (x : A) → cond b o None ≡ Some x → b ≡ true
 met_if true o x is = refl
 met_if false o x is = absurd (cc)
 

@@ -31,10 +31,9 @@ pub loader_at-is : (pairs : List Pair) (p : ℕ) (f : Fragment) → fragment_of 
 loader_at-is pairs p f is = rw is refl
 
 -- an import whose name isn't exported by the fragment of its library
-pub hop-missing : (pairs : List Pair) (p j q : ℕ) (f g : Fragment) (i : Import) → fragment_of pairs p ≡ Ok f → import_of f.loader j ≡ Some i → bound_to pairs p i.library ≡ Ok (Some q) → fragment_of pairs q ≡ Ok g → named_of g.loader i.name ≡ None → hop pairs p j ≡ hop_to f.name g.name i q None
+pub hop-missing : (pairs : List Pair) (p j q : ℕ) (f g : Fragment) (i : Import) → fragment_of pairs p ≡ Ok f → import_at pairs p j ≡ Some i → bound_to pairs p i.library ≡ Ok (Some q) → fragment_of pairs q ≡ Ok g → named_of g.loader i.name ≡ None → hop pairs p j ≡ hop_to f.name g.name i q None
 unfolding hop
-hop-missing pairs p j q f g i read there bound read' none =
-    let at : import_at pairs p j ≡ Some i = ap (option_and_then (λ l. import_of l j)) (loader_at-is pairs p f read) ∙ there in
+hop-missing pairs p j q f g i read at bound read' none =
     let library : library_at pairs p i.library ≡ Some q = ap (λ r. result_unwrap_or r None) bound in
     let nothing : option_and_then (exported i.name) (loader_at pairs q) ≡ None =
     ap (option_and_then (exported i.name)) (loader_at-is pairs q g read')

@@ -56,7 +56,7 @@ fn export_hop_at(fragment: usize, loader: Loader<'_>, e: usize) -> Hop
 }
 
 /// Where an import of a fragment of the closure order leads at once, or that its symbol is missing.
-#[tactic(auto, using(crate::proofs::SymbolLemmas::symbols_here, crate::proofs::SymbolLemmas::symbols_kept), unfolding(crate::specs::Targets::hop))]
+#[tactic(auto, unfolding(crate::specs::Targets::hop))]
 pub(crate) fn import_hop<'a>(
     bindings: &Bindings<'a>,
     symbols: &mut Symbols<'a>,
@@ -64,13 +64,12 @@ pub(crate) fn import_hop<'a>(
     j: usize,
 ) -> Result<Hop, BindFault<'a>>
     requires place { Contains bindings.now.order p }
-    requires symbols { AreSymbolsOf bindings.now.pairs symbols.old }
-    ensures symbols { AreSymbolsOf bindings.now.pairs symbols.new }
+    requires symbols { AreSymbolsOf bindings.now.pairs bindings.now.order symbols.old }
+    ensures symbols { AreSymbolsOf bindings.now.pairs bindings.now.order symbols.new }
     ensures answer { LeadsTo result (hop bindings.now.pairs p j) }
     ensures inside { IfOk result (λ h. StaysInside bindings.now.pairs bindings.now.order h) }
 {
-    let fragment = bindings.fragment(p);
-    let symbol = match symbols.import(p, fragment.loader, j) {
+    let symbol = match symbols.import(bindings, p, j)? {
         Some(symbol) => symbol,
         None => return Ok(Hop::Ends(None)),
     };
@@ -81,7 +80,7 @@ pub(crate) fn import_hop<'a>(
     let library = bindings.fragment(q);
     match library.loader.export_named(symbol.name) {
         Some(e) => Ok(export_hop_at(q, library.loader, e)),
-        None => missing(fragment.name, library.name, symbol),
+        None => missing(bindings.fragment(p).name, library.name, symbol),
     }
 }
 

@@ -13,6 +13,7 @@ mod closing;
 mod fault;
 mod fragment;
 mod hops;
+mod imports;
 mod init_order;
 mod libraries;
 mod resolve;

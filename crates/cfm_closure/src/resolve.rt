@@ -92,8 +92,8 @@ fn follow<'a>(
     requires few { exports ≤ 2 ^ 40 }
     requires rows { AreRows bindings.now.pairs bindings.now.order rows.now }
     requires way { way.old.items ≡ [] }
-    requires symbols { AreSymbolsOf bindings.now.pairs symbols.old }
-    ensures symbols { AreSymbolsOf bindings.now.pairs symbols.new }
+    requires symbols { AreSymbolsOf bindings.now.pairs bindings.now.order symbols.old }
+    ensures symbols { AreSymbolsOf bindings.now.pairs bindings.now.order symbols.new }
     ensures answer { Answers (λ target. target) result (target_of bindings.now.pairs p j) }
     ensures way { OnOk result (AllByRecursion (IsOnWay bindings.now.pairs bindings.now.order (p, j)) way.new.items) }
 {
@@ -126,8 +126,8 @@ fn resolve<'a>(
     requires exports { exports ≡ exports_among bindings.now.pairs bindings.now.order }
     requires few { exports ≤ 2 ^ 40 }
     requires rows { AreRows bindings.now.pairs bindings.now.order rows.old }
-    requires symbols { AreSymbolsOf bindings.now.pairs symbols.old }
-    ensures symbols { AreSymbolsOf bindings.now.pairs symbols.new }
+    requires symbols { AreSymbolsOf bindings.now.pairs bindings.now.order symbols.old }
+    ensures symbols { AreSymbolsOf bindings.now.pairs bindings.now.order symbols.new }
     ensures answer { Answers (λ target. target) result (target_of bindings.now.pairs p j) }
     ensures rows { AreRows bindings.now.pairs bindings.now.order rows.new }
     ensures kept { KeepsKnown rows.old rows.new }
@@ -141,10 +141,10 @@ fn resolve<'a>(
 }
 
 /// Resolves the imports of a fragment, import by import.
-#[tactic(auto, using(crate::proofs::SymbolLemmas::symbols_new))]
 fn resolve_imports<'a>(
     alloc: Global,
     bindings: &Bindings<'a>,
+    symbols: &mut Symbols<'a>,
     exports: usize,
     rows: &mut [Targets],
     p: usize,
@@ -153,16 +153,17 @@ fn resolve_imports<'a>(
     requires exports { exports ≡ exports_among bindings.now.pairs bindings.now.order }
     requires few { exports ≤ 2 ^ 40 }
     requires rows { AreRows bindings.now.pairs bindings.now.order rows.old }
+    requires symbols { AreSymbolsOf bindings.now.pairs bindings.now.order symbols.old }
+    ensures symbols { AreSymbolsOf bindings.now.pairs bindings.now.order symbols.new }
     ensures answer { Passes result (imports_refusal bindings.now.pairs p) }
     ensures rows { AreRows bindings.now.pairs bindings.now.order rows.new }
     ensures kept { KeepsKnown rows.old rows.new }
     ensures known { OnOk result (IsResolved bindings.now.pairs rows.new p) }
 {
-    let fragment = bindings.fragment(p);
-    let mut symbols = Symbols::new(p, fragment.loader);
     for j in 0..bindings.imports(p) {
-        resolve(alloc, bindings, &mut symbols, exports, rows, p, j)?;
+        resolve(alloc, bindings, symbols, exports, rows, p, j)?;
     }
+    symbols.release(bindings, p);
     Ok(())
 }
 
@@ -177,8 +178,9 @@ fn resolve_all<'a>(
     ensures targets { OnOk result (AreTargets bindings.now.pairs bindings.now.order rows.new) }
 {
     let exports = exports(bindings);
+    let mut symbols = Symbols::new(alloc, bindings)?;
     for p in bindings.order() {
-        resolve_imports(alloc, bindings, exports, rows, *p)?;
+        resolve_imports(alloc, bindings, &mut symbols, exports, rows, *p)?;
     }
     Ok(())
 }

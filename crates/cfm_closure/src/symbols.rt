@@ -1,40 +1,81 @@
-ghost use Rattle.std.specs.Prelude.{◌≡◌, ◌<◌, IfSome, option_map};
-ghost use Rattle.pef_loader.specs.Loader.{import_of};
+ghost use Rattle.std.specs.Prelude.{◌≡◌, ◌<◌, [], Contains, IfOk, IfSome, OnOk, option_map, slice_index_or};
+ghost use Rattle.pef_loader.specs.Views.{import_seen};
+ghost use Rattle.cfm_closure.specs.Fragments.{import_at, library_count};
+ghost use Rattle.cfm_closure.specs.Kept.Symbols.{AreEmpty, AreImportsIn, AreSymbolsOf};
 
-use pef_loader::{ImportReader, ImportView, Loader};
+use crate::bindings::Bindings;
+use crate::imports::Imports;
+use pef_loader::ImportView;
+use std::alloc::{AllocError, Global};
 
-/// The imports of one fragment, which are read in rising order, so that their libraries are found for
-/// many at once. Those of other fragments, to which exports lead, are read one by one.
+/// The imports of the fragments of a closure. Those of a fragment are read once, all together, when one of
+/// them is asked for: in its turn, or before where the exports of another fragment pass it on.
 #[derive(Drop)]
 pub(crate) struct Symbols<'a> {
-    fragment: usize,
-    reader: ImportReader<'a>,
+    alloc: Global,
+    /// For each place of the store, the imports of the fragment there. None, where they weren't read.
+    tables: Vec<Imports<'a>>,
+}
+
+/// Tables without imports, for each of `len` fragments.
+fn empty_tables<'a>(alloc: Global, len: usize) -> Result<Vec<Imports<'a>>, AllocError>
+    ensures { IfOk result (λ tables. AreEmpty len tables.items) }
+{
+    let mut tables = Vec::new(alloc);
+    for _i in 0..len {
+        tables.push(Imports::none(alloc))?;
+    }
+    Ok(tables)
 }
 
 impl<'a> Symbols<'a> {
-    ghost use Rattle.pef_loader.specs.Views.{import_seen, loaded};
-
-    pub fn new(fragment: usize, loader: Loader<'a>) -> Symbols<'a>
-        ensures fragment { result.fragment ≡ fragment }
-        ensures loader { result.reader.loader ≡ loader.entry }
+    /// None was asked for.
+    pub fn new(alloc: Global, bindings: &Bindings<'a>) -> Result<Symbols<'a>, AllocError>
+        ensures { IfOk result (λ symbols. AreSymbolsOf bindings.now.pairs bindings.now.order symbols) }
     {
-        Symbols {
-            fragment,
-            reader: ImportReader::new(loader),
-        }
+        let tables = empty_tables(alloc, bindings.len())?;
+        Ok(Symbols { alloc, tables })
     }
 
-    /// Import `j` of the fragment in place `p`, or `None` past the last one.
-    pub fn import(&mut self, p: usize, loader: Loader<'a>, j: usize) -> Option<ImportView<'a>>
-        requires { self.old.fragment ≡ p → loaded self.old.reader.loader ≡ loaded loader }
-        ensures value { option_map import_seen result ≡ import_of (loaded loader.entry) j }
-        ensures library { IfSome result (λ v. v.library < (loaded loader.entry).header.library_count) }
-        ensures fragment { self.new.fragment ≡ self.old.fragment }
-        ensures loader { self.new.reader.loader ≡ self.old.reader.loader }
+    /// Import `j` of a fragment of the closure order, or `None` past the last one.
+    pub fn import(
+        &mut self,
+        bindings: &Bindings<'a>,
+        p: usize,
+        j: usize,
+    ) -> Result<Option<ImportView<'a>>, AllocError>
+        requires place { Contains bindings.now.order p }
+        requires symbols { AreSymbolsOf bindings.now.pairs bindings.now.order self.old }
+        ensures symbols { AreSymbolsOf bindings.now.pairs bindings.now.order self.new }
+        ensures value { IfOk result (λ symbol. option_map import_seen symbol ≡ import_at bindings.now.pairs p j) }
+        ensures library { IfOk result (λ symbol. IfSome symbol (λ v. v.library < library_count bindings.now.pairs p)) }
     {
-        if p == self.fragment {
-            return self.reader.import(j);
+        self.read(bindings, p)?;
+        Ok(self.tables[p].get(j))
+    }
+
+    /// Reads the imports of a fragment, unless they were read before.
+    fn read(&mut self, bindings: &Bindings<'a>, p: usize) -> Result<(), AllocError>
+        requires place { Contains bindings.now.order p }
+        requires symbols { AreSymbolsOf bindings.now.pairs bindings.now.order self.old }
+        ensures symbols { AreSymbolsOf bindings.now.pairs bindings.now.order self.new }
+        ensures read { OnOk result (AreImportsIn bindings.now.pairs p (slice_index_or self.new.tables.items p [])) }
+    {
+        if !self.tables[p].is_empty() {
+            return Ok(());
         }
-        loader.import(j)
+        let fragment = bindings.fragment(p);
+        let table = &mut self.tables[p];
+        table.fill(self.alloc, fragment.loader)
+    }
+
+    /// Lets go of the imports of a fragment, whose targets are all known.
+    pub fn release(&mut self, bindings: &Bindings<'a>, p: usize)
+        requires place { Contains bindings.now.order p }
+        requires symbols { AreSymbolsOf bindings.now.pairs bindings.now.order self.old }
+        ensures { AreSymbolsOf bindings.now.pairs bindings.now.order self.new }
+    {
+        let table = &mut self.tables[p];
+        table.clear(self.alloc);
     }
 }

@@ -355,3 +355,43 @@ fn import_of_two_libraries(rt: HostRuntime) -> Result<(), Fail> {
     );
     Ok(())
 }
+
+/// Of two fragments that need one another, the first of the order has an import that an export of the second
+/// passes on. The libraries of the second don't have its imports in order: its import 1 is of library 0.
+#[test]
+fn import_before_its_turn(rt: HostRuntime) -> Result<(), Fail> {
+    let alloc = rt.alloc();
+    let mut second = container(
+        alloc,
+        "library L 0 0 -\nimport v data strong\nlibrary Q 0 0 -\nimport w data strong\nsection p data process 4 4\nexport p data p 0\n",
+        b"\x00\x00\x00\x01\xFF\xFD",
+    )?;
+    // The loader section's place stands in the second section header, at 88. In that section the libraries
+    // stand at 56 and 80, with their first imports at 72 and 96.
+    assert!(rt; second.len() > 91);
+    let loader = usize::from(second[91]);
+    assert!(rt; second.len() > loader + 99);
+    assert_eq!(rt; second[loader + 75], 0);
+    assert_eq!(rt; second[loader + 99], 1);
+    second[loader + 75] = 1;
+    second[loader + 99] = 0;
+    let first = container(
+        alloc,
+        "library P 0 0 -\nimport p data strong\nsection q data process 4 8\nexport v data q 4\n",
+        b"",
+    )?;
+    let last = container(
+        alloc,
+        "section l data process 4 4\nexport w data l 0\n",
+        b"",
+    )?;
+    let mut store = Store::new(alloc);
+    store.add(b"P", &second)?;
+    store.add(b"Q", &first)?;
+    store.add(b"L", &last)?;
+    assert_eq!(rt;
+        told_of(&rt, alloc, &store)?.as_str(),
+        "order 2 1 0, init 2 1 0, 1.0 at 2 0 0, 0.0 at 1 0 4, 0.1 at 2 0 0"
+    );
+    Ok(())
+}

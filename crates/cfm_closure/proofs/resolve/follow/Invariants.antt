@@ -8,7 +8,7 @@ use Rattle.cfm_closure.proofs.resolve.follow.Given as goal
 
 abbrev pub invariant-loop-hop : goal.invariant-loop-hop
 invariant-loop-hop l = record {
-  symbols : AreSymbolsOf l.bindings.pairs l.symbols;
+  symbols : AreSymbolsOf l.bindings.pairs l.bindings.order l.symbols;
   at : IsOnWay l.bindings.pairs l.bindings.order (l.p, l.j) l.at;
   way : AllByRecursion (IsOnWay l.bindings.pairs l.bindings.order (l.p, l.j)) l.way.items;
   far : hops l.bindings.pairs l._hop (l.p, l.j) ≡ Some l.at;

@@ -17,7 +17,7 @@ returns-in_err-resolve_imports-clause-answer c =
     let same = c.order-p-items.ensures.order in
     let under = subst (λ (ps : List ℕ). i < length ps) same c.loop-p-test.true in
     let P : List ℕ → Type 0 = λ ps. Fails {A = Unit {0}} c.in_err-resolve_imports.field-0.0 (unless (imports_refusal pairs (get_or ps i 0)) (Ok (tt {0}))) in
-    let p = err_from_is_err_and c.from_residual.result c.from_residual.ensures.1 in
+    let p = err_from_is_err_and c.from_residual-in_err-resolve_imports.result c.from_residual-in_err-resolve_imports.ensures.1 in
     rw (p.1, p.2) (Fails-also c.in_err-resolve_imports.field-0.0 (unless (imports_refusal pairs (get_or order i 0)) (Ok (tt {0}))) (unless (first_refused pairs order) (Ok (tt {0})))
     (λ r refused. ap (λ o. unless o (Ok (tt {0}))) (sym c.loop-p.invariant.rest ∙ first_refused-here pairs order i r under (unless-err _ (tt {0}) r refused)))
     (subst P same c.in_err-resolve_imports.ensures.answer))
@@ -32,6 +32,7 @@ loop-p-preserved c =
     let P : List ℕ → Type 0 = λ ps. imports_refusal pairs (get_or ps i 0) ≡ None in
     let Q : List ℕ → Type 0 = λ ps. IsResolved pairs c.resolve_imports.new.rows (get_or ps i 0) in
     record {
+      symbols = c.in_ok-resolve_imports.ensures.symbols;
       are = c.in_ok-resolve_imports.ensures.rows;
       resolved = resolved-more pairs order c.loop-p.rows c.resolve_imports.new.rows i c.in_ok-resolve_imports.ensures.kept c.loop-p.invariant.resolved (subst Q same c.in_ok-resolve_imports.ensures.known);
       rest = first_refused-next pairs order i under (subst P same c.in_ok-resolve_imports.ensures.answer) ∙ c.loop-p.invariant.rest;

@@ -9,7 +9,7 @@ use Rattle.cfm_closure.proofs.resolve.resolve_imports.Given as goal
 
 abbrev pub invariant-loop-j : goal.invariant-loop-j
 invariant-loop-j l = record {
-  symbols : AreSymbolsOf l.bindings.pairs l.symbols;
+  symbols : AreSymbolsOf l.bindings.pairs l.bindings.order l.symbols;
   are : AreRows l.bindings.pairs l.bindings.order l.rows;
   kept : KeepsKnown l.fn.rows l.rows;
   known : (k : ℕ) → k < l.j → IsKnown l.rows l.p k;
