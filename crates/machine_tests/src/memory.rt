@@ -1,5 +1,5 @@
 use cfm_memory::{Memory, MemoryFault, Place};
-use std::alloc::Global;
+use std::alloc::{AllocError, Global};
 use std::process::Abort;
 
 fn placed(rt: &impl Abort, memory: &mut Memory, size: u32, alignment: u8) -> Place {
@@ -176,4 +176,70 @@ fn at(rt: HostRuntime) {
             .fold(0u64, |s, b| s.saturating_add(u64::from(*b))));
         assert_eq!(rt; found, sum, "{len} bytes at {address}");
     }
+}
+
+/// How many bytes an instance takes.
+fn taken(size: u32) -> u64 {
+    u64::from(size).max(1).next_multiple_of(16)
+}
+
+/// Whether a new instance at an address meets none of some.
+fn is_free(instances: &[Place], address: u32, size: u32) -> bool {
+    let start = u64::from(address);
+    let end = start.saturating_add(taken(size));
+    for other in instances {
+        let begin = u64::from(other.address);
+        if begin < end && start < begin.saturating_add(taken(other.size)) {
+            return false;
+        }
+    }
+    true
+}
+
+/// The lowest address with room below 00020000 (hex): each one is tried with all instances.
+fn lowest(instances: &[Place], size: u32, alignment: u32) -> Option<u32> {
+    for grain in 0x1000..0x2000u32 {
+        let address = grain * 16;
+        let inside = u64::from(address).saturating_add(taken(size)) <= 0x2_0000;
+        if inside && address.trailing_zeros() >= alignment && is_free(instances, address, size) {
+            return Some(address);
+        }
+    }
+    None
+}
+
+/// Instances of many sizes and alignments come and go, and each comes where a scan of all places it.
+#[test]
+fn place_against_a_scan(rt: HostRuntime) -> Result<(), AllocError> {
+    let alloc = rt.alloc();
+    let mut memory = Memory::new(alloc, 0x2_0000);
+    let mut instances: Vec<Place> = Vec::new(alloc);
+    let mut state = 1u32;
+    for call in 0..2_000 {
+        state = state.wrapping_mul(1_664_525).wrapping_add(1_013_904_223);
+        let index = (state >> 20) as usize % 160;
+        if index < instances.len() {
+            let place = instances.remove(index);
+            give_back(&rt, &mut memory, place.address, place.size);
+            continue;
+        }
+        let (size, alignment) = ((state >> 8) % 101, (state >> 12) % 9);
+        let want = lowest(&instances, size, alignment);
+        match memory.place(size, alignment as u8) {
+            Ok(place) => {
+                assert_eq!(rt;
+                    (Some(place.address), place.size),
+                    (want, size),
+                    "call {call}"
+                );
+                instances.push(place)?;
+            }
+            Err(fault) => {
+                assert_eq!(rt; (fault, want), (MemoryFault::NoRoom, None), "call {call}");
+            }
+        }
+    }
+    // The walk leaves some tens of instances, with gaps between them.
+    assert!(rt; instances.len() > 40 && instances.len() < 160);
+    Ok(())
 }
