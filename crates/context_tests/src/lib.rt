@@ -9,4 +9,6 @@ mod foreign;
 #[cfg(test)]
 mod readers;
 #[cfg(test)]
+mod refused;
+#[cfg(test)]
 mod steps;

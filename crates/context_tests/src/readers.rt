@@ -22,7 +22,7 @@ const L: Fragment = (
 );
 
 /// What is told of a connection.
-fn told(
+pub(crate) fn told(
     alloc: Global,
     context: &Context<'_>,
     connection: Connection,
@@ -103,9 +103,9 @@ fn readers(rt: HostRuntime) -> Result<(), Fail> {
     Ok(())
 }
 
-/// The number of a connection to `E`, or that of its refusal and a million.
-fn prepared(context: &mut Context<'_>) -> u32 {
-    match context.prepare(b"E") {
+/// The number of a connection to a fragment, or that of its refusal and a million.
+pub(crate) fn prepared(context: &mut Context<'_>, name: &[u8]) -> u32 {
+    match context.prepare(name) {
         Ok(connection) => connection.0,
         Err(fault) => fault.number().saturating_add(1_000_000),
     }
@@ -123,9 +123,9 @@ fn all_numbers(rt: HostRuntime) -> Result<(), Fail> {
     }
     let mut context = Context::new(alloc, store, LIMIT);
     for number in 0..65_536 {
-        assert_eq!(rt; prepared(&mut context), number);
+        assert_eq!(rt; prepared(&mut context, b"E"), number);
         assert!(rt; context.close(Connection(number)).is_ok());
     }
-    assert_eq!(rt; prepared(&mut context), 1_000_069);
+    assert_eq!(rt; prepared(&mut context, b"E"), 1_000_069);
     Ok(())
 }
