@@ -1,7 +1,8 @@
-use crate::scripts::{EXAMPLE, EXAMPLE_CONTAINER, EXAMPLE_LINKED, EXAMPLE_SHOWN};
+use crate::scripts::{EXAMPLE, EXAMPLE_SHOWN, VECTORS, VECTORS_LINKED};
 use pef_ports::{InputFault, read_input};
 use pef_tool::FileFault;
 use std::test::Fail;
+use test_bench::containers::VECTORS_LEAST;
 use test_bench::ports::Text;
 use test_bench::runs::{Handed, assert_prints};
 
@@ -23,16 +24,16 @@ fn output_fails(rt: HostRuntime) -> Result<(), Fail> {
     }
     let link = Handed {
         step: 1,
-        ..Handed::file(&["link", "a", "out"], EXAMPLE)
+        ..Handed::file(&["link", "a", "out"], VECTORS)
     };
-    for k in 1..=EXAMPLE_LINKED.len() {
+    for k in 1..=VECTORS_LINKED.len() {
         let handed = Handed {
             step: 1,
             out_fails_at: k as u32,
             ..link
         };
-        let outcome = assert_prints(rt.alloc(), handed, &EXAMPLE_LINKED[..k - 1], 1)?;
-        assert!(rt; outcome.has(b"out", EXAMPLE_CONTAINER));
+        let outcome = assert_prints(rt.alloc(), handed, &VECTORS_LINKED[..k - 1], 1)?;
+        assert!(rt; outcome.has(b"out", VECTORS_LEAST));
     }
     Ok(())
 }

@@ -7,6 +7,8 @@
 #[cfg(test)]
 mod check;
 #[cfg(test)]
+mod distances;
+#[cfg(test)]
 mod failures;
 #[cfg(test)]
 mod limits;
@@ -16,6 +18,8 @@ mod link;
 mod list;
 #[cfg(test)]
 mod listings;
+#[cfg(test)]
+mod plans;
 #[cfg(test)]
 mod scripts;
 #[cfg(test)]

@@ -37,11 +37,13 @@ fn push_row(text: &mut String, address: u32) -> Result<(), Fail> {
     Ok(())
 }
 
+/// The fixups are by an export of the fragment's own, at the first byte of its first section.
 #[test]
 fn show_at_the_limits(rt: HostRuntime) -> Result<(), Fail> {
-    let mut script = String::new(rt.alloc());
+    let mut script = String::from_str(rt.alloc(), "library it 0 0 -\nimport u data strong\n")?;
     push_sections(&mut script)?;
-    push_fixups(&mut script, "section s0")?;
+    push_fixups(&mut script, "import u")?;
+    script.push_str("export u data s0 0\n")?;
     let outcome = run_tool(rt.alloc(), Handed::input(&["show"], script.as_bytes()))?;
     let mut shown = String::from_str(rt.alloc(), "fragment it\n")?;
     for k in 0..SECTIONS {
@@ -67,14 +69,14 @@ fn push_imports(text: &mut String) -> Result<(), Fail> {
     Ok(())
 }
 
-/// What `link` prints: a program has two halfwords for each fixup by a far import, and two for each move but
-/// the first one, which isn't needed.
+/// What `link` prints: a program has two halfwords for each fixup by a far import, and one for each move, of
+/// which the first isn't needed.
 ///
 /// The container has 304 bytes of headers, and of the loader section 56 of header, 24 for each library,
-/// 4 for each import, 12 for each relocation header, 131,068 for each program, 558,296 of strings, 8,192
+/// 4 for each import, 12 for each relocation header, 98,302 for each program, 558,296 of strings, 8,192
 /// of slots, 4 for each key and 10 for each export.
 const LINKED: &[u8] =
-    b"linked 2205298 bytes\nsection 0 length 65534\nsection 1 length 65534\nsection 2 length 65534\nsection 3 length 65534\nsection 4 length 65534\nsection 5 length 65534\nsection 6 length 65534\nsection 7 length 65534\n";
+    b"linked 1943170 bytes\nsection 0 length 49151\nsection 1 length 49151\nsection 2 length 49151\nsection 3 length 49151\nsection 4 length 49151\nsection 5 length 49151\nsection 6 length 49151\nsection 7 length 49151\n";
 
 #[test]
 fn link_at_the_limits(rt: HostRuntime) -> Result<(), Fail> {

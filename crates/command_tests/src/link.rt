@@ -1,24 +1,22 @@
-use crate::scripts::{EMPTY_CONTAINER, EXAMPLE, EXAMPLE_CONTAINER, EXAMPLE_LINKED, VECTORS};
+use crate::scripts::{
+    EMPTY_CONTAINER, EXAMPLE, EXAMPLE_CONTAINER, EXAMPLE_LINKED, EXAMPLE_PROGRAM, EXAMPLE_SHOWN,
+    VECTORS, VECTORS_LINKED,
+};
 use std::test::Fail;
-use test_bench::runs::{Handed, assert_prints};
+use test_bench::containers::{VECTORS_LEAST, changed};
+use test_bench::runs::{Handed, assert_prints, assert_prints_over};
 
 /// Scripts, what `link` prints of them, and their containers, also over the script itself.
 #[test]
 fn link(rt: HostRuntime) -> Result<(), Fail> {
-    let rows: [(&[u8], &str, &[u8], Option<&[u8]>); 5] = [
-        (EXAMPLE, "out", EXAMPLE_LINKED, Some(EXAMPLE_CONTAINER)),
-        (EXAMPLE, "a", EXAMPLE_LINKED, Some(EXAMPLE_CONTAINER)),
+    let rows: [(&[u8], &str, &[u8], Option<&[u8]>); 4] = [
+        (VECTORS, "out", VECTORS_LINKED, Some(VECTORS_LEAST)),
+        (VECTORS, "a", VECTORS_LINKED, Some(VECTORS_LEAST)),
         (b"", "out", b"linked 140 bytes\n", Some(EMPTY_CONTAINER)),
         (
             b"section d data process 4 3\nbytes d aAfF",
             "out",
             b"linked 172 bytes\nsection 0 length 0\n",
-            None,
-        ),
-        (
-            VECTORS,
-            "out",
-            b"linked 258 bytes\nsection 0 length 0\nsection 1 length 4\n",
             None,
         ),
     ];
@@ -31,6 +29,19 @@ fn link(rt: HostRuntime) -> Result<(), Fail> {
         assert_eq!(rt; outcome.papers.calls(), (1, 1));
     }
     Ok(())
+}
+
+/// A container but for its program, which is one of several of the same length; and what `load` prints of it.
+#[test]
+fn link_example(rt: HostRuntime) -> Result<(), Fail> {
+    let alloc = rt.alloc();
+    let words = ["link", "a", "out"];
+    let mut outcome = assert_prints(alloc, Handed::file(&words, EXAMPLE), EXAMPLE_LINKED, 0)?;
+    let written = outcome.papers.bytes(b"out").ok_or("no container")?;
+    let same = changed(alloc, written, 180, EXAMPLE_PROGRAM)?;
+    assert_eq!(rt; same.as_slice(), EXAMPLE_CONTAINER);
+    let words = ["load", "it=out"];
+    assert_prints_over(alloc, &mut outcome.papers, &words, EXAMPLE_SHOWN, 0)
 }
 
 /// Refused lines of `link`: nothing is written.

@@ -1,10 +1,12 @@
 -- Where new fragments are refused for an image or a relocation header, it is one with bytes that weren't linked.
-use Rattle.std.proofs.Common.{◌≡◌, ℕ, suc, List, [], ◌∷◌, ◌++◌, Option, None, Some, Ok, ◌⊎◌, inl, inr, refl, sym, ap, subst, ◌∙◌, arith}
+use Rattle.std.proofs.Common.{◌≡◌, ℕ, suc, List, [], ◌∷◌, ◌++◌, Option, None, Some, Ok, Err, ◌⊎◌, inl, inr, refl, sym, ap, subst, ◌∙◌, arith}
 use Rattle.std.specs.Option.{option_or}
 use Rattle.cfm_closure.specs.Closures.{Closed, closed_of}
-use Rattle.cfm_closure.specs.Faults.{Fails}
+use Rattle.cfm_closure.specs.Faults.{Fails, Refusal, no_container, no_loader}
 use Rattle.cfm_closure.specs.Faults as binds
+use Rattle.cfm_closure.specs.Promises.{IsOfUnread}
 use Rattle.cfm_closure.specs.Stores.{Pair, pair_of, place_of}
+use Rattle.cfm_closure.proofs.Laws.{closed-no_container, closed-no_loader, place_of-below, place_of-named}
 use Rattle.cfm_closure.specs.declared.fault.BindFault.{BindFault}
 use Rattle.cfm_closure.specs.declared.fault.BindFault.TheVariants as bind
 use Rattle.cfm_memory.specs.Instances.{Layout}
@@ -16,10 +18,12 @@ use Rattle.cfm_prepare.specs.Placing.{AllPlaced, LacksRoom}
 use Rattle.cfm_prepare.specs.Steps.{HasBadImage, HasBadProgram, HasClosure, HasRoot, MayNotPrepare, new_of}
 use Rattle.cfm_prepare.specs.declared.fault.PrepareFault.{PrepareFault}
 use Rattle.cfm_prepare.specs.declared.fault.PrepareFault.TheVariants as fault
+use Rattle.pef_loader.specs.declared.fault.LoaderFault.{LoaderFault}
 use Rattle.pef_pidata.specs.declared.fault.PackFault.{PackFault}
 use Rattle.pef_reloc.specs.declared.fault.RelocFault.{RelocFault}
-use Rattle.pef_tool.specs.Now.{HasUnlinked}
-use Rattle.pef_tool.proofs.NowLemmas.{linked-filled, linked-relocated}
+use Rattle.pef_views.specs.declared.fault.ViewFault.{ViewFault}
+use Rattle.pef_tool.specs.Now.{HasUnlinked, IsUnlinked}
+use Rattle.pef_tool.proofs.NowLemmas.{linked-filled, linked-read, linked-relocated}
 
 behind : (pairs : List Pair) (p : ℕ) (ps : List ℕ) (name : List ℕ) → HasUnlinked pairs ps name → HasUnlinked pairs (p ∷ ps) name
 behind pairs p ps name has = record { position = has.position; member = (suc has.member.0, omega (arith, has.member.1), has.member.2); is = has.is; other = has.other }
@@ -112,3 +116,21 @@ refused-bound s name closure (fault.Pack f k) rooms why =
 refused-bound s name closure (fault.Reloc f k) rooms why =
     inr (f.now, subst (λ (c : Closed). HasUnlinked s.pairs (new_of s c) f.now) (same-closed s name why.closure closure) (refused-program s.pairs s.present s.memory (new_of s why.closure.closed) f.now k why.why))
 refused-bound s name closure fault.OutOfMemory rooms why = inl refl
+
+-- a fragment that isn't read isn't linked, and it is the one that its name stands for
+unread : (pairs : List Pair) (root : ℕ) (asked name : List ℕ) (r : Refusal) → place_of pairs asked ≡ Some root → IsOfUnread pairs root name r → IsUnlinked pairs name
+unread pairs root asked name r is of = record {
+  position = of.position;
+  is = elim of.found [
+    | inl same ↦ (let P : ℕ → Type 0 = λ p. (pair_of pairs p).name ≡ name in
+        ap (place_of pairs) (sym (subst P same of.named) ∙ place_of-named pairs asked root is) ∙ is ∙ ap Some (sym same))
+    | inr first ↦ first
+  ];
+  other = λ script l linked holds. (let f = linked-read script l pairs of.position linked holds in let both : Ok f.0 ≡ Err r = sym f.1 ∙ of.refused in absurd (cc));
+}
+
+pub refused-container : (s : State) (asked name : List ℕ) (k : ViewFault) (has : HasRoot s asked) → closed_of s.pairs has.root ≡ Err (no_container name k) → IsUnlinked s.pairs name
+refused-container s asked name k has is = unread s.pairs has.root asked name (no_container name k) has.is (closed-no_container s.pairs has.root name k (place_of-below s.pairs asked has.root has.is) is)
+
+pub refused-loader : (s : State) (asked name : List ℕ) (k : LoaderFault) (has : HasRoot s asked) → closed_of s.pairs has.root ≡ Err (no_loader name k) → IsUnlinked s.pairs name
+refused-loader s asked name k has is = unread s.pairs has.root asked name (no_loader name k) has.is (closed-no_loader s.pairs has.root name k (place_of-below s.pairs asked has.root has.is) is)

@@ -1,7 +1,7 @@
 -- When a fragment of a context has the memory that a script describes (docs/SCRIPTS.md, `section`, `bytes`, `fix`,
 -- `tvector`), with the addresses of now; and fragments that weren't linked of any script.
-use Rattle.std.specs.Prelude.{◌≡◌, ℕ, List, Contains, length, map}
-use Rattle.cfm_closure.specs.Stores.{Pair, pair_of}
+use Rattle.std.specs.Prelude.{◌≡◌, ℕ, List, Contains, Some, length, map}
+use Rattle.cfm_closure.specs.Stores.{Pair, pair_of, place_of}
 use Rattle.cfm_fragment.specs.Prepared.{addresses_at}
 use Rattle.cfm_memory.specs.Extents.{ArePlaced, Extent, Stand}
 use Rattle.cfm_memory.specs.Instances.{Layout}
@@ -36,4 +36,11 @@ pub record HasUnlinked (pairs : List Pair) (ps : List ℕ) (name : List ℕ) : T
   pub position : ℕ
   pub member : Contains ps position
   pub is : name ≡ (pair_of pairs position).name
+  pub other : (script : DescribedScript) (linked : LinkedContainer) → IsLinked script linked → (pair_of pairs position).bytes ≡ linked.bytes → ⊥
+
+-- the fragment that a name stands for in a store has bytes that aren't those of any container that was linked of
+-- a script
+pub record IsUnlinked (pairs : List Pair) (name : List ℕ) : Type 0 where
+  pub position : ℕ
+  pub is : place_of pairs name ≡ Some position
   pub other : (script : DescribedScript) (linked : LinkedContainer) → IsLinked script linked → (pair_of pairs position).bytes ≡ linked.bytes → ⊥

@@ -1,6 +1,8 @@
 //! The headline, and what stands beside it: laws of the definitions that the commands' crates promise by.
 //! The functions do nothing.
-ghost use Rattle.std.specs.Prelude.{◌≡◌, ◌⊎◌, ℕ, List, None, Some, Result, Ok, Contains, slice_get, true};
+ghost use Rattle.std.specs.Prelude.{◌≡◌, ◌⊎◌, ℕ, List, None, Some, Result, Ok, Err, Contains, slice_get, true};
+ghost use Rattle.cfm_closure.specs.Closures.{closed_of};
+ghost use Rattle.cfm_closure.specs.Faults.{no_container, no_loader};
 ghost use Rattle.cfm_closure.specs.Fragments.{Fragment, fragment_of};
 ghost use Rattle.cfm_closure.specs.Stores.{Pair, pair_of};
 ghost use Rattle.cfm_memory.specs.Extents.{ArePlaced};
@@ -12,9 +14,10 @@ ghost use Rattle.cfm_prepare.specs.Fragments.{Present, extents_in, image_refusal
 ghost use Rattle.cfm_prepare.specs.Runs.{Runs, Step};
 ghost use Rattle.cfm_prepare.specs.Faults.{fault_number};
 ghost use Rattle.cfm_prepare.specs.Placing.{LacksRoom};
-ghost use Rattle.cfm_prepare.specs.Steps.{HasBadImage, HasBadProgram, HasClosure, MayNotPrepare, Prepares, new_of};
+ghost use Rattle.cfm_prepare.specs.Steps.{HasBadImage, HasBadProgram, HasClosure, HasRoot, MayNotPrepare, Prepares, new_of};
 ghost use Rattle.cfm_prepare.specs.declared.fault.PrepareFault.{PrepareFault};
 ghost use Rattle.pef_cert_text.specs.Printed.{certificates_text};
+ghost use Rattle.pef_loader.specs.declared.fault.LoaderFault.{LoaderFault};
 ghost use Rattle.pef_pidata.specs.declared.fault.PackFault.{PackFault};
 ghost use Rattle.pef_reloc.specs.declared.fault.RelocFault.{RelocFault};
 ghost use Rattle.pef_script.specs.Grammar.{script_of};
@@ -22,7 +25,8 @@ ghost use Rattle.pef_script.specs.Script.{DescribedScript, DescribedSection};
 ghost use Rattle.pef_tool.specs.Check.{Judges, Texts};
 ghost use Rattle.pef_tool.specs.Distances.{IsYesToAll};
 ghost use Rattle.pef_tool.specs.Least.{HasLeast};
-ghost use Rattle.pef_tool.specs.Now.{HasUnlinked, IsDescribedNow};
+ghost use Rattle.pef_tool.specs.Now.{HasUnlinked, IsDescribedNow, IsUnlinked};
+ghost use Rattle.pef_views.specs.declared.fault.ViewFault.{ViewFault};
 ghost use Rattle.pef_tool.specs.declared.check.Verdict.{Verdict};
 ghost use Rattle.pef_answers.specs.declared.refusal.Refusal.{Refusal};
 ghost use Rattle.pef_write.specs.Linked.{IsLinked, LinkedContainer};
@@ -60,10 +64,13 @@ pub fn linked_is_sound()
 {}
 
 /// So where the fragments of a closure are refused for an image or a relocation header, the refusal names
-/// one of them that wasn't linked of any script.
+/// one of them that wasn't linked of any script. And where the bytes of a fragment aren't read, the name that
+/// is told stands for a fragment of the store that wasn't linked of any.
 pub fn refusals_are_of_others()
     ensures image { (pairs : List Pair) (m : Layout) (new : List ℕ) (name : List ℕ) (k : PackFault) → HasBadImage pairs m new name k → HasUnlinked pairs new name }
     ensures program { (pairs : List Pair) (there : List Present) (m : Layout) (new : List ℕ) (name : List ℕ) (k : RelocFault) → HasBadProgram pairs there m new name k → HasUnlinked pairs new name }
+    ensures container { (s : State) (asked name : List ℕ) (k : ViewFault) (has : HasRoot s asked) → closed_of s.pairs has.root ≡ Err (no_container name k) → IsUnlinked s.pairs name }
+    ensures loader { (s : State) (asked name : List ℕ) (k : LoaderFault) (has : HasRoot s asked) → closed_of s.pairs has.root ≡ Err (no_loader name k) → IsUnlinked s.pairs name }
 {}
 
 /// What `distances` prints of a script, `check` accepts: it says yes to the certificate of each section, and

@@ -1,0 +1,231 @@
+use crate::scripts::{VECTORS, VECTORS_CERTIFIED};
+use pef_tool::FileFault;
+use std::alloc::{AllocError, Global};
+use std::fmt::Write;
+use std::test::Fail;
+use test_bench::runs::{Handed, assert_prints, run_tool};
+
+const WORDS: [&str; 2] = ["distances", "a"];
+
+/// Scripts, what is printed of them, and the status.
+#[test]
+fn distances(rt: HostRuntime) -> Result<(), Fail> {
+    let rows: [(&[u8], &[u8], u8); 5] = [
+        (VECTORS, VECTORS_CERTIFIED, 0),
+        (b"", b"pefcert 1\nend\n", 0),
+        // sections without fixups, of which one has no byte
+        (
+            b"section c code global 4 8\nsection d data process 4 0\n",
+            b"pefcert 1\nsection 0\nfixups 0\nlength 0\nprogram -\nregisters *\nat 0 0\nsection 1\nfixups 0\nlength 0\nprogram -\nregisters *\nat 0 0\nend\n",
+            0,
+        ),
+        (b"section d\n", b"refused 41 BadLine line 1\n", 1),
+        (
+            b"section d data process 4 8\nfix d 0 section d\nfix d 2 section d\n",
+            b"refused 46 Overlap line 3\n",
+            1,
+        ),
+    ];
+    for (script, printed, status) in rows {
+        let handed = Handed::file(&WORDS, script);
+        let outcome = assert_prints(rt.alloc(), handed, printed, status)?;
+        assert_eq!(rt; outcome.papers.calls(), (1, 0));
+        assert!(rt; outcome.has(b"a", script));
+    }
+    Ok(())
+}
+
+/// Scripts, and what `check` prints of them with the certificates that `distances` prints.
+const CHECKED: [(&str, &str); 16] = [
+    ("", ""),
+    // an import behind two sections; four words of two sections in turn
+    (
+        "library l 0 0 -\nimport i data strong\nsection a data process 4 12\nsection b data process 4 4\nfix a 0 section a\nfix a 4 section b\nfix a 8 import i\n",
+        "section 0 yes 2\nsection 1 yes 0\n",
+    ),
+    (
+        "section a data process 4 20\nsection b data process 4 4\nfix a 0 section a\nfix a 4 section b\nfix a 12 section a\nfix a 16 section b\nfix b 0 section a\n",
+        "section 0 yes 1\nsection 1 yes 1\n",
+    ),
+    (
+        "section a data process 4 8\nsection b data process 4 4\nfix a 4 section b\n",
+        "section 0 yes 1\nsection 1 yes 0\n",
+    ),
+    // moves, of which the longest that one instruction makes with an addition is 5116
+    (
+        "section a data process 4 8192\nsection b data process 4 4\nfix a 5116 section b\n",
+        "section 0 yes 2\nsection 1 yes 0\n",
+    ),
+    (
+        "section a data process 4 8192\nsection b data process 4 4\nfix a 5000 section b\n",
+        "section 0 yes 2\nsection 1 yes 0\n",
+    ),
+    (
+        "section a data process 4 8192\nsection b data process 4 4\nfix a 5117 section b\n",
+        "section 0 yes 3\nsection 1 yes 0\n",
+    ),
+    // words eight apart, then one of the other section
+    (
+        "section a data process 4 12\nsection b data process 4 4\nfix a 0 section b\nfix a 8 section a\n",
+        "section 0 yes 2\nsection 1 yes 0\n",
+    ),
+    (
+        "section a data process 4 16\nsection b data process 4 4\nfix a 0 section b\nfix a 8 section b\nfix a 12 section a\n",
+        "section 0 yes 3\nsection 1 yes 0\n",
+    ),
+    // words of a section that isn't in a register
+    (
+        "section a data process 4 12\nsection b data process 4 4\nsection c data process 4 4\nfix a 0 section c\nfix a 4 section c\nfix a 8 section c\n",
+        "section 0 yes 2\nsection 1 yes 0\nsection 2 yes 0\n",
+    ),
+    (
+        "section a data process 4 12\nsection b data process 4 4\nsection c data process 4 4\nfix a 0 section c\nfix a 4 section c\n",
+        "section 0 yes 2\nsection 1 yes 0\nsection 2 yes 0\n",
+    ),
+    // two words by the first section: a register is set, and each word is one instruction
+    (
+        "section d data process 4 16\nfix d 4 section d\nfix d 12 section d\n",
+        "section 0 yes 3\n",
+    ),
+    // the first import of each of two libraries, and an import again
+    (
+        "library k 0 0 -\nimport i data strong\nlibrary l 0 0 -\nimport j data strong\nsection d data process 4 8\nfix d 0 import i\nfix d 4 import j\n",
+        "section 0 yes 1\n",
+    ),
+    (
+        "library k 0 0 -\nimport i data strong\nimport j data strong\nsection d data process 4 8\nfix d 0 import j\nfix d 4 import i\n",
+        "section 0 yes 2\n",
+    ),
+    (
+        "library k 0 0 -\nimport i data strong\nsection d data process 4 4\nsection e data process 4 4\nfix d 0 import i\nfix e 0 import i\n",
+        "section 0 yes 1\nsection 1 yes 1\n",
+    ),
+    (
+        "section c code global 4 8\nsection d data process 4 16\ntvector d 0 c d\ntvector d 8 c d\n",
+        "section 0 yes 0\nsection 1 yes 1\n",
+    ),
+];
+
+/// What `distances` prints is accepted by `check`, with these lengths.
+#[test]
+fn distances_checked(rt: HostRuntime) -> Result<(), Fail> {
+    let alloc = rt.alloc();
+    for (script, printed) in CHECKED {
+        assert_checked(alloc, script.as_bytes(), printed.as_bytes())?;
+    }
+    Ok(())
+}
+
+/// What `distances` prints of a script is accepted by `check`, which prints this.
+fn assert_checked(alloc: Global, script: &[u8], printed: &[u8]) -> Result<(), Fail> {
+    let certified = run_tool(alloc, Handed::file(&WORDS, script))?;
+    let certificates = certified.printed.as_slice();
+    let handed = Handed::files(&["check", "a", "b"], script, certificates);
+    assert_prints(alloc, handed, printed, 0)?;
+    Ok(())
+}
+
+/// A script with so many words of its second section in a row.
+fn words_of_second(alloc: Global, from: u32, count: u32) -> Result<String, AllocError> {
+    let mut text = String::new(alloc);
+    text.push_str("section a data process 4 4096\nsection b data process 4 4\n")?;
+    for i in 0..count {
+        writeln!(
+            text,
+            "fix a {} section b",
+            from.wrapping_add(i.wrapping_mul(4))
+        )?;
+    }
+    Ok(text)
+}
+
+/// The longest runs of one section, and those behind a skip, which adds 63 at most.
+#[test]
+fn distances_of_runs(rt: HostRuntime) -> Result<(), Fail> {
+    let alloc = rt.alloc();
+    let rows: [(u32, u32, &[u8]); 4] = [
+        (0, 512, b"section 0 yes 1\nsection 1 yes 0\n"),
+        (0, 513, b"section 0 yes 2\nsection 1 yes 0\n"),
+        (4, 63, b"section 0 yes 1\nsection 1 yes 0\n"),
+        (4, 64, b"section 0 yes 2\nsection 1 yes 0\n"),
+    ];
+    for (from, count, printed) in rows {
+        let script = words_of_second(alloc, from, count)?;
+        assert_checked(alloc, script.as_bytes(), printed)?;
+    }
+    Ok(())
+}
+
+/// Files that aren't there or can't be read, or for which there is no memory.
+#[test]
+fn distances_unreadable(rt: HostRuntime) -> Result<(), Fail> {
+    let rows: [(&str, u32, FileFault, &[u8]); 3] = [
+        (
+            "a b",
+            0,
+            FileFault::Failed,
+            b"refused 71 FileUnreadable a%20b\n",
+        ),
+        ("a", 1, FileFault::Failed, b"refused 71 FileUnreadable a\n"),
+        ("a", 1, FileFault::OutOfMemory, b"refused 99 OutOfMemory\n"),
+    ];
+    for (path, files_fail_at, fault, printed) in rows {
+        let words = ["distances", path];
+        let handed = Handed {
+            files_fail_at,
+            fault,
+            ..Handed::file(&words, VECTORS)
+        };
+        let outcome = assert_prints(rt.alloc(), handed, printed, 1)?;
+        assert_eq!(rt; outcome.papers.calls(), (1, 0));
+    }
+    Ok(())
+}
+
+/// An output that takes a byte a call, and fails at call k: k - 1 bytes go out.
+#[test]
+fn distances_output_fails(rt: HostRuntime) -> Result<(), Fail> {
+    for k in 1..=VECTORS_CERTIFIED.len() {
+        let handed = Handed {
+            step: 1,
+            out_fails_at: k as u32,
+            ..Handed::file(&WORDS, VECTORS)
+        };
+        assert_prints(rt.alloc(), handed, &VECTORS_CERTIFIED[..k - 1], 1)?;
+    }
+    Ok(())
+}
+
+/// A library with 601 imports, and a section of 16 bytes.
+fn imports(alloc: Global) -> Result<String, AllocError> {
+    let mut text = String::new(alloc);
+    text.push_str("library l 0 0 -\n")?;
+    for i in 0..601u32 {
+        writeln!(text, "import i{i} data strong")?;
+    }
+    text.push_str("section a data process 4 16\n")?;
+    Ok(text)
+}
+
+/// The last import that one halfword names with the next one, and one that takes two.
+#[test]
+fn distances_of_imports(rt: HostRuntime) -> Result<(), Fail> {
+    let alloc = rt.alloc();
+    let rows: [(&str, &[u8]); 3] = [
+        (
+            "fix a 0 import i511\nfix a 4 import i512\n",
+            b"section 0 yes 2\n",
+        ),
+        (
+            "fix a 0 import i511\nfix a 8 import i512\n",
+            b"section 0 yes 3\n",
+        ),
+        ("fix a 0 import i600\n", b"section 0 yes 2\n"),
+    ];
+    for (fixups, printed) in rows {
+        let mut script = imports(alloc)?;
+        script.push_str(fixups)?;
+        assert_checked(alloc, script.as_bytes(), printed)?;
+    }
+    Ok(())
+}

@@ -1,0 +1,69 @@
+//! What `distances` prints is read as the plans of the sections' fixups.
+
+use crate::scripts::{EXAMPLE, VECTORS};
+use pef_cert::Certificate;
+use pef_cert_text::read;
+use pef_plan::plan;
+use pef_reloc::fixups_fit;
+use pef_script::Script;
+use std::alloc::Global;
+use std::process::Abort;
+use std::test::Fail;
+use test_bench::runs::{Handed, run_tool};
+
+/// Scripts, each with its number of sections.
+const SCRIPTS: [(&[u8], usize); 4] = [
+    (b"", 0),
+    (EXAMPLE, 1),
+    (VECTORS, 2),
+    // runs of each kind, words of one section eight apart, moves, and imports out of turn
+    (
+        b"library l 0 0 -\nimport i data strong\nimport j data weak\nsection a data process 4 64\nsection b data process 4 8192\nsection c data process 4 4\nfix a 0 section a\nfix a 4 section b\nfix a 12 section a\nfix a 16 section b\nfix a 24 import i\nfix a 28 import j\nfix a 32 section c\nfix a 36 section c\nfix a 40 section c\nfix b 2 import j\nfix b 6 import i\nfix b 1024 section c\nfix b 1032 section c\nfix b 1040 section c\nfix b 8000 section a\n",
+        3,
+    ),
+];
+
+#[test]
+fn distances_are_plans(rt: HostRuntime) -> Result<(), Fail> {
+    let alloc = rt.alloc();
+    for (text, sections) in SCRIPTS {
+        let printed = run_tool(alloc, Handed::file(&["distances", "a"], text))?.printed;
+        let certificates = read(alloc, printed.as_slice())?;
+        assert_eq!(rt; certificates.len(), sections);
+        let script = Script::read(alloc, text)?;
+        for (k, certificate) in certificates.iter().enumerate() {
+            let planned = planned(&rt, alloc, &script, k)?;
+            assert!(rt; is_same(certificate, &planned), "section {k}");
+        }
+    }
+    Ok(())
+}
+
+/// The plan of a section's fixups.
+fn planned(rt: &impl Abort, alloc: Global, script: &Script, k: usize) -> Result<Certificate, Fail> {
+    let fixups = script.fixups(k).ok_or("no such section")?;
+    assert!(rt; fixups_fit(fixups));
+    Ok(plan(alloc, k as u32, fixups)?)
+}
+
+/// Whether two certificates have the same parts.
+fn is_same(one: &Certificate, other: &Certificate) -> bool {
+    one.section() == other.section()
+        && one.program() == other.program()
+        && one.registers() == other.registers()
+        && has_same_labels(one, other)
+}
+
+/// Whether two certificates have the same rows of labels.
+fn has_same_labels(one: &Certificate, other: &Certificate) -> bool {
+    let mut left = one.labels().runs();
+    let mut right = other.labels().runs();
+    for _ in 0..=one.labels().rows() {
+        match (left.next_run(), right.next_run()) {
+            (None, None) => return true,
+            (Some(a), Some(b)) if a.rows == b.rows && a.labels == b.labels => {}
+            _ => return false,
+        }
+    }
+    false
+}
