@@ -22,10 +22,13 @@ use Rattle.pef_cert.specs.Kept.Claims.{OfferIs}
 use Rattle.pef_cert.proofs.Laws.{Numbers, RegisteredBase, World, all_registered, class_of-below, extension-here, feasible-tested, few_rising, index_behind, numbers, offer-import, offer-section}
 use Rattle.pef_plan.specs.declared.known.Known.{Known}
 use Rattle.pef_plan.specs.declared.rows.At.{At}
+use Rattle.pef_plan.specs.declared.ends.RunEnds.{RunEnds}
+use Rattle.pef_plan.specs.Kept.Ends.{EndsAt, EndsOf}
 use Rattle.pef_plan.specs.Kept.Places.{Counts}
 use Rattle.pef_plan.specs.Kept.Rows.{AtOf, RowOf, SkipsOf}
 use Rattle.pef_plan.specs.Kept.Tables.{Agrees, OffersAre, OffersFrom, SameLabels, Shaped, Tabled, label_in, number_in, skip_in}
 use Rattle.pef_plan.specs.Reached.{LeadsWithin, ReachedAt}
+use Rattle.pef_plan.proofs.EndsKept.{ends-map}
 
 counts-one : (rs : List ℕ) (b : Base) → RegisteredBase rs b → Counts rs b
 counts-one rs (Section k) is = is
@@ -361,3 +364,29 @@ fill-next fixups rs labels skips at n k a row line fit right step inside t known
       row_is = row_is;
       line_is = line_is;
     }) state.import_index (λ l same. numbers fixups l fit (subst (λ (xs : List ℕ). RegistersOf fixups xs) (sym same) right)))
+
+-- the windows at the fixup of an index, and at the next one that is filled
+pub ends-at : (fixups : List Fixup) (rs : List ℕ) (labels : List (List (List ℕ))) (skips : List (List ℕ)) (at n : ℕ) (k : Known) (a : At) (e : RunEnds) → n ≡ at + 1 → KnownOf k rs labels skips → StateAt fixups at a → EndsOf (λ l. SameLabels l rs labels (length (drop n fixups))) (length rs + 1) (drop n fixups) e → EndsAt k a.others.now a.others.now e
+ends-at fixups rs labels skips at n k a e step known state ends =
+    let rest : drop n fixups ≡ a.others.now = ap (λ m. drop m fixups) step ∙ sym state.others in
+    let here = subst (λ (fs : List Fixup). EndsOf (λ l. SameLabels l rs labels (length fs)) (length rs + 1) fs e) rest ends in
+    let counted = subst (λ (xs : List ℕ). EndsOf (λ l. SameLabels l rs labels (length a.others.now)) (length xs + 1) a.others.now e) (sym known.registers_are) here in
+    ends-map (λ l. SameLabels l rs labels (length a.others.now)) (λ l. Agrees l k a.others.now) (length k.registers.now + 1) a.others.now e
+    (λ l agrees. subst (λ (xs : List ℕ). SameLabels l xs labels (length a.others.now)) known.registers_are (subst (λ (xs : List (List (List ℕ))). SameLabels l k.registers.now xs (length a.others.now)) known.labels_are agrees.same))
+    counted
+
+agrees_before : (l : Labels) (rs : List ℕ) (labels : List (List (List ℕ))) (skips : List (List ℕ)) (k : Known) (others : List Fixup) (row : List (List ℕ)) (index : ℕ) → Tabled rs labels skips index others → KnownOf k rs labels skips → SameLabels l rs (labels ++ row ∷ []) (suc (length others)) → Agrees l k others
+agrees_before l rs labels skips k others row index t known same =
+    let before = same_before l rs labels row (length others) t.labels_count same in
+    record {
+      same = subst (λ (xs : List ℕ). SameLabels l xs k.labels.now (length others)) (sym known.registers_are) (subst (λ (xs : List (List (List ℕ))). SameLabels l rs xs (length others)) (sym known.labels_are) before);
+      offers = subst (λ (xs : List (List ℕ)). OffersFrom l xs others) (sym known.skips_are) (t.offers l before);
+    }
+
+pub ends-next : (fixups : List Fixup) (rs : List ℕ) (labels : List (List (List ℕ))) (skips : List (List ℕ)) (at n index : ℕ) (k : Known) (a : At) (row : List (List ℕ)) (e : RunEnds) → n ≡ at + 1 → Tabled rs labels skips index (drop n fixups) → KnownOf k rs labels skips → StateAt fixups at a → EndsAt k a.others.now (a.first ∷ a.others.now) e → EndsOf (λ l. SameLabels l rs (labels ++ row ∷ []) (length (drop at fixups))) (length rs + 1) (drop at fixups) e
+ends-next fixups rs labels skips at n index k a row e step t known state ends =
+    let rest : drop n fixups ≡ a.others.now = ap (λ m. drop m fixups) step ∙ sym state.others in
+    let t' = subst (λ (fs : List Fixup). Tabled rs labels skips index fs) rest t in
+    let counted = subst (λ (xs : List ℕ). EndsOf (λ l. Agrees l k a.others.now) (length xs + 1) (a.first ∷ a.others.now) e) known.registers_are ends in
+    subst (λ (fs : List Fixup). EndsOf (λ l. SameLabels l rs (labels ++ row ∷ []) (length fs)) (length rs + 1) fs e) (sym state.parts)
+    (ends-map (λ l. Agrees l k a.others.now) (λ l. SameLabels l rs (labels ++ row ∷ []) (suc (length a.others.now))) (length rs + 1) (a.first ∷ a.others.now) e (λ l same. agrees_before l rs labels skips k a.others.now row index t' known same) counted)

@@ -1,9 +1,12 @@
 pub mod Laws
+mod EndLemmas
+mod EndsKept
 mod FillLemmas
 mod KnownLemmas
 mod Leading
 mod LaidLemmas
 mod LineLemmas
+mod LowFacts
 mod MoveFacts
 mod NameFacts
 mod PlanFacts
@@ -15,4 +18,5 @@ mod RunFacts
 mod RunTests
 mod SkipFacts
 mod StepFacts
+mod WindowLemmas
 mod WordByWord

@@ -21,7 +21,7 @@ square-set P square i x inside are is j under =
       | inr other ↦ (let apart = other.1 in subst (λ (v : List ℕ). P j v) (sym (get_or-set_other square i j x [] other.1)) (are j (omega (arith, under))))
     ]
 
-min_is : (v w : ℕ) → (min v w ≡ v) ⊎ (min v w ≡ w)
+pub min_is : (v w : ℕ) → (min v w ≡ v) ⊎ (min v w ≡ w)
 min_is v w = grind arith
 
 -- the least of one more number

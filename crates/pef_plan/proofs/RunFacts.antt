@@ -64,7 +64,7 @@ held : (rs : List ℕ) (k class j : ℕ) → Holds rs k class → class_of rs j 
 held rs k class j h is = class_of-same rs j k (is ∙ sym h.0) (let e = h.0 in let u = h.1 in omega (arith, e, u))
 
 -- the instruction of a run adds its units
-run-adds : (rs : List ℕ) (r : Run) (p : Place) (from n : ℕ) (s : State) → RunOf rs r p from → InPlace rs p s → additions (run_instr r n) s ≡ units r n from p.import_index
+pub run-adds : (rs : List ℕ) (r : Run) (p : Place) (from n : ℕ) (s : State) → RunOf rs r p from → InPlace rs p s → additions (run_instr r n) s ≡ units r n from p.import_index
 run-adds rs (WordsOfC k) p from n s of at =
     ap₂ (λ q j. row n q 4 (Section j)) (at.position ∙ sym of.1) (held rs k p.c s.c of.0 at.c) ∙ units_c n from p.import_index k
 run-adds rs (WordsOfD k) p from n s of at =
@@ -84,7 +84,7 @@ run-adds rs (Skip w k) p from n s of at =
     ap₂ (λ q j. row n q 4 (Section j)) (ap (λ q. q + 4 * w) at.position ∙ sym of.1) (held rs k p.d s.d of.0.0 at.d) ∙ units_skip n from p.import_index w k
 
 -- and leads behind them
-run-next : (rs : List ℕ) (r : Run) (p q : Place) (from n : ℕ) (s : State) → RunOf rs r p from → InPlace rs p s → q.position ≡ from + stride r * n → q.import_index ≡ p.import_index + imports r * n → q.c ≡ p.c → q.d ≡ p.d → InPlace rs q (next_state (run_instr r n) s)
+pub run-next : (rs : List ℕ) (r : Run) (p q : Place) (from n : ℕ) (s : State) → RunOf rs r p from → InPlace rs p s → q.position ≡ from + stride r * n → q.import_index ≡ p.import_index + imports r * n → q.c ≡ p.c → q.d ≡ p.d → InPlace rs q (next_state (run_instr r n) s)
 run-next rs (WordsOfC k) p q from n s of at position index c d = record { position = (let a = at.position in let b = of.1 in omega (arith, a, b, position)); import_index = (let a = at.import_index in omega (arith, a, index)); c = at.c ∙ sym c; d = at.d ∙ sym d }
 run-next rs (WordsOfD k) p q from n s of at position index c d = record { position = (let a = at.position in let b = of.1 in omega (arith, a, b, position)); import_index = (let a = at.import_index in omega (arith, a, index)); c = at.c ∙ sym c; d = at.d ∙ sym d }
 run-next rs (Spaced k) p q from n s of at position index c d = record { position = (let a = at.position in let b = of.1 in omega (arith, a, b, position)); import_index = (let a = at.import_index in omega (arith, a, index)); c = at.c ∙ sym c; d = at.d ∙ sym d }
@@ -96,7 +96,7 @@ run-next rs (Skip w k) p q from n s of at position index c d = record { position
 counts_fit : (most n : ℕ) → 1 ≤ n → n ≤ most → (nat_le 1 n && nat_le n most) ≡ true
 counts_fit most n some few = both_met (nat_le 1 n) (nat_le n most) (le-leb 1 n some) (le-leb n most few)
 
-run-flat : (rs : List ℕ) (r : Run) (p : Place) (from n : ℕ) → RunOf rs r p from → 1 ≤ n → n ≤ limit r → is_flat_instr (run_instr r n) ≡ true
+pub run-flat : (rs : List ℕ) (r : Run) (p : Place) (from n : ℕ) → RunOf rs r p from → 1 ≤ n → n ≤ limit r → is_flat_instr (run_instr r n) ≡ true
 run-flat rs (WordsOfC k) p from n of some few = counts_fit 512 n some few
 run-flat rs (WordsOfD k) p from n of some few = counts_fit 512 n some few
 run-flat rs (Spaced k) p from n of some few = counts_fit 512 n some few
@@ -124,11 +124,11 @@ some_unit (SpacedPairs j k) p m = omega arith
 some_unit Imports p m = omega arith
 some_unit (Skip w k) p m = omega arith
 
-units-more : (r : Run) (n p m : ℕ) → units r (suc n) p m ≡ unit r p m ++ units r n (p + stride r) (m + imports r)
+pub units-more : (r : Run) (n p m : ℕ) → units r (suc n) p m ≡ unit r p m ++ units r n (p + stride r) (m + imports r)
 unfolding units
 units-more r n p m = refl
 
-units-none : (r : Run) (p m : ℕ) → units r 0 p m ≡ []
+pub units-none : (r : Run) (p m : ℕ) → units r 0 p m ≡ []
 unfolding units
 units-none r p m = refl
 

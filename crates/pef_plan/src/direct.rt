@@ -64,7 +64,7 @@ impl<'a> Known<'a> {
     }
 
     /// The addition of a section alone.
-    fn single_section(self, here: Here<'a>, section: u32) -> Choice<'a>
+    pub(crate) fn single_section(self, here: Here<'a>, section: u32) -> Choice<'a>
         requires here { HereOf self here }
         requires at { here.place.position ≡ here.first.offset }
         requires base { here.first.base ≡ Section section }
@@ -186,7 +186,7 @@ impl<'a> Known<'a> {
     }
 
     /// The addition of an import alone.
-    fn single_import(self, here: Here<'a>, import: u32) -> Choice<'a>
+    pub(crate) fn single_import(self, here: Here<'a>, import: u32) -> Choice<'a>
         requires here { HereOf self here }
         requires at { here.place.position ≡ here.first.offset }
         requires base { here.first.base ≡ Import import }

@@ -2,8 +2,10 @@
 #![tactic(auto)]
 
 mod direct;
+mod ends;
 mod fault;
 mod known;
+mod lows;
 mod moves;
 mod place;
 mod planner;
@@ -16,6 +18,7 @@ mod skips;
 mod tables;
 mod theorems;
 mod values;
+mod window;
 
 pub use fault::PlanFault;
 pub use planner::plan;

@@ -1,8 +1,10 @@
-ghost use Rattle.std.specs.Prelude.{◌≡◌, ◌+◌, ◌<◌, ◌≤◌, ℕ, [], length, slice_index, slice_index_or};
+ghost use Rattle.std.specs.Prelude.{◌≡◌, ◌+◌, ◌<◌, ◌≤◌, ◌∷◌, ℕ, [], length, slice_index, slice_index_or};
+ghost use Rattle.pef_plan.specs.Kept.Ends.{EndsAt};
 ghost use Rattle.pef_plan.specs.Kept.Places.{HereOf};
 ghost use Rattle.pef_plan.specs.Kept.Rows.{AtOf, ClosedOf, DirectLine, DirectSquare, LeastOf, LineOf, LinesOf, RowOf, SmallLine, SmallSquare};
 ghost use Rattle.pef_plan.specs.Kept.Tables.{number_in};
 
+use crate::ends::RunEnds;
 use crate::known::{Known, Line, MAX_CLASSES, Square};
 use crate::place::{Here, Place};
 use pef_reloc::Fixup;
@@ -19,35 +21,38 @@ pub(crate) struct At<'a> {
 
 impl<'a> Known<'a> {
     /// The labels at a fixup, from what is known behind it.
-    pub(crate) fn labels_at(self, at: At<'a>) -> Square
-        requires { AtOf self at }
+    pub(crate) fn labels_at(self, at: At<'a>, ends: &RunEnds) -> Square
+        requires at { AtOf self at }
+        requires ends { EndsAt self at.others.now (at.first ∷ at.others.now) ends.now }
         ensures { RowOf self.entry at.entry result }
     {
-        let direct = self.direct_square(at);
+        let direct = self.direct_square(at, ends);
         closed(&direct, self.classes())
     }
 
     /// What the best instructions that add at a fixup lead to, without a change of registers.
-    fn direct_square(self, at: At<'a>) -> Square
-        requires { AtOf self at }
+    fn direct_square(self, at: At<'a>, ends: &RunEnds) -> Square
+        requires at { AtOf self at }
+        requires ends { EndsAt self at.others.now (at.first ∷ at.others.now) ends.now }
         ensures { DirectSquare self.entry at.entry result }
     {
         let mut square = [[0; MAX_CLASSES]; MAX_CLASSES];
         for c in 0..self.classes() {
-            square[c] = self.direct_line(at, c);
+            square[c] = self.direct_line(at, ends, c);
         }
         square
     }
 
     /// The same with register C in a class.
-    fn direct_line(self, at: At<'a>, c: usize) -> Line
+    fn direct_line(self, at: At<'a>, ends: &RunEnds, c: usize) -> Line
         requires at { AtOf self at }
+        requires ends { EndsAt self at.others.now (at.first ∷ at.others.now) ends.now }
         requires c { c < length self.registers.now + 1 }
         ensures { DirectLine self.entry at.entry c result }
     {
         let mut line = [0; MAX_CLASSES];
         for d in 0..self.classes() {
-            line[d] = self.direct(at.with(c, d)).value as u32;
+            line[d] = self.low(at.with(c, d), ends) as u32;
         }
         line
     }

@@ -16,10 +16,10 @@ use crate::values::WORD;
 use pef_reloc::{Base, Fixup, Instr};
 
 /// The most words, pairs or imports of a run.
-const MAX_RUN: u32 = 512;
+pub(crate) const MAX_RUN: u32 = 512;
 
 /// The most words that a skip adds to.
-const MAX_SKIP_RUN: u32 = 63;
+pub(crate) const MAX_SKIP_RUN: u32 = 63;
 
 /// A run of additions that one instruction makes.
 #[derive(Clone, Copy, Debug)]
@@ -88,7 +88,7 @@ impl Run {
     }
 
     /// The place behind one unit.
-    fn next<'a>(self, place: Place<'a>) -> Option<Place<'a>>
+    pub(crate) fn next<'a>(self, place: Place<'a>) -> Option<Place<'a>>
         requires position { place.position < 2 ^ 60 }
         requires import_index { place.import_index < 2 ^ 60 }
         ensures { MatchOption result ((left : List Fixup) → place.entry.left.now ≡ unit self place.entry.position place.entry.import_index ++ left → ⊥) (λ next. Next self place.entry next) }

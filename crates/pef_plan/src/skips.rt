@@ -1,12 +1,14 @@
-ghost use Rattle.std.specs.Prelude.{◌≡◌, ◌+◌, ◌*◌, ◌<◌, ◌≤◌, ℕ, Some, length, slice_index};
+ghost use Rattle.std.specs.Prelude.{◌≡◌, ◌+◌, ◌*◌, ◌<◌, ◌≤◌, ◌∷◌, ℕ, Some, length, slice_index};
 ghost use Rattle.pef_cert.specs.Extension.{extension, skips_at};
 ghost use Rattle.pef_cert.specs.Labels.{Labels, class_of};
+ghost use Rattle.pef_plan.specs.Kept.Ends.{EndsAt};
 ghost use Rattle.pef_plan.specs.Kept.Places.{Chosen, HereOf};
 ghost use Rattle.pef_plan.specs.Kept.Rows.{AtOf, SkipsOf};
 ghost use Rattle.pef_plan.specs.Kept.Runs.{Holds};
 ghost use Rattle.pef_plan.specs.Kept.Tables.{Agrees};
 ghost use Rattle.pef_reloc.specs.declared.fixup.Base.TheVariants.{Section};
 
+use crate::ends::RunEnds;
 use crate::known::{Known, Line, MAX_CLASSES};
 use crate::place::{Choice, Here, Step};
 use crate::registers::class_of;
@@ -16,28 +18,44 @@ use pef_reloc::{Base, Instr};
 
 impl<'a> Known<'a> {
     /// The least skips at a fixup, by the class of register C.
-    pub(crate) fn skips_at(self, at: At<'a>) -> Line
-        requires { AtOf self at }
+    pub(crate) fn skips_at(self, at: At<'a>, ends: &RunEnds) -> Line
+        requires at { AtOf self at }
+        requires ends { EndsAt self at.others.now (at.first ∷ at.others.now) ends.now }
         ensures { SkipsOf self.entry at.entry result }
     {
         match at.first.base {
-            Base::Section(section) => self.section_skips(at, section),
+            Base::Section(section) => self.section_skips(at, ends, section),
             Base::Import(_) => [0; MAX_CLASSES],
         }
     }
 
     /// The same where the fixup has a section.
-    fn section_skips(self, at: At<'a>, section: u32) -> Line
+    fn section_skips(self, at: At<'a>, ends: &RunEnds, section: u32) -> Line
         requires at { AtOf self at }
+        requires ends { EndsAt self at.others.now (at.first ∷ at.others.now) ends.now }
         requires base { at.first.base ≡ Section section }
         ensures { SkipsOf self.entry at.entry result }
     {
         let class = class_of(self.registers, section);
         let mut line = [0; MAX_CLASSES];
         for c in 0..self.classes() {
-            line[c] = self.best_skip(at.with(c, class), 0, section).value as u32;
+            line[c] = self.low_skip(at.with(c, class), ends, section) as u32;
         }
         line
+    }
+
+    /// The least that a skip leads to which adds at the fixup, where register D holds its section.
+    fn low_skip(self, here: Here<'a>, ends: &RunEnds, section: u32) -> u64
+        requires here { HereOf self here }
+        requires base { here.first.base ≡ Section section }
+        requires holds { Holds self.registers.now section here.place.d }
+        requires from { here.first.offset ≡ here.place.position }
+        requires ends { EndsAt self here.others.now (here.first ∷ here.others.now) ends.now }
+        ensures is { (l : Labels) → Agrees l self.entry here.entry.others.now → skips_at l here.entry.first here.entry.others.now here.entry.place.c here.entry.place.d ≡ Some result }
+        ensures small { result ≤ 4 * length here.entry.others.now + 4 }
+    {
+        let one = self.single_skip(here, 0, section);
+        ends.skips.best(one.value, here.place.c, here.place.d)
     }
 
     /// The best skip that passes so many words and then adds at the fixup, which has a section.

@@ -4,6 +4,7 @@ ghost use Rattle.pef_plan.specs.Kept.Tables.{IndicesOf, Tabled};
 ghost use Rattle.pef_reloc.specs.Deliveries.{index_after, index_past};
 ghost use Rattle.pef_reloc.specs.Fixups.{fixups_fit};
 
+use crate::ends::RunEnds;
 use crate::known::{Known, Line, MAX_CLASSES, Square};
 use crate::rows::At;
 use pef_reloc::{Base, Fixup};
@@ -27,6 +28,7 @@ pub(crate) fn fill(alloc: Global, fixups: &[Fixup], registers: &[u32]) -> Result
     let mut skips = Vec::new(alloc);
     labels.push([[0; MAX_CLASSES]; MAX_CLASSES])?;
     skips.push([0; MAX_CLASSES])?;
+    let mut ends = RunEnds::new(alloc, registers.len() + 1);
     let mut at = fixups.len();
     'fixups: while at > 0 {
         at -= 1;
@@ -36,8 +38,9 @@ pub(crate) fn fill(alloc: Global, fixups: &[Fixup], registers: &[u32]) -> Result
             labels: &labels,
             skips: &skips,
         };
-        let row = known.labels_at(state);
-        let line = known.skips_at(state);
+        ends.pass(known, state)?;
+        let row = known.labels_at(state, &ends);
+        let line = known.skips_at(state, &ends);
         labels.push(row)?;
         skips.push(line)?;
     }

@@ -1,19 +1,41 @@
-use Rattle.std.proofs.Common.{◌-◌, ◌++◌, ◌∷◌, List, ℕ, [], drop, take, refl, subst, sym, arith}
+use Rattle.std.proofs.Common.{◌+◌, ◌-◌, ◌++◌, ◌∷◌, List, ℕ, [], drop, length, take, refl, subst, sym, arith}
 use Rattle.pef_reloc.specs.Deliveries.{index_after}
-use Rattle.pef_plan.specs.Kept.Tables.{Tabled}
-use Rattle.pef_plan.proofs.FillLemmas.{fill-at, fill-next}
+use Rattle.pef_plan.specs.Kept.Ends.{EndsOf}
+use Rattle.pef_plan.specs.Kept.Tables.{SameLabels, Tabled}
+use Rattle.pef_plan.proofs.FillLemmas.{KnownOf, StateAt, ends-at, ends-next, fill-at, fill-next}
+use Rattle.pef_plan.proofs.PlanFacts.{few_classes}
 use Rattle.pef_plan.proofs.tables.fill.Goals as goal
 
-pub labels_at-row-requires : goal.labels_at-row-requires
-labels_at-row-requires c =
+pub new-ends-requires : goal.new-ends-requires
+new-ends-requires c = few_classes c.args.fixups.now c.args.registers.now c.requires.fit c.requires.registers
+
+pub pass-requires-clause-at : goal.pass-requires-clause-at
+pass-requires-clause-at c =
     let e = c.state_at-state.ensures in
     let t = c.fixups-test.true in
     fill-at c.args.fixups.now c.args.registers.now c.fixups.labels.items c.fixups.skips.items (c.fixups.at - 1) c.fixups.at _ _ c.state_at-state.result c.requires.fit c.requires.registers (omega (arith, t)) c.fixups.invariant.inside c.fixups.invariant.tabled
     (record { registers_are = refl; labels_are = c.deref.ensures.value; skips_are = c.deref-in-fixups.ensures.value })
     (record { left = e.left; parts = e.parts; others = e.others; import_index = e.import_index })
 
-pub skips_at-line-requires : goal.skips_at-line-requires
-skips_at-line-requires c =
+pub pass-requires-clause-ends : goal.pass-requires-clause-ends
+pass-requires-clause-ends c =
+    let e = c.state_at-state.ensures in
+    let t = c.fixups-test.true in
+    ends-at c.args.fixups.now c.args.registers.now c.fixups.labels.items c.fixups.skips.items (c.fixups.at - 1) c.fixups.at _ c.state_at-state.result c.fixups.ends (omega (arith, t))
+    (record { registers_are = refl; labels_are = c.deref.ensures.value; skips_are = c.deref-in-fixups.ensures.value })
+    (record { left = e.left; parts = e.parts; others = e.others; import_index = e.import_index })
+    c.fixups.invariant.ends
+
+pub labels_at-row-requires-clause-at : goal.labels_at-row-requires-clause-at
+labels_at-row-requires-clause-at c =
+    let e = c.state_at-state.ensures in
+    let t = c.fixups-test.true in
+    fill-at c.args.fixups.now c.args.registers.now c.fixups.labels.items c.fixups.skips.items (c.fixups.at - 1) c.fixups.at _ _ c.state_at-state.result c.requires.fit c.requires.registers (omega (arith, t)) c.fixups.invariant.inside c.fixups.invariant.tabled
+    (record { registers_are = refl; labels_are = c.deref.ensures.value; skips_are = c.deref-in-fixups.ensures.value })
+    (record { left = e.left; parts = e.parts; others = e.others; import_index = e.import_index })
+
+pub skips_at-line-requires-clause-at : goal.skips_at-line-requires-clause-at
+skips_at-line-requires-clause-at c =
     let e = c.state_at-state.ensures in
     let t = c.fixups-test.true in
     fill-at c.args.fixups.now c.args.registers.now c.fixups.labels.items c.fixups.skips.items (c.fixups.at - 1) c.fixups.at _ _ c.state_at-state.result c.requires.fit c.requires.registers (omega (arith, t)) c.fixups.invariant.inside c.fixups.invariant.tabled
@@ -35,4 +57,9 @@ fixups-preserved c =
           (record { registers_are = refl; labels_are = c.deref.ensures.value; skips_are = c.deref-in-fixups.ensures.value })
           (record { left = e.left; parts = e.parts; others = e.others; import_index = e.import_index })
           c.labels_at-row.ensures c.skips_at-line.ensures));
+      ends = subst (λ (xs : List (List (List ℕ))). EndsOf (λ l. SameLabels l c.args.registers.now xs (length rest)) (length c.args.registers.now + 1) rest c.pass.new.self) (sym c.in_ok-push-3.ensures.items)
+          (ends-next c.args.fixups.now c.args.registers.now c.fixups.labels.items c.fixups.skips.items (c.fixups.at - 1) c.fixups.at _ _ c.state_at-state.result c.labels_at-row.result c.pass.new.self (omega (arith, t)) c.fixups.invariant.tabled
+          (record { registers_are = refl; labels_are = c.deref.ensures.value; skips_are = c.deref-in-fixups.ensures.value })
+          (record { left = e.left; parts = e.parts; others = e.others; import_index = e.import_index })
+          c.in_ok-pass.ensures);
     }

@@ -1,6 +1,7 @@
-use Rattle.std.proofs.Common.{◌≤◌, drop, length, take}
+use Rattle.std.proofs.Common.{◌≤◌, ◌+◌, drop, length, take}
 use Rattle.pef_reloc.specs.Deliveries.{index_after}
-use Rattle.pef_plan.specs.Kept.Tables.{Tabled}
+use Rattle.pef_plan.specs.Kept.Ends.{EndsOf}
+use Rattle.pef_plan.specs.Kept.Tables.{SameLabels, Tabled}
 use Rattle.pef_plan.proofs.tables.fill.Given as goal
 
 abbrev pub decreases-fixups : goal.decreases-fixups
@@ -10,4 +11,5 @@ abbrev pub invariant-fixups : goal.invariant-fixups
 invariant-fixups l = record {
   inside : l.at ≤ length l.fixups;
   tabled : Tabled l.registers l.labels.items l.skips.items (index_after (take l.at l.fixups) 0) (drop l.at l.fixups);
+  ends : EndsOf (λ labels. SameLabels labels l.registers l.labels.items (length (drop l.at l.fixups))) (length l.registers + 1) (drop l.at l.fixups) l.ends;
 }

@@ -2,7 +2,8 @@ use Rattle.std.proofs.Common.{◌∙◌, arith}
 use Rattle.std.proofs.lemmas.List.{length-set}
 use Rattle.pef_plan.specs.Kept.Rows.{DirectIs}
 use Rattle.pef_plan.proofs.LineLemmas.{line-set}
-use Rattle.pef_plan.proofs.RowLemmas.{With, direct-is}
+use Rattle.pef_plan.proofs.LowFacts.{ends-with, low-is}
+use Rattle.pef_plan.proofs.RowLemmas.{With}
 use Rattle.pef_plan.proofs.known.Known.direct_line.Goals as goal
 
 pub loop-d-preserved : goal.loop-d-preserved
@@ -16,8 +17,15 @@ loop-d-preserved c =
     let e = c.with.ensures in
     let w : With a.at a.c i c.with.result = record { first = e.first; others = e.others; left = e.left; position = e.position; import_index = e.import_index; c_is = e.c; d_is = e.d } in
     record {
-      len = length-set c.loop-d.line i c.direct.result.value ∙ len;
-      are = line-set (λ d v. DirectIs a.self a.at a.c d v) c.loop-d.line i c.direct.result.value
+      len = length-set c.loop-d.line i c.low.result ∙ len;
+      are = line-set (λ d v. DirectIs a.self a.at a.c d v) c.loop-d.line i c.low.result
           (omega (arith, len, few, under, end)) c.loop-d.invariant.are
-          (direct-is a.self a.at a.c i c.with.result c.direct.result c.requires.at w c.direct.ensures.chosen c.direct.ensures.least c.direct.ensures.small);
+          (low-is a.self a.at a.c i c.with.result c.low.result c.requires.at w c.low.ensures.led c.low.ensures.least c.low.ensures.small);
     }
+
+pub low-requires-clause-ends : goal.low-requires-clause-ends
+low-requires-clause-ends c =
+    let a = c.args in
+    let e = c.with.ensures in
+    let w : With a.at a.c c.loop-d.d c.with.result = record { first = e.first; others = e.others; left = e.left; position = e.position; import_index = e.import_index; c_is = e.c; d_is = e.d } in
+    ends-with a.self a.at a.c c.loop-d.d c.with.result a.ends.now w c.requires.ends

@@ -9,7 +9,7 @@ loop-c-preserved c =
     let a = c.args in
     let i = c.loop-c.c in
     let len = c.loop-c.invariant.len in
-    let few = c.requires.shaped.few in
+    let few = c.requires.at.shaped.few in
     let under = c.loop-c-test.true in
     let end = c.classes-c-end.ensures in
     record {

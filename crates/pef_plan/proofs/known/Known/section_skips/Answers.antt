@@ -2,6 +2,7 @@ use Rattle.std.proofs.Common.{◌∙◌, arith}
 use Rattle.std.proofs.lemmas.List.{length-set}
 use Rattle.pef_cert.specs.Labels.{class_of}
 use Rattle.pef_plan.proofs.LineLemmas.{line-set}
+use Rattle.pef_plan.proofs.LowFacts.{ends-with}
 use Rattle.pef_plan.proofs.RowLemmas.{SkipIs, With, skip-with, skips-of}
 use Rattle.pef_plan.proofs.known.Known.section_skips.Goals as goal
 
@@ -16,11 +17,18 @@ loop-c-preserved c =
     let e = c.with.ensures in
     let w : With a.at i (class_of a.self.registers.now a.section) c.with.result = record { first = e.first; others = e.others; left = e.left; position = e.position; import_index = e.import_index; c_is = e.c; d_is = e.d ∙ c.class_of-class.ensures } in
     record {
-      len = length-set c.loop-c.line i c.best_skip.result.value ∙ len;
-      are = line-set (λ x v. SkipIs a.self a.at a.section x v) c.loop-c.line i c.best_skip.result.value (omega (arith, len, few, under, end)) c.loop-c.invariant.are
-          (skip-with a.self a.at a.section i c.with.result c.best_skip.result.value w c.best_skip.ensures.is c.best_skip.ensures.small);
+      len = length-set c.loop-c.line i c.low_skip.result ∙ len;
+      are = line-set (λ x v. SkipIs a.self a.at a.section x v) c.loop-c.line i c.low_skip.result (omega (arith, len, few, under, end)) c.loop-c.invariant.are
+          (skip-with a.self a.at a.section i c.with.result c.low_skip.result w c.low_skip.ensures.is c.low_skip.ensures.small);
     }
 
 pub returns : goal.returns
 returns c = skips-of c.args.self c.args.at c.args.section c.loop-c.line c.requires.base
     (λ x under. c.loop-c.invariant.are x (let end = c.classes-c-end.ensures in let past = c.loop-c-test.false in omega (arith, under, end, past)))
+
+pub low_skip-requires-clause-ends : goal.low_skip-requires-clause-ends
+low_skip-requires-clause-ends c =
+    let a = c.args in
+    let e = c.with.ensures in
+    let w : With a.at c.loop-c.c (class_of a.self.registers.now a.section) c.with.result = record { first = e.first; others = e.others; left = e.left; position = e.position; import_index = e.import_index; c_is = e.c; d_is = e.d ∙ c.class_of-class.ensures } in
+    ends-with a.self a.at c.loop-c.c (class_of a.self.registers.now a.section) c.with.result a.ends.now w c.requires.ends

@@ -1,0 +1,11 @@
+use Rattle.std.proofs.Common.{◌≡◌, ◌++◌, List, ℕ, length}
+use Rattle.std.specs.Prelude.{reverse}
+use Rattle.pef_plan.specs.Kept.Windows.{OlderOf}
+use Rattle.pef_plan.proofs.WindowLemmas.{Aged}
+use Rattle.pef_plan.proofs.window.age_all.Given as goal
+
+abbrev pub decreases-loop-square : goal.decreases-loop-square
+decreases-loop-square l = length l.newer.items
+
+abbrev pub invariant-loop-square : goal.invariant-loop-square
+invariant-loop-square l = Aged l.classes (reverse l.fn.newer.items) l.older.items l.newer.items

@@ -1,0 +1,9 @@
+use Rattle.std.proofs.Common.{◌≡◌, ◌<◌, ℕ, [], length, min}
+use Rattle.pef_plan.specs.Kept.Tables.{number_in}
+use Rattle.pef_plan.proofs.window.lesser.Given as goal
+
+abbrev pub invariant-loop-c : goal.invariant-loop-c
+invariant-loop-c l = record {
+  len : length l.square ≡ 9;
+  are : (c : ℕ) → c < l.c → (d : ℕ) → d < l.classes → number_in l.square c d ≡ min (number_in l.one c d) (number_in l.other c d);
+}

@@ -1,0 +1,285 @@
+ghost use Rattle.std.specs.Prelude.{◌≡◌, ◌+◌, ◌^◌, ◌<◌, ◌≤◌, ◌∷◌, [], ℕ, List, OnOk, length, slice_index};
+ghost use Rattle.pef_cert.specs.Extension.{extension};
+ghost use Rattle.pef_cert.specs.Labels.{Labels};
+ghost use Rattle.pef_plan.specs.Kept.Ends.{Brought, BroughtMaybe, EndsAt, EndsOf, FarAt, NearKept, far_pairs_of, number_of, pairs_of, sections_of, words_of};
+ghost use Rattle.pef_plan.specs.Kept.Rows.{AtOf};
+ghost use Rattle.pef_plan.specs.Kept.Tables.{Agrees};
+ghost use Rattle.pef_plan.specs.Kept.Windows.{WindowOf};
+ghost use Rattle.pef_reloc.specs.declared.fixup.Base.TheVariants.{Section};
+
+use crate::known::{Known, Line, MAX_CLASSES, Square};
+use crate::place::Place;
+use crate::registers::class_of;
+use crate::rows::At;
+use crate::runs::{MAX_RUN, MAX_SKIP_RUN, Run};
+use crate::values::WORD;
+use crate::window::Window;
+use pef_reloc::{Base, Fixup};
+use std::alloc::{AllocError, Global};
+use std::mem;
+
+/// What lies behind the ends of the runs that begin at a fixup: for each kind of run a window, which
+/// follows as the tables are filled from the last fixup back.
+#[derive(Debug, Drop)]
+pub(crate) struct RunEnds {
+    /// Words of a section, or imports.
+    pub(crate) words: Window,
+    /// As many words as a skip adds to.
+    pub(crate) skips: Window,
+    /// Words a word apart.
+    pub(crate) spaced: Window,
+    /// Pairs of two sections.
+    pub(crate) pairs: InTurn,
+    /// Such pairs, a word apart.
+    pub(crate) far_pairs: InTurn,
+    /// What lies right behind the fixup.
+    pub(crate) near: Square,
+    /// What lies a word further on, where register D holds the fixup's section.
+    pub(crate) far: Square,
+}
+
+/// Two windows of runs that go on at each second fixup.
+#[derive(Debug, Drop)]
+pub(crate) struct InTurn {
+    /// The one of the fixup.
+    pub(crate) here: Window,
+    /// The one of the next fixup.
+    pub(crate) next: Window,
+}
+
+impl RunEnds {
+    /// Behind all fixups, where no run begins.
+    pub(crate) fn new(alloc: Global, classes: usize) -> RunEnds
+        requires { classes ≤ 9 }
+        ensures { EndsOf (λ l. Unit {0}) classes [] result }
+    {
+        RunEnds {
+            words: Window::new(alloc, classes, MAX_RUN as usize),
+            skips: Window::new(alloc, classes, MAX_SKIP_RUN as usize),
+            spaced: Window::new(alloc, classes, MAX_RUN as usize),
+            pairs: InTurn::new(alloc, classes),
+            far_pairs: InTurn::new(alloc, classes),
+            near: [[0; MAX_CLASSES]; MAX_CLASSES],
+            far: [[0; MAX_CLASSES]; MAX_CLASSES],
+        }
+    }
+
+    /// Goes on to the fixup before.
+    pub(crate) fn pass(&mut self, known: Known<'_>, at: At<'_>) -> Result<(), AllocError>
+        requires at { AtOf known at }
+        requires ends { EndsAt known at.others.now at.others.now self.old }
+        ensures { OnOk result (EndsAt known.entry at.entry.others.now (at.entry.first ∷ at.entry.others.now) self.new) }
+    {
+        let start = at.start();
+        self.pairs.pass(pairs_at(at), start, &self.near)?;
+        self.far_pairs.pass(far_pairs_at(at), start, &self.far)?;
+        self.near = known.square_behind(at);
+        self.words
+            .bring(words_at(at.first.base), start, &self.near)?;
+        match at.first.base {
+            Base::Section(section) => {
+                self.far = known.square_beyond(at, section);
+                self.skips.bring(Run::WordsOfD(section), start, &self.near)?;
+                self.spaced.bring(Run::Spaced(section), start, &self.far)?;
+                Ok(())
+            }
+            Base::Import(_) => Ok(()),
+        }
+    }
+}
+
+impl InTurn {
+    fn new(alloc: Global, classes: usize) -> InTurn
+        requires { classes ≤ 9 }
+        ensures here { WindowOf classes 512 [] result.here }
+        ensures next { WindowOf classes 512 [] result.next }
+    {
+        InTurn {
+            here: Window::new(alloc, classes, MAX_RUN as usize),
+            next: Window::new(alloc, classes, MAX_RUN as usize),
+        }
+    }
+
+    /// Goes on to the fixup before, where a run may begin.
+    fn pass(
+        &mut self,
+        run: Option<Run>,
+        start: Place<'_>,
+        square: &Square,
+    ) -> Result<(), AllocError>
+        requires here { self.old.here.classes ≤ 9 }
+        requires next { self.old.next.classes ≤ 9 }
+        requires position { start.position ≤ 2 ^ 24 }
+        requires import_index { start.import_index ≤ 65536 }
+        ensures next { OnOk result (self.new.next ≡ self.old.here) }
+        ensures here { OnOk result ((classes limit : ℕ) (squares : List (List (List ℕ))) → WindowOf classes limit squares self.old.next → BroughtMaybe run classes limit start.entry.left.now start.entry.position start.entry.import_index squares square.now self.new.here) }
+    {
+        mem::swap(&mut self.here, &mut self.next);
+        match run {
+            Some(run) => {
+                self.here.bring(run, start, square)?;
+                Ok(())
+            }
+            None => Ok(()),
+        }
+    }
+}
+
+impl Window {
+    /// Goes on to a place where a run may begin, with what lies behind its first unit.
+    fn bring(&mut self, run: Run, start: Place<'_>, square: &Square) -> Result<(), AllocError>
+        requires few { self.old.classes ≤ 9 }
+        requires position { start.position ≤ 2 ^ 24 }
+        requires import_index { start.import_index ≤ 65536 }
+        ensures { OnOk result ((classes limit : ℕ) (squares : List (List (List ℕ))) → WindowOf classes limit squares self.old → Brought run classes limit start.entry.left.now start.entry.position start.entry.import_index squares square.now self.new) }
+    {
+        let next = match run.next(start) {
+            Some(next) => next,
+            None => {
+                self.clear();
+                return Ok(());
+            }
+        };
+        match run.next(next) {
+            Some(_) => {
+                self.add(square)?;
+                Ok(())
+            }
+            None => {
+                self.clear();
+                self.add(square)?;
+                Ok(())
+            }
+        }
+    }
+}
+
+impl<'a> At<'a> {
+    /// Where a run begins at the fixup. Only imports are counted.
+    fn start(self) -> Place<'a>
+        ensures left { result.left.now ≡ self.entry.left.now }
+        ensures position { result.position ≡ self.entry.first.offset }
+        ensures import_index { result.import_index ≡ number_of self.entry.first.base }
+    {
+        Place {
+            left: self.left,
+            position: u64::from(self.first.offset),
+            import_index: import_number(self.first.base),
+            c: 0,
+            d: 0,
+        }
+    }
+}
+
+/// The number of an import. A section has none.
+fn import_number(base: Base) -> u64
+    ensures { result ≡ number_of base }
+{
+    match base {
+        Base::Section(_) => 0,
+        Base::Import(import) => u64::from(import),
+    }
+}
+
+/// The run of words or imports that begins at a base.
+fn words_at(base: Base) -> Run
+    ensures { result ≡ words_of base }
+{
+    match base {
+        Base::Section(section) => Run::WordsOfD(section),
+        Base::Import(_) => Run::Imports,
+    }
+}
+
+/// The run of pairs that may begin at a fixup.
+fn pairs_at(at: At<'_>) -> Option<Run>
+    ensures { result ≡ pairs_of (sections_of at.entry.first.base at.entry.others.now) }
+{
+    let (first, second) = sections_at(at)?;
+    Some(Run::Pairs { first, second })
+}
+
+/// The run of pairs a word apart that may begin at a fixup.
+fn far_pairs_at(at: At<'_>) -> Option<Run>
+    ensures { result ≡ far_pairs_of (sections_of at.entry.first.base at.entry.others.now) }
+{
+    let (first, second) = sections_at(at)?;
+    Some(Run::SpacedPairs { first, second })
+}
+
+/// The sections of a fixup and of the next.
+fn sections_at(at: At<'_>) -> Option<(u32, u32)>
+    ensures { result ≡ sections_of at.entry.first.base at.entry.others.now }
+{
+    match at.first.base {
+        Base::Section(first) => second_section(first, at.others),
+        Base::Import(_) => None,
+    }
+}
+
+fn second_section(first: u32, others: &[Fixup]) -> Option<(u32, u32)>
+    ensures { result ≡ sections_of (Section first) others.now }
+{
+    match others.split_first() {
+        Some((next, _)) => match next.base {
+            Base::Section(second) => Some((first, second)),
+            Base::Import(_) => None,
+        },
+        None => None,
+    }
+}
+
+impl<'a> Known<'a> {
+    /// The extension right behind a fixup.
+    fn square_behind(self, at: At<'a>) -> Square
+        requires { AtOf self at }
+        ensures { (l : Labels) → Agrees l self.entry at.entry.others.now → NearKept l (at.entry.first ∷ at.entry.others.now) result }
+    {
+        let mut square = [[0; MAX_CLASSES]; MAX_CLASSES];
+        for c in 0..self.classes() {
+            square[c] = self.line_behind(at, c);
+        }
+        square
+    }
+
+    /// The same with register C in a class.
+    fn line_behind(self, at: At<'a>, c: usize) -> Line
+        requires at { AtOf self at }
+        requires c { c < length self.registers.now + 1 }
+        ensures { (l : Labels) (d : ℕ) → Agrees l self.entry at.entry.others.now → d < length self.entry.registers.now + 1 → slice_index result d ≡ extension l at.entry.others.now (at.entry.first.offset + 4) c d }
+    {
+        let position = u64::from(at.first.offset) + WORD;
+        let mut line = [0; MAX_CLASSES];
+        for d in 0..self.classes() {
+            line[d] = self.value(at.others, position, c, d) as u32;
+        }
+        line
+    }
+
+    /// The extension a word further on, where register D holds the fixup's section.
+    fn square_beyond(self, at: At<'a>, section: u32) -> Square
+        requires at { AtOf self at }
+        requires base { at.first.base ≡ Section section }
+        ensures { (l : Labels) → Agrees l self.entry at.entry.others.now → FarAt l at.entry.first.offset at.entry.others.now result (Section section) }
+    {
+        let class = class_of(self.registers, section);
+        let mut square = [[0; MAX_CLASSES]; MAX_CLASSES];
+        for c in 0..self.classes() {
+            square[c] = self.line_beyond(at, c, class);
+        }
+        square
+    }
+
+    /// The same with register C in a class, at the class of register D.
+    fn line_beyond(self, at: At<'a>, c: usize, d: usize) -> Line
+        requires at { AtOf self at }
+        requires c { c < length self.registers.now + 1 }
+        requires d { d < length self.registers.now + 1 }
+        ensures { (l : Labels) → Agrees l self.entry at.entry.others.now → slice_index result d ≡ extension l at.entry.others.now (at.entry.first.offset + 8) c d }
+    {
+        let position = u64::from(at.first.offset) + 2 * WORD;
+        let mut line = [0; MAX_CLASSES];
+        line[d] = self.value(at.others, position, c, d) as u32;
+        line
+    }
+}

@@ -1,0 +1,56 @@
+use crate::lists::{S0, S1, planned};
+use crate::search::least_length;
+use pef_reloc::{Base, Fixup};
+use std::alloc::Global;
+use std::test::Fail;
+
+/// The fixups that there can be at 13 offsets with three bases, and one choice more for none.
+const CHOICES: u32 = 40;
+
+const NONE: u32 = CHOICES - 1;
+
+/// The list of a number, whose four digits choose its fixups; none for numbers of no list.
+fn list_of(alloc: Global, number: u32) -> Result<Option<Vec<Fixup>>, Fail> {
+    let mut fixups = Vec::new(alloc);
+    let mut rest = number;
+    let mut ended = false;
+    let mut from = 0;
+    for _ in 0..4 {
+        let choice = rest % CHOICES;
+        rest /= CHOICES;
+        if choice == NONE {
+            ended = true;
+            continue;
+        }
+        let offset = choice / 3;
+        if ended || offset < from {
+            return Ok(None);
+        }
+        let base = match choice % 3 {
+            0 => S0,
+            1 => S1,
+            _ => Base::Import(0),
+        };
+        fixups.push(Fixup { offset, base })?;
+        from = offset + 4;
+    }
+    Ok(Some(fixups))
+}
+
+/// Each list of up to four fixups within 16 bytes, of two sections and one import, against a search of the
+/// machine.
+#[test]
+fn least_of_all_short_lists(rt: HostRuntime) -> Result<(), Fail> {
+    let alloc = rt.alloc();
+    let mut lists = 0u32;
+    for number in 0..CHOICES * CHOICES * CHOICES * CHOICES {
+        if let Some(fixups) = list_of(alloc, number)? {
+            let certificate = planned(&rt, alloc, &fixups)?;
+            let least = u64::from(least_length(alloc, &fixups)?);
+            assert_eq!(rt; certificate.program_length(), least, "{number}");
+            lists = lists.wrapping_add(1);
+        }
+    }
+    assert_eq!(rt; lists, 1471);
+    Ok(())
+}

@@ -1,0 +1,145 @@
+ghost use Rattle.std.specs.Prelude.{◌<◌};
+
+use crate::lists::{S1, planned};
+use crate::reference::{number_at, plain_labels};
+use pef_cert::check;
+use pef_reloc::{Base, Fixup};
+use std::alloc::Global;
+use std::process::Abort;
+use std::test::Fail;
+
+/// How many fixups a random list gets at least.
+const ENOUGH: usize = 120;
+
+/// Run lengths about the limits of the instructions.
+const LENGTHS: [u32; 12] = [1, 1, 2, 3, 5, 17, 62, 63, 64, 511, 512, 513];
+
+/// Gaps about the limits of the moves.
+const GAPS: [u32; 14] = [
+    4, 4, 5, 8, 12, 1016, 1020, 1024, 4096, 4097, 4100, 5112, 5116, 5120,
+];
+
+/// Numbers from a seed, always the same.
+#[derive(Clone, Copy, Debug)]
+struct Random {
+    state: u32,
+}
+
+impl Random {
+    /// A number below a bound.
+    fn below(&mut self, bound: u32) -> u32
+        requires { 0 < bound }
+        ensures { result < bound }
+    {
+        self.state = self
+            .state
+            .wrapping_mul(1_664_525)
+            .wrapping_add(1_013_904_223);
+        self.state / 65_536 % bound
+    }
+
+    fn one_of(&mut self, numbers: &[u32]) -> u32 {
+        let at = self.below(1000) as usize;
+        if numbers.is_empty() {
+            0
+        } else {
+            number_at(numbers, at % numbers.len())
+        }
+    }
+}
+
+/// Fixups in runs of all kinds, broken at the limits of instructions.
+fn random_list(alloc: Global, random: &mut Random) -> Result<Vec<Fixup>, Fail> {
+    let mut fixups = Vec::new(alloc);
+    let mut offset = random.one_of(&GAPS);
+    let sections = 1 + random.below(4);
+    for _ in 0..20 {
+        if fixups.len() >= ENOUGH {
+            return Ok(fixups);
+        }
+        let kind = random.below(5);
+        let first = random.below(sections);
+        let second = random.below(sections);
+        for i in 0..random.one_of(&LENGTHS) {
+            let base = match kind {
+                0 | 1 => Base::Section(first),
+                2 => Base::Import(first.wrapping_add(i)),
+                _ => Base::Section(if i % 2 == 0 { first } else { second }),
+            };
+            fixups.push(Fixup { offset, base })?;
+            let step = match kind {
+                1 => 8,
+                4 => 4 + 4 * (i % 2),
+                _ => 4,
+            };
+            offset = offset.wrapping_add(step);
+        }
+        offset = offset.wrapping_add(random.one_of(&GAPS).saturating_sub(4));
+    }
+    Ok(fixups)
+}
+
+/// Compares all labels of a plan with the plain method's.
+fn compare(rt: &impl Abort, alloc: Global, fixups: &[Fixup]) -> Result<(), Fail> {
+    let certificate = planned(rt, alloc, fixups)?;
+    let labels = plain_labels(alloc, fixups, certificate.registers())?;
+    let mut left = fixups.len();
+    let mut runs = certificate.labels().runs();
+    for _ in 0..certificate.labels().rows() {
+        if let Some(run) = runs.next_run() {
+            for _ in 0..run.rows {
+                let from = left.wrapping_mul(run.labels.len());
+                for place in 0..run.labels.len() {
+                    let label = number_at(&labels, from.wrapping_add(place));
+                    assert_eq!(rt; number_at(run.labels, place), label, "{left} {place}");
+                }
+                left = left.wrapping_sub(1);
+            }
+        }
+    }
+    assert!(rt; left == usize::MAX);
+    Ok(())
+}
+
+#[test]
+fn labels_of_random_lists(rt: HostRuntime) -> Result<(), Fail> {
+    let alloc = rt.alloc();
+    let mut random = Random { state: 2_026 };
+    for _ in 0..300 {
+        let fixups = random_list(alloc, &mut random)?;
+        compare(&rt, alloc, &fixups)?;
+    }
+    Ok(())
+}
+
+/// So many fixups in a row, of two sections in turn, so many bytes apart.
+fn in_a_row(alloc: Global, count: u32, step: u32, other: Base) -> Result<Vec<Fixup>, Fail> {
+    let mut fixups = Vec::new(alloc);
+    for i in 0..count {
+        let base = if i % 2 == 0 { other } else { S1 };
+        fixups.push(Fixup {
+            offset: i.wrapping_mul(step),
+            base,
+        })?;
+    }
+    Ok(fixups)
+}
+
+#[test]
+fn labels_of_long_runs(rt: HostRuntime) -> Result<(), Fail> {
+    let alloc = rt.alloc();
+    let rows = [
+        (16_384, 4, S1, 17),
+        (2_048, 4, Base::Section(0), 2),
+        (1_024, 8, S1, 2),
+    ];
+    for row in rows {
+        let (count, step, other, length) = row;
+        let fixups = in_a_row(alloc, count, step, other)?;
+        let certificate = planned(&rt, alloc, &fixups)?;
+        assert_eq!(rt; certificate.program_length(), length);
+        assert!(rt; check(&fixups, &certificate));
+        compare(&rt, alloc, &fixups)?;
+    }
+    Ok(())
+}

@@ -1,0 +1,305 @@
+//! Labels by the plain method: each end of each run is tried.
+use pef_reloc::{Base, Fixup};
+use std::alloc::Global;
+use std::test::Fail;
+
+/// The labels of fixups, row by row, where none is left to where all are.
+pub fn plain_labels(alloc: Global, fixups: &[Fixup], registers: &[u32]) -> Result<Vec<u32>, Fail> {
+    let classes = registers.len().wrapping_add(1);
+    let mut labels = Vec::new(alloc);
+    let mut skips = Vec::new(alloc);
+    for _ in 0..classes.wrapping_mul(classes) {
+        labels.push(0)?;
+    }
+    for _ in 0..classes {
+        skips.push(0)?;
+    }
+    for left in 0..fixups.len() {
+        let plain = Plain {
+            fixups,
+            registers,
+            classes,
+            labels: &labels,
+            skips: &skips,
+        };
+        let at = fixups.len() - left - 1;
+        let row = plain.row(alloc, at)?;
+        let line = plain.skip_line(alloc, at)?;
+        labels.extend_from_slice(&row)?;
+        skips.extend_from_slice(&line)?;
+    }
+    Ok(labels)
+}
+
+/// A number of a list, 0 past its end.
+pub fn number_at(numbers: &[u32], at: usize) -> u32 {
+    match numbers.get(at) {
+        Some(number) => *number,
+        None => 0,
+    }
+}
+
+/// The place of a section among registers.
+fn place_of(registers: &[u32], section: u32) -> usize {
+    let mut place = 0usize;
+    for register in registers {
+        if *register == section {
+            return place;
+        }
+        place = place.wrapping_add(1);
+    }
+    place
+}
+
+/// 1 where a register's class has to change, else 0.
+fn change(class: usize, other: usize) -> u32 {
+    if class == other { 0 } else { 1 }
+}
+
+/// The labels and least skips so far.
+#[derive(Clone, Copy, Debug)]
+struct Plain<'a> {
+    fixups: &'a [Fixup],
+    registers: &'a [u32],
+    classes: usize,
+    labels: &'a [u32],
+    skips: &'a [u32],
+}
+
+/// A run from a fixup on, and the classes that the registers stay in.
+#[derive(Clone, Copy, Debug)]
+struct Run {
+    first: Base,
+    second: Option<Base>,
+    stride: u64,
+    most: u32,
+    c: usize,
+    d: usize,
+}
+
+impl<'a> Plain<'a> {
+    fn row(self, alloc: Global, at: usize) -> Result<Vec<u32>, Fail> {
+        let mut direct = Vec::new(alloc);
+        let mut row = Vec::new(alloc);
+        for c in 0..self.classes {
+            for d in 0..self.classes {
+                direct.push(self.direct(at, c, d))?;
+            }
+        }
+        for c in 0..self.classes {
+            for d in 0..self.classes {
+                row.push(self.closed(&direct, c, d))?;
+            }
+        }
+        Ok(row)
+    }
+
+    /// The least over all classes, with 1 for each register that changes.
+    fn closed(self, direct: &[u32], c: usize, d: usize) -> u32 {
+        let mut best = u32::MAX;
+        for from_c in 0..self.classes {
+            for from_d in 0..self.classes {
+                let number = number_at(
+                    direct,
+                    from_c.wrapping_mul(self.classes).wrapping_add(from_d),
+                );
+                let changes = change(from_c, c).saturating_add(change(from_d, d));
+                best = best.min(number.saturating_add(changes));
+            }
+        }
+        best
+    }
+
+    fn skip_line(self, alloc: Global, at: usize) -> Result<Vec<u32>, Fail> {
+        let mut line = Vec::new(alloc);
+        for c in 0..self.classes {
+            line.push(self.skip_at(at, c))?;
+        }
+        Ok(line)
+    }
+
+    fn skip_at(self, at: usize, c: usize) -> u32 {
+        match self.base_at(at) {
+            Base::Section(section) => self.best_of(
+                at,
+                Run {
+                    first: Base::Section(section),
+                    second: None,
+                    stride: 4,
+                    most: 63,
+                    c,
+                    d: place_of(self.registers, section),
+                },
+            ),
+            Base::Import(_) => 0,
+        }
+    }
+
+    /// The least that the instructions lead to which add at a fixup.
+    fn direct(self, at: usize, c: usize, d: usize) -> u32 {
+        match self.base_at(at) {
+            Base::Section(section) => self.direct_section(at, section, c, d),
+            Base::Import(import) => self.direct_import(at, import, c, d),
+        }
+    }
+
+    fn direct_section(self, at: usize, section: u32, c: usize, d: usize) -> u32 {
+        let class = place_of(self.registers, section);
+        let one = Run {
+            first: Base::Section(section),
+            second: None,
+            stride: 4,
+            most: 1,
+            c,
+            d,
+        };
+        let mut best = self.best_of(at, one);
+        if class == c || class == d {
+            best = best.min(self.best_of(at, Run { most: 512, ..one }));
+        }
+        if class == d {
+            best = best.min(self.best_of(
+                at,
+                Run {
+                    most: 512,
+                    stride: 8,
+                    ..one
+                },
+            ));
+        }
+        let next = self.base_at(at.wrapping_add(1));
+        if class == c && self.class_at(at.wrapping_add(1)) == Some(d) {
+            for stride in [8, 12] {
+                best = best.min(self.best_of(
+                    at,
+                    Run {
+                        second: Some(next),
+                        most: 512,
+                        stride,
+                        ..one
+                    },
+                ));
+            }
+        }
+        best
+    }
+
+    fn direct_import(self, at: usize, import: u32, c: usize, d: usize) -> u32 {
+        let position = self.offset_at(at).wrapping_add(4);
+        let behind = self.value(at.wrapping_add(1), position, c, d);
+        let one = behind.saturating_add(if import < 512 { 1 } else { 2 });
+        if self.next_import(at) == import {
+            one.min(self.best_of_imports(at, import, c, d))
+        } else {
+            one
+        }
+    }
+
+    /// The best end of a run, each tried.
+    fn best_of(self, at: usize, run: Run) -> u32 {
+        let mut best = u32::MAX;
+        let mut next = at;
+        let mut position = self.offset_at(at);
+        for _ in 0..run.most {
+            if !self.adds(next, position, run.first) {
+                return best;
+            }
+            next = next.wrapping_add(1);
+            if let Some(second) = run.second {
+                if !self.adds(next, position.wrapping_add(4), second) {
+                    return best;
+                }
+                next = next.wrapping_add(1);
+            }
+            position = position.wrapping_add(run.stride);
+            best = best.min(self.value(next, position, run.c, run.d).saturating_add(1));
+        }
+        best
+    }
+
+    fn best_of_imports(self, at: usize, import: u32, c: usize, d: usize) -> u32 {
+        let mut best = u32::MAX;
+        let mut next = at;
+        let mut position = self.offset_at(at);
+        let mut number = import;
+        for _ in 0..512 {
+            if !self.adds(next, position, Base::Import(number)) {
+                return best;
+            }
+            next = next.wrapping_add(1);
+            position = position.wrapping_add(4);
+            number = number.wrapping_add(1);
+            best = best.min(self.value(next, position, c, d).saturating_add(1));
+        }
+        best
+    }
+
+    /// The extension where the fixups from an index on are left.
+    fn value(self, at: usize, position: u64, c: usize, d: usize) -> u32 {
+        if at >= self.fixups.len() {
+            return 0;
+        }
+        let left = self.fixups.len() - at;
+        let place = left.wrapping_mul(self.classes).wrapping_add(c);
+        let label = number_at(
+            self.labels,
+            place.wrapping_mul(self.classes).wrapping_add(d),
+        );
+        let offset = self.offset_at(at);
+        if position == offset {
+            return label;
+        }
+        let ahead = offset.saturating_sub(position);
+        let mut best = label.saturating_add(2);
+        if 1 <= ahead && ahead <= 4096 {
+            best = best.min(label.saturating_add(1));
+        }
+        if let Some(class) = self.class_at(at) {
+            let offer = number_at(self.skips, place).saturating_add(change(class, d));
+            if 4 <= ahead && ahead <= 1020 && ahead % 4 == 0 {
+                best = best.min(offer);
+            }
+            if 1 <= ahead && ahead <= 5116 {
+                best = best.min(offer.saturating_add(1));
+            }
+        }
+        best
+    }
+
+    fn adds(self, at: usize, position: u64, base: Base) -> bool {
+        at < self.fixups.len() && self.offset_at(at) == position && self.base_at(at) == base
+    }
+
+    fn offset_at(self, at: usize) -> u64 {
+        match self.fixups.get(at) {
+            Some(fixup) => u64::from(fixup.offset),
+            None => 0,
+        }
+    }
+
+    fn base_at(self, at: usize) -> Base {
+        match self.fixups.get(at) {
+            Some(fixup) => fixup.base,
+            None => Base::Import(0),
+        }
+    }
+
+    /// The class of a fixup's section.
+    fn class_at(self, at: usize) -> Option<usize> {
+        match self.base_at(at) {
+            Base::Section(section) => Some(place_of(self.registers, section)),
+            Base::Import(_) => None,
+        }
+    }
+
+    /// One more than the last import before a fixup.
+    fn next_import(self, at: usize) -> u32 {
+        let mut index = 0;
+        for fixup in self.fixups.iter().take(at) {
+            if let Base::Import(import) = fixup.base {
+                index = import.wrapping_add(1);
+            }
+        }
+        index
+    }
+}
