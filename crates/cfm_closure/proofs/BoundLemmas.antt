@@ -11,8 +11,8 @@ use Rattle.cfm_closure.specs.declared.versions.Fit.TheVariants.{Fits, TooOld, To
 use Rattle.cfm_closure.specs.Faults.{Refusal, library_missing, implementation_too_old, implementation_too_new}
 use Rattle.cfm_closure.specs.Fragments.{Fragment, fragment_of}
 use Rattle.cfm_closure.specs.Libraries.{absent_or, bound, bound_at, bound_by, bound_to, fit_with, is_weak, library_at}
-use Rattle.cfm_closure.specs.Stores.{Pair, place_of}
-use Rattle.cfm_closure.proofs.PlaceLemmas.{place_of-below}
+use Rattle.cfm_closure.specs.Stores.{Pair, pair_of, place_of}
+use Rattle.cfm_closure.proofs.PlaceLemmas.{place_of-below, place_of-first}
 use Rattle.cfm_closure.proofs.WalkRules.{came}
 
 absent_or-none : (weak : Bool) (r : Refusal) (q : ℕ) → absent_or weak r ≡ Ok (Some q) → ⊥
@@ -50,6 +50,7 @@ pub record StandsFor (pairs : List Pair) (p l q : ℕ) : Type 0 where
   pub read : fragment_of pairs p ≡ Ok fragment
   pub below : l < fragment.loader.header.library_count
   pub inside : q < length pairs
+  pub first : place_of pairs (pair_of pairs q).name ≡ Some q
 
 pub stands_for : (pairs : List Pair) (p l q : ℕ) → bound_to pairs p l ≡ Ok (Some q) → StandsFor pairs p l q
 unfolding bound_to
@@ -64,6 +65,7 @@ stands_for pairs p l q is =
       read = read;
       below = library_of-below f.loader l x there;
       inside = place_of-below pairs x.name q (bound-place pairs f.name x q is);
+      first = place_of-first pairs x.name q (bound-place pairs f.name x q is);
     }
 
 pub library_at-is : (pairs : List Pair) (p l q : ℕ) → library_at pairs p l ≡ Some q → bound_to pairs p l ≡ Ok (Some q)

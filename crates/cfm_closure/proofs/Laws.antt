@@ -12,5 +12,9 @@ pub use Rattle.cfm_closure.proofs.ClosedLemmas.{endless}
 pub use Rattle.cfm_closure.proofs.TargetLemmas.{fragment-sound}
 -- a target that is a place is in an instantiated section of a fragment of the closure
 pub use Rattle.cfm_closure.proofs.TargetLemmas.{target-inside}
--- where all fragments of a store are read, a closure is refused by no fragment's bytes
+-- where a closure is refused by a fragment's bytes, it tells one of the store that isn't read
+pub use Rattle.cfm_closure.proofs.ReadLemmas.{closed-no_container, closed-no_loader}
+-- so where all fragments of a store are read, a closure is refused by no fragment's bytes
 pub use Rattle.cfm_closure.proofs.ReadLemmas.{closed-refused}
+-- a name has the place of a pair of the store, which has that name
+pub use Rattle.cfm_closure.proofs.PlaceLemmas.{place_of-below, place_of-named}

@@ -1,11 +1,11 @@
 -- Where the first pair of a name is, before and after a pair is added.
-use Rattle.std.proofs.Common.{◌≡◌, ℕ, suc, ◌+◌, ◌<◌, ◌≤◌, Bool, true, false, cond, List, [], ◌∷◌, ◌++◌, map, length, Option, None, Some, refl, sym, ap, ap₂, ◌∙◌, Bor, arith}
+use Rattle.std.proofs.Common.{◌≡◌, ℕ, suc, ◌+◌, ◌-◌, ◌<◌, ◌≤◌, Bool, true, false, cond, List, [], ◌∷◌, ◌++◌, map, length, Option, None, Some, refl, sym, ap, ap₂, ◌∙◌, subst, Bor, arith}
 use Rattle.std.specs.Map.{lookup}
 use Rattle.std.specs.Option.{option_or}
 use Rattle.std.specs.Str.{bytes_eq}
 use Rattle.std.specs.Prelude.{IfSome, is_some}
 use Rattle.std.proofs.lemmas.Slice.Eq.{bytes_eq-Decides}
-use Rattle.cfm_closure.specs.Stores.{Pair, place_from, place_of}
+use Rattle.cfm_closure.specs.Stores.{Pair, pair_of, place_from, place_of}
 use Rattle.cfm_closure.specs.Kept.Places.{ArePlaces, NotesPlace}
 
 -- where a test is met, a value
@@ -25,6 +25,32 @@ place_from-inside at (x ∷ pairs) name p is = by (bytes_eq name x.name) is (pla
 pub place_of-below : (pairs : List Pair) (name : List ℕ) (p : ℕ) → place_of pairs name ≡ Some p → p < length pairs
 unfolding place_of
 place_of-below pairs name p is = let r = place_from-inside 0 pairs name p is in omega (arith, r.1)
+
+-- the pair in that place has the name
+place_from-named : (at : ℕ) (pairs : List Pair) (name : List ℕ) (p : ℕ) → place_from at pairs name ≡ Some p → (pair_of pairs (p - at)).name ≡ name
+place_from-named at [] name p is = absurd (cc)
+place_from-named at (x ∷ pairs) name p is = by (bytes_eq name x.name) refl is (place_from-named (at + 1) pairs name p)
+  where
+    by : (here : Bool) → bytes_eq name x.name ≡ here → cond here (Some at) (place_from (at + 1) pairs name) ≡ Some p → (place_from (at + 1) pairs name ≡ Some p → (pair_of pairs (p - (at + 1))).name ≡ name) → (pair_of (x ∷ pairs) (p - at)).name ≡ name
+    by true met is later =
+        let same : at ≡ p = cc in
+        let none : p - at ≡ 0 = omega arith in
+        rw none (sym ((bytes_eq-Decides name x.name).0 met))
+    by false met is later =
+        let low = (place_from-inside (at + 1) pairs name p is).0 in
+        let more : p - at ≡ suc (p - (at + 1)) = omega arith in
+        rw more (later is)
+
+pub place_of-named : (pairs : List Pair) (name : List ℕ) (p : ℕ) → place_of pairs name ≡ Some p → (pair_of pairs p).name ≡ name
+unfolding place_of
+place_of-named pairs name p is =
+    let from : p - 0 ≡ p = omega arith in
+    let P : ℕ → Type 0 = λ n. (pair_of pairs n).name ≡ name in
+    subst P from (place_from-named 0 pairs name p is)
+
+-- .. and is the first with its own
+pub place_of-first : (pairs : List Pair) (name : List ℕ) (p : ℕ) → place_of pairs name ≡ Some p → place_of pairs (pair_of pairs p).name ≡ Some p
+place_of-first pairs name p is = ap (place_of pairs) (place_of-named pairs name p is) ∙ is
 
 pub place_below : (pairs : List Pair) (name : List ℕ) (o : Option ℕ) → place_of pairs name ≡ o → IfSome o (λ p. p < length pairs)
 place_below pairs name None is = tt

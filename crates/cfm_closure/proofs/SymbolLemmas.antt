@@ -1,5 +1,5 @@
 -- Imports that are read in rising order are those of their fragment.
-use Rattle.std.proofs.Common.{◌≡◌, ℕ, List, refl, sym, ◌∙◌, ap}
+use Rattle.std.proofs.Common.{◌≡◌, ℕ, List, sym}
 use Rattle.std.specs.Prelude.{Ok}
 use Rattle.pef_loader.specs.Views.{loaded}
 use Rattle.cfm_closure.specs.declared.symbols.Symbols.{Symbols}

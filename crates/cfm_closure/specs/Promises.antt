@@ -1,5 +1,5 @@
 -- What holds of closures beside their definitions.
-use Rattle.std.specs.Prelude.{◌≡◌, ◌≢◌, ⊤, ℕ, ◌<◌, ◌≤◌, List, [], ◌∷◌, ◌++◌, length, Option, None, Some, Result, Ok, Err, Contains, AllPairs}
+use Rattle.std.specs.Prelude.{◌≡◌, ◌≢◌, ◌⊎◌, ⊤, ℕ, ◌<◌, ◌≤◌, List, [], ◌∷◌, ◌++◌, length, Option, None, Some, Result, Ok, Err, Contains, AllPairs}
 use Rattle.std.specs.Option.{option_map_or}
 use Rattle.pef_loader.specs.Loader.{IsLoader, Loaded}
 use Rattle.cfm_closure.specs.declared.targets.Target.{Target}
@@ -7,7 +7,7 @@ use Rattle.cfm_closure.specs.declared.targets.Target.TheVariants.{Absolute, At}
 use Rattle.cfm_closure.specs.Faults.{Refusal, implementation_too_new, implementation_too_old, init_loop, library_missing, no_container, no_loader, reexport_loop, symbol_missing}
 use Rattle.cfm_closure.specs.Fragments.{Fragment, fragment_of, loader_at}
 use Rattle.cfm_closure.specs.Libraries.{bound_to}
-use Rattle.cfm_closure.specs.Stores.{Pair, pair_of}
+use Rattle.cfm_closure.specs.Stores.{Pair, pair_of, place_of}
 use Rattle.cfm_closure.specs.Targets.{exports_among, follow, symbol_of, target_of}
 
 -- a library entry wasn't refused, and its fragment, where it isn't absent, is in the order
@@ -52,6 +52,15 @@ IsOfBinding (implementation_too_old f l) = ⊤
 IsOfBinding (implementation_too_new f l) = ⊤
 IsOfBinding (reexport_loop f s) = ⊤
 IsOfBinding (init_loop f) = ⊤
+
+-- a refusal is of the bytes of a fragment of the store, which is the root or the first with the name that is
+-- told: no fragment whose bytes are read
+pub record IsOfUnread (pairs : List Pair) (root : ℕ) (name : List ℕ) (refusal : Refusal) : Type 0 where
+  pub position : ℕ
+  pub inside : position < length pairs
+  pub named : (pair_of pairs position).name ≡ name
+  pub found : (position ≡ root) ⊎ (place_of pairs name ≡ Some position)
+  pub refused : fragment_of pairs position ≡ Err refusal
 
 -- a section is an instantiated one of a fragment of an order
 pub record HasSection (pairs : List Pair) (order : List ℕ) (fragment section : ℕ) : Type 0 where

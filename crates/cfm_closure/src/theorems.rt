@@ -1,9 +1,11 @@
 //! Laws of the definitions, for the proofs of other crates. The functions do nothing.
 ghost use Rattle.std.specs.Prelude.{◌≡◌, ◌<◌, ◌↔◌, ℕ, List, None, Ok, Err, Contains, length};
+ghost use Rattle.pef_loader.specs.declared.fault.LoaderFault.{LoaderFault};
+ghost use Rattle.pef_views.specs.declared.fault.ViewFault.{ViewFault};
 ghost use Rattle.cfm_closure.specs.Closures.{Closed, closed_of};
-ghost use Rattle.cfm_closure.specs.Faults.{Refusal};
+ghost use Rattle.cfm_closure.specs.Faults.{Refusal, no_container, no_loader};
 ghost use Rattle.cfm_closure.specs.Fragments.{import_count};
-ghost use Rattle.cfm_closure.specs.Promises.{AllRead, EndsWith, HasTarget, IsComplete, IsOfBinding, target_within};
+ghost use Rattle.cfm_closure.specs.Promises.{AllRead, EndsWith, HasTarget, IsComplete, IsOfBinding, IsOfUnread, target_within};
 ghost use Rattle.cfm_closure.specs.Reexports.{MeetsAgain};
 ghost use Rattle.cfm_closure.specs.Stores.{Pair};
 ghost use Rattle.cfm_closure.specs.Targets.{exports_among, follow, target_of};
@@ -31,6 +33,14 @@ pub fn closures_agree()
 /// More hops than the closure of a fragment has exports are just where an export is met a second time.
 pub fn endless_imports()
     ensures { (pairs : List Pair) (order : List ℕ) (p j : ℕ) → IsComplete pairs order → Contains order p → (follow (exports_among pairs order) pairs p j ≡ None) ↔ MeetsAgain pairs (p, j) }
+{}
+
+/// Where a closure is refused by the bytes of a fragment, the name that is told is that of a fragment of the
+/// store that isn't read: of the root, or of the first with the name. So it is never told of a fragment
+/// whose bytes are read.
+pub fn unread_fragments()
+    ensures container { (pairs : List Pair) (root : ℕ) (name : List ℕ) (fault : ViewFault) → root < length pairs → closed_of pairs root ≡ Err (no_container name fault) → IsOfUnread pairs root name (no_container name fault) }
+    ensures loader { (pairs : List Pair) (root : ℕ) (name : List ℕ) (fault : LoaderFault) → root < length pairs → closed_of pairs root ≡ Err (no_loader name fault) → IsOfUnread pairs root name (no_loader name fault) }
 {}
 
 /// Where all fragments of a store are read, none of its closures is refused by the bytes of a fragment.

@@ -1,7 +1,7 @@
-use crate::runs::{Handed, assert_prints};
 use crate::scripts::{VECTORS, VECTORS_CERTIFIED};
 use pef_tool::FileFault;
 use std::test::Fail;
+use test_bench::runs::{Handed, assert_prints};
 
 const WORDS: [&str; 3] = ["check", "a", "b"];
 
@@ -75,7 +75,7 @@ fn check(rt: HostRuntime) -> Result<(), Fail> {
     ];
     for (script, certificates, printed, status) in rows {
         let handed = Handed::files(&WORDS, script, certificates);
-        let outcome = assert_prints(&rt, rt.alloc(), handed, printed, status)?;
+        let outcome = assert_prints(rt.alloc(), handed, printed, status)?;
         assert_eq!(rt; outcome.papers.calls(), (2, 0));
         assert!(rt; outcome.has(b"a", script) && outcome.has(b"b", certificates));
     }
@@ -104,7 +104,7 @@ fn check_unreadable(rt: HostRuntime) -> Result<(), Fail> {
     ];
     for (words, printed, calls) in missing {
         let handed = Handed::files(&words, b"no line\n", b"");
-        let outcome = assert_prints(&rt, rt.alloc(), handed, printed, 1)?;
+        let outcome = assert_prints(rt.alloc(), handed, printed, 1)?;
         assert_eq!(rt; outcome.papers.calls(), calls);
     }
     let failing: [(u32, FileFault, &[u8]); 4] = [
@@ -120,7 +120,7 @@ fn check_unreadable(rt: HostRuntime) -> Result<(), Fail> {
             fault,
             ..Handed::files(&WORDS, b"no line\n", b"")
         };
-        let outcome = assert_prints(&rt, rt.alloc(), handed, printed, 1)?;
+        let outcome = assert_prints(rt.alloc(), handed, printed, 1)?;
         assert_eq!(rt; outcome.papers.calls(), (u64::from(files_fail_at), 0));
     }
     Ok(())
@@ -135,7 +135,7 @@ fn check_output_fails(rt: HostRuntime) -> Result<(), Fail> {
             out_fails_at: k as u32,
             ..Handed::files(&WORDS, VECTORS, VECTORS_CERTIFIED)
         };
-        assert_prints(&rt, rt.alloc(), handed, &CHECKED[..k - 1], 1)?;
+        assert_prints(rt.alloc(), handed, &CHECKED[..k - 1], 1)?;
     }
     Ok(())
 }

@@ -1,9 +1,9 @@
-use crate::ports::Text;
-use crate::runs::{Handed, assert_prints};
 use crate::scripts::{EXAMPLE, EXAMPLE_CONTAINER, EXAMPLE_LINKED, EXAMPLE_SHOWN};
 use pef_ports::{InputFault, read_input};
 use pef_tool::FileFault;
 use std::test::Fail;
+use test_bench::ports::Text;
+use test_bench::runs::{Handed, assert_prints};
 
 /// An output that takes a byte a call, and fails at call k: k - 1 bytes go out, though it would go on.
 #[test]
@@ -12,14 +12,14 @@ fn output_fails(rt: HostRuntime) -> Result<(), Fail> {
         step: 1,
         ..Handed::input(&["show"], EXAMPLE)
     };
-    assert_prints(&rt, rt.alloc(), show, EXAMPLE_SHOWN, 0)?;
+    assert_prints(rt.alloc(), show, EXAMPLE_SHOWN, 0)?;
     for k in 1..=EXAMPLE_SHOWN.len() {
         let handed = Handed {
             step: 1,
             out_fails_at: k as u32,
             ..show
         };
-        assert_prints(&rt, rt.alloc(), handed, &EXAMPLE_SHOWN[..k - 1], 1)?;
+        assert_prints(rt.alloc(), handed, &EXAMPLE_SHOWN[..k - 1], 1)?;
     }
     let link = Handed {
         step: 1,
@@ -31,7 +31,7 @@ fn output_fails(rt: HostRuntime) -> Result<(), Fail> {
             out_fails_at: k as u32,
             ..link
         };
-        let outcome = assert_prints(&rt, rt.alloc(), handed, &EXAMPLE_LINKED[..k - 1], 1)?;
+        let outcome = assert_prints(rt.alloc(), handed, &EXAMPLE_LINKED[..k - 1], 1)?;
         assert!(rt; outcome.has(b"out", EXAMPLE_CONTAINER));
     }
     Ok(())
@@ -47,7 +47,7 @@ fn input_fails(rt: HostRuntime) -> Result<(), Fail> {
             ..Handed::input(&["show"], EXAMPLE)
         };
         let printed = b"refused 73 InputUnreadable\n";
-        let outcome = assert_prints(&rt, rt.alloc(), handed, printed, 1)?;
+        let outcome = assert_prints(rt.alloc(), handed, printed, 1)?;
         assert_eq!(rt; outcome.left, EXAMPLE.len() - 7 * (k - 1));
     }
     Ok(())
@@ -107,7 +107,7 @@ fn files_fail(rt: HostRuntime) -> Result<(), Fail> {
             fault,
             ..Handed::file(&["link", "a", "out"], EXAMPLE)
         };
-        let outcome = assert_prints(&rt, rt.alloc(), handed, printed, 1)?;
+        let outcome = assert_prints(rt.alloc(), handed, printed, 1)?;
         assert_eq!(rt; outcome.papers.calls(), calls);
         assert!(rt; outcome.has(b"a", EXAMPLE));
         assert_eq!(rt; outcome.papers.bytes(b"out"), None);

@@ -1,10 +1,10 @@
 //! Scripts at all limits at once: 8 sections of 16,384 fixups that don't adjoin, 4,096 libraries, 65,536
 //! imports and 16,383 exports.
 
-use crate::runs::{Handed, run_tool};
 use std::alloc::Global;
 use std::fmt::Write;
 use std::test::Fail;
+use test_bench::runs::{Handed, run_tool};
 
 const SECTIONS: u32 = 8;
 

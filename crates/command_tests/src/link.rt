@@ -1,6 +1,6 @@
-use crate::runs::{Handed, assert_prints};
 use crate::scripts::{EMPTY_CONTAINER, EXAMPLE, EXAMPLE_CONTAINER, EXAMPLE_LINKED, VECTORS};
 use std::test::Fail;
+use test_bench::runs::{Handed, assert_prints};
 
 /// Scripts, what `link` prints of them, and their containers, also over the script itself.
 #[test]
@@ -24,7 +24,7 @@ fn link(rt: HostRuntime) -> Result<(), Fail> {
     ];
     for (script, out, printed, container) in rows {
         let words = ["link", "a", out];
-        let outcome = assert_prints(&rt, rt.alloc(), Handed::file(&words, script), printed, 0)?;
+        let outcome = assert_prints(rt.alloc(), Handed::file(&words, script), printed, 0)?;
         if let Some(container) = container {
             assert!(rt; outcome.has(out.as_bytes(), container));
         }
@@ -52,7 +52,7 @@ fn link_refused(rt: HostRuntime) -> Result<(), Fail> {
     ];
     for (script, text, printed) in rows {
         let words = ["link", script, "out"];
-        let outcome = assert_prints(&rt, rt.alloc(), Handed::file(&words, text), printed, 1)?;
+        let outcome = assert_prints(rt.alloc(), Handed::file(&words, text), printed, 1)?;
         assert_eq!(rt; outcome.papers.calls(), (1, 0));
         assert!(rt; outcome.has(b"a", text));
     }

@@ -1,19 +1,9 @@
-use crate::containers::{RICH, RICH_LISTED, VECTORS_LEAST, VECTORS_LISTED};
-use crate::runs::{Handed, assert_prints, run_tool};
+use crate::listings::{RICH_LISTED, VECTORS_LISTED};
 use crate::scripts::EMPTY_CONTAINER;
 use pef_tool::FileFault;
-use std::alloc::Global;
 use std::test::Fail;
-
-/// A copy of a container, with other bytes from a place on.
-pub fn changed(alloc: Global, container: &[u8], at: usize, other: &[u8]) -> Result<Vec<u8>, Fail> {
-    let (front, rest) = container.split_at(at.min(container.len()));
-    let (_, back) = rest.split_at(other.len().min(rest.len()));
-    let mut bytes = Vec::from_slice(alloc, front)?;
-    bytes.extend_from_slice(other)?;
-    bytes.extend_from_slice(back)?;
-    Ok(bytes)
-}
+use test_bench::containers::{RICH, VECTORS_LEAST, changed};
+use test_bench::runs::{Handed, assert_prints, run_tool};
 
 /// Containers, and what `list` prints of them.
 #[test]
@@ -28,7 +18,7 @@ fn list(rt: HostRuntime) -> Result<(), Fail> {
     ];
     for (container, printed) in rows {
         let handed = Handed::file(&["list", "a"], container);
-        let outcome = assert_prints(&rt, rt.alloc(), handed, printed, 0)?;
+        let outcome = assert_prints(rt.alloc(), handed, printed, 0)?;
         assert_eq!(rt; outcome.papers.calls(), (1, 0));
         assert!(rt; outcome.has(b"a", container));
     }
@@ -112,7 +102,7 @@ fn list_damaged(rt: HostRuntime) -> Result<(), Fail> {
     for (container, at, other, printed) in rows {
         let bytes = changed(rt.alloc(), container, at, other)?;
         let handed = Handed::file(&["list", "a"], bytes.as_slice());
-        assert_prints(&rt, rt.alloc(), handed, printed, 1)?;
+        assert_prints(rt.alloc(), handed, printed, 1)?;
     }
     Ok(())
 }
@@ -137,7 +127,7 @@ fn list_unreadable(rt: HostRuntime) -> Result<(), Fail> {
             fault,
             ..Handed::file(&words, VECTORS_LEAST)
         };
-        let outcome = assert_prints(&rt, rt.alloc(), handed, printed, 1)?;
+        let outcome = assert_prints(rt.alloc(), handed, printed, 1)?;
         assert_eq!(rt; outcome.papers.calls(), (1, 0));
     }
     Ok(())
@@ -152,7 +142,7 @@ fn list_output_fails(rt: HostRuntime) -> Result<(), Fail> {
             out_fails_at: k as u32,
             ..Handed::file(&["list", "a"], VECTORS_LEAST)
         };
-        assert_prints(&rt, rt.alloc(), handed, &VECTORS_LISTED[..k - 1], 1)?;
+        assert_prints(rt.alloc(), handed, &VECTORS_LISTED[..k - 1], 1)?;
     }
     Ok(())
 }

@@ -1,6 +1,6 @@
-use crate::runs::{Handed, assert_prints};
 use crate::scripts::{EXAMPLE, EXAMPLE_SHOWN, VECTORS};
 use std::test::Fail;
+use test_bench::runs::{Handed, assert_prints};
 
 /// Scripts on the input, what `show` prints of them, and its status.
 #[test]
@@ -77,7 +77,7 @@ fn show(rt: HostRuntime) -> Result<(), Fail> {
     ];
     for (script, printed, status) in rows {
         let handed = Handed::input(&["show"], script);
-        let outcome = assert_prints(&rt, rt.alloc(), handed, printed, status)?;
+        let outcome = assert_prints(rt.alloc(), handed, printed, status)?;
         assert_eq!(rt; outcome.left, 0);
         assert_eq!(rt; outcome.papers.calls(), (0, 0));
     }

@@ -1,6 +1,6 @@
-use crate::runs::{Handed, assert_prints};
 use crate::scripts::EXAMPLE;
 use std::test::Fail;
+use test_bench::runs::{Handed, assert_prints};
 
 /// Words that are no command, a request for help among them: the usage, and nothing is read or written.
 #[test]
@@ -36,7 +36,7 @@ fn usage(rt: HostRuntime) -> Result<(), Fail> {
             file: EXAMPLE,
             ..Handed::input(words, EXAMPLE)
         };
-        let outcome = assert_prints(&rt, rt.alloc(), handed, b"usage\n", 2)?;
+        let outcome = assert_prints(rt.alloc(), handed, b"usage\n", 2)?;
         assert_eq!(rt; outcome.left, EXAMPLE.len());
         assert_eq!(rt; outcome.papers.calls(), (0, 0));
     }

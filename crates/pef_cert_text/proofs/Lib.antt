@@ -1,3 +1,4 @@
+pub mod Laws
 mod LinesRead
 mod PartsRead
 mod PrintLemmas
@@ -7,5 +8,6 @@ mod ReadsBack
 mod RoundLemmas
 mod TextLemmas
 mod TextsRead
+mod ValidPrints
 mod WordLemmas
 mod WordsRead

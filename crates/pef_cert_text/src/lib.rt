@@ -17,4 +17,4 @@ mod words;
 pub use fault::CertFault;
 pub use printer::print;
 pub use reader::read;
-pub use theorems::{printed_texts, read_texts};
+pub use theorems::{printed_texts, read_texts, valid_certificates_print};

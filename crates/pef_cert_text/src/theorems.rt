@@ -1,9 +1,11 @@
 //! Laws of the definitions. The functions do nothing.
-ghost use Rattle.std.specs.Prelude.{◌≡◌, ℕ, List, Ok};
+ghost use Rattle.std.specs.Prelude.{◌≡◌, ◌^◌, ◌<◌, ℕ, List, Ok, true};
 ghost use Rattle.std.specs.List.{AllByRecursion};
-ghost use Rattle.pef_cert.specs.Valid.{Certified};
+ghost use Rattle.pef_cert.specs.Valid.{Certified, Valid};
 ghost use Rattle.pef_cert_text.specs.Grammar.{certificates_of};
 ghost use Rattle.pef_cert_text.specs.Printed.{Printable, certificates_text};
+ghost use Rattle.pef_reloc.specs.Fixups.{fixups_fit};
+ghost use Rattle.pef_reloc.specs.declared.fixup.Fixup.{Fixup};
 
 /// What is printed of certificates is read as these.
 #[tactic(auto, using(crate::proofs::ReadsBack::reads_back))]
@@ -17,4 +19,10 @@ pub fn printed_texts()
 pub fn read_texts()
     ensures printable { (text : List ℕ) (certificates : List Certified) → certificates_of text ≡ Ok certificates → AllByRecursion Printable certificates }
     ensures text { (text : List ℕ) (certificates : List Certified) → certificates_of text ≡ Ok certificates → text ≡ certificates_text certificates }
+{}
+
+/// A certificate that is valid for fixups that fit can be printed, where its section is a number of 32 bits.
+#[tactic(auto, using(crate::proofs::ValidPrints::valid_prints))]
+pub fn valid_certificates_print()
+    ensures { (fixups : List Fixup) (c : Certified) → fixups_fit fixups ≡ true → Valid fixups c → c.section < 2 ^ 32 → Printable c }
 {}

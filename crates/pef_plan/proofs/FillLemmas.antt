@@ -276,6 +276,24 @@ tabled-next rs labels skips k a row line index t m here numbers = record {
   );
 }
 
+-- the index of the next import behind one more fixup
+pub index-next : (fixups : List Fixup) (at : ℕ) (f : Fixup) (n index : ℕ) → at < length fixups → index ≡ index_after (take at fixups) 0 → n ≡ index_past (slice_index_or fixups at f).base index → n ≡ index_after (take (at + 1) fixups) 0
+index-next fixups at f n index under is next = next ∙ (ap (λ m. index_past (slice_index_or fixups at f).base m) is ∙ sym (index_behind fixups at f under))
+
+-- the indices of the next import at one more fixup
+pub indices-more : (P : ℕ → ℕ → Type 0) (indices : List ℕ) (at index : ℕ) → length indices ≡ at → ((i : ℕ) → i < at → P i (slice_index indices i)) → P at index → (i : ℕ) → i < at + 1 → P i (slice_index (indices ++ index ∷ []) i)
+indices-more P indices at index count are is i under =
+    elim (eqb_tells i at) [
+      | inl same ↦
+          (let there : i ≡ length indices = same.1 ∙ sym count in
+          subst (λ (j : ℕ). P j (slice_index (indices ++ index ∷ []) j)) (sym there)
+          (subst (λ (v : ℕ). P (length indices) v) (sym (get_or-append_seam indices index [] 0))
+          (subst (λ (j : ℕ). P j index) (sym count) is)))
+      | inr other ↦
+          (let apart = other.1 in
+          subst (λ (v : ℕ). P i v) (sym (get_or-append indices (index ∷ []) 0 i (omega (arith, under, apart, count)))) (are i (omega (arith, under, apart))))
+    ]
+
 -- the state at the fixup of an index
 pub record StateAt (fixups : List Fixup) (at : ℕ) (a : At) : Type 0 where
   pub left : a.left.now ≡ drop at fixups

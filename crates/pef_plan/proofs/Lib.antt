@@ -15,3 +15,4 @@ mod RunFacts
 mod RunTests
 mod SkipFacts
 mod StepFacts
+mod WordByWord

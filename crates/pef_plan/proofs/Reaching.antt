@@ -5,9 +5,8 @@ use Rattle.pef_reloc.specs.declared.instr.Instr.{Instr}
 use Rattle.pef_reloc.specs.Deliveries.{MakesFrom, StandsBehind}
 use Rattle.pef_reloc.specs.Fixups.{fixups_fit}
 use Rattle.pef_reloc.specs.Instrs.{program_length}
-use Rattle.pef_reloc.specs.Plain.{plain_program}
 use Rattle.pef_reloc.specs.Steps.{Least, State, is_flat, next_state}
-use Rattle.pef_reloc.proofs.Laws.{each_fits, flat_more, makes_more, plain-flat, plain-makes, plain-short, some_length}
+use Rattle.pef_reloc.proofs.Laws.{each_fits, flat_more, makes_more, some_length}
 use Rattle.pef_cert.specs.Labels.{Labels, class_of}
 use Rattle.pef_cert.specs.Extension.{extension_at}
 use Rattle.pef_cert.specs.Feasible.{Feasible}
@@ -16,6 +15,7 @@ use Rattle.pef_cert.proofs.Laws.{extension-here, none_shorter, whole_world}
 use Rattle.pef_plan.specs.Exact.{Exact, LeastFrom}
 use Rattle.pef_plan.specs.Reached.{ReachedFrom}
 use Rattle.pef_plan.proofs.Leading.{Planned, leads, planned-behind, planned_left}
+use Rattle.pef_plan.proofs.WordByWord.{word_by_word, word_by_word-flat, word_by_word-makes, word_by_word-short}
 
 -- a flat list that makes some fixups from a state, within a number of halfwords
 record Within (s : State) (fixups : List Fixup) (n : ℕ) : Type 0 where
@@ -78,9 +78,9 @@ reached-exact l fixups fit registers feasible reached = record {
       subst (λ (n : ℕ). LeastFrom s (f ∷ rest) n) (extension-here l f rest s.position (class_of l.registers s.c) (class_of l.registers s.d) here.position) least;
 }
 
--- a least program is no longer than the plain one
+-- a least program is no longer than the one that adds word by word
 pub least-short : (fixups : List Fixup) (instrs : List Instr) → fixups_fit fixups ≡ true → Least fixups instrs → program_length instrs ≤ 4 * length fixups
 least-short fixups instrs fit least =
-    let low = least.shortest (plain_program fixups) (plain-flat fixups fit) (plain-makes fixups) in
-    let short = plain-short fixups in
+    let low = least.shortest (word_by_word fixups) (word_by_word-flat fixups fit) (word_by_word-makes fixups) in
+    let short = word_by_word-short fixups in
     omega (arith, low, short)

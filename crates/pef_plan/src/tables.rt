@@ -1,7 +1,7 @@
-ghost use Rattle.std.specs.Prelude.{◌≡◌, ◌+◌, ◌<◌, ◌≤◌, ◌∷◌, IfOk, drop, length, take, true};
+ghost use Rattle.std.specs.Prelude.{◌≡◌, ◌+◌, ◌<◌, ◌∷◌, IfOk, drop, length, take, true};
 ghost use Rattle.pef_cert.specs.Valid.{RegistersOf};
-ghost use Rattle.pef_plan.specs.Kept.Tables.{Tabled};
-ghost use Rattle.pef_reloc.specs.Deliveries.{index_after};
+ghost use Rattle.pef_plan.specs.Kept.Tables.{IndicesOf, Tabled};
+ghost use Rattle.pef_reloc.specs.Deliveries.{index_after, index_past};
 ghost use Rattle.pef_reloc.specs.Fixups.{fixups_fit};
 
 use crate::known::{Known, Line, MAX_CLASSES, Square};
@@ -22,6 +22,7 @@ pub(crate) fn fill(alloc: Global, fixups: &[Fixup], registers: &[u32]) -> Result
     requires registers { RegistersOf fixups.now registers.now }
     ensures { IfOk result (λ t. Tabled registers.now t.labels.items t.skips.items 0 fixups.now) }
 {
+    let indices = import_indices(alloc, fixups)?;
     let mut labels = Vec::new(alloc);
     let mut skips = Vec::new(alloc);
     labels.push([[0; MAX_CLASSES]; MAX_CLASSES])?;
@@ -29,7 +30,7 @@ pub(crate) fn fill(alloc: Global, fixups: &[Fixup], registers: &[u32]) -> Result
     let mut at = fixups.len();
     'fixups: while at > 0 {
         at -= 1;
-        let state = state_at(fixups, at);
+        let state = state_at(fixups, at, indices[at]);
         let known = Known {
             registers,
             labels: &labels,
@@ -43,9 +44,10 @@ pub(crate) fn fill(alloc: Global, fixups: &[Fixup], registers: &[u32]) -> Result
     Ok(Tables { labels, skips })
 }
 
-/// The state at the fixup of an index.
-fn state_at(fixups: &[Fixup], at: usize) -> At<'_>
-    requires { at < length fixups.now }
+/// The state at the fixup of an index, with the index of the next import.
+fn state_at(fixups: &[Fixup], at: usize, import_index: u64) -> At<'_>
+    requires at { at < length fixups.now }
+    requires import_index { import_index ≡ index_after (take at fixups.now) 0 }
     ensures left { result.left.now ≡ drop at fixups.now }
     ensures parts { drop at fixups.now ≡ result.first ∷ result.others.now }
     ensures others { result.others.now ≡ drop (at + 1) fixups.now }
@@ -57,22 +59,29 @@ fn state_at(fixups: &[Fixup], at: usize) -> At<'_>
         left,
         first: fixups[at],
         others,
-        import_index: import_before(fixups, at),
+        import_index,
     }
 }
 
-/// The index of the next import at an index: one more than that of the last import before it.
-fn import_before(fixups: &[Fixup], at: usize) -> u64
-    requires { at ≤ length fixups.now }
-    ensures { result ≡ index_after (take at fixups.now) 0 }
+/// The index of the next import at each fixup: one more than that of the last import before it.
+fn import_indices(alloc: Global, fixups: &[Fixup]) -> Result<Vec<u64>, AllocError>
+    ensures { IfOk result (λ indices. IndicesOf fixups.now indices.items) }
 {
-    let mut i = at;
-    while i > 0 {
-        i -= 1;
-        match fixups[i].base {
-            Base::Import(import) => return u64::from(import) + 1,
-            Base::Section(_) => {}
-        }
+    let mut indices = Vec::new(alloc);
+    let mut index = 0;
+    for at in 0..fixups.len() {
+        indices.push(index)?;
+        index = index_behind(fixups[at].base, index);
     }
-    0
+    Ok(indices)
+}
+
+/// The index of the next import behind a base.
+fn index_behind(base: Base, index: u64) -> u64
+    ensures { result ≡ index_past base index }
+{
+    match base {
+        Base::Import(import) => u64::from(import) + 1,
+        Base::Section(_) => index,
+    }
 }

@@ -1,5 +1,5 @@
 -- A container that was linked of a script, placed, filled and relocated with any addresses of its imports' targets,
--- has the memory that the script describes under these; and only room or memory can be wanting.
+-- has the memory that the script describes under these; and nothing of it is refused.
 use Rattle.std.proofs.Common.{◌≡◌, ℕ, suc, ◌+◌, ◌<◌, ◌≤◌, ◌==◌, true, false, List, [], ◌∷◌, None, Some, get_or, length, map, option_map, inl, inr, refl, sym, ap, ap₂, subst, ◌∙◌, arith}
 use Rattle.std.specs.List.{slice_get}
 use Rattle.std.specs.Option.{option_and_then, option_map_or}
@@ -8,15 +8,12 @@ use Rattle.std.specs.Result.{result_err, result_unwrap_or}
 use Rattle.std.proofs.lemmas.Bool.Decides.{eqb_tells}
 use Rattle.std.proofs.lemmas.List.{length-map, take_all}
 use Rattle.std.proofs.lemmas.Option.{slice_get-get_or}
-use Rattle.cfm_memory.specs.Extents.{ArePlaced, MayNotPlace}
+use Rattle.cfm_memory.specs.Extents.{ArePlaced}
 use Rattle.cfm_memory.specs.Instances.{Layout}
-use Rattle.cfm_memory.specs.declared.place.MemoryFault.{MemoryFault}
 use Rattle.cfm_memory.specs.declared.place.Place.{Place}
 use Rattle.cfm_memory.proofs.Laws.{length-placed}
 use Rattle.cfm_fragment.specs.Images.{extent_at, extent_in, extents_from, extents_of, filled_at, filled_in, first_image_refusal, image_of, image_refusal}
-use Rattle.cfm_fragment.specs.Prepared.{IsPrepared, MayNotPrepare, addresses_at, first_reloc_refusal, prepared_at}
-use Rattle.cfm_fragment.specs.declared.fault.PrepareFault.{PrepareFault}
-use Rattle.cfm_fragment.specs.declared.fault.PrepareFault.TheVariants.{Memory, Pack, Reloc}
+use Rattle.cfm_fragment.specs.Prepared.{addresses_at, first_reloc_refusal, prepared_at}
 use Rattle.pef_loader.specs.Loader.{Loaded, reloc_of}
 use Rattle.pef_reloc.specs.declared.instr.Instr.{Instr}
 use Rattle.pef_reloc.specs.Additions.{AreInside}
@@ -38,7 +35,7 @@ use Rattle.pef_write.specs.Containers.{part_header}
 use Rattle.pef_write.specs.Linked.{IsLinked, IsProgramFor, LinkedContainer, part_of, programs_from}
 use Rattle.pef_write.specs.ReadBack.{program_read}
 use Rattle.pef_write.proofs.Laws.{section_programs}
-use Rattle.pef_tool.specs.Described.{IsDescribed, described_extent, described_extents}
+use Rattle.pef_tool.specs.Now.{described_extent, described_extents}
 use Rattle.pef_tool.proofs.LinkedLemmas.{IsContainerOf}
 use Rattle.pef_tool.proofs.ProgramLemmas.{Owns, fixups_inside, owns_program, section_made}
 
@@ -161,35 +158,3 @@ module _ (script : DescribedScript) (k : LinkedContainer) (linked : IsLinked scr
     sections = length-map places (λ (p : Place). p.address) ∙ length-placed before (extents_of c) places empty placed ∙ length-extents;
     imports = count;
   }
-
-  -- what was prepared is what the script describes
-  pub described : (before after : Layout) (imports : List ℕ) (places : List Place) → length imports ≡ length script.imports → IsPrepared before c l imports places after → IsDescribed before script imports places after
-  described before after imports places count is =
-      let sizes = length-placed before (extents_of c) places is.empty is.placed ∙ length-extents in
-      record {
-        empty = is.empty;
-        placed = subst (λ es. ArePlaced before es places is.empty) extents_are is.placed;
-        others = is.others;
-        stand = λ i under. is.stand i under ∙ ap Some (prepared_is (addresses_at places imports) (addresses_are before is.empty imports places count is.placed) i (omega (arith, under, sizes)));
-      }
-
-  -- for want of room or memory alone it isn't prepared
-  pub record LacksRoom (before : Layout) (fault : PrepareFault) : Type 0 where
-    pub lack : MemoryFault
-    pub is : fault ≡ Memory lack
-    pub lacks : MayNotPlace lack before (described_extents script)
-
-  pub lacks_room : (before : Layout) (imports : List ℕ) (fault : PrepareFault) → length imports ≡ length script.imports → MayNotPrepare before c l imports fault → LacksRoom before fault
-  lacks_room before imports (Memory lack) count refused = record {
-    lack = lack;
-    is = refl;
-    lacks = subst (λ es. MayNotPlace lack before es) extents_are refused;
-  }
-  lacks_room before imports (Pack fault) count refused =
-      let none = images_sound in
-      let first = refused.first in
-      absurd (cc)
-  lacks_room before imports (Reloc fault) count refused =
-      let none = headers_sound (addresses_at refused.places imports) (addresses_are before refused.empty imports refused.places count refused.placed) in
-      let first = refused.first in
-      absurd (cc)

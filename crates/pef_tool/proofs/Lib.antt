@@ -1,4 +1,4 @@
-mod AddressLemmas
+mod AloneLemmas
 mod CheckLemmas
 mod DescribedLemmas
 mod LinkLemmas
@@ -7,8 +7,6 @@ mod LoadLemmas
 mod LoadedLemmas
 mod NowLemmas
 mod OutcomeLemmas
-mod PreparedLemmas
 mod ProgramLemmas
-mod RefusalLemmas
 mod RefusedLemmas
-mod ShowingLemmas
+mod ShowLemmas

@@ -34,22 +34,22 @@ length-from pairs all p j (suc n) = ap suc (length-from pairs all p (j + 1) n)
 
 module _ (script : DescribedScript) (k : LinkedContainer) (linked : IsLinked script k) (pairs : List Pair) (p : ℕ) (holds : (pair_of pairs p).bytes ≡ k.bytes) where
   -- it is read as the script's container
-  own : FragmentLinked script k linked pairs p
+  pub own : FragmentLinked script k linked pairs p
   own = fragment_linked script k linked pairs p holds
 
-  abbrev whole : Fragment
+  abbrev pub whole : Fragment
   whole = read_fragment script k linked pairs p
 
   container-is : container_at pairs p ≡ Some whole.container
   container-is = ap (λ r. option_map (λ (f : Fragment). f.container) (result_ok r)) own.read
 
-  loader-is : loader_at pairs p ≡ Some whole.loader
+  pub loader-is : loader_at pairs p ≡ Some whole.loader
   loader-is = ap (λ r. option_map (λ (f : Fragment). f.loader) (result_ok r)) own.read
 
   count-is : import_count pairs p ≡ length script.imports
   count-is = ap (λ o. option_map_or (λ (l : Loaded). l.header.import_count) o 0) loader-is ∙ own.of.tables.import_count
 
-  extents-in : extents_in pairs p ≡ extents_of whole.container
+  pub extents-in : extents_in pairs p ≡ extents_of whole.container
   extents-in = ap (λ o. option_map_or extents_of o []) container-is
 
   prepared-in : (a : Addresses) (i : ℕ) → prepared_in pairs a p i ≡ prepared_at whole.container whole.loader a i
@@ -63,22 +63,28 @@ module _ (script : DescribedScript) (k : LinkedContainer) (linked : IsLinked scr
       addresses_are script k linked whole.container whole.loader own.of before empty (imports_from pairs all p 0 (import_count pairs p)) places (length-from pairs all p 0 (import_count pairs p) ∙ count-is)
       (subst (λ es. ArePlaced before es places empty) extents-in placed)
 
-  described-now : (s : State) → IsPreparedNow pairs s p → IsDescribedNow pairs s script p
-  described-now s now =
+  -- so it is described, in the memory that it was placed in
+  pub described-from : (s : State) (now : IsPreparedNow pairs s p) → (d : IsDescribedNow pairs s script p) × (d.before ≡ now.before)
+  described-from s now =
       let places = places_of s.present p in
       let imports = imports_from pairs s.present p 0 (import_count pairs p) in
       let here : ArePlaced now.before (extents_of whole.container) places now.empty = subst (λ es. ArePlaced now.before es places now.empty) extents-in now.placed in
       let sizes = length-placed now.before (extents_of whole.container) places now.empty here ∙ length-extents script k linked whole.container whole.loader own.of in
-      let are = addressed s.present now.before now.empty places now.placed in
-      record {
-        before = now.before;
-        empty = now.empty;
-        placed = subst (λ es. ArePlaced now.before es places now.empty) (extents_are script k linked whole.container whole.loader own.of) here;
-        stand = λ i under.
-            now.stand i under
-            ∙ ap Some (prepared-in (addresses_at places imports) i ∙ prepared_is script k linked whole.container whole.loader own.of (addresses_at places imports) are i (omega (arith, under, sizes))
-            ∙ ap (λ n. described_at (address_of (addresses_at places (imports_from pairs s.present p 0 n))) script i) count-is);
-      }
+      let are = addressed s.present now.before now.empty places now.placed in (
+        record {
+          before = now.before;
+          empty = now.empty;
+          placed = subst (λ es. ArePlaced now.before es places now.empty) (extents_are script k linked whole.container whole.loader own.of) here;
+          stand = λ i under.
+              now.stand i under
+              ∙ ap Some (prepared-in (addresses_at places imports) i ∙ prepared_is script k linked whole.container whole.loader own.of (addresses_at places imports) are i (omega (arith, under, sizes))
+              ∙ ap (λ n. described_at (address_of (addresses_at places (imports_from pairs s.present p 0 n))) script i) count-is);
+        },
+        refl,
+      )
+
+  described-now : (s : State) → IsPreparedNow pairs s p → IsDescribedNow pairs s script p
+  described-now s now = (described-from s now).0
 
 pub present-described : (script : DescribedScript) (k : LinkedContainer) (pairs : List Pair) (limit : ℕ) (steps : List Step) (s : State) (p : ℕ) → IsLinked script k → (pair_of pairs p).bytes ≡ k.bytes → Runs (fresh_state pairs limit) steps s → is_present s.present p ≡ true
     → IsDescribedNow pairs s script p

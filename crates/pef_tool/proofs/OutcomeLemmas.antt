@@ -12,23 +12,24 @@ use Rattle.pef_script.specs.Script.{DescribedScript}
 use Rattle.pef_script.specs.Views.{Fails}
 use Rattle.pef_script.specs.declared.fault.ScriptFault.{ScriptFault}
 use Rattle.pef_script.specs.declared.fault.ScriptFault.TheVariants as script_fault
-use Rattle.pef_tool.specs.Answers.{answer_refused}
+use Rattle.pef_answers.specs.Answers.{answer_refused}
 use Rattle.pef_tool.specs.Check as check
-use Rattle.pef_tool.specs.Kept.Showing.{ScriptEnds, input_refusal, script_refusal}
+use Rattle.pef_answers.specs.Kept.Faults.{input_refusal, script_refusal}
+use Rattle.pef_tool.specs.Kept.Showing.{ScriptEnds}
 use Rattle.pef_tool.specs.Limits.{input_limit}
 use Rattle.pef_tool.specs.Link as link
 use Rattle.pef_tool.specs.List as list
 use Rattle.pef_tool.specs.Load as load
-use Rattle.pef_tool.specs.Refusals.{refusal_text}
+use Rattle.pef_answers.specs.Refusals.{refusal_text}
 use Rattle.pef_tool.specs.Run.{RunAnswers}
 use Rattle.pef_tool.specs.Show.{ShowEnds, ShowOutcome, refuses, shows, unbound}
-use Rattle.pef_tool.specs.declared.refusal.Refusal.{Refusal}
-use Rattle.pef_tool.specs.declared.refusal.Refusal.TheVariants as refusal
+use Rattle.pef_answers.specs.declared.refusal.Refusal.{Refusal}
+use Rattle.pef_answers.specs.declared.refusal.Refusal.TheVariants as refusal
 
 -- `show` ends as its script does
 pub ends_with : (before after : Stream) (read : Vec ℕ Global) (text : List ℕ) (script : DescribedScript) (o : ShowOutcome)
     → ReadsInput (Ok read) before after input_limit → text ≡ read.items → script_of text ≡ Ok script → ScriptEnds script o → ShowEnds before after o
-ends_with before after read text script (shows p) reads same is ends = record {
+ends_with before after read text script (shows s number) reads same is ends = record {
   text = read.items;
   input = record { whole = reads.0; short = reads.2; sound = reads.3 };
   script = script;

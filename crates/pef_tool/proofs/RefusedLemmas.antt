@@ -1,12 +1,21 @@
 -- Where new fragments are refused for an image or a relocation header, it is one with bytes that weren't linked.
-use Rattle.std.proofs.Common.{◌≡◌, ℕ, suc, List, [], ◌∷◌, ◌++◌, Option, None, Some, refl, sym, ap, subst, arith}
+use Rattle.std.proofs.Common.{◌≡◌, ℕ, suc, List, [], ◌∷◌, ◌++◌, Option, None, Some, Ok, ◌⊎◌, inl, inr, refl, sym, ap, subst, ◌∙◌, arith}
 use Rattle.std.specs.Option.{option_or}
-use Rattle.cfm_closure.specs.Stores.{Pair, pair_of}
+use Rattle.cfm_closure.specs.Closures.{Closed, closed_of}
+use Rattle.cfm_closure.specs.Faults.{Fails}
+use Rattle.cfm_closure.specs.Faults as binds
+use Rattle.cfm_closure.specs.Stores.{Pair, pair_of, place_of}
+use Rattle.cfm_closure.specs.declared.fault.BindFault.{BindFault}
+use Rattle.cfm_closure.specs.declared.fault.BindFault.TheVariants as bind
 use Rattle.cfm_memory.specs.Instances.{Layout}
 use Rattle.cfm_prepare.specs.Addresses.{addresses_of, first_bad_program}
 use Rattle.cfm_prepare.specs.Fragments.{Present, first_bad_image, image_refusal_in, named, positions, reloc_refusal_in}
-use Rattle.cfm_prepare.specs.Placing.{AllPlaced}
-use Rattle.cfm_prepare.specs.Steps.{HasBadImage, HasBadProgram}
+use Rattle.cfm_prepare.specs.Contexts.{State}
+use Rattle.cfm_prepare.specs.Faults.{fault_number}
+use Rattle.cfm_prepare.specs.Placing.{AllPlaced, LacksRoom}
+use Rattle.cfm_prepare.specs.Steps.{HasBadImage, HasBadProgram, HasClosure, HasRoot, MayNotPrepare, new_of}
+use Rattle.cfm_prepare.specs.declared.fault.PrepareFault.{PrepareFault}
+use Rattle.cfm_prepare.specs.declared.fault.PrepareFault.TheVariants as fault
 use Rattle.pef_pidata.specs.declared.fault.PackFault.{PackFault}
 use Rattle.pef_reloc.specs.declared.fault.RelocFault.{RelocFault}
 use Rattle.pef_tool.specs.Now.{HasUnlinked}
@@ -58,3 +67,48 @@ refused-image pairs m new name k bad = subst (λ ps. HasUnlinked pairs ps name) 
 pub refused-program : (pairs : List Pair) (there : List Present) (m : Layout) (new : List ℕ) (name : List ℕ) (k : RelocFault) → HasBadProgram pairs there m new name k → HasUnlinked pairs new name
 refused-program pairs there m new name k bad =
     subst (λ ps. HasUnlinked pairs ps name) bad.are.are (bad-program pairs (there ++ bad.fresh) m bad.are.empty bad.fresh name k bad.are.placed bad.first)
+
+-- a fragment has one closure
+same-closed : (s : State) (name : List ℕ) (a b : HasClosure s name) → a.closed ≡ b.closed
+same-closed s name a b =
+    let here : place_of s.pairs name ≡ Some a.has.root = a.has.is in
+    let there : place_of s.pairs name ≡ Some b.has.root = b.has.is in
+    let roots : a.has.root ≡ b.has.root = cc in
+    let one : closed_of s.pairs a.has.root ≡ Ok a.closed = a.is in
+    let other : closed_of s.pairs a.has.root ≡ Ok b.closed = ap (closed_of s.pairs) roots ∙ b.is in
+    cc
+
+-- where a fragment has a closure, it isn't refused for having none
+bound : (s : State) (name : List ℕ) (closure : HasClosure s name) (f : BindFault) (has : HasRoot s name) → Fails f (closed_of s.pairs has.root) → binds.fault_number f ≡ 99
+bound s name closure f has fails = by f (subst (Fails f) (ap (closed_of s.pairs) roots ∙ closure.is) fails)
+  where
+    roots : has.root ≡ closure.has.root
+    roots =
+        let here : place_of s.pairs name ≡ Some has.root = has.is in
+        let there : place_of s.pairs name ≡ Some closure.has.root = closure.has.is in
+        cc
+
+    by : (f : BindFault) → Fails f (Ok closure.closed) → binds.fault_number f ≡ 99
+    by (bind.Container f v) e = absurd (cc)
+    by (bind.Loader f v) e = absurd (cc)
+    by (bind.LibraryMissing f l) e = absurd (cc)
+    by (bind.SymbolMissing f l y) e = absurd (cc)
+    by (bind.ImplementationTooOld f l) e = absurd (cc)
+    by (bind.ImplementationTooNew f l) e = absurd (cc)
+    by (bind.ReexportLoop f y) e = absurd (cc)
+    by (bind.InitLoop f) e = absurd (cc)
+    by bind.OutOfMemory e = refl
+
+-- where its libraries resolve and its sections find room, a fragment is refused for want of memory, or for a new
+-- fragment of its closure that wasn't linked
+pub refused-bound : (s : State) (name : List ℕ) (closure : HasClosure s name) (f : PrepareFault) → ((other : List ℕ) → LacksRoom s.pairs s.memory (new_of s closure.closed) other → ⊥) → MayNotPrepare s name f
+    → (fault_number f ≡ 99) ⊎ ((other : List ℕ) × HasUnlinked s.pairs (new_of s closure.closed) other)
+refused-bound s name closure fault.TooManyConnections rooms why = absurd (omega (arith, why, closure.has.left))
+refused-bound s name closure fault.RootMissing rooms why = let there : place_of s.pairs name ≡ Some closure.has.root = closure.has.is in let none : place_of s.pairs name ≡ None = why.1 in absurd (cc)
+refused-bound s name closure (fault.Bind f) rooms why = inl (bound s name closure f why.0 why.1)
+refused-bound s name closure (fault.NoRoom f) rooms why = absurd (rooms f.now (subst (λ (c : Closed). LacksRoom s.pairs s.memory (new_of s c) f.now) (same-closed s name why.closure closure) why.why))
+refused-bound s name closure (fault.Pack f k) rooms why =
+    inr (f.now, subst (λ (c : Closed). HasUnlinked s.pairs (new_of s c) f.now) (same-closed s name why.closure closure) (refused-image s.pairs s.memory (new_of s why.closure.closed) f.now k why.why))
+refused-bound s name closure (fault.Reloc f k) rooms why =
+    inr (f.now, subst (λ (c : Closed). HasUnlinked s.pairs (new_of s c) f.now) (same-closed s name why.closure closure) (refused-program s.pairs s.present s.memory (new_of s why.closure.closed) f.now k why.why))
+refused-bound s name closure fault.OutOfMemory rooms why = inl refl

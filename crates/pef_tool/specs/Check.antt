@@ -10,12 +10,12 @@ use Rattle.pef_reloc.specs.Instrs.{program_length}
 use Rattle.pef_reloc.specs.declared.fixup.Fixup.{Fixup}
 use Rattle.pef_script.specs.Grammar.{script_of}
 use Rattle.pef_script.specs.Script.{DescribedScript, DescribedSection}
-use Rattle.pef_tool.specs.Answers.{Answer, answer_refused}
-use Rattle.pef_tool.specs.Refusals.{refusal_text, unreadable_text}
+use Rattle.pef_answers.specs.Answers.{Answer, answer_refused}
+use Rattle.pef_answers.specs.Refusals.{refusal_text, unreadable_text}
 use Rattle.pef_tool.specs.declared.check.Verdict.{Verdict}
 use Rattle.pef_tool.specs.declared.check.Verdict.TheVariants.{Yes, No}
-use Rattle.pef_tool.specs.declared.refusal.Refusal.{Refusal}
-use Rattle.pef_tool.specs.declared.refusal.Refusal.TheVariants.{BadCertificate, OutOfMemory, Script, SectionsDiffer}
+use Rattle.pef_answers.specs.declared.refusal.Refusal.{Refusal}
+use Rattle.pef_answers.specs.declared.refusal.Refusal.TheVariants.{BadCertificate, OutOfMemory, Script, SectionsDiffer}
 
 -- the verdict on a certificate for some fixups: a yes with its program's length in halfwords just where it is valid
 abbrev pub IsVerdict : List Fixup → Certified → Verdict → Type 0

@@ -31,14 +31,3 @@ sections_text i (s ∷ sections) = section_text i s ++ sections_text (i + 1) sec
 abbrev pub entry_text : List ℕ → Option ℕ → List ℕ
 entry_text label None = []
 entry_text label (Some address) = label ++ word_text address ++ 10 ∷ []
-
--- the entries of a fragment
-abbrev pub entries_text : List ℕ → Entries → List ℕ
-entries_text name e =
-    entry_text (codes "init " ++ name ++ codes " ") e.init
-    ++ entry_text (codes "main ") e.main
-    ++ entry_text (codes "term " ++ name ++ codes " ") e.term
-
--- a fragment's name, sections and entries
-abbrev pub fragment_text : List ℕ → List PlacedSection → Entries → List ℕ
-fragment_text name sections entries = codes "fragment " ++ name ++ (10 ∷ []) ++ sections_text 0 sections ++ entries_text name entries

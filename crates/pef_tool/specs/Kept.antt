@@ -1,4 +1,3 @@
-pub mod Held
 pub mod Loading
-pub mod Prepared
+pub mod Routines
 pub mod Showing

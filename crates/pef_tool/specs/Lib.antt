@@ -1,7 +1,4 @@
-pub mod Alone
-pub mod Answers
 pub mod Check
-pub mod Described
 pub mod Fragment
 pub mod Kept
 pub mod Limits
@@ -10,6 +7,5 @@ pub mod List
 pub mod Load
 pub mod Loaded
 pub mod Now
-pub mod Refusals
 pub mod Run
 pub mod Show

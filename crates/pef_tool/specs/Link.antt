@@ -7,10 +7,10 @@ use Rattle.pef_ports.specs.declared.ports.FileFault.TheVariants as file_fault
 use Rattle.pef_script.specs.Grammar.{script_of}
 use Rattle.pef_script.specs.Script.{DescribedScript}
 use Rattle.pef_script.specs.declared.fault.LineFault.{LineFault}
-use Rattle.pef_tool.specs.declared.refusal.Refusal.{Refusal}
-use Rattle.pef_tool.specs.declared.refusal.Refusal.TheVariants.{Script, OutOfMemory}
-use Rattle.pef_tool.specs.Answers.{Answer, answer_done, answer_refused}
-use Rattle.pef_tool.specs.Refusals.{refusal_text, unreadable_text, unwritable_text}
+use Rattle.pef_answers.specs.declared.refusal.Refusal.{Refusal}
+use Rattle.pef_answers.specs.declared.refusal.Refusal.TheVariants.{Script, OutOfMemory}
+use Rattle.pef_answers.specs.Answers.{Answer, answer_done, answer_refused}
+use Rattle.pef_answers.specs.Refusals.{refusal_text, unreadable_text, unwritable_text}
 use Rattle.pef_write.specs.Linked.{IsLinked, LinkedContainer}
 
 -- SCRIPT was read; it is no script, by its first refusal

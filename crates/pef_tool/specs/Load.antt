@@ -9,11 +9,11 @@ use Rattle.cfm_prepare.specs.declared.fault.PrepareFault.{PrepareFault}
 use Rattle.pef_ports.specs.Ports.{FilesPort, Reads}
 use Rattle.pef_ports.specs.declared.ports.FileFault.{FileFault}
 use Rattle.pef_ports.specs.declared.ports.FileFault.TheVariants as file_fault
-use Rattle.pef_tool.specs.Answers.{Answer, answer_done, answer_refused, answer_usage}
+use Rattle.pef_answers.specs.Answers.{Answer, answer_done, answer_refused, answer_usage}
 use Rattle.pef_tool.specs.Limits.{memory_limit, most_files}
 use Rattle.pef_tool.specs.Loaded.{loaded_text}
-use Rattle.pef_tool.specs.Refusals.{prepare_refusal_text, refusal_text, unreadable_text}
-use Rattle.pef_tool.specs.declared.refusal.Refusal.TheVariants.{OutOfMemory}
+use Rattle.pef_answers.specs.Refusals.{prepare_refusal_text, refusal_text, unreadable_text}
+use Rattle.pef_answers.specs.declared.refusal.Refusal.TheVariants.{OutOfMemory}
 
 -- files were read in order, one call each, and these are their bytes
 abbrev pub WereRead : {F : Type 0} → FilesPort F → F → F → List (List ℕ × List ℕ) → List (List ℕ) → Type 0

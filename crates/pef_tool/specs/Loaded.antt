@@ -9,7 +9,7 @@ use Rattle.cfm_prepare.specs.Readers.{entries_of, main_address}
 use Rattle.cfm_fragment.specs.declared.entries.Entries.{Entries}
 use Rattle.pef_ports.specs.Names.{name_text}
 use Rattle.pef_tool.specs.Fragment.{PlacedSection, entry_text, section_at, sections_text}
-use Rattle.pef_tool.specs.Refusals.{name_end}
+use Rattle.pef_answers.specs.Refusals.{name_end}
 
 -- the name of the fragment in a place of the store
 abbrev pub name_in : State → ℕ → List ℕ

@@ -1,18 +1,25 @@
 -- When a fragment of a context has the memory that a script describes (docs/SCRIPTS.md, `section`, `bytes`, `fix`,
 -- `tvector`), with the addresses of now; and fragments that weren't linked of any script.
-use Rattle.std.specs.Prelude.{◌≡◌, ℕ, List, Contains, length}
+use Rattle.std.specs.Prelude.{◌≡◌, ℕ, List, Contains, length, map}
 use Rattle.cfm_closure.specs.Stores.{Pair, pair_of}
 use Rattle.cfm_fragment.specs.Prepared.{addresses_at}
-use Rattle.cfm_memory.specs.Extents.{ArePlaced, Stand}
+use Rattle.cfm_memory.specs.Extents.{ArePlaced, Extent, Stand}
 use Rattle.cfm_memory.specs.Instances.{Layout}
 use Rattle.cfm_prepare.specs.Addresses.{imports_from}
 use Rattle.cfm_prepare.specs.Contexts.{State}
 use Rattle.cfm_prepare.specs.Fragments.{places_of}
 use Rattle.pef_reloc.specs.Applied.{address_of}
 use Rattle.pef_script.specs.Described.{described_at}
-use Rattle.pef_script.specs.Script.{DescribedScript}
-use Rattle.pef_tool.specs.Described.{described_extents}
+use Rattle.pef_script.specs.Script.{DescribedScript, DescribedSection}
 use Rattle.pef_write.specs.Linked.{IsLinked, LinkedContainer}
+
+-- what a section needs of memory
+abbrev pub described_extent : DescribedSection → Extent
+described_extent s = record { size = s.header.total; alignment = s.header.align }
+
+-- the same of all sections of a script, in order
+abbrev pub described_extents : DescribedScript → List Extent
+described_extents script = map described_extent script.sections
 
 -- a fragment's sections were placed, as a script says, in a memory as it was then, each in turn at the lowest
 -- address with room; and in the memory of now each has the bytes that the script describes, under the addresses

@@ -1,12 +1,13 @@
 ghost use Rattle.std.specs.Prelude.{◌≡◌, IfOk, length, true};
 ghost use Rattle.pef_ports.specs.Sent.{Sends};
 ghost use Rattle.pef_reloc.specs.Fixups.{fixups_fit};
-ghost use Rattle.pef_tool.specs.Answers.{Answer, Delivers};
+ghost use Rattle.pef_answers.specs.Answers.{Answer, Delivers};
 ghost use Rattle.pef_tool.specs.Check.{AreVerdicts, CheckAnswers, IsVerdict, Judges, are_numbered, judged_answer, match_sections, verdict_text, verdicts_status, verdicts_text};
 ghost use Rattle.pef_words.specs.Refusals.{result_map};
 
-use crate::refusal::{NamedRefusal, Refusal, certificate_refusal, script_refusal};
-use crate::reply::{DONE, REFUSED, Reply, deliver};
+use pef_answers::{
+    DONE, NamedRefusal, REFUSED, Refusal, Reply, certificate_refusal, deliver, script_refusal,
+};
 use pef_cert::{Certificate, check};
 use pef_cert_text::read;
 use pef_ports::{FileFault, Files, Line, Page, Sink, StreamFault, push_number, push_text, send};

@@ -1,16 +1,15 @@
 ghost use Rattle.std.specs.Prelude.{Some, map, string_bytes};
 ghost use Rattle.pef_request.specs.CommandLine.{asked_by};
 ghost use Rattle.pef_request.specs.Requests.{asked_of};
-ghost use Rattle.pef_tool.specs.Answers.{Answer, Delivers};
+ghost use Rattle.pef_answers.specs.Answers.{Answer, Delivers};
 ghost use Rattle.pef_tool.specs.Run.{RunAnswers};
 
 use crate::check::check_files;
 use crate::link::link_files;
 use crate::list::list_file;
 use crate::load::load_files;
-use crate::refusal::Refusal;
-use crate::reply::{Usage, deliver};
 use crate::show::show;
+use pef_answers::{Refusal, Usage, deliver};
 use pef_ports::{Files, Sink, Source};
 use pef_request::{Request, WordsFault, read_words};
 use std::alloc::Global;

@@ -5,8 +5,6 @@
 //! the words.
 #![tactic(auto)]
 
-mod addresses;
-mod bind_refusal;
 mod check;
 mod commands;
 mod fragment;
@@ -14,11 +12,6 @@ mod link;
 mod list;
 mod load;
 mod loaded;
-mod prepare;
-mod prepare_refusal;
-mod prepared;
-mod refusal;
-mod reply;
 mod show;
 pub mod theorems;
 

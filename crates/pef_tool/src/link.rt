@@ -1,10 +1,9 @@
 ghost use Rattle.std.specs.Prelude.{◌≡◌};
 ghost use Rattle.pef_ports.specs.Sent.{Sends};
-ghost use Rattle.pef_tool.specs.Answers.{Answer, Delivers, answer_done};
+ghost use Rattle.pef_answers.specs.Answers.{Answer, Delivers, answer_done};
 ghost use Rattle.pef_tool.specs.Link.{LinkAnswers, length_text, lengths_text, linked_text, size_text};
 
-use crate::refusal::{NamedRefusal, Refusal, script_refusal};
-use crate::reply::{DONE, Reply, deliver};
+use pef_answers::{DONE, NamedRefusal, Refusal, Reply, deliver, script_refusal};
 use pef_ports::{FileFault, Files, Line, Page, Sink, StreamFault, push_number, push_text, send};
 use pef_script::Script;
 use pef_write::{Linked, link};
@@ -37,21 +36,27 @@ pub fn link_files<F: Files, W: Sink>(
         return deliver(out, &Refusal::OutOfMemory);
     };
     match files.write(target, linked.bytes()) {
-        Ok(()) => deliver(out, &linked),
+        Ok(()) => deliver(out, &LinkedReply { linked: &linked }),
         Err(FileFault::Failed) => deliver(out, &NamedRefusal::FileUnwritable(target)),
         Err(FileFault::OutOfMemory) => deliver(out, &Refusal::OutOfMemory),
     }
 }
 
-impl Reply for Linked {
-    ghost answer = { λ linked. answer_done (linked_text linked) };
+/// What `link` says of a container that it wrote.
+#[derive(Clone, Copy)]
+struct LinkedReply<'a> {
+    linked: &'a Linked,
+}
+
+impl<'a> Reply for LinkedReply<'a> {
+    ghost answer = { λ reply. answer_done (linked_text reply.linked.now) };
 
     fn status(&self) -> u8 {
         DONE
     }
 
     fn print<W: Sink>(&self, out: &mut W, page: &mut Page) -> Result<(), StreamFault> {
-        print_linked(out, page, self)
+        print_linked(out, page, self.linked)
     }
 }
 

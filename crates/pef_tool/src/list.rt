@@ -1,10 +1,9 @@
 ghost use Rattle.pef_listing.specs.Listing.{listing_text};
 ghost use Rattle.pef_listing.specs.Views.{parts};
-ghost use Rattle.pef_tool.specs.Answers.{Answer, Delivers, answer_done};
+ghost use Rattle.pef_answers.specs.Answers.{Answer, Delivers, answer_done};
 ghost use Rattle.pef_tool.specs.List.{ListAnswers};
 
-use crate::refusal::{NamedRefusal, Refusal};
-use crate::reply::{DONE, Reply, deliver};
+use pef_answers::{DONE, NamedRefusal, Refusal, Reply, deliver};
 use pef_listing::Listing;
 use pef_ports::{FileFault, Files, Page, Sink, StreamFault};
 use std::alloc::Global;
@@ -23,19 +22,25 @@ pub fn list_file<F: Files, W: Sink>(alloc: Global, files: &mut F, path: &[u8], o
         Err(FileFault::OutOfMemory) => return deliver(out, &Refusal::OutOfMemory),
     };
     match Listing::read(bytes.as_slice()) {
-        Ok(listing) => deliver(out, &listing),
+        Ok(listing) => deliver(out, &ListedReply { listing }),
         Err(fault) => deliver(out, &Refusal::Listing(fault)),
     }
 }
 
-impl<'a> Reply for Listing<'a> {
-    ghost answer = { λ listing. answer_done (listing_text (parts listing).container (parts listing).loader) };
+/// What `list` says of a container that it read.
+#[derive(Clone, Copy)]
+struct ListedReply<'a> {
+    listing: Listing<'a>,
+}
+
+impl<'a> Reply for ListedReply<'a> {
+    ghost answer = { λ reply. answer_done (listing_text (parts reply.listing).container (parts reply.listing).loader) };
 
     fn status(&self) -> u8 {
         DONE
     }
 
     fn print<W: Sink>(&self, out: &mut W, page: &mut Page) -> Result<(), StreamFault> {
-        Listing::print(self, out, page)
+        self.listing.print(out, page)
     }
 }

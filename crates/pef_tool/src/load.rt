@@ -1,36 +1,20 @@
-ghost use Rattle.std.specs.Prelude.{◌≡◌, ◌≤◌, ◌^◌, IfErr, IfOk, Ok, length, map};
-ghost use Rattle.cfm_prepare.specs.Contexts.{fresh_state};
-ghost use Rattle.cfm_prepare.specs.Steps.{MayNotPrepare, Prepares};
+ghost use Rattle.std.specs.Prelude.{◌≡◌, ◌≤◌, IfErr, IfOk, Ok, length, map};
 ghost use Rattle.pef_ports.specs.Ports.{Reads};
 ghost use Rattle.pef_request.specs.Requests.{pair_of};
-ghost use Rattle.pef_tool.specs.Answers.{Answer, Delivers, answer_done};
+ghost use Rattle.pef_answers.specs.Answers.{Answer, Delivers};
 ghost use Rattle.pef_tool.specs.Kept.Loading.{StopsFile, StopsReading};
-ghost use Rattle.pef_tool.specs.Limits.{memory_limit, most_files};
+ghost use Rattle.pef_tool.specs.Limits.{most_files};
 ghost use Rattle.pef_tool.specs.Load.{LoadAnswers, WereRead, paired};
-ghost use Rattle.pef_tool.specs.Loaded.{loaded_text};
 
-use crate::loaded::print_loaded;
-use crate::refusal::{NamedRefusal, Refusal};
-use crate::reply::{DONE, Reply, Usage, deliver};
+use crate::loaded::prepare_root;
 use cfm_closure::{Store, StoreFault};
-use cfm_prepare::{Connection, Context, PrepareFault};
-use pef_ports::{FileFault, Files, Page, Sink, StreamFault};
+use pef_answers::{NamedRefusal, Refusal, Usage, deliver};
+use pef_ports::{FileFault, Files, Sink};
 use pef_request::NamedFile;
 use std::alloc::Global;
 
-/// Addresses of a fragment's memory end below this one.
-const MEMORY_LIMIT: u32 = 0x1000_0000;
-
 /// The most files of `load`.
 const MOST_FILES: usize = 256;
-
-/// A connection to the fragment that was asked for, in a context of its own.
-#[derive(Drop)]
-struct Loaded<'a> {
-    context: Context<'a>,
-    connection: Connection,
-    ghost low: { context.memory.limit ≤ 2 ^ 32 },
-}
 
 /// Why not all files were read.
 enum ReadingFault<'a> {
@@ -67,7 +51,7 @@ pub fn load_files<F: Files, W: Sink>(
     let Ok(store) = store_of(alloc, named, contents.as_slice()) else {
         return deliver(out, &Refusal::OutOfMemory);
     };
-    match prepare_first(alloc, store, named[0].name.as_bytes()) {
+    match prepare_root(alloc, store, named[0].name.as_bytes()) {
         Ok(loaded) => deliver(out, &loaded),
         Err(fault) => deliver(out, &fault),
     }
@@ -126,35 +110,4 @@ fn store_of<'a>(
         store.add(file.name.as_bytes(), contents[i].as_slice())?;
     }
     Ok(store)
-}
-
-/// Prepares the fragment of a name, in a context of its own.
-fn prepare_first<'a>(
-    alloc: Global,
-    store: Store<'a>,
-    name: &[u8],
-) -> Result<Loaded<'a>, PrepareFault<'a>>
-    ensures prepared { IfOk result (λ loaded. Prepares (fresh_state store.entry memory_limit) name.now loaded.connection.0 loaded.context) }
-    ensures refused { IfErr result (λ fault. MayNotPrepare (fresh_state store.entry memory_limit) name.now fault) }
-{
-    let mut context = Context::new(alloc, store, MEMORY_LIMIT);
-    match context.prepare(name) {
-        Ok(connection) => Ok(Loaded {
-            context,
-            connection,
-        }),
-        Err(fault) => Err(fault),
-    }
-}
-
-impl<'a> Reply for Loaded<'a> {
-    ghost answer = { λ loaded. answer_done (loaded_text loaded.context loaded.connection.0) };
-
-    fn status(&self) -> u8 {
-        DONE
-    }
-
-    fn print<W: Sink>(&self, out: &mut W, page: &mut Page) -> Result<(), StreamFault> {
-        print_loaded(out, page, &self.context, self.connection)
-    }
 }

@@ -1,16 +1,106 @@
-ghost use Rattle.std.specs.Prelude.{◌≡◌, ◌≤◌, ◌^◌, Some};
+ghost use Rattle.std.specs.Prelude.{◌≡◌, ◌<◌, ◌≤◌, ◌^◌, IfErr, IfOk, Some};
+ghost use Rattle.cfm_prepare.specs.Contexts.{fresh_state};
+ghost use Rattle.cfm_prepare.specs.Steps.{MayNotPrepare, Prepares};
+ghost use Rattle.pef_answers.specs.Answers.{answer_done};
 ghost use Rattle.pef_ports.specs.Sent.{Sends};
 ghost use Rattle.pef_tool.specs.Fragment.{entry_text, sections_text};
-ghost use Rattle.pef_tool.specs.Loaded.{entry_label, fragment_text, fragments_text, init_order_in, init_text, inits_text, loaded_text, name_in, order_in, sections_in, term_text, terms_text};
+ghost use Rattle.pef_tool.specs.Kept.Routines.{address_in, place_of, routine_text, routines_text, word_of};
+ghost use Rattle.pef_tool.specs.Limits.{memory_limit};
+ghost use Rattle.pef_tool.specs.Loaded.{entry_label, fragment_text, fragments_text, init_order_in, loaded_text, name_in, order_in, sections_in};
 
-use crate::bind_refusal::print_behind;
 use crate::fragment::{entry_line, print_bytes};
-use crate::refusal::print_name_end;
-use cfm_prepare::{Connection, Context};
+use cfm_closure::Store;
+use cfm_fragment::Entries;
+use cfm_prepare::{Connection, Context, PrepareFault};
+use pef_answers::{DONE, Reply, print_behind, print_name_end};
 use pef_ports::{Page, Sink, StreamFault, send};
+use std::alloc::Global;
+
+/// Addresses of a fragment's memory end below this one.
+const MEMORY_LIMIT: u32 = 0x1000_0000;
+
+/// A connection to the fragment that was asked for, in a context of its own.
+#[derive(Drop)]
+pub struct Loaded<'a> {
+    pub context: Context<'a>,
+    pub connection: Connection,
+    ghost low: { context.memory.limit ≤ 2 ^ 32 },
+}
+
+/// Prepares the fragment of a name, in a context of its own.
+pub fn prepare_root<'a>(
+    alloc: Global,
+    store: Store<'a>,
+    name: &[u8],
+) -> Result<Loaded<'a>, PrepareFault<'a>>
+    ensures prepared { IfOk result (λ loaded. Prepares (fresh_state store.entry memory_limit) name.now loaded.connection.0 loaded.context) }
+    ensures refused { IfErr result (λ fault. MayNotPrepare (fresh_state store.entry memory_limit) name.now fault) }
+{
+    let mut context = Context::new(alloc, store, MEMORY_LIMIT);
+    match context.prepare(name) {
+        Ok(connection) => Ok(Loaded {
+            context,
+            connection,
+        }),
+        Err(fault) => Err(fault),
+    }
+}
+
+impl<'a> Reply for Loaded<'a> {
+    ghost answer = { λ loaded. answer_done (loaded_text loaded.context loaded.connection.0) };
+
+    fn status(&self) -> u8 {
+        DONE
+    }
+
+    fn print<W: Sink>(&self, out: &mut W, page: &mut Page) -> Result<(), StreamFault> {
+        print_loaded(out, page, &self.context, self.connection)
+    }
+}
+
+/// A routine that a fragment may have: libraries initialize themselves first and terminate last.
+#[derive(Clone, Copy, Debug)]
+enum Routine {
+    Init,
+    Term,
+}
+
+impl Routine {
+    /// What the line of the routine begins with.
+    fn word(self) -> &'static [u8]
+        ensures { result.now ≡ word_of self }
+    {
+        match self {
+            Routine::Init => b"init ",
+            Routine::Term => b"term ",
+        }
+    }
+
+    /// Where a fragment has the routine.
+    fn address(self, entries: Entries) -> Option<u32>
+        ensures { result ≡ address_in self entries }
+    {
+        match self {
+            Routine::Init => entries.init,
+            Routine::Term => entries.term,
+        }
+    }
+
+    /// Where the fragment whose routine runs behind those of `i` others stands in the order of initialization.
+    fn place(self, i: usize, count: usize) -> usize
+        requires { i < count }
+        ensures place { result ≡ place_of self count i }
+        ensures inside { result < count }
+    {
+        match self {
+            Routine::Init => i,
+            Routine::Term => count - 1 - i,
+        }
+    }
+}
 
 /// Prints the fragments of a connection's closure with their sections, and then where they are entered.
-pub fn print_loaded<W: Sink>(
+fn print_loaded<W: Sink>(
     out: &mut W,
     page: &mut Page,
     context: &Context<'_>,
@@ -21,13 +111,13 @@ pub fn print_loaded<W: Sink>(
 {
     print_fragments(out, page, context, order_of(context, connection))?;
     let init_order = init_order_of(context, connection);
-    print_inits(out, page, context, connection, init_order)?;
+    print_routines(out, page, context, connection, Routine::Init, init_order)?;
     send(
         out,
         page,
         entry_line(b"main ", context.main(connection)).as_slice(),
     )?;
-    print_terms(out, page, context, connection, init_order)
+    print_routines(out, page, context, connection, Routine::Term, init_order)
 }
 
 /// The fragments of a connection in closure order.
@@ -111,77 +201,43 @@ fn print_sections<W: Sink>(
     Ok(())
 }
 
-/// Prints where some fragments are initialized, in this order.
-fn print_inits<W: Sink>(
+/// Prints where a routine of some fragments is entered, in the order in which they run; `order` is that of
+/// initialization.
+fn print_routines<W: Sink>(
     out: &mut W,
     page: &mut Page,
     context: &Context<'_>,
     connection: Connection,
+    routine: Routine,
     order: &[usize],
 ) -> Result<(), StreamFault>
-    ensures { Sends result (W.stream out.old) (W.stream out.new) page.old.items page.new.items (inits_text context.now connection.0 order.now) }
+    ensures { Sends result (W.stream out.old) (W.stream out.new) page.old.items page.new.items (routines_text routine context.now connection.0 order.now) }
 {
-    for position in order {
-        print_init(out, page, context, connection, *position)?;
+    for i in 0..order.len() {
+        let position = order[routine.place(i, order.len())];
+        print_routine(out, page, context, connection, routine, position)?;
     }
     Ok(())
 }
 
-/// Prints where some fragments are terminated, in reverse order.
-fn print_terms<W: Sink>(
+/// Prints the address of a fragment's routine, where it has one.
+fn print_routine<W: Sink>(
     out: &mut W,
     page: &mut Page,
     context: &Context<'_>,
     connection: Connection,
-    order: &[usize],
-) -> Result<(), StreamFault>
-    ensures { Sends result (W.stream out.old) (W.stream out.new) page.old.items page.new.items (terms_text context.now connection.0 order.now) }
-{
-    for i in (0..order.len()).rev() {
-        print_term(out, page, context, connection, order[i])?;
-    }
-    Ok(())
-}
-
-/// Prints the address of a fragment's initialization routine, where it has one.
-fn print_init<W: Sink>(
-    out: &mut W,
-    page: &mut Page,
-    context: &Context<'_>,
-    connection: Connection,
+    routine: Routine,
     position: usize,
 ) -> Result<(), StreamFault>
-    ensures { Sends result (W.stream out.old) (W.stream out.new) page.old.items page.new.items (init_text context.now connection.0 position) }
+    ensures { Sends result (W.stream out.old) (W.stream out.new) page.old.items page.new.items (routine_text routine context.now connection.0 position) }
 {
     match context.fragment_entries(connection, position) {
         Some(entries) => print_entry(
             out,
             page,
-            b"init ",
+            routine.word(),
             name_of(context, position),
-            entries.init,
-        ),
-        None => Ok(()),
-    }
-}
-
-/// Prints the address of a fragment's termination routine, where it has one.
-fn print_term<W: Sink>(
-    out: &mut W,
-    page: &mut Page,
-    context: &Context<'_>,
-    connection: Connection,
-    position: usize,
-) -> Result<(), StreamFault>
-    ensures { Sends result (W.stream out.old) (W.stream out.new) page.old.items page.new.items (term_text context.now connection.0 position) }
-{
-    match context.fragment_entries(connection, position) {
-        Some(entries) => print_entry(
-            out,
-            page,
-            b"term ",
-            name_of(context, position),
-            entries.term,
+            routine.address(entries),
         ),
         None => Ok(()),
     }

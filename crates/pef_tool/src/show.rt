@@ -1,25 +1,14 @@
-ghost use Rattle.std.specs.Prelude.{◌≡◌, IfErr, IfOk};
-ghost use Rattle.cfm_closure.specs.declared.fault.BindFault.TheVariants as bind_fault;
-ghost use Rattle.cfm_memory.specs.declared.place.MemoryFault.TheVariants as memory_fault;
-ghost use Rattle.cfm_fragment.specs.declared.fault.PrepareFault.TheVariants as prepare_fault;
-ghost use Rattle.pef_script.specs.Script.{DescribedScript};
-ghost use Rattle.pef_tool.specs.Alone.{it_alone};
-ghost use Rattle.pef_tool.specs.Answers.{Answer, Delivers, answer_done};
-ghost use Rattle.pef_tool.specs.Kept.Showing.{ScriptEnds, input_refusal};
-ghost use Rattle.pef_tool.specs.Show.{FailsToBind, IsShown, ShowAnswers, ShowOutcome, show_answer, shown_text};
-ghost use Rattle.pef_write.specs.Linked.{IsLinked};
+ghost use Rattle.std.specs.Prelude.{◌≡◌, IfOk};
+ghost use Rattle.pef_answers.specs.Answers.{Answer, Delivers};
+ghost use Rattle.pef_tool.specs.Kept.Showing.{ScriptEnds};
+ghost use Rattle.pef_tool.specs.Show.{ShowAnswers, ShowOutcome, it_alone, show_answer};
 
-use crate::fragment::print_fragment;
-use crate::prepare::prepare_alone;
-use crate::prepared::Prepared;
-use crate::refusal::{Refusal, script_refusal};
-use crate::reply::{DONE, Reply, deliver};
-use cfm_closure::{BindFault, Store, StoreFault, closure};
-use cfm_fragment::PrepareFault;
-use cfm_memory::MemoryFault;
-use pef_ports::{InputFault, Page, Sink, Source, StreamFault, read_input};
+use crate::loaded::prepare_root;
+use cfm_closure::{Store, StoreFault};
+use pef_answers::{Refusal, deliver, input_refusal, script_refusal};
+use pef_ports::{Sink, Source, read_input};
 use pef_script::Script;
-use pef_write::{Linked, link};
+use pef_write::link;
 use std::alloc::Global;
 
 /// How many bytes of an input are read.
@@ -41,30 +30,9 @@ pub fn show<R: Source, W: Sink>(alloc: Global, input: &mut R, out: &mut W) -> u8
     }
 }
 
-impl Reply for Prepared {
-    ghost answer = { λ prepared. answer_done (shown_text prepared) };
-
-    fn status(&self) -> u8 {
-        DONE
-    }
-
-    fn print<W: Sink>(&self, out: &mut W, page: &mut Page) -> Result<(), StreamFault> {
-        print_fragment(out, page, self)
-    }
-}
-
-/// What a fault of reading the input is told as.
-fn input_refusal(fault: InputFault) -> Refusal
-    ensures { result ≡ input_refusal fault }
-{
-    match fault {
-        InputFault::Unreadable => Refusal::InputUnreadable,
-        InputFault::TooLong => Refusal::InputTooLong,
-        InputFault::OutOfMemory => Refusal::OutOfMemory,
-    }
-}
-
-/// Links a script, prepares its container alone under the name `it`, and shows it.
+/// Links a script, prepares its container alone under the name `it`, and shows it. It may have no closure. Of
+/// the other faults of preparation only want of memory can come: what is linked isn't packed, finds room, and
+/// its relocation programs are sound.
 fn show_script<W: Sink>(alloc: Global, script: &Script<'_>, out: &mut W) -> u8
     ensures { (outcome : ShowOutcome)
         × ScriptEnds script.now outcome
@@ -73,27 +41,12 @@ fn show_script<W: Sink>(alloc: Global, script: &Script<'_>, out: &mut W) -> u8
     let Ok(linked) = link(alloc, script) else {
         return deliver(out, &Refusal::OutOfMemory);
     };
-    match prepare_linked(alloc, &linked) {
-        Ok(prepared) => deliver(out, &prepared),
-        Err(fault) => deliver(out, &fault),
-    }
-}
-
-/// Prepares what was linked of a script, alone under the name `it`. It may have no closure. Of the faults of
-/// preparation only want of memory can come: what is linked isn't packed, finds room, and its relocation
-/// programs are sound.
-fn prepare_linked<'a>(alloc: Global, linked: &'a Linked) -> Result<Prepared, BindFault<'a>>
-    requires { (script : DescribedScript) × IsLinked script linked.now }
-    ensures shown { IfOk result (λ p. (script : DescribedScript) → IsLinked script linked.now → IsShown script p) }
-    ensures refused { IfErr result (λ fault. FailsToBind linked.now.bytes fault) }
-{
     let Ok(store) = it_alone(alloc, linked.bytes()) else {
-        return Err(BindFault::OutOfMemory);
+        return deliver(out, &Refusal::OutOfMemory);
     };
-    let closure = closure(alloc, &store, 0)?;
-    match prepare_alone(alloc, &closure) {
-        Ok(prepared) => Ok(prepared),
-        Err(fault) => Err(want_of_memory(fault)),
+    match prepare_root(alloc, store, b"it") {
+        Ok(loaded) => deliver(out, &loaded),
+        Err(fault) => deliver(out, &fault),
     }
 }
 
@@ -104,17 +57,4 @@ fn it_alone<'a>(alloc: Global, bytes: &'a [u8]) -> Result<Store<'a>, StoreFault>
     let mut store = Store::new(alloc);
     store.add(b"it", bytes)?;
     Ok(store)
-}
-
-/// What want of memory is told as.
-fn want_of_memory<'a>(fault: PrepareFault) -> BindFault<'a>
-    requires { fault ≡ prepare_fault.Memory memory_fault.OutOfMemory }
-    ensures { result ≡ bind_fault.OutOfMemory }
-{
-    match fault {
-        PrepareFault::Memory(MemoryFault::OutOfMemory) => BindFault::OutOfMemory,
-        PrepareFault::Memory(MemoryFault::NoRoom)
-        | PrepareFault::Pack(_)
-        | PrepareFault::Reloc(_) => unreachable!(),
-    }
 }

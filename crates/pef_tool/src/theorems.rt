@@ -1,6 +1,6 @@
 //! What the linker writes, the loader prepares to the memory that the script describes: laws of their
 //! definitions. The functions do nothing.
-ghost use Rattle.std.specs.Prelude.{◌≡◌, ℕ, List, None, Ok, Contains, true};
+ghost use Rattle.std.specs.Prelude.{◌≡◌, ◌⊎◌, ℕ, List, None, Ok, Contains, true};
 ghost use Rattle.cfm_closure.specs.Fragments.{Fragment, fragment_of};
 ghost use Rattle.cfm_closure.specs.Stores.{Pair, pair_of};
 ghost use Rattle.cfm_memory.specs.Extents.{ArePlaced};
@@ -10,7 +10,10 @@ ghost use Rattle.cfm_prepare.specs.Addresses.{addresses_of};
 ghost use Rattle.cfm_prepare.specs.Contexts.{State, fresh_state};
 ghost use Rattle.cfm_prepare.specs.Fragments.{Present, extents_in, image_refusal_in, is_present, reloc_refusal_in};
 ghost use Rattle.cfm_prepare.specs.Runs.{Runs, Step};
-ghost use Rattle.cfm_prepare.specs.Steps.{HasBadImage, HasBadProgram, Prepares};
+ghost use Rattle.cfm_prepare.specs.Faults.{fault_number};
+ghost use Rattle.cfm_prepare.specs.Placing.{LacksRoom};
+ghost use Rattle.cfm_prepare.specs.Steps.{HasBadImage, HasBadProgram, HasClosure, MayNotPrepare, Prepares, new_of};
+ghost use Rattle.cfm_prepare.specs.declared.fault.PrepareFault.{PrepareFault};
 ghost use Rattle.pef_pidata.specs.declared.fault.PackFault.{PackFault};
 ghost use Rattle.pef_reloc.specs.declared.fault.RelocFault.{RelocFault};
 ghost use Rattle.pef_script.specs.Script.{DescribedScript};
@@ -39,8 +42,12 @@ pub fn linked_is_sound()
 {}
 
 /// So where the fragments of a closure are refused for an image or a relocation header, the refusal names
-/// one of them that wasn't linked of any script.
+/// one of them that wasn't linked of any script. And where a fragment has a closure, for a number is left and
+/// its libraries resolve, and the new sections find room, it is refused for want of memory alone, or there is
+/// such a one among them.
 pub fn refusals_are_of_others()
     ensures image { (pairs : List Pair) (m : Layout) (new : List ℕ) (name : List ℕ) (k : PackFault) → HasBadImage pairs m new name k → HasUnlinked pairs new name }
     ensures program { (pairs : List Pair) (there : List Present) (m : Layout) (new : List ℕ) (name : List ℕ) (k : RelocFault) → HasBadProgram pairs there m new name k → HasUnlinked pairs new name }
+    ensures bound { (s : State) (name : List ℕ) (closure : HasClosure s name) (f : PrepareFault) → ((other : List ℕ) → LacksRoom s.pairs s.memory (new_of s closure.closed) other → ⊥) → MayNotPrepare s name f
+        → (fault_number f ≡ 99) ⊎ ((other : List ℕ) × HasUnlinked s.pairs (new_of s closure.closed) other) }
 {}

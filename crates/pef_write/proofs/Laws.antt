@@ -11,3 +11,5 @@ pub use Rattle.pef_write.proofs.LinkedLaws.{read_back, section_is}
 -- its tables are a loader section's; such tables are read back, with entries and relocation programs
 pub use Rattle.pef_write.proofs.LinkedTables.{are_sound}
 pub use Rattle.pef_write.proofs.TablesRead.{tables_loaded, init_back, main_back, term_back, relocs_back}
+-- each section has a certificate; its program is a least one, and what is written of the section
+pub use Rattle.pef_write.proofs.LeastLemmas.{CertificateAt, certificate_at, each_certified, least_program}

@@ -9,6 +9,8 @@ mod TablesStand
 mod TablesRead
 mod Counts
 mod Programs
+mod Certificates
+mod LeastLemmas
 mod ExportNames
 mod Fitting
 mod LinkedTables

@@ -1,25 +1,19 @@
 -- The programs of a script's sections: their lengths, and those that have bytes.
-use Rattle.std.proofs.Common.{◌≡◌, ◌∙◌, ℕ, ◌+◌, ◌*◌, ◌/◌, ◌≤◌, true, List, [], ◌∷◌, ◌++◌, length, map, length-append, refl, sym, ap, ap₂, subst, arith}
+use Rattle.std.proofs.Common.{◌≡◌, ◌∙◌, ℕ, ◌+◌, ◌*◌, ◌/◌, ◌≤◌, List, [], ◌∷◌, ◌++◌, length, map, length-append, refl, sym, ap, ap₂, subst, arith}
 use Rattle.std.specs.List.{All, AllByRecursion}
-use Rattle.std.proofs.lemmas.Bool.{lt-ltb}
 use Rattle.std.proofs.lemmas.List.Elements.{All-cons}
-use Rattle.pef_reloc.specs.declared.fixup.Base.{Base}
-use Rattle.pef_reloc.specs.declared.fixup.Base.TheVariants as base
 use Rattle.pef_reloc.specs.declared.fixup.Fixup.{Fixup}
 use Rattle.pef_reloc.specs.declared.instr.Instr.{Instr}
-use Rattle.pef_reloc.specs.Fixups.{base_below, bases_below}
 use Rattle.pef_reloc.specs.Instrs.{halfword_bytes, halfwords_of, instrs_fit, program_length, repeat_free, spelled}
 use Rattle.pef_reloc.specs.Limits.{most_fixups}
-use Rattle.pef_reloc.specs.Plain.{plain_program}
 use Rattle.pef_reloc.specs.Steps.{Makes}
 use Rattle.pef_reloc.specs.Unrolled.{instrs_of}
-use Rattle.pef_words.proofs.Laws.Tests.{both_met, met_both}
+use Rattle.pef_words.proofs.Laws.Tests.{met_both}
 use Rattle.pef_reloc.proofs.Laws.{fixups_fit-parts}
 use Rattle.pef_reloc.proofs.Laws.{instrs_of-spelled, length_spelling}
-use Rattle.pef_reloc.proofs.Laws.{plain-flat, plain-makes, plain-names, plain-short}
 use Rattle.pef_reloc.proofs.Laws.{spelled-nothing, spelled-one}
 use Rattle.pef_script.specs.Script.{DescribedSection}
-use Rattle.pef_script.specs.WellFormed.{BaseThere, SectionHolds}
+use Rattle.pef_script.specs.WellFormed.{SectionHolds}
 use Rattle.pef_write.specs.Linked.{AreProgramsFor, IsProgramFor, program_of, programs_from}
 use Rattle.pef_write.specs.Kept.Encoded.{nonempty, nonempty_from}
 
@@ -89,33 +83,3 @@ short_programs n m j [] (instrs ∷ programs) holds are = absurd are
 short_programs n m j (s ∷ sections) [] holds are = absurd are
 short_programs n m j (s ∷ sections) (instrs ∷ programs) holds are =
     All-cons (λ (bytes : List ℕ). length bytes ≤ 8 * most_fixups) (spelled instrs) (map spelled programs) (short_program n m j s instrs holds.0 are.0) (short_programs n m j sections programs holds.1 are.1)
-
--- plain programs are programs for their sections
-
--- the bytes of the plain program of a section
-abbrev pub plain_bytes : DescribedSection → List ℕ
-plain_bytes s = spelled (plain_program s.fixups)
-
-bases-below : (n j : ℕ) (fixups : List Fixup) → AllByRecursion (λ (fixup : Fixup). BaseThere n j fixup.base) fixups → bases_below n fixups ≡ true
-bases-below n j [] there = refl
-bases-below n j (f ∷ fixups) there = both_met (base_below n f.base) (bases_below n fixups) (one f.base there.0) (bases-below n j fixups there.1)
-  where
-    one : (b : Base) → BaseThere n j b → base_below n b ≡ true
-    one (base.Section k) there = lt-ltb k n there
-    one (base.Import i) there = refl
-
-plain_is : (n j : ℕ) (s : DescribedSection) → SectionHolds n j s → IsProgramFor n s.fixups (plain_program s.fixups)
-plain_is n j s holds = record {
-  flat = plain-flat s.fixups holds.fixups;
-  makes = plain-makes s.fixups;
-  names = plain-names n s.fixups (bases-below n j s.fixups holds.bases);
-  short = plain-short s.fixups;
-}
-
-pub plain_are : (n j : ℕ) (sections : List DescribedSection) → AllByRecursion (SectionHolds n j) sections → AreProgramsFor n sections (map (λ s. plain_program s.fixups) sections)
-plain_are n j [] holds = tt
-plain_are n j (s ∷ sections) holds = (plain_is n j s holds.0, plain_are n j sections holds.1)
-
-pub plain_spelled : (sections : List DescribedSection) → map plain_bytes sections ≡ map spelled (map (λ s. plain_program s.fixups) sections)
-plain_spelled [] = refl
-plain_spelled (s ∷ sections) = ap (λ rest. plain_bytes s ∷ rest) (plain_spelled sections)

@@ -3,4 +3,5 @@ pub mod Containers
 pub mod Loaders
 pub mod Linked
 pub mod ReadBack
+pub mod LeastPrograms
 pub mod Kept

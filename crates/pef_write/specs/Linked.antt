@@ -3,6 +3,7 @@
 -- (Mac OS Runtime Architectures, "PEF Structure").
 use Rattle.std.specs.Prelude.{◌≡◌, ℕ, true, pos, ◌+◌, ◌*◌, ◌≤◌, ◌==◌, List, [], ◌∷◌, ◌++◌, length, map, nat_lt, slice_index_or}
 use Rattle.std.specs.List.{count_by}
+use Rattle.pef_cert.specs.Valid.{Certified, Valid}
 use Rattle.pef_hash.specs.Build.{built}
 use Rattle.pef_loader.specs.Export.{Export}
 use Rattle.pef_loader.specs.Import.{Import}
@@ -31,6 +32,18 @@ AreProgramsFor count [] [] = Unit {0}
 AreProgramsFor count [] (instrs ∷ programs) = ⊥
 AreProgramsFor count (s ∷ sections) [] = ⊥
 AreProgramsFor count (s ∷ sections) (instrs ∷ programs) = IsProgramFor count s.fixups instrs × AreProgramsFor count sections programs
+
+-- a certificate that holds for the fixups of a section, by its number
+pub record IsCertified (k : ℕ) (fixups : List Fixup) (c : Certified) : Type 0 where
+  pub section : c.section ≡ k
+  pub valid : Valid fixups c
+
+-- a certificate for each of some sections, numbered from a number on
+abbrev pub AreCertified : ℕ → List DescribedSection → List Certified → Type 0
+AreCertified k [] [] = Unit {0}
+AreCertified k [] (c ∷ certificates) = ⊥
+AreCertified k (s ∷ sections) [] = ⊥
+AreCertified k (s ∷ sections) (c ∷ certificates) = IsCertified k s.fixups c × AreCertified (k + 1) sections certificates
 
 -- the part of the container that a section becomes
 abbrev pub part_of : DescribedSection → DescribedPart
@@ -108,16 +121,20 @@ linked_parts s = map part_of s.sections
 unfoldable pub linked_bytes : DescribedScript → List (List Instr) → List ℕ
 linked_bytes s programs = written_container s.versions (linked_parts s) (linked_loader s programs)
 
--- what was linked: the container, and for each section the length of its program, in halfwords
+-- what was linked: the container, and for each section the length of its program, in halfwords, and the
+-- certificate that none is shorter
 pub record LinkedContainer : Type 0 where
   pub bytes : List ℕ
   pub lengths : List ℕ
+  pub certificates : List Certified
 
 -- what was linked of a script, which keeps the limits: its container with some programs for its sections,
--- and their lengths
+-- their lengths, and the certificates that have the programs
 pub record IsLinked (script : DescribedScript) (l : LinkedContainer) : Type 0 where
   pub holds : ScriptHolds script
   pub programs : List (List Instr)
   pub are : AreProgramsFor (length script.sections) script.sections programs
   pub bytes : l.bytes ≡ linked_bytes script programs
   pub lengths : l.lengths ≡ map program_length programs
+  pub certified : AreCertified 0 script.sections l.certificates
+  pub programs_are : programs ≡ map (λ c. c.program) l.certificates

@@ -1,6 +1,7 @@
 ghost use Rattle.std.specs.Prelude.{◌≡◌, codes};
 
 use pef_hash::HashFault;
+use pef_plan::PlanFault;
 use std::alloc::{AllocError, AllocFailed};
 use std::fmt;
 use thiserror::Error;
@@ -56,6 +57,12 @@ impl<T: Drop> From<AllocFailed<T>> for LinkFault {
 
 impl From<HashFault> for LinkFault {
     fn from(_error: HashFault) -> LinkFault {
+        LinkFault::OutOfMemory
+    }
+}
+
+impl From<PlanFault> for LinkFault {
+    fn from(_error: PlanFault) -> LinkFault {
         LinkFault::OutOfMemory
     }
 }

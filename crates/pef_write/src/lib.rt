@@ -1,9 +1,9 @@
 //! The linker: the container of a script.
 //!
 //! The format is that of Mac OS Runtime Architectures, "PEF Structure", and of PEFBinaryFormat.h.
-//! [`link`] takes a script and gives its container, with a relocation program for each section that
-//! has fixups. What it gives is read back as the script: see [`linked_containers`] and
-//! [`linked_programs`].
+//! [`link`] takes a script and gives its container, with a shortest relocation program for each section
+//! that has fixups, and a certificate for each. What it gives is read back as the script: see
+//! [`linked_containers`], [`linked_programs`] and [`linked_programs_are_least`].
 #![tactic(auto)]
 
 mod container;
@@ -20,4 +20,4 @@ mod theorems;
 
 pub use fault::LinkFault;
 pub use linking::{Linked, link};
-pub use theorems::{linked_containers, linked_programs};
+pub use theorems::{linked_containers, linked_programs, linked_programs_are_least};

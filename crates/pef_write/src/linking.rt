@@ -1,22 +1,25 @@
 ghost use Rattle.std.specs.Prelude.{◌≡◌, ◌/◌, ◌<◌, ◌^◌, IfOk, length, map, slice_get};
 ghost use Rattle.std.specs.List.{All};
+ghost use Rattle.std.specs.Option.{option_copied};
 ghost use Rattle.pef_write.specs.Linked.{IsLinked};
 
 use crate::container::write_container;
 use crate::fault::LinkFault;
 use crate::loader::write_loader;
 use crate::parts::parts;
-use crate::program::programs;
+use crate::program::{certificates, programs};
 use crate::relocations::{HALFWORD, section_programs};
+use pef_cert::Certificate;
 use pef_script::Script;
 use std::alloc::{AllocError, Global};
 use std::marker::Model;
 
-/// A container that was linked of a script.
+/// A container that was linked of a script, with the certificates of its relocation programs.
 #[derive(Debug, Drop)]
 pub struct Linked {
     bytes: Vec<u8>,
     lengths: Vec<u32>,
+    certificates: Vec<Certificate>,
 }
 
 impl Model for Linked {
@@ -24,7 +27,7 @@ impl Model for Linked {
 
     ghost Value = { LinkedContainer };
 
-    ghost view = { λ l. record { bytes = l.bytes.items; lengths = l.lengths.items } };
+    ghost view = { λ l. record { bytes = l.bytes.items; lengths = l.lengths.items; certificates = l.certificates.items } };
 }
 
 impl Linked {
@@ -48,9 +51,23 @@ impl Linked {
     {
         &self.lengths
     }
+
+    /// The certificate that no program of section `k` has fewer halfwords.
+    pub fn certificate(&self, k: usize) -> Option<&Certificate>
+        ensures { option_copied result ≡ slice_get self.now.certificates k }
+    {
+        self.certificates.get(k)
+    }
+
+    /// The certificates of all sections, in their order.
+    pub fn certificates(&self) -> &[Certificate]
+        ensures { result.now ≡ self.now.certificates }
+    {
+        &self.certificates
+    }
 }
 
-/// Links a script: its container, with a relocation program for each section that has fixups.
+/// Links a script: its container, with a shortest relocation program for each section that has fixups.
 ///
 /// # Errors
 ///
@@ -58,13 +75,18 @@ impl Linked {
 pub fn link(alloc: Global, script: &Script<'_>) -> Result<Linked, LinkFault>
     ensures { IfOk result (λ l. IsLinked script.now l) }
 {
-    let programs = programs(alloc, script)?;
+    let certificates = certificates(alloc, script)?;
+    let programs = programs(alloc, &certificates)?;
     let lengths = halfwords(alloc, &programs)?;
     let own = section_programs(alloc, &programs)?;
     let loader = write_loader(alloc, script, &own)?;
     let parts = parts(alloc, script)?;
     let bytes = write_container(alloc, script.versions(), &parts, &loader)?;
-    Ok(Linked { bytes, lengths })
+    Ok(Linked {
+        bytes,
+        lengths,
+        certificates,
+    })
 }
 
 /// How many halfwords each of `programs` has.

@@ -1,6 +1,7 @@
 //! Laws of what is linked, for the proofs of crates that read it. The functions do nothing.
 ghost use Rattle.std.specs.Prelude.{◌≡◌, ℕ, Some, slice_get};
-ghost use Rattle.pef_script.specs.Script.{DescribedScript};
+ghost use Rattle.pef_script.specs.Script.{DescribedScript, DescribedSection};
+ghost use Rattle.pef_write.specs.LeastPrograms.{HasLeastProgram};
 ghost use Rattle.pef_write.specs.Linked.{IsLinked, LinkedContainer, programs_from};
 ghost use Rattle.pef_write.specs.Loaders.{ProgramEntry};
 ghost use Rattle.pef_write.specs.ReadBack.{IsReadBack, IsSectionProgram};
@@ -15,4 +16,10 @@ pub fn linked_containers()
 /// where sections and imports have addresses.
 pub fn linked_programs()
     ensures { (s : DescribedScript) (l : LinkedContainer) (linked : IsLinked s l) (i : ℕ) (p : ProgramEntry) → slice_get (programs_from 0 s.sections linked.programs) i ≡ Some p → IsSectionProgram s p }
+{}
+
+/// The relocation program of each section of what is linked is a least one for the section's fixups, by
+/// a certificate that holds for them, and it is what the container has for the section.
+pub fn linked_programs_are_least()
+    ensures { (s : DescribedScript) (l : LinkedContainer) (linked : IsLinked s l) (k : ℕ) (section : DescribedSection) → slice_get s.sections k ≡ Some section → HasLeastProgram s l linked k section }
 {}

@@ -1,6 +1,7 @@
 -- The tables of a plan: labels and least skips, by how many fixups are left.
-use Rattle.std.specs.Prelude.{◌≡◌, ◌≤◌, ◌<◌, ℕ, ◌+◌, ◌*◌, List, [], ◌∷◌, length, slice_index, slice_index_or}
+use Rattle.std.specs.Prelude.{◌≡◌, ◌≤◌, ◌<◌, ℕ, ◌+◌, ◌*◌, List, [], ◌∷◌, length, slice_index, slice_index_or, take}
 use Rattle.pef_reloc.specs.declared.fixup.Fixup.{Fixup}
+use Rattle.pef_reloc.specs.Deliveries.{index_after}
 use Rattle.pef_cert.specs.Labels.{Labels, classes}
 use Rattle.pef_cert.specs.Feasible.{FeasibleFrom}
 use Rattle.pef_cert.specs.Kept.Claims.{OfferIs}
@@ -44,6 +45,11 @@ pub record SameLabels (l : Labels) (registers : List ℕ) (labels : List (List (
 pub record Agrees (l : Labels) (k : Known) (fixups : List Fixup) : Type 0 where
   pub same : SameLabels l k.registers.now k.labels.now (length fixups)
   pub offers : OffersFrom l k.skips.now fixups
+
+-- the indices of the next import at fixups
+pub record IndicesOf (fixups : List Fixup) (indices : List ℕ) : Type 0 where
+  pub count : length indices ≡ length fixups
+  pub at : (i : ℕ) → i < length fixups → slice_index indices i ≡ index_after (take i fixups) 0
 
 -- tables that are filled where some fixups are left and less: labels that are those of the tables are
 -- feasible there, are reached, and have the table's offers

@@ -1,34 +1,11 @@
--- Why a script isn't shown, or certificates aren't checked.
+-- How `show` ends with the script of its input.
 use Rattle.std.specs.Prelude.{◌≡◌}
-use Rattle.pef_cert_text.specs.declared.fault.CertFault.{CertFault}
-use Rattle.pef_cert_text.specs.declared.fault.CertFault.TheVariants as cert_fault
-use Rattle.pef_ports.specs.declared.input.InputFault.{InputFault}
-use Rattle.pef_ports.specs.declared.input.InputFault.TheVariants as input_fault
+use Rattle.pef_answers.specs.declared.refusal.Refusal.TheVariants as refusal
 use Rattle.pef_script.specs.Script.{DescribedScript}
-use Rattle.pef_script.specs.declared.fault.ScriptFault.{ScriptFault}
-use Rattle.pef_script.specs.declared.fault.ScriptFault.TheVariants as script_fault
-use Rattle.pef_tool.specs.declared.refusal.Refusal.{Refusal}
-use Rattle.pef_tool.specs.declared.refusal.Refusal.TheVariants as refusal
 use Rattle.pef_tool.specs.Show.{IsShown, LacksClosure, ShowOutcome, refuses, shows, unbound}
-
--- what a fault of reading the input is told as
-abbrev pub input_refusal : InputFault → Refusal
-input_refusal input_fault.Unreadable = refusal.InputUnreadable
-input_refusal input_fault.TooLong = refusal.InputTooLong
-input_refusal input_fault.OutOfMemory = refusal.OutOfMemory
-
--- what a fault of reading a script is told as
-abbrev pub script_refusal : ScriptFault → Refusal
-script_refusal (script_fault.Refused fault line) = refusal.Script fault line
-script_refusal script_fault.OutOfMemory = refusal.OutOfMemory
-
--- what a fault of reading certificates is told as
-abbrev pub certificate_refusal : CertFault → Refusal
-certificate_refusal (cert_fault.BadCertificate line) = refusal.BadCertificate line
-certificate_refusal cert_fault.OutOfMemory = refusal.OutOfMemory
 
 -- how `show` ends with a script: it is shown, or has no closure, or memory was refused
 abbrev pub ScriptEnds : DescribedScript → ShowOutcome → Type 0
-ScriptEnds script (shows p) = IsShown script p
+ScriptEnds script (shows s number) = IsShown script s number
 ScriptEnds script (unbound fault) = LacksClosure script fault
 ScriptEnds script (refuses why) = why ≡ refusal.OutOfMemory

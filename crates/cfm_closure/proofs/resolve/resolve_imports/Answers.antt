@@ -1,5 +1,5 @@
 -- The next import that is refused is the first.
-use Rattle.std.proofs.Common.{◌≡◌, ◌<◌, inl, inr, Ok, Err, sym, ap, ◌∙◌, arith}
+use Rattle.std.proofs.Common.{◌<◌, inl, inr, Ok, sym, ap, ◌∙◌, arith}
 use Rattle.std.specs.Result.{result_err}
 use Rattle.std.proofs.lemmas.Bool.Decides.{eqb_tells}
 use Rattle.std.proofs.lemmas.Result.{err_from_is_err_and}

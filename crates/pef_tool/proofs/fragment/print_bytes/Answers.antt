@@ -3,7 +3,7 @@ use Rattle.std.proofs.Common.{◌≡◌, length, ◌∙◌}
 use Rattle.pef_ports.specs.Text.{dump_text}
 use Rattle.pef_ports.proofs.Laws.Sending.{Sends-short, Sends-then, StopsShort-longer}
 use Rattle.pef_tool.specs.Fragment.{heading_text}
-use Rattle.pef_tool.proofs.RefusalLemmas.{same_printed, same_short}
+use Rattle.pef_answers.proofs.Laws.{same_printed, same_short}
 use Rattle.pef_tool.proofs.fragment.print_bytes.Goals as goal
 
 pub returns-in_err-send : goal.returns-in_err-send

@@ -9,12 +9,12 @@ use Rattle.cfm_prepare.specs.Contexts.{fresh_state}
 use Rattle.cfm_prepare.specs.Steps.{MayNotPrepare, Prepares}
 use Rattle.pef_ports.specs.Ports.{FilesPort}
 use Rattle.pef_request.specs.Requests.{pair_of}
-use Rattle.pef_tool.specs.Answers.{Delivers, answer_done, answer_refused}
+use Rattle.pef_answers.specs.Answers.{Delivers, answer_done, answer_refused}
 use Rattle.pef_tool.specs.Limits.{memory_limit}
 use Rattle.pef_tool.specs.Load.{context_of, first_name, lacks_memory, loads, paired, refuses, unreadable}
 use Rattle.pef_tool.specs.Loaded.{loaded_text}
-use Rattle.pef_tool.specs.Refusals.{prepare_refusal_text, refusal_text, unreadable_text}
-use Rattle.pef_tool.specs.declared.refusal.Refusal.TheVariants.{OutOfMemory}
+use Rattle.pef_answers.specs.Refusals.{prepare_refusal_text, refusal_text, unreadable_text}
+use Rattle.pef_answers.specs.declared.refusal.Refusal.TheVariants.{OutOfMemory}
 use Rattle.pef_tool.proofs.LoadLemmas.{first-is, lacks-all, some-files, were-length}
 use Rattle.pef_tool.proofs.load.load_files.Goals as goal
 
@@ -44,19 +44,19 @@ returns-in_default g c =
     let read = lacks-all port c.args.files.now c.read_files.new.files named contents c.in-Ok.ensures.read in
     (answer_refused (refusal_text OutOfMemory), (lacks_memory, inl (length named, contents, read), refl), c.deliver-in_default.ensures)
 
-pub returns-in-Ok-prepare_first : goal.returns-in-Ok-prepare_first
-returns-in-Ok-prepare_first g c =
+pub returns-in-Ok-prepare_root : goal.returns-in-Ok-prepare_root
+returns-in-Ok-prepare_root g c =
     let named = c.args.named.now in
     let contents = map items c.in-Ok.contents.items in
-    let s = c.in-Ok-prepare_first.loaded.context in
-    let number = c.in-Ok-prepare_first.loaded.connection.0 in
+    let s = c.in-Ok-prepare_root.loaded.context in
+    let number = c.in-Ok-prepare_root.loaded.connection.0 in
     let store : c.in-Ok-store_of.store ≡ paired (map pair_of named) contents = c.in-Ok-store_of.ensures ∙ ap (λ (vs : List (Vec ℕ Global)). paired (map pair_of named) (map items vs)) c.as_slice.ensures.value in
     let some : 0 < length named = some-files named c.is_empty.result c.is_empty.ensures c.if-is_empty.false in
     let name : c.as_bytes.result.now ≡ first_name (map pair_of named) = c.as_bytes.ensures.value ∙ sym (first-is named _ some) in
     let P : List Pair → Type 0 = λ pairs. Prepares (fresh_state pairs memory_limit) c.as_bytes.result.now number s in
     let Q : List ℕ → Type 0 = λ n. Prepares (context_of (map pair_of named) contents) n number s in
-    let prepared = subst Q name (subst P store c.in-Ok-prepare_first.ensures.prepared) in
-    (answer_done (loaded_text s number), (loads s number, record { contents = contents; read = c.in-Ok.ensures.read; prepared = prepared }, refl), c.deliver-in-Ok-prepare_first.ensures)
+    let prepared = subst Q name (subst P store c.in-Ok-prepare_root.ensures.prepared) in
+    (answer_done (loaded_text s number), (loads s number, record { contents = contents; read = c.in-Ok.ensures.read; prepared = prepared }, refl), c.deliver-in-Ok-prepare_root.ensures)
 
 pub returns : goal.returns
 returns g c =

@@ -3,8 +3,8 @@ use Rattle.std.proofs.Common.{ap}
 use Rattle.pef_ports.proofs.Laws.Sending.{Prints-then, Sends-short, Sends-then, StopsShort-longer, StopsShort-then}
 use Rattle.pef_tool.specs.Fragment.{sections_text}
 use Rattle.pef_tool.specs.Loaded.{name_in, sections_in}
-use Rattle.pef_tool.specs.Refusals.{name_end}
-use Rattle.pef_tool.proofs.RefusalLemmas.{same_printed, same_short}
+use Rattle.pef_answers.specs.Refusals.{name_end}
+use Rattle.pef_answers.proofs.Laws.{same_printed, same_short}
 use Rattle.pef_tool.proofs.loaded.print_fragment.Goals as goal
 
 pub returns-in_err-send : goal.returns-in_err-send

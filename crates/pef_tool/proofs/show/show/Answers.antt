@@ -1,9 +1,9 @@
 -- The input is read whole, and its script decides.
 use Rattle.std.proofs.Common.{sym, subst, refl}
-use Rattle.pef_tool.specs.Answers.{answer_refused}
-use Rattle.pef_tool.specs.Refusals.{refusal_text}
+use Rattle.pef_answers.specs.Answers.{answer_refused}
+use Rattle.pef_answers.specs.Refusals.{refusal_text}
 use Rattle.pef_tool.specs.Show.{ShowEnds, refuses, show_answer}
-use Rattle.pef_tool.specs.declared.refusal.Refusal.{Refusal}
+use Rattle.pef_answers.specs.declared.refusal.Refusal.{Refusal}
 use Rattle.pef_tool.proofs.OutcomeLemmas.{ends_with, fault_ends, no_script_shown}
 use Rattle.pef_tool.proofs.show.show.Goals as goal
 

@@ -1,10 +1,7 @@
--- What is made and what is left make the whole.
-use Rattle.std.proofs.Common.{◌≡◌, ◌++◌, ◌-◌, drop, length, map}
-use Rattle.pef_write.proofs.Programs.{plain_bytes}
+-- What is encoded and what is left make the whole.
+use Rattle.std.proofs.Common.{◌≡◌, ◌++◌, drop, map}
+use Rattle.pef_reloc.specs.Instrs.{spelled}
 use Rattle.pef_write.proofs.program.programs.Given as goal
 
-abbrev pub invariant-sections : goal.invariant-sections
-invariant-sections l = map (λ p. p.items) l.programs.items ++ drop (length l.programs.items) (map plain_bytes l.script.sections) ≡ map plain_bytes l.script.sections
-
-abbrev pub decreases-sections : goal.decreases-sections
-decreases-sections l = length l.script.sections - length l.programs.items
+abbrev pub invariant-loop-certificate : goal.invariant-loop-certificate
+invariant-loop-certificate l = map (λ p. p.items) l.programs.items ++ map (λ c. spelled c.program) (drop l.certificate-index l.certificates) ≡ map (λ c. spelled c.program) l.certificates

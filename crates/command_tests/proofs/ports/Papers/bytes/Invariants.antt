@@ -1,7 +1,0 @@
-use Rattle.std.proofs.Common.{◌≡◌, drop}
-use Rattle.command_tests.specs.Papers.{found_at, seen}
-use Rattle.command_tests.proofs.ports.Papers.bytes.Given as goal
-
--- what is left decides
-abbrev pub invariant-loop-paper : goal.invariant-loop-paper
-invariant-loop-paper l = found_at (seen (drop l.paper-index l.self.papers.items)) l.path ≡ found_at (seen l.self.papers.items) l.path

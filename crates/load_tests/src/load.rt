@@ -1,0 +1,218 @@
+use pef_tool::FileFault;
+use std::test::Fail;
+use test_bench::containers::{VECTORS_LEAST, changed};
+use test_bench::ports::Papers;
+use test_bench::runs::{assert_prints_over, put_file, put_linked, run_over};
+
+/// Scripts, and the paths at which their containers lie.
+const SCRIPTS: [(&str, &[u8]); 14] = [
+    (
+        "user",
+        b"library L 1 0 -\nimport v data strong\nsection a data process 4 4\nfix a 0 import v\n",
+    ),
+    (
+        "library",
+        b"versions 1 0 0\nsection l data process 4 4\nbytes l 0000002A\nexport v data l 0\n",
+    ),
+    (
+        "fixed",
+        b"versions 1 0 0\nsection l data process 4 4\nbytes l 0000002A\nfix l 0 section l\nexport v data l 0\n",
+    ),
+    (
+        "weak-symbol",
+        b"library L 1 0 -\nimport w data weak\nsection a data process 4 4\nbytes a 00000007\nfix a 0 import w\n",
+    ),
+    (
+        "strong-symbol",
+        b"library L 1 0 -\nimport w data strong\nsection a data process 4 4\nbytes a 00000007\nfix a 0 import w\n",
+    ),
+    (
+        "weak-library",
+        b"library L 1 0 weak\nimport v data strong\nsection a data process 4 4\nbytes a 00000007\nfix a 0 import v\n",
+    ),
+    ("before-a", b"library A 0 0 before\n"),
+    ("before-b", b"library B 0 0 before\n"),
+    ("old", b"library L 5 3 -\n"),
+    ("new", b"library L 0 0 -\n"),
+    ("grown", b"versions 5 3 0\n"),
+    ("odd-name", b"library a%b 0 0 -\n"),
+    // the library is placed first, and initialized behind the fragment that needs it
+    (
+        "first",
+        b"library L 0 0 -\nsection a data process 4 16\nmain a 4\ninit a 0\nterm a 8\n",
+    ),
+    (
+        "second",
+        b"library A 0 0 before\nsection l data process 4 16\nmain l 0\ninit l 4\nterm l 12\n",
+    ),
+];
+
+/// Containers of libraries and of fragments that need them: what `load` prints of them, and its status.
+#[test]
+fn load(rt: HostRuntime) -> Result<(), Fail> {
+    let rows: [(&[&str], &[u8], u8); 24] = [
+        (
+            &["load", "x=vectors"],
+            b"fragment x\nsection 0 at 00010000 size 8\n00010000 00112233 44556677\nsection 1 at 00010010 size 16\n00010010 00010000 00010010 00010004 00010010\nmain 00010010\n",
+            0,
+        ),
+        // a fragment that none needs isn't prepared; a file that is no container may be one
+        (
+            &["load", "A=user", "B=user", "C=text", "L=library"],
+            b"fragment L\nsection 0 at 00010000 size 4\n00010000 0000002A\nfragment A\nsection 0 at 00010010 size 4\n00010010 00010000\n",
+            0,
+        ),
+        (
+            &["load", "A=user", "L=fixed"],
+            b"fragment L\nsection 0 at 00010000 size 4\n00010000 0001002A\nfragment A\nsection 0 at 00010010 size 4\n00010010 00010000\n",
+            0,
+        ),
+        (
+            &["load", "L=fixed", "A=user"],
+            b"fragment L\nsection 0 at 00010000 size 4\n00010000 0001002A\n",
+            0,
+        ),
+        (
+            &["load", "A=weak-symbol", "L=library"],
+            b"fragment L\nsection 0 at 00010000 size 4\n00010000 0000002A\nfragment A\nsection 0 at 00010010 size 4\n00010010 00000007\n",
+            0,
+        ),
+        (
+            &["load", "A=weak-library"],
+            b"fragment A\nsection 0 at 00010000 size 4\n00010000 00000007\n",
+            0,
+        ),
+        (
+            &["load", "A=strong-symbol", "L=library"],
+            b"refused 62 SymbolMissing in A library L symbol w\n",
+            1,
+        ),
+        (
+            &["load", "A=user"],
+            b"refused 61 LibraryMissing in A library L\n",
+            1,
+        ),
+        (
+            &["load", "A=old", "L=library"],
+            b"refused 63 ImplementationTooOld in A library L\n",
+            1,
+        ),
+        (
+            &["load", "A=new", "L=grown"],
+            b"refused 64 ImplementationTooNew in A library L\n",
+            1,
+        ),
+        (
+            &["load", "A=before-b", "B=before-a"],
+            b"refused 66 InitLoop in B\n",
+            1,
+        ),
+        (
+            &["load", "A=first", "L=second"],
+            b"fragment L\nsection 0 at 00010000 size 16\n00010000 00000000 00000000 00000000 00000000\nfragment A\nsection 0 at 00010010 size 16\n00010010 00000000 00000000 00000000 00000000\ninit A 00010010\ninit L 00010004\nmain 00010014\nterm L 0001000C\nterm A 00010018\n",
+            0,
+        ),
+        // the same fragments, of which the other is the root
+        (
+            &["load", "L=second", "A=first"],
+            b"fragment A\nsection 0 at 00010000 size 16\n00010000 00000000 00000000 00000000 00000000\nfragment L\nsection 0 at 00010010 size 16\n00010010 00000000 00000000 00000000 00000000\ninit A 00010000\ninit L 00010014\nmain 00010010\nterm L 0001001C\nterm A 00010008\n",
+            0,
+        ),
+        // names are escaped; a path may have a `=`
+        (
+            &["load", "a b=odd-name", "a%b=x=y"],
+            b"fragment a%25b\nfragment a%20b\n",
+            0,
+        ),
+        (
+            &["load", "a b=odd-name"],
+            b"refused 61 LibraryMissing in a%20b library a%25b\n",
+            1,
+        ),
+        // of pairs with one name the first counts, and all files are read
+        (
+            &["load", "A=user", "L=library", "L=fixed", "A=old"],
+            b"fragment L\nsection 0 at 00010000 size 4\n00010000 0000002A\nfragment A\nsection 0 at 00010010 size 4\n00010010 00010000\n",
+            0,
+        ),
+        (
+            &["load", "A=text", "B=user", "A=missing"],
+            b"refused 71 FileUnreadable missing\n",
+            1,
+        ),
+        (
+            &["load", "x=missing"],
+            b"refused 71 FileUnreadable missing\n",
+            1,
+        ),
+        (&["load", "x="], b"refused 71 FileUnreadable \n", 1),
+        (&["load", "x=a b"], b"refused 71 FileUnreadable a%20b\n", 1),
+        (&["load", "x=text"], b"refused 1 TooShort in x\n", 1),
+        // also a weak library that can't be read is refused
+        (
+            &["load", "A=weak-library", "L=text"],
+            b"refused 1 TooShort in L\n",
+            1,
+        ),
+        // a relocation header of more halfwords than the program has: the second names section 367
+        (
+            &["load", "x=longer"],
+            b"refused 39 SectionOutside in x\n",
+            1,
+        ),
+        (&["load", "x=vectors", "y"], b"usage\n", 2),
+    ];
+    let alloc = rt.alloc();
+    let mut papers = Papers::new(alloc, 0, FileFault::Failed);
+    for (path, script) in SCRIPTS {
+        put_linked(alloc, &mut papers, path, script)?;
+    }
+    put_linked(alloc, &mut papers, "x=y", b"")?;
+    put_file(&mut papers, "vectors", VECTORS_LEAST)?;
+    let longer = changed(alloc, VECTORS_LEAST, 223, b"\x02")?;
+    put_file(&mut papers, "longer", longer.as_slice())?;
+    put_file(&mut papers, "text", b"versions 1 0 0\n")?;
+    for (words, printed, status) in rows {
+        assert_prints_over(alloc, &mut papers, words, printed, status)?;
+    }
+    Ok(())
+}
+
+/// A call that reads a file fails, or memory is refused to it: no file behind it is read.
+#[test]
+fn load_files_fail(rt: HostRuntime) -> Result<(), Fail> {
+    let rows: [(u32, FileFault, &[u8], u64); 4] = [
+        (1, FileFault::Failed, b"refused 71 FileUnreadable a\n", 1),
+        (2, FileFault::Failed, b"refused 71 FileUnreadable b\n", 2),
+        (1, FileFault::OutOfMemory, b"refused 99 OutOfMemory\n", 1),
+        (3, FileFault::OutOfMemory, b"refused 99 OutOfMemory\n", 3),
+    ];
+    for (call, fault, printed, reads) in rows {
+        let mut papers = Papers::new(rt.alloc(), call, fault);
+        for path in ["a", "b", "c"] {
+            put_file(&mut papers, path, VECTORS_LEAST)?;
+        }
+        let words = ["load", "A=a", "B=b", "C=c"];
+        assert_prints_over(rt.alloc(), &mut papers, &words, printed, 1)?;
+        assert_eq!(rt; papers.calls(), (reads, 0));
+    }
+    Ok(())
+}
+
+/// The most files, and one more.
+#[test]
+fn load_many(rt: HostRuntime) -> Result<(), Fail> {
+    let alloc = rt.alloc();
+    let mut papers = Papers::new(alloc, 0, FileFault::Failed);
+    put_file(&mut papers, "x", VECTORS_LEAST)?;
+    let mut words = Vec::new(alloc);
+    words.push("load")?;
+    for _ in 0..256 {
+        words.push("x=x")?;
+    }
+    let (_, status) = run_over(alloc, &mut papers, words.as_slice())?;
+    assert_eq!(rt; status, 0);
+    assert_eq!(rt; papers.calls(), (256, 0));
+    words.push("x=x")?;
+    assert_prints_over(alloc, &mut papers, words.as_slice(), b"usage\n", 2)
+}

@@ -1,0 +1,225 @@
+//! Containers that `link` doesn't write.
+
+use pef_tool::FileFault;
+use std::test::Fail;
+use test_bench::containers::{SPELLED, TWICE, changed};
+use test_bench::ports::Papers;
+use test_bench::runs::{assert_prints_over, put_file, put_linked};
+
+/// A library that is spelled by hand: with a plain section, with three bytes of pattern-initialized data (byte
+/// 7F ten times), and with two relocation headers.
+#[derive(Clone, Copy)]
+enum Library {
+    Plain,
+    Packed,
+    Twice,
+}
+
+/// Such libraries, each with other bytes from a place on, and what `load` prints of a fragment that needs it.
+const SPELLED_ROWS: [(Library, usize, &[u8], &[u8]); 24] = [
+    (
+        Library::Plain,
+        0,
+        b"",
+        b"fragment P\nsection 0 at 00010000 size 16\n00010000 20FFFFFF FF800102 03040000 00010000\nfragment A\n",
+    ),
+    (
+        Library::Packed,
+        0,
+        b"",
+        b"fragment P\nsection 0 at 00010000 size 16\n00010000 7F7F7F7F 7F807F7F 7F7F0000 00010000\nfragment A\n",
+    ),
+    (Library::Plain, 0, b"j", b"refused 2 BadTag in P\n"),
+    (
+        Library::Plain,
+        84,
+        b"\x00\x00\x00\x00",
+        b"refused 11 LoaderShort in P\n",
+    ),
+    (Library::Packed, 59, b"\x02", b"refused 21 Truncated in P\n"),
+    (Library::Packed, 96, b"\xA1", b"refused 22 BadOpcode in P\n"),
+    (
+        Library::Plain,
+        64,
+        b"\x02",
+        b"refused 23 CountTooLarge in P\n",
+    ),
+    (Library::Packed, 97, b"\x0A", b"refused 24 TooLong in P\n"),
+    (Library::Packed, 97, b"\x08", b"refused 25 TooShort in P\n"),
+    (
+        Library::Plain,
+        180,
+        b"\x4C\x00",
+        b"refused 31 BadOpcode in P\n",
+    ),
+    (
+        Library::Plain,
+        190,
+        b"\xA0\x00",
+        b"refused 32 CutInstruction in P\n",
+    ),
+    (
+        Library::Plain,
+        180,
+        b"\x90\x00",
+        b"refused 33 RepeatTooFar in P\n",
+    ),
+    (
+        Library::Plain,
+        184,
+        b"\x90\x00",
+        b"refused 34 RepeatCuts in P\n",
+    ),
+    (
+        Library::Plain,
+        180,
+        b"\x42\x00\x90\x01\x90\x01",
+        b"refused 35 NestedRepeat in P\n",
+    ),
+    (
+        Library::Plain,
+        180,
+        b"\x80\x00\x80\x00\x80\x00\x80\x00\xB0\xFF\xFF\xFF",
+        b"refused 36 TooManySteps in P\n",
+    ),
+    (
+        Library::Plain,
+        189,
+        b"\x0D",
+        b"refused 37 WordOutside in P\n",
+    ),
+    (
+        Library::Plain,
+        190,
+        b"\x4A\x00",
+        b"refused 38 ImportOutside in P\n",
+    ),
+    (
+        Library::Plain,
+        191,
+        b"\x01",
+        b"refused 39 SectionOutside in P\n",
+    ),
+    (
+        Library::Plain,
+        48,
+        b"\x0F\xFF\x00\x01",
+        b"refused 67 NoRoom in P\n",
+    ),
+    // a repeat that runs one addition three further times
+    (
+        Library::Plain,
+        180,
+        b"\x40\x00\x90\x02\x80\x00\x80\x00\x80\x00\x80\x00",
+        b"fragment P\nsection 0 at 00010000 size 16\n00010000 2100FFFF FF800102 03050000 00010000\nfragment A\n",
+    ),
+    // raw data that is longer than the image: what is behind the image isn't read
+    (
+        Library::Plain,
+        55,
+        b"\x04",
+        b"fragment P\nsection 0 at 00010000 size 16\n00010000 20FFFFFF 00010000 00000000 00010000\nfragment A\n",
+    ),
+    // two headers for one section: each program begins at the section's first byte
+    (
+        Library::Twice,
+        0,
+        b"",
+        b"fragment P\nsection 0 at 00010000 size 16\n00010000 2100FFFF FF810102 03040000 00000000\nfragment A\n",
+    ),
+    // the first program is run before the second is read
+    (
+        Library::Twice,
+        195,
+        b"\x0D\x66\x00\x4C\x00",
+        b"refused 37 WordOutside in P\n",
+    ),
+    (
+        Library::Twice,
+        198,
+        b"\x4C\x00",
+        b"refused 31 BadOpcode in P\n",
+    ),
+];
+
+#[test]
+fn load_spelled(rt: HostRuntime) -> Result<(), Fail> {
+    let alloc = rt.alloc();
+    let mut papers = Papers::new(alloc, 0, FileFault::Failed);
+    put_linked(alloc, &mut papers, "needs-p", b"library P 0 0 -\n")?;
+    let kind = changed(alloc, SPELLED, 64, b"\x02")?;
+    let size = changed(alloc, kind.as_slice(), 59, b"\x03")?;
+    let packed = changed(alloc, size.as_slice(), 96, b"\x41\x09\x7F")?;
+    for (library, at, other, printed) in SPELLED_ROWS {
+        let base = match library {
+            Library::Plain => SPELLED,
+            Library::Packed => packed.as_slice(),
+            Library::Twice => TWICE,
+        };
+        let container = changed(alloc, base, at, other)?;
+        put_file(&mut papers, "p", container.as_slice())?;
+        let status = if printed.starts_with(b"fragment") {
+            0
+        } else {
+            1
+        };
+        let words = ["load", "A=needs-p", "P=p"];
+        assert_prints_over(alloc, &mut papers, &words, printed, status)?;
+    }
+    Ok(())
+}
+
+/// Scripts whose export is made to pass on their import, and the paths at which their containers lie.
+const CIRCLES: [(&str, &[u8]); 4] = [
+    (
+        "own",
+        b"versions 1 0 0\nlibrary P 1 0 -\nimport u data strong\nsection m data process 4 4\nexport u data m 0\n",
+    ),
+    (
+        "own-behind-a",
+        b"versions 1 0 0\nlibrary A 0 0 -\nlibrary P 1 0 -\nimport u data strong\nsection m data process 4 4\nexport u data m 0\n",
+    ),
+    (
+        "p",
+        b"library Q 0 0 -\nimport q data strong\nsection m data process 4 4\nexport p data m 0\n",
+    ),
+    (
+        "q",
+        b"library P 0 0 -\nimport p data strong\nsection m data process 4 4\nexport q data m 0\n",
+    ),
+];
+
+/// Exports that pass on an import around a circle: the import is named that led into it, with its fragment.
+#[test]
+fn load_circles(rt: HostRuntime) -> Result<(), Fail> {
+    let rows: [(&[&str], &[u8]); 3] = [
+        (
+            &["load", "A=user", "P=own"],
+            b"refused 65 ReexportLoop in P symbol u\n",
+        ),
+        (
+            &["load", "P=own-behind-a", "A=user"],
+            b"refused 65 ReexportLoop in A symbol u\n",
+        ),
+        (
+            &["load", "P=p", "Q=q"],
+            b"refused 65 ReexportLoop in Q symbol p\n",
+        ),
+    ];
+    let alloc = rt.alloc();
+    let mut papers = Papers::new(alloc, 0, FileFault::Failed);
+    for (path, script) in CIRCLES {
+        put_linked(alloc, &mut papers, "linked", script)?;
+        let linked = papers.bytes(b"linked").ok_or("nothing was linked")?;
+        // the section of the only export stands at the end
+        let at = linked.len().saturating_sub(2);
+        let circle = changed(alloc, linked, at, b"\xFF\xFD")?;
+        put_file(&mut papers, path, circle.as_slice())?;
+    }
+    let user = b"library P 1 0 -\nimport u data strong\n";
+    put_linked(alloc, &mut papers, "user", user)?;
+    for (words, printed) in rows {
+        assert_prints_over(alloc, &mut papers, words, printed, 1)?;
+    }
+    Ok(())
+}

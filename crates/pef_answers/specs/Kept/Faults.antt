@@ -1,0 +1,25 @@
+-- What the faults of the readers of inputs, scripts and certificates are told as.
+use Rattle.pef_cert_text.specs.declared.fault.CertFault.{CertFault}
+use Rattle.pef_cert_text.specs.declared.fault.CertFault.TheVariants as cert_fault
+use Rattle.pef_ports.specs.declared.input.InputFault.{InputFault}
+use Rattle.pef_ports.specs.declared.input.InputFault.TheVariants as input_fault
+use Rattle.pef_script.specs.declared.fault.ScriptFault.{ScriptFault}
+use Rattle.pef_script.specs.declared.fault.ScriptFault.TheVariants as script_fault
+use Rattle.pef_answers.specs.declared.refusal.Refusal.{Refusal}
+use Rattle.pef_answers.specs.declared.refusal.Refusal.TheVariants as refusal
+
+-- what a fault of reading the input is told as
+abbrev pub input_refusal : InputFault → Refusal
+input_refusal input_fault.Unreadable = refusal.InputUnreadable
+input_refusal input_fault.TooLong = refusal.InputTooLong
+input_refusal input_fault.OutOfMemory = refusal.OutOfMemory
+
+-- what a fault of reading a script is told as
+abbrev pub script_refusal : ScriptFault → Refusal
+script_refusal (script_fault.Refused fault line) = refusal.Script fault line
+script_refusal script_fault.OutOfMemory = refusal.OutOfMemory
+
+-- what a fault of reading certificates is told as
+abbrev pub certificate_refusal : CertFault → Refusal
+certificate_refusal (cert_fault.BadCertificate line) = refusal.BadCertificate line
+certificate_refusal cert_fault.OutOfMemory = refusal.OutOfMemory

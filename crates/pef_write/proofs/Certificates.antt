@@ -1,0 +1,120 @@
+-- Certificates for the sections of a script: their programs are programs for the sections, and least ones.
+use Rattle.std.proofs.Common.{◌≡◌, ◌∙◌, ℕ, zero, suc, ◌+◌, ◌<◌, Bool, true, false, ◌&&◌, ◌||◌, List, [], ◌∷◌, ◌++◌, None, Some, option_map, slice_get, length, take, map, refl, sym, ap, subst, arith}
+use Rattle.std.specs.List.{All, AllByRecursion}
+use Rattle.std.proofs.lemmas.Bool.{eqb-true, lt-ltb}
+use Rattle.std.proofs.lemmas.List.{length-append, length-take-le, take_all, take_more}
+use Rattle.std.proofs.lemmas.List.Elements.{All-cons}
+use Rattle.std.proofs.lemmas.Option.{get_or_from_slice_get, slice_get_within}
+use Rattle.pef_cert.specs.Valid.{Certified}
+use Rattle.pef_cert.proofs.Laws.{valid-least}
+use Rattle.pef_plan.proofs.Laws.{least-names, least-short}
+use Rattle.pef_reloc.specs.declared.fixup.Base.{Base}
+use Rattle.pef_reloc.specs.declared.fixup.Base.TheVariants.{Section, Import}
+use Rattle.pef_reloc.specs.declared.fixup.Fixup.{Fixup}
+use Rattle.pef_reloc.specs.declared.instr.Instr.{Instr}
+use Rattle.pef_reloc.specs.Deliveries.{all_meet, is_section, named_imports, names_used, uses_import, uses_section}
+use Rattle.pef_reloc.specs.Instrs.{instrs_fit, repeat_free}
+use Rattle.pef_reloc.specs.Steps.{Least, all_below, named_sections, names_below}
+use Rattle.pef_script.specs.Script.{DescribedSection}
+use Rattle.pef_script.specs.WellFormed.{BaseThere, SectionHolds}
+use Rattle.pef_words.proofs.Laws.Tests.{both_met, met_both}
+use Rattle.pef_write.specs.Linked.{AreCertified, AreProgramsFor, IsCertified, IsProgramFor}
+use Rattle.pef_write.proofs.Listing.{none_past}
+
+-- a section that fixups use is there
+base_there : (n j k : ℕ) (b : Base) → BaseThere n j b → is_section k b ≡ true → k < n
+base_there n j k (Section i) there own = (let same = eqb-true i k own in omega (arith, same, there))
+base_there n j k (Import i) there own = absurd (cc)
+
+used_there : (n j k : ℕ) (fixups : List Fixup) → AllByRecursion (λ (fixup : Fixup). BaseThere n j fixup.base) fixups → uses_section fixups k ≡ true → k < n
+used_there n j k [] there used = absurd (cc)
+used_there n j k (f ∷ fixups) there used = by (is_section k f.base) refl used (used_there n j k fixups there.1)
+  where
+    by : (own : Bool) → is_section k f.base ≡ own → (own || uses_section fixups k) ≡ true → (uses_section fixups k ≡ true → k < n) → k < n
+    by true own either later = base_there n j k f.base there.0 own
+    by false own either later = later either
+
+-- so names of what is used are names of sections that are there
+all_there : (n j : ℕ) (fixups : List Fixup) (ks : List ℕ) → AllByRecursion (λ (fixup : Fixup). BaseThere n j fixup.base) fixups → all_meet (uses_section fixups) ks ≡ true → all_below n ks ≡ true
+all_there n j fixups [] there used = refl
+all_there n j fixups (k ∷ ks) there used =
+    let parts = met_both (uses_section fixups k) (all_meet (uses_section fixups) ks) used in
+    both_met _ _ (lt-ltb k n (used_there n j k fixups there parts.0)) (all_there n j fixups ks there parts.1)
+
+names_there : (n j : ℕ) (fixups : List Fixup) (instrs : List Instr) → AllByRecursion (λ (fixup : Fixup). BaseThere n j fixup.base) fixups → names_used fixups instrs ≡ true → names_below n instrs ≡ true
+names_there n j fixups [] there used = refl
+names_there n j fixups (x ∷ instrs) there used =
+    let parts = met_both (all_meet (uses_section fixups) (named_sections x) && all_meet (uses_import fixups) (named_imports x)) (names_used fixups instrs) used in
+    let own = met_both (all_meet (uses_section fixups) (named_sections x)) (all_meet (uses_import fixups) (named_imports x)) parts.0 in
+    both_met (all_below n (named_sections x)) (names_below n instrs) (all_there n j fixups (named_sections x) there own.0) (names_there n j fixups instrs there parts.1)
+
+-- a certified program is a least one
+pub certified_least : (n j k : ℕ) (s : DescribedSection) (c : Certified) → SectionHolds n j s → IsCertified k s.fixups c → Least s.fixups c.program
+certified_least n j k s c holds is = valid-least s.fixups c holds.fixups is.valid
+
+-- .. and one for its section
+certified_program : (n j k : ℕ) (s : DescribedSection) (c : Certified) → SectionHolds n j s → IsCertified k s.fixups c → IsProgramFor n s.fixups c.program
+certified_program n j k s c holds is =
+    let least = certified_least n j k s c holds is in
+    record {
+      flat = least.flat;
+      makes = least.makes;
+      names = names_there n j s.fixups c.program holds.bases (least-names s.fixups c.program least);
+      short = least-short s.fixups c.program holds.fixups least;
+    }
+
+pub certified_programs : (n j k : ℕ) (sections : List DescribedSection) (certificates : List Certified) → AllByRecursion (SectionHolds n j) sections → AreCertified k sections certificates → AreProgramsFor n sections (map (λ c. c.program) certificates)
+certified_programs n j k [] [] holds are = tt
+certified_programs n j k [] (c ∷ certificates) holds are = absurd are
+certified_programs n j k (s ∷ sections) [] holds are = absurd are
+certified_programs n j k (s ∷ sections) (c ∷ certificates) holds are =
+    (certified_program n j k s c holds.0 are.0, certified_programs n j (k + 1) sections certificates holds.1 are.1)
+
+-- .. whose fields fit
+pub certified_fit : (k : ℕ) (sections : List DescribedSection) (certificates : List Certified) → AreCertified k sections certificates → All (λ (c : Certified). instrs_fit c.program ≡ true) certificates
+certified_fit k [] [] are = λ i d under. absurd (omega arith)
+certified_fit k [] (c ∷ certificates) are = absurd are
+certified_fit k (s ∷ sections) [] are = absurd are
+certified_fit k (s ∷ sections) (c ∷ certificates) are =
+    All-cons (λ (c : Certified). instrs_fit c.program ≡ true) c certificates (met_both (repeat_free c.program) (instrs_fit c.program) are.0.valid.flat).1 (certified_fit (k + 1) sections certificates are.1)
+
+-- one certificate more, for the section behind
+certified_behind : (k : ℕ) (sections : List DescribedSection) (certificates : List Certified) (s : DescribedSection) (c : Certified) → AreCertified k sections certificates → IsCertified (k + length sections) s.fixups c → AreCertified k (sections ++ s ∷ []) (certificates ++ c ∷ [])
+certified_behind k [] [] s c are is = (let at : k + 0 ≡ k = omega arith in (subst (λ n. IsCertified n s.fixups c) at is, tt))
+certified_behind k [] (d ∷ certificates) s c are is = absurd are
+certified_behind k (t ∷ sections) [] s c are is = absurd are
+certified_behind k (t ∷ sections) (d ∷ certificates) s c are is =
+    let at : k + suc (length sections) ≡ k + 1 + length sections = omega arith in
+    (are.0, certified_behind (k + 1) sections certificates s c are.1 (subst (λ n. IsCertified n s.fixups c) at is))
+
+-- the section that fixups are of
+pub section_with : (sections : List DescribedSection) (n : ℕ) (fixups : List Fixup) → Some fixups ≡ option_map (λ section. section.fixups) (slice_get sections n) → (s : DescribedSection) × (slice_get sections n ≡ Some s) × (s.fixups ≡ fixups)
+section_with [] n fixups found = absurd (cc)
+section_with (s ∷ sections) zero fixups found = (s, refl, cc)
+section_with (s ∷ sections) (suc n) fixups found = section_with sections n fixups found
+
+pub section_under : (sections : List DescribedSection) (n : ℕ) (fixups : List Fixup) → Some fixups ≡ option_map (λ section. section.fixups) (slice_get sections n) → n < length sections
+section_under sections n fixups found = (let s = section_with sections n fixups found in slice_get_within sections n s.0 s.1)
+
+pub no_section : (sections : List DescribedSection) (n : ℕ) → None ≡ option_map (λ section. section.fixups) (slice_get sections n) → slice_get sections n ≡ None
+no_section [] n none = refl
+no_section (s ∷ sections) zero none = absurd (cc)
+no_section (s ∷ sections) (suc n) none = no_section sections n none
+
+-- certificates so far, and one more
+pub certified_more : (sections : List DescribedSection) (done now : List Certified) (fixups : List Fixup) (c : Certified) → now ≡ done ++ c ∷ [] → Some fixups ≡ option_map (λ section. section.fixups) (slice_get sections (length done)) → IsCertified (length done) fixups c
+    → AreCertified 0 (take (length done) sections) done → AreCertified 0 (take (length now) sections) now
+certified_more sections done now fixups c pushed found is are =
+    let s = section_with sections (length done) fixups found in
+    let under = slice_get_within sections (length done) s.0 s.1 in
+    let size : length now ≡ length done + 1 = ap length pushed ∙ length-append done (c ∷ []) in
+    let taken : take (length now) sections ≡ take (length done) sections ++ s.0 ∷ [] =
+    ap (λ n. take n sections) size ∙ take_more sections (length done) s.0 under ∙ ap (λ x. take (length done) sections ++ x ∷ []) (get_or_from_slice_get sections (length done) s.0 s.0 s.1) in
+    let at : length done ≡ 0 + length (take (length done) sections) = omega (arith, length-take-le (length done) sections (omega (arith, under))) in
+    let own : IsCertified (0 + length (take (length done) sections)) s.0.fixups c = subst (λ n. IsCertified n s.0.fixups c) at (subst (λ fs. IsCertified (length done) fs c) (sym s.2) is) in
+    subst (λ cs. AreCertified 0 (take (length now) sections) cs) (sym pushed)
+    (subst (λ ss. AreCertified 0 ss (done ++ c ∷ [])) (sym taken) (certified_behind 0 (take (length done) sections) done s.0 c are own))
+
+pub certified_all : (sections : List DescribedSection) (done : List Certified) → None ≡ option_map (λ section. section.fixups) (slice_get sections (length done)) → AreCertified 0 (take (length done) sections) done → AreCertified 0 sections done
+certified_all sections done none are =
+    subst (λ (ss : List DescribedSection). AreCertified 0 ss done) (take_all (length done) sections (none_past sections (length done) (no_section sections (length done) none))) are

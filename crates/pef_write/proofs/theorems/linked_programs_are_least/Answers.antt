@@ -1,0 +1,6 @@
+-- The programs of what is linked are least ones.
+use Rattle.pef_write.proofs.LeastLemmas.{least_program}
+use Rattle.pef_write.proofs.theorems.linked_programs_are_least.Goals as goal
+
+pub returns : goal.returns
+returns c = least_program

@@ -1,0 +1,7 @@
+use Rattle.std.proofs.Common.{◌≡◌, drop}
+use Rattle.test_bench.specs.Papers.{found_at, seen}
+use Rattle.test_bench.proofs.ports.Papers.bytes.Given as goal
+
+-- what is left decides
+abbrev pub invariant-loop-paper : goal.invariant-loop-paper
+invariant-loop-paper l = found_at (seen (drop l.paper-index l.self.papers.items)) l.path ≡ found_at (seen l.self.papers.items) l.path

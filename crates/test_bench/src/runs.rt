@@ -1,0 +1,196 @@
+//! Runs over files, an input and an output in memory.
+
+ghost use Rattle.std.specs.Prelude.{◌<◌};
+
+use crate::ports::{Papers, Sheet, Text};
+use pef_tool::{FileFault, run};
+use std::alloc::{AllocError, Global};
+use std::test::Fail;
+
+/// What a run is handed. Where a call is numbered 0, none fails.
+#[derive(Clone, Copy)]
+pub struct Handed<'a> {
+    /// The words behind the program's name.
+    pub words: &'a [&'a str],
+    /// What the file `a` has.
+    pub file: &'a [u8],
+    /// What the file `b` has, where it is there; there is no other.
+    pub second: Option<&'a [u8]>,
+    pub input: &'a [u8],
+    /// How many bytes the input gives and the output takes a call.
+    pub step: usize,
+    /// The call of the input that fails.
+    pub input_fails_at: u32,
+    /// The call of the output that fails.
+    pub out_fails_at: u32,
+    /// The call of the files that fails, and how.
+    pub files_fail_at: u32,
+    pub fault: FileFault,
+}
+
+impl<'a> Handed<'a> {
+    ghost use Rattle.std.specs.Prelude.{◌≡◌};
+
+    /// Words and an input, where nothing fails.
+    pub fn input(words: &'a [&'a str], input: &'a [u8]) -> Handed<'a>
+        ensures { result.step ≡ 1000 }
+    {
+        Handed {
+            words,
+            file: b"",
+            second: None,
+            input,
+            step: 1000,
+            input_fails_at: 0,
+            out_fails_at: 0,
+            files_fail_at: 0,
+            fault: FileFault::Failed,
+        }
+    }
+
+    /// Words and the files `a` and `b`, where nothing fails.
+    pub fn files(words: &'a [&'a str], file: &'a [u8], second: &'a [u8]) -> Handed<'a>
+        ensures { result.step ≡ 1000 }
+    {
+        Handed {
+            second: Some(second),
+            ..Handed::file(words, file)
+        }
+    }
+
+    /// Words and the file `a`, where nothing fails.
+    pub fn file(words: &'a [&'a str], file: &'a [u8]) -> Handed<'a>
+        ensures { result.step ≡ 1000 }
+    {
+        Handed {
+            file,
+            ..Handed::input(words, b"")
+        }
+    }
+}
+
+/// What a run leaves.
+#[derive(Drop)]
+pub struct Outcome {
+    pub printed: Vec<u8>,
+    pub status: u8,
+    pub papers: Papers,
+    /// How many bytes of the input are still to come.
+    pub left: usize,
+}
+
+impl Outcome {
+    /// Whether a file has just these bytes.
+    pub fn has(&self, path: &[u8], bytes: &[u8]) -> bool {
+        self.papers.bytes(path) == Some(bytes)
+    }
+}
+
+/// Runs the tool on words over files: its status.
+fn run_words(
+    alloc: Global,
+    words: &[&str],
+    papers: &mut Papers,
+    input: &mut Text<'_>,
+    out: &mut Sheet,
+) -> Result<u8, AllocError> {
+    let mut line = Vec::new(alloc);
+    line.push(String::from_str(alloc, "pef")?)?;
+    for word in words {
+        line.push(String::from_str(alloc, word)?)?;
+    }
+    Ok(run(alloc, line.as_slice(), papers, input, out))
+}
+
+/// Puts a file at a path.
+pub fn put_file(papers: &mut Papers, path: &str, bytes: &[u8]) -> Result<(), Fail> {
+    match papers.put(path.as_bytes(), bytes) {
+        Ok(()) => Ok(()),
+        Err(_) => Err(Fail::new("no memory for a file")),
+    }
+}
+
+/// Runs the tool.
+pub fn run_tool(alloc: Global, handed: Handed<'_>) -> Result<Outcome, Fail>
+    requires { 0 < handed.step }
+{
+    let mut papers = Papers::new(alloc, handed.files_fail_at, handed.fault);
+    put_file(&mut papers, "a", handed.file)?;
+    if let Some(second) = handed.second {
+        put_file(&mut papers, "b", second)?;
+    }
+    let mut input = Text::new(handed.input, handed.step, handed.input_fails_at);
+    let mut out = Sheet::new(alloc, handed.step, handed.out_fails_at);
+    let status = run_words(alloc, handed.words, &mut papers, &mut input, &mut out)?;
+    Ok(Outcome {
+        printed: out.into_bytes(),
+        status,
+        papers,
+        left: input.rest().len(),
+    })
+}
+
+/// Runs the tool, which must print this and end with this status.
+pub fn assert_prints(
+    alloc: Global,
+    handed: Handed<'_>,
+    printed: &[u8],
+    status: u8,
+) -> Result<Outcome, Fail>
+    requires { 0 < handed.step }
+{
+    let outcome = run_tool(alloc, handed)?;
+    if outcome.printed.as_slice() != printed || outcome.status != status {
+        return Err(unlike(handed.words, &outcome.printed, outcome.status));
+    }
+    Ok(outcome)
+}
+
+/// Runs the tool over files, with an empty input. It must print this and end with this status.
+pub fn assert_prints_over(
+    alloc: Global,
+    papers: &mut Papers,
+    words: &[&str],
+    printed: &[u8],
+    status: u8,
+) -> Result<(), Fail> {
+    let (told, ended) = run_over(alloc, papers, words)?;
+    if told.as_slice() != printed || ended != status {
+        return Err(unlike(words, &told, ended));
+    }
+    Ok(())
+}
+
+/// Runs the tool over files, with an empty input: what it prints, and its status.
+pub fn run_over(
+    alloc: Global,
+    papers: &mut Papers,
+    words: &[&str],
+) -> Result<(Vec<u8>, u8), AllocError> {
+    let mut input = Text::new(b"", 1000, 0);
+    let mut out = Sheet::new(alloc, 1000, 0);
+    let status = run_words(alloc, words, papers, &mut input, &mut out)?;
+    Ok((out.into_bytes(), status))
+}
+
+/// Puts the container of a script at a path, and the script at `script`.
+pub fn put_linked(
+    alloc: Global,
+    papers: &mut Papers,
+    path: &str,
+    script: &[u8],
+) -> Result<(), Fail> {
+    put_file(papers, "script", script)?;
+    let words = ["link", "script", path];
+    let (told, status) = run_over(alloc, papers, &words)?;
+    if status != 0 {
+        return Err(unlike(&words, &told, status));
+    }
+    Ok(())
+}
+
+/// A failure that tells what a run printed, and its status.
+fn unlike(words: &[&str], printed: &[u8], status: u8) -> Fail {
+    let printed = str::from_utf8(printed).unwrap_or("no text");
+    Fail::new(format_args!("{words:?} ends with {status} and prints {printed}"))
+}
