@@ -1,7 +1,7 @@
-use crate::scripts::{VECTORS, VECTORS_CERTIFIED};
 use pef_tool::FileFault;
 use std::test::Fail;
 use test_bench::runs::{Handed, assert_prints};
+use test_bench::scripts::{VECTORS, VECTORS_CERTIFIED};
 
 const WORDS: [&str; 3] = ["check", "a", "b"];
 

@@ -1,10 +1,10 @@
-use crate::scripts::{EXAMPLE, EXAMPLE_SHOWN, VECTORS, VECTORS_LINKED};
 use pef_ports::{InputFault, read_input};
 use pef_tool::FileFault;
 use std::test::Fail;
 use test_bench::containers::VECTORS_LEAST;
 use test_bench::ports::Text;
 use test_bench::runs::{Handed, assert_prints};
+use test_bench::scripts::{EXAMPLE, EXAMPLE_SHOWN, VECTORS, VECTORS_LINKED};
 
 /// An output that takes a byte a call, and fails at call k: k - 1 bytes go out, though it would go on.
 #[test]

@@ -1,13 +1,11 @@
-//! Tests of the commands through `run`, over files, an input and an output in memory. Those of `load`, and of
-//! scripts with libraries, stand in a crate of their own.
+//! Tests of the commands through `run`, over files, an input and an output in memory. Those of `load`
+//! and of `distances` stand in crates of their own.
 //!
 //! Expected values come from the documents and from worked examples, never from the program.
 #![tactic(auto)]
 
 #[cfg(test)]
 mod check;
-#[cfg(test)]
-mod distances;
 #[cfg(test)]
 mod failures;
 #[cfg(test)]
@@ -18,10 +16,6 @@ mod link;
 mod list;
 #[cfg(test)]
 mod listings;
-#[cfg(test)]
-mod plans;
-#[cfg(test)]
-mod scripts;
 #[cfg(test)]
 mod show;
 #[cfg(test)]

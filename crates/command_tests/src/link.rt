@@ -1,10 +1,10 @@
-use crate::scripts::{
-    EMPTY_CONTAINER, EXAMPLE, EXAMPLE_CONTAINER, EXAMPLE_LINKED, EXAMPLE_PROGRAM, EXAMPLE_SHOWN,
-    VECTORS, VECTORS_LINKED,
-};
 use std::test::Fail;
 use test_bench::containers::{VECTORS_LEAST, changed};
 use test_bench::runs::{Handed, assert_prints, assert_prints_over};
+use test_bench::scripts::{
+    EMPTY_CONTAINER, EXAMPLE, EXAMPLE_CONTAINER, EXAMPLE_LINKED, EXAMPLE_PROGRAM, EXAMPLE_SHOWN,
+    VECTORS, VECTORS_LINKED,
+};
 
 /// Scripts, what `link` prints of them, and their containers, also over the script itself.
 #[test]

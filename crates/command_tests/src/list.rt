@@ -1,9 +1,9 @@
 use crate::listings::{RICH_LISTED, VECTORS_LISTED};
-use crate::scripts::EMPTY_CONTAINER;
 use pef_tool::FileFault;
 use std::test::Fail;
 use test_bench::containers::{RICH, VECTORS_LEAST, changed};
 use test_bench::runs::{Handed, assert_prints, run_tool};
+use test_bench::scripts::EMPTY_CONTAINER;
 
 /// Containers, and what `list` prints of them.
 #[test]

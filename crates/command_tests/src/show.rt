@@ -1,6 +1,6 @@
-use crate::scripts::{EXAMPLE, EXAMPLE_SHOWN, VECTORS};
 use std::test::Fail;
 use test_bench::runs::{Handed, assert_prints};
+use test_bench::scripts::{EXAMPLE, EXAMPLE_SHOWN, VECTORS};
 
 /// Scripts on the input, what `show` prints of them, and its status.
 #[test]

@@ -1,6 +1,6 @@
-use crate::scripts::EXAMPLE;
 use std::test::Fail;
 use test_bench::runs::{Handed, assert_prints};
+use test_bench::scripts::EXAMPLE;
 
 /// Words that are no command, a request for help among them: the usage, and nothing is read or written.
 #[test]

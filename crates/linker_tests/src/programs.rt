@@ -1,9 +1,10 @@
 //! The relocation programs that are linked, and their certificates.
+use pef_cert::Certificate;
 use pef_loader::Loader;
-use pef_reloc::{Base, Fixup, Instr, Program};
+use pef_reloc::{Base, Instr, Program};
 use pef_script::Script;
 use pef_views::Container;
-use pef_write::link;
+use pef_write::{Linked, link};
 use std::alloc::{AllocError, Global};
 use std::fmt::Write;
 use std::process::Abort;
@@ -20,7 +21,7 @@ type Listed = &'static [(u32, Base)];
 
 /// Fixups of a section, how many halfwords their shortest program has, and its bytes where there is one
 /// such program alone.
-const LISTS: [(Listed, u32, &[u8]); 16] = [
+const LISTS: &[(Listed, u32, &[u8])] = &[
     (&[], 0, &[]),
     (&[(0, S0), (4, S1), (8, Base::Import(0))], 2, &[]),
     (&[(0, S0), (4, S1), (12, S0), (16, S1)], 1, &[0x44, 0x01]),
@@ -128,32 +129,39 @@ fn test_program(
     Ok(())
 }
 
-#[test]
-fn shortest_programs(rt: HostRuntime) -> Result<(), Fail> {
-    for row in &LISTS {
+/// Tests the program of each of some lists.
+fn test_programs(
+    rt: &impl Abort,
+    alloc: Global,
+    rows: &[(Listed, u32, &[u8])],
+) -> Result<(), Fail> {
+    for row in rows {
         let (listed, halfwords, bytes) = *row;
-        test_program(&rt, rt.alloc(), listed, halfwords, bytes)?;
+        test_program(rt, alloc, listed, halfwords, bytes)?;
     }
     Ok(())
 }
 
-/// How many words of section 1 in a row, the offset of the first, and their shortest program as above.
-const WORDS: [(u32, u32, u32, &[u8]); 3] = [
-    (512, 0, 1, &[0x43, 0xFF]),
-    (513, 0, 2, &[]),
-    (64, 4, 2, &[]),
-];
+#[test]
+fn shortest_programs(rt: HostRuntime) -> Result<(), Fail> {
+    test_programs(&rt, rt.alloc(), LISTS)
+}
+
+/// Words of section 1 in a row, from an offset on.
+fn words(alloc: Global, count: u32, from: u32) -> Result<Vec<(u32, Base)>, AllocError> {
+    let mut listed = Vec::new(alloc);
+    for i in 0..count {
+        listed.push((from.wrapping_add(i.wrapping_mul(4)), S1))?;
+    }
+    Ok(listed)
+}
 
 #[test]
 fn words_in_a_row(rt: HostRuntime) -> Result<(), Fail> {
-    for (count, from, halfwords, bytes) in WORDS {
-        let mut listed = Vec::new(rt.alloc());
-        for i in 0..count {
-            listed.push((from.wrapping_add(i.wrapping_mul(4)), S1))?;
-        }
-        test_program(&rt, rt.alloc(), &listed, halfwords, bytes)?;
-    }
-    Ok(())
+    let alloc = rt.alloc();
+    test_program(&rt, alloc, &words(alloc, 512, 0)?, 1, &[0x43, 0xFF])?;
+    test_program(&rt, alloc, &words(alloc, 513, 0)?, 2, &[])?;
+    test_program(&rt, alloc, &words(alloc, 64, 4)?, 2, &[])
 }
 
 /// Two transition vectors, side by side, of which each has the code's address and the data's.
@@ -164,43 +172,67 @@ tvector data 8 code data
 ";
 
 /// The labels of the certificate of the vectors, where more fixups are left first.
-const LABELS: [u32; 45] = [
-    2, 1, 2, 3, 2, 3, 3, 2, 3, 3, 2, 3, 2, 3, 3, 3, 3, 3, 2, 1, 2, 2, 2, 2, 2, 2, 2, 1, 1, 1, 1, 1,
-    1, 1, 1, 1, 0, 0, 0, 0, 0, 0, 0, 0, 0,
+const LABELS: &[u32] = &[
+    2, 1, 2, 3, 2, 3, 3, 2, 3, //
+    3, 2, 3, 2, 3, 3, 3, 3, 3, //
+    2, 1, 2, 2, 2, 2, 2, 2, 2, //
+    1, 1, 1, 1, 1, 1, 1, 1, 1, //
+    0, 0, 0, 0, 0, 0, 0, 0, 0,
 ];
 
-/// The section, the program, the registers and the labels of each certificate.
-const CERTIFIED: [(u32, &[Instr], &[u32], &[u32]); 2] = [
-    (0, &[], &[], &[0]),
-    (1, &[Instr::TVector8(2)], &[0, 1], &LABELS),
-];
+/// All labels of a certificate, row by row.
+fn labels(alloc: Global, certificate: &Certificate) -> Result<Vec<u32>, AllocError> {
+    let mut found = Vec::new(alloc);
+    let mut runs = certificate.labels().runs();
+    for _ in 0..certificate.labels().rows() {
+        if let Some(run) = runs.next_run() {
+            for _ in 0..run.rows {
+                found.extend_from_slice(run.labels)?;
+            }
+        }
+    }
+    Ok(found)
+}
+
+/// Tests the certificate of a section: its program, its registers and its labels.
+fn test_certificate(
+    rt: &impl Abort,
+    alloc: Global,
+    linked: &Linked,
+    section: u32,
+    program: &[Instr],
+    registers: &[u32],
+    wanted: &[u32],
+) -> Result<(), Fail> {
+    let Some(certificate) = linked.certificate(section as usize) else {
+        panic!(rt; "no certificate of section {section}");
+    };
+    assert_eq!(rt; certificate.section(), section);
+    assert_eq!(rt; certificate.program(), program);
+    assert_eq!(rt; certificate.registers(), registers);
+    assert_eq!(rt; labels(alloc, certificate)?.as_slice(), wanted);
+    Ok(())
+}
 
 #[test]
 fn certificates(rt: HostRuntime) -> Result<(), Fail> {
     let alloc = rt.alloc();
     let script = Script::read(alloc, VECTORS)?;
     let linked = link(alloc, &script)?;
-    assert_eq!(rt; linked.certificates().len(), CERTIFIED.len());
-    assert!(rt; linked.certificate(CERTIFIED.len()).is_none());
+    test_certificate(&rt, alloc, &linked, 0, &[], &[], &[0])?;
+    test_certificate(
+        &rt,
+        alloc,
+        &linked,
+        1,
+        &[Instr::TVector8(2)],
+        &[0, 1],
+        LABELS,
+    )?;
+    assert!(rt; linked.certificate(2).is_none());
+    assert_eq!(rt; linked.certificates().len(), 2);
     for (k, certificate) in linked.certificates().iter().enumerate() {
-        let (section, program, registers, labels) = CERTIFIED[k];
-        assert_eq!(rt; certificate.section(), section);
-        assert_eq!(rt; certificate.program(), program);
-        assert_eq!(rt; certificate.registers(), registers);
-        assert_eq!(rt;
-            linked.certificate(k).map_or(9, |own| own.section()),
-            section
-        );
-        let mut found = Vec::new(alloc);
-        let mut runs = certificate.labels().runs();
-        for _ in 0..certificate.labels().rows() {
-            if let Some(run) = runs.next_run() {
-                for _ in 0..run.rows {
-                    found.extend_from_slice(run.labels)?;
-                }
-            }
-        }
-        assert_eq!(rt; found.as_slice(), labels, "section {k}");
+        assert_eq!(rt; certificate.section() as usize, k);
     }
     Ok(())
 }

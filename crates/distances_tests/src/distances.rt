@@ -1,9 +1,9 @@
-use crate::scripts::{VECTORS, VECTORS_CERTIFIED};
 use pef_tool::FileFault;
 use std::alloc::{AllocError, Global};
 use std::fmt::Write;
 use std::test::Fail;
 use test_bench::runs::{Handed, assert_prints, run_tool};
+use test_bench::scripts::{VECTORS, VECTORS_CERTIFIED};
 
 const WORDS: [&str; 2] = ["distances", "a"];
 

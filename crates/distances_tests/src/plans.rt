@@ -1,6 +1,5 @@
 //! What `distances` prints is read as the plans of the sections' fixups.
 
-use crate::scripts::{EXAMPLE, VECTORS};
 use pef_cert::Certificate;
 use pef_cert_text::read;
 use pef_plan::plan;
@@ -10,6 +9,7 @@ use std::alloc::Global;
 use std::process::Abort;
 use std::test::Fail;
 use test_bench::runs::{Handed, run_tool};
+use test_bench::scripts::{EXAMPLE, VECTORS};
 
 /// Scripts, each with its number of sections.
 const SCRIPTS: [(&[u8], usize); 4] = [
