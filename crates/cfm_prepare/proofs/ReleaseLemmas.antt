@@ -83,6 +83,32 @@ released connections m after cur now i under now_is after_is unneeded ready =
       within = omega (arith, size, ap length now_is, length-append front back);
     }
 
+needed-some : (b : Bool) (f : Present) (fs : List Present) → b ≡ true → cond b (f ∷ fs) fs ≡ f ∷ fs
+needed-some b f fs is = rw is refl
+
+unneeded-none : (b : Bool) (f : Present) (fs : List Present) → b ≡ true → cond b fs (f ∷ fs) ≡ fs
+unneeded-none b f fs is = rw is refl
+
+take-next : (cur rest : List Present) (i : ℕ) → i < length cur → take (suc i) cur ++ rest ≡ take i cur ++ present_at cur i ∷ rest
+take-next [] rest i under = absurd (omega (arith, under))
+take-next (f ∷ fs) rest zero under = refl
+take-next (f ∷ fs) rest (suc i) under = ap (λ ys. f ∷ ys) (take-next fs rest i (omega (arith, under)))
+
+-- a fragment that is needed stays
+pub passed-needed : (connections : List Open) (cur : List Present) (i : ℕ) → i < length cur → is_needed connections (present_at cur i).position ≡ true → take (i + 1) cur ++ needed_of connections (drop (i + 1) cur) ≡ take i cur ++ needed_of connections (drop i cur)
+passed-needed connections cur i under needed =
+    let f = present_at cur i in
+    let back = drop (i + 1) cur in
+    let left : needed_of connections (drop i cur) ≡ f ∷ needed_of connections back = at_drop_more (needed_of connections) cur i no_fragment under ∙ needed-some (is_needed connections f.position) f (needed_of connections back) needed in
+    let next : i + 1 ≡ suc i = omega arith in
+    ap (λ n. take n cur ++ needed_of connections back) next ∙ (take-next cur (needed_of connections back) i under ∙ ap (λ ys. take i cur ++ ys) (sym left))
+
+pub passed-unneeded : (connections : List Open) (cur : List Present) (i : ℕ) → i < length cur → is_needed connections (present_at cur i).position ≡ true → unneeded_of connections (drop (i + 1) cur) ≡ unneeded_of connections (drop i cur)
+passed-unneeded connections cur i under needed =
+    let f = present_at cur i in
+    let back = drop (i + 1) cur in
+    sym (at_drop_more (unneeded_of connections) cur i no_fragment under ∙ unneeded-none (is_needed connections f.position) f (unneeded_of connections back) needed)
+
 pub held-at : (m : Layout) (cur : List Present) (i : ℕ) → i < length cur → AreReady m cur → AreReady m (take i cur ++ present_at cur i ∷ drop (i + 1) cur)
 held-at m cur i under ready = let P : List Present → Type 0 = λ fs. AreReady m fs in subst P (around cur i under) ready
 
