@@ -1,5 +1,5 @@
 -- Fragments that are given back, and connections that are closed.
-use Rattle.std.proofs.Common.{◌≡◌, ℕ, zero, suc, ◌+◌, ◌<◌, ◌≤◌, ◌==◌, Bool, true, false, List, [], ◌∷◌, ◌++◌, Option, None, Some, length, get_or, take, drop, refl, sym, ap, ap₂, subst, ◌∙◌, inl, inr, cond, arith}
+use Rattle.std.proofs.Common.{◌≡◌, ℕ, zero, suc, ◌+◌, ◌<◌, ◌≤◌, Bool, true, false, List, [], ◌∷◌, ◌++◌, None, Some, length, get_or, take, drop, refl, sym, ap, ap₂, subst, ◌∙◌, inl, inr, cond, arith}
 use Rattle.std.specs.List.{remove}
 use Rattle.std.proofs.Math.Seq.{drop-append_seam, take-append_seam}
 use Rattle.std.proofs.lemmas.Bool.Decides.{eqb_tells}
@@ -11,7 +11,7 @@ use Rattle.cfm_prepare.specs.Fragments.{Present, all_given_back, present_at}
 use Rattle.cfm_prepare.specs.Kept.Connections.{index_in}
 use Rattle.cfm_prepare.specs.Kept.Ready.{AreReady}
 use Rattle.cfm_prepare.proofs.GroupLemmas.{all-push, no_fragment}
-use Rattle.cfm_prepare.proofs.ReadyLemmas.{held-there, own-there, ready-without}
+use Rattle.cfm_prepare.proofs.ReadyLemmas.{ready-without}
 
 -- the last of some fragments is given back
 pub record IsPopped (m after : Layout) (cur now : List Present) (kept : ℕ) : Type 0 where

@@ -1,5 +1,5 @@
 -- How many open connections have a fragment in their closures.
-use Rattle.std.specs.Prelude.{◌≡◌, ℕ, ◌+◌, Bool, false, List, [], ◌∷◌, if◌then◌else◌, slice_index_or}
+use Rattle.std.specs.Prelude.{◌≡◌, ℕ, ◌+◌, false, List, [], ◌∷◌, if◌then◌else◌, slice_index_or}
 use Rattle.cfm_prepare.specs.Contexts.{Open, has}
 
 -- a list has no number twice

@@ -1,5 +1,5 @@
 -- A fragment that isn't needed is given back.
-use Rattle.std.proofs.Common.{◌≡◌, ◌<◌, ◌++◌, ◌∷◌, ◌+◌, [], List, true, false, nat_lt, refl, length, take, drop, sym, ap, subst, ◌∙◌, arith}
+use Rattle.std.proofs.Common.{◌≡◌, ◌<◌, ◌+◌, [], List, true, false, nat_lt, refl, length, take, drop, sym, ap, subst, ◌∙◌, arith}
 use Rattle.std.proofs.lemmas.List.{get_or_default}
 use Rattle.cfm_memory.specs.Extents.{AreApart, AreHeld, given_back}
 use Rattle.cfm_memory.specs.declared.place.Place.{Place}

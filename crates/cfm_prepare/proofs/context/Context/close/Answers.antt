@@ -1,5 +1,5 @@
 -- The connection is found by its number; what only it needed is given back.
-use Rattle.std.proofs.Common.{◌≡◌, ◌<◌, ◌≤◌, ℕ, List, length, get_or, refl, sym, ap, subst, ◌∙◌, arith}
+use Rattle.std.proofs.Common.{◌≡◌, ◌<◌, ℕ, List, length, get_or, refl, sym, ap, subst, ◌∙◌, arith}
 use Rattle.std.specs.List.{remove}
 use Rattle.cfm_closure.specs.Closures.{Closed}
 use Rattle.cfm_prepare.specs.Contexts.{Open, has, open_without}
