@@ -1,5 +1,5 @@
 -- New fragments, from their placing to the end of their preparation or its first refusal.
-use Rattle.std.proofs.Common.{◌≡◌, ℕ, zero, suc, ◌+◌, ◌<◌, Bool, true, false, List, [], ◌∷◌, ◌++◌, Option, None, Some, Result, Ok, Err, All, Contains, OnOk, IfErr, length, get_or, cond, take, drop, refl, sym, ap, ap₂, subst, ◌∙◌, arith}
+use Rattle.std.proofs.Common.{◌≡◌, ℕ, zero, suc, ◌<◌, Bool, true, false, List, [], ◌∷◌, ◌++◌, None, Some, Result, Ok, Err, All, Contains, OnOk, IfErr, length, get_or, cond, take, drop, refl, sym, ap₂, subst, ◌∙◌, arith}
 use Rattle.std.proofs.Math.Seq.{drop-append_seam, take-append_seam}
 use Rattle.cfm_memory.specs.Instances.{Layout}
 use Rattle.cfm_closure.specs.Stores.{Pair}

@@ -12,3 +12,4 @@ mod ReadyLemmas
 mod ReleaseLemmas
 mod RunLemmas
 mod StepLemmas
+mod UsersLemmas

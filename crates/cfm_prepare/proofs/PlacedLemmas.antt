@@ -1,14 +1,13 @@
 -- Fragments that were placed in turn.
-use Rattle.std.proofs.Common.{◌≡◌, ◌≢◌, ℕ, zero, suc, ◌+◌, ◌<◌, ◌==◌, List, [], ◌∷◌, ◌++◌, Option, None, Some, length, replicate, refl, sym, ap, subst, ◌∙◌, IsTrue, arith}
+use Rattle.std.proofs.Common.{◌≡◌, ◌≢◌, ℕ, zero, suc, ◌<◌, List, [], ◌∷◌, ◌++◌, Some, length, refl, sym, ap, subst, ◌∙◌, arith}
 use Rattle.std.proofs.lemmas.List.{length-replicate}
-use Rattle.cfm_memory.specs.Extents.{AreApart, AreHeld, ArePlaced, LackRoom, Stand, given_back, place_at, zeros_at}
-use Rattle.cfm_memory.specs.Instances.{Layout, bytes_at, has_length}
-use Rattle.cfm_memory.specs.declared.place.Place.{Place}
-use Rattle.cfm_memory.proofs.Laws.{placed_apart, placed_given_back, placed_held, placed_new, placed_stand, placed_stays, stand_held}
+use Rattle.cfm_memory.specs.Extents.{ArePlaced, given_back, place_at, zeros_at}
+use Rattle.cfm_memory.specs.Instances.{Layout, bytes_at}
+use Rattle.cfm_memory.proofs.Laws.{placed_apart, placed_given_back, placed_new, placed_stand, placed_stays, stand_held}
 use Rattle.cfm_closure.specs.Stores.{Pair}
 use Rattle.cfm_prepare.specs.Fragments.{Present, StandAll, all_given_back, extents_in, present_at}
 use Rattle.cfm_prepare.specs.Placing.{AllPlaced}
-use Rattle.cfm_prepare.specs.Kept.Ready.{AllApart, AllFit, AllHeld, Fits, OwnApart}
+use Rattle.cfm_prepare.specs.Kept.Ready.{AllApart, AllFit, AllHeld, OwnApart}
 use Rattle.cfm_prepare.proofs.GroupLemmas.{all-swap}
 
 -- one more is placed

@@ -1,16 +1,13 @@
 -- What is placed behind what, and what is refused there.
-use Rattle.std.proofs.Common.{◌≡◌, ℕ, suc, ◌+◌, ◌<◌, List, [], ◌∷◌, ◌++◌, Option, None, Some, Result, Ok, Err, length, map, get_or, take, drop, refl, sym, ap, ap₂, subst, ◌∙◌, inl, inr, arith}
-use Rattle.std.specs.Option.{option_or}
+use Rattle.std.proofs.Common.{◌≡◌, ℕ, List, [], ◌∷◌, ◌++◌, refl, sym, ap, subst, ◌∙◌, inl, inr}
 use Rattle.cfm_memory.specs.Extents.{ArePlaced, LackRoom}
 use Rattle.cfm_memory.specs.Instances.{Layout}
 use Rattle.cfm_memory.specs.declared.place.Place.{Place}
-use Rattle.pef_pidata.specs.declared.fault.PackFault.{PackFault}
-use Rattle.pef_reloc.specs.declared.fault.RelocFault.{RelocFault}
 use Rattle.cfm_closure.specs.Stores.{Pair, pair_of}
 use Rattle.cfm_prepare.specs.Fragments.{Present, extents_in, positions}
 use Rattle.cfm_prepare.specs.Placing.{AllPlaced, LacksRoom}
 use Rattle.cfm_prepare.specs.Steps.{MayNotPrepareNew}
-use Rattle.cfm_prepare.specs.Kept.Ready.{FillsUpTo, HavePlaced, IsNotPlaced, RelocatesUpTo}
+use Rattle.cfm_prepare.specs.Kept.Ready.{HavePlaced, IsNotPlaced}
 use Rattle.cfm_prepare.specs.declared.fault.PrepareFault.{PrepareFault}
 use Rattle.cfm_prepare.specs.declared.fault.PrepareFault.TheVariants as fault
 use Rattle.cfm_prepare.proofs.PlacedLemmas.{placed-push}

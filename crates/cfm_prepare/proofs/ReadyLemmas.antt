@@ -1,5 +1,5 @@
 -- Fragments that stand in memory, each section at an address of its own, when some come and go.
-use Rattle.std.proofs.Common.{◌≡◌, ◌≢◌, ℕ, zero, suc, ◌+◌, ◌-◌, ◌<◌, ◌≤◌, List, [], ◌∷◌, ◌++◌, Option, None, Some, length, get_or, refl, sym, ap, subst, ◌∙◌, inl, inr, IsTrue, arith}
+use Rattle.std.proofs.Common.{◌≡◌, ◌≢◌, ℕ, suc, ◌+◌, ◌-◌, ◌<◌, List, [], ◌∷◌, ◌++◌, Option, None, Some, length, refl, sym, ap, subst, ◌∙◌, inl, inr, IsTrue, arith}
 use Rattle.std.proofs.lemmas.Bool.{cases_lt}
 use Rattle.std.proofs.lemmas.Bool.Decides.{eqb_tells}
 use Rattle.std.proofs.lemmas.List.{get_or_append_left, length-append}
@@ -11,7 +11,7 @@ use Rattle.cfm_memory.proofs.Laws.{given_back_elsewhere}
 use Rattle.cfm_closure.specs.Stores.{Pair}
 use Rattle.cfm_prepare.specs.Fragments.{Present, all_given_back, places_of, present_at}
 use Rattle.cfm_prepare.specs.Placing.{AllPlaced}
-use Rattle.cfm_prepare.specs.Kept.Ready.{AllApart, AllHeld, AreReady, OwnApart}
+use Rattle.cfm_prepare.specs.Kept.Ready.{AllApart, AllHeld, AreReady}
 use Rattle.cfm_prepare.proofs.GroupLemmas.{all-elsewhere, held_same, no_fragment, nowhere}
 use Rattle.cfm_prepare.proofs.PlacedLemmas.{placed-apart, placed-held, placed-new, placed-own, placed-stays}
 

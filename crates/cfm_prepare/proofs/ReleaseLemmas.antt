@@ -1,5 +1,5 @@
 -- Fragments that are given back, and connections that are closed.
-use Rattle.std.proofs.Common.{◌≡◌, ℕ, zero, suc, ◌+◌, ◌<◌, ◌≤◌, ◌==◌, Bool, true, false, List, [], ◌∷◌, ◌++◌, Option, None, Some, length, get_or, take, drop, refl, sym, ap, ap₂, subst, ◌∙◌, inl, inr, cond, arith}
+use Rattle.std.proofs.Common.{◌≡◌, ℕ, zero, suc, ◌+◌, ◌<◌, ◌≤◌, Bool, true, false, List, [], ◌∷◌, ◌++◌, None, Some, length, get_or, take, drop, refl, sym, ap, ap₂, subst, ◌∙◌, inl, inr, cond, arith}
 use Rattle.std.specs.List.{remove}
 use Rattle.std.proofs.Math.Seq.{drop-append_seam, take-append_seam}
 use Rattle.std.proofs.lemmas.Bool.Decides.{eqb_tells}
@@ -11,7 +11,7 @@ use Rattle.cfm_prepare.specs.Fragments.{Present, all_given_back, present_at}
 use Rattle.cfm_prepare.specs.Kept.Connections.{index_in}
 use Rattle.cfm_prepare.specs.Kept.Ready.{AreReady}
 use Rattle.cfm_prepare.proofs.GroupLemmas.{all-push, no_fragment}
-use Rattle.cfm_prepare.proofs.ReadyLemmas.{held-there, own-there, ready-without}
+use Rattle.cfm_prepare.proofs.ReadyLemmas.{ready-without}
 
 -- the last of some fragments is given back
 pub record IsPopped (m after : Layout) (cur now : List Present) (kept : ℕ) : Type 0 where
@@ -82,6 +82,32 @@ released connections m after cur now i under now_is after_is unneeded ready =
       ready = subst R (sym after_is) (subst Q (sym now_is) (ready-without m front f back (subst P (around cur i under) ready)));
       within = omega (arith, size, ap length now_is, length-append front back);
     }
+
+needed-some : (b : Bool) (f : Present) (fs : List Present) → b ≡ true → cond b (f ∷ fs) fs ≡ f ∷ fs
+needed-some b f fs is = rw is refl
+
+unneeded-none : (b : Bool) (f : Present) (fs : List Present) → b ≡ true → cond b fs (f ∷ fs) ≡ fs
+unneeded-none b f fs is = rw is refl
+
+take-next : (cur rest : List Present) (i : ℕ) → i < length cur → take (suc i) cur ++ rest ≡ take i cur ++ present_at cur i ∷ rest
+take-next [] rest i under = absurd (omega (arith, under))
+take-next (f ∷ fs) rest zero under = refl
+take-next (f ∷ fs) rest (suc i) under = ap (λ ys. f ∷ ys) (take-next fs rest i (omega (arith, under)))
+
+-- a fragment that is needed stays
+pub passed-needed : (connections : List Open) (cur : List Present) (i : ℕ) → i < length cur → is_needed connections (present_at cur i).position ≡ true → take (i + 1) cur ++ needed_of connections (drop (i + 1) cur) ≡ take i cur ++ needed_of connections (drop i cur)
+passed-needed connections cur i under needed =
+    let f = present_at cur i in
+    let back = drop (i + 1) cur in
+    let left : needed_of connections (drop i cur) ≡ f ∷ needed_of connections back = at_drop_more (needed_of connections) cur i no_fragment under ∙ needed-some (is_needed connections f.position) f (needed_of connections back) needed in
+    let next : i + 1 ≡ suc i = omega arith in
+    ap (λ n. take n cur ++ needed_of connections back) next ∙ (take-next cur (needed_of connections back) i under ∙ ap (λ ys. take i cur ++ ys) (sym left))
+
+pub passed-unneeded : (connections : List Open) (cur : List Present) (i : ℕ) → i < length cur → is_needed connections (present_at cur i).position ≡ true → unneeded_of connections (drop (i + 1) cur) ≡ unneeded_of connections (drop i cur)
+passed-unneeded connections cur i under needed =
+    let f = present_at cur i in
+    let back = drop (i + 1) cur in
+    sym (at_drop_more (unneeded_of connections) cur i no_fragment under ∙ unneeded-none (is_needed connections f.position) f (unneeded_of connections back) needed)
 
 pub held-at : (m : Layout) (cur : List Present) (i : ℕ) → i < length cur → AreReady m cur → AreReady m (take i cur ++ present_at cur i ∷ drop (i + 1) cur)
 held-at m cur i under ready = let P : List Present → Type 0 = λ fs. AreReady m fs in subst P (around cur i under) ready

@@ -1,7 +1,7 @@
 -- What is prepared of a fragment of a store: what its sections need of memory, what they are filled with, and
 -- what its relocation headers make of them (Mac OS Runtime Architectures, "PEF Structure"). Of a fragment that
 -- can't be read there is nothing.
-use Rattle.std.specs.Prelude.{◌≡◌, ℕ, ◌<◌, ◌==◌, Bool, false, true, List, [], ◌∷◌, Option, None, Some, if◌then◌else◌, length, map, option_map, slice_index_or}
+use Rattle.std.specs.Prelude.{ℕ, ◌<◌, ◌==◌, Bool, false, true, List, [], ◌∷◌, Option, None, if◌then◌else◌, length, map, option_map, slice_index_or}
 use Rattle.std.specs.Option.{option_and_then, option_map_or, option_or}
 use Rattle.cfm_memory.specs.Extents.{Extent, Stand, given_back}
 use Rattle.cfm_memory.specs.Instances.{Layout}

@@ -3,11 +3,12 @@ ghost use Rattle.std.specs.Option.{option_copied};
 ghost use Rattle.pef_loader.specs.Export.{has_section};
 ghost use Rattle.pef_loader.specs.Views.{loaded};
 ghost use Rattle.cfm_closure.specs.Fragments.{loader_at};
-ghost use Rattle.cfm_prepare.specs.Contexts.{has, is_needed, open_of};
+ghost use Rattle.cfm_prepare.specs.Contexts.{has, open_of};
 ghost use Rattle.cfm_fragment.specs.Prepared.{entry_address};
 ghost use Rattle.cfm_prepare.specs.Fragments.{places_of};
 ghost use Rattle.cfm_prepare.specs.Readers.{entries_of, export_address, main_address, symbol_address};
 ghost use Rattle.cfm_prepare.specs.Kept.Connections.{index_in};
+ghost use Rattle.cfm_prepare.specs.Kept.Users.{IsOnce};
 
 use crate::present::Placed;
 use crate::relocating::{section_address, target_address};
@@ -31,15 +32,17 @@ impl<'a> Model for Connected<'a> {
     ghost Value = { Open };
 
     ghost use Rattle.std.specs.Prelude.{Contains};
+    ghost use Rattle.cfm_prepare.specs.Kept.Users.{IsOnce};
 
     ghost view = { λ c. record { number = c.number; root = c.root; closed = c.closure } };
 
-    ghost invariant = { λ c. Contains c.closure.order c.root };
+    ghost invariant = { λ c. Contains c.closure.order c.root × IsOnce c.closure.order };
 }
 
 impl<'a> Connected<'a> {
     pub fn new(number: u32, root: usize, closure: Closure<'a>) -> Connected<'a>
-        requires { Contains closure.order root }
+        requires root { Contains closure.order root }
+        requires once { IsOnce closure.order }
         ensures { result ≡ record { number = number; root = root; closed = closure.entry } }
     {
         Connected {
@@ -62,7 +65,8 @@ impl<'a> Connected<'a> {
     }
 
     pub fn closure(&self) -> &Closure<'a>
-        ensures { result.now ≡ self.now.closed }
+        ensures closure { result.now ≡ self.now.closed }
+        ensures once { IsOnce self.now.closed.order }
     {
         &self.closure
     }
@@ -162,18 +166,6 @@ fn has(numbers: &[usize], number: usize) -> bool
 {
     for other in numbers {
         if *other == number {
-            return true;
-        }
-    }
-    false
-}
-
-/// Whether the closure of an open connection has a fragment.
-pub(crate) fn is_needed(connections: &[Connected<'_>], position: usize) -> bool
-    ensures { result ≡ is_needed connections.now position }
-{
-    for connected in connections {
-        if has(connected.closure().order(), position) {
             return true;
         }
     }

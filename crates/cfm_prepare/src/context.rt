@@ -12,6 +12,7 @@ use crate::fault::{CloseFault, PrepareFault};
 use crate::preparing::prepare_new;
 use crate::present::{Placed, new_among, places_of};
 use crate::releasing::release;
+use crate::users::{enter, leave, make_room};
 use cfm_closure::{Store, closure};
 use cfm_fragment::Entries;
 use cfm_memory::Memory;
@@ -38,6 +39,8 @@ pub struct Context<'a> {
     given: u32,
     /// The open connections, in the order of their numbers.
     connections: Vec<Connected<'a>>,
+    /// How many of them have a fragment in their closures, by its place in the store.
+    users: Vec<usize>,
     present: Vec<Placed>,
 }
 
@@ -50,7 +53,7 @@ impl<'a> Model for Context<'a> {
 
     ghost view = { λ c. record { pairs = c.store; memory = c.memory; given = c.given; connections = c.connections.items; present = c.present.items } };
 
-    ghost invariant = { λ c. IsKept c.memory c.given c.present.items };
+    ghost invariant = { λ c. IsKept c.memory c.given c.users.items c.connections.items c.present.items };
 }
 
 impl<'a> Context<'a> {
@@ -65,6 +68,7 @@ impl<'a> Context<'a> {
             memory: Memory::new(alloc, limit),
             given: 0,
             connections: Vec::new(alloc),
+            users: Vec::new(alloc),
             present: Vec::new(alloc),
         }
     }
@@ -92,6 +96,7 @@ impl<'a> Context<'a> {
     }
 
     /// Opens a connection to the fragment in a place of the store.
+    #[tactic(auto, using(crate::proofs::UsersLemmas::same_users))]
     fn open_root(&mut self, root: usize) -> Result<Connection, PrepareFault<'a>>
         requires root { root < length self.old.pairs }
         requires left { self.old.given < most_connections }
@@ -102,6 +107,7 @@ impl<'a> Context<'a> {
         let closure = closure(self.alloc, &self.store, root)?;
         let new = new_among(self.alloc, &self.present, closure.order())?;
         self.connections.reserve(1)?;
+        make_room(&mut self.users, self.store.len())?;
         prepare_new(
             self.alloc,
             &mut self.memory,
@@ -112,6 +118,7 @@ impl<'a> Context<'a> {
         )?;
         let number = self.given;
         self.given += 1;
+        enter(&mut self.users, closure.order());
         self.connections
             .push(Connected::new(number, root, closure))
             .unwrap();
@@ -132,8 +139,9 @@ impl<'a> Context<'a> {
         if index == self.connections.len() {
             return Err(CloseFault::BadConnection);
         }
-        self.connections.remove(index);
-        release(&mut self.memory, &self.connections, &mut self.present);
+        let closed = self.connections.remove(index);
+        leave(&mut self.users, closed.closure().order());
+        release(&mut self.memory, &self.users, &mut self.present);
         Ok(())
     }
 

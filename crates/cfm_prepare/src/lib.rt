@@ -16,6 +16,7 @@ mod present;
 mod releasing;
 mod relocating;
 pub mod theorems;
+mod users;
 
 pub use context::{Connection, Context};
 pub use fault::{CloseFault, PrepareFault};

@@ -5,7 +5,8 @@ use Rattle.cfm_memory.specs.Instances.{Layout}
 use Rattle.pef_pidata.specs.declared.fault.PackFault.{PackFault}
 use Rattle.pef_reloc.specs.declared.fault.RelocFault.{RelocFault}
 use Rattle.cfm_closure.specs.Stores.{Pair, pair_of}
-use Rattle.cfm_prepare.specs.Contexts.{most_connections}
+use Rattle.cfm_prepare.specs.Contexts.{Open, most_connections}
+use Rattle.cfm_prepare.specs.Kept.Users.{CountUsers}
 use Rattle.cfm_prepare.specs.Fragments.{Present, all_given_back, extents_in, positions, present_at}
 use Rattle.cfm_prepare.specs.Placing.{AllPlaced}
 use Rattle.cfm_prepare.specs.declared.fault.PrepareFault.{PrepareFault}
@@ -91,6 +92,7 @@ RelocatesUpTo (Err (fault.Reloc f k)) first = first ≡ Some (f.now, k)
 RelocatesUpTo (Err fault.OutOfMemory) first = Unit {0}
 
 -- what is kept of a context
-pub record IsKept (m : Layout) (given : ℕ) (present : List Present) : Type 0 where
+pub record IsKept (m : Layout) (given : ℕ) (users : List ℕ) (connections : List Open) (present : List Present) : Type 0 where
   pub ready : AreReady m present
   pub few : given ≤ most_connections
+  pub counted : CountUsers users connections

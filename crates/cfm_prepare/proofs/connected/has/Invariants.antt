@@ -1,4 +1,4 @@
-use Rattle.std.proofs.Common.{◌≡◌, ◌+◌, ◌-◌, ◌<◌, ◌≤◌, ℕ, List, ◌++◌, drop, take, length}
+use Rattle.std.proofs.Common.{◌≡◌, drop}
 use Rattle.cfm_prepare.specs.Contexts.{has}
 use Rattle.cfm_prepare.proofs.connected.has.Given as goal
 

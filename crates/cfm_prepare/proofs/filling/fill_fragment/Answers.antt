@@ -5,7 +5,7 @@ use Rattle.cfm_memory.specs.declared.place.Place.{Place}
 use Rattle.pef_views.specs.Views.{contained}
 use Rattle.cfm_closure.specs.Fragments.{container_at}
 use Rattle.cfm_closure.specs.Stores.{pair_of}
-use Rattle.cfm_fragment.specs.Images.{extent_at, first_image_refusal}
+use Rattle.cfm_fragment.specs.Images.{extent_at}
 use Rattle.cfm_fragment.proofs.Laws.{size-fragment}
 use Rattle.cfm_prepare.specs.Fragments.{named}
 use Rattle.cfm_prepare.proofs.FragmentLemmas.{image-there, length-there, placed-there}

@@ -1,4 +1,4 @@
-use Rattle.std.proofs.Common.{◌≡◌, ◌+◌, ◌-◌, ◌<◌, ◌≤◌, ℕ, List, ◌++◌, drop, take, length}
+use Rattle.std.proofs.Common.{◌≡◌, ◌<◌, ◌≤◌, ℕ, drop, length}
 use Rattle.cfm_memory.specs.Extents.{Stand, zeros_at}
 use Rattle.cfm_prepare.specs.Fragments.{all_given_back, filled_in, first_bad_image, present_at}
 use Rattle.cfm_prepare.specs.Kept.Ready.{AllHeld}

@@ -1,4 +1,4 @@
-use Rattle.std.proofs.Common.{◌≡◌, ◌+◌, ◌-◌, ◌<◌, ◌≤◌, ℕ, List, ◌++◌, drop, take, length}
+use Rattle.std.proofs.Common.{take}
 use Rattle.cfm_prepare.specs.Kept.Ready.{HavePlaced}
 use Rattle.cfm_prepare.proofs.placing.place_fragments.Given as goal
 

@@ -1,5 +1,5 @@
 -- One fragment less stands behind those that are kept.
-use Rattle.std.proofs.Common.{sym, ap, ◌∙◌, arith}
+use Rattle.std.proofs.Common.{ap, ◌∙◌, arith}
 use Rattle.cfm_memory.specs.Extents.{given_back}
 use Rattle.cfm_prepare.proofs.ReleaseLemmas.{popped}
 use Rattle.cfm_prepare.proofs.preparing.give_back_from.Goals as goal

@@ -1,4 +1,4 @@
-use Rattle.std.proofs.Common.{◌≡◌, ◌+◌, ◌-◌, ◌<◌, ◌≤◌, ℕ, List, ◌++◌, drop, take, length}
+use Rattle.std.proofs.Common.{◌≡◌, ◌≤◌, drop, take, length}
 use Rattle.cfm_prepare.specs.Fragments.{all_given_back}
 use Rattle.cfm_prepare.specs.Kept.Ready.{AreReady}
 use Rattle.cfm_prepare.proofs.preparing.give_back_from.Given as goal

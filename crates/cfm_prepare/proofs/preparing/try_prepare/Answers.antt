@@ -1,12 +1,10 @@
 -- The new fragments are placed, filled and relocated, or what was placed can be given back.
-use Rattle.std.proofs.Common.{◌≡◌, ℕ, List, None, Err, OnOk, sym, ap, subst, ◌∙◌}
+use Rattle.std.proofs.Common.{◌≡◌, List, None, Err, OnOk, sym, ap, subst, ◌∙◌}
 use Rattle.std.proofs.lemmas.Result.{err_from_is_err_and}
 use Rattle.cfm_memory.specs.Extents.{zeros_at}
-use Rattle.cfm_memory.specs.Instances.{Layout}
 use Rattle.cfm_prepare.specs.Addresses.{first_bad_program, section_of}
 use Rattle.cfm_prepare.specs.Fragments.{Present, StandAll, all_given_back, first_bad_image}
 use Rattle.cfm_prepare.specs.Kept.Ready.{AllApart, AllFit, AllHeld, AllIn, FillsUpTo, OwnApart, RelocatesUpTo}
-use Rattle.cfm_prepare.specs.declared.fault.PrepareFault.{PrepareFault}
 use Rattle.cfm_prepare.proofs.BegunLemmas.{back-is, begun-after, begun-of, image-refused, prepared-after, relocating-refused}
 use Rattle.cfm_prepare.proofs.PlacedLemmas.{placed-apart, placed-fit, placed-held, placed-own, placed-zeros}
 use Rattle.cfm_prepare.proofs.StepLemmas.{all-in}

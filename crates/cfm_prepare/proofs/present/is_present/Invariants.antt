@@ -1,4 +1,4 @@
-use Rattle.std.proofs.Common.{◌≡◌, ◌+◌, ◌-◌, ◌<◌, ◌≤◌, ℕ, List, ◌++◌, drop, take, length}
+use Rattle.std.proofs.Common.{◌≡◌, drop}
 use Rattle.cfm_prepare.specs.Fragments.{is_present}
 use Rattle.cfm_prepare.proofs.present.is_present.Given as goal
 

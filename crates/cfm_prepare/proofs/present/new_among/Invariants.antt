@@ -1,4 +1,4 @@
-use Rattle.std.proofs.Common.{◌≡◌, ◌+◌, ◌-◌, ◌<◌, ◌≤◌, ℕ, List, ◌++◌, drop, take, length}
+use Rattle.std.proofs.Common.{◌≡◌, ◌++◌, drop}
 use Rattle.cfm_prepare.specs.Fragments.{new_among}
 use Rattle.cfm_prepare.proofs.present.new_among.Given as goal
 

@@ -1,5 +1,4 @@
 -- One address more is there.
-use Rattle.std.proofs.Common.{◌≡◌, arith}
 use Rattle.cfm_prepare.specs.Addresses.{imports_from}
 use Rattle.cfm_prepare.proofs.FragmentLemmas.{imports-next}
 use Rattle.cfm_prepare.proofs.relocating.import_addresses.Goals as goal

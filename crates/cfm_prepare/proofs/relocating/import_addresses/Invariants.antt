@@ -1,5 +1,4 @@
-use Rattle.std.proofs.Common.{◌≡◌, ◌+◌, ◌-◌, ◌<◌, ◌≤◌, ℕ, List, ◌++◌, drop, take, length}
-use Rattle.cfm_closure.specs.Fragments.{import_count}
+use Rattle.std.proofs.Common.{◌≡◌, ◌-◌, ◌++◌}
 use Rattle.cfm_prepare.specs.Addresses.{imports_from}
 use Rattle.cfm_prepare.proofs.relocating.import_addresses.Given as goal
 

@@ -1,5 +1,5 @@
 -- The fragment's sections and its imports' targets have the addresses that it is relocated with.
-use Rattle.std.proofs.Common.{◌≡◌, ◌<◌, ℕ, List, Some, length, map, sym, ap, ap₂, subst, ◌∙◌, arith}
+use Rattle.std.proofs.Common.{◌≡◌, ℕ, List, Some, length, map, sym, ap, ap₂, subst, ◌∙◌}
 use Rattle.cfm_memory.specs.Extents.{Stand}
 use Rattle.cfm_memory.specs.declared.place.Place.{Place}
 use Rattle.pef_loader.specs.Loader.{reloc_of}
@@ -7,7 +7,7 @@ use Rattle.pef_loader.specs.Views.{loaded}
 use Rattle.pef_reloc.specs.Applied.{Addresses}
 use Rattle.pef_reloc.specs.Headers.{first_refusal, relocated_by}
 use Rattle.cfm_closure.specs.Fragments.{import_count, loader_at}
-use Rattle.cfm_closure.specs.Stores.{Pair, pair_of}
+use Rattle.cfm_closure.specs.Stores.{pair_of}
 use Rattle.cfm_fragment.specs.Images.{filled_at}
 use Rattle.cfm_fragment.specs.Prepared.{prepared_at}
 use Rattle.cfm_prepare.specs.Addresses.{addresses_of, imports_from}

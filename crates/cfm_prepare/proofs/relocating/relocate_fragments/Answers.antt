@@ -1,9 +1,9 @@
 -- One fragment more is relocated, and the others keep what they have.
-use Rattle.std.proofs.Common.{◌≡◌, ◌+◌, ◌<◌, ℕ, [], None, Contains, arith, sym, subst, ap, ◌∙◌}
+use Rattle.std.proofs.Common.{◌≡◌, None, Contains, sym, subst, ◌∙◌}
 use Rattle.std.proofs.lemmas.List.{get_or_default}
-use Rattle.cfm_memory.specs.Extents.{AreHeld, Stand, given_back, zeros_at}
+use Rattle.cfm_memory.specs.Extents.{AreHeld, Stand, given_back}
 use Rattle.cfm_prepare.specs.Addresses.{addresses_of, section_of}
-use Rattle.cfm_prepare.specs.Fragments.{Present, filled_in, image_refusal_in, named, present_at, reloc_refusal_in}
+use Rattle.cfm_prepare.specs.Fragments.{Present, filled_in, named, present_at, reloc_refusal_in}
 use Rattle.cfm_prepare.proofs.GroupLemmas.{all-one, no_fragment}
 use Rattle.cfm_prepare.proofs.StepLemmas.{done-next, held-next, program-next, left-next}
 use Rattle.cfm_prepare.proofs.relocating.relocate_fragments.Goals as goal

@@ -1,5 +1,5 @@
 -- The fragment is one of the closure.
-use Rattle.std.proofs.Common.{◌≡◌, Bool, List, ℕ, true, Contains, sym, ap, subst, ◌∙◌}
+use Rattle.std.proofs.Common.{◌≡◌, true, sym, ap, ◌∙◌}
 use Rattle.cfm_prepare.specs.Contexts.{has}
 use Rattle.cfm_prepare.proofs.ReaderLemmas.{has-contains}
 use Rattle.cfm_prepare.proofs.connected.Connected.entries.Goals as goal

@@ -1,5 +1,5 @@
 -- The place is one of a fragment that is present, so it is held.
-use Rattle.std.proofs.Common.{◌≡◌, ◌+◌, ◌≤◌, ℕ, List, Some, IsTrue, length, option_map, slice_get, sym, ap, subst, ◌∙◌}
+use Rattle.std.proofs.Common.{◌≡◌, List, Some, IsTrue, option_map, slice_get, sym, ap, subst, ◌∙◌}
 use Rattle.std.specs.Option.{option_and_then}
 use Rattle.std.proofs.lemmas.Option.{slice_get-get_or}
 use Rattle.cfm_memory.specs.Extents.{AreHeld}

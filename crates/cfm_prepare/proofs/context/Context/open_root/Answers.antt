@@ -1,16 +1,19 @@
 -- The closure is that of the store; its new fragments are prepared, or the first refusal is that of all.
-use Rattle.std.proofs.Common.{rules, ◌≡◌, ◌<◌, ◌++◌, ◌∷◌, ℕ, List, [], length, Ok, Some, All, Contains, refl, sym, ap, subst, ◌∙◌}
+use Rattle.std.proofs.Common.{rules, true, arith, ◌≡◌, ◌<◌, ◌++◌, ◌∷◌, ℕ, List, [], length, Ok, Some, All, Contains, refl, sym, ap, subst, ◌∙◌}
 use Rattle.std.proofs.lemmas.Result.{err_from_is_err_and}
 use Rattle.cfm_closure.specs.Closures.{closed_of}
 use Rattle.cfm_closure.specs.Faults.{Fails}
 use Rattle.cfm_closure.specs.Stores.{place_of}
-use Rattle.cfm_closure.proofs.Laws.{closed-root, closed-store}
-use Rattle.cfm_prepare.specs.Contexts.{State, most_connections}
+use Rattle.cfm_closure.proofs.Laws.{closed-complete, closed-root, closed-store}
+use Rattle.cfm_prepare.specs.Contexts.{Open, State, has, most_connections}
 use Rattle.cfm_prepare.specs.Fragments.{new_among}
 use Rattle.cfm_prepare.specs.Placing.{ArePrepared}
 use Rattle.cfm_prepare.specs.Steps.{HasClosure, HasRoot, MayNotPrepareNew}
 use Rattle.cfm_prepare.proofs.BegunLemmas.{new-members}
 use Rattle.cfm_prepare.proofs.OpenLemmas.{ends-contains, refused-late}
+use Rattle.cfm_prepare.specs.Kept.Users.{CountsMore, CountUsers, IsOnce}
+use Rattle.cfm_prepare.proofs.ReaderLemmas.{has-contains}
+use Rattle.cfm_prepare.proofs.UsersLemmas.{entered-count, once-from-pairs, same_users, users-few}
 use Rattle.cfm_prepare.proofs.context.Context.open_root.Goals as goal
 
 pub returns-in_err-closure-clause-refused : goal.returns-in_err-closure-clause-refused
@@ -43,8 +46,30 @@ returns-in_err-prepare_new-clause-refused c = λ name is.
     let why : MayNotPrepareNew s.pairs s.present s.memory (new_among s.present closed.order) e = rw (← c.self.view_is) (subst P new c.in_err-prepare_new.ensures.refused) in
     rw (p.1, p.2) (refused-late e s name closure why)
 
-pub new-requires : goal.new-requires
-new-requires c =
+pub enter-requires-clause-once : goal.enter-requires-clause-once
+enter-requires-clause-once c =
+    let closed = c.in_ok-closure.closure in
+    subst IsOnce (sym c.order-2.ensures.order) (once-from-pairs closed.order (closed-complete c.self.inside.store c.args.root closed c.in_ok-closure.ensures).once)
+
+pub enter-requires-clause-inside : goal.enter-requires-clause-inside
+enter-requires-clause-inside c = λ p there.
+    let closed = c.in_ok-closure.closure in
+    let here : has closed.order p ≡ true = ap (λ ps. has ps p) (sym c.order-2.ensures.order) ∙ there in
+    let member = (closed-complete c.self.inside.store c.args.root closed c.in_ok-closure.ensures).members p (has-contains closed.order p here) in
+    omega (arith, member.place, c.in_ok-make_room.ensures.room, c.len.ensures)
+
+pub enter-requires-clause-few : goal.enter-requires-clause-few
+enter-requires-clause-few c = λ p.
+    let os = c.self.inside.connections in
+    omega (arith, c.in_ok-make_room.ensures.same p, c.self.invariant.counted p, users-few os.items p, os.ok.0, os.ok.1, os.small)
+
+pub new-requires-clause-once : goal.new-requires-clause-once
+new-requires-clause-once c =
+    let closed = c.in_ok-closure.closure in
+    once-from-pairs closed.order (closed-complete c.self.inside.store c.args.root closed c.in_ok-closure.ensures).once
+
+pub new-requires-clause-root : goal.new-requires-clause-root
+new-requires-clause-root c =
     let P : State → Type 0 = λ s. c.args.root < length s.pairs in
     ends-contains c.in_ok-closure.closure.order c.args.root (closed-root c.self.inside.store c.args.root c.in_ok-closure.closure (subst P (sym c.self.view_is) c.requires.root) c.in_ok-closure.ensures)
 
@@ -67,3 +92,19 @@ returns-clause-prepared c = λ name is.
       connections = pushed;
       present = done.1;
     })
+
+pub invariant_of-self-2 : goal.invariant_of-self-2
+invariant_of-self-2 c =
+    let closed = c.in_ok-closure.closure in
+    let os = c.self.inside.connections.items in
+    let o : Open = record { number = c.self.inside.given; root = c.args.root; closed = closed } in
+    let pushed : c.push.new.self.items ≡ os ++ o ∷ [] = search rules in
+    let R : State → Type 0 = λ s. s.given < most_connections in
+    let left : c.self.inside.given < most_connections = subst R (sym c.self.view_is) c.requires.left in
+    let P : List ℕ → Type 0 = λ ps. CountsMore ps c.make_room.new.users.items c.enter.new.users.items in
+    let Q : List Open → Type 0 = λ xs. CountUsers c.enter.new.users.items xs in
+    record {
+      ready = c.in_ok-prepare_new.ensures.ready;
+      few = omega (arith, left);
+      counted = subst Q (sym pushed) (entered-count os o c.make_room.new.users.items c.enter.new.users.items (same_users c.self.inside.users.items c.make_room.new.users.items os c.in_ok-make_room.ensures.same c.self.invariant.counted) (subst P c.order-2.ensures.order c.enter.ensures));
+    }

@@ -1,0 +1,128 @@
+-- The counts of the users of fragments.
+use Rattle.std.proofs.Common.{◌≡◌, ◌≢◌, ℕ, zero, suc, ◌+◌, ◌<◌, ◌≤◌, Bool, true, false, List, [], ◌∷◌, ◌++◌, nat_lt, length, get_or, replicate, refl, sym, ap, subst, ◌∙◌, inl, inr, cond, arith}
+use Rattle.std.specs.List.{remove, AllPairs}
+use Rattle.std.proofs.Math.ListN.{set}
+use Rattle.std.proofs.lemmas.Bool.Decides.{eqb_tells, nat_tests}
+use Rattle.std.proofs.lemmas.List.{get_or-set_other, get_or-set_same}
+use Rattle.cfm_prepare.specs.Contexts.{Open, has, is_needed}
+use Rattle.cfm_prepare.specs.Kept.Users.{CountsMore, CountUsers, IsOnce, count_at, counted, users_of}
+use Rattle.cfm_prepare.proofs.ReaderLemmas.{has-contains}
+
+-- a fragment is needed where it has users
+needed-one : (b c : Bool) (n : ℕ) → c ≡ nat_lt 0 n → cond b true c ≡ nat_lt 0 (cond b 1 0 + n)
+needed-one true c n is = grind (arith, nat_tests)
+needed-one false c n is = (let plus : n ≡ 0 + n = omega arith in is ∙ ap (nat_lt 0) plus)
+
+pub needed-is : (os : List Open) (p : ℕ) → is_needed os p ≡ nat_lt 0 (users_of os p)
+needed-is [] p = refl
+needed-is (o ∷ os) p = needed-one (has o.closed.order p) (is_needed os p) (users_of os p) (needed-is os p)
+
+at-most-one : (b : Bool) → cond b 1 0 ≤ 1
+at-most-one true = omega arith
+at-most-one false = omega arith
+
+-- each connection is counted once at most
+pub users-few : (os : List Open) (p : ℕ) → users_of os p ≤ length os
+users-few [] p = omega arith
+users-few (o ∷ os) p = let one = at-most-one (has o.closed.order p) in let more = users-few os p in omega (arith, one, more)
+
+-- with one more connection
+pub users-push : (os : List Open) (o : Open) (p : ℕ) → users_of (os ++ o ∷ []) p ≡ users_of os p + counted o.closed.order p
+users-push [] o p = omega arith
+users-push (x ∷ os) o p = let more = users-push os o p in omega (arith, more)
+
+-- without one of them
+pub users-without : (os : List Open) (i : ℕ) (d : Open) (p : ℕ) → i < length os → users_of os p ≡ counted (get_or os i d).closed.order p + users_of (remove os i) p
+users-without [] i d p under = absurd (omega (arith, under))
+users-without (o ∷ os) zero d p under = refl
+users-without (o ∷ os) (suc i) d p under = let more = users-without os i d p (omega (arith, under)) in omega (arith, more)
+
+-- a list in which all are apart has none twice
+pub once-from-pairs : (xs : List ℕ) → AllPairs (λ p q. p ≢ q) xs → IsOnce xs
+once-from-pairs [] apart = tt
+once-from-pairs (x ∷ xs) apart =
+    (go (has xs x) refl, once-from-pairs xs (λ i j d less below. apart (suc i) (suc j) d (omega (arith, less)) (omega (arith, below))))
+  where
+    go : (b : Bool) → has xs x ≡ b → b ≡ false
+    go true is = let there = has-contains xs x is in absurd (apart 0 (suc there.0) x (omega arith) (let h = there.1 in omega (arith, h)) (sym there.2))
+    go false is = refl
+
+-- past the last count there is none
+pub under-length : (counts : List ℕ) (p : ℕ) → 0 < count_at counts p → p < length counts
+under-length [] p some = absurd (omega (arith, some))
+under-length (c ∷ counts) zero some = omega arith
+under-length (c ∷ counts) (suc p) some = let more = under-length counts p some in omega (arith, more)
+
+zeros-count : (k p : ℕ) → count_at (replicate k 0) p ≡ 0
+zeros-count zero p = refl
+zeros-count (suc k) zero = refl
+zeros-count (suc k) (suc p) = zeros-count k p
+
+-- more room changes no count
+pub room-same : (counts : List ℕ) (k p : ℕ) → count_at (counts ++ replicate k 0) p ≡ count_at counts p
+room-same [] k p = zeros-count k p
+room-same (c ∷ counts) k zero = refl
+room-same (c ∷ counts) k (suc p) = room-same counts k p
+
+-- one count that is changed
+count-here : (counts : List ℕ) (q v : ℕ) → q < length counts → count_at (set counts q v) q ≡ v
+count-here counts q v under = get_or-set_same counts q v 0 under
+
+count-other : (counts : List ℕ) (q v p : ℕ) → p ≢ q → count_at (set counts q v) p ≡ count_at counts p
+count-other counts q v p apart = get_or-set_other counts q p v 0 apart
+
+pub has-first : (q : ℕ) (qs : List ℕ) → has (q ∷ qs) q ≡ true
+has-first q qs = elim (eqb_tells q q) [ inl same ↦ rw same.0 refl | inr other ↦ absurd (other.1 refl) ]
+
+pub has-later : (q : ℕ) (qs : List ℕ) (p : ℕ) → has qs p ≡ true → has (q ∷ qs) p ≡ true
+has-later q qs p there = elim (eqb_tells q p) [ inl same ↦ rw same.0 refl | inr other ↦ rw other.0 there ]
+
+one-first : (q : ℕ) (qs : List ℕ) → counted (q ∷ qs) q ≡ 1
+one-first q qs = ap (λ b. cond b 1 0) (has-first q qs)
+
+none-later : (q : ℕ) (qs : List ℕ) → has qs q ≡ false → counted qs q ≡ 0
+none-later q qs once = ap (λ b. cond b 1 0) once
+
+-- the first of an order is counted, then the others
+pub more-first : (q : ℕ) (qs before after : List ℕ) (v : ℕ) → q < length before → v ≡ count_at before q + 1 → has qs q ≡ false → CountsMore qs (set before q v) after → CountsMore (q ∷ qs) before after
+more-first q qs before after v under v_is once more = λ p.
+    elim (eqb_tells q p) [
+      | inl same ↦ subst (λ n. count_at after n ≡ count_at before n + counted (q ∷ qs) n) same.1 (omega (arith, more q, count-here before q v under, v_is, one-first q qs, none-later q qs once))
+      | inr other ↦ (let there = count-other before q v p (λ e. other.1 (sym e)) in rw other.0 (more p ∙ ap (λ n. n + counted qs p) there))
+    ]
+
+-- the same, one user less
+pub less-first : (q : ℕ) (qs before after : List ℕ) (v : ℕ) → q < length after → count_at after q ≡ v + 1 → has qs q ≡ false → CountsMore qs before (set after q v) → CountsMore (q ∷ qs) before after
+less-first q qs before after v under v_is once more = λ p.
+    elim (eqb_tells q p) [
+      | inl same ↦ subst (λ n. count_at after n ≡ count_at before n + counted (q ∷ qs) n) same.1 (omega (arith, more q, count-here after q v under, v_is, one-first q qs, none-later q qs once))
+      | inr other ↦ (let there = count-other after q v p (λ e. other.1 (sym e)) in rw other.0 (sym there ∙ more p))
+    ]
+
+-- an order of none counts nothing
+pub none-more : (counts : List ℕ) → CountsMore [] counts counts
+none-more counts = λ p. omega arith
+
+-- the others of an order have the counts that they had
+pub still-to-come : (q : ℕ) (qs counts : List ℕ) (v p : ℕ) → has qs q ≡ false → has qs p ≡ true → count_at (set counts q v) p ≡ count_at counts p
+still-to-come q qs counts v p once there = count-other counts q v p (λ e. absurd (let wrong : has qs q ≡ true = rw e at there in cc))
+
+-- the users behind one connection less
+pub left-count : (os : List Open) (i : ℕ) (d : Open) (before after : List ℕ) → i < length os → CountUsers before os → CountsMore (get_or os i d).closed.order after before → CountUsers after (remove os i)
+left-count os i d before after under counts more = λ p. (let a = counts p in let b = more p in let c = users-without os i d p under in omega (arith, a, b, c))
+
+-- and behind one more
+pub entered-count : (os : List Open) (o : Open) (before after : List ℕ) → CountUsers before os → CountsMore o.closed.order before after → CountUsers after (os ++ o ∷ [])
+entered-count os o before after counts more = λ p. more p ∙ ap (λ n. n + counted o.closed.order p) (counts p) ∙ sym (users-push os o p)
+
+-- a connection uses each fragment of its closure
+pub used-of : (os : List Open) (i : ℕ) (d : Open) (counts : List ℕ) (p : ℕ) → i < length os → CountUsers counts os → has (get_or os i d).closed.order p ≡ true → 0 < count_at counts p
+used-of os i d counts p under is there =
+    let a = is p in
+    let c = users-without os i d p under in
+    let one : counted (get_or os i d).closed.order p ≡ 1 = rw there refl in
+    omega (arith, a, c, one)
+
+-- counts that are as they were are of the same users
+pub same_users : (before after : List ℕ) (os : List Open) → ((p : ℕ) → count_at after p ≡ count_at before p) → CountUsers before os → CountUsers after os
+same_users before after os same counts = λ p. same p ∙ counts p

@@ -1,0 +1,29 @@
+-- How many open connections have a fragment in their closures.
+use Rattle.std.specs.Prelude.{◌≡◌, ℕ, ◌+◌, false, List, [], ◌∷◌, if◌then◌else◌, slice_index_or}
+use Rattle.cfm_prepare.specs.Contexts.{Open, has}
+
+-- a list has no number twice
+abbrev pub IsOnce : List ℕ → Type 0
+IsOnce [] = Unit {0}
+IsOnce (q ∷ qs) = (has qs q ≡ false) × IsOnce qs
+
+-- 1 for a number of a list, 0 for any other
+abbrev pub counted : List ℕ → ℕ → ℕ
+counted order p = if has order p then 1 else 0
+
+-- how many of some connections have a fragment in their closures
+abbrev pub users_of : List Open → ℕ → ℕ
+users_of [] p = 0
+users_of (o ∷ os) p = counted o.closed.order p + users_of os p
+
+-- count p; past the last one, none
+abbrev pub count_at : List ℕ → ℕ → ℕ
+count_at counts p = slice_index_or counts p 0
+
+-- counts are those of the users of each fragment
+abbrev pub CountUsers : List ℕ → List Open → Type 0
+CountUsers counts connections = (p : ℕ) → count_at counts p ≡ users_of connections p
+
+-- each fragment of an order was counted once more
+abbrev pub CountsMore : List ℕ → List ℕ → List ℕ → Type 0
+CountsMore order before after = (p : ℕ) → count_at after p ≡ count_at before p + counted order p

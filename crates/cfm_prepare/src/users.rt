@@ -1,0 +1,49 @@
+ghost use Rattle.std.specs.Prelude.{◌≡◌, ◌≤◌, ◌<◌, ◌^◌, ℕ, true, OnOk, length, nat_lt};
+ghost use Rattle.cfm_prepare.specs.Contexts.{has};
+ghost use Rattle.cfm_prepare.specs.Kept.Users.{CountsMore, IsOnce, count_at};
+
+use std::alloc::AllocError;
+
+/// Makes room for the counts of so many fragments.
+pub(crate) fn make_room(users: &mut Vec<usize>, fragments: usize) -> Result<(), AllocError>
+    ensures room { OnOk result (fragments ≤ length users.new.items) }
+    ensures same { (p : ℕ) → count_at users.new.items p ≡ count_at users.old.items p }
+{
+    if users.len() < fragments {
+        users.resize(fragments, 0)?;
+    }
+    Ok(())
+}
+
+/// Whether a fragment is in use.
+pub(crate) fn has_users(users: &[usize], position: usize) -> bool
+    ensures { result ≡ nat_lt 0 (count_at users.now position) }
+{
+    match users.get(position) {
+        Some(count) => *count > 0,
+        None => false,
+    }
+}
+
+/// Counts one more user of each fragment of an order.
+pub(crate) fn enter(users: &mut Vec<usize>, order: &[usize])
+    requires once { IsOnce order.now }
+    requires inside { (p : ℕ) → has order.now p ≡ true → p < length users.old.items }
+    requires few { (p : ℕ) → count_at users.old.items p < 2 ^ 63 }
+    ensures { CountsMore order.now users.old.items users.new.items }
+{
+    for position in order {
+        users[*position] += 1;
+    }
+}
+
+/// Counts one user less of each fragment of an order.
+pub(crate) fn leave(users: &mut Vec<usize>, order: &[usize])
+    requires once { IsOnce order.now }
+    requires used { (p : ℕ) → has order.now p ≡ true → 0 < count_at users.old.items p }
+    ensures { CountsMore order.now users.new.items users.old.items }
+{
+    for position in order {
+        users[*position] -= 1;
+    }
+}
