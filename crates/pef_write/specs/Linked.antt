@@ -3,11 +3,12 @@
 -- (Mac OS Runtime Architectures, "PEF Structure").
 use Rattle.std.specs.Prelude.{◌≡◌, ℕ, true, pos, ◌+◌, ◌*◌, ◌≤◌, ◌==◌, List, [], ◌∷◌, ◌++◌, length, map, nat_lt, slice_index_or}
 use Rattle.std.specs.List.{count_by}
-use Rattle.pef_cert.specs.Valid.{Certified, Valid}
+use Rattle.pef_cert.specs.Valid.{Certified, Valid, labels_of}
 use Rattle.pef_hash.specs.Build.{built}
 use Rattle.pef_loader.specs.Export.{Export}
 use Rattle.pef_loader.specs.Import.{Import}
 use Rattle.pef_loader.specs.Library.{Library}
+use Rattle.pef_plan.specs.Exact.{Exact}
 use Rattle.pef_reloc.specs.declared.fixup.Fixup.{Fixup}
 use Rattle.pef_reloc.specs.declared.instr.Instr.{Instr}
 use Rattle.pef_reloc.specs.Instrs.{program_length, spelled}
@@ -33,10 +34,11 @@ AreProgramsFor count [] (instrs ∷ programs) = ⊥
 AreProgramsFor count (s ∷ sections) [] = ⊥
 AreProgramsFor count (s ∷ sections) (instrs ∷ programs) = IsProgramFor count s.fixups instrs × AreProgramsFor count sections programs
 
--- a certificate that holds for the fixups of a section, by its number
+-- a certificate that holds for the fixups of a section, by its number; each of its labels is a least length
 pub record IsCertified (k : ℕ) (fixups : List Fixup) (c : Certified) : Type 0 where
   pub section : c.section ≡ k
   pub valid : Valid fixups c
+  pub exact : Exact (labels_of c (length fixups)) fixups
 
 -- a certificate for each of some sections, numbered from a number on
 abbrev pub AreCertified : ℕ → List DescribedSection → List Certified → Type 0

@@ -14,7 +14,7 @@ sections-preserved c =
     let found = subst (λ n. Some fixups ≡ option_map (λ section. section.fixups) (slice_get sections n)) at c.in-Some.ensures.fixups in
     let under = section_under sections (length done) fixups found in
     let few = c.sections-2.ensures.holds.sections.count in
-    let is : IsCertified (length done) fixups certificate = record { section = omega (arith, c.in_ok-plan.ensures.section, under, few); valid = c.in_ok-plan.ensures.valid } in
+    let is : IsCertified (length done) fixups certificate = record { section = omega (arith, c.in_ok-plan.ensures.section, under, few); valid = c.in_ok-plan.ensures.valid; exact = c.in_ok-plan.ensures.exact } in
     certified_more sections done c.push.new.self.items fixups certificate c.in_ok-push.ensures.items found is c.sections.invariant
 
 pub returns : goal.returns
