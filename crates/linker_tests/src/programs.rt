@@ -90,6 +90,30 @@ fn instrs(alloc: Global, bytes: &[u8]) -> Result<Vec<Instr>, Fail> {
     Ok(instrs)
 }
 
+/// How many relocation headers a container has, and the section and the program of the first.
+fn first_header(bytes: &[u8]) -> Result<(u32, u32, &[u8]), Fail> {
+    let container = Container::read(bytes)?;
+    let loader = Loader::read(&container)?;
+    let (section, program) = loader.reloc(0).unwrap_or((0, &[]));
+    Ok((loader.relocs(), section, program))
+}
+
+/// Tests that a section's certificate has the program that is written.
+fn test_written(
+    rt: &impl Abort,
+    alloc: Global,
+    linked: &Linked,
+    section: u32,
+    written: &[u8],
+) -> Result<(), Fail> {
+    let Some(certificate) = linked.certificate(section as usize) else {
+        panic!(rt; "no certificate of section {section}");
+    };
+    let program = instrs(alloc, written)?;
+    assert!(rt; certificate.program() == program.as_slice());
+    Ok(())
+}
+
 /// Links a script whose second section has these fixups, and tests the program of that section: its
 /// length, that it is the one of the certificate, and its bytes where some are given.
 fn test_program(
@@ -102,31 +126,16 @@ fn test_program(
     let text = script_of(alloc, listed)?;
     let script = Script::read(alloc, text.as_bytes())?;
     let linked = link(alloc, &script)?;
-    assert_eq!(rt;
-        linked.lengths(),
-        [0, halfwords, 0].as_slice(),
-        "{listed:?}"
-    );
-    let container = Container::read(linked.bytes())?;
-    let loader = Loader::read(&container)?;
+    let (headers, section, written) = first_header(linked.bytes())?;
+    assert_eq!(rt; linked.length(OWN), Some(halfwords), "{text}");
+    assert_eq!(rt; headers, u32::from(!listed.is_empty()), "{text}");
+    assert_eq!(rt; written.len(), 2 * halfwords as usize, "{text}");
+    assert!(rt; bytes.is_empty() || written == bytes, "{text}");
     if listed.is_empty() {
-        assert_eq!(rt; loader.relocs(), 0);
         return Ok(());
     }
-    assert_eq!(rt; loader.relocs(), 1, "{listed:?}");
-    let (section, written) = loader.reloc(0).unwrap_or((0, &[]));
-    assert_eq!(rt; section, OWN as u32, "{listed:?}");
-    assert_eq!(rt; written.len(), 2 * halfwords as usize, "{listed:?}");
-    if !bytes.is_empty() {
-        assert_eq!(rt; written, bytes, "{listed:?}");
-    }
-    let Some(certificate) = linked.certificate(OWN) else {
-        panic!(rt; "no certificate of {listed:?}");
-    };
-    assert_eq!(rt; certificate.section(), OWN as u32);
-    assert_eq!(rt; certificate.program(), instrs(alloc, written)?.as_slice());
-    assert_eq!(rt; certificate.program_length(), u64::from(halfwords));
-    Ok(())
+    assert_eq!(rt; section, OWN as u32, "{text}");
+    test_written(rt, alloc, &linked, section, written)
 }
 
 /// Tests the program of each of some lists.
