@@ -1,15 +1,15 @@
 -- Fragments that are given back, and connections that are closed.
-use Rattle.std.proofs.Common.{◌≡◌, ℕ, zero, suc, ◌+◌, ◌<◌, ◌≤◌, Bool, true, false, List, [], ◌∷◌, ◌++◌, None, Some, length, get_or, take, drop, refl, sym, ap, ap₂, subst, ◌∙◌, inl, inr, cond, arith}
+use Rattle.std.proofs.Common.{◌≡◌, ℕ, suc, ◌+◌, ◌<◌, ◌≤◌, true, false, List, [], ◌∷◌, ◌++◌, None, Some, length, get_or, take, drop, not, refl, sym, ap, subst, ◌∙◌, inl, inr, cond, arith}
 use Rattle.std.specs.List.{remove}
-use Rattle.std.proofs.Math.Seq.{drop-append_seam, take-append_seam}
 use Rattle.std.proofs.lemmas.Bool.Decides.{eqb_tells}
-use Rattle.std.proofs.lemmas.List.{append-nil, at_drop_more, drop-append-le, length-append, length-take-le, take-append-drop, take-append-le}
+use Rattle.std.proofs.lemmas.List.{append-nil, append_assoc, at_drop_more, drop-append-le, get_or_default, length-append, take-append-le}
 use Rattle.cfm_memory.specs.Instances.{Layout}
 use Rattle.cfm_memory.specs.Extents.{given_back}
-use Rattle.cfm_prepare.specs.Contexts.{Open, is_needed, needed_of, open_of, open_without, unneeded_of}
+use Rattle.cfm_prepare.specs.Contexts.{Open, open_of, open_without}
 use Rattle.cfm_prepare.specs.Fragments.{Present, all_given_back, present_at}
 use Rattle.cfm_prepare.specs.Kept.Connections.{index_in}
 use Rattle.cfm_prepare.specs.Kept.Ready.{AreReady}
+use Rattle.cfm_prepare.specs.Kept.Users.{is_used, unused_of, used_of}
 use Rattle.cfm_prepare.proofs.GroupLemmas.{all-push, no_fragment}
 use Rattle.cfm_prepare.proofs.ReadyLemmas.{ready-without}
 
@@ -35,82 +35,52 @@ popped m after cur now f kept is after_is under ready =
       long = long;
     }
 
--- a fragment among others
-around : (cur : List Present) (i : ℕ) → i < length cur → cur ≡ take i cur ++ present_at cur i ∷ drop (i + 1) cur
-around cur i under = sym (take-append-drop i cur) ∙ at_drop_more (λ ys. take i cur ++ ys) cur i no_fragment under
+-- some of the fragments are passed: those that have users stand before the rest
+pub record ArePassed (users : List ℕ) (all : List Present) (before m : Layout) (rest : List Present) : Type 0 where
+  pub kept : List Present
+  pub used : kept ++ used_of users rest ≡ used_of users all
+  pub memory : all_given_back m (unused_of users rest) ≡ all_given_back before (unused_of users all)
+  pub ready : AreReady m (kept ++ rest)
 
-front-back : (front back : List Present) (i : ℕ) → length front ≡ i → take i (front ++ back) ≡ front
-front-back front back i is = ap (λ n. take n (front ++ back)) (sym is) ∙ take-append_seam front back
+pub passed-none : (users : List ℕ) (all : List Present) (m : Layout) → AreReady m all → ArePassed users all m m all
+passed-none users all m ready = record { kept = []; used = refl; memory = refl; ready = ready }
 
-front-drop : (front back : List Present) (i : ℕ) → length front ≡ i → drop i (front ++ back) ≡ back
-front-drop front back i is = ap (λ n. drop n (front ++ back)) (sym is) ∙ drop-append_seam front back
+-- the first that is left
+pub left-first : (users : List ℕ) (all : List Present) (before m : Layout) (i : ℕ) (f : Present) → i < length all → f ≡ get_or all i f → ArePassed users all before m (drop i all) → ArePassed users all before m (f ∷ drop (i + 1) all)
+left-first users all before m i f under is s =
+    let P : List Present → Type 0 = λ fs. ArePassed users all before m fs in
+    let e : f ≡ present_at all i = is ∙ get_or_default all i f no_fragment under in
+    subst P (at_drop_more (λ (fs : List Present). fs) all i no_fragment under ∙ ap (λ (x : Present). x ∷ drop (i + 1) all) (sym e)) s
 
-needed-none : (b : Bool) (f : Present) (fs : List Present) → b ≡ false → cond b (f ∷ fs) fs ≡ fs
-needed-none b f fs is = rw is refl
-
-unneeded-one : (b : Bool) (f : Present) (fs : List Present) → b ≡ false → cond b fs (f ∷ fs) ≡ f ∷ fs
-unneeded-one b f fs is = rw is refl
-
--- a list without its element i
-pub removed-is : (xs : List Present) (i : ℕ) → remove xs i ≡ take i xs ++ drop (i + 1) xs
-removed-is xs i = let next : suc i ≡ i + 1 = omega arith in ap (λ n. take i xs ++ drop n xs) next
-
--- a fragment that isn't needed is given back
-pub record IsReleased (connections : List Open) (m after : Layout) (cur now : List Present) (i : ℕ) : Type 0 where
-  pub present : take i now ++ needed_of connections (drop i now) ≡ take i cur ++ needed_of connections (drop i cur)
-  pub memory : all_given_back after (unneeded_of connections (drop i now)) ≡ all_given_back m (unneeded_of connections (drop i cur))
-  pub ready : AreReady after now
-  pub within : i ≤ length now
-
-pub released : (connections : List Open) (m after : Layout) (cur now : List Present) (i : ℕ) → i < length cur → now ≡ take i cur ++ drop (i + 1) cur → after ≡ given_back m (present_at cur i).places
-    → is_needed connections (present_at cur i).position ≡ false → AreReady m cur → IsReleased connections m after cur now i
-released connections m after cur now i under now_is after_is unneeded ready =
-    let f = present_at cur i in
-    let front = take i cur in
-    let back = drop (i + 1) cur in
-    let size : length front ≡ i = length-take-le i cur (omega (arith, under)) in
-    let kept : take i now ≡ front = ap (take i) now_is ∙ front-back front back i size in
-    let left : drop i now ≡ back = ap (drop i) now_is ∙ front-drop front back i size in
-    let needed : needed_of connections (drop i cur) ≡ needed_of connections back = at_drop_more (needed_of connections) cur i no_fragment under ∙ needed-none (is_needed connections f.position) f (needed_of connections back) unneeded in
-    let others : unneeded_of connections (drop i cur) ≡ f ∷ unneeded_of connections back = at_drop_more (unneeded_of connections) cur i no_fragment under ∙ unneeded-one (is_needed connections f.position) f (unneeded_of connections back) unneeded in
+-- one that has users stays
+pub passed-used : (users : List ℕ) (all : List Present) (before m : Layout) (f : Present) (rest : List Present) → is_used users f ≡ true → ArePassed users all before m (f ∷ rest) → ArePassed users all before m rest
+passed-used users all before m f rest is s =
     let P : List Present → Type 0 = λ fs. AreReady m fs in
-    let Q : List Present → Type 0 = λ fs. AreReady (given_back m f.places) fs in
-    let R : Layout → Type 0 = λ k. AreReady k now in
+    let one : used_of users (f ∷ rest) ≡ f ∷ used_of users rest = ap (λ b. cond b (f ∷ used_of users rest) (used_of users rest)) is in
+    let none : unused_of users (f ∷ rest) ≡ unused_of users rest = ap (λ b. cond (not b) (f ∷ unused_of users rest) (unused_of users rest)) is in
     record {
-      present = ap₂ (λ xs ys. xs ++ needed_of connections ys) kept left ∙ ap (λ ys. front ++ ys) (sym needed);
-      memory = ap₂ (λ (k : Layout) ys. all_given_back k (unneeded_of connections ys)) after_is left ∙ ap (all_given_back m) (sym others);
-      ready = subst R (sym after_is) (subst Q (sym now_is) (ready-without m front f back (subst P (around cur i under) ready)));
-      within = omega (arith, size, ap length now_is, length-append front back);
+      kept = s.kept ++ f ∷ [];
+      used = append_assoc s.kept (f ∷ []) (used_of users rest) ∙ (ap (λ ys. s.kept ++ ys) (sym one) ∙ s.used);
+      memory = ap (all_given_back m) (sym none) ∙ s.memory;
+      ready = subst P (sym (append_assoc s.kept (f ∷ []) rest)) s.ready;
     }
 
-needed-some : (b : Bool) (f : Present) (fs : List Present) → b ≡ true → cond b (f ∷ fs) fs ≡ f ∷ fs
-needed-some b f fs is = rw is refl
+-- one that has none is given back
+pub passed-unused : (users : List ℕ) (all : List Present) (before m : Layout) (f : Present) (rest : List Present) → is_used users f ≡ false → ArePassed users all before m (f ∷ rest) → ArePassed users all before (given_back m f.places) rest
+passed-unused users all before m f rest is s =
+    let none : used_of users (f ∷ rest) ≡ used_of users rest = ap (λ b. cond b (f ∷ used_of users rest) (used_of users rest)) is in
+    let one : unused_of users (f ∷ rest) ≡ f ∷ unused_of users rest = ap (λ b. cond (not b) (f ∷ unused_of users rest) (unused_of users rest)) is in
+    record {
+      kept = s.kept;
+      used = ap (λ ys. s.kept ++ ys) (sym none) ∙ s.used;
+      memory = ap (all_given_back m) (sym one) ∙ s.memory;
+      ready = ready-without m s.kept f rest s.ready;
+    }
 
-unneeded-none : (b : Bool) (f : Present) (fs : List Present) → b ≡ true → cond b fs (f ∷ fs) ≡ fs
-unneeded-none b f fs is = rw is refl
-
-take-next : (cur rest : List Present) (i : ℕ) → i < length cur → take (suc i) cur ++ rest ≡ take i cur ++ present_at cur i ∷ rest
-take-next [] rest i under = absurd (omega (arith, under))
-take-next (f ∷ fs) rest zero under = refl
-take-next (f ∷ fs) rest (suc i) under = ap (λ ys. f ∷ ys) (take-next fs rest i (omega (arith, under)))
-
--- a fragment that is needed stays
-pub passed-needed : (connections : List Open) (cur : List Present) (i : ℕ) → i < length cur → is_needed connections (present_at cur i).position ≡ true → take (i + 1) cur ++ needed_of connections (drop (i + 1) cur) ≡ take i cur ++ needed_of connections (drop i cur)
-passed-needed connections cur i under needed =
-    let f = present_at cur i in
-    let back = drop (i + 1) cur in
-    let left : needed_of connections (drop i cur) ≡ f ∷ needed_of connections back = at_drop_more (needed_of connections) cur i no_fragment under ∙ needed-some (is_needed connections f.position) f (needed_of connections back) needed in
-    let next : i + 1 ≡ suc i = omega arith in
-    ap (λ n. take n cur ++ needed_of connections back) next ∙ (take-next cur (needed_of connections back) i under ∙ ap (λ ys. take i cur ++ ys) (sym left))
-
-pub passed-unneeded : (connections : List Open) (cur : List Present) (i : ℕ) → i < length cur → is_needed connections (present_at cur i).position ≡ true → unneeded_of connections (drop (i + 1) cur) ≡ unneeded_of connections (drop i cur)
-passed-unneeded connections cur i under needed =
-    let f = present_at cur i in
-    let back = drop (i + 1) cur in
-    sym (at_drop_more (unneeded_of connections) cur i no_fragment under ∙ unneeded-none (is_needed connections f.position) f (unneeded_of connections back) needed)
-
-pub held-at : (m : Layout) (cur : List Present) (i : ℕ) → i < length cur → AreReady m cur → AreReady m (take i cur ++ present_at cur i ∷ drop (i + 1) cur)
-held-at m cur i under ready = let P : List Present → Type 0 = λ fs. AreReady m fs in subst P (around cur i under) ready
+pub passed-ready : (users : List ℕ) (all : List Present) (before m : Layout) → ArePassed users all before m [] → AreReady m (used_of users all)
+passed-ready users all before m s =
+    let P : List Present → Type 0 = λ fs. AreReady m fs in
+    subst P s.used s.ready
 
 -- an open connection
 pub index-within : (os : List Open) (number : ℕ) → index_in os number ≤ length os

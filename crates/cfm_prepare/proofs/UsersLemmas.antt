@@ -1,11 +1,12 @@
 -- The counts of the users of fragments.
-use Rattle.std.proofs.Common.{◌≡◌, ◌≢◌, ℕ, zero, suc, ◌+◌, ◌<◌, ◌≤◌, Bool, true, false, List, [], ◌∷◌, ◌++◌, nat_lt, length, get_or, replicate, refl, sym, ap, subst, ◌∙◌, inl, inr, cond, arith}
+use Rattle.std.proofs.Common.{◌≡◌, ◌≢◌, ℕ, zero, suc, ◌+◌, ◌<◌, ◌≤◌, Bool, true, false, List, [], ◌∷◌, ◌++◌, nat_lt, not, length, get_or, replicate, refl, sym, ap, ap₂, subst, ◌∙◌, inl, inr, cond, arith}
 use Rattle.std.specs.List.{remove, AllPairs}
 use Rattle.std.proofs.Math.ListN.{set}
 use Rattle.std.proofs.lemmas.Bool.Decides.{eqb_tells, nat_tests}
 use Rattle.std.proofs.lemmas.List.{get_or-set_other, get_or-set_same}
-use Rattle.cfm_prepare.specs.Contexts.{Open, has, is_needed}
-use Rattle.cfm_prepare.specs.Kept.Users.{CountsMore, CountUsers, IsOnce, count_at, counted, users_of}
+use Rattle.cfm_prepare.specs.Contexts.{Open, has, is_needed, needed_of, unneeded_of}
+use Rattle.cfm_prepare.specs.Fragments.{Present}
+use Rattle.cfm_prepare.specs.Kept.Users.{CountsMore, CountUsers, IsOnce, count_at, counted, is_used, unused_of, used_of, users_of}
 use Rattle.cfm_prepare.proofs.ReaderLemmas.{has-contains}
 
 -- a fragment is needed where it has users
@@ -16,6 +17,23 @@ needed-one false c n is = (let plus : n ≡ 0 + n = omega arith in is ∙ ap (na
 pub needed-is : (os : List Open) (p : ℕ) → is_needed os p ≡ nat_lt 0 (users_of os p)
 needed-is [] p = refl
 needed-is (o ∷ os) p = needed-one (has o.closed.order p) (is_needed os p) (users_of os p) (needed-is os p)
+
+used-is : (counts : List ℕ) (os : List Open) (f : Present) → CountUsers counts os → is_used counts f ≡ is_needed os f.position
+used-is counts os f is = ap (nat_lt 0) (is f.position) ∙ sym (needed-is os f.position)
+
+-- so the fragments with users are those that are needed
+pub used-needed : (counts : List ℕ) (os : List Open) (fs : List Present) → CountUsers counts os → used_of counts fs ≡ needed_of os fs
+used-needed counts os [] is = refl
+used-needed counts os (f ∷ fs) is = ap₂ (λ b ys. cond b (f ∷ ys) ys) (used-is counts os f is) (used-needed counts os fs is)
+
+other-way : (b : Bool) (xs ys : List Present) → cond (not b) xs ys ≡ cond b ys xs
+other-way true xs ys = refl
+other-way false xs ys = refl
+
+pub unused-unneeded : (counts : List ℕ) (os : List Open) (fs : List Present) → CountUsers counts os → unused_of counts fs ≡ unneeded_of os fs
+unused-unneeded counts os [] is = refl
+unused-unneeded counts os (f ∷ fs) is =
+    ap₂ (λ b ys. cond (not b) (f ∷ ys) ys) (used-is counts os f is) (unused-unneeded counts os fs is) ∙ other-way (is_needed os f.position) (f ∷ unneeded_of os fs) (unneeded_of os fs)
 
 at-most-one : (b : Bool) → cond b 1 0 ≤ 1
 at-most-one true = omega arith

@@ -1,6 +1,7 @@
 -- How many open connections have a fragment in their closures.
-use Rattle.std.specs.Prelude.{◌≡◌, ℕ, ◌+◌, false, List, [], ◌∷◌, if◌then◌else◌, slice_index_or}
+use Rattle.std.specs.Prelude.{◌≡◌, ℕ, ◌+◌, Bool, false, List, [], ◌∷◌, filter, if◌then◌else◌, nat_lt, not, slice_index_or}
 use Rattle.cfm_prepare.specs.Contexts.{Open, has}
+use Rattle.cfm_prepare.specs.Fragments.{Present}
 
 -- a list has no number twice
 abbrev pub IsOnce : List ℕ → Type 0
@@ -27,3 +28,15 @@ CountUsers counts connections = (p : ℕ) → count_at counts p ≡ users_of con
 -- each fragment of an order was counted once more
 abbrev pub CountsMore : List ℕ → List ℕ → List ℕ → Type 0
 CountsMore order before after = (p : ℕ) → count_at after p ≡ count_at before p + counted order p
+
+-- whether a fragment has users by these counts
+abbrev pub is_used : List ℕ → Present → Bool
+is_used counts f = nat_lt 0 (count_at counts f.position)
+
+-- the fragments that have users
+abbrev pub used_of : List ℕ → List Present → List Present
+used_of counts fs = filter (is_used counts) fs
+
+-- those that have none
+abbrev pub unused_of : List ℕ → List Present → List Present
+unused_of counts fs = filter (λ f. not (is_used counts f)) fs

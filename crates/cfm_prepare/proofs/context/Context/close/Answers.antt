@@ -3,10 +3,11 @@ use Rattle.std.proofs.Common.{◌≡◌, ◌<◌, ℕ, List, length, get_or, ref
 use Rattle.std.specs.List.{remove}
 use Rattle.cfm_closure.specs.Closures.{Closed}
 use Rattle.cfm_prepare.specs.Contexts.{Open, has, open_without}
+use Rattle.cfm_prepare.specs.Fragments.{all_given_back}
 use Rattle.cfm_prepare.specs.Kept.Connections.{index_in}
 use Rattle.cfm_prepare.specs.Kept.Users.{CountsMore, CountUsers, IsOnce}
 use Rattle.cfm_prepare.proofs.ReleaseLemmas.{index-within, open-none, open-there, without-is}
-use Rattle.cfm_prepare.proofs.UsersLemmas.{left-count, used-of}
+use Rattle.cfm_prepare.proofs.UsersLemmas.{left-count, unused-unneeded, used-needed, used-of}
 use Rattle.cfm_prepare.proofs.context.Context.close.Goals as goal
 
 pub returns-then-index-len-clause-refused : goal.returns-then-index-len-clause-refused
@@ -74,8 +75,8 @@ returns-clause-closed c =
       pairs = refl;
       given = refl;
       connections = h.left;
-      present = c.release.ensures.present c.remove-closed.new.self.items counts;
-      memory = c.release.ensures.memory c.remove-closed.new.self.items counts;
+      present = c.release.ensures.present ∙ used-needed c.deref-2.result.now c.remove-closed.new.self.items c.self.inside.present.items counts;
+      memory = c.release.ensures.memory ∙ ap (all_given_back c.self.inside.memory) (unused-unneeded c.deref-2.result.now c.remove-closed.new.self.items c.self.inside.present.items counts);
     })
 
 pub invariant_of-self : goal.invariant_of-self
