@@ -32,7 +32,8 @@ fn distances_are_plans(rt: HostRuntime) -> Result<(), Fail> {
         assert_eq!(rt; certificates.len(), sections);
         let script = Script::read(alloc, text)?;
         for (k, certificate) in certificates.iter().enumerate() {
-            let planned = planned(&rt, alloc, &script, k)?;
+            assert_eq!(rt; certificate.section() as usize, k);
+            let planned = planned(&rt, alloc, &script, certificate.section())?;
             assert!(rt; is_same(certificate, &planned), "section {k}");
         }
     }
@@ -40,10 +41,15 @@ fn distances_are_plans(rt: HostRuntime) -> Result<(), Fail> {
 }
 
 /// The plan of a section's fixups.
-fn planned(rt: &impl Abort, alloc: Global, script: &Script, k: usize) -> Result<Certificate, Fail> {
-    let fixups = script.fixups(k).ok_or("no such section")?;
+fn planned(
+    rt: &impl Abort,
+    alloc: Global,
+    script: &Script,
+    section: u32,
+) -> Result<Certificate, Fail> {
+    let fixups = script.fixups(section as usize).ok_or("no such section")?;
     assert!(rt; fixups_fit(fixups));
-    Ok(plan(alloc, k as u32, fixups)?)
+    Ok(plan(alloc, section, fixups)?)
 }
 
 /// Whether two certificates have the same parts.
