@@ -1,16 +1,23 @@
 -- Tables whose slots lead to their exports.
-use Rattle.std.proofs.Common.{◌≡◌, ℕ, ◌+◌, ◌-◌, ◌^◌, ◌<◌, ◌≤◌, inl, inr, List, Option, None, Some, length, refl, sym, ◌∙◌, arith}
+use Rattle.std.proofs.Common.{◌≡◌, ℕ, Bool, true, false, ◌+◌, ◌-◌, ◌^◌, ◌<◌, ◌≤◌, inl, inr, List, Option, None, Some, length, refl, sym, ap, ◌∙◌, arith}
 use Rattle.std.specs.Prelude.{IsTrue, nat_le, nat_lt}
-use Rattle.std.proofs.lemmas.Bool.{and_parts, leb-true, ltb-true}
+use Rattle.std.proofs.Math.Dec.{eqb}
+use Rattle.std.proofs.lemmas.Bool.{and_parts, eq-eqb, leb-true, ltb-true}
 use Rattle.std.proofs.lemmas.Bool.Decides.{eqb_tells, leb_tells}
+use Rattle.std.proofs.lemmas.Slice.Eq.{bytes_eq-Decides}
+use Rattle.std.specs.Option.{option_eq, option_map_or}
+use Rattle.std.specs.Str.{bytes_eq}
 use Rattle.pef_words.specs.Refusals.{◌>>=◌, first_among}
 use Rattle.pef_words.proofs.Laws.Refusals.{first_among-at, first_among-none, none_among, some_among}
-use Rattle.pef_hash.specs.Exports.{ExportTable, export_named, key_of, name_of, named_at, slot_count, slot_first, slot_word_of}
+use Rattle.pef_hash.specs.Exports.{ExportTable, export_named, is_named, key_of, name_of, named_at, slot_count, slot_first, slot_word_of}
 use Rattle.pef_hash.specs.Regular.{IsCounted, IsRegular}
 use Rattle.pef_hash.specs.Word.{hash_word, slot}
 use Rattle.pef_hash.specs.Kept.Searches.{AreInTurnTo, AreSlotsInTurn, IsHashed, LeadsToAll, leads_to}
 use Rattle.pef_hash.proofs.NamedExports.{named_only}
 use Rattle.pef_hash.proofs.RegularLemmas.{key_inside, slot_inside}
+
+some_same : {A : Type 0} (x y : A) → Some x ≡ Some y → x ≡ y
+some_same x y same = cc
 
 none_of : {A : Type 0} (o : Option A) → ((x : A) → o ≡ Some x → ⊥) → o ≡ None
 none_of None not = refl
@@ -46,6 +53,25 @@ leads_nowhere o i is leads = let no = rw is at leads in absurd (cc)
 -- the exports that a slot word doesn't lead to
 past_places : (t : ExportTable) (name : List ℕ) (word i : ℕ) → LeadsToAll t → slot_word_of t (slot (hash_word name) t.power) ≡ Some word → (IsCounted word i → ⊥) → named_at t name i ≡ None
 past_places t name word i leads is not = unnamed t name i (λ named. not (leads_word _ word i is (leads i name named).1))
+
+-- nor does one that has another key
+not_true : (b : Bool) → (b ≡ true → ⊥) → b ≡ false
+not_true true not = absurd (not refl)
+not_true false not = refl
+
+unnamed_false : (o : Option (List ℕ)) (name : List ℕ) → (o ≡ Some name → ⊥) → option_map_or (λ found. bytes_eq found name) o false ≡ false
+unnamed_false None name not = refl
+unnamed_false (Some found) name not = not_true (bytes_eq found name) (λ same. not (ap Some ((bytes_eq-Decides found name).0 same)))
+
+other_key : (o : Option ℕ) (word : ℕ) → option_eq eqb o (Some word) ≡ false → o ≡ Some word → ⊥
+other_key None word other is = absurd (cc)
+other_key (Some key) word other is =
+    let same = eq-eqb key word (some_same key word is) in
+    absurd (cc)
+
+pub unkeyed : (t : ExportTable) (name : List ℕ) (word i : ℕ) (o : Option ℕ) → LeadsToAll t → word ≡ hash_word name → o ≡ key_of t i → option_eq eqb o (Some word) ≡ false → is_named t name i ≡ false
+unkeyed t name word i o leads is key other =
+    unnamed_false (name_of t i) name (λ named. other_key o word other (key ∙ (leads i name named).2 ∙ ap Some (sym is)))
 
 -- no export has a name that is too long, or whose slot isn't there
 pub long_none : (t : ExportTable) (name : List ℕ) → LeadsToAll t → 2 ^ 16 ≤ length name → export_named t name ≡ None
@@ -89,15 +115,12 @@ pub chain_named : (t : ExportTable) (name : List ℕ) (word : ℕ) → LeadsToAl
 unfolding export_named
 chain_named t name word leads is = first_in_places t name word _ leads is refl
 
-some_same : {A : Type 0} (x y : A) → Some x ≡ Some y → x ≡ y
-some_same x y same = cc
-
 -- where each key is hashed, the slots lead to all exports
 pub hashed_leads : (t : ExportTable) → ((i : ℕ) → i < t.count → IsHashed t i) → LeadsToAll t
 hashed_leads t hashed = λ i name named.
     let h = hashed i (named_inside t name i named) in
     let same : h.name ≡ name = some_same h.name name (sym h.named ∙ named) in
-    (rw (← same) h.short, rw (← same) h.leads)
+    (rw (← same) h.short, rw (← same) h.leads, rw (← same) h.key)
 
 -- the slot of a key is there and counts it
 record IsSlotted (t : ExportTable) (i k : ℕ) : Type 0 where

@@ -3,6 +3,7 @@ ghost use Rattle.std.specs.Option.{option_copied};
 ghost use Rattle.pef_words.specs.Refusals.{first_among};
 ghost use Rattle.pef_hash.specs.Exports.{entry_at, entry_of, export_place, export_named, has_table, is_named, key_place, key_of, name_of, named_at, slot_word_of};
 ghost use Rattle.pef_hash.specs.Limits.{most_power};
+ghost use Rattle.pef_hash.specs.Word.{hash_word};
 ghost use Rattle.pef_hash.specs.Kept.Searches.{LeadsToAll};
 
 use crate::chain::places_in;
@@ -162,11 +163,35 @@ impl<'a> Exports<'a> {
         if name.len() > MOST_NAME_LENGTH {
             return None;
         }
-        let slot = slot(hash_word(name), self.power);
-        match self.slot_word(slot as usize) {
-            Some(word) => self.first_named(places_in(word), name),
+        let word = hash_word(name);
+        match self.slot_word(slot(word, self.power) as usize) {
+            Some(counted) => self.first_keyed(places_in(counted), word, name),
             None => None,
         }
+    }
+
+    /// The first of some exports with this name, where each key is the hash word of its name.
+    fn first_keyed(&self, places: Range<usize>, word: u32, name: &[u8]) -> Option<usize>
+        requires range { places.start ≤ places.end }
+        requires leads { LeadsToAll (table_of self.now) }
+        requires word { word ≡ hash_word name.now }
+        ensures { result ≡ first_among (named_at (table_of self.now) name.now) places.start (places.end - places.start) }
+    {
+        for i in places.start..places.end {
+            if self.is_keyed(i, word, name) {
+                return Some(i);
+            }
+        }
+        None
+    }
+
+    /// Whether export `i` has this name. Its key is looked at first, for it tells most others.
+    fn is_keyed(&self, i: usize, word: u32, name: &[u8]) -> bool
+        requires leads { LeadsToAll (table_of self.now) }
+        requires word { word ≡ hash_word name.now }
+        ensures { result ≡ is_named (table_of self.now) name.now i }
+    {
+        self.key(i) == Some(word) && self.is_named(i, name)
     }
 
     /// The first of some exports with this name.

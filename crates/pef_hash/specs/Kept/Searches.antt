@@ -9,10 +9,10 @@ abbrev pub leads_to : Option ℕ → ℕ → Bool
 leads_to None i = false
 leads_to (Some word) i = nat_le (slot_first word) i && nat_lt i (slot_first word + slot_count word)
 
--- each name can be hashed, and the slot of its hash word counts its export
+-- each name can be hashed, its hash word is the key of its export, and the slot of that counts the export
 abbrev pub LeadsToAll : ExportTable → Type 0
 LeadsToAll t = (i : ℕ) (name : List ℕ) → name_of t i ≡ Some name
-    → (length name < 2 ^ 16) × IsTrue (leads_to (slot_word_of t (slot (hash_word name) t.power)) i)
+    → (length name < 2 ^ 16) × IsTrue (leads_to (slot_word_of t (slot (hash_word name) t.power)) i) × (key_of t i ≡ Some (hash_word name))
 
 -- the key of export i is the hash word of its name, and its slot counts it
 pub record IsHashed (t : ExportTable) (i : ℕ) : Type 0 where

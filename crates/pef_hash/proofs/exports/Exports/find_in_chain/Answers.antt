@@ -12,13 +12,13 @@ returns-then-name-gt-MOST_NAME_LENGTH c = sym (long_none (table_of c.args.self.n
 pub returns-in-Some : goal.returns-in-Some
 returns-in-Some c =
     let t = table_of c.args.self.now in
-    let at = c.slot-slot.ensures.value ∙ ap (λ w. slot w c.args.self.now.power) c.hash_word.ensures in
-    let is : slot_word_of t (slot (hash_word c.args.name.now) c.args.self.now.power) ≡ Some c.in-Some.word = sym (ap (slot_word_of t) at) ∙ sym c.slot_word.ensures ∙ c.in-Some.is in
-    c.first_named.ensures ∙ chain_found t c.args.name.now c.in-Some.word c.places_in.result.start c.places_in.result.end c.requires.leads is c.places_in.ensures.start c.places_in.ensures.end
+    let at = c.slot.ensures.value ∙ ap (λ w. slot w c.args.self.now.power) c.hash_word-word.ensures in
+    let is : slot_word_of t (slot (hash_word c.args.name.now) c.args.self.now.power) ≡ Some c.in-Some.counted = sym (ap (slot_word_of t) at) ∙ sym c.slot_word.ensures ∙ c.in-Some.is in
+    c.first_keyed.ensures ∙ chain_found t c.args.name.now c.in-Some.counted c.places_in.result.start c.places_in.result.end c.requires.leads is c.places_in.ensures.start c.places_in.ensures.end
 
 pub returns-in-None : goal.returns-in-None
 returns-in-None c =
     let t = table_of c.args.self.now in
-    let at = c.slot-slot.ensures.value ∙ ap (λ w. slot w c.args.self.now.power) c.hash_word.ensures in
+    let at = c.slot.ensures.value ∙ ap (λ w. slot w c.args.self.now.power) c.hash_word-word.ensures in
     let is : slot_word_of t (slot (hash_word c.args.name.now) c.args.self.now.power) ≡ None = sym (ap (slot_word_of t) at) ∙ sym c.slot_word.ensures ∙ c.in-None.is in
     sym (slotless_none t c.args.name.now c.requires.leads is)
