@@ -1,14 +1,15 @@
--- Blocks of owners, written library by library from the last one.
-use Rattle.std.proofs.Common.{◌≡◌, ℕ, zero, suc, ◌+◌, ◌-◌, ◌^◌, ◌<◌, ◌≤◌, inl, inr, Bool, true, false, List, Option, None, Some, refl, sym, ◌∙◌, arith}
-use Rattle.std.specs.Prelude.{◌&&◌, min, nat_le, nat_lt, slice_index, if◌then◌else◌}
+-- Blocks of owners, painted library by library.
+use Rattle.std.proofs.Common.{◌≡◌, ℕ, zero, suc, ◌+◌, ◌-◌, ◌^◌, ◌<◌, ◌≤◌, inl, inr, Bool, true, false, List, Option, None, Some, refl, ap, sym, ◌∙◌, arith}
+use Rattle.std.specs.Prelude.{◌&&◌, ◌==◌, min, nat_le, nat_lt, slice_index, if◌then◌else◌}
+use Rattle.std.specs.Option.{option_or}
 use Rattle.std.proofs.lemmas.Bool.{le-leb, ne_eqb}
-use Rattle.std.proofs.lemmas.Bool.Decides.{leb_tells}
+use Rattle.std.proofs.lemmas.Bool.Decides.{eqb_tells, leb_tells}
 use Rattle.pef_words.specs.Refusals.{first_among}
-use Rattle.pef_words.proofs.Laws.Refusals.{first_among-here, first_among-next, first_among-none}
+use Rattle.pef_words.proofs.Laws.Refusals.{first_among-none}
 use Rattle.pef_loader.specs.declared.header.LoaderHeader.{LoaderHeader}
 use Rattle.pef_loader.specs.Import.{owner_at}
 use Rattle.pef_loader.specs.Library.{owns}
-use Rattle.pef_loader.specs.Kept.Blocks.{AreOwners, AreOwnersFrom, IsAround, IsFilled, block_size, cell_library}
+use Rattle.pef_loader.specs.Kept.Blocks.{AreEmpty, AreOwners, AreOwnersBefore, IsAround, IsPainted, block_size, cell_library}
 use Rattle.pef_loader.specs.Kept.Ranges.{AreInOrder, IsFirstPast, end_of, first_of}
 use Rattle.pef_loader.proofs.RangeLemmas.{ends_before, owned, owns-ahead, owns-behind, owns_is, unowned}
 
@@ -27,11 +28,55 @@ le_same a b x y there back =
       ]
     ]
 
+or-none : {F : Type 0} (a : Option F) → option_or a None ≡ a
+or-none None = refl
+or-none (Some x) = refl
+
+or-assoc : {F : Type 0} (a b c : Option F) → option_or a (option_or b c) ≡ option_or (option_or a b) c
+or-assoc None b c = refl
+or-assoc (Some x) b c = refl
+
+-- one place more answers where none before it does
+among-more : {F : Type 0} (answer : ℕ → Option F) (from n : ℕ) → first_among answer from (suc n) ≡ option_or (first_among answer from n) (answer (from + n))
+among-more answer from zero =
+    let e : from + 0 ≡ from = omega arith in
+    rw (e, or-none) refl
+among-more answer from (suc n) =
+    let e : from + suc n ≡ from + 1 + n = omega arith in
+    let later = among-more answer (from + 1) n in
+    rw (e, ← or-assoc (answer from) (first_among answer (from + 1) n) (answer (from + 1 + n))) (ap (option_or (answer from)) later)
+
+-- places without an answer at the end
+settled : {F : Type 0} (answer : ℕ → Option F) (e d : ℕ) → ((i : ℕ) → e ≤ i → i < e + d → answer i ≡ None) → first_among answer 0 e ≡ first_among answer 0 (e + d)
+settled answer e zero none =
+    let same : e + 0 ≡ e = omega arith in
+    rw same refl
+settled answer e (suc d) none =
+    let same : e + suc d ≡ suc (e + d) = omega arith in
+    let before = settled answer e d (λ i low high. none i low (omega arith)) in
+    let from : 0 + (e + d) ≡ e + d = omega arith in
+    let last : answer (0 + (e + d)) ≡ None = rw from (none (e + d) (omega arith) (omega arith)) in
+    rw same (before ∙ sym (among-more answer 0 (e + d) ∙ ap (option_or (first_among answer 0 (e + d))) last ∙ or-none (first_among answer 0 (e + d))))
+
+-- a cell that is painted stays, and another one says whether this library has the import
+cell-last : (has : Bool) (answer : ℕ → Option ℕ) (l old new : ℕ) → l < 2 ^ 32 - 1 → new ≡ (if has && (old == 2 ^ 32 - 1) then l else old) → (has ≡ true → answer l ≡ Some l) → (has ≡ false → answer l ≡ None)
+    → cell_library new ≡ option_or (cell_library old) (answer (0 + l))
+cell-last false answer l old new few is some none =
+    let from : 0 + l ≡ l = omega arith in
+    rw (is, from, none refl, or-none) refl
+cell-last true answer l old new few is some none =
+    let from : 0 + l ≡ l = omega arith in
+    elim (eqb_tells old (2 ^ 32 - 1)) [
+      | inl empty ↦ (let new_is : new ≡ l = rw empty.0 at is in rw (from, empty.0, new_is, cell_is l few, some refl) refl)
+      | inr painted ↦ (let new_is : new ≡ old = rw painted.0 at is in rw (new_is, painted.0) refl)
+    ]
+
 -- a cell after one more library, which has the import or hasn't
-cell-more : (has : Bool) (answer : ℕ → Option ℕ) (l n old new : ℕ) → l < n → l < 2 ^ 32 - 1 → new ≡ (if has then l else old) → (has ≡ true → answer l ≡ Some l) → (has ≡ false → answer l ≡ None)
-    → cell_library old ≡ first_among answer (l + 1) (n - (l + 1)) → cell_library new ≡ first_among answer l (n - l)
-cell-more true answer l n old new under few is some none behind = rw is (cell_is l few ∙ sym (first_among-here answer l n l under (some refl)))
-cell-more false answer l n old new under few is some none behind = rw is (behind ∙ sym (first_among-next answer l n under (none refl)))
+cell-more : (has : Bool) (answer : ℕ → Option ℕ) (l old new : ℕ) → l < 2 ^ 32 - 1 → new ≡ (if has && (old == 2 ^ 32 - 1) then l else old) → (has ≡ true → answer l ≡ Some l) → (has ≡ false → answer l ≡ None)
+    → cell_library old ≡ first_among answer 0 l → cell_library new ≡ first_among answer 0 (l + 1)
+cell-more has answer l old new few is some none before =
+    let e : l + 1 ≡ suc l = omega arith in
+    rw (e, among-more answer 0 l, ← before) (cell-last has answer l old new few is some none)
 
 -- a range cut to the block has the cells of its imports
 pub in_block : (first end from k : ℕ) → k < block_size → (nat_le (min (first - from) block_size) k && nat_lt k (min (end - from) block_size)) ≡ (nat_le first (from + k) && nat_lt (from + k) end)
@@ -39,33 +84,27 @@ in_block first end from k under =
     rw (le_same (min (first - from) block_size) k first (from + k) (λ low. omega arith) (λ low. omega arith), le_same (suc k) (min (end - from) block_size) (suc (from + k)) end (λ low. omega arith) (λ low. omega arith)) refl
 
 -- the cells after one more library
-pub more : (bytes : List ℕ) (n l from start end cell : ℕ) (old new : List ℕ) → l < n → l < 2 ^ 32 - 1 → AreOwnersFrom bytes n (l + 1) from old
-    → start ≡ min (first_of bytes l - from) block_size → end ≡ min (end_of bytes l - from) block_size → cell ≡ l → IsFilled old new start end cell → AreOwnersFrom bytes n l from new
-more bytes n l from start end cell old new under few behind starts ends same fill = λ k inside.
-    let filled : IsFilled old new (min (first_of bytes l - from) block_size) (min (end_of bytes l - from) block_size) l = rw (← starts, ← ends, ← same) fill in
+pub more : (bytes : List ℕ) (l from start end cell : ℕ) (old new : List ℕ) → l < 2 ^ 32 - 1 → AreOwnersBefore bytes l from old
+    → start ≡ min (first_of bytes l - from) block_size → end ≡ min (end_of bytes l - from) block_size → cell ≡ l → IsPainted old new start end cell → AreOwnersBefore bytes (l + 1) from new
+more bytes l from start end cell old new few before starts ends same painted = λ k inside.
+    let paint : IsPainted old new (min (first_of bytes l - from) block_size) (min (end_of bytes l - from) block_size) l = rw (← starts, ← ends, ← same) painted in
     let has : (nat_le (min (first_of bytes l - from) block_size) k && nat_lt k (min (end_of bytes l - from) block_size)) ≡ owns bytes (from + k) l =
     in_block (first_of bytes l) (end_of bytes l) from k inside ∙ owns_is bytes (from + k) l in
-    cell-more (owns bytes (from + k) l) (owner_at bytes (from + k)) l n (slice_index old k) (slice_index new k) under few (rw (← has) (filled k inside)) (owned bytes (from + k) l) (unowned bytes (from + k) l) (behind k inside)
+    cell-more (owns bytes (from + k) l) (owner_at bytes (from + k)) l (slice_index old k) (slice_index new k) few (rw (← has) (paint k inside)) (owned bytes (from + k) l) (unowned bytes (from + k) l) (before k inside)
 
--- before any library is looked at, all cells are empty
-pub fresh : (bytes : List ℕ) (n from start end : ℕ) (cells : List ℕ) → IsAround bytes n from start end → ((k : ℕ) → k < block_size → slice_index cells k ≡ 2 ^ 32 - 1) → AreOwnersFrom bytes n end from cells
+-- empty cells say that no library before the first one that can have an import has one
+pub fresh : (bytes : List ℕ) (n from start end : ℕ) (cells : List ℕ) → IsAround bytes n from start end → AreEmpty cells → AreOwnersBefore bytes start from cells
 fresh bytes n from start end cells around empty = λ k under.
-    let none = first_among-none (owner_at bytes (from + k)) end (n - end) (λ i low high. unowned bytes (from + k) i (owns-ahead bytes (from + k) i (let begins = around.behind i low (omega arith) in omega arith))) in
+    let none = first_among-none (owner_at bytes (from + k)) 0 start (λ i low high. unowned bytes (from + k) i (owns-behind bytes (from + k) i (let ends = around.before i (omega arith) in omega arith))) in
     rw (empty k under, none) refl
 
--- places without an answer are passed over
-skip : {F : Type 0} (answer : ℕ → Option F) (n s : ℕ) → s ≤ n → ((i : ℕ) → i < s → answer i ≡ None) → first_among answer s (n - s) ≡ first_among answer 0 n
-skip answer n zero within none =
-    let e : n - 0 ≡ n = omega arith in
-    rw e refl
-skip answer n (suc s) within none =
-    let e : suc s ≡ s + 1 = omega arith in
-    rw e (sym (first_among-next answer s n (omega arith) (none s (omega arith))) ∙ skip answer n s (omega arith) (λ i less. none i (omega arith)))
-
 -- when all libraries that can have these imports were looked at, the cells say the owners
-pub whole : (bytes : List ℕ) (h : LoaderHeader) (from start end : ℕ) (cells : List ℕ) → IsAround bytes h.library_count from start end → AreOwnersFrom bytes h.library_count start from cells → AreOwners bytes h from cells
+pub whole : (bytes : List ℕ) (h : LoaderHeader) (from start end : ℕ) (cells : List ℕ) → IsAround bytes h.library_count from start end → AreOwnersBefore bytes end from cells → AreOwners bytes h from cells
 whole bytes h from start end cells around are = λ k under.
-    are k under ∙ skip (owner_at bytes (from + k)) h.library_count start (let inside = around.inside in let order = around.order in omega arith) (λ i less. unowned bytes (from + k) i (owns-behind bytes (from + k) i (let ends = around.before i less in omega arith)))
+    let inside = around.inside in
+    let all : end + (h.library_count - end) ≡ h.library_count = omega arith in
+    let rest = settled (owner_at bytes (from + k)) end (h.library_count - end) (λ i low high. unowned bytes (from + k) i (owns-ahead bytes (from + k) i (let begins = around.behind i low (omega arith) in omega arith))) in
+    are k under ∙ rw all at rest
 
 -- the first range that ends behind an import isn't behind the first that ends behind a later one
 first_before : (bytes : List ℕ) (n from start last : ℕ) → IsFirstPast bytes n from start → IsFirstPast bytes n (from + block_size - 1) last → start ≤ min n (last + 1)

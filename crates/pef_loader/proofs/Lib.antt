@@ -2,4 +2,5 @@ mod BlockLemmas
 pub mod Laws
 mod Loaders
 mod NameEnds
+mod PaintLemmas
 mod RangeLemmas

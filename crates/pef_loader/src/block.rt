@@ -1,18 +1,13 @@
 ghost use Rattle.std.specs.Prelude.{◌≡◌, ◌<◌, ◌≤◌, ◌^◌, IsTrue};
 ghost use Rattle.pef_loader.specs.Import.{owner_of};
-ghost use Rattle.pef_loader.specs.Kept.Blocks.{AreOwners, IsAround, IsFilled, block_size};
+ghost use Rattle.pef_loader.specs.Kept.Blocks.{AreOwners, IsAround};
 ghost use Rattle.pef_loader.specs.Kept.Ranges.{AreInOrder};
 
 use crate::header::LoaderHeader;
 use crate::owner::{first_past, imports_of};
+use crate::painting::{BLOCK, NO_LIBRARY, Painting};
 use pef_words::Cut;
 use std::ops::Range;
-
-/// How many imports a block has. A function pays at entry for its locals, so a block isn't large.
-const BLOCK: usize = 2048;
-
-/// The cell of an import that no library has: no library has this number.
-const NO_LIBRARY: u32 = u32::MAX;
 
 /// The first libraries of the imports from one on, in a cell for each import. One walk over the libraries
 /// finds them all.
@@ -23,8 +18,7 @@ pub(crate) struct OwnerBlock {
 }
 
 impl OwnerBlock {
-    /// The block of the imports from `from` on. The walk begins at the last library, so the first one
-    /// that has an import is the last to write its cell.
+    /// The block of the imports from `from` on.
     pub(crate) fn paint(
         cut: Cut<'_>,
         header: LoaderHeader,
@@ -36,15 +30,18 @@ impl OwnerBlock {
         ensures from { result.from ≡ from }
         ensures owners { AreOwners cut.entry.bytes.now header result.from result.cells }
     {
-        let mut cells = [NO_LIBRARY; BLOCK];
+        let mut painting = Painting::new();
         let libraries = libraries_around(cut, header, in_order, from);
-        for i in (libraries.start..libraries.end).rev() {
+        for i in libraries.start..libraries.end {
             let imports = imports_of(cut, i);
             let start = imports.start.saturating_sub(from).min(BLOCK);
             let end = imports.end.saturating_sub(from).min(BLOCK);
-            fill(&mut cells, start..end, i as u32);
+            painting.paint(start..end, i as u32);
         }
-        OwnerBlock { from, cells }
+        OwnerBlock {
+            from,
+            cells: painting.cells,
+        }
     }
 
     /// The first library that has import `j`. Where `j` isn't of this block, the block from `j` on takes
@@ -87,15 +84,4 @@ fn libraries_around(cut: Cut<'_>, header: LoaderHeader, in_order: bool, from: us
     let start = first_past(cut, header, from);
     let last = first_past(cut, header, from + BLOCK - 1);
     start..count.min(last + 1)
-}
-
-/// Writes a library into the cells of its imports.
-fn fill(cells: &mut [u32; BLOCK], imports: Range<usize>, library: u32)
-    requires order { imports.start ≤ imports.end }
-    requires within { imports.end ≤ block_size }
-    ensures { IsFilled cells.old cells.new imports.start imports.end library }
-{
-    for k in imports.start..imports.end {
-        cells[k] = library;
-    }
 }

@@ -15,6 +15,7 @@ pub mod layout;
 mod library;
 mod names;
 mod owner;
+mod painting;
 mod reloc;
 mod tables;
 

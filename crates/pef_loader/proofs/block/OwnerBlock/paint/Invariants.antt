@@ -1,10 +1,6 @@
--- The libraries from this one on were looked at.
-use Rattle.std.proofs.Common.{◌≤◌}
-use Rattle.pef_loader.specs.Kept.Blocks.{AreOwnersFrom}
+-- The libraries before this one were looked at.
+use Rattle.pef_loader.specs.Kept.Blocks.{AreOwnersBefore}
 use Rattle.pef_loader.proofs.block.OwnerBlock.paint.Given as goal
 
 abbrev pub invariant-loop-i : goal.invariant-loop-i
-invariant-loop-i l = record {
-  low : l.i-start ≤ l.i;
-  owners : AreOwnersFrom l.cut.bytes.now l.fn.header.library_count l.i l.from l.cells;
-}
+invariant-loop-i l = AreOwnersBefore l.cut.bytes.now l.i l.from l.painting.cells
