@@ -60,13 +60,25 @@ impl OwnerBlock {
         ensures value { result ≡ owner_of cut.entry.bytes.now header j }
     {
         if j < self.from || j - self.from >= BLOCK {
-            *self = OwnerBlock::paint(cut, header, in_order, j);
+            self.repaint(cut, header, in_order, j);
         }
         let cell = self.cells[j - self.from];
         if cell == NO_LIBRARY {
             return None;
         }
         Some(cell as usize)
+    }
+
+    /// Makes it the block of the imports from `from` on. Inside of `owner` each import would pay for the
+    /// locals of a new block.
+    #[inline(never)]
+    fn repaint(&mut self, cut: Cut<'_>, header: LoaderHeader, in_order: bool, from: usize)
+        requires order { IsTrue in_order → AreInOrder cut.bytes.now header.library_count }
+        requires place { from < 2 ^ 32 }
+        ensures from { self.new.from ≡ from }
+        ensures owners { AreOwners cut.entry.bytes.now header self.new.from self.new.cells }
+    {
+        *self = OwnerBlock::paint(cut, header, in_order, from);
     }
 }
 
