@@ -5,20 +5,20 @@ use Rattle.std.specs.Option.{option_map_or}
 use Rattle.std.specs.Result.{result_err}
 use Rattle.pef_words.specs.Refusals.{unless}
 use Rattle.pef_words.proofs.Laws.Refusals.{neither, none_among, unless_ok}
+use Rattle.cfm_libraries.specs.Faults.{◌>>=◌, Refusal, reexport_loop}
+use Rattle.cfm_libraries.specs.Fragments.{import_count}
+use Rattle.cfm_libraries.specs.Orders.{EndsWith, IsComplete}
+use Rattle.cfm_libraries.specs.Stores.{Pair, pair_of}
+use Rattle.cfm_libraries.specs.Walk.{order_of}
+use Rattle.cfm_libraries.proofs.Laws.{came, order-complete, order-last, order-root, same_ok}
 use Rattle.cfm_closure.specs.declared.targets.Target.{Target}
 use Rattle.cfm_closure.specs.Closures.{Closed, closed_of, first_refused, import_refusal, imports_refusal}
-use Rattle.cfm_closure.specs.Faults.{◌>>=◌, Refusal, reexport_loop}
-use Rattle.cfm_closure.specs.Fragments.{import_count}
 use Rattle.cfm_closure.specs.Initialization.{init_order_of}
-use Rattle.cfm_closure.specs.Promises.{EndsWith, HasTarget, IsComplete, target_within}
+use Rattle.cfm_closure.specs.Promises.{HasTarget, target_within}
 use Rattle.cfm_closure.specs.Reexports.{MeetsAgain}
-use Rattle.cfm_closure.specs.Stores.{Pair, pair_of}
 use Rattle.cfm_closure.specs.Targets.{exports_among, follow, symbol_of, target_of}
-use Rattle.cfm_closure.specs.Walk.{order_of}
 use Rattle.cfm_closure.proofs.LoopLemmas.{again_in_store, follow-order, for_ever}
-use Rattle.cfm_closure.proofs.OrderFacts.{order-complete, order-last, order-root}
 use Rattle.cfm_closure.proofs.Ranks.{contains_cases}
-use Rattle.cfm_closure.proofs.WalkRules.{came, same_ok}
 
 -- what a closure consists of
 record IsClosed (pairs : List Pair) (root : ℕ) (c : Closed) : Type 0 where

@@ -7,11 +7,11 @@ use Rattle.std.proofs.lemmas.Bool.{cases_lt}
 use Rattle.std.proofs.lemmas.Bool.Decides.{eqb_tells}
 use Rattle.std.proofs.lemmas.List.{at_drop_more, get_or-set_same, get_or-set_other, get_or-replicate, get_or_append_left, get_or_default, get_or_past, get_or_push, length-replicate, length-set, length_push}
 use Rattle.pef_words.specs.Refusals.{unless}
+use Rattle.cfm_libraries.specs.Faults.{Refusal}
+use Rattle.cfm_libraries.specs.Fragments.{import_count}
+use Rattle.cfm_libraries.specs.Stores.{Pair}
 use Rattle.cfm_closure.specs.declared.targets.Target.{Target}
 use Rattle.cfm_closure.specs.Closures.{first_refused, imports_refusal}
-use Rattle.cfm_closure.specs.Faults.{Refusal}
-use Rattle.cfm_closure.specs.Fragments.{import_count}
-use Rattle.cfm_closure.specs.Stores.{Pair}
 use Rattle.cfm_closure.specs.Kept.Targets.{AreRows, IsInTable, IsKnown, IsOnWay, IsResolved, KeepsKnown, Rows, all_noted, known_at, led_to, noted}
 
 module _ (rows : Rows) (p j : ℕ) (t : Option Target) (inside : IsInTable rows (p, j)) where

@@ -16,5 +16,3 @@ pub use Rattle.cfm_closure.proofs.TargetLemmas.{target-inside}
 pub use Rattle.cfm_closure.proofs.ReadLemmas.{closed-no_container, closed-no_loader}
 -- so where all fragments of a store are read, a closure is refused by no fragment's bytes
 pub use Rattle.cfm_closure.proofs.ReadLemmas.{closed-refused}
--- a name has the place of a pair of the store, which has that name
-pub use Rattle.cfm_closure.proofs.PlaceLemmas.{place_of-below, place_of-named}

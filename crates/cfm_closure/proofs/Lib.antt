@@ -1,8 +1,5 @@
-mod BoundLemmas
 mod ClosedLemmas
 mod FollowLemmas
-mod FragmentLemmas
-mod FrameLemmas
 mod HopFacts
 mod HopLemmas
 mod InitLemmas
@@ -10,14 +7,8 @@ mod KnownLemmas
 pub mod Laws
 mod LeadLemmas
 mod LoopLemmas
-mod OrderFacts
-mod PathLemmas
 mod Pigeons
-mod PlaceLemmas
 mod Ranks
 mod ReadLemmas
 mod SymbolLemmas
-mod TableLemmas
 mod TargetLemmas
-mod WalkFacts
-mod WalkRules

@@ -11,20 +11,19 @@ use Rattle.pef_loader.specs.declared.fault.LoaderFault.{LoaderFault}
 use Rattle.pef_views.specs.Container.{Contained, container_of}
 use Rattle.pef_views.specs.declared.fault.ViewFault.{ViewFault}
 use Rattle.pef_words.specs.Refusals.{first_among, unless}
+use Rattle.cfm_libraries.specs.declared.versions.Fit.{Fit}
+use Rattle.cfm_libraries.specs.declared.versions.Fit.TheVariants.{Fits, TooOld, TooNew}
+use Rattle.cfm_libraries.specs.Faults.{◌>>=◌, Refusal, implementation_too_new, implementation_too_old, init_loop, library_missing, no_container, no_loader, reexport_loop, symbol_missing}
+use Rattle.cfm_libraries.specs.Fragments.{Fragment, fragment_of, import_at, import_count, loader_at, with_container, with_loader}
+use Rattle.cfm_libraries.specs.Libraries.{absent_or, bound, bound_at, bound_by, bound_to, fit_with, is_weak, library_at}
+use Rattle.cfm_libraries.specs.Stores.{Pair, pair_of, place_of}
+use Rattle.cfm_libraries.specs.Walk.{Walked, is_marked, joining, marking, order_of, unwalked, walk, walk_at, walk_to, walks_from}
+use Rattle.cfm_libraries.proofs.Laws.{place_of-below, place_of-first, stands_for}
 use Rattle.cfm_closure.specs.declared.targets.Target.{Target}
-use Rattle.cfm_closure.specs.declared.versions.Fit.{Fit}
-use Rattle.cfm_closure.specs.declared.versions.Fit.TheVariants.{Fits, TooOld, TooNew}
 use Rattle.cfm_closure.specs.Closures.{Closed, closed_of, first_refused, import_refusal, imports_refusal}
-use Rattle.cfm_closure.specs.Faults.{◌>>=◌, Refusal, implementation_too_new, implementation_too_old, init_loop, library_missing, no_container, no_loader, reexport_loop, symbol_missing}
-use Rattle.cfm_closure.specs.Fragments.{Fragment, fragment_of, import_at, import_count, loader_at, with_container, with_loader}
 use Rattle.cfm_closure.specs.Initialization.{first_left, init_order_of, next_ready, take_next, take_ready, taken_all}
-use Rattle.cfm_closure.specs.Libraries.{absent_or, bound, bound_at, bound_by, bound_to, fit_with, is_weak, library_at}
 use Rattle.cfm_closure.specs.Promises.{AllRead, IsOfBinding, IsOfUnread}
-use Rattle.cfm_closure.specs.Stores.{Pair, pair_of, place_of}
 use Rattle.cfm_closure.specs.Targets.{Hop, ends, exported, exports_in, follow, followed, hop, hop_from, hop_of, hop_to, symbol_of, target_of, through}
-use Rattle.cfm_closure.specs.Walk.{Walked, is_marked, joining, marking, order_of, unwalked, walk, walk_at, walk_to, walks_from}
-use Rattle.cfm_closure.proofs.BoundLemmas.{stands_for}
-use Rattle.cfm_closure.proofs.PlaceLemmas.{place_of-below, place_of-first}
 
 -- a refusal of a fragment has its name
 abbrev IsNamed : List ℕ → Refusal → Type 0

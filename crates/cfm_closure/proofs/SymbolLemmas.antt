@@ -4,20 +4,18 @@ use Rattle.std.specs.Prelude.{IfSome, OnErr, OnOk, Result, nat_lt, option_map, s
 use Rattle.std.specs.Option.{option_and_then, option_map_or}
 use Rattle.std.proofs.lemmas.Bool.{ltb-true}
 use Rattle.std.proofs.lemmas.Bool.Decides.{eqb_tells, leb_tells}
-use Rattle.std.proofs.lemmas.List.{get_or-set_same, get_or-set_other, length-set}
+use Rattle.std.proofs.lemmas.List.{get_or-set_same, get_or-set_other, length-set, map-append}
 use Rattle.pef_loader.specs.Import.{Import, import_in}
 use Rattle.pef_loader.specs.Loader.{IsLoader, Loaded, import_of}
 use Rattle.pef_loader.specs.Views.{import_seen}
 use Rattle.pef_loader.specs.declared.import.ImportView.{ImportView}
 use Rattle.pef_loader.proofs.Laws.{import_there}
-use Rattle.cfm_closure.specs.Fragments.{Fragment, fragment_of, import_at, library_count}
-use Rattle.cfm_closure.specs.Promises.{IsComplete}
-use Rattle.cfm_closure.specs.Stores.{Pair}
+use Rattle.cfm_libraries.specs.Fragments.{Fragment, fragment_of, import_at, library_count}
+use Rattle.cfm_libraries.specs.Orders.{IsComplete}
+use Rattle.cfm_libraries.specs.Stores.{Pair}
+use Rattle.cfm_libraries.proofs.Laws.{met_if, slice_get-push}
 use Rattle.cfm_closure.specs.Kept.Symbols.{AreFirstOf, AreImportsIn, AreImportsOf, AreTables}
-use Rattle.cfm_closure.proofs.BoundLemmas.{met_if}
-use Rattle.cfm_closure.proofs.FrameLemmas.{slice_get-push}
 use Rattle.cfm_closure.proofs.HopFacts.{loader_at-is}
-use Rattle.cfm_closure.proofs.PlaceLemmas.{seen-push}
 use Rattle.cfm_closure.proofs.TargetLemmas.{fragment-sound}
 
 -- an empty table more
@@ -51,7 +49,8 @@ import-library l sound j i is =
 -- the first imports with the next one
 pub first-push : (l : Loaded) (views new : List ImportView) (v : ImportView) → AreFirstOf l (map import_seen views) → import_of l (length views) ≡ Some (import_seen v) → length (map import_seen views) ≡ length views → new ≡ views ++ v ∷ [] → AreFirstOf l (map import_seen new)
 first-push l views new v first next long is j i there =
-    elim (slice_get-push (map import_seen views) (import_seen v) j i (ap (λ xs. slice_get xs j) (sym (ap (map import_seen) is ∙ seen-push import_seen views v)) ∙ there)) [
+    let more : map import_seen (views ++ v ∷ []) ≡ map import_seen views ++ import_seen v ∷ [] = simp map-append in
+    elim (slice_get-push (map import_seen views) (import_seen v) j i (ap (λ xs. slice_get xs j) (sym (ap (map import_seen) is ∙ more)) ∙ there)) [
       | inl before ↦ first j i before
       | inr last ↦ (let P : ℕ → Type 0 = λ j. import_of l j ≡ Some i in subst P (sym (last.0 ∙ long)) (next ∙ ap Some last.1))
     ]

@@ -10,18 +10,18 @@ use Rattle.pef_loader.specs.Import.{Import}
 use Rattle.pef_loader.specs.Loader.{Loaded, export_of, loaded_of, named_of}
 use Rattle.pef_loader.specs.declared.fault.LoaderFault.{LoaderFault}
 use Rattle.pef_loader.proofs.Laws.{loaded_of-ok, named_there}
+use Rattle.cfm_libraries.specs.Faults.{Refusal, reexport_loop, symbol_missing}
+use Rattle.cfm_libraries.specs.Fragments.{Fragment, fragment_of, import_at, with_container, with_loader}
+use Rattle.cfm_libraries.specs.Libraries.{library_at}
+use Rattle.cfm_libraries.specs.Orders.{IsComplete}
+use Rattle.cfm_libraries.specs.Stores.{Pair, pair_of}
+use Rattle.cfm_libraries.proofs.Laws.{bound-inside, library_at-is}
 use Rattle.cfm_closure.specs.declared.targets.Target.{Target}
 use Rattle.cfm_closure.specs.declared.targets.Target.TheVariants.{Absolute, At}
-use Rattle.cfm_closure.specs.Faults.{Refusal, reexport_loop, symbol_missing}
-use Rattle.cfm_closure.specs.Fragments.{Fragment, fragment_of, import_at, with_container, with_loader}
-use Rattle.cfm_closure.specs.Libraries.{library_at}
-use Rattle.cfm_closure.specs.Promises.{IsComplete, IsSound, LiesInside}
-use Rattle.cfm_closure.specs.Stores.{Pair, pair_of}
+use Rattle.cfm_closure.specs.Promises.{IsSound, LiesInside}
 use Rattle.cfm_closure.specs.Targets.{Hop, ends, exported, exports_in, follow, followed, hop, hop_by, hop_from, hop_of, hop_to, symbol_of, target_of, through}
-use Rattle.cfm_closure.proofs.BoundLemmas.{library_at-is}
 use Rattle.cfm_closure.proofs.HopFacts.{loader_at-is}
 use Rattle.cfm_closure.proofs.HopLemmas.{goes_on}
-use Rattle.cfm_closure.proofs.OrderFacts.{bound-inside}
 
 loader-sound : (name : List ℕ) (c : Contained) (l : Result Loaded LoaderFault) (f : Fragment) → loaded_of c.header.instantiated_section_count c.loader ≡ l → with_loader name c l ≡ Ok f → IsSound f
 loader-sound name c (Err fault) f was is = absurd (cc)

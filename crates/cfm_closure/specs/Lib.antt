@@ -1,13 +1,6 @@
 pub mod Closures
-pub mod Faults
-pub mod Fragments
 pub mod Initialization
 pub mod Kept
-pub mod Libraries
 pub mod Promises
 pub mod Reexports
-pub mod Seen
-pub mod Stores
 pub mod Targets
-pub mod Versions
-pub mod Walk

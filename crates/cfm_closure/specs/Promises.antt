@@ -1,37 +1,13 @@
 -- What holds of closures beside their definitions.
-use Rattle.std.specs.Prelude.{◌≡◌, ◌≢◌, ◌⊎◌, ⊤, ℕ, ◌<◌, ◌≤◌, List, [], ◌∷◌, ◌++◌, length, Option, None, Some, Result, Ok, Err, Contains, AllPairs}
+use Rattle.std.specs.Prelude.{◌≡◌, ◌⊎◌, ⊤, ℕ, ◌<◌, List, length, Option, None, Some, Result, Ok, Err, Contains}
 use Rattle.std.specs.Option.{option_map_or}
 use Rattle.pef_loader.specs.Loader.{IsLoader, Loaded}
+use Rattle.cfm_libraries.specs.Faults.{Refusal, implementation_too_new, implementation_too_old, init_loop, library_missing, no_container, no_loader, reexport_loop, symbol_missing}
+use Rattle.cfm_libraries.specs.Fragments.{Fragment, fragment_of, loader_at}
+use Rattle.cfm_libraries.specs.Stores.{Pair, pair_of, place_of}
 use Rattle.cfm_closure.specs.declared.targets.Target.{Target}
 use Rattle.cfm_closure.specs.declared.targets.Target.TheVariants.{Absolute, At}
-use Rattle.cfm_closure.specs.Faults.{Refusal, implementation_too_new, implementation_too_old, init_loop, library_missing, no_container, no_loader, reexport_loop, symbol_missing}
-use Rattle.cfm_closure.specs.Fragments.{Fragment, fragment_of, loader_at}
-use Rattle.cfm_closure.specs.Libraries.{bound_to}
-use Rattle.cfm_closure.specs.Stores.{Pair, pair_of, place_of}
 use Rattle.cfm_closure.specs.Targets.{exports_among, follow, symbol_of, target_of}
-
--- a library entry wasn't refused, and its fragment, where it isn't absent, is in the order
-pub record HasLibrary (pairs : List Pair) (order : List ℕ) (p l : ℕ) : Type 0 where
-  pub bound : Option ℕ
-  pub is : bound_to pairs p l ≡ Ok bound
-  pub inside : (q : ℕ) → bound ≡ Some q → Contains order q
-
--- a fragment of an order was read, and has all its libraries
-pub record IsMember (pairs : List Pair) (order : List ℕ) (p : ℕ) : Type 0 where
-  pub place : p < length pairs
-  pub fragment : Fragment
-  pub read : fragment_of pairs p ≡ Ok fragment
-  pub libraries : (l : ℕ) → l < fragment.loader.header.library_count → HasLibrary pairs order p l
-
--- with each of its fragments a closure order has all its libraries, and each stands there once
-pub record IsComplete (pairs : List Pair) (order : List ℕ) : Type 0 where
-  pub members : (p : ℕ) → Contains order p → IsMember pairs order p
-  pub once : AllPairs (λ p q. p ≢ q) order
-  pub count : length order ≤ length pairs
-
--- the last fragment of an order
-abbrev pub EndsWith : List ℕ → ℕ → Type 0
-EndsWith order p = (front : List ℕ) × (order ≡ front ++ p ∷ [])
 
 -- the loader section of a fragment is one of its container
 pub record IsSound (f : Fragment) : Type 0 where

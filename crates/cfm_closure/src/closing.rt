@@ -1,13 +1,11 @@
 ghost use Rattle.std.specs.Prelude.{◌<◌, length};
+ghost use Rattle.cfm_libraries.specs.Faults.{Answers};
 ghost use Rattle.cfm_closure.specs.Closures.{closed_of};
-ghost use Rattle.cfm_closure.specs.Faults.{Answers};
 
-use crate::bindings::Bindings;
 use crate::closed::Closure;
-use crate::fault::BindFault;
 use crate::init_order::initialized;
 use crate::resolve::targets_of;
-use crate::store::Store;
+use cfm_libraries::{BindFault, Bindings, Store};
 use std::alloc::Global;
 
 /// The closure of the fragment in a place of a store, as [`Store::find`] gives it for a name.

@@ -1,14 +1,12 @@
 ghost use Rattle.std.specs.Prelude.{◌≡◌, ℕ, ◌<◌, ◌==◌, None, Contains, IfOk, IfSome, OnOk, length};
 ghost use Rattle.std.specs.Option.{is_some};
-ghost use Rattle.cfm_closure.specs.Faults.{Answers};
-ghost use Rattle.cfm_closure.specs.Fragments.{library_count};
+ghost use Rattle.cfm_libraries.specs.Faults.{Answers};
+ghost use Rattle.cfm_libraries.specs.Fragments.{library_count};
+ghost use Rattle.cfm_libraries.specs.Walk.{joining, marking};
 ghost use Rattle.cfm_closure.specs.Initialization.{awaits, before_of, first_left, init_order_of, is_ready, next_ready, taken_all};
-ghost use Rattle.cfm_closure.specs.Walk.{joining, marking};
 ghost use Rattle.cfm_closure.specs.Kept.Taken.{IsFresh, IsTaking, taken_of};
 
-use crate::binding::is_before;
-use crate::bindings::Bindings;
-use crate::fault::BindFault;
+use cfm_libraries::{BindFault, Bindings, is_before};
 use std::alloc::{AllocError, Global};
 
 /// The order of initialization, as far as it has come.
@@ -150,7 +148,7 @@ pub(crate) fn initialized<'a>(
 ) -> Result<Vec<usize>, BindFault<'a>>
     ensures { Answers (λ order. order.items) result (init_order_of bindings.now.pairs bindings.now.order) }
 {
-    let mut taking = Taking::new(alloc, bindings.len())?;
+    let mut taking = Taking::new(alloc, bindings.places())?;
     for _turn in 0..bindings.order().len() {
         match taking.next_ready(bindings) {
             Some(p) => taking.take(bindings, p)?,

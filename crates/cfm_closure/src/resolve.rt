@@ -1,19 +1,18 @@
 ghost use Rattle.std.specs.Prelude.{◌≡◌, ℕ, ◌+◌, ◌<◌, ◌≤◌, ◌^◌, [], length, slice_index_or, Ok, Err, Some, Option, Contains, IfOk, OnOk};
 ghost use Rattle.std.specs.List.{AllByRecursion};
+ghost use Rattle.cfm_libraries.specs.Faults.{Answers, Fails, reexport_loop};
+ghost use Rattle.cfm_libraries.specs.Fragments.{import_count};
+ghost use Rattle.cfm_libraries.specs.Stores.{pair_of};
 ghost use Rattle.cfm_closure.specs.Closures.{first_refused, imports_refusal};
-ghost use Rattle.cfm_closure.specs.Faults.{Answers, Fails, reexport_loop};
-ghost use Rattle.cfm_closure.specs.Fragments.{import_count};
-ghost use Rattle.cfm_closure.specs.Stores.{pair_of};
 ghost use Rattle.cfm_closure.specs.Targets.{exports_among, symbol_of, target_of};
 ghost use Rattle.cfm_closure.specs.declared.targets.Target.{Target};
 ghost use Rattle.cfm_closure.specs.Kept.Symbols.{AreSymbolsOf};
 ghost use Rattle.cfm_closure.specs.Kept.Targets.{AreRows, AreTargets, IsInTable, IsKnown, IsOnWay, IsResolved, KeepsKnown, Passes, all_noted, noted};
 
-use crate::bindings::Bindings;
-use crate::fault::BindFault;
 use crate::hops::{Hop, import_hop};
 use crate::symbols::Symbols;
 use crate::targets::{Target, Targets};
+use cfm_libraries::{BindFault, Bindings};
 use std::alloc::{AllocError, Global};
 
 /// A table for the imports of each fragment, of which nothing is known yet.
@@ -21,7 +20,7 @@ fn unknown_targets<'a>(alloc: Global, bindings: &Bindings<'a>) -> Result<Vec<Tar
     ensures { IfOk result (λ rows. AreRows bindings.now.pairs bindings.now.order rows.items) }
 {
     let mut rows = Vec::new(alloc);
-    for p in 0..bindings.len() {
+    for p in 0..bindings.places() {
         let row = Targets::unknown(alloc, bindings.imports(p))?;
         rows.push(row)?;
     }

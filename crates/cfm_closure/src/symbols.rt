@@ -1,10 +1,10 @@
 ghost use Rattle.std.specs.Prelude.{◌≡◌, ◌<◌, [], Contains, IfOk, IfSome, OnOk, option_map, slice_index_or};
 ghost use Rattle.pef_loader.specs.Views.{import_seen};
-ghost use Rattle.cfm_closure.specs.Fragments.{import_at, library_count};
+ghost use Rattle.cfm_libraries.specs.Fragments.{import_at, library_count};
 ghost use Rattle.cfm_closure.specs.Kept.Symbols.{AreEmpty, AreImportsIn, AreSymbolsOf};
 
-use crate::bindings::Bindings;
 use crate::imports::Imports;
+use cfm_libraries::Bindings;
 use pef_loader::ImportView;
 use std::alloc::{AllocError, Global};
 
@@ -33,7 +33,7 @@ impl<'a> Symbols<'a> {
     pub fn new(alloc: Global, bindings: &Bindings<'a>) -> Result<Symbols<'a>, AllocError>
         ensures { IfOk result (λ symbols. AreSymbolsOf bindings.now.pairs bindings.now.order symbols) }
     {
-        let tables = empty_tables(alloc, bindings.len())?;
+        let tables = empty_tables(alloc, bindings.places())?;
         Ok(Symbols { alloc, tables })
     }
 

@@ -2,12 +2,13 @@
 ghost use Rattle.std.specs.Prelude.{◌≡◌, ◌<◌, ◌↔◌, ℕ, List, None, Ok, Err, Contains, length};
 ghost use Rattle.pef_loader.specs.declared.fault.LoaderFault.{LoaderFault};
 ghost use Rattle.pef_views.specs.declared.fault.ViewFault.{ViewFault};
+ghost use Rattle.cfm_libraries.specs.Faults.{Refusal, no_container, no_loader};
+ghost use Rattle.cfm_libraries.specs.Fragments.{import_count};
+ghost use Rattle.cfm_libraries.specs.Orders.{EndsWith, IsComplete};
+ghost use Rattle.cfm_libraries.specs.Stores.{Pair};
 ghost use Rattle.cfm_closure.specs.Closures.{Closed, closed_of};
-ghost use Rattle.cfm_closure.specs.Faults.{Refusal, no_container, no_loader};
-ghost use Rattle.cfm_closure.specs.Fragments.{import_count};
-ghost use Rattle.cfm_closure.specs.Promises.{AllRead, EndsWith, HasTarget, IsComplete, IsOfBinding, IsOfUnread, target_within};
+ghost use Rattle.cfm_closure.specs.Promises.{AllRead, HasTarget, IsOfBinding, IsOfUnread, target_within};
 ghost use Rattle.cfm_closure.specs.Reexports.{MeetsAgain};
-ghost use Rattle.cfm_closure.specs.Stores.{Pair};
 ghost use Rattle.cfm_closure.specs.Targets.{exports_among, follow, target_of};
 
 /// A closure order has each fragment once, with each of its fragments all its libraries, and its root

@@ -2,7 +2,7 @@
 use Rattle.std.proofs.Common.{◌≡◌, ℕ, zero, suc, ◌<◌, Bool, true, false, List, [], ◌∷◌, ◌++◌, None, Some, Result, Ok, Err, All, Contains, OnOk, IfErr, length, get_or, cond, take, drop, refl, sym, ap₂, subst, ◌∙◌, arith}
 use Rattle.std.proofs.Math.Seq.{drop-append_seam, take-append_seam}
 use Rattle.cfm_memory.specs.Instances.{Layout}
-use Rattle.cfm_closure.specs.Stores.{Pair}
+use Rattle.cfm_libraries.specs.Stores.{Pair}
 use Rattle.cfm_prepare.specs.Addresses.{first_bad_program, section_of}
 use Rattle.cfm_prepare.specs.Fragments.{Present, StandAll, all_given_back, first_bad_image, is_present, new_among}
 use Rattle.cfm_prepare.specs.Placing.{AreNew, ArePrepared}

@@ -4,7 +4,7 @@ use Rattle.std.proofs.lemmas.Bool.Decides.{eqb_tells}
 use Rattle.cfm_memory.specs.Extents.{given_back, place_at}
 use Rattle.cfm_memory.specs.Instances.{Layout, bytes_at}
 use Rattle.cfm_memory.proofs.Laws.{given_back_elsewhere}
-use Rattle.cfm_closure.specs.Stores.{Pair}
+use Rattle.cfm_libraries.specs.Stores.{Pair}
 use Rattle.cfm_prepare.specs.Addresses.{section_of}
 use Rattle.cfm_prepare.specs.Contexts.{Open, State, fresh_state, is_needed, needed_of, unneeded_of}
 use Rattle.cfm_prepare.specs.Fragments.{Present, all_given_back, is_present, places_of, present_at}

@@ -2,7 +2,7 @@
 use Rattle.std.proofs.Common.{◌≡◌, ℕ, ◌+◌, List, [], ◌∷◌, Contains, length, get_or, ap, ◌∙◌, arith}
 use Rattle.std.proofs.Math.Seq.{get_or-append_seam}
 use Rattle.std.proofs.lemmas.List.{length-append}
-use Rattle.cfm_closure.specs.Promises.{EndsWith}
+use Rattle.cfm_libraries.specs.Orders.{EndsWith}
 use Rattle.cfm_prepare.specs.Contexts.{State}
 use Rattle.cfm_prepare.specs.Steps.{HasClosure, MayNotPrepare, MayNotPrepareNew, new_of}
 use Rattle.cfm_prepare.specs.declared.fault.PrepareFault.{PrepareFault}

@@ -2,8 +2,8 @@
 -- closures.
 use Rattle.std.proofs.Common.{◌≡◌, ℕ, ◌==◌, Bool, true, false, List, [], ◌∷◌, ◌++◌, Ok, cond, refl, sym, ap, subst, ◌∙◌, inl, inr}
 use Rattle.std.proofs.lemmas.Bool.Decides.{eqb_tells}
+use Rattle.cfm_libraries.specs.Stores.{Pair}
 use Rattle.cfm_closure.specs.Closures.{closed_of}
-use Rattle.cfm_closure.specs.Stores.{Pair}
 use Rattle.cfm_prepare.specs.Contexts.{Open, State, fresh_state, has, is_needed, needed_of, open_without}
 use Rattle.cfm_prepare.specs.Fragments.{Present, is_present, new_among, positions}
 use Rattle.cfm_prepare.specs.Runs.{AreClosed, Runs, Step, closed, prepared}

@@ -7,7 +7,7 @@ use Rattle.std.proofs.lemmas.List.{at_drop_more}
 use Rattle.std.proofs.Math.ListN.{get_or-map}
 use Rattle.cfm_memory.specs.Extents.{AreHeld, Stand, given_back}
 use Rattle.cfm_memory.specs.Instances.{Layout}
-use Rattle.cfm_closure.specs.Stores.{Pair}
+use Rattle.cfm_libraries.specs.Stores.{Pair}
 use Rattle.cfm_prepare.specs.Addresses.{addresses_of, first_bad_program}
 use Rattle.cfm_prepare.specs.Fragments.{Present, first_bad_image, image_refusal_in, named, positions, present_at, reloc_refusal_in}
 use Rattle.cfm_prepare.specs.Kept.Ready.{AllApart, AllHeld, AllIn}

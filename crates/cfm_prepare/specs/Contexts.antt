@@ -5,8 +5,8 @@
 use Rattle.std.specs.Prelude.{◌==◌, ℕ, Bool, false, true, List, [], ◌∷◌, Option, None, Some, if◌then◌else◌}
 use Rattle.cfm_memory.specs.Extents.{no_instances}
 use Rattle.cfm_memory.specs.Instances.{Layout}
+use Rattle.cfm_libraries.specs.Stores.{Pair}
 use Rattle.cfm_closure.specs.Closures.{Closed}
-use Rattle.cfm_closure.specs.Stores.{Pair}
 use Rattle.cfm_prepare.specs.Fragments.{Present}
 
 -- how many connections a context gives in all

@@ -3,7 +3,7 @@
 use Rattle.std.specs.Prelude.{ℕ, List, codes}
 use Rattle.pef_pidata.specs.Faults as pack
 use Rattle.pef_reloc.specs.Faults as reloc
-use Rattle.cfm_closure.specs.Faults as bind
+use Rattle.cfm_libraries.specs.Faults as bind
 use Rattle.cfm_prepare.specs.declared.fault.CloseFault.{CloseFault}
 use Rattle.cfm_prepare.specs.declared.fault.CloseFault.TheVariants.{BadConnection}
 use Rattle.cfm_prepare.specs.declared.fault.PrepareFault.{PrepareFault}

@@ -3,7 +3,7 @@
 use Rattle.std.specs.Prelude.{ℕ, List}
 use Rattle.cfm_memory.specs.Extents.{ArePlaced, Stand}
 use Rattle.cfm_memory.specs.Instances.{Layout}
-use Rattle.cfm_closure.specs.Stores.{Pair}
+use Rattle.cfm_libraries.specs.Stores.{Pair}
 use Rattle.cfm_prepare.specs.Addresses.{section_of}
 use Rattle.cfm_prepare.specs.Contexts.{State}
 use Rattle.cfm_prepare.specs.Fragments.{Present, extents_in, places_of}

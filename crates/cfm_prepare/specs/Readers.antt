@@ -5,8 +5,8 @@ use Rattle.std.specs.Option.{option_and_then}
 use Rattle.cfm_memory.specs.Instances.{Layout, bytes_at}
 use Rattle.cfm_memory.specs.declared.place.Place.{Place}
 use Rattle.pef_loader.specs.Loader.{export_of, init_of, main_of, named_of, term_of}
-use Rattle.cfm_closure.specs.Fragments.{loader_at}
-use Rattle.cfm_closure.specs.Stores.{Pair}
+use Rattle.cfm_libraries.specs.Fragments.{loader_at}
+use Rattle.cfm_libraries.specs.Stores.{Pair}
 use Rattle.cfm_closure.specs.declared.targets.Target.TheVariants.{At}
 use Rattle.cfm_fragment.specs.Prepared.{entry_address}
 use Rattle.cfm_fragment.specs.declared.entries.Entries.{Entries}

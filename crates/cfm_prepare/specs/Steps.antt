@@ -4,9 +4,9 @@ use Rattle.std.specs.Prelude.{◌≡◌, ◌≤◌, ◌<◌, ℕ, ◌+◌, List,
 use Rattle.cfm_memory.specs.Instances.{Layout}
 use Rattle.pef_pidata.specs.declared.fault.PackFault.{PackFault}
 use Rattle.pef_reloc.specs.declared.fault.RelocFault.{RelocFault}
+use Rattle.cfm_libraries.specs.Faults.{Fails}
+use Rattle.cfm_libraries.specs.Stores.{Pair, place_of}
 use Rattle.cfm_closure.specs.Closures.{Closed, closed_of}
-use Rattle.cfm_closure.specs.Faults.{Fails}
-use Rattle.cfm_closure.specs.Stores.{Pair, place_of}
 use Rattle.cfm_prepare.specs.Addresses.{first_bad_program}
 use Rattle.cfm_prepare.specs.Contexts.{Open, State, most_connections, needed_of, open_of, open_without, unneeded_of}
 use Rattle.cfm_prepare.specs.Fragments.{Present, all_given_back, first_bad_image, new_among}

@@ -2,7 +2,7 @@ ghost use Rattle.std.specs.Prelude.{◌≡◌, Contains, IsTrue, Some};
 ghost use Rattle.std.specs.Option.{option_copied};
 ghost use Rattle.pef_loader.specs.Export.{has_section};
 ghost use Rattle.pef_loader.specs.Views.{loaded};
-ghost use Rattle.cfm_closure.specs.Fragments.{loader_at};
+ghost use Rattle.cfm_libraries.specs.Fragments.{loader_at};
 ghost use Rattle.cfm_prepare.specs.Contexts.{has, open_of};
 ghost use Rattle.cfm_fragment.specs.Prepared.{entry_address};
 ghost use Rattle.cfm_prepare.specs.Fragments.{places_of};

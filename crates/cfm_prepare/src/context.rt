@@ -1,6 +1,6 @@
 ghost use Rattle.std.specs.Prelude.{◌≡◌, ◌<◌, ◌≤◌, ◌+◌, ℕ, List, IfErr, IfOk, MatchOption, None, OnErr, OnOk, Some, length, option_map, slice_get};
 ghost use Rattle.std.specs.Option.{option_and_then, option_copied};
-ghost use Rattle.cfm_closure.specs.Stores.{place_of};
+ghost use Rattle.cfm_libraries.specs.Stores.{place_of};
 ghost use Rattle.cfm_prepare.specs.Contexts.{fresh_state, most_connections, open_of};
 ghost use Rattle.cfm_prepare.specs.Fragments.{places_of};
 ghost use Rattle.cfm_prepare.specs.Readers.{entries_of, main_address, root_section, section_in, symbol_address};

@@ -1,7 +1,7 @@
 ghost use Rattle.std.specs.Prelude.{◌≡◌, ◌++◌, ℕ, List, [], ◌∷◌, All, Contains, IfErr, OnErr, OnOk, take};
 ghost use Rattle.cfm_memory.specs.Extents.{ArePlaced};
 ghost use Rattle.cfm_memory.specs.declared.place.Place.{Place};
-ghost use Rattle.cfm_closure.specs.Stores.{pair_of};
+ghost use Rattle.cfm_libraries.specs.Stores.{pair_of};
 ghost use Rattle.cfm_prepare.specs.Fragments.{extents_in};
 ghost use Rattle.cfm_prepare.specs.Steps.{MayNotPrepareNew};
 ghost use Rattle.cfm_prepare.specs.Kept.Ready.{HavePlaced, IsNotPlaced};

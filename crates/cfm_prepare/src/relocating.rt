@@ -1,6 +1,6 @@
 ghost use Rattle.std.specs.Prelude.{◌≡◌, ◌<◌, ◌≤◌, Contains, IfOk, OnOk};
 ghost use Rattle.cfm_memory.specs.Extents.{AreApart, AreHeld, Stand, given_back, place_at};
-ghost use Rattle.cfm_closure.specs.Fragments.{import_count};
+ghost use Rattle.cfm_libraries.specs.Fragments.{import_count};
 ghost use Rattle.cfm_prepare.specs.Addresses.{addresses_of, first_bad_program, imports_from, section_of, target_address};
 ghost use Rattle.cfm_prepare.specs.Fragments.{StandAll, all_given_back, filled_in, named, places_of, reloc_refusal_in};
 ghost use Rattle.cfm_prepare.specs.Kept.Ready.{AllApart, AllFit, AllHeld, AllIn, Fits, OwnApart, RelocatesUpTo};

@@ -1,10 +1,10 @@
 -- What `show` answers: it reads the whole input, and shows the memory that its script describes.
 use Rattle.std.specs.Prelude.{◌≡◌, ℕ, ◌≤◌, List, [], ◌∷◌, Some, Ok, Err, codes, length}
+use Rattle.cfm_libraries.specs.Faults.{Fails}
+use Rattle.cfm_libraries.specs.Stores.{Pair}
+use Rattle.cfm_libraries.specs.declared.fault.BindFault.{BindFault}
+use Rattle.cfm_libraries.specs.declared.fault.BindFault.TheVariants as bind_fault
 use Rattle.cfm_closure.specs.Closures.{closed_of}
-use Rattle.cfm_closure.specs.Faults.{Fails}
-use Rattle.cfm_closure.specs.Stores.{Pair}
-use Rattle.cfm_closure.specs.declared.fault.BindFault.{BindFault}
-use Rattle.cfm_closure.specs.declared.fault.BindFault.TheVariants as bind_fault
 use Rattle.cfm_fragment.specs.Prepared.{entry_address}
 use Rattle.cfm_fragment.specs.declared.entries.Entries.{Entries}
 use Rattle.cfm_memory.specs.Extents.{given_back, no_instances}

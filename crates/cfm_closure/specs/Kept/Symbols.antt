@@ -2,10 +2,10 @@
 use Rattle.std.specs.Prelude.{◌≡◌, ℕ, ◌<◌, List, [], length, slice_get, slice_index_or, Some, IfOk}
 use Rattle.pef_loader.specs.Import.{Import}
 use Rattle.pef_loader.specs.Loader.{Loaded, import_of}
+use Rattle.cfm_libraries.specs.Fragments.{fragment_of}
+use Rattle.cfm_libraries.specs.Orders.{IsComplete}
+use Rattle.cfm_libraries.specs.Stores.{Pair}
 use Rattle.cfm_closure.specs.declared.symbols.Symbols.{Symbols}
-use Rattle.cfm_closure.specs.Fragments.{fragment_of}
-use Rattle.cfm_closure.specs.Promises.{IsComplete}
-use Rattle.cfm_closure.specs.Stores.{Pair}
 
 -- all imports of a loader section
 abbrev pub AreImportsOf : Loaded → List Import → Type 0

@@ -4,7 +4,7 @@ use Rattle.cfm_memory.specs.Extents.{AreApart, AreHeld, ArePlaced, LackRoom, pla
 use Rattle.cfm_memory.specs.Instances.{Layout}
 use Rattle.pef_pidata.specs.declared.fault.PackFault.{PackFault}
 use Rattle.pef_reloc.specs.declared.fault.RelocFault.{RelocFault}
-use Rattle.cfm_closure.specs.Stores.{Pair, pair_of}
+use Rattle.cfm_libraries.specs.Stores.{Pair, pair_of}
 use Rattle.cfm_prepare.specs.Contexts.{Open, most_connections}
 use Rattle.cfm_prepare.specs.Kept.Users.{CountUsers}
 use Rattle.cfm_prepare.specs.Fragments.{Present, all_given_back, extents_in, positions, present_at}

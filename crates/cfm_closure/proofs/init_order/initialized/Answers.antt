@@ -1,8 +1,8 @@
 -- Each turn takes the next fragment that is ready.
 use Rattle.std.proofs.Common.{◌+◌, ◌-◌, ◌<◌, ◌≤◌, List, ℕ, length, sym, subst, ap, ◌∙◌}
-use Rattle.cfm_closure.specs.Faults.{Answers}
+use Rattle.cfm_libraries.specs.Faults.{Answers}
+use Rattle.cfm_libraries.specs.Walk.{joining, marking}
 use Rattle.cfm_closure.specs.Initialization.{first_left, take_ready, taken_all}
-use Rattle.cfm_closure.specs.Walk.{joining, marking}
 use Rattle.cfm_closure.specs.Kept.Taken.{IsFresh, taken_of}
 use Rattle.cfm_closure.proofs.InitLemmas.{take_ready-end, take_ready-none, take_ready-some, take_ready-start, taken-fresh, taking-fresh}
 use Rattle.cfm_closure.proofs.init_order.initialized.Goals as goal
@@ -11,9 +11,9 @@ pub loop-turn-init : goal.loop-turn-init
 loop-turn-init c =
     let pairs = c.args.bindings.now.pairs in
     let order = c.args.bindings.now.order in
-    let fresh = subst (IsFresh c.in_ok-taking.taking) c.len.ensures.len c.in_ok-taking.ensures in
+    let fresh = subst (IsFresh c.in_ok-taking.taking) c.places.ensures.len c.in_ok-taking.ensures in
     record {
-      taking = taking-fresh pairs order c.in_ok-taking.taking c.len.ensures.complete fresh;
+      taking = taking-fresh pairs order c.in_ok-taking.taking c.places.ensures.complete fresh;
       rest = take_ready-start pairs order (taken_of c.in_ok-taking.taking) (taken-fresh pairs c.in_ok-taking.taking fresh);
     }
 

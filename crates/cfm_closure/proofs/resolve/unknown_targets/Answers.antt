@@ -20,7 +20,7 @@ loop-p-preserved c =
 pub returns : goal.returns
 returns c =
     let inv = c.loop-p.invariant in
-    let complete = c.len-p-end.ensures.complete in
+    let complete = c.places-p-end.ensures.complete in
     let all : c.loop-p.p ≡ length c.args.bindings.now.pairs = omega arith in
     record {
       complete = complete;

@@ -1,7 +1,7 @@
 -- One row for each place so far, of which nothing is known.
 use Rattle.std.proofs.Common.{◌≡◌, ℕ, ◌<◌, [], length, None, Contains}
 use Rattle.std.specs.Prelude.{slice_index_or}
-use Rattle.cfm_closure.specs.Fragments.{import_count}
+use Rattle.cfm_libraries.specs.Fragments.{import_count}
 use Rattle.cfm_closure.specs.Kept.Targets.{known_at}
 use Rattle.cfm_closure.proofs.resolve.unknown_targets.Given as goal
 

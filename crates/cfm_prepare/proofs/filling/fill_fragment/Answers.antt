@@ -3,8 +3,8 @@ use Rattle.std.proofs.Common.{◌≡◌, ◌<◌, ℕ, List, Some, length, sym, 
 use Rattle.cfm_memory.specs.Extents.{place_at}
 use Rattle.cfm_memory.specs.declared.place.Place.{Place}
 use Rattle.pef_views.specs.Views.{contained}
-use Rattle.cfm_closure.specs.Fragments.{container_at}
-use Rattle.cfm_closure.specs.Stores.{pair_of}
+use Rattle.cfm_libraries.specs.Fragments.{container_at}
+use Rattle.cfm_libraries.specs.Stores.{pair_of}
 use Rattle.cfm_fragment.specs.Images.{extent_at}
 use Rattle.cfm_fragment.proofs.Laws.{size-fragment}
 use Rattle.cfm_prepare.specs.Fragments.{named}

@@ -6,8 +6,8 @@ use Rattle.pef_loader.specs.Loader.{reloc_of}
 use Rattle.pef_loader.specs.Views.{loaded}
 use Rattle.pef_reloc.specs.Applied.{Addresses}
 use Rattle.pef_reloc.specs.Headers.{first_refusal, relocated_by}
-use Rattle.cfm_closure.specs.Fragments.{import_count, loader_at}
-use Rattle.cfm_closure.specs.Stores.{pair_of}
+use Rattle.cfm_libraries.specs.Fragments.{import_count, loader_at}
+use Rattle.cfm_libraries.specs.Stores.{pair_of}
 use Rattle.cfm_fragment.specs.Images.{filled_at}
 use Rattle.cfm_fragment.specs.Prepared.{prepared_at}
 use Rattle.cfm_prepare.specs.Addresses.{addresses_of, imports_from}

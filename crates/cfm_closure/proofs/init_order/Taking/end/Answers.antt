@@ -1,12 +1,12 @@
 -- The first fragment that is left is refused.
 use Rattle.std.proofs.Common.{◌≡◌, ◌<◌, List, ℕ, true, false, Ok, Err, length, get_or, sym, subst, ap, arith, ◌∙◌}
 use Rattle.std.proofs.lemmas.List.{get_or_default}
-use Rattle.cfm_closure.specs.Faults.{init_loop}
-use Rattle.cfm_closure.specs.Fragments.{fragment_of}
+use Rattle.cfm_libraries.specs.Faults.{init_loop}
+use Rattle.cfm_libraries.specs.Fragments.{fragment_of}
+use Rattle.cfm_libraries.specs.Walk.{is_marked}
+use Rattle.cfm_libraries.specs.Views.{fragment_seen}
 use Rattle.cfm_closure.specs.Initialization.{taken_all}
-use Rattle.cfm_closure.specs.Walk.{is_marked}
 use Rattle.cfm_closure.specs.Kept.Taken.{taken_of}
-use Rattle.cfm_closure.specs.Kept.Views.{fragment_seen}
 use Rattle.cfm_closure.proofs.HopFacts.{fragment-name}
 use Rattle.cfm_closure.proofs.InitLemmas.{first_left-here, place_in_order}
 use Rattle.cfm_closure.proofs.init_order.Taking.end.Goals as goal

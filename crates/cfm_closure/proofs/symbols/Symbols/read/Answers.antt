@@ -2,8 +2,8 @@
 use Rattle.std.proofs.Common.{◌≡◌, ◌<◌, List, [], length, get_or, sym, ◌∙◌, subst, arith}
 use Rattle.std.proofs.lemmas.List.{get_or_default}
 use Rattle.pef_loader.specs.Import.{Import}
+use Rattle.cfm_libraries.specs.Views.{fragment_seen}
 use Rattle.cfm_closure.specs.Kept.Symbols.{AreImportsIn}
-use Rattle.cfm_closure.specs.Kept.Views.{fragment_seen}
 use Rattle.cfm_closure.proofs.SymbolLemmas.{filled, filled-here, some_there, table_inside, tables-set}
 use Rattle.cfm_closure.proofs.symbols.Symbols.read.Goals as goal
 

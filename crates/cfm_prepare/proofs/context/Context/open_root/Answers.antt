@@ -1,9 +1,9 @@
 -- The closure is that of the store; its new fragments are prepared, or the first refusal is that of all.
 use Rattle.std.proofs.Common.{rules, true, arith, ◌≡◌, ◌<◌, ◌++◌, ◌∷◌, ℕ, List, [], length, Ok, Some, All, Contains, refl, sym, ap, subst, ◌∙◌}
 use Rattle.std.proofs.lemmas.Result.{err_from_is_err_and}
+use Rattle.cfm_libraries.specs.Faults.{Fails}
+use Rattle.cfm_libraries.specs.Stores.{place_of}
 use Rattle.cfm_closure.specs.Closures.{closed_of}
-use Rattle.cfm_closure.specs.Faults.{Fails}
-use Rattle.cfm_closure.specs.Stores.{place_of}
 use Rattle.cfm_closure.proofs.Laws.{closed-complete, closed-root, closed-store}
 use Rattle.cfm_prepare.specs.Contexts.{Open, State, has, most_connections}
 use Rattle.cfm_prepare.specs.Fragments.{new_among}

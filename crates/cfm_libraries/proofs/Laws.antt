@@ -1,0 +1,19 @@
+-- What this crate offers to the proofs of others: facts of stores, of library entries and of closure orders,
+-- as `specs/` defines them.
+
+-- a name has the place of a pair of the store, which has that name and is the first with it
+pub use Rattle.cfm_libraries.proofs.PlaceLemmas.{place_of-below, place_of-first, place_of-named}
+-- a library entry that stands for a fragment is one of a fragment that is read
+pub use Rattle.cfm_libraries.proofs.BoundLemmas.{StandsFor, library_at-is, stands_for}
+-- a closure order has each fragment once, with all its libraries, and its root last
+pub use Rattle.cfm_libraries.proofs.OrderFacts.{bound-inside, order-complete, order-last, order-root}
+-- a fragment that is marked isn't left
+pub use Rattle.cfm_libraries.proofs.WalkRules.{left-marking}
+-- what isn't refused came of what isn't refused
+pub use Rattle.cfm_libraries.proofs.WalkRules.{Came, came, same_ok}
+-- a fault that is a refusal of one thing is that of another with the same refusals
+pub use Rattle.cfm_libraries.proofs.PathLemmas.{Fails-also}
+-- what is there where a test is met alone
+pub use Rattle.cfm_libraries.proofs.BoundLemmas.{met_if}
+-- an element of a list with one more is one of the list's, or the last
+pub use Rattle.cfm_libraries.proofs.FrameLemmas.{slice_get-push}

@@ -1,0 +1,10 @@
+mod BoundLemmas
+mod FragmentLemmas
+mod FrameLemmas
+pub mod Laws
+mod OrderFacts
+mod PathLemmas
+mod PlaceLemmas
+mod TableLemmas
+mod WalkFacts
+mod WalkRules

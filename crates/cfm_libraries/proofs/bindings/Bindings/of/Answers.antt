@@ -1,0 +1,19 @@
+-- The tables of the walk are those of its order.
+use Rattle.std.proofs.Common.{map, ap, sym, subst, ◌∙◌}
+use Rattle.cfm_libraries.specs.Kept.Bindings.{AreBindings}
+use Rattle.cfm_libraries.specs.Seen.{pair_seen}
+use Rattle.cfm_libraries.proofs.OrderFacts.{order-complete}
+use Rattle.cfm_libraries.proofs.bindings.Bindings.of.Goals as goal
+
+pub invariant_of-result : goal.invariant_of-result
+invariant_of-result c =
+    let pairs = ap (map pair_seen) c.in_ok-pairs.ensures.items ∙ c.pairs.ensures.pairs in
+    let tables = c.in_ok-walk.ensures.walk in
+    subst (λ pairs. AreBindings pairs c.in_ok-walk.walk.fragments.items c.in_ok-walk.walk.libraries.items c.in_ok-walk.walk.order.items) (sym pairs) (record {
+      fragments_size = tables.fragments_size;
+      libraries_size = tables.libraries_size;
+      read = tables.read;
+      walked = tables.walked;
+      complete = order-complete c.args.store.now c.args.root c.in_ok-walk.walk.order.items c.in_ok-walk.ensures.answer;
+      few = c.pairs.ensures.few;
+    })

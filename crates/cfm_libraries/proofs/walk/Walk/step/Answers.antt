@@ -1,0 +1,56 @@
+-- A frame goes on with the next fragment that wasn't met, or its fragment is done.
+use Rattle.std.proofs.Common.{◌≡◌, ◌∙◌, length, sym, ap, subst, arith}
+use Rattle.std.proofs.lemmas.List.{with_items_is}
+use Rattle.cfm_libraries.specs.Faults.{◌>>=◌}
+use Rattle.cfm_libraries.specs.Kept.Paths.{Continues, rest_of_path, state_of, visit_and_rest}
+use Rattle.cfm_libraries.specs.Walk.{joining}
+use Rattle.cfm_libraries.specs.Kept.Views.{AreKept}
+use Rattle.cfm_libraries.proofs.FrameLemmas.{met_and_rest, next_is}
+use Rattle.cfm_libraries.proofs.TableLemmas.{tables-pushed, tables-read}
+use Rattle.cfm_libraries.proofs.walk.Walk.step.Goals as goal
+
+pub enter-requires-clause-place : goal.enter-requires-clause-place
+enter-requires-clause-place c =
+    let next = next_is c.args.store.now _ c.args.self.now.marked.items c.args.self.now.order.items c.args.frame c.bind_next.new.frame _ _ c.deref.ensures.value c.in-Some.is (c.in_ok-q.ensures.next c.args.self.now.order.items) in
+    next.2
+
+pub enter-requires-clause-unmet : goal.enter-requires-clause-unmet
+enter-requires-clause-unmet c =
+    let next = next_is c.args.store.now _ c.args.self.now.marked.items c.args.self.now.order.items c.args.frame c.bind_next.new.frame _ _ c.deref.ensures.value c.in-Some.is (c.in_ok-q.ensures.next c.args.self.now.order.items) in
+    next.1
+
+pub enter-requires-clause-walk : goal.enter-requires-clause-walk
+enter-requires-clause-walk c =
+    let w = c.requires.walk in
+    let long : length c.bind_next.new.fragments ≡ c.args.self.now.fragments.len = let a = c.bind_next.auto.fragments in let b = c.deref_mut.ensures.len in omega arith in
+    let size : length c.bind_next.new.fragments ≡ length c.args.store.now = let a = w.fragments_size in let b = c.args.self.now.fragments.ok.0 in omega arith in
+    let kept = subst (λ table. AreKept table c.bind_next.new.fragments) c.deref_mut.ensures.value c.in_ok-q.ensures.kept in
+    let read = tables-read c.args.store.now c.args.self.now.fragments.items c.bind_next.new.fragments kept _ _ _ _ w size c.in_ok-q.ensures.read in
+    rw (with_items_is c.args.self.now.fragments c.bind_next.new.fragments long, c.in_ok-push-in-Some.ensures.items) (tables-pushed c.args.store.now _ _ _ _ _ read c.bind_next.new.frame c.in_ok-q.ensures.frame)
+
+pub finish-requires-clause-walk : goal.finish-requires-clause-walk
+finish-requires-clause-walk c =
+    let w = c.requires.walk in
+    let long : length c.bind_next.new.fragments ≡ c.args.self.now.fragments.len = let a = c.bind_next.auto.fragments in let b = c.deref_mut.ensures.len in omega arith in
+    let size : length c.bind_next.new.fragments ≡ length c.args.store.now = let a = w.fragments_size in let b = c.args.self.now.fragments.ok.0 in omega arith in
+    let kept = subst (λ table. AreKept table c.bind_next.new.fragments) c.deref_mut.ensures.value c.in_ok-q.ensures.kept in
+    rw (with_items_is c.args.self.now.fragments c.bind_next.new.fragments long) (tables-read c.args.store.now c.args.self.now.fragments.items c.bind_next.new.fragments kept _ _ _ _ w size c.in_ok-q.ensures.read)
+
+pub finish-requires-clause-all : goal.finish-requires-clause-all
+finish-requires-clause-all c =
+    let next = next_is c.args.store.now _ c.args.self.now.marked.items c.args.self.now.order.items c.args.frame c.bind_next.new.frame _ _ c.deref.ensures.value c.in-None.is (c.in_ok-q.ensures.next c.args.self.now.order.items) in
+    next.1
+
+pub returns-in_ok-push-in-Some-clause-continues : goal.returns-in_ok-push-in-Some-clause-continues
+returns-in_ok-push-in-Some-clause-continues c =
+    let next = next_is c.args.store.now _ c.args.self.now.marked.items c.args.self.now.order.items c.args.frame c.bind_next.new.frame _ _ c.deref.ensures.value c.in-Some.is (c.in_ok-q.ensures.next c.args.self.now.order.items) in
+    let met = met_and_rest c.args.store.now c.args.frame c.bind_next.new.frame c.args.self.now.path.items (state_of c.args.self.now) c.in-Some.q next.0 in
+    let path = ap (λ path. visit_and_rest c.args.store.now c.in-Some.q path (state_of c.args.self.now)) c.in_ok-push-in-Some.ensures.items in
+    subst (Continues c.enter.result (rest_of_path c.args.store.now c.enter.new.self.path.items (state_of c.enter.new.self))) (sym (met ∙ sym path)) c.enter.ensures.continues
+
+pub returns-in-None-clause-continues : goal.returns-in-None-clause-continues
+returns-in-None-clause-continues c =
+    let next = next_is c.args.store.now _ c.args.self.now.marked.items c.args.self.now.order.items c.args.frame c.bind_next.new.frame _ _ c.deref.ensures.value c.in-None.is (c.in_ok-q.ensures.next c.args.self.now.order.items) in
+    let done = ap (λ r. r >>= rest_of_path c.args.store.now c.args.self.now.path.items) next.0 in
+    let place = ap (λ p. rest_of_path c.args.store.now c.args.self.now.path.items (joining p (state_of c.args.self.now))) c.in_ok-q.ensures.same.p in
+    subst (Continues c.finish.result (rest_of_path c.args.store.now c.finish.new.self.path.items (state_of c.finish.new.self))) (sym (done ∙ sym place)) c.finish.ensures.continues

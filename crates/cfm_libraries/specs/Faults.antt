@@ -1,0 +1,74 @@
+-- The refusals of closures, their numbers and their names.
+use Rattle.std.specs.Prelude.{◌≡◌, ℕ, List, codes, Result, Ok, Err}
+use Rattle.pef_views.specs.declared.fault.ViewFault.{ViewFault}
+use Rattle.pef_views.specs.Faults.{fault_name as view_fault_name, fault_number as view_fault_number}
+use Rattle.pef_loader.specs.declared.fault.LoaderFault.{LoaderFault}
+use Rattle.pef_loader.specs.Faults.{fault_name as loader_fault_name, fault_number as loader_fault_number}
+use Rattle.cfm_libraries.specs.declared.fault.BindFault.{BindFault}
+use Rattle.cfm_libraries.specs.declared.fault.BindFault.TheVariants as fault
+use Rattle.cfm_libraries.specs.declared.fault.StoreFault.{StoreFault}
+use Rattle.cfm_libraries.specs.declared.fault.StoreFault.TheVariants as store_fault
+
+-- why a fragment has no closure, with the names that are told: of the fragment, of its library, of its
+-- symbol
+pub data Refusal : Type 0 where
+  no_container : List ℕ → ViewFault → Refusal
+  no_loader : List ℕ → LoaderFault → Refusal
+  library_missing : List ℕ → List ℕ → Refusal
+  symbol_missing : List ℕ → List ℕ → List ℕ → Refusal
+  implementation_too_old : List ℕ → List ℕ → Refusal
+  implementation_too_new : List ℕ → List ℕ → Refusal
+  reexport_loop : List ℕ → List ℕ → Refusal
+  init_loop : List ℕ → Refusal
+
+-- what something leads to that wasn't refused
+infixl 10 ◌>>=◌
+abbrev pub ◌>>=◌ : {A B : Type 0} → Result A Refusal → (A → Result B Refusal) → Result B Refusal
+(Ok x) >>= f = f x
+(Err refusal) >>= f = Err refusal
+
+-- a fault is the refusal that was to come, where there was memory
+abbrev pub Fails : {A : Type 0} → BindFault → Result A Refusal → Type 0
+Fails (fault.Container f v) expected = expected ≡ Err (no_container f.now v)
+Fails (fault.Loader f v) expected = expected ≡ Err (no_loader f.now v)
+Fails (fault.LibraryMissing f l) expected = expected ≡ Err (library_missing f.now l.now)
+Fails (fault.SymbolMissing f l s) expected = expected ≡ Err (symbol_missing f.now l.now s.now)
+Fails (fault.ImplementationTooOld f l) expected = expected ≡ Err (implementation_too_old f.now l.now)
+Fails (fault.ImplementationTooNew f l) expected = expected ≡ Err (implementation_too_new f.now l.now)
+Fails (fault.ReexportLoop f s) expected = expected ≡ Err (reexport_loop f.now s.now)
+Fails (fault.InitLoop f) expected = expected ≡ Err (init_loop f.now)
+Fails fault.OutOfMemory expected = Unit {0}
+
+-- an answer is the one that was to come, seen in its own way, where there was memory
+abbrev pub Answers : {A B : Type 0} → (A → B) → Result A BindFault → Result B Refusal → Type 0
+Answers seen (Ok x) expected = expected ≡ Ok (seen x)
+Answers seen (Err e) expected = Fails e expected
+
+abbrev pub fault_number : BindFault → ℕ
+fault_number (fault.Container f v) = view_fault_number v
+fault_number (fault.Loader f v) = loader_fault_number v
+fault_number (fault.LibraryMissing f l) = 61
+fault_number (fault.SymbolMissing f l s) = 62
+fault_number (fault.ImplementationTooOld f l) = 63
+fault_number (fault.ImplementationTooNew f l) = 64
+fault_number (fault.ReexportLoop f s) = 65
+fault_number (fault.InitLoop f) = 66
+fault_number fault.OutOfMemory = 99
+
+-- the names of the refusals, which are their texts
+abbrev pub fault_name : BindFault → List ℕ
+fault_name (fault.Container f v) = view_fault_name v
+fault_name (fault.Loader f v) = loader_fault_name v
+fault_name (fault.LibraryMissing f l) = codes "LibraryMissing"
+fault_name (fault.SymbolMissing f l s) = codes "SymbolMissing"
+fault_name (fault.ImplementationTooOld f l) = codes "ImplementationTooOld"
+fault_name (fault.ImplementationTooNew f l) = codes "ImplementationTooNew"
+fault_name (fault.ReexportLoop f s) = codes "ReexportLoop"
+fault_name (fault.InitLoop f) = codes "InitLoop"
+fault_name fault.OutOfMemory = codes "OutOfMemory"
+
+abbrev pub store_fault_number : StoreFault → ℕ
+store_fault_number store_fault.OutOfMemory = 99
+
+abbrev pub store_fault_name : StoreFault → List ℕ
+store_fault_name store_fault.OutOfMemory = codes "OutOfMemory"

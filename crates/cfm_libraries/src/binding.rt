@@ -1,0 +1,98 @@
+ghost use Rattle.std.specs.Prelude.{◌≡◌, ◌<◌, length, Ok, Err, None, IfOk, IfSome, if◌then◌else◌};
+ghost use Rattle.std.specs.Option.{option_map_or};
+ghost use Rattle.pef_loader.specs.Loader.{library_of};
+ghost use Rattle.pef_loader.specs.Views.{library_seen, loaded};
+ghost use Rattle.cfm_libraries.specs.Faults.{Answers};
+ghost use Rattle.cfm_libraries.specs.Kept.Views.{AreKept, AreRead, fragment_at};
+ghost use Rattle.cfm_libraries.specs.Views.{fragment_seen};
+ghost use Rattle.cfm_libraries.specs.Libraries.{bound, fit_with, is_before, is_weak};
+
+use crate::fault::BindFault;
+use crate::fragment::{FragmentView, read_at};
+use crate::store::Store;
+use crate::versions::{Definition, Fit, Implementation, versions_fit};
+use pef_loader::LibraryView;
+use pef_loader::layout::{INIT_BEFORE, WEAK_LIBRARY};
+
+/// Whether a library may be missing.
+fn is_weak(library: LibraryView<'_>) -> bool
+    ensures { result ≡ is_weak (library_seen library.entry) }
+{
+    library.options & WEAK_LIBRARY != 0
+}
+
+/// Whether a library is to be initialized before the fragment that needs it.
+pub fn is_before(library: LibraryView<'_>) -> bool
+    ensures { result ≡ is_before (library_seen library.entry) }
+{
+    library.options & INIT_BEFORE != 0
+}
+
+/// How the versions of a library entry and of the fragment that was found fit.
+fn fit_with(library: LibraryView<'_>, found: FragmentView<'_>) -> Fit
+    ensures { result ≡ fit_with (library_seen library.entry) (fragment_seen found.entry) }
+{
+    let header = found.container.header();
+    let definition = Definition {
+        current: library.current,
+        old_imp: library.old_imp,
+    };
+    let implementation = Implementation {
+        current: header.current_version,
+        old_def: header.old_def_version,
+    };
+    versions_fit(definition, implementation)
+}
+
+/// A weak library is absent where any other is refused.
+fn absent_or<'a>(weak: bool, fault: BindFault<'a>) -> Result<Option<usize>, BindFault<'a>>
+    ensures { result ≡ (if weak then Ok None else Err fault.entry) }
+{
+    if weak { Ok(None) } else { Err(fault) }
+}
+
+/// The place of the fragment that a library entry stands for, or `None` where it is absent.
+#[tactic(auto, unfolding(crate::specs::Libraries::bound))]
+pub(crate) fn bind<'a>(
+    store: &Store<'a>,
+    fragments: &mut [Option<FragmentView<'a>>],
+    fragment: &'a [u8],
+    library: LibraryView<'a>,
+) -> Result<Option<usize>, BindFault<'a>>
+    requires size { length fragments.old ≡ length store.now }
+    requires read { AreRead store.now fragments.old }
+    ensures answer { Answers (λ q. q) result (bound store.now fragment.entry.now (library_seen library.entry)) }
+    ensures below { IfOk result (λ bound. IfSome bound (λ q. q < length store.now)) }
+    ensures read { AreRead store.now fragments.new }
+    ensures kept { AreKept fragments.old fragments.new }
+{
+    let weak = is_weak(library);
+    let q = match store.find(library.name) {
+        Some(q) => q,
+        None => {
+            let fault = BindFault::LibraryMissing {
+                fragment,
+                library: library.name,
+            };
+            return absent_or(weak, fault);
+        }
+    };
+    let found = read_at(store, fragments, q)?;
+    match fit_with(library, found) {
+        Fit::Fits => Ok(Some(q)),
+        Fit::TooOld => {
+            let fault = BindFault::ImplementationTooOld {
+                fragment,
+                library: library.name,
+            };
+            absent_or(weak, fault)
+        }
+        Fit::TooNew => {
+            let fault = BindFault::ImplementationTooNew {
+                fragment,
+                library: library.name,
+            };
+            absent_or(weak, fault)
+        }
+    }
+}
