@@ -1,10 +1,10 @@
 //! The relocation programs that are linked, and their certificates.
+use crate::write::link_text;
 use pef_cert::Certificate;
 use pef_loader::Loader;
 use pef_reloc::{Base, Instr, Program};
-use pef_script::Script;
 use pef_views::Container;
-use pef_write::{Linked, link};
+use pef_write::Linked;
 use std::alloc::{AllocError, Global};
 use std::fmt::Write;
 use std::process::Abort;
@@ -106,9 +106,7 @@ fn test_written(
     section: u32,
     written: &[u8],
 ) -> Result<(), Fail> {
-    let Some(certificate) = linked.certificate(section as usize) else {
-        panic!(rt; "no certificate of section {section}");
-    };
+    let certificate = certificate_of(rt, linked, section)?;
     let program = instrs(alloc, written)?;
     assert_eq!(rt; section, OWN as u32);
     assert!(rt; certificate.program() == program.as_slice());
@@ -118,8 +116,7 @@ fn test_written(
 /// Links a script whose second section has these fixups.
 fn link_listed(alloc: Global, listed: &[(u32, Base)]) -> Result<Linked, Fail> {
     let text = script_of(alloc, listed)?;
-    let script = Script::read(alloc, text.as_bytes())?;
-    Ok(link(alloc, &script)?)
+    link_text(alloc, text.as_bytes())
 }
 
 /// Tests the program of the section with these fixups: its length, that it is the one of the certificate,
@@ -212,41 +209,48 @@ fn labels(alloc: Global, certificate: &Certificate) -> Result<Vec<u32>, AllocErr
 fn test_certificate(
     rt: &impl Abort,
     alloc: Global,
-    linked: &Linked,
-    section: u32,
+    certificate: &Certificate,
     program: &[Instr],
     registers: &[u32],
     wanted: &[u32],
 ) -> Result<(), Fail> {
-    let Some(certificate) = linked.certificate(section as usize) else {
-        panic!(rt; "no certificate of section {section}");
-    };
-    assert_eq!(rt; certificate.section(), section);
-    assert_eq!(rt; certificate.program(), program);
-    assert_eq!(rt; certificate.registers(), registers);
-    assert_eq!(rt; labels(alloc, certificate)?.as_slice(), wanted);
+    let section = certificate.section();
+    assert!(rt; certificate.program() == program, "section {section}");
+    assert!(rt; certificate.registers() == registers, "section {section}");
+    let labels = labels(alloc, certificate)?;
+    assert!(rt; labels.as_slice() == wanted, "section {section}");
     Ok(())
 }
 
-#[test]
-fn certificates(rt: HostRuntime) -> Result<(), Fail> {
-    let alloc = rt.alloc();
-    let script = Script::read(alloc, VECTORS)?;
-    let linked = link(alloc, &script)?;
-    test_certificate(&rt, alloc, &linked, 0, &[], &[], &[0])?;
-    test_certificate(
-        &rt,
-        alloc,
-        &linked,
-        1,
-        &[Instr::TVector8(2)],
-        &[0, 1],
-        LABELS,
-    )?;
+/// The certificate of a section.
+fn certificate_of<'a>(
+    rt: &impl Abort,
+    linked: &'a Linked,
+    section: u32,
+) -> Result<&'a Certificate, Fail> {
+    let certificate = linked
+        .certificate(section as usize)
+        .ok_or("no certificate")?;
+    assert_eq!(rt; certificate.section(), section);
+    Ok(certificate)
+}
+
+/// Tests the certificates of the vectors.
+fn test_certificates(rt: &impl Abort, alloc: Global, linked: &Linked) -> Result<(), Fail> {
+    let code = certificate_of(rt, linked, 0)?;
+    test_certificate(rt, alloc, code, &[], &[], &[0])?;
+    let data = certificate_of(rt, linked, 1)?;
+    test_certificate(rt, alloc, data, &[Instr::TVector8(2)], &[0, 1], LABELS)?;
     assert!(rt; linked.certificate(2).is_none());
     assert_eq!(rt; linked.certificates().len(), 2);
     for (k, certificate) in linked.certificates().iter().enumerate() {
         assert_eq!(rt; certificate.section() as usize, k);
     }
     Ok(())
+}
+
+#[test]
+fn certificates(rt: HostRuntime) -> Result<(), Fail> {
+    let linked = link_text(rt.alloc(), VECTORS)?;
+    test_certificates(&rt, rt.alloc(), &linked)
 }

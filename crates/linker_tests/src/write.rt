@@ -1,8 +1,9 @@
 use pef_loader::Loader;
 use pef_script::Script;
 use pef_views::Container;
-use pef_write::{LinkFault, link};
+use pef_write::{LinkFault, Linked, link};
 use std::alloc::{AllocError, Global};
+use std::process::Abort;
 use std::test::Fail;
 
 /// No section but the loader section.
@@ -164,25 +165,35 @@ const WHOLE: [u8; 524] = [
 ];
 
 /// A script, its container, and how many halfwords the program of each section has.
-const LINKED: [(&[u8], &[u8], &[u32]); 4] = [
+const LINKED: &[(&[u8], &[u8], &[u32])] = &[
     (b"", &EMPTY, &[]),
     (ONE_SECTION_SCRIPT, &ONE_SECTION, &[1]),
     (TRANSITION_SCRIPT, &TRANSITION, &[0, 1]),
     (WHOLE_SCRIPT, &WHOLE, &[0, 3]),
 ];
 
+/// Links a script.
+pub(crate) fn link_text(alloc: Global, text: &[u8]) -> Result<Linked, Fail> {
+    let script = Script::read(alloc, text)?;
+    Ok(link(alloc, &script)?)
+}
+
+/// Tests a container, and how many halfwords the programs have.
+fn test_linked(rt: &impl Abort, linked: &Linked, bytes: &[u8], lengths: &[u32]) {
+    assert!(rt; linked.bytes() == bytes, "{} bytes", bytes.len());
+    assert!(rt; linked.lengths() == lengths, "{} bytes", bytes.len());
+    for (k, length) in lengths.iter().enumerate() {
+        assert!(rt; linked.length(k) == Some(*length), "section {k}");
+    }
+    assert!(rt; linked.length(lengths.len()).is_none());
+}
+
 #[test]
 fn linked(rt: HostRuntime) -> Result<(), Fail> {
-    let alloc = rt.alloc();
-    for (text, bytes, lengths) in LINKED {
-        let script = Script::read(alloc, text)?;
-        let linked = link(alloc, &script)?;
-        assert!(rt; linked.bytes() == bytes, "{} bytes", bytes.len());
-        assert!(rt; linked.lengths() == lengths, "{} bytes", bytes.len());
-        for (k, length) in lengths.iter().enumerate() {
-            assert_eq!(rt; linked.length(k), Some(*length), "section {k}");
-        }
-        assert_eq!(rt; linked.length(lengths.len()), None);
+    for row in LINKED {
+        let (text, bytes, lengths) = *row;
+        let linked = link_text(rt.alloc(), text)?;
+        test_linked(&rt, &linked, bytes, lengths);
     }
     Ok(())
 }
@@ -251,41 +262,42 @@ fn push_fixups(text: &mut String, section: u32) -> Result<(), AllocError> {
     Ok(())
 }
 
+/// Tests the loader section of the greatest script: how many there are of each, and the last of some.
+fn test_greatest_loader(rt: &impl Abort, loader: &Loader<'_>) {
+    assert!(rt; (loader.libraries(), loader.imports()) == (4096, 65_536));
+    assert!(rt; (loader.relocs(), loader.exports()) == (8, 16_383));
+    let (first, count) = loader
+        .library(4095)
+        .map_or((0, 0), |library| (library.first, library.count));
+    assert_eq!(rt; first, 65_520);
+    assert_eq!(rt; count, 16);
+    let library = loader.import(65_535).map_or(0, |import| import.library);
+    assert_eq!(rt; library, 4095);
+    let (section, program) = loader.reloc(7).unwrap_or((0, &[]));
+    assert_eq!(rt; section, 7);
+    assert_eq!(rt; program.len(), 98_304);
+}
+
+/// Tests the container of the greatest script.
+fn test_greatest(rt: &impl Abort, bytes: &[u8]) -> Result<(), Fail> {
+    let container = Container::read(bytes)?;
+    assert_eq!(rt; container.header().section_count, 9);
+    assert_eq!(rt; container.raw(0).map_or(0, |raw| raw.len()), 16_777_216);
+    test_greatest_loader(rt, &Loader::read(&container)?);
+    Ok(())
+}
+
 /// The greatest script is linked, and read back. Its container has 304 bytes of headers, the full section,
 /// and a loader section: 56 bytes, 24 a library, 4 an import and 12 a relocated section, six bytes a
 /// fixup, the names without the ends of those of exports and 3 zeros, and 2,048 slots, a key and ten bytes
 /// an export.
 #[test]
 fn linked_greatest(rt: HostRuntime) -> Result<(), Fail> {
-    let alloc = rt.alloc();
-    let text = greatest_script(alloc)?;
-    let script = Script::read(alloc, text.as_bytes())?;
-    let linked = link(alloc, &script)?;
-    assert_eq!(rt; linked.lengths(), [49_152; 8].as_slice());
+    let text = greatest_script(rt.alloc())?;
+    let linked = link_text(rt.alloc(), text.as_bytes())?;
+    assert!(rt; linked.lengths() == [49_152; 8].as_slice());
     assert_eq!(rt; linked.bytes().len(), 26_534_334);
-    let container = Container::read(linked.bytes())?;
-    assert_eq!(rt; container.header().section_count, 9);
-    assert_eq!(rt; container.raw(0).map_or(0, |raw| raw.len()), 16_777_216);
-    let loader = Loader::read(&container)?;
-    assert_eq!(rt; (loader.libraries(), loader.imports()), (4096, 65_536));
-    assert_eq!(rt; (loader.relocs(), loader.exports()), (8, 16_383));
-    assert_eq!(rt;
-        loader
-            .library(4095)
-            .map_or((0, 0), |library| (library.first, library.count)),
-        (65_520, 16)
-    );
-    assert_eq!(rt;
-        loader.import(65_535).map_or(0, |import| import.library),
-        4095
-    );
-    assert_eq!(rt;
-        loader
-            .reloc(7)
-            .map_or((0, 0), |(section, program)| (section, program.len())),
-        (7, 98_304)
-    );
-    Ok(())
+    test_greatest(&rt, linked.bytes())
 }
 
 #[test]
