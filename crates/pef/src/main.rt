@@ -4,29 +4,31 @@
 mod adapters;
 
 use adapters::{DiskFiles, Input, Output};
+use pef_answers::{Refusal, deliver};
 use pef_tool::run;
+use std::alloc::AllocError;
 use std::env;
+use std::io::ErrorKind;
 use std::process::ExitCode;
 use std::rt::Env;
 
 fn main(rt: HostRuntime) -> ExitCode {
     let alloc = rt.alloc();
-    let words = words(&rt);
     let mut files = DiskFiles::new(&rt);
     let mut input = Input::new(rt.stdin());
     let mut out = Output::new(rt.stdout());
-    ExitCode::from(run(alloc, words.as_slice(), &mut files, &mut input, &mut out))
+    let status = match words(&rt) {
+        Ok(words) => run(alloc, words.as_slice(), &mut files, &mut input, &mut out),
+        Err(AllocError) => deliver(&mut out, &Refusal::OutOfMemory),
+    };
+    ExitCode::from(status)
 }
 
 /// The words of the command line. A line that the system can't hand over has none, and so is no good one.
-fn words(rt: &(impl Env + AllocGlobal)) -> Vec<String> {
-    match all_words(rt) {
-        Some(words) => words,
-        None => Vec::new(rt.alloc()),
+fn words(rt: &(impl Env + AllocGlobal)) -> Result<Vec<String>, AllocError> {
+    match env::args(rt) {
+        Ok(words) => words.collect(rt.alloc()),
+        Err(error) if error.kind() == ErrorKind::OutOfMemory => Err(AllocError),
+        Err(_) => Ok(Vec::new(rt.alloc())),
     }
-}
-
-fn all_words(rt: &(impl Env + AllocGlobal)) -> Option<Vec<String>> {
-    let args = env::args(rt).ok()?;
-    args.collect(rt.alloc()).ok()
 }
