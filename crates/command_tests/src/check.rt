@@ -1,6 +1,6 @@
 use pef_tool::FileFault;
 use std::test::Fail;
-use test_bench::runs::{Handed, assert_prints};
+use test_bench::runs::{Handed, assert_cut_output, assert_prints};
 use test_bench::scripts::{VECTORS, VECTORS_CERTIFIED};
 
 const WORDS: [&str; 3] = ["check", "a", "b"];
@@ -76,7 +76,7 @@ fn check(rt: HostRuntime) -> Result<(), Fail> {
     for (script, certificates, printed, status) in rows {
         let handed = Handed::files(&WORDS, script, certificates);
         let outcome = assert_prints(rt.alloc(), handed, printed, status)?;
-        assert_eq!(rt; outcome.papers.calls(), (2, 0));
+        outcome.assert_calls((2, 0))?;
         assert!(rt; outcome.has(b"a", script) && outcome.has(b"b", certificates));
     }
     Ok(())
@@ -105,7 +105,7 @@ fn check_unreadable(rt: HostRuntime) -> Result<(), Fail> {
     for (words, printed, calls) in missing {
         let handed = Handed::files(&words, b"no line\n", b"");
         let outcome = assert_prints(rt.alloc(), handed, printed, 1)?;
-        assert_eq!(rt; outcome.papers.calls(), calls);
+        outcome.assert_calls(calls)?;
     }
     let failing: [(u32, FileFault, &[u8]); 4] = [
         (1, FileFault::Failed, b"refused 71 FileUnreadable a\n"),
@@ -121,21 +121,13 @@ fn check_unreadable(rt: HostRuntime) -> Result<(), Fail> {
             ..Handed::files(&WORDS, b"no line\n", b"")
         };
         let outcome = assert_prints(rt.alloc(), handed, printed, 1)?;
-        assert_eq!(rt; outcome.papers.calls(), (u64::from(files_fail_at), 0));
+        outcome.assert_calls((u64::from(files_fail_at), 0))?;
     }
     Ok(())
 }
 
-/// An output that takes a byte a call, and fails at call k: k - 1 bytes go out.
 #[test]
 fn check_output_fails(rt: HostRuntime) -> Result<(), Fail> {
-    for k in 1..=CHECKED.len() {
-        let handed = Handed {
-            step: 1,
-            out_fails_at: k as u32,
-            ..Handed::files(&WORDS, VECTORS, VECTORS_CERTIFIED)
-        };
-        assert_prints(rt.alloc(), handed, &CHECKED[..k - 1], 1)?;
-    }
-    Ok(())
+    let handed = Handed::files(&WORDS, VECTORS, VECTORS_CERTIFIED);
+    assert_cut_output(rt.alloc(), handed, CHECKED)
 }

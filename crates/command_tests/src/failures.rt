@@ -3,34 +3,27 @@ use pef_tool::FileFault;
 use std::test::Fail;
 use test_bench::containers::VECTORS_LEAST;
 use test_bench::ports::Text;
-use test_bench::runs::{Handed, assert_prints};
+use test_bench::runs::{Handed, assert_cut_output, assert_prints};
 use test_bench::scripts::{EXAMPLE, EXAMPLE_SHOWN, VECTORS, VECTORS_LINKED};
 
-/// An output that takes a byte a call, and fails at call k: k - 1 bytes go out, though it would go on.
 #[test]
-fn output_fails(rt: HostRuntime) -> Result<(), Fail> {
+fn show_output_fails(rt: HostRuntime) -> Result<(), Fail> {
     let show = Handed {
         step: 1,
         ..Handed::input(&["show"], EXAMPLE)
     };
     assert_prints(rt.alloc(), show, EXAMPLE_SHOWN, 0)?;
-    for k in 1..=EXAMPLE_SHOWN.len() {
-        let handed = Handed {
-            step: 1,
-            out_fails_at: k as u32,
-            ..show
-        };
-        assert_prints(rt.alloc(), handed, &EXAMPLE_SHOWN[..k - 1], 1)?;
-    }
-    let link = Handed {
-        step: 1,
-        ..Handed::file(&["link", "a", "out"], VECTORS)
-    };
+    assert_cut_output(rt.alloc(), show, EXAMPLE_SHOWN)
+}
+
+/// An output that takes a byte a call, and fails at call k: k - 1 bytes go out, and the container is whole.
+#[test]
+fn link_output_fails(rt: HostRuntime) -> Result<(), Fail> {
     for k in 1..=VECTORS_LINKED.len() {
         let handed = Handed {
             step: 1,
-            out_fails_at: k as u32,
-            ..link
+            out_fails_at: k,
+            ..Handed::file(&["link", "a", "out"], VECTORS)
         };
         let outcome = assert_prints(rt.alloc(), handed, &VECTORS_LINKED[..k - 1], 1)?;
         assert!(rt; outcome.has(b"out", VECTORS_LEAST));
@@ -109,7 +102,7 @@ fn files_fail(rt: HostRuntime) -> Result<(), Fail> {
             ..Handed::file(&["link", "a", "out"], EXAMPLE)
         };
         let outcome = assert_prints(rt.alloc(), handed, printed, 1)?;
-        assert_eq!(rt; outcome.papers.calls(), calls);
+        outcome.assert_calls(calls)?;
         assert!(rt; outcome.has(b"a", EXAMPLE));
         assert_eq!(rt; outcome.papers.bytes(b"out"), None);
     }

@@ -26,7 +26,7 @@ fn link(rt: HostRuntime) -> Result<(), Fail> {
         if let Some(container) = container {
             assert!(rt; outcome.has(out.as_bytes(), container));
         }
-        assert_eq!(rt; outcome.papers.calls(), (1, 1));
+        outcome.assert_calls((1, 1))?;
     }
     Ok(())
 }
@@ -64,7 +64,7 @@ fn link_refused(rt: HostRuntime) -> Result<(), Fail> {
     for (script, text, printed) in rows {
         let words = ["link", script, "out"];
         let outcome = assert_prints(rt.alloc(), Handed::file(&words, text), printed, 1)?;
-        assert_eq!(rt; outcome.papers.calls(), (1, 0));
+        outcome.assert_calls((1, 0))?;
         assert!(rt; outcome.has(b"a", text));
     }
     Ok(())

@@ -1,8 +1,7 @@
 use crate::listings::{RICH_LISTED, VECTORS_LISTED};
-use pef_tool::FileFault;
 use std::test::Fail;
 use test_bench::containers::{RICH, VECTORS_LEAST, changed};
-use test_bench::runs::{Handed, assert_prints, run_tool};
+use test_bench::runs::{Handed, assert_cut_output, assert_prints, assert_unreadable, run_tool};
 use test_bench::scripts::EMPTY_CONTAINER;
 
 /// Containers, and what `list` prints of them.
@@ -19,7 +18,7 @@ fn list(rt: HostRuntime) -> Result<(), Fail> {
     for (container, printed) in rows {
         let handed = Handed::file(&["list", "a"], container);
         let outcome = assert_prints(rt.alloc(), handed, printed, 0)?;
-        assert_eq!(rt; outcome.papers.calls(), (1, 0));
+        outcome.assert_calls((1, 0))?;
         assert!(rt; outcome.has(b"a", container));
     }
     Ok(())
@@ -107,42 +106,13 @@ fn list_damaged(rt: HostRuntime) -> Result<(), Fail> {
     Ok(())
 }
 
-/// Files that can't be read.
 #[test]
 fn list_unreadable(rt: HostRuntime) -> Result<(), Fail> {
-    let rows: [(&str, u32, FileFault, &[u8]); 3] = [
-        (
-            "a b",
-            0,
-            FileFault::Failed,
-            b"refused 71 FileUnreadable a%20b\n",
-        ),
-        ("a", 1, FileFault::Failed, b"refused 71 FileUnreadable a\n"),
-        ("a", 1, FileFault::OutOfMemory, b"refused 99 OutOfMemory\n"),
-    ];
-    for (path, files_fail_at, fault, printed) in rows {
-        let words = ["list", path];
-        let handed = Handed {
-            files_fail_at,
-            fault,
-            ..Handed::file(&words, VECTORS_LEAST)
-        };
-        let outcome = assert_prints(rt.alloc(), handed, printed, 1)?;
-        assert_eq!(rt; outcome.papers.calls(), (1, 0));
-    }
-    Ok(())
+    assert_unreadable(rt.alloc(), "list", VECTORS_LEAST)
 }
 
-/// An output that takes a byte a call, and fails at call k: k - 1 bytes go out.
 #[test]
 fn list_output_fails(rt: HostRuntime) -> Result<(), Fail> {
-    for k in 1..=VECTORS_LISTED.len() {
-        let handed = Handed {
-            step: 1,
-            out_fails_at: k as u32,
-            ..Handed::file(&["list", "a"], VECTORS_LEAST)
-        };
-        assert_prints(rt.alloc(), handed, &VECTORS_LISTED[..k - 1], 1)?;
-    }
-    Ok(())
+    let handed = Handed::file(&["list", "a"], VECTORS_LEAST);
+    assert_cut_output(rt.alloc(), handed, VECTORS_LISTED)
 }

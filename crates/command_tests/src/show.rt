@@ -1,5 +1,5 @@
 use std::test::Fail;
-use test_bench::runs::{Handed, assert_prints};
+use test_bench::runs::assert_shows;
 use test_bench::scripts::{EXAMPLE, EXAMPLE_SHOWN, VECTORS};
 
 /// Scripts on the input, what `show` prints of them, and its status.
@@ -76,10 +76,7 @@ fn show(rt: HostRuntime) -> Result<(), Fail> {
         ),
     ];
     for (script, printed, status) in rows {
-        let handed = Handed::input(&["show"], script);
-        let outcome = assert_prints(rt.alloc(), handed, printed, status)?;
-        assert_eq!(rt; outcome.left, 0);
-        assert_eq!(rt; outcome.papers.calls(), (0, 0));
+        assert_shows(rt.alloc(), script, printed, status)?;
     }
     Ok(())
 }

@@ -38,7 +38,7 @@ fn usage(rt: HostRuntime) -> Result<(), Fail> {
         };
         let outcome = assert_prints(rt.alloc(), handed, b"usage\n", 2)?;
         assert_eq!(rt; outcome.left, EXAMPLE.len());
-        assert_eq!(rt; outcome.papers.calls(), (0, 0));
+        outcome.assert_calls((0, 0))?;
     }
     Ok(())
 }

@@ -1,8 +1,7 @@
-use pef_tool::FileFault;
 use std::alloc::{AllocError, Global};
 use std::fmt::Write;
 use std::test::Fail;
-use test_bench::runs::{Handed, assert_prints, run_tool};
+use test_bench::runs::{Handed, assert_cut_output, assert_prints, assert_unreadable, run_tool};
 use test_bench::scripts::{VECTORS, VECTORS_CERTIFIED};
 
 const WORDS: [&str; 2] = ["distances", "a"];
@@ -29,7 +28,7 @@ fn distances(rt: HostRuntime) -> Result<(), Fail> {
     for (script, printed, status) in rows {
         let handed = Handed::file(&WORDS, script);
         let outcome = assert_prints(rt.alloc(), handed, printed, status)?;
-        assert_eq!(rt; outcome.papers.calls(), (1, 0));
+        outcome.assert_calls((1, 0))?;
         assert!(rt; outcome.has(b"a", script));
     }
     Ok(())
@@ -156,44 +155,14 @@ fn distances_of_runs(rt: HostRuntime) -> Result<(), Fail> {
     Ok(())
 }
 
-/// Files that aren't there or can't be read, or for which there is no memory.
 #[test]
 fn distances_unreadable(rt: HostRuntime) -> Result<(), Fail> {
-    let rows: [(&str, u32, FileFault, &[u8]); 3] = [
-        (
-            "a b",
-            0,
-            FileFault::Failed,
-            b"refused 71 FileUnreadable a%20b\n",
-        ),
-        ("a", 1, FileFault::Failed, b"refused 71 FileUnreadable a\n"),
-        ("a", 1, FileFault::OutOfMemory, b"refused 99 OutOfMemory\n"),
-    ];
-    for (path, files_fail_at, fault, printed) in rows {
-        let words = ["distances", path];
-        let handed = Handed {
-            files_fail_at,
-            fault,
-            ..Handed::file(&words, VECTORS)
-        };
-        let outcome = assert_prints(rt.alloc(), handed, printed, 1)?;
-        assert_eq!(rt; outcome.papers.calls(), (1, 0));
-    }
-    Ok(())
+    assert_unreadable(rt.alloc(), "distances", VECTORS)
 }
 
-/// An output that takes a byte a call, and fails at call k: k - 1 bytes go out.
 #[test]
 fn distances_output_fails(rt: HostRuntime) -> Result<(), Fail> {
-    for k in 1..=VECTORS_CERTIFIED.len() {
-        let handed = Handed {
-            step: 1,
-            out_fails_at: k as u32,
-            ..Handed::file(&WORDS, VECTORS)
-        };
-        assert_prints(rt.alloc(), handed, &VECTORS_CERTIFIED[..k - 1], 1)?;
-    }
-    Ok(())
+    assert_cut_output(rt.alloc(), Handed::file(&WORDS, VECTORS), VECTORS_CERTIFIED)
 }
 
 /// A library with 601 imports, and a section of 16 bytes.

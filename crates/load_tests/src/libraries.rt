@@ -1,5 +1,5 @@
 use std::test::Fail;
-use test_bench::runs::{Handed, assert_prints};
+use test_bench::runs::{Handed, assert_cut_output, assert_prints, assert_shows};
 
 /// Scripts with libraries, of which `it` is the script itself: what `show` prints of them, and its status.
 #[test]
@@ -90,10 +90,7 @@ fn show_libraries(rt: HostRuntime) -> Result<(), Fail> {
         ),
     ];
     for (script, printed, status) in rows {
-        let handed = Handed::input(&["show"], script);
-        let outcome = assert_prints(rt.alloc(), handed, printed, status)?;
-        assert_eq!(rt; outcome.left, 0);
-        assert_eq!(rt; outcome.papers.calls(), (0, 0));
+        assert_shows(rt.alloc(), script, printed, status)?;
     }
     Ok(())
 }
@@ -108,13 +105,5 @@ fn refusal_fails(rt: HostRuntime) -> Result<(), Fail> {
         ..Handed::input(&["show"], script)
     };
     assert_prints(rt.alloc(), whole, printed, 1)?;
-    for k in 1..=printed.len() {
-        let handed = Handed {
-            step: 1,
-            out_fails_at: k as u32,
-            ..whole
-        };
-        assert_prints(rt.alloc(), handed, &printed[..k - 1], 1)?;
-    }
-    Ok(())
+    assert_cut_output(rt.alloc(), whole, printed)
 }

@@ -63,14 +63,14 @@ impl<'a> Source for Text<'a> {
 pub struct Sheet {
     bytes: Vec<u8>,
     step: usize,
-    fails_at: u32,
+    fails_at: usize,
     failures: u64,
     failed: bool,
     ghost takes_some: { 0 < step },
 }
 
 impl Sheet {
-    pub fn new(alloc: Global, step: usize, fails_at: u32) -> Sheet
+    pub fn new(alloc: Global, step: usize, fails_at: usize) -> Sheet
         requires { 0 < step }
     {
         Sheet {

@@ -22,7 +22,7 @@ pub struct Handed<'a> {
     /// The call of the input that fails.
     pub input_fails_at: u32,
     /// The call of the output that fails.
-    pub out_fails_at: u32,
+    pub out_fails_at: usize,
     /// The call of the files that fails, and how.
     pub files_fail_at: u32,
     pub fault: FileFault,
@@ -80,6 +80,15 @@ pub struct Outcome {
 }
 
 impl Outcome {
+    /// Tests how many calls of `read` and of `write` the files had.
+    pub fn assert_calls(&self, calls: (u64, u64)) -> Result<(), Fail> {
+        let (reads, writes) = self.papers.calls();
+        if (reads, writes) != calls {
+            return Err(Fail::new(format_args!("{reads} reads and {writes} writes of files")));
+        }
+        Ok(())
+    }
+
     /// Whether a file has just these bytes.
     pub fn has(&self, path: &[u8], bytes: &[u8]) -> bool {
         self.papers.bytes(path) == Some(bytes)
@@ -144,6 +153,57 @@ pub fn assert_prints(
         return Err(unlike(handed.words, &outcome.printed, outcome.status));
     }
     Ok(outcome)
+}
+
+/// Runs `show`, which must take the whole input, and leave files alone.
+pub fn assert_shows(alloc: Global, script: &[u8], printed: &[u8], status: u8) -> Result<(), Fail> {
+    let outcome = assert_prints(alloc, Handed::input(&["show"], script), printed, status)?;
+    if outcome.left != 0 {
+        return Err(Fail::new(format_args!("{} bytes are left", outcome.left)));
+    }
+    outcome.assert_calls((0, 0))
+}
+
+/// Files that aren't there or can't be read, or for which there is no memory: the path, the call of the
+/// files that fails and how, and what is printed.
+const UNREADABLE: &[(&str, u32, FileFault, &[u8])] = &[
+    (
+        "a b",
+        0,
+        FileFault::Failed,
+        b"refused 71 FileUnreadable a%20b\n",
+    ),
+    ("a", 1, FileFault::Failed, b"refused 71 FileUnreadable a\n"),
+    ("a", 1, FileFault::OutOfMemory, b"refused 99 OutOfMemory\n"),
+];
+
+/// Runs a command of one file where that can't be read. It must say so, and make no other call.
+pub fn assert_unreadable(alloc: Global, command: &str, file: &[u8]) -> Result<(), Fail> {
+    for row in UNREADABLE {
+        let (path, files_fail_at, fault, printed) = *row;
+        let words = [command, path];
+        let handed = Handed {
+            files_fail_at,
+            fault,
+            ..Handed::file(&words, file)
+        };
+        assert_prints(alloc, handed, printed, 1)?.assert_calls((1, 0))?;
+    }
+    Ok(())
+}
+
+/// Runs a command with an output that takes a byte a call, and fails at call k: k - 1 bytes go out, though it
+/// would go on.
+pub fn assert_cut_output(alloc: Global, handed: Handed<'_>, printed: &[u8]) -> Result<(), Fail> {
+    for k in 0..printed.len() {
+        let handed = Handed {
+            step: 1,
+            out_fails_at: k + 1,
+            ..handed
+        };
+        assert_prints(alloc, handed, &printed[..k], 1)?;
+    }
+    Ok(())
 }
 
 /// Runs the tool over files, with an empty input. It must print this and end with this status.
