@@ -12,7 +12,7 @@ use test_bench::runs::{Handed, run_tool};
 use test_bench::scripts::{EXAMPLE, VECTORS};
 
 /// Scripts, each with its number of sections.
-const SCRIPTS: [(&[u8], usize); 4] = [
+const SCRIPTS: &[(&[u8], usize)] = &[
     (b"", 0),
     (EXAMPLE, 1),
     (VECTORS, 2),
@@ -26,16 +26,28 @@ const SCRIPTS: [(&[u8], usize); 4] = [
 #[test]
 fn distances_are_plans(rt: HostRuntime) -> Result<(), Fail> {
     let alloc = rt.alloc();
-    for (text, sections) in SCRIPTS {
+    for row in SCRIPTS {
+        let (text, sections) = *row;
         let printed = run_tool(alloc, Handed::file(&["distances", "a"], text))?.printed;
         let certificates = read(alloc, printed.as_slice())?;
         assert_eq!(rt; certificates.len(), sections);
-        let script = Script::read(alloc, text)?;
-        for (k, certificate) in certificates.iter().enumerate() {
-            assert_eq!(rt; certificate.section() as usize, k);
-            let planned = planned(&rt, alloc, &script, certificate.section())?;
-            assert!(rt; is_same(certificate, &planned), "section {k}");
-        }
+        test_plans(&rt, alloc, text, certificates.as_slice())?;
+    }
+    Ok(())
+}
+
+/// Tests that certificates are the plans of a script's sections.
+fn test_plans(
+    rt: &impl Abort,
+    alloc: Global,
+    text: &[u8],
+    certificates: &[Certificate],
+) -> Result<(), Fail> {
+    let script = Script::read(alloc, text)?;
+    for (k, certificate) in certificates.iter().enumerate() {
+        assert_eq!(rt; certificate.section() as usize, k);
+        let planned = planned(rt, alloc, &script, certificate.section())?;
+        assert!(rt; is_same(certificate, &planned), "section {k}");
     }
     Ok(())
 }
