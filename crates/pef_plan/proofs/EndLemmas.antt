@@ -1,26 +1,23 @@
 -- The ends of runs in windows: how they are kept from fixup to fixup, and what follows for a value.
-use Rattle.std.proofs.Common.{◌≡◌, ℕ, zero, suc, ◌+◌, ◌-◌, ◌*◌, ◌<◌, ◌≤◌, ◌⊎◌, inl, inr, List, [], ◌∷◌, ◌++◌, length, take, Option, None, Some, refl, ap, ap₂, sym, ◌∙◌, subst, arith}
+use Rattle.std.proofs.Common.{◌≡◌, ℕ, zero, suc, ◌+◌, ◌-◌, ◌*◌, ◌<◌, ◌≤◌, inl, inr, List, [], ◌∷◌, ◌++◌, take, refl, ap, ap₂, sym, ◌∙◌, subst, arith}
 use Rattle.std.proofs.lemmas.List.{append_assoc, append_cancel_left}
 use Rattle.std.proofs.Math.Nat.{mul-add}
-use Rattle.pef_reloc.specs.declared.fixup.Base.{Base}
-use Rattle.pef_reloc.specs.declared.fixup.Base.TheVariants.{Section, Import}
 use Rattle.pef_reloc.specs.declared.fixup.Fixup.{Fixup}
-use Rattle.pef_reloc.specs.Instrs.{instr_length}
-use Rattle.pef_reloc.specs.Steps.{State, added, next_state}
-use Rattle.pef_cert.specs.Labels.{Labels, class_of, classes}
+use Rattle.pef_reloc.specs.Steps.{State, next_state}
+use Rattle.pef_cert.specs.Labels.{Labels, class_of}
 use Rattle.pef_cert.specs.Extension.{extension, extension_at}
 use Rattle.pef_plan.specs.declared.known.Known.{Known}
 use Rattle.pef_plan.specs.declared.place.Place.{Place}
 use Rattle.pef_plan.specs.declared.place.Here.{Here}
 use Rattle.pef_plan.specs.declared.place.Choice.{Choice}
 use Rattle.pef_plan.specs.declared.runs.Run.{Run}
-use Rattle.pef_plan.specs.declared.runs.Run.TheVariants.{WordsOfC, WordsOfD, Spaced, Pairs, SpacedPairs, Imports, Skip}
+use Rattle.pef_plan.specs.declared.runs.Run.TheVariants.{WordsOfC, WordsOfD, Spaced, Pairs, SpacedPairs, Skip}
 use Rattle.pef_plan.specs.declared.window.Window.{Window}
-use Rattle.pef_plan.specs.declared.ends.InTurn.{InTurn}
-use Rattle.pef_plan.specs.Kept.Ends.{Brought, BroughtMaybe, EndAmong, EndRows, FarAt, FarKept, FarPairsAt, FarPairsKept, Holding, HoldingTwo, Led, NearKept, OnWith, PairsAt, PairsKept, SkipsAt, SkipsKept, SpacedAt, SpacedKept, SquareIs, WordsAt, WordsKept, far_pairs_of, number_of, pairs_of, rest_of, second_of, sections_of, words_of}
-use Rattle.pef_plan.specs.Kept.Places.{Chosen, HereOf, InPlace, extension_in}
-use Rattle.pef_plan.specs.Kept.Runs.{EndOf, Ends, EndsFrom, Next, RunOf, imports, limit, run_instr, stride, unit, units}
-use Rattle.pef_plan.specs.Kept.Tables.{Agrees, number_in}
+use Rattle.pef_plan.specs.Kept.Ends.{Brought, EndAmong, EndRows, Led}
+use Rattle.pef_plan.specs.Kept.Places.{Chosen, InPlace}
+use Rattle.pef_plan.specs.Kept.Runs.{EndsFrom, Next, RunOf, imports, limit, run_instr, stride, unit, units}
+use Rattle.pef_squares.specs.Squares.{number_in}
+use Rattle.pef_plan.specs.Kept.Tables.{Agrees}
 use Rattle.pef_plan.specs.Kept.Windows.{AtMostEach, BestOf, IsOne, WindowOf}
 use Rattle.pef_plan.specs.Reached.{LeadsWithin}
 use Rattle.pef_plan.proofs.RowLemmas.{extension-there}

@@ -1,5 +1,5 @@
 -- Windows that are brought to the fixup before: they have the ends of the runs that begin there.
-use Rattle.std.proofs.Common.{◌≡◌, ℕ, ◌+◌, ◌<◌, List, [], ◌∷◌, ◌++◌, length, Option, None, Some, refl, ap, sym, ◌∙◌, subst, arith, ◌≤◌, true}
+use Rattle.std.proofs.Common.{◌≡◌, ℕ, ◌+◌, ◌<◌, List, [], ◌∷◌, length, Option, None, Some, refl, ap, sym, ◌∙◌, subst, arith, ◌≤◌, true}
 use Rattle.pef_reloc.specs.declared.fixup.Base.{Base}
 use Rattle.pef_reloc.specs.declared.fixup.Base.TheVariants.{Section, Import}
 use Rattle.pef_reloc.specs.declared.fixup.Fixup.{Fixup}
@@ -17,10 +17,9 @@ use Rattle.pef_plan.specs.declared.ends.RunEnds.{RunEnds}
 use Rattle.pef_plan.specs.declared.known.Known.{Known}
 use Rattle.pef_plan.specs.declared.place.Place.{Place}
 use Rattle.pef_plan.specs.declared.rows.At.{At}
-use Rattle.pef_plan.specs.Kept.Ends.{Brought, BroughtMaybe, EndRows, EndsAt, EndsOf, FarAt, FarKept, FarPairsAt, FarPairsKept, Holding, HoldingTwo, NearKept, OnWith, PairsAt, PairsKept, SkipsAt, SkipsKept, SpacedAt, SpacedKept, SquareIs, WordsAt, WordsKept, far_pairs_of, number_of, pairs_of, rest_of, second_of, sections_of, words_of}
+use Rattle.pef_plan.specs.Kept.Ends.{Brought, BroughtMaybe, EndRows, EndsAt, EndsOf, FarAt, FarKept, FarPairsAt, FarPairsKept, Holding, HoldingTwo, NearKept, PairsAt, PairsKept, SkipsAt, SkipsKept, SpacedAt, SpacedKept, WordsAt, WordsKept, far_pairs_of, number_of, pairs_of, rest_of, second_of, sections_of, words_of}
 use Rattle.pef_plan.specs.Kept.Rows.{AtOf}
-use Rattle.pef_plan.specs.Kept.Runs.{imports, stride, unit}
-use Rattle.pef_plan.specs.Kept.Tables.{Agrees, number_in}
+use Rattle.pef_plan.specs.Kept.Tables.{Agrees}
 use Rattle.pef_plan.specs.Kept.Windows.{WindowOf}
 
 -- what a call that brings a window to a place says of it

@@ -1,5 +1,5 @@
 -- One more row in the tables, and what holds of each.
-use Rattle.std.proofs.Common.{◌≡◌, ℕ, zero, suc, ◌+◌, ◌*◌, ◌<◌, ◌≤◌, inl, inr, true, List, [], ◌∷◌, ◌++◌, length, take, drop, slice_index, refl, ap, sym, ◌∙◌, subst, arith, length-append}
+use Rattle.std.proofs.Common.{◌≡◌, ℕ, zero, suc, ◌+◌, ◌*◌, ◌<◌, ◌≤◌, inl, inr, true, List, [], ◌∷◌, ◌++◌, length, take, drop, replicate, slice_index, refl, ap, sym, ◌∙◌, subst, arith, length-append}
 use Rattle.std.specs.Prelude.{slice_index_or}
 use Rattle.std.specs.List.{AllByRecursion}
 use Rattle.std.proofs.Math.ListN.{get_or-append}
@@ -26,7 +26,8 @@ use Rattle.pef_plan.specs.declared.ends.RunEnds.{RunEnds}
 use Rattle.pef_plan.specs.Kept.Ends.{EndsAt, EndsOf}
 use Rattle.pef_plan.specs.Kept.Places.{Counts}
 use Rattle.pef_plan.specs.Kept.Rows.{AtOf, RowOf, SkipsOf}
-use Rattle.pef_plan.specs.Kept.Tables.{Agrees, OffersAre, OffersFrom, SameLabels, Shaped, Tabled, label_in, number_in, skip_in}
+use Rattle.pef_squares.specs.Squares.{number_in}
+use Rattle.pef_plan.specs.Kept.Tables.{Agrees, OffersAre, OffersFrom, SameLabels, Shaped, Tabled, label_in, skip_in}
 use Rattle.pef_plan.specs.Reached.{LeadsWithin, ReachedAt}
 use Rattle.pef_plan.proofs.EndsKept.{ends-map}
 
@@ -390,3 +391,33 @@ ends-next fixups rs labels skips at n index k a row e step t known state ends =
     let counted = subst (λ (xs : List ℕ). EndsOf (λ l. Agrees l k a.others.now) (length xs + 1) (a.first ∷ a.others.now) e) known.registers_are ends in
     subst (λ (fs : List Fixup). EndsOf (λ l. SameLabels l rs (labels ++ row ∷ []) (length fs)) (length rs + 1) fs e) (sym state.parts)
     (ends-map (λ l. Agrees l k a.others.now) (λ l. SameLabels l rs (labels ++ row ∷ []) (suc (length a.others.now))) (length rs + 1) (a.first ∷ a.others.now) e (λ l same. agrees_before l rs labels skips k a.others.now row index t' known same) counted)
+
+-- the tables where no fixups are left
+zeros_line : (n d : ℕ) → slice_index (replicate n 0) d ≡ 0
+zeros_line zero d = refl
+zeros_line (suc n) zero = refl
+zeros_line (suc n) (suc d) = zeros_line n d
+
+zeros_square : (m n c d : ℕ) → number_in (replicate m (replicate n 0)) c d ≡ 0
+zeros_square zero n c d = refl
+zeros_square (suc m) n zero d = zeros_line n d
+zeros_square (suc m) n (suc c) d = zeros_square m n c d
+
+pub tabled-none : (rs : List ℕ) (index m n : ℕ) → Tabled rs (replicate m (replicate n 0) ∷ []) (replicate n 0 ∷ []) index []
+tabled-none rs index m n = record {
+  labels_count = refl;
+  skips_count = refl;
+  label_small = λ left c d under _ _. let none : left ≡ 0 = omega (arith, under) in let e = ap (λ x. label_in (replicate m (replicate n 0) ∷ []) x c d) none in let is = zeros_square m n c d in omega (arith, e, is);
+  skip_small = λ left c under _. let none : left ≡ 0 = omega (arith, under) in let e = ap (λ x. skip_in (replicate n 0 ∷ []) x c) none in let is = zeros_line n c in omega (arith, e, is);
+  last = λ c d _ _. zeros_square m n c d;
+  feasible = λ l same. tt;
+  reached = λ l same. tt;
+  offers = λ l same. tt;
+}
+
+pub fill-none : (rest : List Fixup) (rs : List ℕ) (labels : List (List (List ℕ))) (skips : List (List ℕ)) (index : ℕ) → rest ≡ [] → labels ≡ replicate 9 (replicate 9 0) ∷ [] → skips ≡ replicate 9 0 ∷ [] → Tabled rs labels skips index rest
+fill-none rest rs labels skips index none labels_are skips_are = rw (none, labels_are, skips_are) (tabled-none rs index 9 9)
+
+pub ends-none : (rest : List Fixup) (rs : List ℕ) (labels : List (List (List ℕ))) (count : ℕ) (e : RunEnds) → rest ≡ [] → count ≡ length rs + 1 → EndsOf (λ l. Unit {0}) count [] e → EndsOf (λ l. SameLabels l rs labels (length rest)) (length rs + 1) rest e
+ends-none rest rs labels count e none same ends =
+    rw (none, ← same) (ends-map (λ l. Unit {0}) (λ l. SameLabels l rs labels 0) count [] e (λ l s. tt) ends)

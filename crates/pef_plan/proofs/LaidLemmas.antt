@@ -8,7 +8,7 @@ use Rattle.std.proofs.lemmas.Bool.Decides.{eqb_tells}
 use Rattle.std.proofs.lemmas.List.{get_or-append-add}
 use Rattle.pef_cert.specs.Rows.{LaidRows}
 use Rattle.pef_plan.specs.Kept.Laid.{LaidSquare, LinesLaid, RowsLaid}
-use Rattle.pef_plan.specs.Kept.Tables.{number_in}
+use Rattle.pef_squares.specs.Squares.{number_in}
 
 -- a place in one of some lines
 inside : (c lines d classes : ℕ) → c < lines → d < classes → c * classes + d < lines * classes

@@ -4,7 +4,7 @@ use Rattle.std.specs.Prelude.{slice_index_or, slice_set}
 use Rattle.std.proofs.lemmas.Bool.Decides.{eqb_tells}
 use Rattle.std.proofs.lemmas.List.{get_or-set_other, get_or-set_same}
 use Rattle.pef_plan.specs.Kept.Rows.{ClosedOf, LeastOf, LineOf, LinesOf, SmallLine, SmallSquare}
-use Rattle.pef_plan.specs.Kept.Tables.{number_in}
+use Rattle.pef_squares.specs.Squares.{number_in}
 
 -- one more place is filled
 pub line-set : (P : ℕ → ℕ → Type 0) (line : List ℕ) (i x : ℕ) → i < length line → ((j : ℕ) → j < i → P j (slice_index line j)) → P i x → (j : ℕ) → j < i + 1 → P j (slice_index (slice_set line i x) j)

@@ -1,5 +1,5 @@
 -- What a window's best says of a run at a fixup.
-use Rattle.std.proofs.Common.{◌≡◌, ℕ, suc, ◌+◌, ◌*◌, ◌<◌, ◌≤◌, ◌⊎◌, inl, inr, true, List, [], ◌∷◌, ◌++◌, length, Some, refl, ap, sym, ◌∙◌, subst, arith}
+use Rattle.std.proofs.Common.{◌≡◌, ℕ, ◌+◌, ◌*◌, ◌<◌, ◌≤◌, ◌⊎◌, inl, inr, true, List, [], ◌∷◌, length, Some, refl, ap, sym, ◌∙◌, subst, arith}
 use Rattle.pef_reloc.specs.declared.fixup.Base.{Base}
 use Rattle.pef_reloc.specs.declared.fixup.Base.TheVariants.{Section, Import}
 use Rattle.pef_reloc.specs.declared.fixup.Fixup.{Fixup}
@@ -15,7 +15,7 @@ use Rattle.pef_plan.specs.declared.window.Window.{Window}
 use Rattle.pef_plan.specs.Kept.Ends.{EndAmong, EndRows, EndsAt, FarPairsAt, FarPairsKept, Holding, Led, NextBase, PairsAt, PairsKept, SkipsAt, SkipsKept, SpacedAt, SpacedKept, WordsAt, WordsKept}
 use Rattle.pef_plan.specs.Kept.Places.{Counts, HereOf}
 use Rattle.pef_plan.specs.Kept.Rows.{AtOf, DirectIs}
-use Rattle.pef_plan.specs.Kept.Runs.{EndOf, Ends, EndsFrom, Holds, RunOf, limit, stride, units}
+use Rattle.pef_plan.specs.Kept.Runs.{EndsFrom, Holds, RunOf, limit, stride, units}
 use Rattle.pef_plan.specs.Kept.Tables.{Agrees}
 use Rattle.pef_plan.specs.Kept.Windows.{BestOf, WindowOf}
 use Rattle.pef_plan.specs.Reached.{LeadsWithin}

@@ -1,14 +1,14 @@
 -- Windows of squares: what is kept for the older ones, and the least of all.
-use Rattle.std.proofs.Common.{◌≡◌, ℕ, zero, suc, ◌+◌, ◌-◌, ◌<◌, ◌≤◌, ◌⊎◌, inl, inr, min, List, [], ◌∷◌, ◌++◌, length, take, Option, None, Some, refl, ap, ap₂, sym, ◌∙◌, subst, arith, length-append}
+use Rattle.std.proofs.Common.{◌≡◌, ℕ, ◌+◌, ◌-◌, ◌<◌, ◌≤◌, ◌⊎◌, inl, inr, min, List, [], ◌∷◌, ◌++◌, length, take, None, Some, refl, ap, sym, ◌∙◌, subst, arith, length-append}
 use Rattle.std.specs.Prelude.{reverse, slice_index_or}
 use Rattle.std.proofs.Math.ListN.{get_or-append}
 use Rattle.std.proofs.Math.Seq.{get_or-append_seam, take-append-add}
 use Rattle.std.proofs.lemmas.Bool.Decides.{eqb_tells}
 use Rattle.std.proofs.lemmas.Option.{get_or_from_slice_get, slice_get-get_or, slice_get_within}
 use Rattle.std.specs.List.{slice_get}
-use Rattle.std.proofs.lemmas.List.{append-nil, append_assoc, get_or-take, length-reverse, length-take, length-take-le, reverse-append, take-append-le, take-take, take_all}
+use Rattle.std.proofs.lemmas.List.{append-nil, append_assoc, get_or-take, length-reverse, length-take, reverse-append, take-append-le, take-take, take_all}
 use Rattle.pef_plan.specs.declared.window.Window.{Window}
-use Rattle.pef_plan.specs.Kept.Tables.{number_in}
+use Rattle.pef_squares.specs.Squares.{number_in}
 use Rattle.pef_plan.specs.Kept.Windows.{AtMostEach, BestOf, IsOne, LesserOf, LowIn, LowSquare, OlderOf, WindowOf}
 use Rattle.pef_plan.proofs.LineLemmas.{min_is}
 

@@ -1,4 +1,4 @@
-ghost use Rattle.std.specs.Prelude.{◌≡◌, ◌+◌, ◌^◌, ◌<◌, ◌≤◌, ◌∷◌, [], ℕ, List, OnOk, length, slice_index};
+ghost use Rattle.std.specs.Prelude.{◌≡◌, ◌+◌, ◌^◌, ◌<◌, ◌≤◌, ◌∷◌, [], ℕ, List, OnOk, length, slice_index, slice_index_or};
 ghost use Rattle.pef_cert.specs.Extension.{extension};
 ghost use Rattle.pef_cert.specs.Labels.{Labels};
 ghost use Rattle.pef_plan.specs.Kept.Ends.{Brought, BroughtMaybe, EndsAt, EndsOf, FarAt, NearKept, far_pairs_of, number_of, pairs_of, sections_of, words_of};
@@ -7,7 +7,7 @@ ghost use Rattle.pef_plan.specs.Kept.Tables.{Agrees};
 ghost use Rattle.pef_plan.specs.Kept.Windows.{WindowOf};
 ghost use Rattle.pef_reloc.specs.declared.fixup.Base.TheVariants.{Section};
 
-use crate::known::{Known, Line, MAX_CLASSES, Square};
+use crate::known::Known;
 use crate::place::Place;
 use crate::registers::class_of;
 use crate::rows::At;
@@ -15,6 +15,7 @@ use crate::runs::{MAX_RUN, MAX_SKIP_RUN, Run};
 use crate::values::WORD;
 use crate::window::Window;
 use pef_reloc::{Base, Fixup};
+use pef_squares::{Line, MAX_CLASSES, Square};
 use std::alloc::{AllocError, Global};
 use std::mem;
 
@@ -235,23 +236,25 @@ impl<'a> Known<'a> {
         requires { AtOf self at }
         ensures { (l : Labels) → Agrees l self.entry at.entry.others.now → NearKept l (at.entry.first ∷ at.entry.others.now) result }
     {
+        let row = self.row(at.others.len());
         let mut square = [[0; MAX_CLASSES]; MAX_CLASSES];
         for c in 0..self.classes() {
-            square[c] = self.line_behind(at, c);
+            square[c] = self.line_behind(at, row, c);
         }
         square
     }
 
     /// The same with register C in a class.
-    fn line_behind(self, at: At<'a>, c: usize) -> Line
+    fn line_behind(self, at: At<'a>, row: &Square, c: usize) -> Line
         requires at { AtOf self at }
+        requires row { row.now ≡ slice_index_or self.labels.now (length at.others.now) [] }
         requires c { c < length self.registers.now + 1 }
         ensures { (l : Labels) (d : ℕ) → Agrees l self.entry at.entry.others.now → d < length self.entry.registers.now + 1 → slice_index result d ≡ extension l at.entry.others.now (at.entry.first.offset + 4) c d }
     {
         let position = u64::from(at.first.offset) + WORD;
         let mut line = [0; MAX_CLASSES];
         for d in 0..self.classes() {
-            line[d] = self.value(at.others, position, c, d) as u32;
+            line[d] = self.value_in(row, at.others, position, c, d) as u32;
         }
         line
     }
@@ -263,23 +266,25 @@ impl<'a> Known<'a> {
         ensures { (l : Labels) → Agrees l self.entry at.entry.others.now → FarAt l at.entry.first.offset at.entry.others.now result (Section section) }
     {
         let class = class_of(self.registers, section);
+        let row = self.row(at.others.len());
         let mut square = [[0; MAX_CLASSES]; MAX_CLASSES];
         for c in 0..self.classes() {
-            square[c] = self.line_beyond(at, c, class);
+            square[c] = self.line_beyond(at, row, c, class);
         }
         square
     }
 
     /// The same with register C in a class, at the class of register D.
-    fn line_beyond(self, at: At<'a>, c: usize, d: usize) -> Line
+    fn line_beyond(self, at: At<'a>, row: &Square, c: usize, d: usize) -> Line
         requires at { AtOf self at }
+        requires row { row.now ≡ slice_index_or self.labels.now (length at.others.now) [] }
         requires c { c < length self.registers.now + 1 }
         requires d { d < length self.registers.now + 1 }
         ensures { (l : Labels) → Agrees l self.entry at.entry.others.now → slice_index result d ≡ extension l at.entry.others.now (at.entry.first.offset + 8) c d }
     {
         let position = u64::from(at.first.offset) + 2 * WORD;
         let mut line = [0; MAX_CLASSES];
-        line[d] = self.value(at.others, position, c, d) as u32;
+        line[d] = self.value_in(row, at.others, position, c, d) as u32;
         line
     }
 }

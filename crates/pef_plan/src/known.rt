@@ -1,4 +1,4 @@
-ghost use Rattle.std.specs.Prelude.{◌≡◌, ◌+◌, ◌*◌, ◌<◌, ◌≤◌, ◌∷◌, ℕ, IfSome, List, length};
+ghost use Rattle.std.specs.Prelude.{◌≡◌, ◌+◌, ◌*◌, ◌<◌, ◌≤◌, ◌∷◌, ℕ, [], IfSome, List, length, slice_index_or};
 ghost use Rattle.pef_cert.specs.Extension.{extension, offer_at};
 ghost use Rattle.pef_cert.specs.Labels.{Labels};
 ghost use Rattle.pef_plan.specs.Kept.Tables.{Agrees, Shaped};
@@ -6,23 +6,15 @@ ghost use Rattle.pef_reloc.specs.declared.fixup.Fixup.{Fixup};
 
 use crate::registers::class_of;
 use crate::values::{change, moved_value};
-use pef_reloc::{Base, Fixup, MAX_SECTIONS};
-
-/// The most classes that there can be: one for each section, and one more.
-pub(crate) const MAX_CLASSES: usize = MAX_SECTIONS as usize + 1;
-
-/// A number for each class of a register.
-pub(crate) type Line = [u32; MAX_CLASSES];
-
-/// A line for each class of register C, along register D.
-pub(crate) type Square = [Line; MAX_CLASSES];
+use pef_reloc::{Base, Fixup};
+use pef_squares::{Line, Square, Squares};
 
 /// What is known of the states at the fixups so far, from the last fixup back.
 #[derive(Clone, Copy, Debug)]
 pub(crate) struct Known<'a> {
     pub(crate) registers: &'a [u32],
     /// The labels, by how many fixups are left.
-    pub(crate) labels: &'a [Square],
+    pub(crate) labels: &'a Squares,
     /// The least that a skip at the next fixup leads to, by the class of register C and by how many
     /// fixups are left.
     pub(crate) skips: &'a [Line],
@@ -37,6 +29,14 @@ impl<'a> Known<'a> {
         self.registers.len() + 1
     }
 
+    /// The labels where so many fixups are left.
+    pub(crate) fn row(self, left: usize) -> &'a Square
+        requires { Shaped self left }
+        ensures { result.now ≡ slice_index_or self.entry.labels.now left [] }
+    {
+        self.labels.square(left)
+    }
+
     /// The extension where these fixups are left, at a position and in classes of the registers.
     pub(crate) fn value(self, rest: &[Fixup], position: u64, c: usize, d: usize) -> u64
         requires shaped { Shaped self (length rest.now) }
@@ -45,28 +45,49 @@ impl<'a> Known<'a> {
         ensures is { (l : Labels) → Agrees l self.entry rest.now → result ≡ extension l rest.now position c d }
         ensures small { result ≤ 4 * length rest.now + 2 }
     {
+        self.value_in(self.row(rest.len()), rest, position, c, d)
+    }
+
+    /// The same from the labels where these are left.
+    pub(crate) fn value_in(
+        self,
+        row: &Square,
+        rest: &[Fixup],
+        position: u64,
+        c: usize,
+        d: usize,
+    ) -> u64
+        requires row { row.now ≡ slice_index_or self.labels.now (length rest.now) [] }
+        requires shaped { Shaped self (length rest.now) }
+        requires c { c < length self.registers.now + 1 }
+        requires d { d < length self.registers.now + 1 }
+        ensures is { (l : Labels) → Agrees l self.entry rest.now → result ≡ extension l rest.now position c d }
+        ensures small { result ≤ 4 * length rest.now + 2 }
+    {
         match rest.split_first() {
-            Some((first, _)) => self.value_before(rest.len(), *first, position, c, d),
+            Some((first, _)) => self.value_before(row, rest.len(), *first, position, c, d),
             None => 0,
         }
     }
 
     /// The same where so many are left, of which this is the first.
-    pub(crate) fn value_before(
+    fn value_before(
         self,
+        row: &Square,
         left: usize,
         first: Fixup,
         position: u64,
         c: usize,
         d: usize,
     ) -> u64
+        requires row { row.now ≡ slice_index_or self.labels.now left [] }
         requires shaped { Shaped self left }
         requires c { c < length self.registers.now + 1 }
         requires d { d < length self.registers.now + 1 }
         ensures is { (l : Labels) (rest : List Fixup) → length (first ∷ rest) ≡ left → Agrees l self.entry (first ∷ rest) → result ≡ extension l (first ∷ rest) position c d }
         ensures small { result ≤ 4 * left + 2 }
     {
-        let label = self.labels[left][c][d];
+        let label = row[c][d];
         let offset = u64::from(first.offset);
         if position == offset {
             return u64::from(label);

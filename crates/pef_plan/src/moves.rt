@@ -3,11 +3,21 @@ ghost use Rattle.pef_cert.specs.Extension.{extension};
 ghost use Rattle.pef_cert.specs.Labels.{class_of};
 ghost use Rattle.pef_plan.specs.Kept.Places.{extension_in};
 ghost use Rattle.pef_plan.specs.Kept.Steps.{FallsOn, Sections, Tracked, TrackedHere, labels_tabled};
-ghost use Rattle.pef_plan.specs.Kept.Tables.{Shaped, label_in};
+ghost use Rattle.pef_squares.specs.Squares.{number_in};
 
 use crate::known::Known;
 use crate::place::{Here, Place, Step};
 use pef_reloc::{Instr, MAX_SECTIONS};
+use pef_squares::Square;
+
+/// The label of a row in classes of the registers.
+pub(crate) fn label_of(row: &Square, c: usize, d: usize) -> u64
+    requires c { c < 9 }
+    requires d { d < 9 }
+    ensures { result ≡ number_in row.now c d }
+{
+    u64::from(row[c][d])
+}
 
 impl<'a> Known<'a> {
     /// A section of a class.
@@ -23,16 +33,6 @@ impl<'a> Known<'a> {
         } else {
             MAX_SECTIONS
         }
-    }
-
-    /// The label at the next fixup, in classes of the registers.
-    pub(crate) fn label(self, place: Place<'a>, c: usize, d: usize) -> u64
-        requires shaped { Shaped self (length place.left.now) }
-        requires c { c < length self.registers.now + 1 }
-        requires d { d < length self.registers.now + 1 }
-        ensures { result ≡ label_in self.entry.labels.now (length place.entry.left.now) c d }
-    {
-        u64::from(self.labels[place.left.len()][c][d])
     }
 
     /// The step that sets register C to a section of a class.

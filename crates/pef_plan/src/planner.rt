@@ -6,11 +6,12 @@ ghost use Rattle.pef_plan.specs.Kept.Laid.{LaidLabels, LaidSquare};
 ghost use Rattle.pef_reloc.specs.Fixups.{fixups_fit};
 
 use crate::fault::PlanFault;
-use crate::known::{Known, MAX_CLASSES, Square};
+use crate::known::Known;
 use crate::registers::registers_of;
 use crate::tables::fill;
 use pef_cert::{Certificate, LabelRows};
 use pef_reloc::Fixup;
+use pef_squares::{Square, Squares};
 use std::alloc::{AllocError, Global};
 
 /// A program of the fewest halfwords that makes the fixups of a section, with the certificate that proves
@@ -39,7 +40,7 @@ pub fn plan(alloc: Global, section: u32, fixups: &[Fixup]) -> Result<Certificate
 }
 
 /// Labels in rows, those of the most fixups left first.
-fn rows(alloc: Global, labels: &[Square], classes: usize) -> Result<LabelRows, AllocError>
+fn rows(alloc: Global, labels: &Squares, classes: usize) -> Result<LabelRows, AllocError>
     requires { classes ≤ 9 }
     ensures { IfOk result (λ rows. LaidLabels classes labels.now rows) }
 {
@@ -47,7 +48,7 @@ fn rows(alloc: Global, labels: &[Square], classes: usize) -> Result<LabelRows, A
     let mut left = labels.len();
     'rows: while left > 0 {
         left -= 1;
-        let row = row(alloc, &labels[left], classes)?;
+        let row = row(alloc, labels.square(left), classes)?;
         rows.push(&row)?;
     }
     Ok(rows)

@@ -3,6 +3,7 @@ ghost use Rattle.pef_plan.specs.Kept.Steps.{FallsOn, SkipsTo, TrackedHere};
 ghost use Rattle.pef_reloc.specs.declared.fixup.Base.TheVariants.{Section};
 
 use crate::known::Known;
+use crate::moves::label_of;
 use crate::place::{Here, Place, Step};
 use crate::registers::class_of;
 use crate::values::{REACH, SKIP_REACH, WORD};
@@ -17,15 +18,16 @@ impl<'a> Known<'a> {
     {
         let best = self.direct(here);
         let Place { c, d, .. } = here.place;
-        let label = self.label(here.place, c, d);
+        let row = self.row(here.place.left.len());
+        let label = label_of(row, c, d);
         if best.value <= label {
             return best.step;
         }
         for class in 0..self.classes() {
-            if self.label(here.place, class, d) < label {
+            if label_of(row, class, d) < label {
                 return self.set_c(here.place, class);
             }
-            if self.label(here.place, c, class) < label {
+            if label_of(row, c, class) < label {
                 return self.set_d(here.place, class);
             }
         }
@@ -42,8 +44,9 @@ impl<'a> Known<'a> {
     {
         let place = here.place;
         let ahead = u64::from(here.first.offset).saturating_sub(place.position);
-        let label = self.label(place, place.c, place.d);
-        let value = self.value(place.left, place.position, place.c, place.d);
+        let row = self.row(place.left.len());
+        let label = label_of(row, place.c, place.d);
+        let value = self.value_in(row, place.left, place.position, place.c, place.d);
         if value == 2 + label {
             return self.set_position(here);
         }

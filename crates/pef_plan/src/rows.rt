@@ -2,12 +2,13 @@ ghost use Rattle.std.specs.Prelude.{◌≡◌, ◌+◌, ◌<◌, ◌≤◌, ◌�
 ghost use Rattle.pef_plan.specs.Kept.Ends.{EndsAt};
 ghost use Rattle.pef_plan.specs.Kept.Places.{HereOf};
 ghost use Rattle.pef_plan.specs.Kept.Rows.{AtOf, ClosedOf, DirectLine, DirectSquare, LeastOf, LineOf, LinesOf, RowOf, SmallLine, SmallSquare};
-ghost use Rattle.pef_plan.specs.Kept.Tables.{number_in};
+ghost use Rattle.pef_squares.specs.Squares.{number_in};
 
 use crate::ends::RunEnds;
-use crate::known::{Known, Line, MAX_CLASSES, Square};
+use crate::known::Known;
 use crate::place::{Here, Place};
 use pef_reloc::Fixup;
+use pef_squares::{Line, MAX_CLASSES, Square};
 
 /// A state at a fixup, but for the registers.
 #[derive(Clone, Copy, Debug)]

@@ -9,12 +9,13 @@ ghost use Rattle.pef_plan.specs.Kept.Tables.{Agrees};
 ghost use Rattle.pef_reloc.specs.declared.fixup.Base.TheVariants.{Section};
 
 use crate::ends::RunEnds;
-use crate::known::{Known, Line, MAX_CLASSES};
+use crate::known::Known;
 use crate::place::{Choice, Here, Step};
 use crate::registers::class_of;
 use crate::rows::At;
 use crate::runs::Run;
 use pef_reloc::{Base, Instr};
+use pef_squares::{Line, MAX_CLASSES};
 
 impl<'a> Known<'a> {
     /// The least skips at a fixup, by the class of register C.

@@ -5,15 +5,17 @@ ghost use Rattle.pef_reloc.specs.Deliveries.{index_after, index_past};
 ghost use Rattle.pef_reloc.specs.Fixups.{fixups_fit};
 
 use crate::ends::RunEnds;
-use crate::known::{Known, Line, MAX_CLASSES, Square};
+use crate::known::Known;
 use crate::rows::At;
 use pef_reloc::{Base, Fixup};
+use pef_squares::{Line, MAX_CLASSES, Squares};
 use std::alloc::{AllocError, Global};
 
 /// Labels and least skips, by how many fixups are left.
 #[derive(Debug, Drop)]
 pub(crate) struct Tables {
-    pub(crate) labels: Vec<Square>,
+    /// Equal neighbours are kept once.
+    pub(crate) labels: Squares,
     pub(crate) skips: Vec<Line>,
 }
 
@@ -21,12 +23,12 @@ pub(crate) struct Tables {
 pub(crate) fn fill(alloc: Global, fixups: &[Fixup], registers: &[u32]) -> Result<Tables, AllocError>
     requires fit { fixups_fit fixups.now ≡ true }
     requires registers { RegistersOf fixups.now registers.now }
-    ensures { IfOk result (λ t. Tabled registers.now t.labels.items t.skips.items 0 fixups.now) }
+    ensures { IfOk result (λ t. Tabled registers.now t.labels t.skips.items 0 fixups.now) }
 {
     let indices = import_indices(alloc, fixups)?;
-    let mut labels = Vec::new(alloc);
+    let mut labels = Squares::new(alloc);
     let mut skips = Vec::new(alloc);
-    labels.push([[0; MAX_CLASSES]; MAX_CLASSES])?;
+    labels.push(&[[0; MAX_CLASSES]; MAX_CLASSES])?;
     skips.push([0; MAX_CLASSES])?;
     let mut ends = RunEnds::new(alloc, registers.len() + 1);
     let mut at = fixups.len();
@@ -41,7 +43,7 @@ pub(crate) fn fill(alloc: Global, fixups: &[Fixup], registers: &[u32]) -> Result
         ends.pass(known, state)?;
         let row = known.labels_at(state, &ends);
         let line = known.skips_at(state, &ends);
-        labels.push(row)?;
+        labels.push(&row)?;
         skips.push(line)?;
     }
     Ok(Tables { labels, skips })

@@ -1,7 +1,7 @@
 ghost use Rattle.std.specs.Prelude.{◌≡◌, ◌+◌, ◌-◌, ◌<◌, ◌≤◌, ◌⊎◌, ◌++◌, ◌∷◌, ℕ, [], List, OnOk, length, min, reverse, slice_index, take, vec_len};
 ghost use Rattle.pef_plan.specs.Kept.Windows.{BestOf, LesserOf, LowSquare, OlderOf, WindowOf};
 
-use crate::known::{Line, MAX_CLASSES, Square};
+use pef_squares::{Line, MAX_CLASSES, Square};
 use std::alloc::{AllocError, Global};
 
 /// The newest squares of numbers, up to so many, of which the least is at hand at each pair of classes.

@@ -1,5 +1,5 @@
 -- The ends of runs, as windows keep what lies behind them.
-use Rattle.std.specs.Prelude.{◌≡◌, ◌≤◌, ◌<◌, ◌⊎◌, ℕ, suc, ◌+◌, ◌*◌, List, [], ◌∷◌, ◌++◌, length, Option, None, Some}
+use Rattle.std.specs.Prelude.{◌≡◌, ◌<◌, ◌⊎◌, ℕ, suc, ◌+◌, ◌*◌, List, [], ◌∷◌, ◌++◌, length, Option, None, Some}
 use Rattle.pef_reloc.specs.declared.fixup.Base.{Base}
 use Rattle.pef_reloc.specs.declared.fixup.Base.TheVariants.{Section, Import}
 use Rattle.pef_reloc.specs.declared.fixup.Fixup.{Fixup}
@@ -15,7 +15,8 @@ use Rattle.pef_plan.specs.declared.ends.InTurn.{InTurn}
 use Rattle.pef_plan.specs.declared.ends.RunEnds.{RunEnds}
 use Rattle.pef_plan.specs.Kept.Places.{InPlace}
 use Rattle.pef_plan.specs.Kept.Runs.{imports, stride, unit, units}
-use Rattle.pef_plan.specs.Kept.Tables.{Agrees, number_in}
+use Rattle.pef_squares.specs.Squares.{number_in}
+use Rattle.pef_plan.specs.Kept.Tables.{Agrees}
 use Rattle.pef_plan.specs.Kept.Windows.{WindowOf}
 use Rattle.pef_plan.specs.Reached.{LeadsWithin}
 

@@ -1,7 +1,7 @@
 -- Labels laid in rows.
 use Rattle.std.specs.Prelude.{◌≡◌, ◌<◌, ℕ, ◌+◌, ◌-◌, ◌*◌, List, [], length, slice_index, slice_index_or}
 use Rattle.pef_cert.specs.Rows.{LaidRows}
-use Rattle.pef_plan.specs.Kept.Tables.{number_in}
+use Rattle.pef_squares.specs.Squares.{number_in}
 
 -- a row has the first lines of a square, one after the other
 pub record LinesLaid (classes lines : ℕ) (square : List (List ℕ)) (row : List ℕ) : Type 0 where

@@ -11,7 +11,8 @@ use Rattle.pef_cert.specs.Kept.Tests.{base_test}
 use Rattle.pef_plan.specs.declared.known.Known.{Known}
 use Rattle.pef_plan.specs.declared.rows.At.{At}
 use Rattle.pef_plan.specs.Kept.Places.{Counts}
-use Rattle.pef_plan.specs.Kept.Tables.{Agrees, Shaped, number_in}
+use Rattle.pef_squares.specs.Squares.{number_in}
+use Rattle.pef_plan.specs.Kept.Tables.{Agrees, Shaped}
 use Rattle.pef_plan.specs.Reached.{LeadsWithin}
 
 -- a fixup, with tables of all that lies behind it

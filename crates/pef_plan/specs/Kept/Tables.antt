@@ -1,5 +1,6 @@
 -- The tables of a plan: labels and least skips, by how many fixups are left.
 use Rattle.std.specs.Prelude.{◌≡◌, ◌≤◌, ◌<◌, ℕ, ◌+◌, ◌*◌, List, [], ◌∷◌, length, slice_index, slice_index_or, take}
+use Rattle.pef_squares.specs.Squares.{number_in}
 use Rattle.pef_reloc.specs.declared.fixup.Fixup.{Fixup}
 use Rattle.pef_reloc.specs.Deliveries.{index_after}
 use Rattle.pef_cert.specs.Labels.{Labels, classes}
@@ -7,10 +8,6 @@ use Rattle.pef_cert.specs.Feasible.{FeasibleFrom}
 use Rattle.pef_cert.specs.Kept.Claims.{OfferIs}
 use Rattle.pef_plan.specs.declared.known.Known.{Known}
 use Rattle.pef_plan.specs.Reached.{ReachedFrom}
-
--- the number of a class of C and a class of D in a square of lines
-abbrev pub number_in : List (List ℕ) → ℕ → ℕ → ℕ
-number_in square c d = slice_index (slice_index_or square c []) d
 
 -- the label in a table where so many fixups are left, and the least skip
 abbrev pub label_in : List (List (List ℕ)) → ℕ → ℕ → ℕ → ℕ

@@ -13,7 +13,7 @@ rows-requires c =
     let same = ap length c.deref.ensures.value in
     omega (arith, few, is, len, same)
 
-made : (c : goal.After-drop-tables-3) → PlanOf c.args.fixups.now c.in_ok-tables.tables.labels.items c.in_ok-tables.tables.skips.items c.in_ok-labels.labels c.new.result
+made : (c : goal.After-drop-tables-4) → PlanOf c.args.fixups.now c.in_ok-tables.tables.labels c.in_ok-tables.tables.skips.items c.in_ok-labels.labels c.new.result
 made c =
     let classes : c.len.result + 1 ≡ length c.in_ok-registers.registers.items + 1 =
     (let is = c.len.ensures in
@@ -21,18 +21,17 @@ made c =
     let same = ap length c.deref.ensures.value in
     omega (arith, is, len, same)) in
     let whole : Certified = record { section = c.args.section; program = c.in_ok-program.program.items; registers = c.in_ok-registers.registers.items; labels = c.in_ok-labels.labels.rows } in
-    subst (λ (x : Certified). PlanOf c.args.fixups.now c.in_ok-tables.tables.labels.items c.in_ok-tables.tables.skips.items c.in_ok-labels.labels x) {x = whole} (sym c.new.ensures) (record {
+    subst (λ (x : Certified). PlanOf c.args.fixups.now c.in_ok-tables.tables.labels c.in_ok-tables.tables.skips.items c.in_ok-labels.labels x) {x = whole} (sym c.new.ensures) (record {
       fit = c.requires.fit;
       registers = c.in_ok-registers.ensures;
-      tabled = subst (λ (xs : List ℕ). Tabled xs c.in_ok-tables.tables.labels.items c.in_ok-tables.tables.skips.items 0 c.args.fixups.now) c.deref.ensures.value c.in_ok-tables.ensures;
+      tabled = subst (λ (xs : List ℕ). Tabled xs c.in_ok-tables.tables.labels c.in_ok-tables.tables.skips.items 0 c.args.fixups.now) c.deref.ensures.value c.in_ok-tables.ensures;
       least = c.in_ok-program.ensures;
-      laid = subst (λ (n : ℕ). LaidLabels n c.in_ok-tables.tables.labels.items c.in_ok-labels.labels) classes
-          (subst (λ (ls : List (List (List ℕ))). LaidLabels (c.len.result + 1) ls c.in_ok-labels.labels) c.deref-5.ensures.value c.in_ok-labels.ensures);
+      laid = subst (λ (n : ℕ). LaidLabels n c.in_ok-tables.tables.labels c.in_ok-labels.labels) classes c.in_ok-labels.ensures;
       rows_are = refl;
     })
 
 pub returns-clause-valid : goal.returns-clause-valid
-returns-clause-valid c = plan_valid c.args.fixups.now c.in_ok-tables.tables.labels.items c.in_ok-tables.tables.skips.items c.in_ok-labels.labels c.new.result (made c)
+returns-clause-valid c = plan_valid c.args.fixups.now c.in_ok-tables.tables.labels c.in_ok-tables.tables.skips.items c.in_ok-labels.labels c.new.result (made c)
 
 pub returns-clause-exact : goal.returns-clause-exact
-returns-clause-exact c = plan_exact c.args.fixups.now c.in_ok-tables.tables.labels.items c.in_ok-tables.tables.skips.items c.in_ok-labels.labels c.new.result (made c)
+returns-clause-exact c = plan_exact c.args.fixups.now c.in_ok-tables.tables.labels c.in_ok-tables.tables.skips.items c.in_ok-labels.labels c.new.result (made c)

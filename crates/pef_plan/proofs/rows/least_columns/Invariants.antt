@@ -1,6 +1,6 @@
 use Rattle.std.proofs.Common.{◌≡◌, ◌<◌, ℕ, length, slice_index}
 use Rattle.pef_plan.specs.Kept.Rows.{LeastOf}
-use Rattle.pef_plan.specs.Kept.Tables.{number_in}
+use Rattle.pef_squares.specs.Squares.{number_in}
 use Rattle.pef_plan.proofs.rows.least_columns.Given as goal
 
 abbrev pub invariant-loop-d : goal.invariant-loop-d

@@ -1,5 +1,5 @@
 use Rattle.pef_plan.specs.Kept.Rows.{LeastOf}
-use Rattle.pef_plan.specs.Kept.Tables.{number_in}
+use Rattle.pef_squares.specs.Squares.{number_in}
 use Rattle.pef_plan.proofs.rows.least_in_column.Given as goal
 
 abbrev pub invariant-loop-c : goal.invariant-loop-c

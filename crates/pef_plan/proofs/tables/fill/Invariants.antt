@@ -10,6 +10,6 @@ decreases-fixups l = l.at
 abbrev pub invariant-fixups : goal.invariant-fixups
 invariant-fixups l = record {
   inside : l.at ≤ length l.fixups;
-  tabled : Tabled l.registers l.labels.items l.skips.items (index_after (take l.at l.fixups) 0) (drop l.at l.fixups);
-  ends : EndsOf (λ labels. SameLabels labels l.registers l.labels.items (length (drop l.at l.fixups))) (length l.registers + 1) (drop l.at l.fixups) l.ends;
+  tabled : Tabled l.registers l.labels l.skips.items (index_after (take l.at l.fixups) 0) (drop l.at l.fixups);
+  ends : EndsOf (λ labels. SameLabels labels l.registers l.labels (length (drop l.at l.fixups))) (length l.registers + 1) (drop l.at l.fixups) l.ends;
 }

@@ -1,4 +1,4 @@
-use Rattle.std.proofs.Common.{◌++◌, ◌∷◌, ◌≡◌, [], List, ℕ, subst, sym}
+use Rattle.std.proofs.Common.{◌++◌, ◌∷◌, [], List, ℕ, subst, sym}
 use Rattle.std.specs.Prelude.{reverse}
 use Rattle.pef_plan.specs.Kept.Windows.{LowSquare, OlderOf}
 use Rattle.pef_plan.proofs.WindowLemmas.{Aged, aged-next}

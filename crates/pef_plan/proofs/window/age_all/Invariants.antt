@@ -1,6 +1,5 @@
-use Rattle.std.proofs.Common.{◌≡◌, ◌++◌, List, ℕ, length}
+use Rattle.std.proofs.Common.{length}
 use Rattle.std.specs.Prelude.{reverse}
-use Rattle.pef_plan.specs.Kept.Windows.{OlderOf}
 use Rattle.pef_plan.proofs.WindowLemmas.{Aged}
 use Rattle.pef_plan.proofs.window.age_all.Given as goal
 

@@ -1,5 +1,5 @@
-use Rattle.std.proofs.Common.{◌≡◌, ◌<◌, ℕ, [], length, min}
-use Rattle.pef_plan.specs.Kept.Tables.{number_in}
+use Rattle.std.proofs.Common.{◌≡◌, ◌<◌, ℕ, length, min}
+use Rattle.pef_squares.specs.Squares.{number_in}
 use Rattle.pef_plan.proofs.window.lesser.Given as goal
 
 abbrev pub invariant-loop-c : goal.invariant-loop-c

@@ -1,4 +1,4 @@
-use Rattle.std.proofs.Common.{◌≡◌, ◌+◌, ◌∙◌, ℕ, ap, arith}
+use Rattle.std.proofs.Common.{◌≡◌, ◌+◌, ◌∙◌, ap, arith}
 use Rattle.std.proofs.lemmas.List.{length-set}
 use Rattle.pef_cert.specs.Extension.{extension}
 use Rattle.pef_cert.specs.Labels.{Labels}
@@ -16,10 +16,10 @@ loop-d-preserved c =
     let end = c.classes-d-end.ensures in
     let from = c.from-position.ensures in
     record {
-      len = length-set c.loop-d.line i c.value.result ∙ len;
-      are = line-set (λ d v. (labels : Labels) → Agrees labels a.self a.at.others.now → v ≡ extension labels a.at.others.now (a.at.first.offset + 4) a.c d) c.loop-d.line i c.value.result
+      len = length-set c.loop-d.line i c.value_in.result ∙ len;
+      are = line-set (λ d v. (labels : Labels) → Agrees labels a.self a.at.others.now → v ≡ extension labels a.at.others.now (a.at.first.offset + 4) a.c d) c.loop-d.line i c.value_in.result
           (omega (arith, len, few, under, end)) c.loop-d.invariant.are
-          (λ labels agrees. c.value.ensures.is labels agrees ∙ ap (λ n. extension labels a.at.others.now (n + 4) a.c i) from);
+          (λ labels agrees. c.value_in.ensures.is labels agrees ∙ ap (λ n. extension labels a.at.others.now (n + 4) a.c i) from);
     }
 
 pub returns : goal.returns

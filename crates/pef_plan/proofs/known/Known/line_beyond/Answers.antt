@@ -7,5 +7,5 @@ pub returns : goal.returns
 returns c = λ l agrees.
     let under = c.requires.d in
     let few = c.requires.at.shaped.few in
-    get_or-set_same (0 ∷ 0 ∷ 0 ∷ 0 ∷ 0 ∷ 0 ∷ 0 ∷ 0 ∷ 0 ∷ []) c.args.d c.value.result 0 (omega (arith, under, few))
-    ∙ (c.value.ensures.is l agrees ∙ ap (λ n. extension l c.args.at.others.now (n + 8) c.args.c c.args.d) c.from.ensures)
+    get_or-set_same (0 ∷ 0 ∷ 0 ∷ 0 ∷ 0 ∷ 0 ∷ 0 ∷ 0 ∷ 0 ∷ []) c.args.d c.value_in.result 0 (omega (arith, under, few))
+    ∙ (c.value_in.ensures.is l agrees ∙ ap (λ n. extension l c.args.at.others.now (n + 8) c.args.c c.args.d) c.from.ensures)

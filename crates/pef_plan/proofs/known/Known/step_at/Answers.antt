@@ -1,4 +1,5 @@
-use Rattle.std.proofs.Common.{arith}
+use Rattle.std.proofs.Common.{◌∙◌, ap, arith}
+use Rattle.pef_squares.specs.Squares.{number_in}
 use Rattle.pef_plan.specs.Kept.Steps.{labels_tabled}
 use Rattle.pef_plan.proofs.StepFacts.{agrees_others, best_falls, chosen_falls, extension_label}
 use Rattle.pef_plan.proofs.known.Known.step_at.Goals as goal
@@ -6,7 +7,7 @@ use Rattle.pef_plan.proofs.known.Known.step_at.Goals as goal
 pub returns-then-best-label : goal.returns-then-best-label
 returns-then-best-label c =
     let low = c.if-best-label.true in
-    let is = c.label-label.ensures in
+    let is = c.label_of-label.ensures ∙ ap (λ q. number_in q c.args.here.place.c c.args.here.place.d) c.row-row.ensures in
     chosen_falls c.args.self c.args.here c.direct-best.result c.requires.here c.requires.at c.direct-best.ensures.chosen (omega (arith, low, is))
 
 pub set_c-requires-clause-low : goal.set_c-requires-clause-low
@@ -14,9 +15,9 @@ set_c-requires-clause-low c =
     let p = c.args.here.place in
     let there = extension_label c.args.self c.args.here c.loop-class.class p.d c.requires.here c.requires.at in
     let mine = extension_label c.args.self c.args.here p.c p.d c.requires.here c.requires.at in
-    let low = c.if-label.true in
-    let one = c.label.ensures in
-    let two = c.label-label.ensures in
+    let low = c.if-label_of-label.true in
+    let one = c.label_of.ensures ∙ ap (λ q. number_in q c.loop-class.class p.d) c.row-row.ensures in
+    let two = c.label_of-label.ensures ∙ ap (λ q. number_in q p.c p.d) c.row-row.ensures in
     omega (arith, there, mine, low, one, two)
 
 pub set_d-requires-clause-low : goal.set_d-requires-clause-low
@@ -24,9 +25,9 @@ set_d-requires-clause-low c =
     let p = c.args.here.place in
     let there = extension_label c.args.self c.args.here p.c c.loop-class.class c.requires.here c.requires.at in
     let mine = extension_label c.args.self c.args.here p.c p.d c.requires.here c.requires.at in
-    let low = c.if-label-2.true in
-    let one = c.label-in-loop-class.ensures in
-    let two = c.label-label.ensures in
+    let low = c.if-label_of-label-2.true in
+    let one = c.label_of-in-loop-class.ensures ∙ ap (λ q. number_in q p.c c.loop-class.class) c.row-row.ensures in
+    let two = c.label_of-label.ensures ∙ ap (λ q. number_in q p.c p.d) c.row-row.ensures in
     omega (arith, there, mine, low, one, two)
 
 pub returns : goal.returns
@@ -35,9 +36,9 @@ returns c = λ s in_place.
     let h = c.args.here in
     let end = c.classes-class-end.ensures in
     let past = c.loop-class-test.false in
-    let is = c.label-label.ensures in
+    let is = c.label_of-label.ensures ∙ ap (λ q. number_in q c.args.here.place.c c.args.here.place.d) c.row-row.ensures in
     let met = c.direct-best.ensures.least (labels_tabled k) c.direct-best.result.value (agrees_others k h c.requires.here) (omega arith) in
-    let low = best_falls k h s c.direct-best.result.value c.label-label.result c.requires.here c.requires.at in_place met is
+    let low = best_falls k h s c.direct-best.result.value c.label_of-label.result c.requires.here c.requires.at in_place met is
     (λ e under. c.loop-class.invariant.by_c e (omega (arith, under, end, past)))
     (λ e under. c.loop-class.invariant.by_d e (omega (arith, under, end, past))) in
     chosen_falls k h c.direct-best.result c.requires.here c.requires.at c.direct-best.ensures.chosen (omega (arith, low, is)) s in_place
