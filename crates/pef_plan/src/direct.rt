@@ -76,7 +76,11 @@ impl<'a> Known<'a> {
         let next = here.behind(here.place.import_index);
         let value = 1 + self.value_behind(here);
         let step = Step { instr, next };
-        Choice { step, value }
+        Choice {
+            step,
+            value,
+            looks: 1,
+        }
     }
 
     /// The extension behind the first fixup.
@@ -200,11 +204,19 @@ impl<'a> Known<'a> {
             let instr = Instr::SmByImport(import);
             let value = 1 + behind;
             let step = Step { instr, next };
-            return Choice { step, value };
+            return Choice {
+                step,
+                value,
+                looks: 1,
+            };
         }
         let instr = Instr::LgByImport(import);
         let value = 2 + behind;
         let step = Step { instr, next };
-        Choice { step, value }
+        Choice {
+            step,
+            value,
+            looks: 1,
+        }
     }
 }

@@ -1,4 +1,4 @@
-ghost use Rattle.std.specs.Prelude.{◌≡◌, ◌+◌, ◌^◌, ◌<◌, ◌≤◌, ◌∷◌, [], ℕ, List, OnOk, length, slice_index, slice_index_or};
+ghost use Rattle.std.specs.Prelude.{◌≡◌, ◌+◌, ◌*◌, ◌^◌, ◌<◌, ◌≤◌, ◌∷◌, [], ℕ, IfOk, List, OnOk, length, slice_index, slice_index_or};
 ghost use Rattle.pef_cert.specs.Extension.{extension};
 ghost use Rattle.pef_cert.specs.Labels.{Labels};
 ghost use Rattle.pef_plan.specs.Kept.Ends.{Brought, BroughtMaybe, EndsAt, EndsOf, FarAt, NearKept, far_pairs_of, number_of, pairs_of, sections_of, words_of};
@@ -19,6 +19,14 @@ use pef_squares::{Line, MAX_CLASSES, Square};
 use std::alloc::{AllocError, Global};
 use std::mem;
 
+/// How often a square is looked at that is made: once as it is made, and once more for the instruction that
+/// adds one word.
+const MADE: u64 = 2;
+
+/// How often a window looks at a square that it takes: once as it comes, and at most once more as it grows
+/// old.
+const TAKEN: u64 = 2;
+
 /// What lies behind the ends of the runs that begin at a fixup: for each kind of run a window, which
 /// follows as the tables are filled from the last fixup back.
 #[derive(Debug, Drop)]
@@ -37,6 +45,8 @@ pub(crate) struct RunEnds {
     pub(crate) near: Square,
     /// What lies a word further on, where register D holds the fixup's section.
     pub(crate) far: Square,
+    /// How many values behind ends of runs were looked at.
+    pub(crate) looks: u64,
 }
 
 /// Two windows of runs that go on at each second fixup.
@@ -62,6 +72,7 @@ impl RunEnds {
             far_pairs: InTurn::new(alloc, classes),
             near: [[0; MAX_CLASSES]; MAX_CLASSES],
             far: [[0; MAX_CLASSES]; MAX_CLASSES],
+            looks: 0,
         }
     }
 
@@ -72,16 +83,19 @@ impl RunEnds {
         ensures { OnOk result (EndsAt known.entry at.entry.others.now (at.entry.first ∷ at.entry.others.now) self.new) }
     {
         let start = at.start();
-        self.pairs.pass(pairs_at(at), start, &self.near)?;
-        self.far_pairs.pass(far_pairs_at(at), start, &self.far)?;
+        let pairs = self.pairs.pass(pairs_at(at), start, &self.near)?;
+        let far_pairs = self.far_pairs.pass(far_pairs_at(at), start, &self.far)?;
         self.near = known.square_behind(at);
-        self.words
-            .bring(words_at(at.first.base), start, &self.near)?;
+        let words = bring(&mut self.words, words_at(at.first.base), start, &self.near)?;
+        let looks = known.looks_at(pairs + far_pairs + words + MADE);
+        self.looks = self.looks.saturating_add(looks);
         match at.first.base {
             Base::Section(section) => {
                 self.far = known.square_beyond(at, section);
-                self.skips.bring(Run::WordsOfD(section), start, &self.near)?;
-                self.spaced.bring(Run::Spaced(section), start, &self.far)?;
+                let skips = bring(&mut self.skips, Run::WordsOfD(section), start, &self.near)?;
+                let spaced = bring(&mut self.spaced, Run::Spaced(section), start, &self.far)?;
+                let looks = known.looks_at(skips + spaced + MADE);
+                self.looks = self.looks.saturating_add(looks);
                 Ok(())
             }
             Base::Import(_) => Ok(()),
@@ -107,50 +121,53 @@ impl InTurn {
         run: Option<Run>,
         start: Place<'_>,
         square: &Square,
-    ) -> Result<(), AllocError>
+    ) -> Result<u64, AllocError>
         requires here { self.old.here.classes ≤ 9 }
         requires next { self.old.next.classes ≤ 9 }
         requires position { start.position ≤ 2 ^ 24 }
         requires import_index { start.import_index ≤ 65536 }
         ensures next { OnOk result (self.new.next ≡ self.old.here) }
         ensures here { OnOk result ((classes limit : ℕ) (squares : List (List (List ℕ))) → WindowOf classes limit squares self.old.next → BroughtMaybe run classes limit start.entry.left.now start.entry.position start.entry.import_index squares square.now self.new.here) }
+        ensures looks { IfOk result (λ looks. looks ≤ 2) }
     {
         mem::swap(&mut self.here, &mut self.next);
         match run {
-            Some(run) => {
-                self.here.bring(run, start, square)?;
-                Ok(())
-            }
-            None => Ok(()),
+            Some(run) => bring(&mut self.here, run, start, square),
+            None => Ok(0),
         }
     }
 }
 
-impl Window {
-    /// Goes on to a place where a run may begin, with what lies behind its first unit.
-    fn bring(&mut self, run: Run, start: Place<'_>, square: &Square) -> Result<(), AllocError>
-        requires few { self.old.classes ≤ 9 }
-        requires position { start.position ≤ 2 ^ 24 }
-        requires import_index { start.import_index ≤ 65536 }
-        ensures { OnOk result ((classes limit : ℕ) (squares : List (List (List ℕ))) → WindowOf classes limit squares self.old → Brought run classes limit start.entry.left.now start.entry.position start.entry.import_index squares square.now self.new) }
-    {
-        let next = match run.next(start) {
-            Some(next) => next,
-            None => {
-                self.clear();
-                return Ok(());
-            }
-        };
-        match run.next(next) {
-            Some(_) => {
-                self.add(square)?;
-                Ok(())
-            }
-            None => {
-                self.clear();
-                self.add(square)?;
-                Ok(())
-            }
+/// Brings a window to a place where a run may begin, with what lies behind its first unit. Gives how often
+/// it looks at a square.
+fn bring(
+    window: &mut Window,
+    run: Run,
+    start: Place<'_>,
+    square: &Square,
+) -> Result<u64, AllocError>
+    requires few { window.old.classes ≤ 9 }
+    requires position { start.position ≤ 2 ^ 24 }
+    requires import_index { start.import_index ≤ 65536 }
+    ensures brought { OnOk result ((classes limit : ℕ) (squares : List (List (List ℕ))) → WindowOf classes limit squares window.old → Brought run classes limit start.entry.left.now start.entry.position start.entry.import_index squares square.now window.new) }
+    ensures looks { IfOk result (λ looks. looks ≤ 2) }
+{
+    let next = match run.next(start) {
+        Some(next) => next,
+        None => {
+            window.clear();
+            return Ok(0);
+        }
+    };
+    match run.next(next) {
+        Some(_) => {
+            window.add(square)?;
+            Ok(TAKEN)
+        }
+        None => {
+            window.clear();
+            window.add(square)?;
+            Ok(TAKEN)
         }
     }
 }
@@ -231,6 +248,16 @@ fn second_section(first: u32, others: &[Fixup]) -> Option<(u32, u32)>
 }
 
 impl<'a> Known<'a> {
+    /// How many looks so many looks at a square are, each one at every pair of classes.
+    fn looks_at(self, squares: u64) -> u64
+        requires few { length self.registers.now ≤ 8 }
+        requires squares { squares ≤ 16 }
+        ensures { result ≡ squares * ((length self.entry.registers.now + 1) * (length self.entry.registers.now + 1)) }
+    {
+        let classes = self.classes() as u64;
+        squares * (classes * classes)
+    }
+
     /// The extension right behind a fixup.
     fn square_behind(self, at: At<'a>) -> Square
         requires { AtOf self at }

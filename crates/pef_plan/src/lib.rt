@@ -5,6 +5,8 @@ mod direct;
 mod ends;
 mod fault;
 mod known;
+#[cfg(test)]
+mod looks;
 mod lows;
 mod moves;
 mod place;

@@ -31,4 +31,13 @@ pub(crate) struct Step<'a> {
 pub(crate) struct Choice<'a> {
     pub(crate) step: Step<'a>,
     pub(crate) value: u64,
+    /// How many values behind ends of runs were looked at.
+    pub(crate) looks: u64,
+}
+
+/// A step, and how many values behind ends of runs were looked at to find it.
+#[derive(Clone, Copy, Debug)]
+pub(crate) struct Found<'a> {
+    pub(crate) step: Step<'a>,
+    pub(crate) looks: u64,
 }

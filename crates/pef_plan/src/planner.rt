@@ -27,6 +27,21 @@ pub fn plan(alloc: Global, section: u32, fixups: &[Fixup]) -> Result<Certificate
     ensures exact { IfOk result (λ certificate. Exact (labels_of certificate (length fixups.now)) fixups.now) }
     ensures fault { IfErr result (λ fault. fault ≡ OutOfMemory) }
 {
+    let (certificate, _) = counted_plan(alloc, section, fixups)?;
+    Ok(certificate)
+}
+
+/// A plan, and how many looks it took: how often the value at a possible end of a run was read.
+pub(crate) fn counted_plan(
+    alloc: Global,
+    section: u32,
+    fixups: &[Fixup],
+) -> Result<(Certificate, u64), AllocError>
+    requires fit { fixups_fit fixups.now ≡ true }
+    ensures section { IfOk result (λ counted. counted.0.section ≡ section) }
+    ensures valid { IfOk result (λ counted. Valid fixups.now counted.0) }
+    ensures exact { IfOk result (λ counted. Exact (labels_of counted.0 (length fixups.now)) fixups.now) }
+{
     let registers = registers_of(alloc, fixups)?;
     let tables = fill(alloc, fixups, &registers)?;
     let known = Known {
@@ -34,9 +49,10 @@ pub fn plan(alloc: Global, section: u32, fixups: &[Fixup]) -> Result<Certificate
         labels: &tables.labels,
         skips: &tables.skips,
     };
-    let program = known.program(alloc, fixups)?;
+    let (program, looks) = known.program(alloc, fixups)?;
     let labels = rows(alloc, &tables.labels, registers.len() + 1)?;
-    Ok(Certificate::new(section, program, registers, labels))
+    let looks = tables.looks.saturating_add(looks);
+    Ok((Certificate::new(section, program, registers, labels), looks))
 }
 
 /// Labels in rows, those of the most fixups left first.

@@ -6,24 +6,26 @@ ghost use Rattle.pef_reloc.specs.Fixups.{fixups_fit};
 ghost use Rattle.pef_reloc.specs.Steps.{Least};
 
 use crate::known::Known;
-use crate::place::{Here, Place, Step};
+use crate::place::{Found, Here, Place};
 use crate::registers::class_of;
 use pef_reloc::{Fixup, Instr};
 use std::alloc::{AllocError, Global};
 
 impl<'a> Known<'a> {
-    /// A program of the fewest halfwords that makes fixups, read off their tables.
+    /// A program of the fewest halfwords that makes fixups, read off their tables, and how many values
+    /// behind ends of runs were looked at.
     pub(crate) fn program(
         self,
         alloc: Global,
         fixups: &'a [Fixup],
-    ) -> Result<Vec<Instr>, AllocError>
+    ) -> Result<(Vec<Instr>, u64), AllocError>
         requires fit { fixups_fit fixups.now ≡ true }
         requires registers { RegistersOf fixups.now self.registers.now }
         requires tabled { Tabled self.registers.now self.labels.now self.skips.now 0 fixups.now }
-        ensures { IfOk result (λ program. Least fixups.entry.now program.items) }
+        ensures { IfOk result (λ read. Least fixups.entry.now read.0.items) }
     {
         let mut program = Vec::new(alloc);
+        let mut looks: u64 = 0;
         let mut place = Place {
             left: fixups,
             position: 0,
@@ -33,21 +35,22 @@ impl<'a> Known<'a> {
         };
         'steps: while let Some((first, others)) = place.left.split_first() {
             let first = *first;
-            let step = self.step(Here {
+            let found = self.step(Here {
                 place,
                 first,
                 others,
             });
-            program.push(step.instr)?;
-            place = step.next;
+            looks = looks.saturating_add(found.looks);
+            program.push(found.step.instr)?;
+            place = found.step.next;
         }
-        Ok(program)
+        Ok((program, looks))
     }
 
     /// An instruction that leads on.
-    fn step(self, here: Here<'a>) -> Step<'a>
+    fn step(self, here: Here<'a>) -> Found<'a>
         requires { TrackedHere self here }
-        ensures { FallsOn self.entry here.entry.place result }
+        ensures { FallsOn self.entry here.entry.place result.step }
     {
         if here.place.position == u64::from(here.first.offset) {
             self.step_at(here)

@@ -93,6 +93,10 @@ impl<'a> Known<'a> {
         let next = here.behind(here.place.import_index);
         let value = 1 + self.value_behind(here);
         let step = Step { instr, next };
-        Choice { step, value }
+        Choice {
+            step,
+            value,
+            looks: 1,
+        }
     }
 }

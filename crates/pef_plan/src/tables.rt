@@ -17,6 +17,8 @@ pub(crate) struct Tables {
     /// Equal neighbours are kept once.
     pub(crate) labels: Squares,
     pub(crate) skips: Vec<Line>,
+    /// How many values behind ends of runs were looked at.
+    pub(crate) looks: u64,
 }
 
 /// Fills the tables from the last fixup to the first.
@@ -46,7 +48,11 @@ pub(crate) fn fill(alloc: Global, fixups: &[Fixup], registers: &[u32]) -> Result
         labels.push(&row)?;
         skips.push(line)?;
     }
-    Ok(Tables { labels, skips })
+    Ok(Tables {
+        labels,
+        skips,
+        looks: ends.looks,
+    })
 }
 
 /// The state at the fixup of an index, with the index of the next import.

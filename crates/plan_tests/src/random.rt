@@ -1,10 +1,11 @@
 ghost use Rattle.std.specs.Prelude.{◌<◌};
 
 use crate::lists::{S1, planned};
-use crate::reference::{number_at, plain_labels};
+use crate::reference::{counted_labels, number_at, plain_labels};
 use pef_cert::check;
 use pef_reloc::{Base, Fixup};
 use std::alloc::Global;
+use std::cell::Cell;
 use std::process::Abort;
 use std::test::Fail;
 
@@ -48,7 +49,7 @@ impl Random {
     }
 }
 
-/// Fixups in runs of all kinds, broken at the limits of instructions.
+/// Fixups in runs of all kinds, broken at the limits of instructions, and short runs of two sections in turn.
 fn random_list(alloc: Global, random: &mut Random) -> Result<Vec<Fixup>, Fail> {
     let mut fixups = Vec::new(alloc);
     let mut offset = random.one_of(&GAPS);
@@ -57,13 +58,14 @@ fn random_list(alloc: Global, random: &mut Random) -> Result<Vec<Fixup>, Fail> {
         if fixups.len() >= ENOUGH {
             return Ok(fixups);
         }
-        let kind = random.below(5);
+        let kind = random.below(6);
         let first = random.below(sections);
         let second = random.below(sections);
         for i in 0..random.one_of(&LENGTHS) {
             let base = match kind {
                 0 | 1 => Base::Section(first),
                 2 => Base::Import(first.wrapping_add(i)),
+                5 => Base::Section(if i / 3 % 2 == 0 { first } else { second }),
                 _ => Base::Section(if i % 2 == 0 { first } else { second }),
             };
             fixups.push(Fixup { offset, base })?;
@@ -123,6 +125,17 @@ fn in_a_row(alloc: Global, count: u32, step: u32, other: Base) -> Result<Vec<Fix
         })?;
     }
     Ok(fixups)
+}
+
+#[test]
+fn plain_method_looks_more_often(rt: HostRuntime) -> Result<(), Fail> {
+    let alloc = rt.alloc();
+    let fixups = in_a_row(alloc, 16_384, 4, S1)?;
+    let looks = Cell::new(0);
+    let labels = counted_labels(alloc, &fixups, &[1], &looks)?;
+    assert_eq!(rt; labels.len(), 65_540);
+    assert!(rt; looks.get() > 128 * 65_540);
+    Ok(())
 }
 
 #[test]

@@ -1,10 +1,22 @@
 //! Labels by the plain method: each end of each run is tried.
 use pef_reloc::{Base, Fixup};
 use std::alloc::Global;
+use std::cell::Cell;
 use std::test::Fail;
 
 /// The labels of fixups, row by row, where none is left to where all are.
 pub fn plain_labels(alloc: Global, fixups: &[Fixup], registers: &[u32]) -> Result<Vec<u32>, Fail> {
+    let looks = Cell::new(0);
+    counted_labels(alloc, fixups, registers, &looks)
+}
+
+/// The same, with a count of the looks: how often the value behind an end of a run is read.
+pub fn counted_labels(
+    alloc: Global,
+    fixups: &[Fixup],
+    registers: &[u32],
+    looks: &Cell<u64>,
+) -> Result<Vec<u32>, Fail> {
     let classes = registers.len().wrapping_add(1);
     let mut labels = Vec::new(alloc);
     let mut skips = Vec::new(alloc);
@@ -21,6 +33,7 @@ pub fn plain_labels(alloc: Global, fixups: &[Fixup], registers: &[u32]) -> Resul
             classes,
             labels: &labels,
             skips: &skips,
+            looks,
         };
         let at = fixups.len() - left - 1;
         let row = plain.row(alloc, at)?;
@@ -64,6 +77,7 @@ struct Plain<'a> {
     classes: usize,
     labels: &'a [u32],
     skips: &'a [u32],
+    looks: &'a Cell<u64>,
 }
 
 /// A run from a fixup on, and the classes that the registers stay in.
@@ -186,7 +200,7 @@ impl<'a> Plain<'a> {
 
     fn direct_import(self, at: usize, import: u32, c: usize, d: usize) -> u32 {
         let position = self.offset_at(at).wrapping_add(4);
-        let behind = self.value(at.wrapping_add(1), position, c, d);
+        let behind = self.look(at.wrapping_add(1), position, c, d);
         let one = behind.saturating_add(if import < 512 { 1 } else { 2 });
         if self.next_import(at) == import {
             one.min(self.best_of_imports(at, import, c, d))
@@ -212,7 +226,7 @@ impl<'a> Plain<'a> {
                 next = next.wrapping_add(1);
             }
             position = position.wrapping_add(run.stride);
-            best = best.min(self.value(next, position, run.c, run.d).saturating_add(1));
+            best = best.min(self.look(next, position, run.c, run.d).saturating_add(1));
         }
         best
     }
@@ -229,9 +243,15 @@ impl<'a> Plain<'a> {
             next = next.wrapping_add(1);
             position = position.wrapping_add(4);
             number = number.wrapping_add(1);
-            best = best.min(self.value(next, position, c, d).saturating_add(1));
+            best = best.min(self.look(next, position, c, d).saturating_add(1));
         }
         best
+    }
+
+    /// The value behind an end of a run.
+    fn look(self, at: usize, position: u64, c: usize, d: usize) -> u32 {
+        self.looks.set(self.looks.get().wrapping_add(1));
+        self.value(at, position, c, d)
     }
 
     /// The extension where the fixups from an index on are left.

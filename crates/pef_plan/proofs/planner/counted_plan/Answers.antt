@@ -3,7 +3,7 @@ use Rattle.pef_cert.specs.Valid.{Certified}
 use Rattle.pef_plan.specs.Kept.Laid.{LaidLabels}
 use Rattle.pef_plan.specs.Kept.Tables.{Tabled}
 use Rattle.pef_plan.proofs.PlanFacts.{PlanOf, few_classes, plan_exact, plan_valid}
-use Rattle.pef_plan.proofs.planner.plan.Goals as goal
+use Rattle.pef_plan.proofs.planner.counted_plan.Goals as goal
 
 pub rows-requires : goal.rows-requires
 rows-requires c =
