@@ -12,13 +12,13 @@ use Rattle.pef_plan.specs.declared.place.Here.{Here}
 use Rattle.pef_plan.specs.declared.place.Choice.{Choice}
 use Rattle.pef_plan.specs.declared.runs.Run.{Run}
 use Rattle.pef_plan.specs.declared.runs.Run.TheVariants.{WordsOfC, WordsOfD, Spaced, Pairs, SpacedPairs, Skip}
-use Rattle.pef_plan.specs.declared.window.Window.{Window}
+use Rattle.pef_squares.specs.declared.window.Window.{Window}
 use Rattle.pef_plan.specs.Kept.Ends.{Brought, EndAmong, EndRows, Led}
 use Rattle.pef_plan.specs.Kept.Places.{Chosen, InPlace}
 use Rattle.pef_plan.specs.Kept.Runs.{EndsFrom, Next, RunOf, imports, limit, run_instr, stride, unit, units}
 use Rattle.pef_squares.specs.Squares.{number_in}
 use Rattle.pef_plan.specs.Kept.Tables.{Agrees}
-use Rattle.pef_plan.specs.Kept.Windows.{AtMostEach, BestOf, IsOne, WindowOf}
+use Rattle.pef_squares.specs.Kept.Windows.{AtMostEach, BestOf, IsOne, WindowOf}
 use Rattle.pef_plan.specs.Reached.{LeadsWithin}
 use Rattle.pef_plan.proofs.RowLemmas.{extension-there}
 use Rattle.pef_plan.proofs.RunFacts.{no_ends, run-adds, run-flat, run-next, run-one, units-more, units-none, units_c, units_d, units_far, units_pairs, units_skip, units_spaced}

@@ -11,7 +11,7 @@ use Rattle.pef_cert.specs.Labels.{Labels, class_of, classes}
 use Rattle.pef_cert.specs.Extension.{extension}
 use Rattle.pef_plan.specs.declared.runs.Run.{Run}
 use Rattle.pef_plan.specs.declared.runs.Run.TheVariants.{WordsOfD, Spaced, Pairs, SpacedPairs, Imports}
-use Rattle.pef_plan.specs.declared.window.Window.{Window}
+use Rattle.pef_squares.specs.declared.window.Window.{Window}
 use Rattle.pef_plan.specs.declared.ends.InTurn.{InTurn}
 use Rattle.pef_plan.specs.declared.ends.RunEnds.{RunEnds}
 use Rattle.pef_plan.specs.declared.known.Known.{Known}
@@ -20,7 +20,7 @@ use Rattle.pef_plan.specs.declared.rows.At.{At}
 use Rattle.pef_plan.specs.Kept.Ends.{Brought, BroughtMaybe, EndRows, EndsAt, EndsOf, FarAt, FarKept, FarPairsAt, FarPairsKept, Holding, HoldingTwo, NearKept, PairsAt, PairsKept, SkipsAt, SkipsKept, SpacedAt, SpacedKept, WordsAt, WordsKept, far_pairs_of, number_of, pairs_of, rest_of, second_of, sections_of, words_of}
 use Rattle.pef_plan.specs.Kept.Rows.{AtOf}
 use Rattle.pef_plan.specs.Kept.Tables.{Agrees}
-use Rattle.pef_plan.specs.Kept.Windows.{WindowOf}
+use Rattle.pef_squares.specs.Kept.Windows.{WindowOf}
 
 -- what a call that brings a window to a place says of it
 abbrev pub Brings : Run → Place → List (List ℕ) → Window → Window → Type 0

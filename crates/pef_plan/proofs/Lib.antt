@@ -18,5 +18,4 @@ mod RunFacts
 mod RunTests
 mod SkipFacts
 mod StepFacts
-mod WindowLemmas
 mod WordByWord

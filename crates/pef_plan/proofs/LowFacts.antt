@@ -11,19 +11,19 @@ use Rattle.pef_plan.specs.declared.runs.Run.{Run}
 use Rattle.pef_plan.specs.declared.runs.Run.TheVariants.{WordsOfC, WordsOfD, Spaced, Pairs, SpacedPairs, Imports, Skip}
 use Rattle.pef_plan.specs.declared.rows.At.{At}
 use Rattle.pef_plan.specs.declared.ends.RunEnds.{RunEnds}
-use Rattle.pef_plan.specs.declared.window.Window.{Window}
+use Rattle.pef_squares.specs.declared.window.Window.{Window}
 use Rattle.pef_plan.specs.Kept.Ends.{EndAmong, EndRows, EndsAt, FarPairsAt, FarPairsKept, Holding, Led, NextBase, PairsAt, PairsKept, SkipsAt, SkipsKept, SpacedAt, SpacedKept, WordsAt, WordsKept}
 use Rattle.pef_plan.specs.Kept.Places.{Counts, HereOf}
 use Rattle.pef_plan.specs.Kept.Rows.{AtOf, DirectIs}
 use Rattle.pef_plan.specs.Kept.Runs.{EndsFrom, Holds, RunOf, limit, stride, units}
 use Rattle.pef_plan.specs.Kept.Tables.{Agrees}
-use Rattle.pef_plan.specs.Kept.Windows.{BestOf, WindowOf}
+use Rattle.pef_squares.specs.Kept.Windows.{BestOf, WindowOf}
 use Rattle.pef_plan.specs.Reached.{LeadsWithin}
 use Rattle.pef_cert.specs.Kept.Tests.{base_test}
 use Rattle.pef_plan.proofs.EndLemmas.{as_c, as_d, as_far, as_pairs, as_skip, as_spaced, best-led, best_end, best_ends, end_as, ends_as}
 use Rattle.pef_plan.proofs.RowLemmas.{With}
 use Rattle.pef_plan.proofs.SkipFacts.{best_skip-is}
-use Rattle.pef_plan.proofs.WindowLemmas.{each-lower}
+use Rattle.pef_squares.proofs.Laws.{each-lower}
 
 -- a value is the better of a first one and of the ends of a run at a fixup
 pub record RunBest (k : Known) (h : Here) (r : Run) (first value : ℕ) : Type 0 where

@@ -5,4 +5,3 @@ pub mod Rows
 pub mod Runs
 pub mod Steps
 pub mod Tables
-pub mod Windows

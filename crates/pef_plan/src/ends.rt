@@ -4,7 +4,7 @@ ghost use Rattle.pef_cert.specs.Labels.{Labels};
 ghost use Rattle.pef_plan.specs.Kept.Ends.{Brought, BroughtMaybe, EndsAt, EndsOf, FarAt, NearKept, far_pairs_of, number_of, pairs_of, sections_of, words_of};
 ghost use Rattle.pef_plan.specs.Kept.Rows.{AtOf};
 ghost use Rattle.pef_plan.specs.Kept.Tables.{Agrees};
-ghost use Rattle.pef_plan.specs.Kept.Windows.{WindowOf};
+ghost use Rattle.pef_squares.specs.Kept.Windows.{WindowOf};
 ghost use Rattle.pef_reloc.specs.declared.fixup.Base.TheVariants.{Section};
 
 use crate::known::Known;
@@ -13,9 +13,8 @@ use crate::registers::class_of;
 use crate::rows::At;
 use crate::runs::{MAX_RUN, MAX_SKIP_RUN, Run};
 use crate::values::WORD;
-use crate::window::Window;
 use pef_reloc::{Base, Fixup};
-use pef_squares::{Line, MAX_CLASSES, Square};
+use pef_squares::{Line, MAX_CLASSES, Square, Window};
 use std::alloc::{AllocError, Global};
 use std::mem;
 

@@ -20,7 +20,6 @@ mod skips;
 mod tables;
 mod theorems;
 mod values;
-mod window;
 
 pub use fault::PlanFault;
 pub use planner::plan;

@@ -1,1 +1,2 @@
 pub mod SquaresKept
+pub mod Windows

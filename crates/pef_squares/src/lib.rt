@@ -3,6 +3,8 @@
 
 mod square;
 mod squares;
+mod window;
 
 pub use square::{Line, MAX_CLASSES, Square};
 pub use squares::Squares;
+pub use window::Window;

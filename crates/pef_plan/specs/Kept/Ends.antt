@@ -10,14 +10,14 @@ use Rattle.pef_plan.specs.declared.known.Known.{Known}
 use Rattle.pef_plan.specs.declared.place.Here.{Here}
 use Rattle.pef_plan.specs.declared.runs.Run.{Run}
 use Rattle.pef_plan.specs.declared.runs.Run.TheVariants.{WordsOfD, Spaced, Pairs, SpacedPairs, Imports}
-use Rattle.pef_plan.specs.declared.window.Window.{Window}
+use Rattle.pef_squares.specs.declared.window.Window.{Window}
 use Rattle.pef_plan.specs.declared.ends.InTurn.{InTurn}
 use Rattle.pef_plan.specs.declared.ends.RunEnds.{RunEnds}
 use Rattle.pef_plan.specs.Kept.Places.{InPlace}
 use Rattle.pef_plan.specs.Kept.Runs.{imports, stride, unit, units}
 use Rattle.pef_squares.specs.Squares.{number_in}
 use Rattle.pef_plan.specs.Kept.Tables.{Agrees}
-use Rattle.pef_plan.specs.Kept.Windows.{WindowOf}
+use Rattle.pef_squares.specs.Kept.Windows.{WindowOf}
 use Rattle.pef_plan.specs.Reached.{LeadsWithin}
 
 -- squares have the extension behind each end of a run, of up to so many units, the shortest first, at a

@@ -1,7 +1,7 @@
 ghost use Rattle.std.specs.Prelude.{◌≡◌, ◌+◌, ◌-◌, ◌<◌, ◌≤◌, ◌⊎◌, ◌++◌, ◌∷◌, ℕ, [], List, OnOk, length, min, reverse, slice_index, take, vec_len};
-ghost use Rattle.pef_plan.specs.Kept.Windows.{BestOf, LesserOf, LowSquare, OlderOf, WindowOf};
+ghost use Rattle.pef_squares.specs.Kept.Windows.{BestOf, LesserOf, LowSquare, OlderOf, WindowOf};
 
-use pef_squares::{Line, MAX_CLASSES, Square};
+use crate::square::{Line, MAX_CLASSES, Square};
 use std::alloc::{AllocError, Global};
 
 /// The newest squares of numbers, up to so many, of which the least is at hand at each pair of classes.
@@ -10,7 +10,7 @@ use std::alloc::{AllocError, Global};
 /// the least of it and of those between it and the newer ones: so the oldest can go, and what is kept for
 /// the others stays right.
 #[derive(Debug, Drop)]
-pub(crate) struct Window {
+pub struct Window {
     classes: usize,
     limit: usize,
     /// What is kept for the older squares, the oldest last.
@@ -23,7 +23,7 @@ pub(crate) struct Window {
 
 impl Window {
     /// A window of no squares, which can have up to so many.
-    pub(crate) fn new(alloc: Global, classes: usize, limit: usize) -> Window
+    pub fn new(alloc: Global, classes: usize, limit: usize) -> Window
         requires few { classes ≤ 9 }
         requires some { 0 < limit }
         ensures { WindowOf classes limit [] result }
@@ -38,7 +38,7 @@ impl Window {
     }
 
     /// Lets all squares go.
-    pub(crate) fn clear(&mut self)
+    pub fn clear(&mut self)
         ensures few { self.new.classes ≡ self.old.classes }
         ensures gone { (classes limit : ℕ) (squares : List (List (List ℕ))) → WindowOf classes limit squares self.old → WindowOf classes limit [] self.new }
     {
@@ -47,7 +47,11 @@ impl Window {
     }
 
     /// Takes one more square in, and lets the oldest go where there are too many.
-    pub(crate) fn add(&mut self, square: &Square) -> Result<(), AllocError>
+    ///
+    /// # Errors
+    ///
+    /// There is no memory for the square. Nothing is known of the window then.
+    pub fn add(&mut self, square: &Square) -> Result<(), AllocError>
         requires few { self.old.classes ≤ 9 }
         ensures { OnOk result ((classes limit : ℕ) (squares : List (List (List ℕ))) → WindowOf classes limit squares self.old → WindowOf classes limit (square.now ∷ take (limit - 1) squares) self.new) }
     {
@@ -97,7 +101,7 @@ impl Window {
     }
 
     /// The least of a number and of 1 more than each of the squares at a pair of classes.
-    pub(crate) fn best(&self, first: u64, c: usize, d: usize) -> u64
+    pub fn best(&self, first: u64, c: usize, d: usize) -> u64
         requires c { c < 9 }
         requires d { d < 9 }
         ensures { (classes limit : ℕ) (squares : List (List (List ℕ))) → WindowOf classes limit squares self.now → c < classes → d < classes → BestOf first squares c d result }

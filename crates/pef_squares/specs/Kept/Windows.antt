@@ -1,6 +1,6 @@
 -- Windows of squares of numbers, and the least of the squares.
 use Rattle.std.specs.Prelude.{◌≡◌, ◌≤◌, ◌<◌, ◌⊎◌, ℕ, ◌+◌, min, List, [], ◌∷◌, ◌++◌, length, reverse, slice_index_or, take}
-use Rattle.pef_plan.specs.declared.window.Window.{Window}
+use Rattle.pef_squares.specs.declared.window.Window.{Window}
 use Rattle.pef_squares.specs.Squares.{number_in}
 
 -- a value is at most each number of some squares at a pair of classes, and so much more

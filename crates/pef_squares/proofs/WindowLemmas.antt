@@ -7,10 +7,12 @@ use Rattle.std.proofs.lemmas.Bool.Decides.{eqb_tells}
 use Rattle.std.proofs.lemmas.Option.{get_or_from_slice_get, slice_get-get_or, slice_get_within}
 use Rattle.std.specs.List.{slice_get}
 use Rattle.std.proofs.lemmas.List.{append-nil, append_assoc, get_or-take, length-reverse, length-take, reverse-append, take-append-le, take-take, take_all}
-use Rattle.pef_plan.specs.declared.window.Window.{Window}
+use Rattle.pef_squares.specs.declared.window.Window.{Window}
 use Rattle.pef_squares.specs.Squares.{number_in}
-use Rattle.pef_plan.specs.Kept.Windows.{AtMostEach, BestOf, IsOne, LesserOf, LowIn, LowSquare, OlderOf, WindowOf}
-use Rattle.pef_plan.proofs.LineLemmas.{min_is}
+use Rattle.pef_squares.specs.Kept.Windows.{AtMostEach, BestOf, IsOne, LesserOf, LowIn, LowSquare, OlderOf, WindowOf}
+
+min_is : (v w : ℕ) → (min v w ≡ v) ⊎ (min v w ≡ w)
+min_is v w = grind arith
 
 each-append : (more v : ℕ) (xs ys : List (List (List ℕ))) (c d : ℕ) → AtMostEach more v xs c d → AtMostEach more v ys c d → AtMostEach more v (xs ++ ys) c d
 each-append more v [] ys c d a b = b

@@ -1,6 +1,6 @@
 use Rattle.std.proofs.Common.{◌∙◌, ◌-◌, ap, arith, inl, inr, refl, sym, take}
-use Rattle.pef_plan.proofs.WindowLemmas.{window-full, window-pop}
-use Rattle.pef_plan.proofs.window.Window.make_room.Goals as goal
+use Rattle.pef_squares.proofs.WindowLemmas.{window-full, window-pop}
+use Rattle.pef_squares.proofs.window.Window.make_room.Goals as goal
 
 pub returns-clause-room : goal.returns-clause-room
 returns-clause-room c = λ classes limit squares w.

@@ -1,7 +1,7 @@
 use Rattle.std.proofs.Common.{length}
 use Rattle.std.specs.Prelude.{reverse}
-use Rattle.pef_plan.proofs.WindowLemmas.{Aged}
-use Rattle.pef_plan.proofs.window.age_all.Given as goal
+use Rattle.pef_squares.proofs.WindowLemmas.{Aged}
+use Rattle.pef_squares.proofs.window.age_all.Given as goal
 
 abbrev pub decreases-loop-square : goal.decreases-loop-square
 decreases-loop-square l = length l.newer.items

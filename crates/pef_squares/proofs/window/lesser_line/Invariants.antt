@@ -1,5 +1,5 @@
 use Rattle.std.proofs.Common.{◌≡◌, ◌<◌, ℕ, length, min, slice_index}
-use Rattle.pef_plan.proofs.window.lesser_line.Given as goal
+use Rattle.pef_squares.proofs.window.lesser_line.Given as goal
 
 abbrev pub invariant-loop-d : goal.invariant-loop-d
 invariant-loop-d l = record {

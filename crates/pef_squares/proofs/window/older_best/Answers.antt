@@ -1,7 +1,7 @@
 use Rattle.std.proofs.Common.{◌+◌, ◌∙◌, ℕ, ap, min, subst, sym}
-use Rattle.pef_plan.specs.Kept.Windows.{BestOf}
-use Rattle.pef_plan.proofs.WindowLemmas.{best-older}
-use Rattle.pef_plan.proofs.window.older_best.Goals as goal
+use Rattle.pef_squares.specs.Kept.Windows.{BestOf}
+use Rattle.pef_squares.proofs.WindowLemmas.{best-older}
+use Rattle.pef_squares.proofs.window.older_best.Goals as goal
 
 pub returns-in-Some : goal.returns-in-Some
 returns-in-Some c = λ classes squares o under_c under_d.

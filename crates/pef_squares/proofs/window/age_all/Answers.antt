@@ -1,8 +1,8 @@
 use Rattle.std.proofs.Common.{◌++◌, ◌∷◌, [], List, ℕ, subst, sym}
 use Rattle.std.specs.Prelude.{reverse}
-use Rattle.pef_plan.specs.Kept.Windows.{LowSquare, OlderOf}
-use Rattle.pef_plan.proofs.WindowLemmas.{Aged, aged-next}
-use Rattle.pef_plan.proofs.window.age_all.Goals as goal
+use Rattle.pef_squares.specs.Kept.Windows.{LowSquare, OlderOf}
+use Rattle.pef_squares.proofs.WindowLemmas.{Aged, aged-next}
+use Rattle.pef_squares.proofs.window.age_all.Goals as goal
 
 pub loop-square-preserved : goal.loop-square-preserved
 loop-square-preserved c =

@@ -1,6 +1,6 @@
 use Rattle.std.proofs.Common.{◌≡◌, ◌<◌, ℕ, length, min}
 use Rattle.pef_squares.specs.Squares.{number_in}
-use Rattle.pef_plan.proofs.window.lesser.Given as goal
+use Rattle.pef_squares.proofs.window.lesser.Given as goal
 
 abbrev pub invariant-loop-c : goal.invariant-loop-c
 invariant-loop-c l = record {

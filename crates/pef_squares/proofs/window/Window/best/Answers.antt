@@ -1,8 +1,8 @@
 use Rattle.std.proofs.Common.{◌+◌, ◌∙◌, ◌<◌, ℕ, List, ap, arith, min, subst, sym}
-use Rattle.pef_plan.specs.Kept.Windows.{BestOf, OlderOf}
+use Rattle.pef_squares.specs.Kept.Windows.{BestOf, OlderOf}
 use Rattle.std.proofs.lemmas.Grind.{common_steps}
-use Rattle.pef_plan.proofs.WindowLemmas.{window-best, window-best_older}
-use Rattle.pef_plan.proofs.window.Window.best.Goals as goal
+use Rattle.pef_squares.proofs.WindowLemmas.{window-best, window-best_older}
+use Rattle.pef_squares.proofs.window.Window.best.Goals as goal
 
 pub returns-then-is_empty : goal.returns-then-is_empty
 returns-then-is_empty c = λ classes limit squares w under_c under_d.
