@@ -1,4 +1,5 @@
 mod BegunLemmas
+mod ConnectionLemmas
 mod FragmentLemmas
 mod GroupLemmas
 mod KeepLemmas

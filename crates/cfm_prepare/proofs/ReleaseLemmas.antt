@@ -1,13 +1,9 @@
 -- Fragments that are given back, and connections that are closed.
-use Rattle.std.proofs.Common.{◌≡◌, ℕ, suc, ◌+◌, ◌<◌, ◌≤◌, true, false, List, [], ◌∷◌, ◌++◌, None, Some, length, get_or, take, drop, not, refl, sym, ap, subst, ◌∙◌, inl, inr, cond, arith}
-use Rattle.std.specs.List.{remove}
-use Rattle.std.proofs.lemmas.Bool.Decides.{eqb_tells}
+use Rattle.std.proofs.Common.{◌≡◌, ℕ, ◌+◌, ◌<◌, ◌≤◌, true, false, List, [], ◌∷◌, ◌++◌, length, get_or, take, drop, not, refl, sym, ap, subst, ◌∙◌, cond, arith}
 use Rattle.std.proofs.lemmas.List.{append-nil, append_assoc, at_drop_more, drop-append-le, get_or_default, length-append, take-append-le}
 use Rattle.cfm_memory.specs.Instances.{Layout}
 use Rattle.cfm_memory.specs.Extents.{given_back}
-use Rattle.cfm_prepare.specs.Contexts.{Open, open_of, open_without}
 use Rattle.cfm_prepare.specs.Fragments.{Present, all_given_back, present_at}
-use Rattle.cfm_prepare.specs.Kept.Connections.{index_in}
 use Rattle.cfm_prepare.specs.Kept.Ready.{AreReady}
 use Rattle.cfm_prepare.specs.Kept.Users.{is_used, unused_of, used_of}
 use Rattle.cfm_prepare.proofs.GroupLemmas.{all-push, no_fragment}
@@ -81,32 +77,3 @@ pub passed-ready : (users : List ℕ) (all : List Present) (before m : Layout) �
 passed-ready users all before m s =
     let P : List Present → Type 0 = λ fs. AreReady m fs in
     subst P s.used s.ready
-
--- an open connection
-pub index-within : (os : List Open) (number : ℕ) → index_in os number ≤ length os
-index-within [] number = omega arith
-index-within (o ∷ os) number = elim (eqb_tells o.number number) [
-  | inl same ↦ rw same.0 (omega arith)
-  | inr other ↦ (let more = index-within os number in rw other.0 (omega arith))
-]
-
-pub open-none : (os : List Open) (number : ℕ) → index_in os number ≡ length os → open_of os number ≡ None
-open-none [] number is = refl
-open-none (o ∷ os) number is = elim (eqb_tells o.number number) [
-  | inl same ↦ (let wrong : 0 ≡ suc (length os) = rw same.0 at is in absurd (omega (arith, wrong)))
-  | inr other ↦ (let more : suc (index_in os number) ≡ suc (length os) = rw other.0 at is in rw other.0 (open-none os number (omega (arith, more))))
-]
-
-pub open-there : (os : List Open) (number : ℕ) (d : Open) → index_in os number < length os → open_of os number ≡ Some (get_or os (index_in os number) d)
-open-there [] number d under = absurd (omega arith)
-open-there (o ∷ os) number d under = elim (eqb_tells o.number number) [
-  | inl same ↦ rw same.0 refl
-  | inr other ↦ (let more : suc (index_in os number) < suc (length os) = rw other.0 at under in rw other.0 (open-there os number d (omega (arith, more))))
-]
-
-pub without-is : (os : List Open) (number : ℕ) → open_without os number ≡ remove os (index_in os number)
-without-is [] number = refl
-without-is (o ∷ os) number = elim (eqb_tells o.number number) [
-  | inl same ↦ rw same.0 refl
-  | inr other ↦ rw other.0 (ap (λ ys. o ∷ ys) (without-is os number))
-]

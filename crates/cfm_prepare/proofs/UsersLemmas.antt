@@ -1,10 +1,10 @@
 -- The counts of the users of fragments.
-use Rattle.std.proofs.Common.{◌≡◌, ◌≢◌, ℕ, zero, suc, ◌+◌, ◌<◌, ◌≤◌, Bool, true, false, List, [], ◌∷◌, ◌++◌, nat_lt, not, length, get_or, replicate, refl, sym, ap, ap₂, subst, ◌∙◌, inl, inr, cond, arith}
-use Rattle.std.specs.List.{remove, AllPairs}
+use Rattle.std.proofs.Common.{◌≡◌, ◌≢◌, ℕ, zero, suc, ◌+◌, ◌<◌, ◌≤◌, Bool, true, false, List, [], ◌∷◌, ◌++◌, Some, nat_lt, not, length, replicate, refl, sym, ap, ap₂, subst, ◌∙◌, inl, inr, cond, arith}
+use Rattle.std.specs.List.{AllPairs}
 use Rattle.std.proofs.Math.ListN.{set}
 use Rattle.std.proofs.lemmas.Bool.Decides.{eqb_tells, nat_tests}
 use Rattle.std.proofs.lemmas.List.{get_or-set_other, get_or-set_same}
-use Rattle.cfm_prepare.specs.Contexts.{Open, has, is_needed, needed_of, unneeded_of}
+use Rattle.cfm_prepare.specs.Contexts.{Open, has, is_needed, needed_of, open_of, open_without, unneeded_of}
 use Rattle.cfm_prepare.specs.Fragments.{Present}
 use Rattle.cfm_prepare.specs.Kept.Users.{CountsMore, CountUsers, IsOnce, count_at, counted, is_used, unused_of, used_of, users_of}
 use Rattle.cfm_prepare.proofs.ReaderLemmas.{has-contains}
@@ -49,11 +49,24 @@ pub users-push : (os : List Open) (o : Open) (p : ℕ) → users_of (os ++ o ∷
 users-push [] o p = omega arith
 users-push (x ∷ os) o p = let more = users-push os o p in omega (arith, more)
 
+one-open : (x o : Open) → Some x ≡ Some o → x ≡ o
+one-open x o same = cc
+
 -- without one of them
-pub users-without : (os : List Open) (i : ℕ) (d : Open) (p : ℕ) → i < length os → users_of os p ≡ counted (get_or os i d).closed.order p + users_of (remove os i) p
-users-without [] i d p under = absurd (omega (arith, under))
-users-without (o ∷ os) zero d p under = refl
-users-without (o ∷ os) (suc i) d p under = let more = users-without os i d p (omega (arith, under)) in omega (arith, more)
+pub users-without : (os : List Open) (number : ℕ) (o : Open) (p : ℕ) → open_of os number ≡ Some o → users_of os p ≡ counted o.closed.order p + users_of (open_without os number) p
+users-without [] number o p is = absurd (cc)
+users-without (x ∷ os) number o p is = elim (eqb_tells x.number number) [
+  | inl same ↦ (
+      let found : Some x ≡ Some o = rw same.0 at is in
+      let one : x ≡ o = one-open x o found in
+      rw (same.0, one) refl
+      )
+  | inr other ↦ (
+      let found : open_of os number ≡ Some o = rw other.0 at is in
+      let more = users-without os number o p found in
+      rw other.0 (omega (arith, more))
+      )
+]
 
 -- a list in which all are apart has none twice
 pub once-from-pairs : (xs : List ℕ) → AllPairs (λ p q. p ≢ q) xs → IsOnce xs
@@ -126,19 +139,19 @@ pub still-to-come : (q : ℕ) (qs counts : List ℕ) (v p : ℕ) → has qs q �
 still-to-come q qs counts v p once there = count-other counts q v p (λ e. absurd (let wrong : has qs q ≡ true = rw e at there in cc))
 
 -- the users behind one connection less
-pub left-count : (os : List Open) (i : ℕ) (d : Open) (before after : List ℕ) → i < length os → CountUsers before os → CountsMore (get_or os i d).closed.order after before → CountUsers after (remove os i)
-left-count os i d before after under counts more = λ p. (let a = counts p in let b = more p in let c = users-without os i d p under in omega (arith, a, b, c))
+pub left-count : (os : List Open) (number : ℕ) (o : Open) (before after : List ℕ) → open_of os number ≡ Some o → CountUsers before os → CountsMore o.closed.order after before → CountUsers after (open_without os number)
+left-count os number o before after is counts more = λ p. (let a = counts p in let b = more p in let c = users-without os number o p is in omega (arith, a, b, c))
 
 -- and behind one more
 pub entered-count : (os : List Open) (o : Open) (before after : List ℕ) → CountUsers before os → CountsMore o.closed.order before after → CountUsers after (os ++ o ∷ [])
 entered-count os o before after counts more = λ p. more p ∙ ap (λ n. n + counted o.closed.order p) (counts p) ∙ sym (users-push os o p)
 
 -- a connection uses each fragment of its closure
-pub used-of : (os : List Open) (i : ℕ) (d : Open) (counts : List ℕ) (p : ℕ) → i < length os → CountUsers counts os → has (get_or os i d).closed.order p ≡ true → 0 < count_at counts p
-used-of os i d counts p under is there =
-    let a = is p in
-    let c = users-without os i d p under in
-    let one : counted (get_or os i d).closed.order p ≡ 1 = rw there refl in
+pub used-of : (os : List Open) (number : ℕ) (o : Open) (counts : List ℕ) (p : ℕ) → open_of os number ≡ Some o → CountUsers counts os → has o.closed.order p ≡ true → 0 < count_at counts p
+used-of os number o counts p is users there =
+    let a = users p in
+    let c = users-without os number o p is in
+    let one : counted o.closed.order p ≡ 1 = rw there refl in
     omega (arith, a, c, one)
 
 -- counts that are as they were are of the same users

@@ -1,13 +1,11 @@
 ghost use Rattle.std.specs.Prelude.{◌≡◌, Contains, IsTrue, Some};
-ghost use Rattle.std.specs.Option.{option_copied};
 ghost use Rattle.pef_loader.specs.Export.{has_section};
 ghost use Rattle.pef_loader.specs.Views.{loaded};
-ghost use Rattle.cfm_libraries.specs.Fragments.{loader_at};
-ghost use Rattle.cfm_prepare.specs.Contexts.{has, open_of};
+ghost use Rattle.cfm_closure.specs.Fragments.{loader_at};
+ghost use Rattle.cfm_prepare.specs.Contexts.{has};
 ghost use Rattle.cfm_fragment.specs.Prepared.{entry_address};
 ghost use Rattle.cfm_prepare.specs.Fragments.{places_of};
 ghost use Rattle.cfm_prepare.specs.Readers.{entries_of, export_address, main_address, symbol_address};
-ghost use Rattle.cfm_prepare.specs.Kept.Connections.{index_in};
 ghost use Rattle.cfm_prepare.specs.Kept.Users.{IsOnce};
 
 use crate::present::Placed;
@@ -131,33 +129,6 @@ fn entry_address(present: &[Placed], position: usize, entry: Option<(u32, u32)>)
 {
     let (section, offset) = entry?;
     Some(section_address(present, position, section).wrapping_add(offset))
-}
-
-/// The open connection of a number.
-pub(crate) fn find_open<'r, 'a>(
-    connections: &'r [Connected<'a>],
-    number: u32,
-) -> Option<&'r Connected<'a>>
-    ensures { option_copied result ≡ open_of connections.now number }
-{
-    for connected in connections {
-        if connected.number() == number {
-            return Some(connected);
-        }
-    }
-    None
-}
-
-/// How many open connections stand before that of a number; all where there is none.
-pub(crate) fn index_of(connections: &[Connected<'_>], number: u32) -> usize
-    ensures { result ≡ index_in connections.now number }
-{
-    for (i, connected) in connections.iter().enumerate() {
-        if connected.number() == number {
-            return i;
-        }
-    }
-    connections.len()
 }
 
 /// Whether a list has a number.

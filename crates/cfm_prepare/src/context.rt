@@ -7,7 +7,8 @@ ghost use Rattle.cfm_prepare.specs.Readers.{entries_of, main_address, root_secti
 ghost use Rattle.cfm_prepare.specs.Seen.{section_seen};
 ghost use Rattle.cfm_prepare.specs.Steps.{Closes, MayNotPrepare, Prepares};
 
-use crate::connected::{Connected, find_open, index_of};
+use crate::connected::Connected;
+use crate::connections::Connections;
 use crate::fault::{CloseFault, PrepareFault};
 use crate::preparing::prepare_new;
 use crate::present::{Placed, new_among, places_of};
@@ -37,8 +38,7 @@ pub struct Context<'a> {
     memory: Memory,
     /// How many connections were given.
     given: u32,
-    /// The open connections, in the order of their numbers.
-    connections: Vec<Connected<'a>>,
+    connections: Connections<'a>,
     /// How many of them have a fragment in their closures, by its place in the store.
     users: Vec<usize>,
     present: Vec<Placed>,
@@ -51,9 +51,9 @@ impl<'a> Model for Context<'a> {
 
     ghost use Rattle.cfm_prepare.specs.Kept.Ready.{IsKept};
 
-    ghost view = { λ c. record { pairs = c.store; memory = c.memory; given = c.given; connections = c.connections.items; present = c.present.items } };
+    ghost view = { λ c. record { pairs = c.store; memory = c.memory; given = c.given; connections = c.connections; present = c.present.items } };
 
-    ghost invariant = { λ c. IsKept c.memory c.given c.users.items c.connections.items c.present.items };
+    ghost invariant = { λ c. IsKept c.memory c.given c.users.items c.connections c.present.items };
 }
 
 impl<'a> Context<'a> {
@@ -67,7 +67,7 @@ impl<'a> Context<'a> {
             store,
             memory: Memory::new(alloc, limit),
             given: 0,
-            connections: Vec::new(alloc),
+            connections: Connections::new(alloc),
             users: Vec::new(alloc),
             present: Vec::new(alloc),
         }
@@ -106,23 +106,29 @@ impl<'a> Context<'a> {
     {
         let closure = closure(self.alloc, &self.store, root)?;
         let new = new_among(self.alloc, &self.present, closure.order())?;
-        self.connections.reserve(1)?;
         make_room(&mut self.users, self.store.len())?;
-        prepare_new(
+        let number = self.given;
+        self.connections
+            .push(Connected::new(number, root, closure))?;
+        let closure = self.connections.get(number).unwrap().closure();
+        match prepare_new(
             self.alloc,
             &mut self.memory,
             &self.store,
-            &closure,
+            closure,
             &new,
             &mut self.present,
-        )?;
-        let number = self.given;
-        self.given += 1;
-        enter(&mut self.users, closure.order());
-        self.connections
-            .push(Connected::new(number, root, closure))
-            .unwrap();
-        Ok(Connection(number))
+        ) {
+            Ok(()) => {
+                enter(&mut self.users, closure.order());
+                self.given += 1;
+                Ok(Connection(number))
+            }
+            Err(fault) => {
+                self.connections.remove(number);
+                Err(fault)
+            }
+        }
     }
 
     /// Closes a connection: the fragments that no other open connection needs are given back.
@@ -135,11 +141,9 @@ impl<'a> Context<'a> {
         ensures refused { OnErr result (open_of self.old.connections connection.0 ≡ None) }
         ensures unchanged { OnErr result (self.new ≡ self.old) }
     {
-        let index = index_of(&self.connections, connection.0);
-        if index == self.connections.len() {
+        let Some(closed) = self.connections.remove(connection.0) else {
             return Err(CloseFault::BadConnection);
-        }
-        let closed = self.connections.remove(index);
+        };
         leave(&mut self.users, closed.closure().order());
         release(&mut self.memory, &self.users, &mut self.present);
         Ok(())
@@ -150,7 +154,7 @@ impl<'a> Context<'a> {
     pub fn symbol(&self, connection: Connection, name: &[u8]) -> Option<u32>
         ensures { result ≡ option_and_then (λ o. symbol_address self.now.present o name.now) (open_of self.now.connections connection.0) }
     {
-        let connected = find_open(&self.connections, connection.0)?;
+        let connected = self.connections.get(connection.0)?;
         connected.symbol(&self.present, name)
     }
 
@@ -158,7 +162,7 @@ impl<'a> Context<'a> {
     pub fn section(&self, connection: Connection, i: usize) -> Option<(u32, &[u8])>
         ensures { option_map section_seen result ≡ root_section self.now connection.0 i }
     {
-        let connected = find_open(&self.connections, connection.0)?;
+        let connected = self.connections.get(connection.0)?;
         self.fragment_section(connected.root(), i)
     }
 
@@ -166,7 +170,7 @@ impl<'a> Context<'a> {
     pub fn main(&self, connection: Connection) -> Option<u32>
         ensures { result ≡ option_and_then (λ o. main_address self.now.present o) (open_of self.now.connections connection.0) }
     {
-        let connected = find_open(&self.connections, connection.0)?;
+        let connected = self.connections.get(connection.0)?;
         connected.main(&self.present)
     }
 
@@ -175,7 +179,7 @@ impl<'a> Context<'a> {
     pub fn init_order(&self, connection: Connection) -> Option<&[usize]>
         ensures { option_copied result ≡ option_map (λ o. o.closed.init_order) (open_of self.now.connections connection.0) }
     {
-        let connected = find_open(&self.connections, connection.0)?;
+        let connected = self.connections.get(connection.0)?;
         Some(connected.closure().init_order())
     }
 
@@ -183,7 +187,7 @@ impl<'a> Context<'a> {
     pub fn fragments(&self, connection: Connection) -> Option<&[usize]>
         ensures { option_copied result ≡ option_map (λ o. o.closed.order) (open_of self.now.connections connection.0) }
     {
-        let connected = find_open(&self.connections, connection.0)?;
+        let connected = self.connections.get(connection.0)?;
         Some(connected.closure().order())
     }
 
@@ -209,7 +213,7 @@ impl<'a> Context<'a> {
     pub fn fragment_entries(&self, connection: Connection, position: usize) -> Option<Entries>
         ensures { result ≡ option_and_then (λ o. entries_of self.now.present o position) (open_of self.now.connections connection.0) }
     {
-        let connected = find_open(&self.connections, connection.0)?;
+        let connected = self.connections.get(connection.0)?;
         connected.entries(&self.present, position)
     }
 

@@ -7,6 +7,7 @@
 #![tactic(auto)]
 
 mod connected;
+mod connections;
 mod context;
 mod fault;
 mod filling;

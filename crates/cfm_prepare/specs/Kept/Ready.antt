@@ -6,6 +6,7 @@ use Rattle.pef_pidata.specs.declared.fault.PackFault.{PackFault}
 use Rattle.pef_reloc.specs.declared.fault.RelocFault.{RelocFault}
 use Rattle.cfm_libraries.specs.Stores.{Pair, pair_of}
 use Rattle.cfm_prepare.specs.Contexts.{Open, most_connections}
+use Rattle.cfm_prepare.specs.Kept.Connections.{AllBelow}
 use Rattle.cfm_prepare.specs.Kept.Users.{CountUsers}
 use Rattle.cfm_prepare.specs.Fragments.{Present, all_given_back, extents_in, positions, present_at}
 use Rattle.cfm_prepare.specs.Placing.{AllPlaced}
@@ -95,4 +96,6 @@ RelocatesUpTo (Err fault.OutOfMemory) first = Unit {0}
 pub record IsKept (m : Layout) (given : ℕ) (users : List ℕ) (connections : List Open) (present : List Present) : Type 0 where
   pub ready : AreReady m present
   pub few : given ≤ most_connections
+  pub numbered : AllBelow given connections
+  pub many : length connections ≤ given
   pub counted : CountUsers users connections

@@ -1,5 +1,5 @@
 -- A fragment that has no users is given back.
-use Rattle.std.proofs.Common.{◌≡◌, ◌+◌, ◌≤◌, List, drop, length, true, false, nat_lt, sym, ap, subst, ◌∙◌, arith}
+use Rattle.std.proofs.Common.{◌≡◌, ◌+◌, ◌≤◌, List, drop, length, nat_lt, sym, ap, subst, ◌∙◌, arith}
 use Rattle.std.proofs.lemmas.List.{drop_all}
 use Rattle.cfm_memory.specs.Extents.{AreApart, AreHeld, given_back}
 use Rattle.cfm_memory.specs.Instances.{Layout}

@@ -1,5 +1,5 @@
 -- What stays of the fragments are those that have users.
-use Rattle.std.proofs.Common.{◌≡◌, List, rules, sym, subst}
+use Rattle.std.proofs.Common.{List, rules, sym, subst}
 use Rattle.std.proofs.lemmas.Fn.{filter_same}
 use Rattle.cfm_prepare.specs.Fragments.{Present}
 use Rattle.cfm_prepare.specs.Kept.Ready.{AreReady}

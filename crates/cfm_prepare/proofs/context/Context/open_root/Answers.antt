@@ -1,17 +1,21 @@
 -- The closure is that of the store; its new fragments are prepared, or the first refusal is that of all.
-use Rattle.std.proofs.Common.{rules, true, arith, ◌≡◌, ◌<◌, ◌++◌, ◌∷◌, ℕ, List, [], length, Ok, Some, All, Contains, refl, sym, ap, subst, ◌∙◌}
+use Rattle.std.proofs.Common.{true, arith, ◌≡◌, ◌<◌, ◌≤◌, ◌+◌, ◌++◌, ◌∷◌, ℕ, List, [], length, Ok, Some, All, Contains, refl, sym, ap, subst, ◌∙◌}
+use Rattle.std.proofs.lemmas.List.{length-append}
 use Rattle.std.proofs.lemmas.Result.{err_from_is_err_and}
-use Rattle.cfm_libraries.specs.Faults.{Fails}
-use Rattle.cfm_libraries.specs.Stores.{place_of}
-use Rattle.cfm_closure.specs.Closures.{closed_of}
+use Rattle.cfm_memory.specs.Instances.{Layout}
+use Rattle.cfm_closure.specs.Closures.{Closed, closed_of}
+use Rattle.cfm_closure.specs.Faults.{Fails}
+use Rattle.cfm_closure.specs.Stores.{place_of}
 use Rattle.cfm_closure.proofs.Laws.{closed-complete, closed-root, closed-store}
-use Rattle.cfm_prepare.specs.Contexts.{Open, State, has, most_connections}
-use Rattle.cfm_prepare.specs.Fragments.{new_among}
+use Rattle.cfm_prepare.specs.Contexts.{Open, State, has, most_connections, open_without}
+use Rattle.cfm_prepare.specs.Fragments.{Present, new_among}
+use Rattle.cfm_prepare.specs.Kept.Connections.{AllBelow}
+use Rattle.cfm_prepare.specs.Kept.Users.{CountsMore, CountUsers}
 use Rattle.cfm_prepare.specs.Placing.{ArePrepared}
 use Rattle.cfm_prepare.specs.Steps.{HasClosure, HasRoot, MayNotPrepareNew}
 use Rattle.cfm_prepare.proofs.BegunLemmas.{new-members}
+use Rattle.cfm_prepare.proofs.ConnectionLemmas.{below-push, closed-got, got-last, last-without, some-got}
 use Rattle.cfm_prepare.proofs.OpenLemmas.{ends-contains, refused-late}
-use Rattle.cfm_prepare.specs.Kept.Users.{CountsMore, CountUsers, IsOnce}
 use Rattle.cfm_prepare.proofs.ReaderLemmas.{has-contains}
 use Rattle.cfm_prepare.proofs.UsersLemmas.{entered-count, once-from-pairs, same_users, users-few}
 use Rattle.cfm_prepare.proofs.context.Context.open_root.Goals as goal
@@ -23,46 +27,6 @@ returns-in_err-closure-clause-refused c = λ name is.
     let fails : Fails c.in_err-closure.field-0.0 (closed_of c.args.self.now.pairs c.args.root) = rw (← c.self.view_is) c.in_err-closure.ensures in
     rw (p.1, p.2) (has, fails)
 
-pub prepare_new-requires-clause-store : goal.prepare_new-requires-clause-store
-prepare_new-requires-clause-store c = sym (closed-store c.self.inside.store c.args.root c.in_ok-closure.closure c.in_ok-closure.ensures)
-
-pub prepare_new-requires-clause-members : goal.prepare_new-requires-clause-members
-prepare_new-requires-clause-members c =
-    let order = c.in_ok-closure.closure.order in
-    let is : c.deref-2.result.now ≡ new_among c.deref.result.now order = c.deref-2.ensures.value ∙ c.in_ok-new.ensures ∙ ap (new_among c.deref.result.now) c.order.ensures.order in
-    let P : List ℕ → Type 0 = λ ps. All (λ p. Contains order p) ps in
-    subst P (sym is) (new-members c.deref.result.now order)
-
-pub returns-in_err-prepare_new-clause-refused : goal.returns-in_err-prepare_new-clause-refused
-returns-in_err-prepare_new-clause-refused c = λ name is.
-    let s : State = c.args.self.now in
-    let closed = c.in_ok-closure.closure in
-    let e = c.in_err-prepare_new.field-0.0 in
-    let p = err_from_is_err_and c.from_residual-in_err-prepare_new.result c.from_residual-in_err-prepare_new.ensures.1 in
-    let closes : closed_of s.pairs c.args.root ≡ Ok closed = rw (← c.self.view_is) c.in_ok-closure.ensures in
-    let closure : HasClosure s name = record { has = record { left = c.requires.left; root = c.args.root; is = is }; closed = closed; is = closes } in
-    let new : c.deref-2.result.now ≡ new_among c.self.inside.present.items closed.order = c.deref-2.ensures.value ∙ c.in_ok-new.ensures ∙ ap (new_among c.deref.result.now) c.order.ensures.order ∙ ap (λ fs. new_among fs closed.order) c.deref.ensures.value in
-    let P : List ℕ → Type 0 = λ ps. MayNotPrepareNew c.self.inside.store c.self.inside.present.items c.self.inside.memory ps e in
-    let why : MayNotPrepareNew s.pairs s.present s.memory (new_among s.present closed.order) e = rw (← c.self.view_is) (subst P new c.in_err-prepare_new.ensures.refused) in
-    rw (p.1, p.2) (refused-late e s name closure why)
-
-pub enter-requires-clause-once : goal.enter-requires-clause-once
-enter-requires-clause-once c =
-    let closed = c.in_ok-closure.closure in
-    subst IsOnce (sym c.order-2.ensures.order) (once-from-pairs closed.order (closed-complete c.self.inside.store c.args.root closed c.in_ok-closure.ensures).once)
-
-pub enter-requires-clause-inside : goal.enter-requires-clause-inside
-enter-requires-clause-inside c = λ p there.
-    let closed = c.in_ok-closure.closure in
-    let here : has closed.order p ≡ true = ap (λ ps. has ps p) (sym c.order-2.ensures.order) ∙ there in
-    let member = (closed-complete c.self.inside.store c.args.root closed c.in_ok-closure.ensures).members p (has-contains closed.order p here) in
-    omega (arith, member.place, c.in_ok-make_room.ensures.room, c.len.ensures)
-
-pub enter-requires-clause-few : goal.enter-requires-clause-few
-enter-requires-clause-few c = λ p.
-    let os = c.self.inside.connections in
-    omega (arith, c.in_ok-make_room.ensures.same p, c.self.invariant.counted p, users-few os.items p, os.ok.0, os.ok.1, os.small)
-
 pub new-requires-clause-once : goal.new-requires-clause-once
 new-requires-clause-once c =
     let closed = c.in_ok-closure.closure in
@@ -73,15 +37,60 @@ new-requires-clause-root c =
     let P : State → Type 0 = λ s. c.args.root < length s.pairs in
     ends-contains c.in_ok-closure.closure.order c.args.root (closed-root c.self.inside.store c.args.root c.in_ok-closure.closure (subst P (sym c.self.view_is) c.requires.root) c.in_ok-closure.ensures)
 
-pub returns-clause-prepared : goal.returns-clause-prepared
-returns-clause-prepared c = λ name is.
+pub unwrap-requires : goal.unwrap-requires
+unwrap-requires c =
+    let os = c.self.inside.connections in
+    let o : Open = record { number = c.self.inside.given; root = c.args.root; closed = c.in_ok-closure.closure } in
+    some-got c.get.result o (got-last os c.push.new.self o c.new.result c.get.result c.self.invariant.numbered c.in_ok-push.ensures.pushed c.new.ensures c.get.ensures)
+
+pub prepare_new-requires-clause-store : goal.prepare_new-requires-clause-store
+prepare_new-requires-clause-store c =
+    let os = c.self.inside.connections in
     let closed = c.in_ok-closure.closure in
-    let done = c.in_ok-prepare_new.ensures.prepared in
-    let new : c.deref-2.result.now ≡ new_among c.self.inside.present.items closed.order = c.deref-2.ensures.value ∙ c.in_ok-new.ensures ∙ ap (new_among c.deref.result.now) c.order.ensures.order ∙ ap (λ fs. new_among fs closed.order) c.deref.ensures.value in
-    let P : List ℕ → Type 0 = λ ps. ArePrepared c.self.inside.store c.self.inside.present.items c.self.inside.memory ps done.0 c.prepare_new.new.memory in
+    let o : Open = record { number = c.self.inside.given; root = c.args.root; closed = closed } in
+    let got = got-last os c.push.new.self o c.new.result c.get.result c.self.invariant.numbered c.in_ok-push.ensures.pushed c.new.ensures c.get.ensures in
+    let is = closed-got c.get.result o c.unwrap.result c.closure-closure.result.now got c.unwrap.ensures c.closure-closure.ensures.closure in
+    sym (closed-store c.self.inside.store c.args.root closed c.in_ok-closure.ensures) ∙ ap (λ (k : Closed). k.pairs) (sym is)
+
+pub prepare_new-requires-clause-members : goal.prepare_new-requires-clause-members
+prepare_new-requires-clause-members c =
+    let os = c.self.inside.connections in
+    let closed = c.in_ok-closure.closure in
+    let o : Open = record { number = c.self.inside.given; root = c.args.root; closed = closed } in
+    let got = got-last os c.push.new.self o c.new.result c.get.result c.self.invariant.numbered c.in_ok-push.ensures.pushed c.new.ensures c.get.ensures in
+    let is = closed-got c.get.result o c.unwrap.result c.closure-closure.result.now got c.unwrap.ensures c.closure-closure.ensures.closure in
+    let new : c.deref-2.result.now ≡ new_among c.deref.result.now closed.order = c.deref-2.ensures.value ∙ c.in_ok-new.ensures ∙ ap (new_among c.deref.result.now) c.order.ensures.order in
+    let P : List ℕ → Type 0 = λ ps. All (λ p. Contains closed.order p) ps in
+    let Q : Closed → Type 0 = λ k. All (λ p. Contains k.order p) c.deref-2.result.now in
+    subst Q (sym is) (subst P (sym new) (new-members c.deref.result.now closed.order))
+
+-- the order that is counted is that of the closure
+pub enter-requires-clause-inside : goal.enter-requires-clause-inside
+enter-requires-clause-inside c = λ p there.
+    let os = c.self.inside.connections in
+    let closed = c.in_ok-closure.closure in
+    let o : Open = record { number = c.self.inside.given; root = c.args.root; closed = closed } in
+    let got = got-last os c.push.new.self o c.new.result c.get.result c.self.invariant.numbered c.in_ok-push.ensures.pushed c.new.ensures c.get.ensures in
+    let is = closed-got c.get.result o c.unwrap.result c.closure-closure.result.now got c.unwrap.ensures c.closure-closure.ensures.closure in
+    let order : c.order-in-Ok.result.now ≡ closed.order = c.order-in-Ok.ensures.order ∙ ap (λ (k : Closed). k.order) is in
+    let here : has closed.order p ≡ true = ap (λ ps. has ps p) (sym order) ∙ there in
+    let member = (closed-complete c.self.inside.store c.args.root closed c.in_ok-closure.ensures).members p (has-contains closed.order p here) in
+    omega (arith, member.place, c.in_ok-make_room.ensures.room, c.len.ensures)
+
+pub enter-requires-clause-few : goal.enter-requires-clause-few
+enter-requires-clause-few c = λ p.
+    let os = c.self.inside.connections in
+    omega (arith, c.in_ok-make_room.ensures.same p, c.self.invariant.counted p, users-few os p, c.self.invariant.many, c.self.invariant.few)
+
+pub returns-in-Ok-clause-prepared : goal.returns-in-Ok-clause-prepared
+returns-in-Ok-clause-prepared c = λ name is.
+    let closed = c.in_ok-closure.closure in
+    let done = c.in-Ok.ensures.prepared in
+    let there = c.self.inside.present.items in
+    let new : c.deref-2.result.now ≡ new_among there closed.order = c.deref-2.ensures.value ∙ c.in_ok-new.ensures ∙ ap (new_among c.deref.result.now) c.order.ensures.order ∙ ap (λ fs. new_among fs closed.order) c.deref.ensures.value in
+    let P : List ℕ → Type 0 = λ ps. ArePrepared c.self.inside.store there c.self.inside.memory ps done.0 c.prepare_new.new.memory in
     let Q : State → Type 0 = λ s. place_of s.pairs name ≡ Some c.args.root in
     let R : State → Type 0 = λ s. s.given < most_connections in
-    let pushed : c.push.new.self.items ≡ c.self.inside.connections.items ++ (record { number = c.self.inside.given; root = c.args.root; closed = closed }) ∷ [] = search rules in
     rw (← c.self.view_is) (record {
       closure = record { has = record { left = subst R (sym c.self.view_is) c.requires.left; root = c.args.root; is = subst Q (sym c.self.view_is) is }; closed = closed; is = c.in_ok-closure.ensures };
       fresh = done.0;
@@ -89,22 +98,73 @@ returns-clause-prepared c = λ name is.
       number = refl;
       pairs = refl;
       given = refl;
-      connections = pushed;
+      connections = c.in_ok-push.ensures.pushed ∙ ap (λ (x : Open). c.self.inside.connections ++ x ∷ []) c.new.ensures;
       present = done.1;
     })
 
-pub invariant_of-self-2 : goal.invariant_of-self-2
-invariant_of-self-2 c =
+pub invariant_of-self-in-Ok : goal.invariant_of-self-in-Ok
+invariant_of-self-in-Ok c =
+    let os = c.self.inside.connections in
+    let given = c.self.inside.given in
     let closed = c.in_ok-closure.closure in
-    let os = c.self.inside.connections.items in
-    let o : Open = record { number = c.self.inside.given; root = c.args.root; closed = closed } in
-    let pushed : c.push.new.self.items ≡ os ++ o ∷ [] = search rules in
+    let o : Open = record { number = given; root = c.args.root; closed = closed } in
+    let got = got-last os c.push.new.self o c.new.result c.get.result c.self.invariant.numbered c.in_ok-push.ensures.pushed c.new.ensures c.get.ensures in
+    let is = closed-got c.get.result o c.unwrap.result c.closure-closure.result.now got c.unwrap.ensures c.closure-closure.ensures.closure in
+    let order : c.order-in-Ok.result.now ≡ closed.order = c.order-in-Ok.ensures.order ∙ ap (λ (k : Closed). k.order) is in
+    let pushed : c.push.new.self ≡ os ++ o ∷ [] = c.in_ok-push.ensures.pushed ∙ ap (λ (x : Open). os ++ x ∷ []) c.new.ensures in
     let R : State → Type 0 = λ s. s.given < most_connections in
-    let left : c.self.inside.given < most_connections = subst R (sym c.self.view_is) c.requires.left in
+    let left : given < most_connections = subst R (sym c.self.view_is) c.requires.left in
     let P : List ℕ → Type 0 = λ ps. CountsMore ps c.make_room.new.users.items c.enter.new.users.items in
     let Q : List Open → Type 0 = λ xs. CountUsers c.enter.new.users.items xs in
+    let N : List Open → Type 0 = λ xs. AllBelow (given + 1) xs in
     record {
-      ready = c.in_ok-prepare_new.ensures.ready;
+      ready = c.in-Ok.ensures.ready;
       few = omega (arith, left);
-      counted = subst Q (sym pushed) (entered-count os o c.make_room.new.users.items c.enter.new.users.items (same_users c.self.inside.users.items c.make_room.new.users.items os c.in_ok-make_room.ensures.same c.self.invariant.counted) (subst P c.order-2.ensures.order c.enter.ensures));
+      numbered = subst N (sym pushed) (below-push os o c.self.invariant.numbered);
+      many = omega (arith, ap length pushed, length-append os (o ∷ []), c.self.invariant.many);
+      counted = subst Q (sym pushed) (entered-count os o c.make_room.new.users.items c.enter.new.users.items (same_users c.self.inside.users.items c.make_room.new.users.items os c.in_ok-make_room.ensures.same c.self.invariant.counted) (subst P order c.enter.ensures));
     }
+
+-- a connection that was put last goes again
+gone-again : (os put now : List Open) (o made : Open) → AllBelow o.number os → put ≡ os ++ made ∷ [] → made ≡ o → now ≡ open_without put o.number → now ≡ os
+gone-again os put now o made below put_is made_is now_is = now_is ∙ ap (λ xs. open_without xs o.number) (put_is ∙ ap (λ (x : Open). os ++ x ∷ []) made_is) ∙ last-without os o below
+
+pub invariant_of-self-in-Err : goal.invariant_of-self-in-Err
+invariant_of-self-in-Err c =
+    let os = c.self.inside.connections in
+    let given = c.self.inside.given in
+    let o : Open = record { number = given; root = c.args.root; closed = c.in_ok-closure.closure } in
+    let gone = gone-again os c.push.new.self c.remove.new.self o c.new.result c.self.invariant.numbered c.in_ok-push.ensures.pushed c.new.ensures c.remove.ensures.left in
+    let N : List Open → Type 0 = λ xs. AllBelow given xs in
+    let M : List Open → Type 0 = λ xs. length xs ≤ given in
+    let C : List Open → Type 0 = λ xs. CountUsers c.make_room.new.users.items xs in
+    record {
+      ready = c.in-Err.ensures.ready;
+      few = c.self.invariant.few;
+      numbered = subst N (sym gone) c.self.invariant.numbered;
+      many = subst M (sym gone) c.self.invariant.many;
+      counted = subst C (sym gone) (same_users c.self.inside.users.items c.make_room.new.users.items os c.in_ok-make_room.ensures.same c.self.invariant.counted);
+    }
+
+pub returns-clause-refused : goal.returns-clause-refused
+returns-clause-refused c = λ name is.
+    let s : State = c.args.self.now in
+    let closed = c.in_ok-closure.closure in
+    let there = c.self.inside.present.items in
+    let e = c.in-Err.fault in
+    let closes : closed_of s.pairs c.args.root ≡ Ok closed = rw (← c.self.view_is) c.in_ok-closure.ensures in
+    let closure : HasClosure s name = record { has = record { left = c.requires.left; root = c.args.root; is = is }; closed = closed; is = closes } in
+    let new : c.deref-2.result.now ≡ new_among there closed.order = c.deref-2.ensures.value ∙ c.in_ok-new.ensures ∙ ap (new_among c.deref.result.now) c.order.ensures.order ∙ ap (λ fs. new_among fs closed.order) c.deref.ensures.value in
+    let P : List ℕ → Type 0 = λ ps. MayNotPrepareNew c.self.inside.store there c.self.inside.memory ps e in
+    let why : MayNotPrepareNew s.pairs s.present s.memory (new_among s.present closed.order) e = rw (← c.self.view_is) (subst P new c.in-Err.ensures.refused) in
+    refused-late e s name closure why
+
+pub returns-clause-unchanged : goal.returns-clause-unchanged
+returns-clause-unchanged c =
+    let os = c.self.inside.connections in
+    let o : Open = record { number = c.self.inside.given; root = c.args.root; closed = c.in_ok-closure.closure } in
+    let gone = gone-again os c.push.new.self c.remove.new.self o c.new.result c.self.invariant.numbered c.in_ok-push.ensures.pushed c.new.ensures c.remove.ensures.left in
+    let S : Layout → List Open → List Present → State = λ m xs fs. record { pairs = c.self.inside.store; memory = m; given = c.self.inside.given; connections = xs; present = fs } in
+    rw (← c.self.view_is) (ap (λ m. S m c.remove.new.self c.prepare_new.new.present.items) c.in-Err.ensures.unchanged.0
+    ∙ ap (λ xs. S c.self.inside.memory xs c.prepare_new.new.present.items) gone
+    ∙ ap (λ fs. S c.self.inside.memory os fs) c.in-Err.ensures.unchanged.1)
