@@ -1,38 +1,35 @@
 -- New fragments, from their placing to the end of their preparation or its first refusal.
-use Rattle.std.proofs.Common.{◌≡◌, ℕ, zero, suc, ◌<◌, Bool, true, false, List, [], ◌∷◌, ◌++◌, None, Some, Result, Ok, Err, All, Contains, OnOk, IfErr, length, get_or, cond, take, drop, refl, sym, ap₂, subst, ◌∙◌, arith}
-use Rattle.std.proofs.Math.Seq.{drop-append_seam, take-append_seam}
+use Rattle.std.proofs.Common.{◌≡◌, ℕ, zero, suc, ◌<◌, Bool, true, false, List, [], ◌∷◌, ◌++◌, None, Some, Result, Ok, Err, All, Contains, OnOk, IfErr, length, get_or, cond, refl, sym, ap, subst, ◌∙◌, arith}
 use Rattle.cfm_memory.specs.Instances.{Layout}
 use Rattle.cfm_libraries.specs.Stores.{Pair}
 use Rattle.cfm_prepare.specs.Addresses.{first_bad_program, section_of}
+use Rattle.cfm_prepare.specs.Contexts.{has}
 use Rattle.cfm_prepare.specs.Fragments.{Present, StandAll, all_given_back, first_bad_image, is_present, new_among}
 use Rattle.cfm_prepare.specs.Placing.{AreNew, ArePrepared}
 use Rattle.cfm_prepare.specs.Steps.{MayNotPrepareNew}
 use Rattle.cfm_prepare.specs.Kept.Ready.{AllHeld, AreReady, FillsUpTo, HaveBegun, HavePlaced, RelocatesUpTo}
 use Rattle.cfm_prepare.specs.declared.fault.PrepareFault.{PrepareFault}
 use Rattle.cfm_prepare.specs.declared.fault.PrepareFault.TheVariants as fault
+use Rattle.cfm_prepare.proofs.FoundLemmas.{present-has}
 use Rattle.cfm_prepare.proofs.PlacedLemmas.{placed-back}
 use Rattle.cfm_prepare.proofs.ReadyLemmas.{held-rejoined, ready-behind}
 
--- what stands behind those that were there
-pub back-is : (there now fresh xs : List Present) (n : ℕ) → n ≡ length there → xs ≡ now → now ≡ there ++ fresh → drop n xs ≡ fresh
-back-is there now fresh xs n len xs_is behind = ap₂ drop len (xs_is ∙ behind) ∙ drop-append_seam there fresh
-
-pub front-is : (there now fresh xs : List Present) (n : ℕ) → n ≡ length there → xs ≡ now → now ≡ there ++ fresh → take n xs ≡ there
-front-is there now fresh xs n len xs_is behind = ap₂ take len (xs_is ∙ behind) ∙ take-append_seam there fresh
-
-pub begun-of : (pairs : List Pair) (m : Layout) (there now : List Present) (ps : List ℕ) (after : Layout) → AreReady m there → HavePlaced pairs m there ps now after → HaveBegun m there now after
-begun-of pairs m there now ps after ready have = record {
+-- what was placed can be given back
+pub begun-of : (pairs : List Pair) (m : Layout) (there now : List Present) (ps new : List ℕ) (after : Layout) → AreReady m there → ((p : ℕ) → has ps p ≡ true → has new p ≡ true) → HavePlaced pairs m there ps now after → HaveBegun m there new now after
+begun-of pairs m there now ps new after ready inside have = record {
   fresh = have.fresh;
   behind = have.behind;
+  are = λ p there. inside p (ap (λ qs. has qs p) (sym have.are) ∙ (sym (present-has have.fresh p) ∙ there));
   others = placed-back pairs m have.fresh after have.placed;
   ready = subst (λ fs. AreReady after fs) (sym have.behind) (ready-behind pairs m there have.fresh after ready have.placed);
 }
 
 pub begun-after : (pairs : List Pair) (m : Layout) (there now : List Present) (ps : List ℕ) (mid after : Layout) (have : HavePlaced pairs m there ps now mid) → AreReady m there
-    → AllHeld after have.fresh → all_given_back after have.fresh ≡ all_given_back mid have.fresh → HaveBegun m there now after
+    → AllHeld after have.fresh → all_given_back after have.fresh ≡ all_given_back mid have.fresh → HaveBegun m there ps now after
 begun-after pairs m there now ps mid after have ready held same = record {
   fresh = have.fresh;
   behind = have.behind;
+  are = λ p there. ap (λ qs. has qs p) (sym have.are) ∙ (sym (present-has have.fresh p) ∙ there);
   others = same ∙ placed-back pairs m have.fresh mid have.placed;
   ready = subst (λ fs. AreReady after fs) (sym have.behind) (held-rejoined mid after there have.fresh (ready-behind pairs m there have.fresh mid ready have.placed) held same);
 }

@@ -1,5 +1,5 @@
 -- Fragments in memory: what is left when they are given back, and what a change of one leaves of the others.
-use Rattle.std.proofs.Common.{◌≡◌, ◌≢◌, ℕ, zero, suc, ◌<◌, List, [], ◌∷◌, ◌++◌, length, refl, sym, ap, subst, ◌∙◌, inl, inr, IsTrue, arith}
+use Rattle.std.proofs.Common.{◌≡◌, ◌≢◌, ℕ, zero, suc, ◌<◌, List, [], ◌∷◌, length, refl, sym, ap, subst, ◌∙◌, inl, inr, IsTrue, arith}
 use Rattle.std.proofs.lemmas.Bool.Decides.{eqb_tells}
 use Rattle.std.proofs.lemmas.List.{get_or_default}
 use Rattle.cfm_memory.specs.Extents.{AreHeld, Stand, given_back, place_at}
@@ -36,7 +36,7 @@ gone-first m a (p ∷ ps) =
     ap (λ (xs : List Instance). given_back (with_instances m xs) ps) (without-swap m.instances a p.address) ∙ gone-first (with_instances m (without m.instances p.address)) a ps
 
 -- nor which of two fragments
-given-swap : (m : Layout) (ps qs : List Place) → given_back (given_back m ps) qs ≡ given_back (given_back m qs) ps
+pub given-swap : (m : Layout) (ps qs : List Place) → given_back (given_back m ps) qs ≡ given_back (given_back m qs) ps
 given-swap m [] qs = refl
 given-swap m (p ∷ ps) qs =
     given-swap (with_instances m (without m.instances p.address)) ps qs ∙ ap (λ (k : Layout). given_back k ps) (gone-first m p.address qs)
@@ -44,11 +44,6 @@ given-swap m (p ∷ ps) qs =
 pub all-swap : (m : Layout) (fs : List Present) (ps : List Place) → all_given_back (given_back m ps) fs ≡ given_back (all_given_back m fs) ps
 all-swap m [] ps = refl
 all-swap m (f ∷ fs) ps = ap (λ (k : Layout). all_given_back k fs) (given-swap m ps f.places) ∙ all-swap (given_back m f.places) fs ps
-
--- the last of some fragments may go first
-pub all-push : (m : Layout) (fs : List Present) (f : Present) → all_given_back m (fs ++ f ∷ []) ≡ all_given_back (given_back m f.places) fs
-all-push m [] f = refl
-all-push m (g ∷ fs) f = all-push (given_back m g.places) fs f ∙ ap (λ (k : Layout). all_given_back k fs) (given-swap m g.places f.places)
 
 -- a change of one fragment's sections is gone with all of them
 pub all-one : (m after : Layout) (fs : List Present) (i : ℕ) → i < length fs → given_back after (present_at fs i).places ≡ given_back m (present_at fs i).places → all_given_back after fs ≡ all_given_back m fs

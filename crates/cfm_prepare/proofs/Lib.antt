@@ -1,6 +1,7 @@
 mod BegunLemmas
 mod ConnectionLemmas
 mod FragmentLemmas
+mod FoundLemmas
 mod GroupLemmas
 mod KeepLemmas
 pub mod Laws
@@ -13,4 +14,5 @@ mod ReadyLemmas
 mod ReleaseLemmas
 mod RunLemmas
 mod StepLemmas
+mod TableLemmas
 mod UsersLemmas

@@ -5,9 +5,10 @@ use Rattle.std.proofs.Math.ListN.{set}
 use Rattle.std.proofs.lemmas.Bool.Decides.{eqb_tells, nat_tests}
 use Rattle.std.proofs.lemmas.List.{get_or-set_other, get_or-set_same}
 use Rattle.cfm_prepare.specs.Contexts.{Open, has, is_needed, needed_of, open_of, open_without, unneeded_of}
-use Rattle.cfm_prepare.specs.Fragments.{Present}
-use Rattle.cfm_prepare.specs.Kept.Users.{CountsMore, CountUsers, IsOnce, count_at, counted, is_used, unused_of, used_of, users_of}
+use Rattle.cfm_prepare.specs.Fragments.{Present, is_present}
+use Rattle.cfm_prepare.specs.Kept.Users.{AreUsedBut, CountsMore, CountUsers, IsOnce, count_at, counted, is_used, unused_of, used_of, users_of}
 use Rattle.cfm_prepare.proofs.ReaderLemmas.{has-contains}
+use Rattle.cfm_prepare.proofs.TableLemmas.{present-append}
 
 -- a fragment is needed where it has users
 needed-one : (b c : Bool) (n : ℕ) → c ≡ nat_lt 0 n → cond b true c ≡ nat_lt 0 (cond b 1 0 + n)
@@ -157,3 +158,33 @@ used-of os number o counts p is users there =
 -- counts that are as they were are of the same users
 pub same_users : (before after : List ℕ) (os : List Open) → ((p : ℕ) → count_at after p ≡ count_at before p) → CountUsers before os → CountUsers after os
 same_users before after os same counts = λ p. same p ∙ counts p
+
+-- the fragments outside an order keep their users
+pub used-but : (before after : List ℕ) (fs : List Present) (order : List ℕ) → CountsMore order after before → ((p : ℕ) → is_present fs p ≡ true → 0 < count_at before p) → AreUsedBut after fs order
+used-but before after fs order more used = λ p out there. go (has order p) (count_at after p) (count_at before p) (more p) (used p there) out
+  where
+    go : (b : Bool) (a n : ℕ) → n ≡ a + cond b 1 0 → 0 < n → nat_lt 0 a ≡ false → b ≡ true
+    go true a n is some out = refl
+    go false a n is some out = absurd (let less : nat_lt 0 a ≡ true = grind (arith, nat_tests, is, some) in (let wrong : true ≡ false = sym less ∙ out in cc))
+
+-- what stays has users
+pub still-used : (counts : List ℕ) (fs : List Present) (p : ℕ) → is_present (used_of counts fs) p ≡ true → 0 < count_at counts p
+still-used counts [] p there = absurd (cc)
+still-used counts (f ∷ fs) p there = go (is_used counts f) refl there (λ here. still-used counts fs p here)
+  where
+    go : (b : Bool) → is_used counts f ≡ b → is_present (cond b (f ∷ used_of counts fs) (used_of counts fs)) p ≡ true → (is_present (used_of counts fs) p ≡ true → 0 < count_at counts p) → 0 < count_at counts p
+    go false is there more = more there
+    go true is there more = elim (eqb_tells f.position p) [
+      | inl same ↦ subst (λ n. 0 < count_at counts n) same.1 (grind (arith, nat_tests, is))
+      | inr other ↦ more (ap (λ b. cond b true (is_present (used_of counts fs) p)) (sym other.0) ∙ there)
+    ]
+
+-- new fragments of an order have users when it is counted
+pub entered-used : (before after : List ℕ) (there now fresh : List Present) (order : List ℕ) → CountsMore order before after → ((p : ℕ) → is_present there p ≡ true → 0 < count_at before p)
+    → now ≡ there ++ fresh → ((p : ℕ) → is_present fresh p ≡ true → has order p ≡ true) → (p : ℕ) → is_present now p ≡ true → 0 < count_at after p
+entered-used before after there now fresh order more used behind inside p is =
+    go (is_present there p) refl (sym (ap (λ fs. is_present fs p) behind ∙ present-append there fresh p) ∙ is)
+  where
+    go : (b : Bool) → is_present there p ≡ b → cond b true (is_present fresh p) ≡ true → 0 < count_at after p
+    go true here some = (let a = more p in let u = used p here in omega (arith, a, u))
+    go false none here = (let a = more p in let one : counted order p ≡ 1 = rw (inside p here) refl in omega (arith, a, one))

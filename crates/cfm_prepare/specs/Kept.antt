@@ -1,4 +1,5 @@
 -- What the code keeps. Private contracts and proofs speak of it, public ones don't.
 pub mod Connections
 pub mod Ready
+pub mod Tables
 pub mod Users

@@ -1,14 +1,14 @@
 ghost use Rattle.std.specs.Prelude.{◌≡◌, Contains, IsTrue, Some};
 ghost use Rattle.pef_loader.specs.Export.{has_section};
 ghost use Rattle.pef_loader.specs.Views.{loaded};
-ghost use Rattle.cfm_closure.specs.Fragments.{loader_at};
+ghost use Rattle.cfm_libraries.specs.Fragments.{loader_at};
 ghost use Rattle.cfm_prepare.specs.Contexts.{has};
 ghost use Rattle.cfm_fragment.specs.Prepared.{entry_address};
 ghost use Rattle.cfm_prepare.specs.Fragments.{places_of};
 ghost use Rattle.cfm_prepare.specs.Readers.{entries_of, export_address, main_address, symbol_address};
 ghost use Rattle.cfm_prepare.specs.Kept.Users.{IsOnce};
 
-use crate::present::Placed;
+use crate::present::Fragments;
 use crate::relocating::{section_address, target_address};
 use cfm_closure::Closure;
 use cfm_fragment::Entries;
@@ -71,8 +71,8 @@ impl<'a> Connected<'a> {
 
     /// The address of the root's first export of a name.
     #[tactic(auto, unfolding(crate::specs::Readers::symbol_address))]
-    pub fn symbol(&self, present: &[Placed], name: &[u8]) -> Option<u32>
-        ensures { result ≡ symbol_address present.now self.now name.now }
+    pub fn symbol(&self, present: &Fragments, name: &[u8]) -> Option<u32>
+        ensures { result ≡ symbol_address present.now.items self.now name.now }
     {
         let loader = self.closure.loader(self.root);
         let index = loader.export_named(name)?;
@@ -81,10 +81,15 @@ impl<'a> Connected<'a> {
     }
 
     /// The address of an export of the root.
-    fn export_address(&self, present: &[Placed], loader: &Loader<'_>, export: ExportView<'_>) -> u32
+    fn export_address(
+        &self,
+        present: &Fragments,
+        loader: &Loader<'_>,
+        export: ExportView<'_>,
+    ) -> u32
         requires loader { loader_at self.now.closed.pairs self.now.root ≡ Some (loaded loader.now) }
         requires section { IsTrue (has_section (loaded loader.now).header (loaded loader.now).sections export.value export.section) }
-        ensures { result ≡ export_address self.now.closed.pairs present.now self.now.root export.entry.value export.entry.section }
+        ensures { result ≡ export_address self.now.closed.pairs present.now.items self.now.root export.entry.value export.entry.section }
     {
         match export.section {
             ABSOLUTE_EXPORT => export.value,
@@ -100,16 +105,16 @@ impl<'a> Connected<'a> {
     }
 
     /// The address of the root's main entry.
-    pub fn main(&self, present: &[Placed]) -> Option<u32>
-        ensures { result ≡ main_address present.now self.now }
+    pub fn main(&self, present: &Fragments) -> Option<u32>
+        ensures { result ≡ main_address present.now.items self.now }
     {
         let (section, offset) = self.closure.loader(self.root).main()?;
         Some(section_address(present, self.root, section).wrapping_add(offset))
     }
 
     /// The addresses at which a fragment of the closure is entered.
-    pub fn entries(&self, present: &[Placed], position: usize) -> Option<Entries>
-        ensures { result ≡ entries_of present.now self.now position }
+    pub fn entries(&self, present: &Fragments, position: usize) -> Option<Entries>
+        ensures { result ≡ entries_of present.now.items self.now position }
     {
         if !has(self.closure.order(), position) {
             return None;
@@ -124,8 +129,8 @@ impl<'a> Connected<'a> {
 }
 
 /// The address of an entry of a fragment, given by its section and the offset in it.
-fn entry_address(present: &[Placed], position: usize, entry: Option<(u32, u32)>) -> Option<u32>
-    ensures { result ≡ entry_address (places_of present.now position) entry }
+fn entry_address(present: &Fragments, position: usize, entry: Option<(u32, u32)>) -> Option<u32>
+    ensures { result ≡ entry_address (places_of present.now.items position) entry }
 {
     let (section, offset) = entry?;
     Some(section_address(present, position, section).wrapping_add(offset))

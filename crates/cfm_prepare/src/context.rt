@@ -11,7 +11,7 @@ use crate::connected::Connected;
 use crate::connections::Connections;
 use crate::fault::{CloseFault, PrepareFault};
 use crate::preparing::prepare_new;
-use crate::present::{Placed, new_among, places_of};
+use crate::present::{Fragments, new_among};
 use crate::releasing::release;
 use crate::users::{enter, leave, make_room};
 use cfm_closure::{Store, closure};
@@ -41,7 +41,7 @@ pub struct Context<'a> {
     connections: Connections<'a>,
     /// How many of them have a fragment in their closures, by its place in the store.
     users: Vec<usize>,
-    present: Vec<Placed>,
+    present: Fragments,
 }
 
 impl<'a> Model for Context<'a> {
@@ -69,7 +69,7 @@ impl<'a> Context<'a> {
             given: 0,
             connections: Connections::new(alloc),
             users: Vec::new(alloc),
-            present: Vec::new(alloc),
+            present: Fragments::new(alloc),
         }
     }
 
@@ -144,8 +144,9 @@ impl<'a> Context<'a> {
         let Some(closed) = self.connections.remove(connection.0) else {
             return Err(CloseFault::BadConnection);
         };
-        leave(&mut self.users, closed.closure().order());
-        release(&mut self.memory, &self.users, &mut self.present);
+        let order = closed.closure().order();
+        leave(&mut self.users, order);
+        release(&mut self.memory, &self.users, &mut self.present, order);
         Ok(())
     }
 
@@ -197,7 +198,7 @@ impl<'a> Context<'a> {
         ensures section { option_map section_seen result ≡ section_in self.now position i }
         ensures within { MatchOption result (length (places_of self.now.present position) ≤ i) (λ s. s.0 + length s.1.now ≤ self.now.memory.limit) }
     {
-        let place = *places_of(&self.present, position).get(i)?;
+        let place = *self.present.places(position).get(i)?;
         Some((place.address, self.memory.part(place)))
     }
 
@@ -205,7 +206,7 @@ impl<'a> Context<'a> {
     pub fn section_count(&self, position: usize) -> usize
         ensures { result ≡ length (places_of self.now.present position) }
     {
-        places_of(&self.present, position).len()
+        self.present.places(position).len()
     }
 
     /// The addresses at which a fragment of a connection's closure is entered, given by its place in the

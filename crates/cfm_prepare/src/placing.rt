@@ -1,13 +1,13 @@
-ghost use Rattle.std.specs.Prelude.{◌≡◌, ◌++◌, ℕ, List, [], ◌∷◌, All, Contains, IfErr, OnErr, OnOk, take};
+ghost use Rattle.std.specs.Prelude.{◌≡◌, ◌++◌, ℕ, List, [], ◌∷◌, All, Contains, IfErr, OnErr, OnOk, false, take};
 ghost use Rattle.cfm_memory.specs.Extents.{ArePlaced};
 ghost use Rattle.cfm_memory.specs.declared.place.Place.{Place};
 ghost use Rattle.cfm_libraries.specs.Stores.{pair_of};
-ghost use Rattle.cfm_prepare.specs.Fragments.{extents_in};
+ghost use Rattle.cfm_prepare.specs.Fragments.{extents_in, is_present};
 ghost use Rattle.cfm_prepare.specs.Steps.{MayNotPrepareNew};
-ghost use Rattle.cfm_prepare.specs.Kept.Ready.{HavePlaced, IsNotPlaced};
+ghost use Rattle.cfm_prepare.specs.Kept.Ready.{AreAbsent, HavePlaced, IsNotPlaced};
 
 use crate::fault::PrepareFault;
-use crate::present::Placed;
+use crate::present::Fragments;
 use cfm_closure::{Closure, Store};
 use cfm_fragment::place_sections;
 use cfm_memory::{Memory, MemoryFault};
@@ -30,10 +30,11 @@ pub(crate) fn place_fragments<'a>(
     store: &Store<'a>,
     closure: &Closure<'_>,
     new: &[usize],
-    present: &mut Vec<Placed>,
+    present: &mut Fragments,
 ) -> Result<(), PrepareFault<'a>>
     requires store { store.now ≡ closure.now.pairs }
     requires members { All (λ p. Contains closure.now.order p) new.now }
+    requires new { AreAbsent present.old.items new.now }
     ensures placed { OnOk result (HavePlaced store.now memory.old present.old.items new.now present.new.items memory.new) }
     ensures refused { IfErr result (λ fault. MayNotPrepareNew store.now present.old.items memory.old new.now fault) }
     ensures so_far { (n : ℕ) × HavePlaced store.now memory.old present.old.items (take n new.now) present.new.items memory.new }
@@ -51,19 +52,20 @@ fn place_fragment<'a>(
     store: &Store<'a>,
     closure: &Closure<'_>,
     position: usize,
-    present: &mut Vec<Placed>,
+    present: &mut Fragments,
 ) -> Result<(), PrepareFault<'a>>
     requires store { store.now ≡ closure.now.pairs }
     requires member { Contains closure.now.order position }
+    requires absent { is_present present.old.items position ≡ false }
     ensures placed { OnOk result ((places : List Place) × ArePlaced memory.old (extents_in store.now position) places memory.new × (present.new.items ≡ present.old.items ++ (record { position = position; places = places }) ∷ [])) }
     ensures refused { IfErr result (λ fault. IsNotPlaced store.now position memory.old fault) }
     ensures unchanged { OnErr result ((memory.new ≡ memory.old) × (present.new.items ≡ present.old.items)) }
 {
-    present.reserve(1)?;
+    present.make_room(position)?;
     let container = closure.container(position);
     match place_sections(alloc, memory, &container) {
         Ok(places) => {
-            present.push(Placed::new(position, places)).unwrap();
+            present.put(position, places);
             Ok(())
         }
         Err(MemoryFault::NoRoom) => Err(PrepareFault::NoRoom {

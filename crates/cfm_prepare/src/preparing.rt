@@ -1,16 +1,16 @@
-ghost use Rattle.std.specs.Prelude.{◌≡◌, ◌≤◌, ◌++◌, List, All, Contains, IfErr, OnErr, OnOk, drop, length, take};
-ghost use Rattle.cfm_prepare.specs.Fragments.{Present, all_given_back};
+ghost use Rattle.std.specs.Prelude.{◌≡◌, ◌++◌, List, All, Contains, IfErr, OnErr, OnOk};
+ghost use Rattle.cfm_prepare.specs.Fragments.{Present};
 ghost use Rattle.cfm_prepare.specs.Placing.{ArePrepared};
 ghost use Rattle.cfm_prepare.specs.Steps.{MayNotPrepareNew};
-ghost use Rattle.cfm_prepare.specs.Kept.Ready.{AreReady, HaveBegun};
+ghost use Rattle.cfm_prepare.specs.Kept.Ready.{AreAbsent, AreReady, HaveBegun};
 
 use crate::fault::PrepareFault;
 use crate::filling::fill_fragments;
 use crate::placing::place_fragments;
-use crate::present::Placed;
+use crate::present::Fragments;
+use crate::releasing::give_back_all;
 use crate::relocating::relocate_fragments;
 use cfm_closure::{Closure, Store};
-use cfm_fragment::give_back;
 use cfm_memory::Memory;
 use std::alloc::Global;
 
@@ -22,21 +22,21 @@ pub(crate) fn prepare_new<'a>(
     store: &Store<'a>,
     closure: &Closure<'_>,
     new: &[usize],
-    present: &mut Vec<Placed>,
+    present: &mut Fragments,
 ) -> Result<(), PrepareFault<'a>>
     requires store { store.now ≡ closure.now.pairs }
     requires members { All (λ p. Contains closure.now.order p) new.now }
+    requires new { AreAbsent present.old.items new.now }
     requires ready { AreReady memory.old present.old.items }
     ensures prepared { OnOk result ((fresh : List Present) × (present.new.items ≡ present.old.items ++ fresh) × ArePrepared store.now present.old.items memory.old new.now fresh memory.new) }
     ensures refused { IfErr result (λ fault. MayNotPrepareNew store.now present.old.items memory.old new.now fault) }
     ensures unchanged { OnErr result ((memory.new ≡ memory.old) × (present.new.items ≡ present.old.items)) }
     ensures ready { AreReady memory.new present.new.items }
 {
-    let before = present.len();
     match try_prepare(alloc, memory, store, closure, new, present) {
         Ok(()) => Ok(()),
         Err(fault) => {
-            give_back_from(memory, present, before);
+            give_back_all(memory, present, new);
             Err(fault)
         }
     }
@@ -49,33 +49,17 @@ fn try_prepare<'a>(
     store: &Store<'a>,
     closure: &Closure<'_>,
     new: &[usize],
-    present: &mut Vec<Placed>,
+    present: &mut Fragments,
 ) -> Result<(), PrepareFault<'a>>
     requires store { store.now ≡ closure.now.pairs }
     requires members { All (λ p. Contains closure.now.order p) new.now }
+    requires new { AreAbsent present.old.items new.now }
     requires ready { AreReady memory.old present.old.items }
     ensures prepared { OnOk result ((fresh : List Present) × (present.new.items ≡ present.old.items ++ fresh) × ArePrepared store.now present.old.items memory.old new.now fresh memory.new) }
     ensures refused { IfErr result (λ fault. MayNotPrepareNew store.now present.old.items memory.old new.now fault) }
-    ensures begun { HaveBegun memory.old present.old.items present.new.items memory.new }
+    ensures begun { HaveBegun memory.old present.old.items new.now present.new.items memory.new }
 {
-    let before = present.len();
     place_fragments(alloc, memory, store, closure, new, present)?;
-    let (_, fresh) = present.split_at(before);
-    fill_fragments(memory, store, closure, fresh)?;
-    relocate_fragments(alloc, memory, store, closure, present, fresh)
-}
-
-/// Gives back the fragments behind the first `kept`.
-fn give_back_from(memory: &mut Memory, present: &mut Vec<Placed>, kept: usize)
-    requires kept { kept ≤ length present.old.items }
-    requires ready { AreReady memory.old present.old.items }
-    ensures memory { memory.new ≡ all_given_back memory.old (drop kept present.old.items) }
-    ensures present { present.new.items ≡ take kept present.old.items }
-    ensures ready { AreReady memory.new present.new.items }
-{
-    while present.len() > kept {
-        if let Some(fragment) = present.pop() {
-            give_back(memory, fragment.places());
-        }
-    }
+    fill_fragments(memory, store, closure, present, new)?;
+    relocate_fragments(alloc, memory, store, closure, present, new)
 }

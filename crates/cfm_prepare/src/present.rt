@@ -1,5 +1,7 @@
-ghost use Rattle.std.specs.Prelude.{◌≡◌, [], IfOk};
+ghost use Rattle.std.specs.Prelude.{◌≡◌, ◌<◌, ◌++◌, ℕ, length, [], ◌∷◌, false, IfOk, IfSome, None, OnOk, slice_index_or};
+ghost use Rattle.std.specs.Option.{IfNone, option_copied};
 ghost use Rattle.cfm_prepare.specs.Fragments.{is_present, new_among, places_of};
+ghost use Rattle.cfm_prepare.specs.Kept.Tables.{AreNumbered, HasRoom, IsTaken, in_order};
 
 use cfm_memory::Place;
 use std::alloc::{AllocError, Global};
@@ -8,75 +10,132 @@ use std::marker::Model;
 /// A fragment that has a place in memory.
 #[derive(Drop)]
 pub(crate) struct Placed {
-    /// Its place in the store.
-    position: usize,
+    /// How many were placed before it.
+    number: u64,
     /// Where its instantiated sections lie, in order.
     places: Vec<Place>,
 }
 
-impl Model for Placed {
-    ghost use Rattle.cfm_prepare.specs.Fragments.{Present};
-
-    ghost Value = { Present };
-
-    ghost view = { λ f. record { position = f.position; places = f.places.items } };
+/// The fragments that are present, by their places in the store.
+#[derive(Drop)]
+pub(crate) struct Fragments {
+    slots: Vec<Option<Placed>>,
+    /// How many were placed so far. Contracts have the fragments in the order in which they were placed.
+    next: u64,
 }
 
-impl Placed {
-    pub fn new(position: usize, places: Vec<Place>) -> Placed
-        ensures { result ≡ record { position = position; places = places.items } }
-    {
-        Placed { position, places }
-    }
+impl Model for Fragments {
+    ghost use Rattle.std.specs.Prelude.{◌-◌, ◌^◌, length};
+    ghost use Rattle.cfm_prepare.specs.Kept.Tables.{AreNumbered, Table, in_order};
 
-    pub fn position(&self) -> usize
-        ensures { result ≡ self.now.position }
-    {
-        self.position
-    }
+    ghost Value = { Table };
 
-    pub fn places(&self) -> &[Place]
-        ensures { result.now ≡ self.now.places }
-    {
-        &self.places
-    }
+    ghost view = { λ f. record { items = in_order f.next f.slots.items; room = length f.slots.items; left = 2 ^ 64 - 1 - f.next } };
+
+    ghost invariant = { λ f. AreNumbered f.next f.slots.items };
 }
 
-/// Where the sections of the fragment in a place of the store lie; none where it isn't present.
-pub(crate) fn places_of(present: &[Placed], position: usize) -> &[Place]
-    ensures { result.now ≡ places_of present.now position }
-{
-    for fragment in present {
-        if fragment.position() == position {
-            return fragment.places();
+impl Fragments {
+    /// No fragments. Nothing is allocated yet.
+    pub fn new(alloc: Global) -> Fragments
+        ensures { result.items ≡ [] }
+    {
+        Fragments {
+            slots: Vec::new(alloc),
+            next: 0,
         }
     }
-    &[]
-}
 
-/// Whether the fragment in a place of the store is present.
-fn is_present(present: &[Placed], position: usize) -> bool
-    ensures { result ≡ is_present present.now position }
-{
-    for fragment in present {
-        if fragment.position() == position {
-            return true;
+    /// Where the sections of the fragment in a place of the store lie; none where it isn't present.
+    pub fn places(&self, position: usize) -> &[Place]
+        ensures { result.now ≡ places_of self.now.items position }
+    {
+        match slot(&self.slots, position) {
+            Some(fragment) => &fragment.places,
+            None => &[],
         }
     }
-    false
+
+    /// Whether the fragment in a place of the store is present.
+    pub fn has(&self, position: usize) -> bool
+        ensures { result ≡ is_present self.now.items position }
+    {
+        slot(&self.slots, position).is_some()
+    }
+
+    /// Makes room for the fragment in a place of the store.
+    ///
+    /// # Errors
+    ///
+    /// Where the machine refuses memory, or 2^64 fragments were placed.
+    pub fn make_room(&mut self, position: usize) -> Result<(), AllocError>
+        ensures room { OnOk result (HasRoom self.new position) }
+        ensures same { self.new.items ≡ self.old.items }
+    {
+        if self.next == u64::MAX {
+            return Err(AllocError);
+        }
+        grow(&mut self.slots, position)
+    }
+
+    /// Puts a fragment behind the others.
+    pub fn put(&mut self, position: usize, places: Vec<Place>)
+        requires room { HasRoom self.old position }
+        requires absent { is_present self.old.items position ≡ false }
+        ensures { self.new.items ≡ self.old.items ++ (record { position = position; places = places.items }) ∷ [] }
+    {
+        self.slots[position] = Some(Placed {
+            number: self.next,
+            places,
+        });
+        self.next += 1;
+    }
+
+    /// Takes out a fragment, and tells where its sections lie. `None` where it isn't present.
+    pub fn take(&mut self, position: usize) -> Option<Vec<Place>>
+        ensures taken { IfSome result (λ places. IsTaken self.old.items self.new.items position places.items) }
+        ensures absent { IfNone result ((is_present self.old.items position ≡ false) × (self.new.items ≡ self.old.items)) }
+    {
+        if position >= self.slots.len() {
+            return None;
+        }
+        let Some(fragment) = self.slots[position].take() else {
+            return None;
+        };
+        Some(fragment.places)
+    }
+}
+
+/// Makes slots up to that of a place of the store.
+fn grow(slots: &mut Vec<Option<Placed>>, position: usize) -> Result<(), AllocError>
+    ensures room { OnOk result (position < length slots.new.items) }
+    ensures same { (n : ℕ) → in_order n slots.new.items ≡ in_order n slots.old.items }
+    ensures numbered { (n : ℕ) → AreNumbered n slots.old.items → AreNumbered n slots.new.items }
+{
+    while slots.len() <= position {
+        slots.push(None)?;
+    }
+    Ok(())
+}
+
+/// What stands in the slot of a place of the store.
+fn slot(slots: &[Option<Placed>], position: usize) -> Option<&Placed>
+    ensures { option_copied result ≡ slice_index_or slots.now position None }
+{
+    slots.get(position)?.as_ref()
 }
 
 /// The fragments of a closure that aren't present, in its order.
 pub(crate) fn new_among(
     alloc: Global,
-    present: &[Placed],
+    present: &Fragments,
     order: &[usize],
 ) -> Result<Vec<usize>, AllocError>
-    ensures { IfOk result (λ new. new.items ≡ new_among present.now order.now) }
+    ensures { IfOk result (λ new. new.items ≡ new_among present.now.items order.now) }
 {
     let mut new = Vec::new(alloc);
     for position in order {
-        if !is_present(present, *position) {
+        if !present.has(*position) {
             new.push(*position)?;
         }
     }

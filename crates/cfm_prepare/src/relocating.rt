@@ -3,40 +3,41 @@ ghost use Rattle.cfm_memory.specs.Extents.{AreApart, AreHeld, Stand, given_back,
 ghost use Rattle.cfm_libraries.specs.Fragments.{import_count};
 ghost use Rattle.cfm_prepare.specs.Addresses.{addresses_of, first_bad_program, imports_from, section_of, target_address};
 ghost use Rattle.cfm_prepare.specs.Fragments.{StandAll, all_given_back, filled_in, named, places_of, reloc_refusal_in};
-ghost use Rattle.cfm_prepare.specs.Kept.Ready.{AllApart, AllFit, AllHeld, AllIn, Fits, OwnApart, RelocatesUpTo};
+ghost use Rattle.cfm_prepare.specs.Kept.Ready.{AllApart, AllFit, AllHeld, AllIn, Fits, OwnApart, RelocatesUpTo, found_in};
+ghost use Rattle.cfm_prepare.specs.Now.{present_of};
 
 use crate::fault::PrepareFault;
 use crate::placing::name_of;
-use crate::present::{Placed, places_of};
+use crate::present::Fragments;
 use cfm_closure::{Closure, Store, Target};
 use cfm_fragment::{relocate_sections, section_addresses};
 use cfm_memory::Memory;
 use std::alloc::{AllocError, Global};
 
-/// Relocates new fragments, which were filled, up to the first that is refused. `all` are the fragments that
-/// are present, the new ones among them.
+/// Relocates new fragments, which were filled, up to the first that is refused. The fragments that are present
+/// have the new ones among them.
 pub(crate) fn relocate_fragments<'a>(
     alloc: Global,
     memory: &mut Memory,
     store: &Store<'a>,
     closure: &Closure<'_>,
-    all: &[Placed],
-    fresh: &[Placed],
+    present: &Fragments,
+    new: &[usize],
 ) -> Result<(), PrepareFault<'a>>
     requires store { store.now ≡ closure.now.pairs }
-    requires members { AllIn closure.now.order fresh.now }
-    requires fit { AllFit store.now fresh.now }
-    requires own { OwnApart fresh.now }
-    requires apart { AllApart fresh.now }
-    requires held { AllHeld memory.old fresh.now }
-    requires filled { StandAll memory.old fresh.now (λ f. filled_in store.now f.position) }
-    ensures refused { RelocatesUpTo result (first_bad_program store.now all.now fresh.now) }
-    ensures relocated { OnOk result (StandAll memory.new fresh.now (section_of store.now all.now)) }
-    ensures others { all_given_back memory.new fresh.now ≡ all_given_back memory.old fresh.now }
-    ensures held { AllHeld memory.new fresh.now }
+    requires members { AllIn closure.now.order (found_in present.now.items new.now) }
+    requires fit { AllFit store.now (found_in present.now.items new.now) }
+    requires own { OwnApart (found_in present.now.items new.now) }
+    requires apart { AllApart (found_in present.now.items new.now) }
+    requires held { AllHeld memory.old (found_in present.now.items new.now) }
+    requires filled { StandAll memory.old (found_in present.now.items new.now) (λ f. filled_in store.now f.position) }
+    ensures refused { RelocatesUpTo result (first_bad_program store.now present.now.items (found_in present.now.items new.now)) }
+    ensures relocated { OnOk result (StandAll memory.new (found_in present.now.items new.now) (section_of store.now present.now.items)) }
+    ensures others { all_given_back memory.new (found_in present.now.items new.now) ≡ all_given_back memory.old (found_in present.now.items new.now) }
+    ensures held { AllHeld memory.new (found_in present.now.items new.now) }
 {
-    for fragment in fresh {
-        relocate_fragment(alloc, memory, store, closure, all, fragment)?;
+    for position in new {
+        relocate_fragment(alloc, memory, store, closure, present, *position)?;
     }
     Ok(())
 }
@@ -47,26 +48,25 @@ fn relocate_fragment<'a>(
     memory: &mut Memory,
     store: &Store<'a>,
     closure: &Closure<'_>,
-    all: &[Placed],
-    fragment: &Placed,
+    present: &Fragments,
+    position: usize,
 ) -> Result<(), PrepareFault<'a>>
     requires store { store.now ≡ closure.now.pairs }
-    requires member { Contains closure.now.order fragment.now.position }
-    requires fits { Fits store.now fragment.now }
-    requires own { AreApart fragment.now.places }
-    requires held { AreHeld memory.old fragment.now.places }
-    requires filled { Stand memory.old fragment.now.places (filled_in store.now fragment.now.position) }
-    ensures refused { RelocatesUpTo result (named store.now fragment.now.position (reloc_refusal_in store.now (addresses_of store.now all.now fragment.now) fragment.now.position)) }
-    ensures relocated { OnOk result (Stand memory.new fragment.now.places (section_of store.now all.now fragment.now)) }
-    ensures others { given_back memory.new fragment.now.places ≡ given_back memory.old fragment.now.places }
-    ensures held { AreHeld memory.new fragment.now.places }
+    requires member { Contains closure.now.order position }
+    requires fits { Fits store.now (present_of present.now.items position) }
+    requires own { AreApart (places_of present.now.items position) }
+    requires held { AreHeld memory.old (places_of present.now.items position) }
+    requires filled { Stand memory.old (places_of present.now.items position) (filled_in store.now position) }
+    ensures refused { RelocatesUpTo result (named store.now position (reloc_refusal_in store.now (addresses_of store.now present.now.items (present_of present.now.items position)) position)) }
+    ensures relocated { OnOk result (Stand memory.new (places_of present.now.items position) (section_of store.now present.now.items (present_of present.now.items position))) }
+    ensures others { given_back memory.new (places_of present.now.items position) ≡ given_back memory.old (places_of present.now.items position) }
+    ensures held { AreHeld memory.new (places_of present.now.items position) }
 {
-    let position = fragment.position();
-    let places = fragment.places();
+    let places = present.places(position);
     let Ok(sections) = section_addresses(alloc, places) else {
         return Err(PrepareFault::OutOfMemory);
     };
-    let imports = import_addresses(alloc, closure, all, position)?;
+    let imports = import_addresses(alloc, closure, present, position)?;
     let loader = closure.loader(position);
     match relocate_sections(memory, places, &loader, &sections, &imports) {
         Ok(()) => Ok(()),
@@ -81,24 +81,24 @@ fn relocate_fragment<'a>(
 fn import_addresses(
     alloc: Global,
     closure: &Closure<'_>,
-    all: &[Placed],
+    present: &Fragments,
     position: usize,
 ) -> Result<Vec<u32>, AllocError>
     requires { Contains closure.now.order position }
-    ensures { IfOk result (λ addresses. addresses.items ≡ imports_from closure.now.pairs all.now position 0 (import_count closure.now.pairs position)) }
+    ensures { IfOk result (λ addresses. addresses.items ≡ imports_from closure.now.pairs present.now.items position 0 (import_count closure.now.pairs position)) }
 {
     let mut addresses = Vec::new(alloc);
     let count = closure.loader(position).imports();
     for import in 0..count {
         let target = closure.target(position, import as usize);
-        addresses.push(target_address(all, target))?;
+        addresses.push(target_address(present, target))?;
     }
     Ok(addresses)
 }
 
 /// The address of a target.
-pub(crate) fn target_address(all: &[Placed], target: Option<Target>) -> u32
-    ensures { result ≡ target_address all.now target }
+pub(crate) fn target_address(present: &Fragments, target: Option<Target>) -> u32
+    ensures { result ≡ target_address present.now.items target }
 {
     match target {
         None => 0,
@@ -109,15 +109,15 @@ pub(crate) fn target_address(all: &[Placed], target: Option<Target>) -> u32
                 section,
                 offset,
             },
-        ) => section_address(all, fragment, section).wrapping_add(offset),
+        ) => section_address(present, fragment, section).wrapping_add(offset),
     }
 }
 
 /// The address of a section of a fragment; 0 where it isn't there.
-pub(crate) fn section_address(all: &[Placed], fragment: usize, section: u32) -> u32
-    ensures { result ≡ (place_at (places_of all.now fragment) section).address }
+pub(crate) fn section_address(present: &Fragments, fragment: usize, section: u32) -> u32
+    ensures { result ≡ (place_at (places_of present.now.items fragment) section).address }
 {
-    match places_of(all, fragment).get(section as usize) {
+    match present.places(fragment).get(section as usize) {
         Some(place) => place.address,
         None => 0,
     }

@@ -1,14 +1,17 @@
 -- What is kept of present fragments: their sections stand in memory, each at an address of its own.
-use Rattle.std.specs.Prelude.{◌≡◌, ◌≢◌, ℕ, ◌<◌, ◌≤◌, List, length, ◌++◌, Contains, Result, Ok, Err, Option, None, Some}
-use Rattle.cfm_memory.specs.Extents.{AreApart, AreHeld, ArePlaced, LackRoom, place_at}
+use Rattle.std.specs.Prelude.{◌≡◌, ◌≢◌, ◌⊎◌, ℕ, ◌<◌, ◌≤◌, false, true, List, [], ◌∷◌, length, ◌++◌, Contains, Result, Ok, Err, Option, None, Some, if◌then◌else◌}
+use Rattle.cfm_memory.specs.Extents.{AreApart, AreHeld, ArePlaced, LackRoom, given_back, place_at}
 use Rattle.cfm_memory.specs.Instances.{Layout}
+use Rattle.cfm_memory.specs.declared.place.Place.{Place}
 use Rattle.pef_pidata.specs.declared.fault.PackFault.{PackFault}
 use Rattle.pef_reloc.specs.declared.fault.RelocFault.{RelocFault}
 use Rattle.cfm_libraries.specs.Stores.{Pair, pair_of}
-use Rattle.cfm_prepare.specs.Contexts.{Open, most_connections}
+use Rattle.cfm_prepare.specs.Contexts.{Open, has, most_connections}
 use Rattle.cfm_prepare.specs.Kept.Connections.{AllBelow}
-use Rattle.cfm_prepare.specs.Kept.Users.{CountUsers}
-use Rattle.cfm_prepare.specs.Fragments.{Present, all_given_back, extents_in, positions, present_at}
+use Rattle.cfm_prepare.specs.Kept.Tables.{IsTaken}
+use Rattle.cfm_prepare.specs.Kept.Users.{CountUsers, IsOnce, count_at}
+use Rattle.cfm_prepare.specs.Fragments.{Present, all_given_back, extents_in, is_present, positions, present_at}
+use Rattle.cfm_prepare.specs.Now.{present_of}
 use Rattle.cfm_prepare.specs.Placing.{AllPlaced}
 use Rattle.cfm_prepare.specs.declared.fault.PrepareFault.{PrepareFault}
 use Rattle.cfm_prepare.specs.declared.fault.PrepareFault.TheVariants as fault
@@ -52,12 +55,38 @@ pub record HavePlaced (pairs : List Pair) (m : Layout) (there : List Present) (n
   pub are : positions fresh ≡ new
   pub placed : AllPlaced pairs m fresh after
 
--- what stands behind some fragments can be given back, and then memory is as it was
-pub record HaveBegun (m : Layout) (there now : List Present) (after : Layout) : Type 0 where
+-- the fragments of some positions, with the places that they have among all
+abbrev pub found_in : List Present → List ℕ → List Present
+found_in all [] = []
+found_in all (p ∷ ps) = present_of all p ∷ found_in all ps
+
+-- some positions, each once, have no fragments
+pub record AreAbsent (fs : List Present) (ps : List ℕ) : Type 0 where
+  pub once : IsOnce ps
+  pub none : (p : ℕ) → has ps p ≡ true → is_present fs p ≡ false
+
+-- new fragments stand behind those that were there; they can be given back, and then memory is as it was
+pub record HaveBegun (m : Layout) (there : List Present) (new : List ℕ) (now : List Present) (after : Layout) : Type 0 where
   pub fresh : List Present
   pub behind : now ≡ there ++ fresh
+  pub are : (p : ℕ) → is_present fresh p ≡ true → has new p ≡ true
   pub others : all_given_back after fresh ≡ m
   pub ready : AreReady after now
+
+-- the fragments of some positions, and the others
+abbrev pub these_of : List ℕ → List Present → List Present
+these_of ps [] = []
+these_of ps (f ∷ fs) = if has ps f.position then f ∷ these_of ps fs else these_of ps fs
+
+abbrev pub others_of : List ℕ → List Present → List Present
+others_of ps [] = []
+others_of ps (f ∷ fs) = if has ps f.position then others_of ps fs else f ∷ others_of ps fs
+
+-- the fragment of a position was given back, or there was none
+abbrev pub IsGivenBack : Layout → List Present → ℕ → Layout → List Present → Type 0
+IsGivenBack m fs p after now =
+    ((is_present fs p ≡ false) × (now ≡ fs) × (after ≡ m))
+    ⊎ ((places : List Place) × IsTaken fs now p places × (after ≡ given_back m places))
 
 -- why a fragment isn't placed
 abbrev pub IsNotPlaced : List Pair → ℕ → Layout → PrepareFault → Type 0
@@ -99,3 +128,4 @@ pub record IsKept (m : Layout) (given : ℕ) (users : List ℕ) (connections : L
   pub numbered : AllBelow given connections
   pub many : length connections ≤ given
   pub counted : CountUsers users connections
+  pub used : (p : ℕ) → is_present present p ≡ true → 0 < count_at users p

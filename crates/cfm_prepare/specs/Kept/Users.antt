@@ -1,7 +1,7 @@
 -- How many open connections have a fragment in their closures.
-use Rattle.std.specs.Prelude.{◌≡◌, ℕ, ◌+◌, Bool, false, List, [], ◌∷◌, filter, if◌then◌else◌, nat_lt, not, slice_index_or}
+use Rattle.std.specs.Prelude.{◌≡◌, ℕ, ◌+◌, Bool, false, true, List, [], ◌∷◌, filter, if◌then◌else◌, nat_lt, not, slice_index_or}
 use Rattle.cfm_prepare.specs.Contexts.{Open, has}
-use Rattle.cfm_prepare.specs.Fragments.{Present}
+use Rattle.cfm_prepare.specs.Fragments.{Present, is_present}
 
 -- a list has no number twice
 abbrev pub IsOnce : List ℕ → Type 0
@@ -40,3 +40,7 @@ used_of counts fs = filter (is_used counts) fs
 -- those that have none
 abbrev pub unused_of : List ℕ → List Present → List Present
 unused_of counts fs = filter (λ f. not (is_used counts f)) fs
+
+-- the fragments outside an order have users
+abbrev pub AreUsedBut : List ℕ → List Present → List ℕ → Type 0
+AreUsedBut counts fs order = (p : ℕ) → nat_lt 0 (count_at counts p) ≡ false → is_present fs p ≡ true → has order p ≡ true

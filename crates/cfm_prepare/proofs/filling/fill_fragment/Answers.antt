@@ -1,11 +1,7 @@
 -- The fragment's sections are those of its container.
-use Rattle.std.proofs.Common.{◌≡◌, ◌<◌, ℕ, List, Some, length, sym, ap, subst, ◌∙◌, arith}
-use Rattle.cfm_memory.specs.Extents.{place_at}
-use Rattle.cfm_memory.specs.declared.place.Place.{Place}
+use Rattle.std.proofs.Common.{◌≡◌, Some, length, sym, ap, ◌∙◌, arith}
 use Rattle.pef_views.specs.Views.{contained}
 use Rattle.cfm_libraries.specs.Fragments.{container_at}
-use Rattle.cfm_libraries.specs.Stores.{pair_of}
-use Rattle.cfm_fragment.specs.Images.{extent_at}
 use Rattle.cfm_fragment.proofs.Laws.{size-fragment}
 use Rattle.cfm_prepare.specs.Fragments.{named}
 use Rattle.cfm_prepare.proofs.FragmentLemmas.{image-there, length-there, placed-there}
@@ -13,36 +9,33 @@ use Rattle.cfm_prepare.proofs.filling.fill_fragment.Goals as goal
 
 pub fill_sections-requires-clause-there : goal.fill_sections-requires-clause-there
 fill_sections-requires-clause-there c =
-    let is : container_at c.args.store.now c.args.fragment.now.position ≡ Some (contained c.container-container.result) = rw (c.requires.store, ← c.position-position.ensures) c.container-container.ensures in
+    let is : container_at c.args.store.now c.args.position ≡ Some (contained c.container-container.result) = rw (c.requires.store) c.container-container.ensures in
     let fits = c.requires.fits in
-    let len = length-there c.args.store.now c.args.fragment.now.position (contained c.container-container.result) fits.before fits.after c.args.fragment.now.places is fits.placed in
-    omega (arith, len, ap length c.places-places.ensures)
+    let len = length-there c.args.store.now c.args.position (contained c.container-container.result) fits.before fits.after c.args.places.now is fits.placed in
+    omega (arith, len)
 
 pub fill_sections-requires-clause-sizes : goal.fill_sections-requires-clause-sizes
 fill_sections-requires-clause-sizes c =
     let container = contained c.container-container.result in
-    let is : container_at c.args.store.now c.args.fragment.now.position ≡ Some container = rw (c.requires.store, ← c.position-position.ensures) c.container-container.ensures in
+    let is : container_at c.args.store.now c.args.position ≡ Some container = rw (c.requires.store) c.container-container.ensures in
     let fits = c.requires.fits in
-    let P : List Place → Type 0 = λ ps. (k : ℕ) → k < length ps → (place_at ps k).size ≡ (extent_at container k).size in
-    subst P (sym c.places-places.ensures)
-    (size-fragment container fits.before fits.after c.args.fragment.now.places (placed-there c.args.store.now c.args.fragment.now.position container fits.before fits.after c.args.fragment.now.places is fits.placed))
+    (size-fragment container fits.before fits.after c.args.places.now (placed-there c.args.store.now c.args.position container fits.before fits.after c.args.places.now is fits.placed))
 
 pub returns-in-Ok-clause-refused : goal.returns-in-Ok-clause-refused
 returns-in-Ok-clause-refused c =
     let container = contained c.container-container.result in
-    let p = c.args.fragment.now.position in
-    let is : container_at c.args.store.now p ≡ Some container = rw (c.requires.store, ← c.position-position.ensures) c.container-container.ensures in
+    let p = c.args.position in
+    let is : container_at c.args.store.now p ≡ Some container = rw (c.requires.store) c.container-container.ensures in
     let fits = c.requires.fits in
-    let len = ap length c.places-places.ensures ∙ length-there c.args.store.now p container fits.before fits.after c.args.fragment.now.places is fits.placed in
-    ap (λ o. named c.args.store.now p o) (image-there c.args.store.now p container (length c.places-places.result.now) is len ∙ sym c.in-Ok.ensures.refused)
+    let len = length-there c.args.store.now p container fits.before fits.after c.args.places.now is fits.placed in
+    ap (λ o. named c.args.store.now p o) (image-there c.args.store.now p container (length c.args.places.now) is len ∙ sym c.in-Ok.ensures.refused)
 
 pub returns-in-Err-clause-refused : goal.returns-in-Err-clause-refused
 returns-in-Err-clause-refused c =
     let container = contained c.container-container.result in
-    let p = c.args.fragment.now.position in
-    let is : container_at c.args.store.now p ≡ Some container = rw (c.requires.store, ← c.position-position.ensures) c.container-container.ensures in
+    let p = c.args.position in
+    let is : container_at c.args.store.now p ≡ Some container = rw (c.requires.store) c.container-container.ensures in
     let fits = c.requires.fits in
-    let len = ap length c.places-places.ensures ∙ length-there c.args.store.now p container fits.before fits.after c.args.fragment.now.places is fits.placed in
-    let name = c.name_of.ensures ∙ ap (λ q. (pair_of c.args.store.now q).name) c.position-position.ensures in
-    ap (λ o. named c.args.store.now p o) (image-there c.args.store.now p container (length c.places-places.result.now) is len ∙ sym c.in-Err.ensures.refused)
-    ∙ ap (λ n. Some (n, c.in-Err.fault)) (sym name)
+    let len = length-there c.args.store.now p container fits.before fits.after c.args.places.now is fits.placed in
+    ap (λ o. named c.args.store.now p o) (image-there c.args.store.now p container (length c.args.places.now) is len ∙ sym c.in-Err.ensures.refused)
+    ∙ ap (λ n. Some (n, c.in-Err.fault)) (sym c.name_of.ensures)

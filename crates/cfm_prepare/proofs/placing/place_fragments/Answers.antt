@@ -2,8 +2,14 @@
 use Rattle.std.proofs.Common.{◌≡◌, ◌+◌, ◌++◌, ◌∷◌, ℕ, List, drop, get_or, take, sym, ◌∙◌}
 use Rattle.std.proofs.lemmas.List.{at_drop_more, take-append-drop, take_more}
 use Rattle.std.proofs.lemmas.Result.{err_from_is_err_and}
+use Rattle.cfm_prepare.proofs.FoundLemmas.{absent-next}
 use Rattle.cfm_prepare.proofs.PlacingLemmas.{have-more, not-placed}
 use Rattle.cfm_prepare.proofs.placing.place_fragments.Goals as goal
+
+pub place_fragment-requires-clause-absent : goal.place_fragment-requires-clause-absent
+place_fragment-requires-clause-absent c =
+    let at = c.loop-position in
+    absent-next c.args.store.now c.args.memory.now at.memory c.args.present.now.items at.present.items c.args.new.now at.position-index c.requires.new at.invariant c.loop-position-test.true
 
 pub returns-in_err-place_fragment-clause-refused : goal.returns-in_err-place_fragment-clause-refused
 returns-in_err-place_fragment-clause-refused c =

@@ -1,11 +1,12 @@
 -- The new fragments are placed, filled and relocated, or what was placed can be given back.
-use Rattle.std.proofs.Common.{◌≡◌, List, None, Err, OnOk, sym, ap, subst, ◌∙◌}
+use Rattle.std.proofs.Common.{◌≡◌, List, None, Err, OnOk, refl, take, sym, ap, subst, ◌∙◌}
 use Rattle.std.proofs.lemmas.Result.{err_from_is_err_and}
 use Rattle.cfm_memory.specs.Extents.{zeros_at}
 use Rattle.cfm_prepare.specs.Addresses.{first_bad_program, section_of}
 use Rattle.cfm_prepare.specs.Fragments.{Present, StandAll, all_given_back, first_bad_image}
 use Rattle.cfm_prepare.specs.Kept.Ready.{AllApart, AllFit, AllHeld, AllIn, FillsUpTo, OwnApart, RelocatesUpTo}
-use Rattle.cfm_prepare.proofs.BegunLemmas.{back-is, begun-after, begun-of, image-refused, prepared-after, relocating-refused}
+use Rattle.cfm_prepare.proofs.BegunLemmas.{begun-after, begun-of, image-refused, prepared-after, relocating-refused}
+use Rattle.cfm_prepare.proofs.FoundLemmas.{found-fresh, take-has}
 use Rattle.cfm_prepare.proofs.PlacedLemmas.{placed-apart, placed-fit, placed-held, placed-own, placed-zeros}
 use Rattle.cfm_prepare.proofs.StepLemmas.{all-in}
 use Rattle.cfm_prepare.proofs.preparing.try_prepare.Goals as goal
@@ -13,7 +14,7 @@ use Rattle.cfm_prepare.proofs.preparing.try_prepare.Goals as goal
 pub returns-in_err-place_fragments-clause-begun : goal.returns-in_err-place_fragments-clause-begun
 returns-in_err-place_fragments-clause-begun c =
     let far = c.in_err-place_fragments.ensures.so_far in
-    begun-of c.args.store.now c.args.memory.now c.args.present.now.items c.place_fragments.new.present.items _ c.place_fragments.new.memory c.requires.ready far.1
+    begun-of c.args.store.now c.args.memory.now c.args.present.now.items c.place_fragments.new.present.items (take far.0 c.args.new.now) c.args.new.now c.place_fragments.new.memory c.requires.ready (take-has far.0 c.args.new.now) far.1
 
 pub fill_fragments-requires-clause-members : goal.fill_fragments-requires-clause-members
 fill_fragments-requires-clause-members c =
@@ -23,7 +24,7 @@ fill_fragments-requires-clause-members c =
     let there = c.args.present.now.items in
     let now = c.place_fragments.new.present.items in
     let mid = c.place_fragments.new.memory in
-    let same : c.split_at.result.1.now ≡ have.fresh = c.split_at.ensures.back ∙ back-is there now have.fresh c.deref.result.now c.len-before.result (c.len-before.ensures ∙ c.args.present.now.ok.0) c.deref.ensures.value have.behind in
+    let same = found-fresh store m mid there now c.args.new.now c.requires.new have in
     let P : List Present → Type 0 = λ fs. AllIn c.args.closure.now.order fs in
     subst P (sym same) (all-in c.args.closure.now.order have.fresh c.args.new.now have.are c.requires.members)
 
@@ -35,7 +36,7 @@ fill_fragments-requires-clause-fit c =
     let there = c.args.present.now.items in
     let now = c.place_fragments.new.present.items in
     let mid = c.place_fragments.new.memory in
-    let same : c.split_at.result.1.now ≡ have.fresh = c.split_at.ensures.back ∙ back-is there now have.fresh c.deref.result.now c.len-before.result (c.len-before.ensures ∙ c.args.present.now.ok.0) c.deref.ensures.value have.behind in
+    let same = found-fresh store m mid there now c.args.new.now c.requires.new have in
     let P : List Present → Type 0 = λ fs. AllFit store fs in
     subst P (sym same) (placed-fit store m have.fresh mid have.placed)
 
@@ -47,7 +48,7 @@ fill_fragments-requires-clause-own c =
     let there = c.args.present.now.items in
     let now = c.place_fragments.new.present.items in
     let mid = c.place_fragments.new.memory in
-    let same : c.split_at.result.1.now ≡ have.fresh = c.split_at.ensures.back ∙ back-is there now have.fresh c.deref.result.now c.len-before.result (c.len-before.ensures ∙ c.args.present.now.ok.0) c.deref.ensures.value have.behind in
+    let same = found-fresh store m mid there now c.args.new.now c.requires.new have in
     let P : List Present → Type 0 = λ fs. OwnApart fs in
     subst P (sym same) (placed-own store m have.fresh mid have.placed)
 
@@ -59,7 +60,7 @@ fill_fragments-requires-clause-apart c =
     let there = c.args.present.now.items in
     let now = c.place_fragments.new.present.items in
     let mid = c.place_fragments.new.memory in
-    let same : c.split_at.result.1.now ≡ have.fresh = c.split_at.ensures.back ∙ back-is there now have.fresh c.deref.result.now c.len-before.result (c.len-before.ensures ∙ c.args.present.now.ok.0) c.deref.ensures.value have.behind in
+    let same = found-fresh store m mid there now c.args.new.now c.requires.new have in
     let P : List Present → Type 0 = λ fs. AllApart fs in
     subst P (sym same) (placed-apart store m have.fresh mid have.placed)
 
@@ -71,7 +72,7 @@ fill_fragments-requires-clause-zeros c =
     let there = c.args.present.now.items in
     let now = c.place_fragments.new.present.items in
     let mid = c.place_fragments.new.memory in
-    let same : c.split_at.result.1.now ≡ have.fresh = c.split_at.ensures.back ∙ back-is there now have.fresh c.deref.result.now c.len-before.result (c.len-before.ensures ∙ c.args.present.now.ok.0) c.deref.ensures.value have.behind in
+    let same = found-fresh store m mid there now c.args.new.now c.requires.new have in
     let P : List Present → Type 0 = λ fs. StandAll mid fs (λ (f : Present). zeros_at f.places) in
     subst P (sym same) (placed-zeros store m have.fresh mid have.placed)
 
@@ -83,7 +84,7 @@ relocate_fragments-requires-clause-members c =
     let there = c.args.present.now.items in
     let now = c.place_fragments.new.present.items in
     let mid = c.place_fragments.new.memory in
-    let same : c.split_at.result.1.now ≡ have.fresh = c.split_at.ensures.back ∙ back-is there now have.fresh c.deref.result.now c.len-before.result (c.len-before.ensures ∙ c.args.present.now.ok.0) c.deref.ensures.value have.behind in
+    let same = found-fresh store m mid there now c.args.new.now c.requires.new have in
     let P : List Present → Type 0 = λ fs. AllIn c.args.closure.now.order fs in
     subst P (sym same) (all-in c.args.closure.now.order have.fresh c.args.new.now have.are c.requires.members)
 
@@ -95,7 +96,7 @@ relocate_fragments-requires-clause-fit c =
     let there = c.args.present.now.items in
     let now = c.place_fragments.new.present.items in
     let mid = c.place_fragments.new.memory in
-    let same : c.split_at.result.1.now ≡ have.fresh = c.split_at.ensures.back ∙ back-is there now have.fresh c.deref.result.now c.len-before.result (c.len-before.ensures ∙ c.args.present.now.ok.0) c.deref.ensures.value have.behind in
+    let same = found-fresh store m mid there now c.args.new.now c.requires.new have in
     let P : List Present → Type 0 = λ fs. AllFit store fs in
     subst P (sym same) (placed-fit store m have.fresh mid have.placed)
 
@@ -107,7 +108,7 @@ relocate_fragments-requires-clause-own c =
     let there = c.args.present.now.items in
     let now = c.place_fragments.new.present.items in
     let mid = c.place_fragments.new.memory in
-    let same : c.split_at.result.1.now ≡ have.fresh = c.split_at.ensures.back ∙ back-is there now have.fresh c.deref.result.now c.len-before.result (c.len-before.ensures ∙ c.args.present.now.ok.0) c.deref.ensures.value have.behind in
+    let same = found-fresh store m mid there now c.args.new.now c.requires.new have in
     let P : List Present → Type 0 = λ fs. OwnApart fs in
     subst P (sym same) (placed-own store m have.fresh mid have.placed)
 
@@ -119,7 +120,7 @@ relocate_fragments-requires-clause-apart c =
     let there = c.args.present.now.items in
     let now = c.place_fragments.new.present.items in
     let mid = c.place_fragments.new.memory in
-    let same : c.split_at.result.1.now ≡ have.fresh = c.split_at.ensures.back ∙ back-is there now have.fresh c.deref.result.now c.len-before.result (c.len-before.ensures ∙ c.args.present.now.ok.0) c.deref.ensures.value have.behind in
+    let same = found-fresh store m mid there now c.args.new.now c.requires.new have in
     let P : List Present → Type 0 = λ fs. AllApart fs in
     subst P (sym same) (placed-apart store m have.fresh mid have.placed)
 
@@ -131,7 +132,7 @@ relocate_fragments-requires-clause-held c =
     let there = c.args.present.now.items in
     let now = c.place_fragments.new.present.items in
     let mid = c.place_fragments.new.memory in
-    let same : c.split_at.result.1.now ≡ have.fresh = c.split_at.ensures.back ∙ back-is there now have.fresh c.deref.result.now c.len-before.result (c.len-before.ensures ∙ c.args.present.now.ok.0) c.deref.ensures.value have.behind in
+    let same = found-fresh store m mid there now c.args.new.now c.requires.new have in
     let P : List Present → Type 0 = λ fs. AllHeld mid fs in
     c.in_ok-fill_fragments.ensures.held (subst P (sym same) (placed-held store m have.fresh mid have.placed))
 
@@ -143,7 +144,7 @@ returns-in_err-fill_fragments-clause-begun c =
     let there = c.args.present.now.items in
     let now = c.place_fragments.new.present.items in
     let mid = c.place_fragments.new.memory in
-    let same : c.split_at.result.1.now ≡ have.fresh = c.split_at.ensures.back ∙ back-is there now have.fresh c.deref.result.now c.len-before.result (c.len-before.ensures ∙ c.args.present.now.ok.0) c.deref.ensures.value have.behind in
+    let same = found-fresh store m mid there now c.args.new.now c.requires.new have in
     let after = c.fill_fragments.new.memory in
     let P : List Present → Type 0 = λ fs. AllHeld mid fs → AllHeld after fs in
     let Q : List Present → Type 0 = λ fs. all_given_back after fs ≡ all_given_back mid fs in
@@ -158,7 +159,7 @@ returns-in_err-fill_fragments-clause-refused c =
     let there = c.args.present.now.items in
     let now = c.place_fragments.new.present.items in
     let mid = c.place_fragments.new.memory in
-    let same : c.split_at.result.1.now ≡ have.fresh = c.split_at.ensures.back ∙ back-is there now have.fresh c.deref.result.now c.len-before.result (c.len-before.ensures ∙ c.args.present.now.ok.0) c.deref.ensures.value have.behind in
+    let same = found-fresh store m mid there now c.args.new.now c.requires.new have in
     let p = err_from_is_err_and c.from_residual-in_err-fill_fragments.result c.from_residual-in_err-fill_fragments.ensures.1 in
     let e = c.in_err-fill_fragments.field-0.0 in
     let P : List Present → Type 0 = λ fs. FillsUpTo {A = Unit {0}} (Err e) (first_bad_image store fs) in
@@ -172,7 +173,7 @@ returns-clause-begun c =
     let there = c.args.present.now.items in
     let now = c.place_fragments.new.present.items in
     let mid = c.place_fragments.new.memory in
-    let same : c.split_at.result.1.now ≡ have.fresh = c.split_at.ensures.back ∙ back-is there now have.fresh c.deref.result.now c.len-before.result (c.len-before.ensures ∙ c.args.present.now.ok.0) c.deref.ensures.value have.behind in
+    let same = found-fresh store m mid there now c.args.new.now c.requires.new have in
     let after = c.relocate_fragments.new.memory in
     let filled : first_bad_image store have.fresh ≡ None = sym (ap (first_bad_image store) same) ∙ c.in_ok-fill_fragments.ensures.refused in
     let Q : List Present → Type 0 = λ fs. all_given_back after fs ≡ all_given_back mid fs in
@@ -188,14 +189,14 @@ returns-clause-prepared c =
     let there = c.args.present.now.items in
     let now = c.place_fragments.new.present.items in
     let mid = c.place_fragments.new.memory in
-    let same : c.split_at.result.1.now ≡ have.fresh = c.split_at.ensures.back ∙ back-is there now have.fresh c.deref.result.now c.len-before.result (c.len-before.ensures ∙ c.args.present.now.ok.0) c.deref.ensures.value have.behind in
+    let same = found-fresh store m mid there now c.args.new.now c.requires.new have in
     let after = c.relocate_fragments.new.memory in
     let filled : first_bad_image store have.fresh ≡ None = sym (ap (first_bad_image store) same) ∙ c.in_ok-fill_fragments.ensures.refused in
     let Q : List Present → Type 0 = λ fs. all_given_back after fs ≡ all_given_back mid fs in
     let others = subst Q same (c.relocate_fragments.ensures.others ∙ c.in_ok-fill_fragments.ensures.others) in
-    let P : List Present → Type 0 = λ fs. RelocatesUpTo c.relocate_fragments.result (first_bad_program store c.deref-2.result.now fs) in
-    let D : List Present → Type 0 = λ fs. OnOk c.relocate_fragments.result (StandAll after fs (section_of store c.deref-2.result.now)) in
-    prepared-after c.relocate_fragments.result store m there now c.args.new.now mid after c.deref-2.result.now have c.deref-2.ensures.value filled others
+    let P : List Present → Type 0 = λ fs. RelocatesUpTo c.relocate_fragments.result (first_bad_program store now fs) in
+    let D : List Present → Type 0 = λ fs. OnOk c.relocate_fragments.result (StandAll after fs (section_of store now)) in
+    prepared-after c.relocate_fragments.result store m there now c.args.new.now mid after now have refl filled others
     (subst P same c.relocate_fragments.ensures.refused) (subst D same c.relocate_fragments.ensures.relocated)
 
 pub returns-clause-refused : goal.returns-clause-refused
@@ -206,7 +207,7 @@ returns-clause-refused c =
     let there = c.args.present.now.items in
     let now = c.place_fragments.new.present.items in
     let mid = c.place_fragments.new.memory in
-    let same : c.split_at.result.1.now ≡ have.fresh = c.split_at.ensures.back ∙ back-is there now have.fresh c.deref.result.now c.len-before.result (c.len-before.ensures ∙ c.args.present.now.ok.0) c.deref.ensures.value have.behind in
+    let same = found-fresh store m mid there now c.args.new.now c.requires.new have in
     let filled : first_bad_image store have.fresh ≡ None = sym (ap (first_bad_image store) same) ∙ c.in_ok-fill_fragments.ensures.refused in
-    let P : List Present → Type 0 = λ fs. RelocatesUpTo c.relocate_fragments.result (first_bad_program store c.deref-2.result.now fs) in
-    relocating-refused c.relocate_fragments.result store m there now c.args.new.now mid c.deref-2.result.now have c.deref-2.ensures.value filled (subst P same c.relocate_fragments.ensures.refused)
+    let P : List Present → Type 0 = λ fs. RelocatesUpTo c.relocate_fragments.result (first_bad_program store now fs) in
+    relocating-refused c.relocate_fragments.result store m there now c.args.new.now mid now have refl filled (subst P same c.relocate_fragments.ensures.refused)

@@ -3,4 +3,4 @@ use Rattle.cfm_prepare.specs.Fragments.{new_among}
 use Rattle.cfm_prepare.proofs.present.new_among.Given as goal
 
 abbrev pub invariant-loop-position : goal.invariant-loop-position
-invariant-loop-position l = l.new.items ++ new_among l.present (drop l.position-index l.order) ≡ new_among l.present l.order
+invariant-loop-position l = l.new.items ++ new_among l.present.items (drop l.position-index l.order) ≡ new_among l.present.items l.order

@@ -4,4 +4,4 @@ use Rattle.cfm_prepare.proofs.relocating.import_addresses.Given as goal
 
 abbrev pub invariant-loop-import : goal.invariant-loop-import
 invariant-loop-import l =
-    l.addresses.items ++ imports_from l.closure.pairs l.all l.position l.import (l.count - l.import) ≡ imports_from l.closure.pairs l.all l.position 0 l.count
+    l.addresses.items ++ imports_from l.closure.pairs l.present.items l.position l.import (l.count - l.import) ≡ imports_from l.closure.pairs l.present.items l.position 0 l.count

@@ -1,17 +1,17 @@
 -- The connection is taken out by its number; what only it needed is given back.
-use Rattle.std.proofs.Common.{◌≡◌, ◌≤◌, ℕ, List, Some, length, sym, ap, subst, ◌∙◌, refl, arith}
+use Rattle.std.proofs.Common.{◌≡◌, ◌≤◌, ℕ, List, true, Some, length, sym, ap, subst, ◌∙◌, refl, arith}
 use Rattle.cfm_closure.specs.Closures.{Closed}
 use Rattle.cfm_prepare.specs.Contexts.{Open, has, open_of, open_without}
-use Rattle.cfm_prepare.specs.Fragments.{all_given_back}
+use Rattle.cfm_prepare.specs.Fragments.{all_given_back, is_present}
 use Rattle.cfm_prepare.specs.Kept.Connections.{AllBelow}
-use Rattle.cfm_prepare.specs.Kept.Users.{CountsMore, CountUsers}
+use Rattle.cfm_prepare.specs.Kept.Users.{AreUsedBut, CountsMore, CountUsers, used_of}
 use Rattle.cfm_prepare.proofs.ConnectionLemmas.{below-without, fewer-without}
-use Rattle.cfm_prepare.proofs.UsersLemmas.{left-count, unused-unneeded, used-needed, used-of}
+use Rattle.cfm_prepare.proofs.UsersLemmas.{left-count, still-used, unused-unneeded, used-but, used-needed, used-of}
 use Rattle.cfm_prepare.proofs.context.Context.close.Goals as goal
 
 pub leave-requires-clause-used : goal.leave-requires-clause-used
 leave-requires-clause-used c = λ p there.
-    let order : c.order.result.now ≡ c.in-Some.closed.closed.order = c.order.ensures.order ∙ ap (λ (k : Closed). k.order) c.closure.ensures.closure in
+    let order : c.order-order.result.now ≡ c.in-Some.closed.closed.order = c.order-order.ensures.order ∙ ap (λ (k : Closed). k.order) c.closure.ensures.closure in
     used-of c.self.inside.connections c.args.connection.0 c.in-Some.closed c.self.inside.users.items p (sym c.in-Some.ensures.taken) c.self.invariant.counted (ap (λ ps. has ps p) (sym order) ∙ there)
 
 -- the counts are those of the connections that are left
@@ -20,12 +20,17 @@ counts-left os now number o order before after taken order_is now_is counts more
     let P : List ℕ → Type 0 = λ ps. CountsMore ps after before in
     subst (CountUsers after) (sym now_is) (left-count os number o before after (sym taken) counts (subst P order_is more))
 
+pub release-requires-clause-used : goal.release-requires-clause-used
+release-requires-clause-used c =
+    let P : List ℕ → Type 0 = λ users. AreUsedBut users c.self.inside.present.items c.order-order.result.now in
+    subst P (sym c.deref.ensures.value) (used-but c.self.inside.users.items c.leave.new.users.items c.self.inside.present.items c.order-order.result.now c.leave.ensures c.self.invariant.used)
+
 pub returns-clause-closed : goal.returns-clause-closed
 returns-clause-closed c =
     let os = c.self.inside.connections in
     let number = c.args.connection.0 in
-    let order : c.order.result.now ≡ c.in-Some.closed.closed.order = c.order.ensures.order ∙ ap (λ (k : Closed). k.order) c.closure.ensures.closure in
-    let left = counts-left os c.remove.new.self number c.in-Some.closed c.order.result.now c.self.inside.users.items c.leave.new.users.items c.in-Some.ensures.taken order c.in-Some.ensures.left c.self.invariant.counted c.leave.ensures in
+    let order : c.order-order.result.now ≡ c.in-Some.closed.closed.order = c.order-order.ensures.order ∙ ap (λ (k : Closed). k.order) c.closure.ensures.closure in
+    let left = counts-left os c.remove.new.self number c.in-Some.closed c.order-order.result.now c.self.inside.users.items c.leave.new.users.items c.in-Some.ensures.taken order c.in-Some.ensures.left c.self.invariant.counted c.leave.ensures in
     let P : List ℕ → Type 0 = λ users. CountUsers users c.remove.new.self in
     let counts = subst P (sym c.deref.ensures.value) left in
     rw (← c.self.view_is) (record {
@@ -43,9 +48,11 @@ invariant_of-self-2 c =
     let os = c.self.inside.connections in
     let number = c.args.connection.0 in
     let given = c.self.inside.given in
-    let order : c.order.result.now ≡ c.in-Some.closed.closed.order = c.order.ensures.order ∙ ap (λ (k : Closed). k.order) c.closure.ensures.closure in
+    let order : c.order-order.result.now ≡ c.in-Some.closed.closed.order = c.order-order.ensures.order ∙ ap (λ (k : Closed). k.order) c.closure.ensures.closure in
     let P : List Open → Type 0 = λ xs. AllBelow given xs in
     let Q : List Open → Type 0 = λ xs. length xs ≤ given in
+    let stays : (p : ℕ) → is_present c.release.new.present.items p ≡ true → is_present (used_of c.leave.new.users.items c.self.inside.present.items) p ≡ true =
+    λ p there. ap (λ fs. is_present fs p) (sym (c.release.ensures.present ∙ ap (λ users. used_of users c.self.inside.present.items) c.deref.ensures.value)) ∙ there in
     let fewer = fewer-without os number in
     let many : length (open_without os number) ≤ given = omega (arith, fewer, c.self.invariant.many) in
     record {
@@ -53,5 +60,6 @@ invariant_of-self-2 c =
       few = c.self.invariant.few;
       numbered = subst P (sym c.in-Some.ensures.left) (below-without os given number c.self.invariant.numbered);
       many = subst Q (sym c.in-Some.ensures.left) many;
-      counted = counts-left os c.remove.new.self number c.in-Some.closed c.order.result.now c.self.inside.users.items c.leave.new.users.items c.in-Some.ensures.taken order c.in-Some.ensures.left c.self.invariant.counted c.leave.ensures;
+      counted = counts-left os c.remove.new.self number c.in-Some.closed c.order-order.result.now c.self.inside.users.items c.leave.new.users.items c.in-Some.ensures.taken order c.in-Some.ensures.left c.self.invariant.counted c.leave.ensures;
+      used = λ p there. still-used c.leave.new.users.items c.self.inside.present.items p (stays p there);
     }

@@ -17,7 +17,7 @@ part-requires c =
     let m = c.self.inside.memory in
     let found = c.in_ok-place.ensures.lookup.3 in
     let place = c.in_ok-place.field-0.now in
-    let is : c.places_of.result.now ≡ places_of c.self.inside.present.items c.args.position = c.places_of.ensures ∙ ap (λ fs. places_of fs c.args.position) c.deref.ensures.value in
+    let is : c.places.result.now ≡ places_of c.self.inside.present.items c.args.position = c.places.ensures in
     let P : List Place → Type 0 = λ ps. AreHeld m ps in
     let Q : Place → Type 0 = λ q. IsTrue (holds_place m q) in
     subst Q (sym (found.1 place)) (subst P (sym is) (places-held m c.self.inside.present.items c.args.position c.self.invariant.ready.held) c.args.i place found.0)
@@ -27,9 +27,9 @@ returns-clause-section c =
     let m = c.self.inside.memory in
     let found = c.in_ok-place.ensures.lookup.3 in
     let place = c.in_ok-place.field-0.now in
-    let is : c.places_of.result.now ≡ places_of c.self.inside.present.items c.args.position = c.places_of.ensures ∙ ap (λ fs. places_of fs c.args.position) c.deref.ensures.value in
+    let is : c.places.result.now ≡ places_of c.self.inside.present.items c.args.position = c.places.ensures in
     let got : slice_get (places_of c.self.inside.present.items c.args.position) c.args.i ≡ Some place =
-    ap (λ ps. slice_get ps c.args.i) (sym is) ∙ slice_get-get_or c.places_of.result.now c.args.i place found.0 ∙ ap Some (sym (found.1 place)) in
+    ap (λ ps. slice_get ps c.args.i) (sym is) ∙ slice_get-get_or c.places.result.now c.args.i place found.0 ∙ ap Some (sym (found.1 place)) in
     rw (← c.self.view_is) (sym (ap (option_and_then (held_at m)) got ∙ ap (λ o. option_map (λ bytes. (place.address, bytes)) o) c.part.ensures.bytes))
 
 pub returns-clause-within : goal.returns-clause-within

@@ -4,20 +4,22 @@ use Rattle.std.proofs.lemmas.List.{length-append}
 use Rattle.std.proofs.lemmas.Result.{err_from_is_err_and}
 use Rattle.cfm_memory.specs.Instances.{Layout}
 use Rattle.cfm_closure.specs.Closures.{Closed, closed_of}
-use Rattle.cfm_closure.specs.Faults.{Fails}
-use Rattle.cfm_closure.specs.Stores.{place_of}
+use Rattle.cfm_libraries.specs.Faults.{Fails}
+use Rattle.cfm_libraries.specs.Stores.{place_of}
 use Rattle.cfm_closure.proofs.Laws.{closed-complete, closed-root, closed-store}
 use Rattle.cfm_prepare.specs.Contexts.{Open, State, has, most_connections, open_without}
-use Rattle.cfm_prepare.specs.Fragments.{Present, new_among}
+use Rattle.cfm_prepare.specs.Fragments.{Present, is_present, new_among}
 use Rattle.cfm_prepare.specs.Kept.Connections.{AllBelow}
+use Rattle.cfm_prepare.specs.Kept.Ready.{AreAbsent}
 use Rattle.cfm_prepare.specs.Kept.Users.{CountsMore, CountUsers}
 use Rattle.cfm_prepare.specs.Placing.{ArePrepared}
 use Rattle.cfm_prepare.specs.Steps.{HasClosure, HasRoot, MayNotPrepareNew}
 use Rattle.cfm_prepare.proofs.BegunLemmas.{new-members}
 use Rattle.cfm_prepare.proofs.ConnectionLemmas.{below-push, closed-got, got-last, last-without, some-got}
+use Rattle.cfm_prepare.proofs.FoundLemmas.{absent-new, new-has, present-has}
 use Rattle.cfm_prepare.proofs.OpenLemmas.{ends-contains, refused-late}
 use Rattle.cfm_prepare.proofs.ReaderLemmas.{has-contains}
-use Rattle.cfm_prepare.proofs.UsersLemmas.{entered-count, once-from-pairs, same_users, users-few}
+use Rattle.cfm_prepare.proofs.UsersLemmas.{entered-count, entered-used, once-from-pairs, same_users, users-few}
 use Rattle.cfm_prepare.proofs.context.Context.open_root.Goals as goal
 
 pub returns-in_err-closure-clause-refused : goal.returns-in_err-closure-clause-refused
@@ -59,10 +61,20 @@ prepare_new-requires-clause-members c =
     let o : Open = record { number = c.self.inside.given; root = c.args.root; closed = closed } in
     let got = got-last os c.push.new.self o c.new.result c.get.result c.self.invariant.numbered c.in_ok-push.ensures.pushed c.new.ensures c.get.ensures in
     let is = closed-got c.get.result o c.unwrap.result c.closure-closure.result.now got c.unwrap.ensures c.closure-closure.ensures.closure in
-    let new : c.deref-2.result.now ≡ new_among c.deref.result.now closed.order = c.deref-2.ensures.value ∙ c.in_ok-new.ensures ∙ ap (new_among c.deref.result.now) c.order.ensures.order in
+    let there = c.self.inside.present.items in
+    let new : c.deref.result.now ≡ new_among there closed.order = c.deref.ensures.value ∙ c.in_ok-new.ensures ∙ ap (new_among there) c.order.ensures.order in
     let P : List ℕ → Type 0 = λ ps. All (λ p. Contains closed.order p) ps in
-    let Q : Closed → Type 0 = λ k. All (λ p. Contains k.order p) c.deref-2.result.now in
-    subst Q (sym is) (subst P (sym new) (new-members c.deref.result.now closed.order))
+    let Q : Closed → Type 0 = λ k. All (λ p. Contains k.order p) c.deref.result.now in
+    subst Q (sym is) (subst P (sym new) (new-members there closed.order))
+
+pub prepare_new-requires-clause-new : goal.prepare_new-requires-clause-new
+prepare_new-requires-clause-new c =
+    let closed = c.in_ok-closure.closure in
+    let there = c.self.inside.present.items in
+    let new : c.deref.result.now ≡ new_among there closed.order = c.deref.ensures.value ∙ c.in_ok-new.ensures ∙ ap (new_among there) c.order.ensures.order in
+    let once = once-from-pairs closed.order (closed-complete c.self.inside.store c.args.root closed c.in_ok-closure.ensures).once in
+    let P : List ℕ → Type 0 = λ ps. AreAbsent there ps in
+    subst P (sym new) (absent-new there closed.order once)
 
 -- the order that is counted is that of the closure
 pub enter-requires-clause-inside : goal.enter-requires-clause-inside
@@ -87,7 +99,7 @@ returns-in-Ok-clause-prepared c = λ name is.
     let closed = c.in_ok-closure.closure in
     let done = c.in-Ok.ensures.prepared in
     let there = c.self.inside.present.items in
-    let new : c.deref-2.result.now ≡ new_among there closed.order = c.deref-2.ensures.value ∙ c.in_ok-new.ensures ∙ ap (new_among c.deref.result.now) c.order.ensures.order ∙ ap (λ fs. new_among fs closed.order) c.deref.ensures.value in
+    let new : c.deref.result.now ≡ new_among there closed.order = c.deref.ensures.value ∙ c.in_ok-new.ensures ∙ ap (new_among there) c.order.ensures.order in
     let P : List ℕ → Type 0 = λ ps. ArePrepared c.self.inside.store there c.self.inside.memory ps done.0 c.prepare_new.new.memory in
     let Q : State → Type 0 = λ s. place_of s.pairs name ≡ Some c.args.root in
     let R : State → Type 0 = λ s. s.given < most_connections in
@@ -112,6 +124,9 @@ invariant_of-self-in-Ok c =
     let is = closed-got c.get.result o c.unwrap.result c.closure-closure.result.now got c.unwrap.ensures c.closure-closure.ensures.closure in
     let order : c.order-in-Ok.result.now ≡ closed.order = c.order-in-Ok.ensures.order ∙ ap (λ (k : Closed). k.order) is in
     let pushed : c.push.new.self ≡ os ++ o ∷ [] = c.in_ok-push.ensures.pushed ∙ ap (λ (x : Open). os ++ x ∷ []) c.new.ensures in
+    let done = c.in-Ok.ensures.prepared in
+    let there = c.self.inside.present.items in
+    let new : c.deref.result.now ≡ new_among there closed.order = c.deref.ensures.value ∙ c.in_ok-new.ensures ∙ ap (new_among there) c.order.ensures.order in
     let R : State → Type 0 = λ s. s.given < most_connections in
     let left : given < most_connections = subst R (sym c.self.view_is) c.requires.left in
     let P : List ℕ → Type 0 = λ ps. CountsMore ps c.make_room.new.users.items c.enter.new.users.items in
@@ -123,6 +138,9 @@ invariant_of-self-in-Ok c =
       numbered = subst N (sym pushed) (below-push os o c.self.invariant.numbered);
       many = omega (arith, ap length pushed, length-append os (o ∷ []), c.self.invariant.many);
       counted = subst Q (sym pushed) (entered-count os o c.make_room.new.users.items c.enter.new.users.items (same_users c.self.inside.users.items c.make_room.new.users.items os c.in_ok-make_room.ensures.same c.self.invariant.counted) (subst P order c.enter.ensures));
+      used = entered-used c.make_room.new.users.items c.enter.new.users.items there c.prepare_new.new.present.items done.0 closed.order (subst P order c.enter.ensures)
+          (λ p here. (let used = c.self.invariant.used p here in let same = c.in_ok-make_room.ensures.same p in omega (arith, used, same))) done.1
+          (λ p here. new-has there closed.order p (ap (λ ps. has ps p) (sym (done.2.are.are ∙ new)) ∙ (sym (present-has done.0 p) ∙ here)));
     }
 
 -- a connection that was put last goes again
@@ -144,6 +162,7 @@ invariant_of-self-in-Err c =
       numbered = subst N (sym gone) c.self.invariant.numbered;
       many = subst M (sym gone) c.self.invariant.many;
       counted = subst C (sym gone) (same_users c.self.inside.users.items c.make_room.new.users.items os c.in_ok-make_room.ensures.same c.self.invariant.counted);
+      used = λ p here. (let used = c.self.invariant.used p (ap (λ fs. is_present fs p) (sym c.in-Err.ensures.unchanged.1) ∙ here) in let same = c.in_ok-make_room.ensures.same p in omega (arith, used, same));
     }
 
 pub returns-clause-refused : goal.returns-clause-refused
@@ -154,7 +173,7 @@ returns-clause-refused c = λ name is.
     let e = c.in-Err.fault in
     let closes : closed_of s.pairs c.args.root ≡ Ok closed = rw (← c.self.view_is) c.in_ok-closure.ensures in
     let closure : HasClosure s name = record { has = record { left = c.requires.left; root = c.args.root; is = is }; closed = closed; is = closes } in
-    let new : c.deref-2.result.now ≡ new_among there closed.order = c.deref-2.ensures.value ∙ c.in_ok-new.ensures ∙ ap (new_among c.deref.result.now) c.order.ensures.order ∙ ap (λ fs. new_among fs closed.order) c.deref.ensures.value in
+    let new : c.deref.result.now ≡ new_among there closed.order = c.deref.ensures.value ∙ c.in_ok-new.ensures ∙ ap (new_among there) c.order.ensures.order in
     let P : List ℕ → Type 0 = λ ps. MayNotPrepareNew c.self.inside.store there c.self.inside.memory ps e in
     let why : MayNotPrepareNew s.pairs s.present s.memory (new_among s.present closed.order) e = rw (← c.self.view_is) (subst P new c.in-Err.ensures.refused) in
     refused-late e s name closure why
