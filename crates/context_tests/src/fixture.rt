@@ -1,7 +1,7 @@
 use cfm_closure::{BindFault, Store};
 use cfm_prepare::{Connection, Context, PrepareFault};
 use pef_script::Script;
-use pef_write::link;
+use pef_write::{Linked, link};
 use std::alloc::{AllocError, Global};
 use std::fmt::Write;
 use std::process::Abort;
@@ -17,11 +17,15 @@ pub(crate) enum Step {
     Close(u32),
 }
 
+fn link_text(alloc: Global, text: &str) -> Result<Linked, Fail> {
+    let script = Script::read(alloc, text.as_bytes())?;
+    Ok(link(alloc, &script)?)
+}
+
 /// The container of a script, with other bytes in some places, which count from the end where they are
 /// 1,000 and more.
 fn container(alloc: Global, fragment: &Fragment) -> Result<Vec<u8>, Fail> {
-    let script = Script::read(alloc, fragment.1.as_bytes())?;
-    let linked = link(alloc, &script)?;
+    let linked = link_text(alloc, fragment.1)?;
     let mut bytes = Vec::from_slice(alloc, linked.bytes())?;
     let len = bytes.len();
     for (place, byte) in fragment.2 {
@@ -47,6 +51,21 @@ pub(crate) fn containers(alloc: Global, fragments: &[Fragment]) -> Result<Vec<Ve
     Ok(containers)
 }
 
+/// A store of some fragments, which have these containers.
+pub(crate) fn store_of<'a>(
+    rt: &impl Abort,
+    alloc: Global,
+    fragments: &[Fragment],
+    containers: &'a [Vec<u8>],
+) -> Result<Store<'a>, Fail> {
+    let mut store = Store::new(alloc);
+    for (fragment, bytes) in fragments.iter().zip(containers) {
+        assert!(rt; store.len() < 256);
+        store.add(fragment.0.as_bytes(), bytes)?;
+    }
+    Ok(store)
+}
+
 /// Takes steps in a context over some fragments, and compares after each what was answered, and which
 /// sections are present.
 pub(crate) fn take_steps(
@@ -58,12 +77,10 @@ pub(crate) fn take_steps(
 ) -> Result<(), Fail> {
     let containers = containers(alloc, fragments)?;
     let mut names = Vec::new(alloc);
-    let mut store = Store::new(alloc);
-    for (fragment, bytes) in fragments.iter().zip(&containers) {
-        assert!(rt; store.len() < 256);
-        store.add(fragment.0.as_bytes(), bytes)?;
+    for fragment in fragments {
         names.push(fragment.0)?;
     }
+    let store = store_of(rt, alloc, fragments, &containers)?;
     take_steps_in(rt, alloc, store, &names, limit, steps)
 }
 

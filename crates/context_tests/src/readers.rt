@@ -1,5 +1,4 @@
-use crate::fixture::{Fragment, containers};
-use cfm_closure::Store;
+use crate::fixture::{Fragment, containers, store_of};
 use cfm_prepare::{Connection, Context};
 use std::alloc::{AllocError, Global};
 use std::fmt::Write;
@@ -76,16 +75,21 @@ fn tell_connection(
     fragments: &[Fragment],
 ) -> Result<(String, String), Fail> {
     let containers = containers(alloc, fragments)?;
-    let mut store = Store::new(alloc);
-    for (fragment, bytes) in fragments.iter().zip(&containers) {
-        assert!(rt; store.len() < 256);
-        store.add(fragment.0.as_bytes(), bytes)?;
-    }
+    let store = store_of(rt, alloc, fragments, &containers)?;
     let mut context = Context::new(alloc, store, LIMIT);
+    Ok(tell_open_and_closed(rt, alloc, &mut context)?)
+}
+
+/// What is told of the first connection in a context.
+fn tell_open_and_closed(
+    rt: &impl Abort,
+    alloc: Global,
+    context: &mut Context<'_>,
+) -> Result<(String, String), AllocError> {
     assert!(rt; context.prepare(b"A").is_ok());
-    let open = told(alloc, &context, Connection(0))?;
+    let open = told(alloc, context, Connection(0))?;
     assert!(rt; context.close(Connection(0)).is_ok());
-    let closed = told(alloc, &context, Connection(0))?;
+    let closed = told(alloc, context, Connection(0))?;
     Ok((open, closed))
 }
 
@@ -115,12 +119,9 @@ pub(crate) fn prepared(context: &mut Context<'_>, name: &[u8]) -> u32 {
 #[test]
 fn all_numbers(rt: HostRuntime) -> Result<(), Fail> {
     let alloc = rt.alloc();
-    let containers = containers(alloc, &[("E", "", &[])])?;
-    let mut store = Store::new(alloc);
-    for bytes in &containers {
-        assert!(rt; store.len() < 256);
-        store.add(b"E", bytes)?;
-    }
+    let fragments: [Fragment; 1] = [("E", "", &[])];
+    let containers = containers(alloc, &fragments)?;
+    let store = store_of(&rt, alloc, &fragments, &containers)?;
     let mut context = Context::new(alloc, store, LIMIT);
     for number in 0..65_536 {
         assert_eq!(rt; prepared(&mut context, b"E"), number);

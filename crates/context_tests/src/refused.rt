@@ -1,15 +1,14 @@
-use crate::fixture::{Fragment, containers};
+use crate::fixture::{Fragment, containers, store_of};
 use crate::readers::{prepared, told};
-use cfm_closure::Store;
 use cfm_prepare::{Connection, Context};
-use std::alloc::Global;
+use std::alloc::{AllocError, Global};
 use std::process::Abort;
 use std::test::Fail;
 
 const LIMIT: u32 = 0x1000_0000;
 
 /// A library with one export, and two fragments that import it.
-const FRAGMENTS: [Fragment; 3] = [
+const FRAGMENTS: &[Fragment] = &[
     ("A", A, &[]),
     ("B", A, &[]),
     (
@@ -23,40 +22,38 @@ const A: &str =
     "library L 1 0 -\nimport v data strong\nsection a data process 4 4\nfix a 0 import v\nexport own data a 0\n";
 
 /// Prepares the second of two fragments behind the first, and once more where memory is refused.
-fn prepare_again(rt: &impl Abort, alloc: Global, fragments: &[Fragment]) -> Result<(), Fail> {
-    let containers = containers(alloc, fragments)?;
-    let mut store = Store::new(alloc);
-    for (fragment, bytes) in fragments.iter().zip(&containers) {
-        assert!(rt; store.len() < 256);
-        store.add(fragment.0.as_bytes(), bytes)?;
-    }
-    prepare_again_in(rt, alloc, store)
-}
-
-/// The same in a context over a store.
-fn prepare_again_in(rt: &impl Abort, alloc: Global, store: Store<'_>) -> Result<(), Fail> {
-    let mut context = Context::new(alloc, store, LIMIT);
-    assert_eq!(rt; prepared(&mut context, b"A"), 0);
-    let before = told(alloc, &context, Connection(0))?;
-    let mut number = prepared(&mut context, b"B");
+fn prepare_again(rt: &impl Abort, alloc: Global, context: &mut Context<'_>) -> Result<(), Fail> {
+    assert_eq!(rt; prepared(context, b"A"), 0);
+    let before = told(alloc, context, Connection(0))?;
+    let mut number = prepared(context, b"B");
     if number != 1 {
         assert_eq!(rt; number, 1_000_099);
-        assert_eq!(rt;
-            told(alloc, &context, Connection(0))?.as_str(),
-            before.as_str()
-        );
+        test_told(rt, alloc, context, 0, &before)?;
         assert!(rt; context.fragment_section(1, 0).is_none());
-        number = prepared(&mut context, b"B");
+        number = prepared(context, b"B");
     }
     assert_eq!(rt; number, 1);
-    assert_eq!(rt;
-        told(alloc, &context, Connection(0))?.as_str(),
-        before.as_str()
-    );
-    assert_eq!(rt;
-        told(alloc, &context, Connection(1))?.as_str(),
-        "own 00010020, no v, no main, 0 at 00010020 00010000, no 1, order 2 1, order 2 1"
-    );
+    test_told(rt, alloc, context, 0, &before)?;
+    test_told(
+        rt,
+        alloc,
+        context,
+        1,
+        "own 00010020, no v, no main, 0 at 00010020 00010000, no 1, order 2 1, order 2 1",
+    )?;
+    Ok(())
+}
+
+/// Tests what is told of a connection.
+fn test_told(
+    rt: &impl Abort,
+    alloc: Global,
+    context: &Context<'_>,
+    connection: u32,
+    wanted: &str,
+) -> Result<(), AllocError> {
+    let told = told(alloc, context, Connection(connection))?;
+    assert_eq!(rt; told.as_str(), wanted);
     Ok(())
 }
 
@@ -64,5 +61,9 @@ fn prepare_again_in(rt: &impl Abort, alloc: Global, store: Store<'_>) -> Result<
 /// would have. That shows where this test is run with one growth refused, as by `rt try --test --fail-alloc N`.
 #[test]
 fn prepared_again(rt: HostRuntime) -> Result<(), Fail> {
-    prepare_again(&rt, rt.alloc(), &FRAGMENTS)
+    let alloc = rt.alloc();
+    let containers = containers(alloc, FRAGMENTS)?;
+    let store = store_of(&rt, alloc, FRAGMENTS, &containers)?;
+    let mut context = Context::new(alloc, store, LIMIT);
+    prepare_again(&rt, alloc, &mut context)
 }
