@@ -1,5 +1,4 @@
-use crate::fixture::{Fragment, container, told, told_of};
-use cfm_closure::Store;
+use crate::fixture::{Fragment, container, told, told_of_pairs};
 use std::alloc::Global;
 use std::process::Abort;
 use std::test::Fail;
@@ -11,7 +10,7 @@ const A: &str =
     "library L 1 0 -\nimport v data strong\nsection a data process 4 4\nfix a 0 import v\n";
 
 /// What is told of closures of the first fragment.
-const LIBRARIES: [(&[Fragment], &str); 9] = [
+const LIBRARIES: &[(&[Fragment], &str)] = &[
     (
         &[("A", A, b""), ("B", A, b""), ("L", L, b"")],
         "order 2 0, init 2 0, 0.0 at 2 0 0",
@@ -74,7 +73,7 @@ const LIBRARIES: [(&[Fragment], &str); 9] = [
 
 /// Orders: a diamond, a fragment that is its own library, two that need one another, and a circle of three
 /// with one library that is to come first, in each place, and with three of them.
-const ORDERS: [(&[Fragment], &str); 11] = [
+const ORDERS: &[(&[Fragment], &str)] = &[
     (
         &[
             ("A", "library B 0 0 -\nlibrary C 0 0 -\n", b""),
@@ -156,7 +155,7 @@ const M: &str =
     "versions 1 0 0\nlibrary L 1 0 -\nimport v data strong\nsection m data process 4 4\nexport u data m 0\n";
 
 /// Targets: by name, through exports that pass on imports, and around circles of them.
-const TARGETS: [(&[Fragment], &str); 11] = [
+const TARGETS: &[(&[Fragment], &str)] = &[
     (
         &[
             ("A", "library L 1 0 -\nimport w data strong\n", b""),
@@ -270,41 +269,51 @@ const TARGETS: [(&[Fragment], &str); 11] = [
     ),
 ];
 
-#[test]
-fn libraries(rt: HostRuntime) -> Result<(), Fail> {
-    for (fragments, wanted) in LIBRARIES {
-        assert_eq!(rt; told(&rt, rt.alloc(), fragments)?.as_str(), wanted);
+/// Tests what is told of some fragments.
+fn test_told(rt: &impl Abort, alloc: Global, rows: &[(&[Fragment], &str)]) -> Result<(), Fail> {
+    for row in rows {
+        let (fragments, wanted) = *row;
+        assert_eq!(rt; told(rt, alloc, fragments)?.as_str(), wanted);
     }
     Ok(())
+}
+
+#[test]
+fn libraries(rt: HostRuntime) -> Result<(), Fail> {
+    test_told(&rt, rt.alloc(), LIBRARIES)
 }
 
 #[test]
 fn orders(rt: HostRuntime) -> Result<(), Fail> {
-    for (fragments, wanted) in ORDERS {
-        assert_eq!(rt; told(&rt, rt.alloc(), fragments)?.as_str(), wanted);
-    }
-    Ok(())
+    test_told(&rt, rt.alloc(), ORDERS)
 }
 
 #[test]
 fn targets(rt: HostRuntime) -> Result<(), Fail> {
-    for (fragments, wanted) in TARGETS {
-        assert_eq!(rt; told(&rt, rt.alloc(), fragments)?.as_str(), wanted);
-    }
+    test_told(&rt, rt.alloc(), TARGETS)
+}
+
+/// Tests what is told of fragments with these names and bytes.
+fn test_told_of_pairs(
+    rt: &impl Abort,
+    alloc: Global,
+    pairs: &[(&str, &[u8])],
+    wanted: &str,
+) -> Result<(), Fail> {
+    let told = told_of_pairs(rt, alloc, pairs)?;
+    assert_eq!(rt; told.as_str(), wanted);
     Ok(())
 }
 
-/// What is told of a fragment that needs a library with these bytes.
-fn told_with<'a>(
-    rt: &impl Abort,
-    alloc: Global,
-    needs: &'a [u8],
-    bytes: &'a [u8],
-) -> Result<String, Fail> {
-    let mut store = Store::new(alloc);
-    store.add(b"A", needs)?;
-    store.add(b"L", bytes)?;
-    told_of(rt, alloc, &store)
+/// A container whose main section is 0. It stands at the head of the loader section, here at 80.
+fn bad_main(rt: &impl Abort, alloc: Global) -> Result<Vec<u8>, Fail> {
+    let mut bytes = container(alloc, "", b"")?;
+    assert!(rt; bytes.len() > 83);
+    bytes[80] = 0;
+    bytes[81] = 0;
+    bytes[82] = 0;
+    bytes[83] = 0;
+    Ok(bytes)
 }
 
 /// A weak library that can't be read is refused all the same: its container, or its loader section.
@@ -312,69 +321,70 @@ fn told_with<'a>(
 fn unreadable_libraries(rt: HostRuntime) -> Result<(), Fail> {
     let alloc = rt.alloc();
     let needs = container(alloc, "library L 0 0 weak\n", b"")?;
-    let mut bad_main = container(alloc, "", b"")?;
-    // The main section stands at the head of the loader section, here at 80.
-    assert!(rt; bad_main.len() > 83);
-    bad_main[80] = 0;
-    bad_main[81] = 0;
-    bad_main[82] = 0;
-    bad_main[83] = 0;
-    let short = told_with(&rt, alloc, &needs, b"Joy!")?;
-    assert_eq!(rt; short.as_str(), "1 TooShort L");
-    let bad_entry = told_with(&rt, alloc, &needs, &bad_main)?;
-    assert_eq!(rt; bad_entry.as_str(), "16 BadEntry L");
-    Ok(())
+    let short: [(&str, &[u8]); 2] = [("A", &needs), ("L", b"Joy!")];
+    test_told_of_pairs(&rt, alloc, &short, "1 TooShort L")?;
+    let bad_main = bad_main(&rt, alloc)?;
+    let bad_entry: [(&str, &[u8]); 2] = [("A", &needs), ("L", &bad_main)];
+    test_told_of_pairs(&rt, alloc, &bad_entry, "16 BadEntry L")
+}
+
+/// A container of two libraries, of which the second has the import of the first. It stands at 160: its count
+/// of imports at 172, its first one at 176.
+fn shared_import(rt: &impl Abort, alloc: Global) -> Result<Vec<u8>, Fail> {
+    let mut bytes = container(
+        alloc,
+        "library L 1 0 -\nimport v data strong\nlibrary K 0 0 -\n",
+        b"",
+    )?;
+    assert!(rt; bytes.len() > 179);
+    bytes[175] = 1;
+    bytes[179] = 0;
+    Ok(bytes)
 }
 
 /// An import in the ranges of two libraries belongs to the first.
 #[test]
 fn import_of_two_libraries(rt: HostRuntime) -> Result<(), Fail> {
     let alloc = rt.alloc();
-    let mut importer = container(
-        alloc,
-        "library L 1 0 -\nimport v data strong\nlibrary K 0 0 -\n",
-        b"",
-    )?;
-    // The second library stands at 160: its count of imports at 172, its first one at 176.
-    assert!(rt; importer.len() > 179);
-    importer[175] = 1;
-    importer[179] = 0;
+    let importer = shared_import(&rt, alloc)?;
     let first = container(alloc, L, b"")?;
     let second = container(
         alloc,
         "section k data process 4 8\nexport v data k 4\n",
         b"",
     )?;
-    let mut store = Store::new(alloc);
-    store.add(b"A", &importer)?;
-    store.add(b"K", &second)?;
-    store.add(b"L", &first)?;
-    assert_eq!(rt;
-        told_of(&rt, alloc, &store)?.as_str(),
-        "order 2 1 0, init 2 1 0, 0.0 at 2 0 0"
-    );
-    Ok(())
+    let pairs: [(&str, &[u8]); 3] = [("A", &importer), ("K", &second), ("L", &first)];
+    let wanted = "order 2 1 0, init 2 1 0, 0.0 at 2 0 0";
+    test_told_of_pairs(&rt, alloc, &pairs, wanted)
 }
 
-/// Of two fragments that need one another, the first of the order has an import that an export of the second
-/// passes on. The libraries of the second don't have its imports in order: its import 1 is of library 0.
-#[test]
-fn import_before_its_turn(rt: HostRuntime) -> Result<(), Fail> {
-    let alloc = rt.alloc();
-    let mut second = container(
+/// A container that passes on its import 1, whose libraries don't have its imports in order: import 1 is of
+/// library 0.
+///
+/// The loader section's place stands in the second section header, at 88. In that section the libraries
+/// stand at 56 and 80, with their first imports at 72 and 96.
+fn turned_imports(rt: &impl Abort, alloc: Global) -> Result<Vec<u8>, Fail> {
+    let mut bytes = container(
         alloc,
         "library L 0 0 -\nimport v data strong\nlibrary Q 0 0 -\nimport w data strong\nsection p data process 4 4\nexport p data p 0\n",
         b"\x00\x00\x00\x01\xFF\xFD",
     )?;
-    // The loader section's place stands in the second section header, at 88. In that section the libraries
-    // stand at 56 and 80, with their first imports at 72 and 96.
-    assert!(rt; second.len() > 91);
-    let loader = usize::from(second[91]);
-    assert!(rt; second.len() > loader + 99);
-    assert_eq!(rt; second[loader + 75], 0);
-    assert_eq!(rt; second[loader + 99], 1);
-    second[loader + 75] = 1;
-    second[loader + 99] = 0;
+    assert!(rt; bytes.len() > 91);
+    let loader = usize::from(bytes[91]);
+    assert!(rt; bytes.len() > loader + 99);
+    assert_eq!(rt; bytes[loader + 75], 0);
+    assert_eq!(rt; bytes[loader + 99], 1);
+    bytes[loader + 75] = 1;
+    bytes[loader + 99] = 0;
+    Ok(bytes)
+}
+
+/// Of two fragments that need one another, the first of the order has an import that an export of the second
+/// passes on.
+#[test]
+fn import_before_its_turn(rt: HostRuntime) -> Result<(), Fail> {
+    let alloc = rt.alloc();
+    let second = turned_imports(&rt, alloc)?;
     let first = container(
         alloc,
         "library P 0 0 -\nimport p data strong\nsection q data process 4 8\nexport v data q 4\n",
@@ -385,13 +395,7 @@ fn import_before_its_turn(rt: HostRuntime) -> Result<(), Fail> {
         "section l data process 4 4\nexport w data l 0\n",
         b"",
     )?;
-    let mut store = Store::new(alloc);
-    store.add(b"P", &second)?;
-    store.add(b"Q", &first)?;
-    store.add(b"L", &last)?;
-    assert_eq!(rt;
-        told_of(&rt, alloc, &store)?.as_str(),
-        "order 2 1 0, init 2 1 0, 1.0 at 2 0 0, 0.0 at 1 0 4, 0.1 at 2 0 0"
-    );
-    Ok(())
+    let pairs: [(&str, &[u8]); 3] = [("P", &second), ("Q", &first), ("L", &last)];
+    let wanted = "order 2 1 0, init 2 1 0, 1.0 at 2 0 0, 0.0 at 1 0 4, 0.1 at 2 0 0";
+    test_told_of_pairs(&rt, alloc, &pairs, wanted)
 }

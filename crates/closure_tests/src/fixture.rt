@@ -1,6 +1,6 @@
 use cfm_closure::{BindFault, Closure, Store, Target, closure};
 use pef_script::Script;
-use pef_write::link;
+use pef_write::{Linked, link};
 use std::alloc::{AllocError, Global};
 use std::fmt::Write;
 use std::process::Abort;
@@ -10,10 +10,14 @@ use std::test::Fail;
 /// one export, its section is the last two bytes, and its value the four before them.
 pub(crate) type Fragment = (&'static str, &'static str, &'static [u8]);
 
+fn link_text(alloc: Global, text: &str) -> Result<Linked, Fail> {
+    let script = Script::read(alloc, text.as_bytes())?;
+    Ok(link(alloc, &script)?)
+}
+
 /// The container of a script, with other bytes at its end.
 pub(crate) fn container(alloc: Global, script: &str, end: &[u8]) -> Result<Vec<u8>, Fail> {
-    let script = Script::read(alloc, script.as_bytes())?;
-    let linked = link(alloc, &script)?;
+    let linked = link_text(alloc, script)?;
     let kept = linked.bytes().len().saturating_sub(end.len());
     let mut bytes = Vec::from_slice(alloc, &linked.bytes()[..kept])?;
     bytes.extend_from_slice(end)?;
@@ -42,8 +46,23 @@ pub(crate) fn told(rt: &impl Abort, alloc: Global, fragments: &[Fragment]) -> Re
     told_of(rt, alloc, &store)
 }
 
+/// The same of fragments with these names and bytes.
+pub(crate) fn told_of_pairs(
+    rt: &impl Abort,
+    alloc: Global,
+    pairs: &[(&str, &[u8])],
+) -> Result<String, Fail> {
+    let mut store = Store::new(alloc);
+    for pair in pairs {
+        let (name, bytes) = *pair;
+        assert!(rt; store.len() < 256);
+        store.add(name.as_bytes(), bytes)?;
+    }
+    told_of(rt, alloc, &store)
+}
+
 /// The same of a store.
-pub(crate) fn told_of(rt: &impl Abort, alloc: Global, store: &Store<'_>) -> Result<String, Fail> {
+fn told_of(rt: &impl Abort, alloc: Global, store: &Store<'_>) -> Result<String, Fail> {
     assert!(rt; !store.is_empty());
     let mut text = String::new(alloc);
     match closure(alloc, store, 0) {

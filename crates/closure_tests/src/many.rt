@@ -1,5 +1,5 @@
 use crate::fixture::container;
-use cfm_closure::{Store, closure};
+use cfm_closure::{Closure, Store, closure};
 use std::alloc::{AllocError, Global};
 use std::fmt::Write;
 use std::process::Abort;
@@ -30,16 +30,19 @@ fn reversed(
         store.add(name.as_bytes(), bytes)?;
     }
     assert_eq!(rt; store.len(), FRAGMENTS);
-    let closure = match closure(alloc, &store, 0) {
-        Ok(closure) => closure,
+    match closure(alloc, &store, 0) {
+        Ok(closure) => test_reversed(rt, &closure),
         Err(fault) => panic!(rt; "{fault}"),
-    };
+    }
+    Ok(())
+}
+
+fn test_reversed(rt: &impl Abort, closure: &Closure<'_>) {
     assert_eq!(rt; closure.order().len(), FRAGMENTS);
     for (i, p) in closure.order().iter().enumerate() {
         assert_eq!(rt; p.wrapping_add(i), 255);
     }
     assert!(rt; closure.init_order() == closure.order());
-    Ok(())
 }
 
 /// Each fragment needs the next one, and each needs all.

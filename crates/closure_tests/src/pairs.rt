@@ -1,9 +1,10 @@
 use cfm_closure::{Definition, Fit, Implementation, Store, versions_fit};
+use std::process::Abort;
 use std::test::Fail;
 
 /// Versions: of the definition the current and the oldest implementation, of the implementation the current
 /// and the oldest definition.
-const VERSIONS: [(u32, u32, u32, u32, Fit); 9] = [
+const VERSIONS: &[(u32, u32, u32, u32, Fit)] = &[
     (5, 3, 3, 0, Fit::Fits),
     (5, 3, 2, 0, Fit::TooOld),
     (2, 0, 5, 3, Fit::TooNew),
@@ -17,7 +18,8 @@ const VERSIONS: [(u32, u32, u32, u32, Fit); 9] = [
 
 #[test]
 fn versions(rt: HostRuntime) {
-    for (current, old_imp, found, old_def, wanted) in VERSIONS {
+    for row in VERSIONS {
+        let (current, old_imp, found, old_def, wanted) = *row;
         let definition = Definition { current, old_imp };
         let implementation = Implementation {
             current: found,
@@ -38,6 +40,12 @@ fn store(rt: HostRuntime) -> Result<(), Fail> {
     store.add(b"one", b"1")?;
     store.add(b"", b"2")?;
     store.add(b"one", b"3")?;
+    test_store(&rt, &store);
+    Ok(())
+}
+
+/// Tests what is found in the store.
+fn test_store(rt: &impl Abort, store: &Store<'_>) {
     assert_eq!(rt; store.len(), 3);
     assert!(rt; store.pair(1) == Some((b"", b"2")));
     assert!(rt; store.pair(2) == Some((b"one", b"3")));
@@ -45,5 +53,4 @@ fn store(rt: HostRuntime) -> Result<(), Fail> {
     assert_eq!(rt; store.find(b"one"), Some(0));
     assert_eq!(rt; store.find(b""), Some(1));
     assert_eq!(rt; store.find(b"on"), None);
-    Ok(())
 }
