@@ -18,12 +18,11 @@ use pef_squares::{Line, MAX_CLASSES, Square, Window};
 use std::alloc::{AllocError, Global};
 use std::mem;
 
-/// How often a square is looked at that is made: once as it is made, and once more for the instruction that
-/// adds one word.
+/// How often the values of a square are read as it is made: once for itself, and once for the instructions
+/// that add one word, those of the labels beside the near square and those of the skips beside the far one.
 const MADE: u64 = 2;
 
-/// How often a window looks at a square that it takes: once as it comes, and at most once more as it grows
-/// old.
+/// How often a window reads a square that it takes: once as it comes, and at most once more as it grows old.
 const TAKEN: u64 = 2;
 
 /// What lies behind the ends of the runs that begin at a fixup: for each kind of run a window, which
@@ -138,7 +137,7 @@ impl InTurn {
 }
 
 /// Brings a window to a place where a run may begin, with what lies behind its first unit. Gives how often
-/// it looks at a square.
+/// it reads a square.
 fn bring(
     window: &mut Window,
     run: Run,
@@ -247,7 +246,7 @@ fn second_section(first: u32, others: &[Fixup]) -> Option<(u32, u32)>
 }
 
 impl<'a> Known<'a> {
-    /// How many looks so many looks at a square are, each one at every pair of classes.
+    /// How many looks it takes to read a square so often, at every pair of classes.
     fn looks_at(self, squares: u64) -> u64
         requires few { length self.registers.now ≤ 8 }
         requires squares { squares ≤ 16 }
