@@ -22,7 +22,7 @@ type Row = (
     &'static [u8],
 );
 
-const ROWS: [Row; 28] = [
+const ROWS: &[Row] = &[
     // Zeros stand behind an image, packed or not; raw bytes past it are passed over.
     (
         1,
@@ -316,8 +316,8 @@ fn outcome(alloc: Global, row: Row) -> Result<(u32, bool), AllocError> {
 
 #[test]
 fn fragments(rt: HostRuntime) -> Result<(), Fail> {
-    for (i, row) in ROWS.into_iter().enumerate() {
-        let (number, sound) = outcome(rt.alloc(), row)?;
+    for (i, row) in ROWS.iter().enumerate() {
+        let (number, sound) = outcome(rt.alloc(), *row)?;
         assert_eq!(rt; number, row.7, "row {i}");
         assert!(rt; sound, "row {i}");
     }

@@ -3,6 +3,7 @@ ghost use Rattle.pef_reloc.specs.Instrs.{instr_fits, instrs_fit};
 
 use pef_reloc::{Base, Fixup, Instr, MAX_FIXUPS, Program, RelocFault, apply, encode, fixups_fit};
 use std::alloc::{AllocError, Global};
+use std::process::Abort;
 use std::test::Fail;
 
 /// The number of the refusal that a program is read with, and 0 where it is read.
@@ -64,112 +65,124 @@ fn programs_read(rt: HostRuntime) {
     }
 }
 
+const SKIP: Instr = Instr::BySectDWithSkip { skip: 1, count: 2 };
+
+const SHORT: Instr = Instr::SmRepeat {
+    blocks: 1,
+    count: 2,
+};
+
+const LONG: Instr = Instr::LgRepeat {
+    blocks: 1,
+    count: 4,
+};
+
 /// The bytes of a program, a halfword, the instruction that starts there, and the words that the program
 /// makes of zeros, where the sections lie at 1, 2 and 3 and the imports at 5, 6 and 7.
-type Kind = (&'static [u8], u8, Instr, [u32; 6]);
+const KINDS: &[(&[u8], u8, Instr, &[u32])] = &[
+    (&[0x00, 0x42], 0, SKIP, &[0, 2, 2, 0, 0, 0]),
+    (&[0x40, 1], 0, Instr::BySectC(2), &[1, 1, 0, 0, 0, 0]),
+    (&[0x42, 2], 0, Instr::BySectD(3), &[2, 2, 2, 0, 0, 0]),
+    (&[0x44, 1], 0, Instr::TVector12(2), &[1, 2, 0, 1, 2, 0]),
+    (&[0x46, 1], 0, Instr::TVector8(2), &[1, 2, 1, 2, 0, 0]),
+    (&[0x48, 2], 0, Instr::VTable8(3), &[2, 0, 2, 0, 2, 0]),
+    (&[0x4A, 2], 0, Instr::ImportRun(3), &[5, 6, 7, 0, 0, 0]),
+    (
+        &[0x60, 0, 0x4A, 1],
+        0,
+        Instr::SmByImport(0),
+        &[5, 6, 7, 0, 0, 0],
+    ),
+    (
+        &[0x62, 2, 0x40, 0],
+        0,
+        Instr::SmSetSectC(2),
+        &[3, 0, 0, 0, 0, 0],
+    ),
+    (
+        &[0x64, 2, 0x42, 0],
+        0,
+        Instr::SmSetSectD(2),
+        &[3, 0, 0, 0, 0, 0],
+    ),
+    (&[0x66, 2], 0, Instr::SmBySection(2), &[3, 0, 0, 0, 0, 0]),
+    (
+        &[0x80, 7, 0x42, 0],
+        0,
+        Instr::IncrPosition(8),
+        &[0, 0, 2, 0, 0, 0],
+    ),
+    (&[0x42, 0, 0x90, 1], 1, SHORT, &[2, 2, 2, 0, 0, 0]),
+    (
+        &[0xA0, 0, 0, 0x14, 0x42, 0],
+        0,
+        Instr::SetPosition(20),
+        &[0, 0, 0, 0, 0, 2],
+    ),
+    (
+        &[0xA4, 0, 0, 1, 0x4A, 0],
+        0,
+        Instr::LgByImport(1),
+        &[6, 7, 0, 0, 0, 0],
+    ),
+    (&[0x42, 0, 0xB0, 0, 0, 4], 1, LONG, &[2, 2, 2, 2, 2, 0]),
+    (
+        &[0xB4, 0, 0, 2],
+        0,
+        Instr::LgBySection(2),
+        &[3, 0, 0, 0, 0, 0],
+    ),
+    (
+        &[0xB4, 0x40, 0, 2, 0x40, 0],
+        0,
+        Instr::LgSetSectC(2),
+        &[3, 0, 0, 0, 0, 0],
+    ),
+    (
+        &[0xB4, 0x80, 0, 2, 0x42, 0],
+        0,
+        Instr::LgSetSectD(2),
+        &[3, 0, 0, 0, 0, 0],
+    ),
+];
+
+/// Tests that an instruction starts at a halfword of a program, and that it is spelled so.
+fn test_spelled(
+    rt: &impl Abort,
+    alloc: Global,
+    bytes: &[u8],
+    halfword: u8,
+    instr: Instr,
+) -> Result<(), Fail> {
+    let at = usize::from(halfword);
+    assert!(rt;
+        Program::read(bytes)?.instr_at(at) == Some(instr),
+        "{bytes:?}"
+    );
+    assert!(rt; instr.fits(), "{bytes:?}");
+    let spelled = encode(alloc, &[instr])?;
+    assert!(rt; spelled.len() / 2 == instr.length(), "{bytes:?}");
+    let rest = bytes.get(2 * at..).unwrap_or_default();
+    assert!(rt; rest.starts_with(spelled.as_slice()), "{bytes:?}");
+    Ok(())
+}
+
+/// Tests the words that a program makes of zeros.
+fn test_words(rt: &impl Abort, bytes: &[u8], words: &[u32]) {
+    let mut memory = [0; 24];
+    let number = apply_number(bytes, &mut memory, &[1, 2, 3], &[5, 6, 7]);
+    assert!(rt; number == 0, "{bytes:?}");
+    for (word, made) in words.iter().zip(memory.chunks(4)) {
+        assert!(rt; made == word.to_be_bytes().as_slice(), "{bytes:?}");
+    }
+}
 
 #[test]
 fn kinds_applied(rt: HostRuntime) -> Result<(), Fail> {
-    let skip = Instr::BySectDWithSkip { skip: 1, count: 2 };
-    let short = Instr::SmRepeat {
-        blocks: 1,
-        count: 2,
-    };
-    let long = Instr::LgRepeat {
-        blocks: 1,
-        count: 4,
-    };
-    let kinds: [Kind; 19] = [
-        (&[0x00, 0x42], 0, skip, [0, 2, 2, 0, 0, 0]),
-        (&[0x40, 1], 0, Instr::BySectC(2), [1, 1, 0, 0, 0, 0]),
-        (&[0x42, 2], 0, Instr::BySectD(3), [2, 2, 2, 0, 0, 0]),
-        (&[0x44, 1], 0, Instr::TVector12(2), [1, 2, 0, 1, 2, 0]),
-        (&[0x46, 1], 0, Instr::TVector8(2), [1, 2, 1, 2, 0, 0]),
-        (&[0x48, 2], 0, Instr::VTable8(3), [2, 0, 2, 0, 2, 0]),
-        (&[0x4A, 2], 0, Instr::ImportRun(3), [5, 6, 7, 0, 0, 0]),
-        (
-            &[0x60, 0, 0x4A, 1],
-            0,
-            Instr::SmByImport(0),
-            [5, 6, 7, 0, 0, 0],
-        ),
-        (
-            &[0x62, 2, 0x40, 0],
-            0,
-            Instr::SmSetSectC(2),
-            [3, 0, 0, 0, 0, 0],
-        ),
-        (
-            &[0x64, 2, 0x42, 0],
-            0,
-            Instr::SmSetSectD(2),
-            [3, 0, 0, 0, 0, 0],
-        ),
-        (&[0x66, 2], 0, Instr::SmBySection(2), [3, 0, 0, 0, 0, 0]),
-        (
-            &[0x80, 7, 0x42, 0],
-            0,
-            Instr::IncrPosition(8),
-            [0, 0, 2, 0, 0, 0],
-        ),
-        (&[0x42, 0, 0x90, 1], 1, short, [2, 2, 2, 0, 0, 0]),
-        (
-            &[0xA0, 0, 0, 0x14, 0x42, 0],
-            0,
-            Instr::SetPosition(20),
-            [0, 0, 0, 0, 0, 2],
-        ),
-        (
-            &[0xA4, 0, 0, 1, 0x4A, 0],
-            0,
-            Instr::LgByImport(1),
-            [6, 7, 0, 0, 0, 0],
-        ),
-        (&[0x42, 0, 0xB0, 0, 0, 4], 1, long, [2, 2, 2, 2, 2, 0]),
-        (
-            &[0xB4, 0, 0, 2],
-            0,
-            Instr::LgBySection(2),
-            [3, 0, 0, 0, 0, 0],
-        ),
-        (
-            &[0xB4, 0x40, 0, 2, 0x40, 0],
-            0,
-            Instr::LgSetSectC(2),
-            [3, 0, 0, 0, 0, 0],
-        ),
-        (
-            &[0xB4, 0x80, 0, 2, 0x42, 0],
-            0,
-            Instr::LgSetSectD(2),
-            [3, 0, 0, 0, 0, 0],
-        ),
-    ];
-    for (bytes, halfword, instr, words) in kinds {
-        let at = usize::from(halfword);
-        assert_eq!(rt;
-            Program::read(bytes)?.instr_at(at),
-            Some(instr),
-            "{bytes:?}"
-        );
-        assert!(rt; instr.fits(), "{bytes:?}");
-        let spelled = encode(rt.alloc(), &[instr])?;
-        assert_eq!(rt; spelled.len() / 2, instr.length(), "{bytes:?}");
-        let rest = bytes.get(2 * at..).unwrap_or_default();
-        assert!(rt; rest.starts_with(spelled.as_slice()), "{bytes:?}");
-        let mut memory = [0; 24];
-        assert_eq!(rt;
-            apply_number(bytes, &mut memory, &[1, 2, 3], &[5, 6, 7]),
-            0,
-            "{bytes:?}"
-        );
-        for (i, word) in words.iter().enumerate() {
-            let made = memory.get(4 * i..4 * i + 4);
-            assert!(rt;
-                made == Some(word.to_be_bytes().as_slice()),
-                "word {i} of {bytes:?}"
-            );
-        }
+    for row in KINDS {
+        let (bytes, halfword, instr, words) = *row;
+        test_spelled(&rt, rt.alloc(), bytes, halfword, instr)?;
+        test_words(&rt, bytes, words);
     }
     Ok(())
 }
@@ -215,109 +228,106 @@ fn instructions_walked(rt: HostRuntime) -> Result<(), Fail> {
     Ok(())
 }
 
+const ZEROS: &[u8] = &[0; 12];
+
 /// A program's bytes, memory, the addresses of sections and of imports, and then the number of the
 /// refusal, 0 for none, and memory.
-type Applied = (
-    &'static [u8],
-    [u8; 12],
-    &'static [u32],
-    &'static [u32],
-    u32,
-    [u8; 12],
-);
+const APPLIED: &[(&[u8], &[u8], &[u32], &[u32], u32, &[u8])] = &[
+    (
+        &[0x42, 0x00, 0x90, 0x01],
+        ZEROS,
+        &[0x100, 0x200],
+        &[],
+        0,
+        &[0, 0, 2, 0, 0, 0, 2, 0, 0, 0, 2, 0],
+    ),
+    (
+        &[0x42, 0x00, 0xB0, 0x00, 0x00, 0x00],
+        ZEROS,
+        &[0x100, 0x200],
+        &[],
+        0,
+        &[0, 0, 2, 0, 0, 0, 0, 0, 0, 0, 0, 0],
+    ),
+    // The additions before a refusal stand.
+    (
+        &[0x42, 0x00, 0xB0, 0x3F, 0xFF, 0xFF],
+        ZEROS,
+        &[0x100, 0x200],
+        &[],
+        37,
+        &[0, 0, 2, 0, 0, 0, 2, 0, 0, 0, 2, 0],
+    ),
+    (
+        &[0x40, 0x00, 0x66, 0x07],
+        ZEROS,
+        &[0x100, 0x200],
+        &[],
+        39,
+        &[0, 0, 1, 0, 0, 0, 0, 0, 0, 0, 0, 0],
+    ),
+    (
+        &[0x40, 0x00, 0x62, 0x07],
+        ZEROS,
+        &[0x100, 0x200],
+        &[],
+        39,
+        &[0, 0, 1, 0, 0, 0, 0, 0, 0, 0, 0, 0],
+    ),
+    (
+        &[0x4A, 0x01],
+        ZEROS,
+        &[],
+        &[7],
+        38,
+        &[0, 0, 0, 7, 0, 0, 0, 0, 0, 0, 0, 0],
+    ),
+    (&[0x80, 0x08, 0x40, 0x00], ZEROS, &[0x100], &[], 37, ZEROS),
+    // Of several refusals at one addition a missing section comes first, then a missing import.
+    (&[0x80, 0x0B, 0x66, 0x01], ZEROS, &[], &[], 39, ZEROS),
+    (&[0x80, 0x0B, 0x60, 0x00], ZEROS, &[], &[], 38, ZEROS),
+    // A register with its start value adds 0 where there is no such section.
+    (
+        &[0x42, 0x00, 0x40, 0x00],
+        &[1, 2, 3, 4, 5, 6, 7, 8, 0, 0, 0, 0],
+        &[],
+        &[],
+        0,
+        &[1, 2, 3, 4, 5, 6, 7, 8, 0, 0, 0, 0],
+    ),
+    // An addition is modulo 2^32, and a word need not be aligned.
+    (
+        &[0x80, 0x00, 0x40, 0x00],
+        &[0, 0xFF, 0xFF, 0xFF, 0xFF, 9, 0, 0, 0, 0, 0, 0],
+        &[2],
+        &[],
+        0,
+        &[0, 0, 0, 0, 1, 9, 0, 0, 0, 0, 0, 0],
+    ),
+    (
+        &[0xA0, 0x00, 0x00, 0x04, 0x66, 0x00],
+        &[0x11, 0x22, 0x33, 0x44, 0, 0, 0, 8, 1, 2, 0, 0],
+        &[0x1_0000],
+        &[],
+        0,
+        &[0x11, 0x22, 0x33, 0x44, 0, 1, 0, 8, 1, 2, 0, 0],
+    ),
+];
 
 #[test]
-fn programs_applied(rt: HostRuntime) {
-    let zeros = [0; 12];
-    let rows: [Applied; 12] = [
-        (
-            &[0x42, 0x00, 0x90, 0x01],
-            zeros,
-            &[0x100, 0x200],
-            &[],
-            0,
-            [0, 0, 2, 0, 0, 0, 2, 0, 0, 0, 2, 0],
-        ),
-        (
-            &[0x42, 0x00, 0xB0, 0x00, 0x00, 0x00],
-            zeros,
-            &[0x100, 0x200],
-            &[],
-            0,
-            [0, 0, 2, 0, 0, 0, 0, 0, 0, 0, 0, 0],
-        ),
-        // The additions before a refusal stand.
-        (
-            &[0x42, 0x00, 0xB0, 0x3F, 0xFF, 0xFF],
-            zeros,
-            &[0x100, 0x200],
-            &[],
-            37,
-            [0, 0, 2, 0, 0, 0, 2, 0, 0, 0, 2, 0],
-        ),
-        (
-            &[0x40, 0x00, 0x66, 0x07],
-            zeros,
-            &[0x100, 0x200],
-            &[],
-            39,
-            [0, 0, 1, 0, 0, 0, 0, 0, 0, 0, 0, 0],
-        ),
-        (
-            &[0x40, 0x00, 0x62, 0x07],
-            zeros,
-            &[0x100, 0x200],
-            &[],
-            39,
-            [0, 0, 1, 0, 0, 0, 0, 0, 0, 0, 0, 0],
-        ),
-        (
-            &[0x4A, 0x01],
-            zeros,
-            &[],
-            &[7],
-            38,
-            [0, 0, 0, 7, 0, 0, 0, 0, 0, 0, 0, 0],
-        ),
-        (&[0x80, 0x08, 0x40, 0x00], zeros, &[0x100], &[], 37, zeros),
-        // Of several refusals at one addition a missing section comes first, then a missing import.
-        (&[0x80, 0x0B, 0x66, 0x01], zeros, &[], &[], 39, zeros),
-        (&[0x80, 0x0B, 0x60, 0x00], zeros, &[], &[], 38, zeros),
-        // A register with its start value adds 0 where there is no such section.
-        (
-            &[0x42, 0x00, 0x40, 0x00],
-            [1, 2, 3, 4, 5, 6, 7, 8, 0, 0, 0, 0],
-            &[],
-            &[],
-            0,
-            [1, 2, 3, 4, 5, 6, 7, 8, 0, 0, 0, 0],
-        ),
-        // An addition is modulo 2^32, and a word need not be aligned.
-        (
-            &[0x80, 0x00, 0x40, 0x00],
-            [0, 0xFF, 0xFF, 0xFF, 0xFF, 9, 0, 0, 0, 0, 0, 0],
-            &[2],
-            &[],
-            0,
-            [0, 0, 0, 0, 1, 9, 0, 0, 0, 0, 0, 0],
-        ),
-        (
-            &[0xA0, 0x00, 0x00, 0x04, 0x66, 0x00],
-            [0x11, 0x22, 0x33, 0x44, 0, 0, 0, 8, 1, 2, 0, 0],
-            &[0x1_0000],
-            &[],
-            0,
-            [0x11, 0x22, 0x33, 0x44, 0, 1, 0, 8, 1, 2, 0, 0],
-        ),
-    ];
-    for (bytes, mut memory, sections, imports, want, after) in rows {
-        assert_eq!(rt;
-            apply_number(bytes, &mut memory, sections, imports),
-            want,
-            "{bytes:?}"
-        );
-        assert_eq!(rt; memory, after, "{bytes:?}");
+fn programs_applied(rt: HostRuntime) -> Result<(), AllocError> {
+    for row in APPLIED {
+        let (bytes, before, sections, imports, want, after) = *row;
+        let mut memory = Vec::from_slice(rt.alloc(), before)?;
+        let number = apply_number(bytes, memory.as_mut_slice(), sections, imports);
+        assert!(rt; number == want, "{bytes:?}");
+        assert!(rt; memory.as_slice() == after, "{bytes:?}");
     }
+    Ok(())
+}
+
+#[test]
+fn shortest_and_longest_applied(rt: HostRuntime) {
     assert_eq!(rt; apply_number(&[0x40, 0x00], &mut [0; 3], &[0x100], &[]), 37);
     // Four instructions, 4,194,302 times four more, and the repeat itself: 16,777,213 steps.
     let most = [
