@@ -2,7 +2,7 @@ use pef_loader::layout::{
     ABSOLUTE_EXPORT, CODE_SYMBOL, DATA_SYMBOL, GLUE_SYMBOL, INIT_BEFORE, REEXPORTED_IMPORT,
     TOC_SYMBOL, TRANSITION_VECTOR_SYMBOL, WEAK_LIBRARY,
 };
-use pef_loader::{ImportReader, Loader};
+use pef_loader::{ImportReader, ImportView, Loader};
 use pef_views::Container;
 use std::process::Abort;
 
@@ -220,50 +220,76 @@ fn export_named(rt: HostRuntime) {
     }
 }
 
+/// A library: its name, its version and the oldest implementation, how many imports it has and the first of
+/// them, and its options.
+type Needed<'a> = (&'a [u8], u32, u32, u32, u32, u8);
+
+const NEEDED: &[Needed<'static>] = &[
+    (b"L", 5, 3, 2, 0, WEAK_LIBRARY),
+    (b"M", 1, 0, 2, 1, INIT_BEFORE),
+];
+
+fn needed<'a>(loader: &Loader<'a>, i: usize) -> Option<Needed<'a>> {
+    let library = loader.library(i)?;
+    Some((
+        library.name,
+        library.current,
+        library.old_imp,
+        library.count,
+        library.first,
+        library.options,
+    ))
+}
+
+fn test_libraries(rt: &impl Abort, loader: &Loader<'_>) {
+    assert_eq!(rt; (loader.libraries(), loader.imports()), (2, 3));
+    for (i, wanted) in NEEDED.iter().enumerate() {
+        assert!(rt; needed(loader, i) == Some(*wanted), "library {i}");
+    }
+    assert!(rt; loader.library(2).is_none());
+}
+
+/// An import: its name and its class, whether it is weak, and its library.
+type Imported<'a> = (&'a [u8], u8, bool, usize);
+
+/// Import 1 is in both ranges, and belongs to the first.
+const IMPORTED: &[Imported<'static>] = &[
+    (b"v", DATA_SYMBOL, false, 0),
+    (b"w", TRANSITION_VECTOR_SYMBOL, true, 0),
+    (b"xy", GLUE_SYMBOL, false, 1),
+];
+
+fn imported<'a>(import: Option<ImportView<'a>>) -> Option<Imported<'a>> {
+    let import = import?;
+    Some((import.name, import.class, import.weak, import.library))
+}
+
+fn test_imports(rt: &impl Abort, loader: &Loader<'_>) {
+    let mut reader = ImportReader::new(*loader);
+    for (j, wanted) in IMPORTED.iter().enumerate() {
+        assert!(rt; imported(loader.import(j)) == Some(*wanted), "import {j}");
+        assert!(rt; imported(reader.import(j)) == Some(*wanted), "import {j}");
+    }
+    assert!(rt; loader.import(3).is_none());
+    assert!(rt; reader.import(3).is_none());
+}
+
+/// Tests that there are no entries, programs and exports.
+fn test_nothing_else(rt: &impl Abort, loader: &Loader<'_>) {
+    assert!(rt; loader.main().is_none());
+    assert!(rt; loader.init().is_none());
+    assert!(rt; loader.term().is_none());
+    assert_eq!(rt; (loader.relocs(), loader.exports()), (0, 0));
+    assert!(rt; loader.export_named(b"").is_none());
+}
+
 #[test]
 fn libraries_and_imports(rt: HostRuntime) {
     let container = Container::read(&LIBRARIES).expect(&rt, "a container");
     let loader = Loader::read(&container).expect(&rt, "a loader section");
-    assert_eq!(rt; (loader.libraries(), loader.imports()), (2, 3));
-    let libraries: [(&[u8], u32, u32, u32, u32, u8); 2] = [
-        (b"L", 5, 3, 2, 0, WEAK_LIBRARY),
-        (b"M", 1, 0, 2, 1, INIT_BEFORE),
-    ];
-    for (i, (name, current, old_imp, count, first, options)) in libraries.iter().enumerate() {
-        let library = loader.library(i).expect(&rt, "a library");
-        assert_eq!(rt; library.name, *name, "library {i}");
-        assert_eq!(rt; (library.current, library.old_imp), (*current, *old_imp));
-        assert_eq!(rt; (library.count, library.first), (*count, *first));
-        assert_eq!(rt; library.options, *options);
-    }
-    assert!(rt; loader.library(2).is_none());
-    // Import 1 is in both ranges, and belongs to the first.
-    let imports: [(&[u8], u8, bool, usize); 3] = [
-        (b"v", DATA_SYMBOL, false, 0),
-        (b"w", TRANSITION_VECTOR_SYMBOL, true, 0),
-        (b"xy", GLUE_SYMBOL, false, 1),
-    ];
-    for (j, (name, class, weak, library)) in imports.iter().enumerate() {
-        let import = loader.import(j).expect(&rt, "an import");
-        assert_eq!(rt; import.name, *name, "import {j}");
-        assert_eq!(rt; (import.class, import.weak), (*class, *weak));
-        assert_eq!(rt; import.library, *library);
-    }
-    assert!(rt; loader.import(3).is_none());
-    let mut reader = ImportReader::new(loader);
-    for (j, (name, class, weak, library)) in imports.iter().enumerate() {
-        let import = reader.import(j).expect(&rt, "an import");
-        assert_eq!(rt; import.name, *name, "import {j}");
-        assert_eq!(rt; (import.class, import.weak), (*class, *weak));
-        assert_eq!(rt; import.library, *library);
-    }
-    assert!(rt; reader.import(3).is_none());
-    assert_eq!(rt;
-        (loader.main(), loader.init(), loader.term()),
-        (None, None, None)
-    );
-    assert_eq!(rt; (loader.relocs(), loader.exports()), (0, 0));
-    assert_eq!(rt; loader.export_named(b""), None);
+    test_libraries(&rt, &loader);
+    test_imports(&rt, &loader);
+    test_nothing_else(&rt, &loader);
 }
 
 #[test]
