@@ -1,6 +1,6 @@
 -- What is linked of a script and prepared alone is shown as the script describes; only its closure and memory can be
 -- wanting, and none of its bytes is the reason.
-use Rattle.std.proofs.Common.{◌≡◌, ℕ, zero, suc, ◌+◌, ◌*◌, ◌^◌, ◌<◌, ◌≤◌, List, [], ◌∷◌, Option, None, Some, Ok, Err, Contains, codes, inl, inr, length, map, slice_get, refl, sym, ap, subst, ◌∙◌, arith}
+use Rattle.std.proofs.Common.{◌≡◌, ℕ, zero, suc, ◌+◌, ◌*◌, ◌^◌, ◌<◌, ◌≤◌, List, [], ◌∷◌, Some, Err, Contains, codes, inl, inr, length, map, slice_get, refl, sym, ap, subst, ◌∙◌, arith}
 use Rattle.std.specs.List.{AllByRecursion}
 use Rattle.std.specs.Option.{option_and_then, option_map_or}
 use Rattle.std.proofs.Math.Nat.{max-le, pow-le-pow_right}
@@ -13,9 +13,7 @@ use Rattle.cfm_closure.specs.Closures.{closed_of}
 use Rattle.cfm_closure.specs.Promises.{AllRead, IsOfBinding}
 use Rattle.cfm_closure.proofs.Laws.{closed-refused}
 use Rattle.cfm_fragment.specs.Prepared.{entry_address}
-use Rattle.cfm_fragment.specs.declared.entries.Entries.{Entries}
 use Rattle.cfm_memory.specs.Extents.{LackRoom, no_instances}
-use Rattle.cfm_memory.specs.Instances.{Layout}
 use Rattle.cfm_memory.specs.Placement.{step_of}
 use Rattle.cfm_memory.proofs.Laws.{all_find_room, most_taken}
 use Rattle.cfm_prepare.specs.Contexts.{Open, State, fresh_state}
@@ -28,15 +26,14 @@ use Rattle.cfm_prepare.specs.declared.fault.PrepareFault.TheVariants as prepare_
 use Rattle.pef_answers.specs.Answers.{answer_refused}
 use Rattle.pef_answers.specs.Refusals.{prepare_refusal_text}
 use Rattle.pef_answers.specs.declared.refusal.Refusal.TheVariants.{OutOfMemory}
-use Rattle.pef_loader.specs.Loader.{Loaded, init_of, main_of, term_of}
+use Rattle.pef_loader.specs.Loader.{init_of, main_of, term_of}
 use Rattle.pef_script.specs.Script.{DescribedScript, DescribedSection}
 use Rattle.pef_script.specs.WellFormed.{SectionHolds}
 use Rattle.pef_write.specs.Linked.{IsLinked, LinkedContainer}
 use Rattle.pef_tool.specs.Kept.Showing.{ScriptEnds}
 use Rattle.pef_tool.specs.Limits.{memory_limit}
-use Rattle.pef_tool.specs.Loaded.{name_in}
 use Rattle.pef_tool.specs.Now.{HasUnlinked, described_extent, described_extents}
-use Rattle.pef_tool.specs.Show.{FailsToBind, IsAlone, IsShown, ShowOutcome, described_entries, it_alone, refuses, show_answer, unbound}
+use Rattle.pef_tool.specs.Show.{FailsToBind, IsShown, ShowOutcome, it_alone, refuses, show_answer, unbound}
 use Rattle.pef_tool.proofs.AloneLemmas.{is-found, new-is, open-is, prepared-alone, root-is}
 use Rattle.pef_tool.proofs.DescribedLemmas.{extents_are}
 use Rattle.pef_tool.proofs.NowLemmas.{described-from, extents-in, linked-read, loader-is, own, whole}

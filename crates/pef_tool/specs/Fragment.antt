@@ -2,7 +2,6 @@
 use Rattle.std.specs.Prelude.{ℕ, ◌+◌, List, [], ◌∷◌, ◌++◌, Option, None, Some, length, codes, decimal, unwrap_or}
 use Rattle.cfm_memory.specs.Instances.{Layout, bytes_at}
 use Rattle.cfm_memory.specs.declared.place.Place.{Place}
-use Rattle.cfm_fragment.specs.declared.entries.Entries.{Entries}
 use Rattle.pef_ports.specs.Text.{word_text, dump_text}
 
 -- a section where it was placed, with its memory

@@ -1,5 +1,5 @@
 -- Each fragment sends its line, in the order in which the routines run.
-use Rattle.std.proofs.Common.{◌≡◌, ◌+◌, ◌++◌, List, ℕ, get_or, length, sym, subst}
+use Rattle.std.proofs.Common.{◌≡◌, ◌+◌, ◌++◌, List, ℕ, get_or, sym, subst}
 use Rattle.pef_ports.proofs.Laws.Sending.{IsSentUpTo, Sends-short, sent-all, sent-nothing, sent-piece, sent-short}
 use Rattle.pef_tool.specs.Kept.Routines.{routine_text, routines_text}
 use Rattle.pef_tool.proofs.LoadedLemmas.{routines-end, routines-left, routines-next, routines-start}
