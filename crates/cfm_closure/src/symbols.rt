@@ -73,7 +73,8 @@ impl<'a> Symbols<'a> {
     pub fn release(&mut self, bindings: &Bindings<'a>, p: usize)
         requires place { Contains bindings.now.order p }
         requires symbols { AreSymbolsOf bindings.now.pairs bindings.now.order self.old }
-        ensures { AreSymbolsOf bindings.now.pairs bindings.now.order self.new }
+        ensures gone { slice_index_or self.new.tables.items p [] ≡ [] }
+        ensures symbols { AreSymbolsOf bindings.now.pairs bindings.now.order self.new }
     {
         let table = &mut self.tables[p];
         table.clear(self.alloc);
