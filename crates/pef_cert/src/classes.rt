@@ -17,7 +17,7 @@ pub fn class_of(registers: &[u32], section: u32) -> usize
 }
 
 /// 1 where a register's class has to change, else 0.
-pub(crate) fn change(class: usize, other: usize) -> u64
+pub fn change(class: usize, other: usize) -> u64
     ensures { result ≡ change class other }
 {
     if class == other { 0 } else { 1 }

@@ -1,12 +1,12 @@
-ghost use Rattle.std.specs.Prelude.{◌≡◌, ◌+◌, ◌*◌, ◌^◌, ◌<◌, ◌≤◌, drop, length, IfSome};
-ghost use Rattle.pef_cert.specs.Extension.{extension, moved_value};
+ghost use Rattle.std.specs.Prelude.{◌≡◌, ◌+◌, ◌^◌, ◌<◌, ◌≤◌, IfSome};
+ghost use Rattle.pef_cert.specs.Extension.{moved_value};
 ghost use Rattle.pef_cert.specs.Kept.Values.{offered};
 
-/// How far an increment moves, at most.
-const REACH: u64 = 4096;
+/// How many bytes an increment moves, at most.
+pub const REACH: u64 = 4096;
 
-/// How far a skip moves, at most.
-const SKIP_REACH: u64 = 1020;
+/// How many bytes a skip moves, at most.
+pub const SKIP_REACH: u64 = 1020;
 
 /// How far both together move.
 const BOTH_REACH: u64 = REACH + SKIP_REACH;
@@ -14,8 +14,8 @@ const BOTH_REACH: u64 = REACH + SKIP_REACH;
 /// The bytes of a word.
 const WORD: u64 = 4;
 
-/// The extension where the next fixup lies `ahead` bytes ahead (0 where it lies behind), from the label
-/// there and the least offer.
+/// The extension away from the offset of the next fixup, in halfwords: the fixup lies `ahead` bytes ahead
+/// (0 where it lies behind), with the label there and the least offer, where there is one.
 pub fn moved_value(ahead: u64, label: u32, offer: Option<u64>) -> u64
     requires { IfSome offer (λ x. x + 1 < 2 ^ 64) }
     ensures is { result ≡ moved_value ahead label offer }

@@ -57,7 +57,7 @@ fn all_used(fixups: &[Fixup], sections: &[u32]) -> bool
 }
 
 /// Whether fixups use a section.
-fn uses_section(fixups: &[Fixup], section: u32) -> bool
+pub fn uses_section(fixups: &[Fixup], section: u32) -> bool
     ensures { result ≡ uses_section fixups.now section }
 {
     for fixup in fixups {
