@@ -20,16 +20,18 @@ use Rattle.pef_cert.specs.Feasible.{FeasibleAt}
 use Rattle.pef_cert.specs.Valid.{RegistersOf}
 use Rattle.pef_cert.specs.Kept.Claims.{OfferIs}
 use Rattle.pef_cert.proofs.Laws.{Numbers, RegisteredBase, World, all_registered, class_of-below, extension-here, feasible-tested, few_rising, index_behind, numbers, offer-import, offer-section}
-use Rattle.pef_plan.specs.declared.known.Known.{Known}
-use Rattle.pef_plan.specs.declared.rows.At.{At}
-use Rattle.pef_plan.specs.declared.ends.RunEnds.{RunEnds}
-use Rattle.pef_plan.specs.Kept.Ends.{EndsAt, EndsOf}
-use Rattle.pef_plan.specs.Kept.Places.{Counts}
-use Rattle.pef_plan.specs.Kept.Rows.{AtOf, RowOf, SkipsOf}
+use Rattle.pef_runs.specs.declared.known.Known.{Known}
+use Rattle.pef_runs.specs.declared.place.At.{At}
+use Rattle.pef_runs.specs.declared.ends.RunEnds.{RunEnds}
+use Rattle.pef_runs.specs.Kept.Ends.{EndsAt, EndsOf}
+use Rattle.pef_runs.specs.Places.{AtOf, Counts}
+use Rattle.pef_plan.specs.Kept.Rows.{RowOf, SkipsOf}
 use Rattle.pef_squares.specs.Squares.{number_in}
-use Rattle.pef_plan.specs.Kept.Tables.{Agrees, OffersAre, OffersFrom, SameLabels, Shaped, Tabled, label_in, skip_in}
-use Rattle.pef_plan.specs.Reached.{LeadsWithin, ReachedAt}
-use Rattle.pef_plan.proofs.EndsKept.{ends-map}
+use Rattle.pef_runs.specs.Tables.{Agrees, OffersAre, OffersFrom, SameLabels, Shaped, label_in, skip_in}
+use Rattle.pef_plan.specs.Kept.Tables.{Tabled}
+use Rattle.pef_runs.specs.Leads.{LeadsWithin}
+use Rattle.pef_plan.specs.Reached.{ReachedAt}
+use Rattle.pef_runs.proofs.Laws.{ends-map}
 
 counts-one : (rs : List ℕ) (b : Base) → RegisteredBase rs b → Counts rs b
 counts-one rs (Section k) is = is

@@ -1,8 +1,5 @@
 pub mod Laws
-mod EndLemmas
-mod EndsKept
 mod FillLemmas
-mod KnownLemmas
 mod Leading
 mod LaidLemmas
 mod LineLemmas
@@ -14,7 +11,6 @@ mod ProgramFacts
 mod Reaching
 mod RegisterLemmas
 mod RowLemmas
-mod RunFacts
 mod RunTests
 mod SkipFacts
 mod StepFacts

@@ -10,11 +10,11 @@ use Rattle.pef_cert.specs.Labels.{Labels, class_of}
 use Rattle.pef_cert.specs.Extension.{change, extension, moved_value, offer_at, skips_at}
 use Rattle.pef_cert.specs.Kept.Claims.{OfferIs}
 use Rattle.pef_cert.proofs.Laws.{Moved, World, class_of-below, extension-away, extension-here, far, label-offer, late, moved-is, moved-near, moved-skip, near, offer-import, offer-section, skips, world-first, world-next}
-use Rattle.pef_plan.specs.declared.known.Known.{Known}
-use Rattle.pef_plan.specs.declared.place.Here.{Here}
-use Rattle.pef_plan.specs.Kept.Places.{Counts, extension_in}
+use Rattle.pef_runs.specs.declared.known.Known.{Known}
+use Rattle.pef_runs.specs.declared.place.Here.{Here}
+use Rattle.pef_runs.specs.Places.{Counts, extension_in}
 use Rattle.pef_plan.specs.Kept.Steps.{SkipsTo, TrackedHere, labels_tabled}
-use Rattle.pef_plan.specs.Kept.Tables.{Agrees, label_in, skip_in}
+use Rattle.pef_runs.specs.Tables.{Agrees, label_in, skip_in}
 use Rattle.pef_plan.proofs.StepFacts.{tracked_world}
 
 -- the label at the fixup

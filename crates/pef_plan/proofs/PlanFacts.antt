@@ -14,7 +14,8 @@ use Rattle.pef_cert.proofs.Laws.{few_rising}
 use Rattle.pef_plan.specs.Exact.{Exact}
 use Rattle.pef_plan.specs.Kept.Laid.{LaidLabels}
 use Rattle.pef_squares.specs.Squares.{number_in}
-use Rattle.pef_plan.specs.Kept.Tables.{SameLabels, Tabled}
+use Rattle.pef_runs.specs.Tables.{SameLabels}
+use Rattle.pef_plan.specs.Kept.Tables.{Tabled}
 use Rattle.pef_plan.proofs.Reaching.{reached-exact, reached-least}
 
 all_rows : (width : ℕ) (rows : List (List ℕ)) → ((i : ℕ) → i < length rows → length (slice_index_or rows i []) ≡ width) → AllByRecursion (λ row. length row ≡ width) rows

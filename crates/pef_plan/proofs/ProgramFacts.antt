@@ -17,15 +17,16 @@ use Rattle.pef_cert.specs.Extension.{extension}
 use Rattle.pef_cert.specs.Feasible.{Feasible, FeasibleFrom}
 use Rattle.pef_cert.specs.Valid.{RegistersOf}
 use Rattle.pef_cert.proofs.Laws.{all_registered, class_of-below, extension-small, none_shorter, whole_world}
-use Rattle.pef_plan.specs.declared.known.Known.{Known}
-use Rattle.pef_plan.specs.declared.place.Place.{Place}
-use Rattle.pef_plan.specs.declared.place.Step.{Step}
-use Rattle.pef_plan.specs.Kept.Places.{InPlace, extension_in}
+use Rattle.pef_runs.specs.declared.known.Known.{Known}
+use Rattle.pef_runs.specs.declared.place.Place.{Place}
+use Rattle.pef_runs.specs.declared.place.Step.{Step}
+use Rattle.pef_runs.specs.Places.{InPlace, extension_in}
 use Rattle.pef_plan.specs.Kept.Steps.{Falls, ReadTo, Tracked, labels_tabled}
-use Rattle.pef_plan.specs.Kept.Tables.{Agrees, SameLabels, Tabled}
+use Rattle.pef_runs.specs.Tables.{Agrees, SameLabels}
+use Rattle.pef_plan.specs.Kept.Tables.{Tabled}
 use Rattle.pef_plan.specs.Reached.{ReachedFrom}
 use Rattle.pef_plan.proofs.FillLemmas.{counts-all, index-small, known_shaped}
-use Rattle.pef_plan.proofs.KnownLemmas.{agrees-behind, shaped_fewer}
+use Rattle.pef_runs.proofs.Laws.{agrees-behind, shaped_fewer}
 use Rattle.pef_plan.proofs.Leading.{Planned, planned_left}
 use Rattle.pef_plan.proofs.StepFacts.{tracked_world}
 

@@ -3,26 +3,16 @@ use Rattle.std.proofs.Common.{◌≡◌, ℕ, ◌+◌, ◌*◌, ◌<◌, ◌≤�
 use Rattle.std.specs.List.{AllByRecursion}
 use Rattle.pef_reloc.specs.Fixups.{fixup_fits}
 use Rattle.pef_reloc.specs.declared.fixup.Fixup.{Fixup}
-use Rattle.pef_reloc.specs.Steps.{State}
 use Rattle.pef_cert.specs.Labels.{Labels, class_of}
-use Rattle.pef_cert.specs.Extension.{extension, extension_at, skips_at}
+use Rattle.pef_cert.specs.Extension.{skips_at}
 use Rattle.pef_reloc.specs.declared.fixup.Base.{Base}
 use Rattle.pef_reloc.specs.declared.fixup.Base.TheVariants.{Section, Import}
-use Rattle.pef_cert.specs.Kept.Tests.{base_test}
-use Rattle.pef_plan.specs.declared.known.Known.{Known}
-use Rattle.pef_plan.specs.declared.place.Place.{Place}
-use Rattle.pef_plan.specs.declared.place.Here.{Here}
-use Rattle.pef_plan.specs.declared.place.Choice.{Choice}
-use Rattle.pef_plan.specs.declared.rows.At.{At}
-use Rattle.pef_plan.specs.Kept.Places.{Chosen, Counts, HereOf, InPlace, extension_in}
-use Rattle.pef_plan.specs.Kept.Rows.{AtOf, ClosedOf, DirectIs, DirectSquare, RowOf, SkipsOf, SmallSquare}
-use Rattle.pef_plan.specs.Kept.Tables.{Agrees, Shaped}
-
--- the extension at a state in a place
-pub extension-there : (l : Labels) (registers : List ℕ) (q : Place) (s : State) → l.registers ≡ registers → InPlace registers q s → extension_at l q.left.now s ≡ extension_in l q
-extension-there l registers q s same at =
-    ap (λ p. extension l q.left.now p (class_of l.registers s.c) (class_of l.registers s.d)) at.position
-    ∙ ap₂ (λ c d. extension l q.left.now q.position c d) (ap (λ rs. class_of rs s.c) same ∙ at.c) (ap (λ rs. class_of rs s.d) same ∙ at.d)
+use Rattle.pef_runs.specs.declared.known.Known.{Known}
+use Rattle.pef_runs.specs.declared.place.Here.{Here}
+use Rattle.pef_runs.specs.declared.place.At.{At}
+use Rattle.pef_runs.specs.Places.{AtOf, Counts, HereOf}
+use Rattle.pef_plan.specs.Kept.Rows.{ClosedOf, DirectSquare, RowOf, SkipsOf, SmallSquare}
+use Rattle.pef_runs.specs.Tables.{Agrees, Shaped}
 
 -- a state of a row, with the registers in two classes
 pub record With (a : At) (c d : ℕ) (h : Here) : Type 0 where
@@ -47,36 +37,6 @@ with-here k a c d h at under_c under_d w = record {
   where
     whole : a.first ∷ a.others.now ≡ h.first ∷ h.others.now
     whole = ap₂ (λ f fs. f ∷ fs) (sym w.first) (sym w.others)
-
-pub direct-is : (k : Known) (a : At) (c d : ℕ) (h : Here) (x : Choice) → AtOf k a → With a c d h → Chosen k h x → ((l : Labels) (n : ℕ) → Agrees l k h.others.now → n ≤ x.value → base_test l n h.place.import_index h.first h.others.now h.place.c h.place.d h.first.base ≡ true) → x.value ≤ 4 * length h.others.now + 4 → DirectIs k a c d x.value
-direct-is k a c d h x at w chosen least small = record {
-  least = λ l n agrees low.
-      subst (λ (m : ℕ). base_test l n m a.first a.others.now c d a.first.base ≡ true) w.import_index
-      (subst (λ (f : Fixup). base_test l n h.place.import_index f a.others.now c d f.base ≡ true) w.first
-      (subst (λ (fs : List Fixup). base_test l n h.place.import_index h.first fs c d h.first.base ≡ true) w.others
-      (subst (λ (e : ℕ). base_test l n h.place.import_index h.first h.others.now e d h.first.base ≡ true) w.c_is
-      (subst (λ (e : ℕ). base_test l n h.place.import_index h.first h.others.now h.place.c e h.first.base ≡ true) w.d_is
-      (least l n (subst (λ (fs : List Fixup). Agrees l k fs) (sym w.others) agrees) low)))));
-  led = λ l s agrees here c_is d_is.
-      let there = subst (λ (fs : List Fixup). Agrees l k fs) (sym w.others) agrees in
-      let same = agrees.same.registers_are in
-      let goes = chosen.goes s (record {
-        position = here.position ∙ sym w.position;
-        import_index = here.index_is ∙ sym w.import_index;
-        c = ap (λ rs. class_of rs s.c) (sym same) ∙ (c_is ∙ sym w.c_is);
-        d = ap (λ rs. class_of rs s.d) (sym same) ∙ (d_is ∙ sym w.d_is);
-      }) in
-      let worth = chosen.worth l there in
-      let end = extension-there l k.registers.now x.step.next _ same goes.next in
-      record {
-        instr = x.step.instr;
-        left = x.step.next.left.now;
-        flat = goes.flat;
-        delivers = record { is = sym at.parts ∙ (sym w.left ∙ goes.delivers.is) };
-        falls = omega (arith, worth, end);
-      };
-  small = (let e = ap length w.others in omega (arith, small, e));
-}
 
 pub direct-small : (k : Known) (a : At) (square : List (List ℕ)) → AtOf k a → DirectSquare k a square → SmallSquare (length k.registers.now + 1) square
 direct-small k a square at direct = λ c under_c d under_d.

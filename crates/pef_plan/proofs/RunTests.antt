@@ -8,13 +8,14 @@ use Rattle.pef_cert.specs.Labels.{Labels, class_of}
 use Rattle.pef_cert.specs.Extension.{extension}
 use Rattle.pef_cert.specs.Kept.Tests.{base_test, import_cost, numbered_test, pairs_test, row_test}
 use Rattle.pef_cert.proofs.Laws.{asked-met, import_tests-met, numbered_test-met, pairs_test-met, row_test-met, section_tests-met}
-use Rattle.pef_plan.specs.declared.known.Known.{Known}
-use Rattle.pef_plan.specs.declared.place.Here.{Here}
-use Rattle.pef_plan.specs.declared.runs.Run.{Run}
-use Rattle.pef_plan.specs.declared.runs.Run.TheVariants.{WordsOfC, WordsOfD, Spaced, Pairs, SpacedPairs, Imports}
-use Rattle.pef_plan.specs.Kept.Places.{HereOf}
-use Rattle.pef_plan.specs.Kept.Runs.{Ends, EndsFrom, MetInC, MetInD, PairsMet, limit}
-use Rattle.pef_plan.proofs.RunFacts.{units_c, units_d, units_far, units_imports, units_pairs, units_spaced}
+use Rattle.pef_runs.specs.declared.known.Known.{Known}
+use Rattle.pef_runs.specs.declared.place.Here.{Here}
+use Rattle.pef_runs.specs.declared.runs.Run.{Run}
+use Rattle.pef_runs.specs.declared.runs.Run.TheVariants.{WordsOfC, WordsOfD, Spaced, Pairs, SpacedPairs, Imports}
+use Rattle.pef_runs.specs.Places.{HereOf}
+use Rattle.pef_runs.specs.Runs.{Ends, EndsFrom, limit}
+use Rattle.pef_plan.specs.Kept.Met.{MetInC, MetInD, PairsMet}
+use Rattle.pef_runs.proofs.Laws.{units_c, units_d, units_far, units_imports, units_pairs, units_spaced}
 
 -- the ends of a run that begins at the fixup
 pub ends_here : (l : Labels) (k : Known) (h : Here) (r : Run) (value : ℕ) → HereOf k h → h.place.position ≡ h.first.offset → Ends l r h h.place.position value → EndsFrom l r value (limit r) (h.first ∷ h.others.now) h.first.offset h.place.import_index h.place.c h.place.d

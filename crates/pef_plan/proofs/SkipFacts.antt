@@ -6,14 +6,14 @@ use Rattle.pef_reloc.specs.Steps.{added, row}
 use Rattle.pef_cert.specs.Labels.{Labels, class_of}
 use Rattle.pef_cert.specs.Extension.{extension, skips_at}
 use Rattle.pef_cert.proofs.Laws.{AtMost, skip-is, skip-most}
-use Rattle.pef_plan.specs.declared.known.Known.{Known}
-use Rattle.pef_plan.specs.declared.place.Here.{Here}
-use Rattle.pef_plan.specs.declared.runs.Run.TheVariants.{Skip}
-use Rattle.pef_plan.specs.declared.place.Place.{Place}
-use Rattle.pef_plan.specs.Kept.Places.{HereOf, extension_in}
-use Rattle.pef_plan.specs.Kept.Runs.{EndOf, Ends, Holds, unit}
-use Rattle.pef_plan.specs.Kept.Tables.{Agrees}
-use Rattle.pef_plan.proofs.RunFacts.{units_skip}
+use Rattle.pef_runs.specs.declared.known.Known.{Known}
+use Rattle.pef_runs.specs.declared.place.Here.{Here}
+use Rattle.pef_runs.specs.declared.runs.Run.TheVariants.{Skip}
+use Rattle.pef_runs.specs.declared.place.Place.{Place}
+use Rattle.pef_runs.specs.Places.{HereOf, extension_in}
+use Rattle.pef_runs.specs.Runs.{EndOf, Ends, Holds, unit}
+use Rattle.pef_runs.specs.Tables.{Agrees}
+use Rattle.pef_runs.proofs.Laws.{units_skip}
 
 one_row : (p k : ℕ) (f : Fixup) (rest : List Fixup) → f ≡ added p (Section k) → f ∷ rest ≡ row 1 p 4 (Section k) ++ rest
 unfolding row

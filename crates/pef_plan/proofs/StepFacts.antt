@@ -11,17 +11,17 @@ use Rattle.pef_cert.specs.Extension.{extension, extension_at}
 use Rattle.pef_cert.specs.Valid.{is_among}
 use Rattle.pef_cert.specs.Kept.Tests.{base_test}
 use Rattle.pef_cert.proofs.Laws.{NumberOf, World, class_of-below, class_of-index, class_of-other, extension-here, is_among-index, label-extension, tested, world-first}
-use Rattle.pef_plan.specs.declared.known.Known.{Known}
-use Rattle.pef_plan.specs.declared.place.Place.{Place}
-use Rattle.pef_plan.specs.declared.place.Here.{Here}
-use Rattle.pef_plan.specs.declared.place.Choice.{Choice}
-use Rattle.pef_plan.specs.Kept.Places.{Chosen, Counts, HereOf, InPlace}
+use Rattle.pef_runs.specs.declared.known.Known.{Known}
+use Rattle.pef_runs.specs.declared.place.Place.{Place}
+use Rattle.pef_runs.specs.declared.place.Here.{Here}
+use Rattle.pef_runs.specs.declared.place.Choice.{Choice}
+use Rattle.pef_runs.specs.Places.{Chosen, Counts, HereOf, InPlace}
 use Rattle.pef_plan.specs.Kept.Steps.{FallsOn, Sections, Tracked, TrackedHere, labels_tabled}
-use Rattle.pef_plan.specs.Kept.Tables.{Agrees, label_in}
+use Rattle.pef_runs.specs.Tables.{Agrees, label_in}
 use Rattle.pef_plan.specs.Reached.{LeadsOn, ReachedFrom}
 use Rattle.pef_reloc.specs.Fixups.{fixup_fits}
 use Rattle.pef_plan.proofs.FillLemmas.{registered-all}
-use Rattle.pef_plan.proofs.KnownLemmas.{agrees-behind, shaped_fewer}
+use Rattle.pef_runs.proofs.Laws.{agrees-behind, shaped_fewer}
 
 -- a section of each class
 pub section_there : (rs : List ℕ) (class : ℕ) → Sections rs → class < length rs → (class_of rs (slice_index rs class) ≡ class) × (slice_index rs class < 8)

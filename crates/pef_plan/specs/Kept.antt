@@ -1,7 +1,5 @@
-pub mod Ends
 pub mod Laid
-pub mod Places
+pub mod Met
 pub mod Rows
-pub mod Runs
 pub mod Steps
 pub mod Tables

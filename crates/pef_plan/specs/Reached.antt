@@ -1,23 +1,13 @@
 -- Labels that are reached: from each state at a fixup an instruction leads on that costs no more than the
 -- label falls. This is our own rule.
-use Rattle.std.specs.Prelude.{◌≡◌, ◌≤◌, ℕ, ◌+◌, true, List, [], ◌∷◌}
+use Rattle.std.specs.Prelude.{ℕ, List, [], ◌∷◌}
 use Rattle.pef_reloc.specs.declared.fixup.Fixup.{Fixup}
-use Rattle.pef_reloc.specs.declared.instr.Instr.{Instr}
-use Rattle.pef_reloc.specs.Deliveries.{Delivers, index_past, is_flat_instr}
-use Rattle.pef_reloc.specs.Instrs.{instr_length}
-use Rattle.pef_reloc.specs.Steps.{State, next_state}
+use Rattle.pef_reloc.specs.Deliveries.{index_past}
+use Rattle.pef_reloc.specs.Steps.{State}
 use Rattle.pef_cert.specs.Labels.{Labels}
 use Rattle.pef_cert.specs.Extension.{extension_at}
 use Rattle.pef_cert.specs.Feasible.{AtFixup}
-
--- an instruction that leads on from a state: it fits and is no repeat, it adds just the next of the fixups,
--- one or more or none, and these are left; its halfwords and the extension behind it are at most a number
-pub record LeadsWithin (l : Labels) (s : State) (fixups : List Fixup) (n : ℕ) : Type 0 where
-  pub instr : Instr
-  pub left : List Fixup
-  pub flat : is_flat_instr instr ≡ true
-  pub delivers : Delivers instr s fixups left
-  pub falls : instr_length instr + extension_at l left (next_state instr s) ≤ n
+use Rattle.pef_runs.specs.Leads.{LeadsWithin}
 
 -- the extension falls by its halfwords at least
 abbrev pub LeadsOn : Labels → State → List Fixup → Type 0

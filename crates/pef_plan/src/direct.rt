@@ -2,221 +2,226 @@ ghost use Rattle.std.specs.Prelude.{◌≡◌, ◌+◌, ◌*◌, ◌==◌, ◌<�
 ghost use Rattle.pef_cert.specs.Extension.{extension};
 ghost use Rattle.pef_cert.specs.Labels.{Labels, class_of};
 ghost use Rattle.pef_cert.specs.Kept.Tests.{base_test, import_cost, second_test};
-ghost use Rattle.pef_plan.specs.Kept.Places.{Chosen, HereOf};
-ghost use Rattle.pef_plan.specs.Kept.Runs.{Holds, MetInC, MetInD, PairsMet};
-ghost use Rattle.pef_plan.specs.Kept.Tables.{Agrees};
+ghost use Rattle.pef_runs.specs.Places.{Chosen, HereOf};
+ghost use Rattle.pef_runs.specs.Runs.{Holds};
+ghost use Rattle.pef_plan.specs.Kept.Met.{MetInC, MetInD, PairsMet};
+ghost use Rattle.pef_runs.specs.Tables.{Agrees};
 ghost use Rattle.pef_reloc.specs.declared.fixup.Base.TheVariants.{Import, Section};
 
-use crate::known::Known;
-use crate::place::{Choice, Here, Place, Step};
-use crate::registers::class_of;
-use crate::runs::Run;
-use crate::values::WORD;
+use pef_cert::class_of;
 use pef_reloc::{Base, Instr};
+use pef_runs::{Choice, Here, Known, Place, Run, Step, WORD};
 
 /// How many imports can be named in nine bits.
 const SMALL_IMPORTS: u32 = 512;
 
-impl<'a> Here<'a> {
-    /// The place behind the first fixup.
-    pub(crate) fn behind(self, import_index: u64) -> Place<'a>
-        ensures left { result.left.now ≡ self.entry.others.now }
-        ensures position { result.position ≡ self.entry.first.offset + 4 }
-        ensures import_index { result.import_index ≡ import_index }
-        ensures c { result.c ≡ self.entry.place.c }
-        ensures d { result.d ≡ self.entry.place.d }
-    {
-        Place {
-            left: self.others,
-            position: u64::from(self.first.offset) + WORD,
-            import_index,
-            ..self.place
-        }
+/// The place behind the first fixup.
+pub(crate) fn place_behind<'a>(here: Here<'a>, import_index: u64) -> Place<'a>
+    ensures left { result.left.now ≡ here.entry.others.now }
+    ensures position { result.position ≡ here.entry.first.offset + 4 }
+    ensures import_index { result.import_index ≡ import_index }
+    ensures c { result.c ≡ here.entry.place.c }
+    ensures d { result.d ≡ here.entry.place.d }
+{
+    Place {
+        left: here.others,
+        position: u64::from(here.first.offset) + WORD,
+        import_index,
+        ..here.place
     }
 }
 
-impl<'a> Known<'a> {
-    /// The best instruction that begins by adding at a fixup.
-    pub(crate) fn direct(self, here: Here<'a>) -> Choice<'a>
-        requires here { HereOf self here }
-        requires at { here.place.position ≡ here.first.offset }
-        ensures chosen { Chosen self.entry here.entry result }
-        ensures least { (l : Labels) (value : ℕ) → Agrees l self.entry here.entry.others.now → value ≤ result.value → base_test l value here.entry.place.import_index here.entry.first here.entry.others.now here.entry.place.c here.entry.place.d here.entry.first.base ≡ true }
-        ensures small { result.value ≤ 4 * length here.entry.others.now + 4 }
-    {
-        match here.first.base {
-            Base::Section(section) => self.direct_section(here, section),
-            Base::Import(import) => self.direct_import(here, import),
-        }
+/// The best instruction that begins by adding at a fixup.
+pub(crate) fn direct<'a>(known: Known<'a>, here: Here<'a>) -> Choice<'a>
+    requires here { HereOf known here }
+    requires at { here.place.position ≡ here.first.offset }
+    ensures chosen { Chosen known.entry here.entry result }
+    ensures least { (l : Labels) (value : ℕ) → Agrees l known.entry here.entry.others.now → value ≤ result.value → base_test l value here.entry.place.import_index here.entry.first here.entry.others.now here.entry.place.c here.entry.place.d here.entry.first.base ≡ true }
+    ensures small { result.value ≤ 4 * length here.entry.others.now + 4 }
+{
+    match here.first.base {
+        Base::Section(section) => direct_section(known, here, section),
+        Base::Import(import) => direct_import(known, here, import),
     }
+}
 
-    fn direct_section(self, here: Here<'a>, section: u32) -> Choice<'a>
-        requires here { HereOf self here }
-        requires at { here.place.position ≡ here.first.offset }
-        requires base { here.first.base ≡ Section section }
-        ensures chosen { Chosen self.entry here.entry result }
-        ensures least { (l : Labels) (value : ℕ) → Agrees l self.entry here.entry.others.now → value ≤ result.value → base_test l value here.entry.place.import_index here.entry.first here.entry.others.now here.entry.place.c here.entry.place.d (Section section) ≡ true }
-        ensures small { result.value ≤ 4 * length here.entry.others.now + 4 }
-    {
-        let one = self.single_section(here, section);
-        let best = self.best_in_c(here, section, one);
-        self.best_in_d(here, section, best)
+fn direct_section<'a>(known: Known<'a>, here: Here<'a>, section: u32) -> Choice<'a>
+    requires here { HereOf known here }
+    requires at { here.place.position ≡ here.first.offset }
+    requires base { here.first.base ≡ Section section }
+    ensures chosen { Chosen known.entry here.entry result }
+    ensures least { (l : Labels) (value : ℕ) → Agrees l known.entry here.entry.others.now → value ≤ result.value → base_test l value here.entry.place.import_index here.entry.first here.entry.others.now here.entry.place.c here.entry.place.d (Section section) ≡ true }
+    ensures small { result.value ≤ 4 * length here.entry.others.now + 4 }
+{
+    let one = single_section(known, here, section);
+    let best = best_in_c(known, here, section, one);
+    best_in_d(known, here, section, best)
+}
+
+/// The addition of a section alone.
+pub(crate) fn single_section<'a>(known: Known<'a>, here: Here<'a>, section: u32) -> Choice<'a>
+    requires here { HereOf known here }
+    requires at { here.place.position ≡ here.first.offset }
+    requires base { here.first.base ≡ Section section }
+    ensures chosen { Chosen known.entry here.entry result }
+    ensures value { (l : Labels) → Agrees l known.entry here.entry.others.now → result.value ≡ 1 + extension l here.entry.others.now (here.entry.first.offset + 4) here.entry.place.c here.entry.place.d }
+    ensures small { result.value ≤ 4 * length here.entry.others.now + 4 }
+{
+    let instr = Instr::SmBySection(section);
+    let next = place_behind(here, here.place.import_index);
+    let value = 1 + value_behind(known, here);
+    let step = Step { instr, next };
+    Choice {
+        step,
+        value,
+        looks: 1,
     }
+}
 
-    /// The addition of a section alone.
-    pub(crate) fn single_section(self, here: Here<'a>, section: u32) -> Choice<'a>
-        requires here { HereOf self here }
-        requires at { here.place.position ≡ here.first.offset }
-        requires base { here.first.base ≡ Section section }
-        ensures chosen { Chosen self.entry here.entry result }
-        ensures value { (l : Labels) → Agrees l self.entry here.entry.others.now → result.value ≡ 1 + extension l here.entry.others.now (here.entry.first.offset + 4) here.entry.place.c here.entry.place.d }
-        ensures small { result.value ≤ 4 * length here.entry.others.now + 4 }
-    {
-        let instr = Instr::SmBySection(section);
-        let next = here.behind(here.place.import_index);
-        let value = 1 + self.value_behind(here);
+/// The extension behind the first fixup.
+pub(crate) fn value_behind(known: Known<'_>, here: Here<'_>) -> u64
+    requires here { HereOf known here }
+    ensures is { (l : Labels) → Agrees l known.entry here.entry.others.now → result ≡ extension l here.entry.others.now (here.entry.first.offset + 4) here.entry.place.c here.entry.place.d }
+    ensures small { result ≤ 4 * length here.entry.others.now + 2 }
+{
+    let position = u64::from(here.first.offset) + WORD;
+    known.value(here.others, position, here.place.c, here.place.d)
+}
+
+/// The better of a choice and of runs of a section, where register C holds it.
+fn best_in_c<'a>(known: Known<'a>, here: Here<'a>, section: u32, first: Choice<'a>) -> Choice<'a>
+    requires here { HereOf known here }
+    requires at { here.place.position ≡ here.first.offset }
+    requires base { here.first.base ≡ Section section }
+    requires first { Chosen known here first }
+    ensures chosen { Chosen known.entry here.entry result }
+    ensures better { result.value ≤ first.entry.value }
+    ensures least { (l : Labels) (value : ℕ) → Agrees l known.entry here.entry.others.now → value ≤ result.value → (class_of l.registers section == here.entry.place.c) ≡ true → MetInC l here.entry section value }
+{
+    if class_of(known.registers, section) != here.place.c {
+        return first;
+    }
+    let from = here.place.position;
+    let words = known.best_of_run(here, Run::WordsOfC(section), from, first);
+    best_of_pairs(known, here, section, words)
+}
+
+/// The same, where register D holds it.
+fn best_in_d<'a>(known: Known<'a>, here: Here<'a>, section: u32, first: Choice<'a>) -> Choice<'a>
+    requires here { HereOf known here }
+    requires at { here.place.position ≡ here.first.offset }
+    requires base { here.first.base ≡ Section section }
+    requires first { Chosen known here first }
+    ensures chosen { Chosen known.entry here.entry result }
+    ensures better { result.value ≤ first.entry.value }
+    ensures least { (l : Labels) (value : ℕ) → Agrees l known.entry here.entry.others.now → value ≤ result.value → (class_of l.registers section == here.entry.place.d) ≡ true → MetInD l here.entry section value }
+{
+    if class_of(known.registers, section) != here.place.d {
+        return first;
+    }
+    let from = here.place.position;
+    let words = known.best_of_run(here, Run::WordsOfD(section), from, first);
+    known.best_of_run(here, Run::Spaced(section), from, words)
+}
+
+/// The better of a choice and of pairs of a section in register C and one in D.
+fn best_of_pairs<'a>(
+    known: Known<'a>,
+    here: Here<'a>,
+    section: u32,
+    first: Choice<'a>,
+) -> Choice<'a>
+    requires here { HereOf known here }
+    requires at { here.place.position ≡ here.first.offset }
+    requires holds { Holds known.registers.now section here.place.c }
+    requires first { Chosen known here first }
+    ensures chosen { Chosen known.entry here.entry result }
+    ensures better { result.value ≤ first.entry.value }
+    ensures least { (l : Labels) (value : ℕ) → Agrees l known.entry here.entry.others.now → value ≤ result.value → second_test l value section here.entry.place.c here.entry.place.d here.entry.first here.entry.others.now ≡ true }
+{
+    match here.others.split_first() {
+        Some((next, _)) => match next.base {
+            Base::Section(second) => best_of_two(known, here, section, second, first),
+            Base::Import(_) => first,
+        },
+        None => first,
+    }
+}
+
+fn best_of_two<'a>(
+    known: Known<'a>,
+    here: Here<'a>,
+    section: u32,
+    second: u32,
+    first: Choice<'a>,
+) -> Choice<'a>
+    requires here { HereOf known here }
+    requires at { here.place.position ≡ here.first.offset }
+    requires holds { Holds known.registers.now section here.place.c }
+    requires counts { class_of known.registers.now second < length known.registers.now }
+    requires first { Chosen known here first }
+    ensures chosen { Chosen known.entry here.entry result }
+    ensures better { result.value ≤ first.entry.value }
+    ensures least { (l : Labels) (value : ℕ) → Agrees l known.entry here.entry.others.now → value ≤ result.value → PairsMet l here.entry section second value }
+{
+    if class_of(known.registers, second) != here.place.d {
+        return first;
+    }
+    let from = here.place.position;
+    let pairs = Run::Pairs {
+        first: section,
+        second,
+    };
+    let spaced = Run::SpacedPairs {
+        first: section,
+        second,
+    };
+    let near = known.best_of_run(here, pairs, from, first);
+    known.best_of_run(here, spaced, from, near)
+}
+
+fn direct_import<'a>(known: Known<'a>, here: Here<'a>, import: u32) -> Choice<'a>
+    requires here { HereOf known here }
+    requires at { here.place.position ≡ here.first.offset }
+    requires base { here.first.base ≡ Import import }
+    ensures chosen { Chosen known.entry here.entry result }
+    ensures least { (l : Labels) (value : ℕ) → Agrees l known.entry here.entry.others.now → value ≤ result.value → base_test l value here.entry.place.import_index here.entry.first here.entry.others.now here.entry.place.c here.entry.place.d (Import import) ≡ true }
+    ensures small { result.value ≤ 4 * length here.entry.others.now + 4 }
+{
+    let one = single_import(known, here, import);
+    if u64::from(import) != here.place.import_index {
+        return one;
+    }
+    known.best_of_run(here, Run::Imports, here.place.position, one)
+}
+
+/// The addition of an import alone.
+pub(crate) fn single_import<'a>(known: Known<'a>, here: Here<'a>, import: u32) -> Choice<'a>
+    requires here { HereOf known here }
+    requires at { here.place.position ≡ here.first.offset }
+    requires base { here.first.base ≡ Import import }
+    ensures chosen { Chosen known.entry here.entry result }
+    ensures value { (l : Labels) → Agrees l known.entry here.entry.others.now → result.value ≡ import_cost import + extension l here.entry.others.now (here.entry.first.offset + 4) here.entry.place.c here.entry.place.d }
+    ensures small { result.value ≤ 4 * length here.entry.others.now + 4 }
+{
+    let next = place_behind(here, u64::from(import) + 1);
+    let behind = value_behind(known, here);
+    if import < SMALL_IMPORTS {
+        let instr = Instr::SmByImport(import);
+        let value = 1 + behind;
         let step = Step { instr, next };
-        Choice {
+        return Choice {
             step,
             value,
             looks: 1,
-        }
-    }
-
-    /// The extension behind the first fixup.
-    pub(crate) fn value_behind(self, here: Here<'a>) -> u64
-        requires here { HereOf self here }
-        ensures is { (l : Labels) → Agrees l self.entry here.entry.others.now → result ≡ extension l here.entry.others.now (here.entry.first.offset + 4) here.entry.place.c here.entry.place.d }
-        ensures small { result ≤ 4 * length here.entry.others.now + 2 }
-    {
-        let position = u64::from(here.first.offset) + WORD;
-        self.value(here.others, position, here.place.c, here.place.d)
-    }
-
-    /// The better of a choice and of runs of a section, where register C holds it.
-    fn best_in_c(self, here: Here<'a>, section: u32, first: Choice<'a>) -> Choice<'a>
-        requires here { HereOf self here }
-        requires at { here.place.position ≡ here.first.offset }
-        requires base { here.first.base ≡ Section section }
-        requires first { Chosen self here first }
-        ensures chosen { Chosen self.entry here.entry result }
-        ensures better { result.value ≤ first.entry.value }
-        ensures least { (l : Labels) (value : ℕ) → Agrees l self.entry here.entry.others.now → value ≤ result.value → (class_of l.registers section == here.entry.place.c) ≡ true → MetInC l here.entry section value }
-    {
-        if class_of(self.registers, section) != here.place.c {
-            return first;
-        }
-        let from = here.place.position;
-        let words = self.best_of_run(here, Run::WordsOfC(section), from, first);
-        self.best_of_pairs(here, section, words)
-    }
-
-    /// The same, where register D holds it.
-    fn best_in_d(self, here: Here<'a>, section: u32, first: Choice<'a>) -> Choice<'a>
-        requires here { HereOf self here }
-        requires at { here.place.position ≡ here.first.offset }
-        requires base { here.first.base ≡ Section section }
-        requires first { Chosen self here first }
-        ensures chosen { Chosen self.entry here.entry result }
-        ensures better { result.value ≤ first.entry.value }
-        ensures least { (l : Labels) (value : ℕ) → Agrees l self.entry here.entry.others.now → value ≤ result.value → (class_of l.registers section == here.entry.place.d) ≡ true → MetInD l here.entry section value }
-    {
-        if class_of(self.registers, section) != here.place.d {
-            return first;
-        }
-        let from = here.place.position;
-        let words = self.best_of_run(here, Run::WordsOfD(section), from, first);
-        self.best_of_run(here, Run::Spaced(section), from, words)
-    }
-
-    /// The better of a choice and of pairs of a section in register C and one in D.
-    fn best_of_pairs(self, here: Here<'a>, section: u32, first: Choice<'a>) -> Choice<'a>
-        requires here { HereOf self here }
-        requires at { here.place.position ≡ here.first.offset }
-        requires holds { Holds self.registers.now section here.place.c }
-        requires first { Chosen self here first }
-        ensures chosen { Chosen self.entry here.entry result }
-        ensures better { result.value ≤ first.entry.value }
-        ensures least { (l : Labels) (value : ℕ) → Agrees l self.entry here.entry.others.now → value ≤ result.value → second_test l value section here.entry.place.c here.entry.place.d here.entry.first here.entry.others.now ≡ true }
-    {
-        match here.others.split_first() {
-            Some((next, _)) => match next.base {
-                Base::Section(second) => self.best_of_two(here, section, second, first),
-                Base::Import(_) => first,
-            },
-            None => first,
-        }
-    }
-
-    fn best_of_two(self, here: Here<'a>, section: u32, second: u32, first: Choice<'a>) -> Choice<'a>
-        requires here { HereOf self here }
-        requires at { here.place.position ≡ here.first.offset }
-        requires holds { Holds self.registers.now section here.place.c }
-        requires counts { class_of self.registers.now second < length self.registers.now }
-        requires first { Chosen self here first }
-        ensures chosen { Chosen self.entry here.entry result }
-        ensures better { result.value ≤ first.entry.value }
-        ensures least { (l : Labels) (value : ℕ) → Agrees l self.entry here.entry.others.now → value ≤ result.value → PairsMet l here.entry section second value }
-    {
-        if class_of(self.registers, second) != here.place.d {
-            return first;
-        }
-        let from = here.place.position;
-        let pairs = Run::Pairs {
-            first: section,
-            second,
         };
-        let spaced = Run::SpacedPairs {
-            first: section,
-            second,
-        };
-        let near = self.best_of_run(here, pairs, from, first);
-        self.best_of_run(here, spaced, from, near)
     }
-
-    fn direct_import(self, here: Here<'a>, import: u32) -> Choice<'a>
-        requires here { HereOf self here }
-        requires at { here.place.position ≡ here.first.offset }
-        requires base { here.first.base ≡ Import import }
-        ensures chosen { Chosen self.entry here.entry result }
-        ensures least { (l : Labels) (value : ℕ) → Agrees l self.entry here.entry.others.now → value ≤ result.value → base_test l value here.entry.place.import_index here.entry.first here.entry.others.now here.entry.place.c here.entry.place.d (Import import) ≡ true }
-        ensures small { result.value ≤ 4 * length here.entry.others.now + 4 }
-    {
-        let one = self.single_import(here, import);
-        if u64::from(import) != here.place.import_index {
-            return one;
-        }
-        self.best_of_run(here, Run::Imports, here.place.position, one)
-    }
-
-    /// The addition of an import alone.
-    pub(crate) fn single_import(self, here: Here<'a>, import: u32) -> Choice<'a>
-        requires here { HereOf self here }
-        requires at { here.place.position ≡ here.first.offset }
-        requires base { here.first.base ≡ Import import }
-        ensures chosen { Chosen self.entry here.entry result }
-        ensures value { (l : Labels) → Agrees l self.entry here.entry.others.now → result.value ≡ import_cost import + extension l here.entry.others.now (here.entry.first.offset + 4) here.entry.place.c here.entry.place.d }
-        ensures small { result.value ≤ 4 * length here.entry.others.now + 4 }
-    {
-        let next = here.behind(u64::from(import) + 1);
-        let behind = self.value_behind(here);
-        if import < SMALL_IMPORTS {
-            let instr = Instr::SmByImport(import);
-            let value = 1 + behind;
-            let step = Step { instr, next };
-            return Choice {
-                step,
-                value,
-                looks: 1,
-            };
-        }
-        let instr = Instr::LgByImport(import);
-        let value = 2 + behind;
-        let step = Step { instr, next };
-        Choice {
-            step,
-            value,
-            looks: 1,
-        }
+    let instr = Instr::LgByImport(import);
+    let value = 2 + behind;
+    let step = Step { instr, next };
+    Choice {
+        step,
+        value,
+        looks: 1,
     }
 }

@@ -2,24 +2,19 @@
 #![tactic(auto)]
 
 mod direct;
-mod ends;
 mod fault;
-mod known;
 #[cfg(test)]
 mod looks;
 mod lows;
 mod moves;
-mod place;
 mod planner;
 mod program;
 mod reading;
 mod registers;
 mod rows;
-mod runs;
 mod skips;
 mod tables;
 mod theorems;
-mod values;
 
 pub use fault::PlanFault;
 pub use planner::plan;

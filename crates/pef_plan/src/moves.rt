@@ -1,13 +1,12 @@
 ghost use Rattle.std.specs.Prelude.{◌≡◌, ◌+◌, ◌<◌, ◌≤◌, length};
 ghost use Rattle.pef_cert.specs.Extension.{extension};
 ghost use Rattle.pef_cert.specs.Labels.{class_of};
-ghost use Rattle.pef_plan.specs.Kept.Places.{extension_in};
+ghost use Rattle.pef_runs.specs.Places.{extension_in};
 ghost use Rattle.pef_plan.specs.Kept.Steps.{FallsOn, Sections, Tracked, TrackedHere, labels_tabled};
 ghost use Rattle.pef_squares.specs.Squares.{number_in};
 
-use crate::known::Known;
-use crate::place::{Here, Place, Step};
 use pef_reloc::{Instr, MAX_SECTIONS};
+use pef_runs::{Here, Known, Place, Step};
 use pef_squares::Square;
 
 /// The label of a row in classes of the registers.
@@ -19,75 +18,71 @@ pub(crate) fn label_of(row: &Square, c: usize, d: usize) -> u64
     u64::from(row[c][d])
 }
 
-impl<'a> Known<'a> {
-    /// A section of a class.
-    #[tactic(auto, using(crate::proofs::StepFacts::section_is, crate::proofs::StepFacts::section_small, crate::proofs::StepFacts::section_last))]
-    pub(crate) fn section_of(self, class: usize) -> u32
-        requires sections { Sections self.registers.now }
-        requires class { class < length self.registers.now + 1 }
-        ensures is { class_of self.entry.registers.now result ≡ class }
-        ensures small { result < 512 }
-    {
-        if class < self.registers.len() {
-            self.registers[class]
-        } else {
-            MAX_SECTIONS
-        }
-    }
-
-    /// The step that sets register C to a section of a class.
-    pub(crate) fn set_c(self, place: Place<'a>, class: usize) -> Step<'a>
-        requires tracked { Tracked self place }
-        requires class { class < length self.registers.now + 1 }
-        requires low { 1 + extension (labels_tabled self) place.left.now place.position class place.d ≤ extension_in (labels_tabled self) place }
-        ensures { FallsOn self.entry place.entry result }
-    {
-        let next = Place { c: class, ..place };
-        let instr = Instr::SmSetSectC(self.section_of(class));
-        Step { instr, next }
-    }
-
-    /// The step that sets register D to a section of a class.
-    pub(crate) fn set_d(self, place: Place<'a>, class: usize) -> Step<'a>
-        requires tracked { Tracked self place }
-        requires class { class < length self.registers.now + 1 }
-        requires low { 1 + extension (labels_tabled self) place.left.now place.position place.c class ≤ extension_in (labels_tabled self) place }
-        ensures { FallsOn self.entry place.entry result }
-    {
-        let next = Place { d: class, ..place };
-        let instr = Instr::SmSetSectD(self.section_of(class));
-        Step { instr, next }
+/// A section of a class.
+#[tactic(auto, using(crate::proofs::StepFacts::section_is, crate::proofs::StepFacts::section_small, crate::proofs::StepFacts::section_last))]
+pub(crate) fn section_of(known: Known<'_>, class: usize) -> u32
+    requires sections { Sections known.registers.now }
+    requires class { class < length known.registers.now + 1 }
+    ensures is { class_of known.entry.registers.now result ≡ class }
+    ensures small { result < 512 }
+{
+    if class < known.registers.len() {
+        known.registers[class]
+    } else {
+        MAX_SECTIONS
     }
 }
 
-impl<'a> Known<'a> {
-    /// The step to the offset of the next fixup, from anywhere.
-    pub(crate) fn set_position(self, here: Here<'a>) -> Step<'a>
-        requires here { TrackedHere self here }
-        requires low { 2 + extension (labels_tabled self) here.place.left.now here.first.offset here.place.c here.place.d ≤ extension_in (labels_tabled self) here.place }
-        requires fits { here.first.offset < 67108864 }
-        ensures { FallsOn self.entry here.entry.place result }
-    {
-        let position = u64::from(here.first.offset);
-        let next = Place {
-            position,
-            ..here.place
-        };
-        let instr = Instr::SetPosition(here.first.offset);
-        Step { instr, next }
-    }
+/// The step that sets register C to a section of a class.
+pub(crate) fn set_c<'a>(known: Known<'a>, place: Place<'a>, class: usize) -> Step<'a>
+    requires tracked { Tracked known place }
+    requires class { class < length known.registers.now + 1 }
+    requires low { 1 + extension (labels_tabled known) place.left.now place.position class place.d ≤ extension_in (labels_tabled known) place }
+    ensures { FallsOn known.entry place.entry result }
+{
+    let next = Place { c: class, ..place };
+    let instr = Instr::SmSetSectC(section_of(known, class));
+    Step { instr, next }
+}
 
-    /// The step by so many bytes.
-    pub(crate) fn increment(self, place: Place<'a>, bytes: u64) -> Step<'a>
-        requires tracked { Tracked self place }
-        requires some { 1 ≤ bytes }
-        requires few { bytes ≤ 4096 }
-        requires low { 1 + extension (labels_tabled self) place.left.now (place.position + bytes) place.c place.d ≤ extension_in (labels_tabled self) place }
-        ensures { FallsOn self.entry place.entry result }
-    {
-        let position = place.position + bytes;
-        let next = Place { position, ..place };
-        let instr = Instr::IncrPosition(bytes as u32);
-        Step { instr, next }
-    }
+/// The step that sets register D to a section of a class.
+pub(crate) fn set_d<'a>(known: Known<'a>, place: Place<'a>, class: usize) -> Step<'a>
+    requires tracked { Tracked known place }
+    requires class { class < length known.registers.now + 1 }
+    requires low { 1 + extension (labels_tabled known) place.left.now place.position place.c class ≤ extension_in (labels_tabled known) place }
+    ensures { FallsOn known.entry place.entry result }
+{
+    let next = Place { d: class, ..place };
+    let instr = Instr::SmSetSectD(section_of(known, class));
+    Step { instr, next }
+}
+
+/// The step to the offset of the next fixup, from anywhere.
+pub(crate) fn set_position<'a>(known: Known<'a>, here: Here<'a>) -> Step<'a>
+    requires here { TrackedHere known here }
+    requires low { 2 + extension (labels_tabled known) here.place.left.now here.first.offset here.place.c here.place.d ≤ extension_in (labels_tabled known) here.place }
+    requires fits { here.first.offset < 67108864 }
+    ensures { FallsOn known.entry here.entry.place result }
+{
+    let position = u64::from(here.first.offset);
+    let next = Place {
+        position,
+        ..here.place
+    };
+    let instr = Instr::SetPosition(here.first.offset);
+    Step { instr, next }
+}
+
+/// The step by so many bytes.
+pub(crate) fn increment<'a>(known: Known<'a>, place: Place<'a>, bytes: u64) -> Step<'a>
+    requires tracked { Tracked known place }
+    requires some { 1 ≤ bytes }
+    requires few { bytes ≤ 4096 }
+    requires low { 1 + extension (labels_tabled known) place.left.now (place.position + bytes) place.c place.d ≤ extension_in (labels_tabled known) place }
+    ensures { FallsOn known.entry place.entry result }
+{
+    let position = place.position + bytes;
+    let next = Place { position, ..place };
+    let instr = Instr::IncrPosition(bytes as u32);
+    Step { instr, next }
 }

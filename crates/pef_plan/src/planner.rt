@@ -6,11 +6,12 @@ ghost use Rattle.pef_plan.specs.Kept.Laid.{LaidLabels, LaidSquare};
 ghost use Rattle.pef_reloc.specs.Fixups.{fixups_fit};
 
 use crate::fault::PlanFault;
-use crate::known::Known;
+use crate::program::least_program;
 use crate::registers::registers_of;
 use crate::tables::fill;
 use pef_cert::{Certificate, LabelRows};
 use pef_reloc::Fixup;
+use pef_runs::Known;
 use pef_squares::{Square, Squares};
 use std::alloc::{AllocError, Global};
 
@@ -49,7 +50,7 @@ pub(crate) fn counted_plan(
         labels: &tables.labels,
         skips: &tables.skips,
     };
-    let (program, looks) = known.program(alloc, fixups)?;
+    let (program, looks) = least_program(known, alloc, fixups)?;
     let labels = rows(alloc, &tables.labels, registers.len() + 1)?;
     let looks = tables.looks.saturating_add(looks);
     Ok((Certificate::new(section, program, registers, labels), looks))

@@ -1,10 +1,9 @@
-ghost use Rattle.std.specs.Prelude.{◌≡◌, ◌+◌, ◌<◌, ◌≤◌, IfOk, true, length};
-ghost use Rattle.pef_cert.specs.Labels.{class_of};
+ghost use Rattle.std.specs.Prelude.{◌≡◌, IfOk, true};
 ghost use Rattle.pef_cert.specs.Valid.{RegistersOf, rises};
-ghost use Rattle.pef_reloc.specs.Deliveries.{is_section, uses_section};
 ghost use Rattle.pef_reloc.specs.Fixups.{fixups_fit};
 
-use pef_reloc::{Base, Fixup, MAX_SECTIONS};
+use pef_cert::uses_section;
+use pef_reloc::{Fixup, MAX_SECTIONS};
 use std::alloc::{AllocError, Global};
 
 /// The sections that fixups use, rising.
@@ -19,40 +18,4 @@ pub(crate) fn registers_of(alloc: Global, fixups: &[Fixup]) -> Result<Vec<u32>, 
         }
     }
     Ok(registers)
-}
-
-/// Whether fixups use a section.
-fn uses_section(fixups: &[Fixup], section: u32) -> bool
-    ensures { result ≡ uses_section fixups.now section }
-{
-    for fixup in fixups {
-        if is_section(fixup.base, section) {
-            return true;
-        }
-    }
-    false
-}
-
-/// Whether a base is a section.
-fn is_section(base: Base, section: u32) -> bool
-    ensures { result ≡ is_section section base }
-{
-    match base {
-        Base::Section(number) => number == section,
-        Base::Import(_) => false,
-    }
-}
-
-/// The class of a section: its place among the registers, and their number for every other section.
-pub(crate) fn class_of(registers: &[u32], section: u32) -> usize
-    ensures { result ≡ class_of registers.now section }
-{
-    let mut class = 0;
-    for register in registers {
-        if *register == section {
-            return class;
-        }
-        class += 1;
-    }
-    class
 }

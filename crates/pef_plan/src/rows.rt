@@ -1,86 +1,71 @@
 ghost use Rattle.std.specs.Prelude.{◌≡◌, ◌+◌, ◌<◌, ◌≤◌, ◌∷◌, ℕ, [], length, slice_index, slice_index_or};
-ghost use Rattle.pef_plan.specs.Kept.Ends.{EndsAt};
-ghost use Rattle.pef_plan.specs.Kept.Places.{HereOf};
-ghost use Rattle.pef_plan.specs.Kept.Rows.{AtOf, ClosedOf, DirectLine, DirectSquare, LeastOf, LineOf, LinesOf, RowOf, SmallLine, SmallSquare};
+ghost use Rattle.pef_runs.specs.Kept.Ends.{EndsAt};
+ghost use Rattle.pef_runs.specs.Places.{AtOf, HereOf};
+ghost use Rattle.pef_plan.specs.Kept.Rows.{ClosedOf, DirectLine, DirectSquare, LeastOf, LineOf, LinesOf, RowOf, SmallLine, SmallSquare};
 ghost use Rattle.pef_squares.specs.Squares.{number_in};
 
-use crate::ends::RunEnds;
-use crate::known::Known;
-use crate::place::{Here, Place};
+use crate::lows::low;
 use pef_reloc::Fixup;
+use pef_runs::{At, Here, Known, Place, RunEnds};
 use pef_squares::{Line, MAX_CLASSES, Square};
 
-/// A state at a fixup, but for the registers.
-#[derive(Clone, Copy, Debug)]
-pub(crate) struct At<'a> {
-    pub(crate) left: &'a [Fixup],
-    pub(crate) first: Fixup,
-    /// The fixups behind it.
-    pub(crate) others: &'a [Fixup],
-    pub(crate) import_index: u64,
+/// The labels at a fixup, from what is known behind it.
+pub(crate) fn labels_at(known: Known<'_>, at: At<'_>, ends: &RunEnds) -> Square
+    requires at { AtOf known at }
+    requires ends { EndsAt known at.others.now (at.first ∷ at.others.now) ends.now }
+    ensures { RowOf known.entry at.entry result }
+{
+    let direct = direct_square(known, at, ends);
+    closed(&direct, known.classes())
 }
 
-impl<'a> Known<'a> {
-    /// The labels at a fixup, from what is known behind it.
-    pub(crate) fn labels_at(self, at: At<'a>, ends: &RunEnds) -> Square
-        requires at { AtOf self at }
-        requires ends { EndsAt self at.others.now (at.first ∷ at.others.now) ends.now }
-        ensures { RowOf self.entry at.entry result }
-    {
-        let direct = self.direct_square(at, ends);
-        closed(&direct, self.classes())
+/// What the best instructions that add at a fixup lead to, without a change of registers.
+fn direct_square(known: Known<'_>, at: At<'_>, ends: &RunEnds) -> Square
+    requires at { AtOf known at }
+    requires ends { EndsAt known at.others.now (at.first ∷ at.others.now) ends.now }
+    ensures { DirectSquare known.entry at.entry result }
+{
+    let mut square = [[0; MAX_CLASSES]; MAX_CLASSES];
+    for c in 0..known.classes() {
+        square[c] = direct_line(known, at, ends, c);
     }
-
-    /// What the best instructions that add at a fixup lead to, without a change of registers.
-    fn direct_square(self, at: At<'a>, ends: &RunEnds) -> Square
-        requires at { AtOf self at }
-        requires ends { EndsAt self at.others.now (at.first ∷ at.others.now) ends.now }
-        ensures { DirectSquare self.entry at.entry result }
-    {
-        let mut square = [[0; MAX_CLASSES]; MAX_CLASSES];
-        for c in 0..self.classes() {
-            square[c] = self.direct_line(at, ends, c);
-        }
-        square
-    }
-
-    /// The same with register C in a class.
-    fn direct_line(self, at: At<'a>, ends: &RunEnds, c: usize) -> Line
-        requires at { AtOf self at }
-        requires ends { EndsAt self at.others.now (at.first ∷ at.others.now) ends.now }
-        requires c { c < length self.registers.now + 1 }
-        ensures { DirectLine self.entry at.entry c result }
-    {
-        let mut line = [0; MAX_CLASSES];
-        for d in 0..self.classes() {
-            line[d] = self.low(at.with(c, d), ends) as u32;
-        }
-        line
-    }
+    square
 }
 
-impl<'a> At<'a> {
-    /// The state with the registers in these classes.
-    pub(crate) fn with(self, c: usize, d: usize) -> Here<'a>
-        ensures first { result.first ≡ self.entry.first }
-        ensures others { result.others.now ≡ self.entry.others.now }
-        ensures left { result.place.left.now ≡ self.entry.left.now }
-        ensures position { result.place.position ≡ self.entry.first.offset }
-        ensures import_index { result.place.import_index ≡ self.entry.import_index }
-        ensures c { result.place.c ≡ c }
-        ensures d { result.place.d ≡ d }
-    {
-        Here {
-            place: Place {
-                left: self.left,
-                position: u64::from(self.first.offset),
-                import_index: self.import_index,
-                c,
-                d,
-            },
-            first: self.first,
-            others: self.others,
-        }
+/// The same with register C in a class.
+fn direct_line(known: Known<'_>, at: At<'_>, ends: &RunEnds, c: usize) -> Line
+    requires at { AtOf known at }
+    requires ends { EndsAt known at.others.now (at.first ∷ at.others.now) ends.now }
+    requires c { c < length known.registers.now + 1 }
+    ensures { DirectLine known.entry at.entry c result }
+{
+    let mut line = [0; MAX_CLASSES];
+    for d in 0..known.classes() {
+        line[d] = low(known, at_classes(at, c, d), ends) as u32;
+    }
+    line
+}
+
+/// The state with the registers in these classes.
+pub(crate) fn at_classes<'a>(at: At<'a>, c: usize, d: usize) -> Here<'a>
+    ensures first { result.first ≡ at.entry.first }
+    ensures others { result.others.now ≡ at.entry.others.now }
+    ensures left { result.place.left.now ≡ at.entry.left.now }
+    ensures position { result.place.position ≡ at.entry.first.offset }
+    ensures import_index { result.place.import_index ≡ at.entry.import_index }
+    ensures c { result.place.c ≡ c }
+    ensures d { result.place.d ≡ d }
+{
+    Here {
+        place: Place {
+            left: at.left,
+            position: u64::from(at.first.offset),
+            import_index: at.import_index,
+            c,
+            d,
+        },
+        first: at.first,
+        others: at.others,
     }
 }
 

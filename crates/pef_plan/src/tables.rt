@@ -4,10 +4,10 @@ ghost use Rattle.pef_plan.specs.Kept.Tables.{IndicesOf, Tabled};
 ghost use Rattle.pef_reloc.specs.Deliveries.{index_after, index_past};
 ghost use Rattle.pef_reloc.specs.Fixups.{fixups_fit};
 
-use crate::ends::RunEnds;
-use crate::known::Known;
-use crate::rows::At;
+use crate::rows::labels_at;
+use crate::skips::skips_at;
 use pef_reloc::{Base, Fixup};
+use pef_runs::{At, Known, RunEnds};
 use pef_squares::{Line, MAX_CLASSES, Squares};
 use std::alloc::{AllocError, Global};
 
@@ -43,8 +43,8 @@ pub(crate) fn fill(alloc: Global, fixups: &[Fixup], registers: &[u32]) -> Result
             skips: &skips,
         };
         ends.pass(known, state)?;
-        let row = known.labels_at(state, &ends);
-        let line = known.skips_at(state, &ends);
+        let row = labels_at(known, state, &ends);
+        let line = skips_at(known, state, &ends);
         labels.push(&row)?;
         skips.push(line)?;
     }

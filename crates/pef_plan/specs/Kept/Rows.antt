@@ -1,27 +1,16 @@
 -- A row of labels, from what the instructions lead to that add at a fixup.
 use Rattle.std.specs.Prelude.{◌≡◌, ◌≤◌, ◌<◌, ◌⊎◌, ℕ, ◌+◌, ◌*◌, true, List, [], ◌∷◌, length, slice_index, slice_index_or, Some}
-use Rattle.std.specs.List.{AllByRecursion}
-use Rattle.pef_reloc.specs.Fixups.{fixup_fits}
 use Rattle.pef_reloc.specs.Steps.{State}
 use Rattle.pef_cert.specs.Labels.{Labels, class_of}
 use Rattle.pef_cert.specs.Extension.{skips_at}
 use Rattle.pef_cert.specs.Feasible.{AtFixup}
 use Rattle.pef_reloc.specs.declared.fixup.Base.TheVariants.{Section}
 use Rattle.pef_cert.specs.Kept.Tests.{base_test}
-use Rattle.pef_plan.specs.declared.known.Known.{Known}
-use Rattle.pef_plan.specs.declared.rows.At.{At}
-use Rattle.pef_plan.specs.Kept.Places.{Counts}
+use Rattle.pef_runs.specs.declared.known.Known.{Known}
+use Rattle.pef_runs.specs.declared.place.At.{At}
 use Rattle.pef_squares.specs.Squares.{number_in}
-use Rattle.pef_plan.specs.Kept.Tables.{Agrees, Shaped}
-use Rattle.pef_plan.specs.Reached.{LeadsWithin}
-
--- a fixup, with tables of all that lies behind it
-pub record AtOf (k : Known) (a : At) : Type 0 where
-  pub parts : a.left.now ≡ a.first ∷ a.others.now
-  pub shaped : Shaped k (length a.others.now)
-  pub fit : AllByRecursion (λ f. fixup_fits f ≡ true) (a.first ∷ a.others.now)
-  pub counts : AllByRecursion (λ f. Counts k.registers.now f.base) (a.first ∷ a.others.now)
-  pub import_small : a.import_index ≤ 65536
+use Rattle.pef_runs.specs.Tables.{Agrees}
+use Rattle.pef_runs.specs.Leads.{LeadsWithin}
 
 -- the least that an instruction leads to which adds at a fixup, with the registers in these classes
 pub record DirectIs (k : Known) (a : At) (c d value : ℕ) : Type 0 where

@@ -10,12 +10,12 @@ use Rattle.pef_cert.specs.Labels.{Labels}
 use Rattle.pef_cert.specs.Extension.{extension_at, offer_at}
 use Rattle.pef_cert.specs.Feasible.{FeasibleFrom}
 use Rattle.pef_cert.specs.Valid.{is_among, rises}
-use Rattle.pef_plan.specs.declared.known.Known.{Known}
-use Rattle.pef_plan.specs.declared.place.Place.{Place}
-use Rattle.pef_plan.specs.declared.place.Here.{Here}
-use Rattle.pef_plan.specs.declared.place.Step.{Step}
-use Rattle.pef_plan.specs.Kept.Places.{Counts, Goes, InPlace, extension_in}
-use Rattle.pef_plan.specs.Kept.Tables.{Agrees, Shaped, label_in}
+use Rattle.pef_runs.specs.declared.known.Known.{Known}
+use Rattle.pef_runs.specs.declared.place.Place.{Place}
+use Rattle.pef_runs.specs.declared.place.Here.{Here}
+use Rattle.pef_runs.specs.declared.place.Step.{Step}
+use Rattle.pef_runs.specs.Places.{Counts, Goes, InPlace, extension_in}
+use Rattle.pef_runs.specs.Tables.{Agrees, Shaped, label_in}
 use Rattle.pef_plan.specs.Reached.{ReachedFrom}
 
 -- the labels of tables

@@ -1,6 +1,7 @@
 use Rattle.std.proofs.Common.{◌+◌, ◌∙◌, ap₂, arith, min, slice_index}
 use Rattle.std.proofs.lemmas.List.{length-set}
-use Rattle.pef_plan.proofs.LineLemmas.{NumberOf, line-set, number-of}
+use Rattle.pef_runs.proofs.Laws.{line-set}
+use Rattle.pef_plan.proofs.LineLemmas.{NumberOf, number-of}
 use Rattle.pef_plan.proofs.rows.closed_line.Goals as goal
 
 pub loop-d-preserved : goal.loop-d-preserved

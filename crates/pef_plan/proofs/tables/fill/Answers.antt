@@ -1,8 +1,9 @@
 use Rattle.std.proofs.Common.{◌≡◌, ◌+◌, ◌-◌, ◌++◌, ◌∷◌, List, ℕ, [], drop, length, take, refl, subst, sym, arith}
 use Rattle.std.proofs.lemmas.List.{drop_all}
 use Rattle.pef_reloc.specs.Deliveries.{index_after}
-use Rattle.pef_plan.specs.Kept.Ends.{EndsOf}
-use Rattle.pef_plan.specs.Kept.Tables.{SameLabels, Tabled}
+use Rattle.pef_runs.specs.Kept.Ends.{EndsOf}
+use Rattle.pef_runs.specs.Tables.{SameLabels}
+use Rattle.pef_plan.specs.Kept.Tables.{Tabled}
 use Rattle.pef_plan.proofs.FillLemmas.{ends-at, ends-next, ends-none, fill-at, fill-next, fill-none}
 use Rattle.pef_plan.proofs.PlanFacts.{few_classes}
 use Rattle.pef_plan.proofs.tables.fill.Goals as goal

@@ -1,9 +1,0 @@
-use Rattle.pef_plan.specs.Kept.Places.{extension_in}
-use Rattle.pef_plan.specs.Kept.Steps.{ReadTo, labels_tabled}
-use Rattle.pef_plan.proofs.known.Known.program.Given as goal
-
-abbrev pub invariant-steps : goal.invariant-steps
-invariant-steps l = ReadTo l.self l.fixups l.program.items l.place
-
-abbrev pub decreases-steps : goal.decreases-steps
-decreases-steps l = extension_in (labels_tabled l.self) l.place

@@ -1,0 +1,10 @@
+use Rattle.std.proofs.Common.{◌≡◌, ◌<◌, ℕ, [], length}
+use Rattle.std.specs.Prelude.{slice_index_or}
+use Rattle.pef_plan.specs.Kept.Rows.{DirectLine}
+use Rattle.pef_plan.proofs.rows.direct_square.Given as goal
+
+abbrev pub invariant-loop-c : goal.invariant-loop-c
+invariant-loop-c l = record {
+  len : length l.square ≡ 9;
+  are : (c : ℕ) → c < l.c → DirectLine l.known l.at c (slice_index_or l.square c []);
+}

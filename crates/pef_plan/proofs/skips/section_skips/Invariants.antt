@@ -1,0 +1,9 @@
+use Rattle.std.proofs.Common.{◌≡◌, ◌<◌, ℕ, length, slice_index}
+use Rattle.pef_plan.proofs.RowLemmas.{SkipIs}
+use Rattle.pef_plan.proofs.skips.section_skips.Given as goal
+
+abbrev pub invariant-loop-c : goal.invariant-loop-c
+invariant-loop-c l = record {
+  len : length l.line ≡ 9;
+  are : (c : ℕ) → c < l.c → SkipIs l.known l.at l.section c (slice_index l.line c);
+}

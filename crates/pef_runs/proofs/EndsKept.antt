@@ -1,0 +1,294 @@
+-- Windows that are brought to the fixup before: they have the ends of the runs that begin there.
+use Rattle.std.proofs.Common.{◌≡◌, ℕ, ◌+◌, ◌<◌, List, [], ◌∷◌, length, Option, None, Some, refl, ap, sym, ◌∙◌, subst, arith, ◌≤◌, true}
+use Rattle.pef_reloc.specs.declared.fixup.Base.{Base}
+use Rattle.pef_reloc.specs.declared.fixup.Base.TheVariants.{Section, Import}
+use Rattle.pef_reloc.specs.declared.fixup.Fixup.{Fixup}
+use Rattle.pef_reloc.specs.Fixups.{base_fits}
+use Rattle.pef_reloc.specs.Steps.{added}
+use Rattle.pef_reloc.proofs.Laws.{fixup_fits-parts}
+use Rattle.std.proofs.lemmas.Bool.{ltb-true}
+use Rattle.pef_cert.specs.Labels.{Labels, class_of, classes}
+use Rattle.pef_cert.specs.Extension.{extension}
+use Rattle.pef_runs.specs.declared.runs.Run.{Run}
+use Rattle.pef_runs.specs.declared.runs.Run.TheVariants.{WordsOfD, Spaced, Pairs, SpacedPairs, Imports}
+use Rattle.pef_squares.specs.declared.window.Window.{Window}
+use Rattle.pef_runs.specs.declared.ends.InTurn.{InTurn}
+use Rattle.pef_runs.specs.declared.ends.RunEnds.{RunEnds}
+use Rattle.pef_runs.specs.declared.known.Known.{Known}
+use Rattle.pef_runs.specs.declared.place.Place.{Place}
+use Rattle.pef_runs.specs.declared.place.At.{At}
+use Rattle.pef_runs.specs.Kept.Ends.{Brought, BroughtMaybe, EndRows, EndsAt, EndsOf, FarAt, FarKept, FarPairsAt, FarPairsKept, Holding, HoldingTwo, NearKept, PairsAt, PairsKept, SkipsAt, SkipsKept, SpacedAt, SpacedKept, WordsAt, WordsKept, far_pairs_of, number_of, pairs_of, rest_of, second_of, sections_of, words_of}
+use Rattle.pef_runs.specs.Places.{AtOf}
+use Rattle.pef_runs.specs.Tables.{Agrees}
+use Rattle.pef_squares.specs.Kept.Windows.{WindowOf}
+
+-- what a call that brings a window to a place says of it
+abbrev pub Brings : Run → Place → List (List ℕ) → Window → Window → Type 0
+Brings r start square old new = (count limit : ℕ) (squares : List (List (List ℕ))) → WindowOf count limit squares old → Brought r count limit start.left.now start.position start.import_index squares square new
+
+abbrev pub BringsMaybe : Option Run → Place → List (List ℕ) → Window → Window → Type 0
+BringsMaybe r start square old new = (count limit : ℕ) (squares : List (List (List ℕ))) → WindowOf count limit squares old → BroughtMaybe r count limit start.left.now start.position start.import_index squares square new
+
+-- a place where a run begins at a fixup
+pub record StartAt (f : Fixup) (rest : List Fixup) (start : Place) : Type 0 where
+  pub left : start.left.now ≡ f ∷ rest
+  pub position : start.position ≡ f.offset
+  pub import_index : start.import_index ≡ number_of f.base
+
+started : (f : Fixup) (rest : List Fixup) (start : Place) (r : Run) (count limit : ℕ) (squares : List (List (List ℕ))) (square : List (List ℕ)) (w : Window) → StartAt f rest start → Brought r count limit start.left.now start.position start.import_index squares square w → Brought r count limit (f ∷ rest) f.offset (number_of f.base) squares square w
+started f rest start r count limit squares square w at b =
+    subst (λ (m : ℕ). Brought r count limit (f ∷ rest) f.offset m squares square w) at.import_index
+    (subst (λ (p : ℕ). Brought r count limit (f ∷ rest) p start.import_index squares square w) at.position
+    (subst (λ (fs : List Fixup). Brought r count limit fs start.position start.import_index squares square w) at.left b))
+
+tail_same : (f g : Fixup) (rest left : List Fixup) → f ∷ rest ≡ g ∷ left → rest ≡ left
+tail_same f g rest left e = cc
+
+tail_two : (f g h : Fixup) (rest left : List Fixup) → f ∷ rest ≡ g ∷ h ∷ left → rest ≡ h ∷ left
+tail_two f g h rest left e = cc
+
+words_go : (l : Labels) (f : Fixup) (rest : List Fixup) (count : ℕ) (b : Base) (squares : List (List (List ℕ))) (square : List (List ℕ)) (w : Window) → WordsKept l rest squares → NearKept l (f ∷ rest) square → (br : Brought (words_of b) count 512 (f ∷ rest) f.offset (number_of b) squares square w) → WordsAt l f.offset (f ∷ rest) br.now b
+words_go l f rest count (Section k) squares square w kept near br = λ c d under_c under_d.
+    br.ends l c d
+    (λ left more parts on.
+    let same = tail_same f (added f.offset (Section k)) rest left parts in
+    let there : rest ≡ added (f.offset + 4) (Section k) ∷ more = same ∙ on in
+    subst (λ (fs : List Fixup). EndRows l (WordsOfD k) 512 fs (f.offset + 4) 0 c d squares) (sym on)
+    (subst (λ (fs : List Fixup). WordsKept l fs squares) there kept c d under_c under_d))
+    (λ left parts. near c d under_c under_d ∙ ap (λ fs. extension l fs (f.offset + 4) c d) (tail_same f (added f.offset (Section k)) rest left parts))
+words_go l f rest count (Import i) squares square w kept near br = λ c d under_c under_d.
+    br.ends l c d
+    (λ left more parts on.
+    let same = tail_same f (added f.offset (Import i)) rest left parts in
+    let there : rest ≡ added (f.offset + 4) (Import (i + 1)) ∷ more = same ∙ on in
+    subst (λ (fs : List Fixup). EndRows l Imports 512 fs (f.offset + 4) (i + 1) c d squares) (sym on)
+    (subst (λ (fs : List Fixup). WordsKept l fs squares) there kept c d under_c under_d))
+    (λ left parts. near c d under_c under_d ∙ ap (λ fs. extension l fs (f.offset + 4) c d) (tail_same f (added f.offset (Import i)) rest left parts))
+
+skips_go : (l : Labels) (f : Fixup) (rest : List Fixup) (count k : ℕ) (squares : List (List (List ℕ))) (square : List (List ℕ)) (w : Window) → SkipsKept l rest squares → NearKept l (f ∷ rest) square → (br : Brought (WordsOfD k) count 63 (f ∷ rest) f.offset 0 squares square w) → SkipsAt l f.offset (f ∷ rest) br.now (Section k)
+skips_go l f rest count k squares square w kept near br = λ c d under_c under_d.
+    br.ends l c d
+    (λ left more parts on.
+    let same = tail_same f (added f.offset (Section k)) rest left parts in
+    let there : rest ≡ added (f.offset + 4) (Section k) ∷ more = same ∙ on in
+    subst (λ (fs : List Fixup). EndRows l (WordsOfD k) 63 fs (f.offset + 4) 0 c d squares) (sym on)
+    (subst (λ (fs : List Fixup). SkipsKept l fs squares) there kept c d under_c under_d))
+    (λ left parts. near c d under_c under_d ∙ ap (λ fs. extension l fs (f.offset + 4) c d) (tail_same f (added f.offset (Section k)) rest left parts))
+
+spaced_go : (l : Labels) (f : Fixup) (rest : List Fixup) (count k : ℕ) (squares : List (List (List ℕ))) (square : List (List ℕ)) (w : Window) → SpacedKept l rest squares → FarAt l f.offset rest square (Section k) → (br : Brought (Spaced k) count 512 (f ∷ rest) f.offset 0 squares square w) → SpacedAt l f.offset (f ∷ rest) br.now (Section k)
+spaced_go l f rest count k squares square w kept far br = λ c d under_c is_d.
+    br.ends l c d
+    (λ left more parts on.
+    let same = tail_same f (added f.offset (Section k)) rest left parts in
+    let there : rest ≡ added (f.offset + 8) (Section k) ∷ more = same ∙ on in
+    subst (λ (fs : List Fixup). EndRows l (Spaced k) 512 fs (f.offset + 8) 0 c d squares) (sym on)
+    (subst (λ (fs : List Fixup). SpacedKept l fs squares) there kept c d under_c is_d))
+    (λ left parts. far c d under_c is_d ∙ ap (λ fs. extension l fs (f.offset + 8) c d) (tail_same f (added f.offset (Section k)) rest left parts))
+
+pairs_go : (l : Labels) (f : Fixup) (rest : List Fixup) (count j k : ℕ) (squares : List (List (List ℕ))) (square : List (List ℕ)) (w : Window) → PairsKept l (rest_of rest) squares → NearKept l rest square → (br : Brought (Pairs j k) count 512 (f ∷ rest) f.offset 0 squares square w) → (c d : ℕ) → c < classes l → d < classes l → EndRows l (Pairs j k) 512 (f ∷ rest) f.offset 0 c d br.now
+pairs_go l f rest count j k squares square w kept near br c d under_c under_d =
+    br.ends l c d
+    (λ left more parts on.
+    let same = tail_two f (added f.offset (Section j)) (added (f.offset + 4) (Section k)) rest left parts in
+    let there : rest_of rest ≡ added (f.offset + 8) (Section j) ∷ added (f.offset + 8 + 4) (Section k) ∷ more = ap rest_of same ∙ on in
+    subst (λ (fs : List Fixup). EndRows l (Pairs j k) 512 fs (f.offset + 8) 0 c d squares) (sym on)
+    (subst (λ (fs : List Fixup). PairsKept l fs squares) there kept c d under_c under_d))
+    (λ left parts.
+    let same = tail_two f (added f.offset (Section j)) (added (f.offset + 4) (Section k)) rest left parts in
+    let end : f.offset + 4 + 4 ≡ f.offset + 8 = omega arith in
+    subst (λ (fs : List Fixup). NearKept l fs square) same near c d under_c under_d ∙ ap (λ p. extension l left p c d) end)
+
+far_pairs_go : (l : Labels) (f : Fixup) (rest : List Fixup) (count j k : ℕ) (squares : List (List (List ℕ))) (square : List (List ℕ)) (w : Window) → FarPairsKept l (rest_of rest) squares → FarKept l rest square → (br : Brought (SpacedPairs j k) count 512 (f ∷ rest) f.offset 0 squares square w) → (c d : ℕ) → c < classes l → d ≡ class_of l.registers k → EndRows l (SpacedPairs j k) 512 (f ∷ rest) f.offset 0 c d br.now
+far_pairs_go l f rest count j k squares square w kept far br c d under_c is_d =
+    br.ends l c d
+    (λ left more parts on.
+    let same = tail_two f (added f.offset (Section j)) (added (f.offset + 4) (Section k)) rest left parts in
+    let there : rest_of rest ≡ added (f.offset + 12) (Section j) ∷ added (f.offset + 12 + 4) (Section k) ∷ more = ap rest_of same ∙ on in
+    subst (λ (fs : List Fixup). EndRows l (SpacedPairs j k) 512 fs (f.offset + 12) 0 c d squares) (sym on)
+    (subst (λ (fs : List Fixup). FarPairsKept l fs squares) there kept c d under_c is_d))
+    (λ left parts.
+    let same = tail_two f (added f.offset (Section j)) (added (f.offset + 4) (Section k)) rest left parts in
+    let end : f.offset + 4 + 8 ≡ f.offset + 12 = omega arith in
+    subst (λ (fs : List Fixup). FarKept l fs square) same far c d under_c is_d ∙ ap (λ p. extension l left p c d) end)
+
+-- the windows of words, and of those of one section
+pub words_brought : (P : Labels → Type 0) (count : ℕ) (f : Fixup) (rest : List Fixup) (start : Place) (square : List (List ℕ)) (old new : Window) → StartAt f rest start → Holding P count 512 (λ l squares. WordsKept l rest squares) old → ((l : Labels) → P l → NearKept l (f ∷ rest) square) → Brings (words_of f.base) start square old new → Holding P count 512 (λ l squares. WordsKept l (f ∷ rest) squares) new
+words_brought P count f rest start square old new at held near brings =
+    let b = started f rest start (words_of f.base) count 512 held.squares square new at (brings count 512 held.squares held.is) in
+    record { squares = b.now; is = b.is; kept = λ l holds. words_go l f rest count f.base held.squares square new (held.kept l holds) (near l holds) b }
+
+at_section : (f : Fixup) (rest : List Fixup) (start : Place) (k : ℕ) → StartAt f rest start → f.base ≡ Section k → start.import_index ≡ 0
+at_section f rest start k at base = at.import_index ∙ ap number_of base
+
+started_section : (f : Fixup) (rest : List Fixup) (start : Place) (r : Run) (k count limit : ℕ) (squares : List (List (List ℕ))) (square : List (List ℕ)) (w : Window) → StartAt f rest start → f.base ≡ Section k → Brought r count limit start.left.now start.position start.import_index squares square w → Brought r count limit (f ∷ rest) f.offset 0 squares square w
+started_section f rest start r k count limit squares square w at base b =
+    subst (λ (m : ℕ). Brought r count limit (f ∷ rest) f.offset m squares square w) (ap number_of base) (started f rest start r count limit squares square w at b)
+
+pub skips_brought : (P : Labels → Type 0) (count k : ℕ) (f : Fixup) (rest : List Fixup) (start : Place) (square : List (List ℕ)) (old new : Window) → StartAt f rest start → f.base ≡ Section k → Holding P count 63 (λ l squares. SkipsKept l rest squares) old → ((l : Labels) → P l → NearKept l (f ∷ rest) square) → Brings (WordsOfD k) start square old new → Holding P count 63 (λ l squares. SkipsKept l (f ∷ rest) squares) new
+skips_brought P count k f rest start square old new at base held near brings =
+    let b = started_section f rest start (WordsOfD k) k count 63 held.squares square new at base (brings count 63 held.squares held.is) in
+    record { squares = b.now; is = b.is; kept = λ l holds. subst (λ (x : Base). SkipsAt l f.offset (f ∷ rest) b.now x) (sym base) (skips_go l f rest count k held.squares square new (held.kept l holds) (near l holds) b) }
+
+pub spaced_brought : (P : Labels → Type 0) (count k : ℕ) (f : Fixup) (rest : List Fixup) (start : Place) (square : List (List ℕ)) (old new : Window) → StartAt f rest start → f.base ≡ Section k → Holding P count 512 (λ l squares. SpacedKept l rest squares) old → ((l : Labels) → P l → FarAt l f.offset rest square (Section k)) → Brings (Spaced k) start square old new → Holding P count 512 (λ l squares. SpacedKept l (f ∷ rest) squares) new
+spaced_brought P count k f rest start square old new at base held far brings =
+    let b = started_section f rest start (Spaced k) k count 512 held.squares square new at base (brings count 512 held.squares held.is) in
+    record { squares = b.now; is = b.is; kept = λ l holds. subst (λ (x : Base). SpacedAt l f.offset (f ∷ rest) b.now x) (sym base) (spaced_go l f rest count k held.squares square new (held.kept l holds) (far l holds) b) }
+
+-- where a fixup has an import, these begin no run
+pub skips_import : (P : Labels → Type 0) (count i : ℕ) (f : Fixup) (rest : List Fixup) (w : Window) → f.base ≡ Import i → Holding P count 63 (λ l squares. SkipsKept l rest squares) w → Holding P count 63 (λ l squares. SkipsKept l (f ∷ rest) squares) w
+skips_import P count i f rest w base held = record { squares = held.squares; is = held.is; kept = λ l holds. subst (λ (x : Base). SkipsAt l f.offset (f ∷ rest) held.squares x) (sym base) tt }
+
+pub spaced_import : (P : Labels → Type 0) (count i : ℕ) (f : Fixup) (rest : List Fixup) (w : Window) → f.base ≡ Import i → Holding P count 512 (λ l squares. SpacedKept l rest squares) w → Holding P count 512 (λ l squares. SpacedKept l (f ∷ rest) squares) w
+spaced_import P count i f rest w base held = record { squares = held.squares; is = held.is; kept = λ l holds. subst (λ (x : Base). SpacedAt l f.offset (f ∷ rest) held.squares x) (sym base) tt }
+
+pub far_import : (l : Labels) (i : ℕ) (f : Fixup) (rest : List Fixup) (square : List (List ℕ)) → f.base ≡ Import i → FarKept l (f ∷ rest) square
+far_import l i f rest square base = subst (λ (x : Base). FarAt l f.offset rest square x) (sym base) tt
+
+pub far_section : (l : Labels) (k : ℕ) (f : Fixup) (rest : List Fixup) (square : List (List ℕ)) → f.base ≡ Section k → FarAt l f.offset rest square (Section k) → FarKept l (f ∷ rest) square
+far_section l k f rest square base is = subst (λ (x : Base). FarAt l f.offset rest square x) (sym base) is
+
+-- the windows of pairs
+pairs_here : (P : Labels → Type 0) (count : ℕ) (f : Fixup) (rest : List Fixup) (b : Base) (squares : List (List (List ℕ))) (square : List (List ℕ)) (w : Window) → f.base ≡ b → ((l : Labels) → P l → PairsKept l (rest_of rest) squares) → ((l : Labels) → P l → NearKept l rest square) → BroughtMaybe (pairs_of (sections_of b rest)) count 512 (f ∷ rest) f.offset (number_of b) squares square w → Holding P count 512 (λ l now. PairsKept l (f ∷ rest) now) w
+pairs_here P count f [] (Section j) squares square w base kept near br = record { squares = squares; is = br; kept = λ l holds. tt }
+pairs_here P count f [] (Import i) squares square w base kept near br = record { squares = squares; is = br; kept = λ l holds. tt }
+pairs_here P count f (g ∷ rest) (Import i) squares square w base kept near br = record {
+  squares = squares;
+  is = br;
+  kept = λ l holds. subst (λ (x : Base). PairsAt l f.offset (f ∷ g ∷ rest) squares x g.base) (sym base) tt;
+}
+pairs_here P count f (g ∷ rest) (Section j) squares square w base kept near br = go g.base refl br
+  where
+    go : (x : Base) → g.base ≡ x → BroughtMaybe (pairs_of (second_of j x)) count 512 (f ∷ g ∷ rest) f.offset 0 squares square w → Holding P count 512 (λ l now. PairsKept l (f ∷ g ∷ rest) now) w
+    go (Import i) next b = record {
+      squares = squares;
+      is = b;
+      kept = λ l holds. subst (λ (x : Base). PairsAt l f.offset (f ∷ g ∷ rest) squares x g.base) (sym base) (subst (λ (x : Base). PairsAt l f.offset (f ∷ g ∷ rest) squares (Section j) x) (sym next) tt);
+    }
+    go (Section k) next b = record {
+      squares = b.now;
+      is = b.is;
+      kept = λ l holds. subst (λ (x : Base). PairsAt l f.offset (f ∷ g ∷ rest) b.now x g.base) (sym base) (subst (λ (x : Base). PairsAt l f.offset (f ∷ g ∷ rest) b.now (Section j) x) (sym next)
+          (pairs_go l f (g ∷ rest) count j k squares square w (kept l holds) (near l holds) b));
+    }
+
+far_pairs_here : (P : Labels → Type 0) (count : ℕ) (f : Fixup) (rest : List Fixup) (b : Base) (squares : List (List (List ℕ))) (square : List (List ℕ)) (w : Window) → f.base ≡ b → ((l : Labels) → P l → FarPairsKept l (rest_of rest) squares) → ((l : Labels) → P l → FarKept l rest square) → BroughtMaybe (far_pairs_of (sections_of b rest)) count 512 (f ∷ rest) f.offset (number_of b) squares square w → Holding P count 512 (λ l now. FarPairsKept l (f ∷ rest) now) w
+far_pairs_here P count f [] (Section j) squares square w base kept far br = record { squares = squares; is = br; kept = λ l holds. tt }
+far_pairs_here P count f [] (Import i) squares square w base kept far br = record { squares = squares; is = br; kept = λ l holds. tt }
+far_pairs_here P count f (g ∷ rest) (Import i) squares square w base kept far br = record {
+  squares = squares;
+  is = br;
+  kept = λ l holds. subst (λ (x : Base). FarPairsAt l f.offset (f ∷ g ∷ rest) squares x g.base) (sym base) tt;
+}
+far_pairs_here P count f (g ∷ rest) (Section j) squares square w base kept far br = go g.base refl br
+  where
+    go : (x : Base) → g.base ≡ x → BroughtMaybe (far_pairs_of (second_of j x)) count 512 (f ∷ g ∷ rest) f.offset 0 squares square w → Holding P count 512 (λ l now. FarPairsKept l (f ∷ g ∷ rest) now) w
+    go (Import i) next b = record {
+      squares = squares;
+      is = b;
+      kept = λ l holds. subst (λ (x : Base). FarPairsAt l f.offset (f ∷ g ∷ rest) squares x g.base) (sym base) (subst (λ (x : Base). FarPairsAt l f.offset (f ∷ g ∷ rest) squares (Section j) x) (sym next) tt);
+    }
+    go (Section k) next b = record {
+      squares = b.now;
+      is = b.is;
+      kept = λ l holds. subst (λ (x : Base). FarPairsAt l f.offset (f ∷ g ∷ rest) b.now x g.base) (sym base) (subst (λ (x : Base). FarPairsAt l f.offset (f ∷ g ∷ rest) b.now (Section j) x) (sym next)
+          (far_pairs_go l f (g ∷ rest) count j k squares square w (kept l holds) (far l holds) b));
+    }
+
+started_maybe : (f : Fixup) (rest : List Fixup) (start : Place) (r : Option Run) (count limit : ℕ) (squares : List (List (List ℕ))) (square : List (List ℕ)) (w : Window) → StartAt f rest start → BroughtMaybe r count limit start.left.now start.position start.import_index squares square w → BroughtMaybe r count limit (f ∷ rest) f.offset (number_of f.base) squares square w
+started_maybe f rest start None count limit squares square w at b = b
+started_maybe f rest start (Some r) count limit squares square w at b = started f rest start r count limit squares square w at b
+
+pub pairs_brought : (P : Labels → Type 0) (count : ℕ) (f : Fixup) (rest : List Fixup) (start : Place) (square : List (List ℕ)) (old new : InTurn) → StartAt f rest start → HoldingTwo P count PairsKept rest old → ((l : Labels) → P l → NearKept l rest square) → new.next ≡ old.here → BringsMaybe (pairs_of (sections_of f.base rest)) start square old.next new.here → HoldingTwo P count PairsKept (f ∷ rest) new
+pairs_brought P count f rest start square old new at held near same brings = record {
+  here = pairs_here P count f rest f.base held.next.squares square new.here refl held.next.kept near
+      (started_maybe f rest start (pairs_of (sections_of f.base rest)) count 512 held.next.squares square new.here at (brings count 512 held.next.squares held.next.is));
+  next = subst (λ (w : Window). Holding P count 512 (λ l squares. PairsKept l rest squares) w) (sym same) held.here;
+}
+
+pub far_pairs_brought : (P : Labels → Type 0) (count : ℕ) (f : Fixup) (rest : List Fixup) (start : Place) (square : List (List ℕ)) (old new : InTurn) → StartAt f rest start → HoldingTwo P count FarPairsKept rest old → ((l : Labels) → P l → FarKept l rest square) → new.next ≡ old.here → BringsMaybe (far_pairs_of (sections_of f.base rest)) start square old.next new.here → HoldingTwo P count FarPairsKept (f ∷ rest) new
+far_pairs_brought P count f rest start square old new at held far same brings = record {
+  here = far_pairs_here P count f rest f.base held.next.squares square new.here refl held.next.kept far
+      (started_maybe f rest start (far_pairs_of (sections_of f.base rest)) count 512 held.next.squares square new.here at (brings count 512 held.next.squares held.next.is));
+  next = subst (λ (w : Window). Holding P count 512 (λ l squares. FarPairsKept l rest squares) w) (sym same) held.here;
+}
+
+-- all windows, at a fixup with a section and at one with an import
+pub section_passed : (k : Known) (a : At) (section : ℕ) (start : Place) (old new : RunEnds) → a.first.base ≡ Section section → StartAt a.first a.others.now start → EndsAt k a.others.now a.others.now old
+    → new.pairs.next ≡ old.pairs.here → BringsMaybe (pairs_of (sections_of a.first.base a.others.now)) start old.near old.pairs.next new.pairs.here
+    → new.far_pairs.next ≡ old.far_pairs.here → BringsMaybe (far_pairs_of (sections_of a.first.base a.others.now)) start old.far old.far_pairs.next new.far_pairs.here
+    → ((l : Labels) → Agrees l k a.others.now → NearKept l (a.first ∷ a.others.now) new.near)
+    → Brings (words_of a.first.base) start new.near old.words new.words
+    → ((l : Labels) → Agrees l k a.others.now → FarAt l a.first.offset a.others.now new.far (Section section))
+    → Brings (WordsOfD section) start new.near old.skips new.skips
+    → Brings (Spaced section) start new.far old.spaced new.spaced
+    → EndsAt k a.others.now (a.first ∷ a.others.now) new
+section_passed k a section start old new base at e pairs_next pairs far_next far_pairs near words far skips spaced =
+    let P : Labels → Type 0 = λ l. Agrees l k a.others.now in
+    let count : ℕ = length k.registers.now + 1 in
+    record {
+      words = words_brought P count a.first a.others.now start new.near old.words new.words at e.words near words;
+      skips = skips_brought P count section a.first a.others.now start new.near old.skips new.skips at base e.skips near skips;
+      spaced = spaced_brought P count section a.first a.others.now start new.far old.spaced new.spaced at base e.spaced far spaced;
+      pairs = pairs_brought P count a.first a.others.now start old.near old.pairs new.pairs at e.pairs e.near pairs_next pairs;
+      far_pairs = far_pairs_brought P count a.first a.others.now start old.far old.far_pairs new.far_pairs at e.far_pairs e.far far_next far_pairs;
+      near = near;
+      far = λ l agrees. far_section l section a.first a.others.now new.far base (far l agrees);
+    }
+
+pub import_passed : (k : Known) (a : At) (import : ℕ) (start : Place) (old new : RunEnds) → a.first.base ≡ Import import → StartAt a.first a.others.now start → EndsAt k a.others.now a.others.now old
+    → new.pairs.next ≡ old.pairs.here → BringsMaybe (pairs_of (sections_of a.first.base a.others.now)) start old.near old.pairs.next new.pairs.here
+    → new.far_pairs.next ≡ old.far_pairs.here → BringsMaybe (far_pairs_of (sections_of a.first.base a.others.now)) start old.far old.far_pairs.next new.far_pairs.here
+    → ((l : Labels) → Agrees l k a.others.now → NearKept l (a.first ∷ a.others.now) new.near)
+    → Brings (words_of a.first.base) start new.near old.words new.words
+    → new.skips ≡ old.skips → new.spaced ≡ old.spaced
+    → EndsAt k a.others.now (a.first ∷ a.others.now) new
+import_passed k a import start old new base at e pairs_next pairs far_next far_pairs near words skips spaced =
+    let P : Labels → Type 0 = λ l. Agrees l k a.others.now in
+    let count : ℕ = length k.registers.now + 1 in
+    record {
+      words = words_brought P count a.first a.others.now start new.near old.words new.words at e.words near words;
+      skips = skips_import P count import a.first a.others.now new.skips base (subst (λ (w : Window). Holding P count 63 (λ l squares. SkipsKept l a.others.now squares) w) (sym skips) e.skips);
+      spaced = spaced_import P count import a.first a.others.now new.spaced base (subst (λ (w : Window). Holding P count 512 (λ l squares. SpacedKept l a.others.now squares) w) (sym spaced) e.spaced);
+      pairs = pairs_brought P count a.first a.others.now start old.near old.pairs new.pairs at e.pairs e.near pairs_next pairs;
+      far_pairs = far_pairs_brought P count a.first a.others.now start old.far old.far_pairs new.far_pairs at e.far_pairs e.far far_next far_pairs;
+      near = near;
+      far = λ l agrees. far_import l import a.first a.others.now new.far base;
+    }
+
+-- for labels of which more is known
+holding-map : (P Q : Labels → Type 0) (count n : ℕ) (Kept : Labels → List (List (List ℕ)) → Type 0) (w : Window) → ((l : Labels) → Q l → P l) → Holding P count n Kept w → Holding Q count n Kept w
+holding-map P Q count n Kept w to h = record { squares = h.squares; is = h.is; kept = λ l q. h.kept l (to l q) }
+
+pub ends-map : (P Q : Labels → Type 0) (count : ℕ) (fixups : List Fixup) (e : RunEnds) → ((l : Labels) → Q l → P l) → EndsOf P count fixups e → EndsOf Q count fixups e
+ends-map P Q count fixups e to ends = record {
+  words = holding-map P Q count 512 (λ l squares. WordsKept l fixups squares) e.words to ends.words;
+  skips = holding-map P Q count 63 (λ l squares. SkipsKept l fixups squares) e.skips to ends.skips;
+  spaced = holding-map P Q count 512 (λ l squares. SpacedKept l fixups squares) e.spaced to ends.spaced;
+  pairs = record {
+    here = holding-map P Q count 512 (λ l squares. PairsKept l fixups squares) e.pairs.here to ends.pairs.here;
+    next = holding-map P Q count 512 (λ l squares. PairsKept l (rest_of fixups) squares) e.pairs.next to ends.pairs.next;
+  };
+  far_pairs = record {
+    here = holding-map P Q count 512 (λ l squares. FarPairsKept l fixups squares) e.far_pairs.here to ends.far_pairs.here;
+    next = holding-map P Q count 512 (λ l squares. FarPairsKept l (rest_of fixups) squares) e.far_pairs.next to ends.far_pairs.next;
+  };
+  near = λ l q. ends.near l (to l q);
+  far = λ l q. ends.far l (to l q);
+}
+
+-- what calls on the way require
+number_small : (b : Base) → base_fits b ≡ true → number_of b ≤ 65536
+number_small (Section k) fits = omega arith
+number_small (Import k) fits = let low = ltb-true k 65536 fits in omega (arith, low)
+
+pub start-small : (k : Known) (a : At) (start : Place) → AtOf k a → StartAt a.first a.others.now start → (start.position ≤ 16777216) × (start.import_index ≤ 65536)
+start-small k a start at is =
+    let parts = fixup_fits-parts a.first at.fit.0 in
+    let inside = parts.inside in
+    let position = is.position in
+    let small = number_small a.first.base parts.base in
+    let index = is.import_index in
+    (omega (arith, inside, position), omega (arith, small, index))
+
+pub held-few : (P : Labels → Type 0) (count n : ℕ) (Kept : Labels → List (List (List ℕ)) → Type 0) (w : Window) → Holding P count n Kept w → w.classes ≤ 9
+held-few P count n Kept w held = let same = held.is.classes_is in let few = held.is.few in omega (arith, same, few)

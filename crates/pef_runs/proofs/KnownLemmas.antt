@@ -1,0 +1,73 @@
+-- What tables tell of the extension.
+use Rattle.std.proofs.Common.{◌≡◌, ◌≢◌, ℕ, ◌+◌, ◌-◌, ◌<◌, ◌≤◌, List, [], ◌∷◌, ◌++◌, length, Option, None, Some, ap, ap₂, sym, ◌∙◌, subst, arith}
+use Rattle.pef_reloc.specs.declared.fixup.Base.TheVariants.{Section, Import}
+use Rattle.pef_reloc.specs.declared.fixup.Fixup.{Fixup}
+use Rattle.pef_cert.specs.Labels.{Labels, class_of}
+use Rattle.pef_cert.specs.Extension.{change, extension, moved_value, offer_at}
+use Rattle.pef_cert.proofs.Laws.{extension-away, extension-end, extension-here, offer-kept_import, offer-kept_section}
+use Rattle.pef_runs.specs.declared.known.Known.{Known}
+use Rattle.pef_runs.specs.Tables.{Agrees, SameLabels, Shaped, label_in, skip_in}
+
+pub value-end : (l : Labels) (fixups : List Fixup) (p c d : ℕ) → length fixups ≡ 0 → 0 ≡ extension l fixups p c d
+value-end l [] p c d none = sym (extension-end l p c d)
+value-end l (f ∷ fixups) p c d none = absurd (omega (arith, none))
+
+-- the extension at a fixup, from its label
+pub value-here : (l : Labels) (k : Known) (f : Fixup) (rest : List Fixup) (left p c d x : ℕ) → length (f ∷ rest) ≡ left → Agrees l k (f ∷ rest) → c < length k.registers.now + 1 → d < length k.registers.now + 1 → p ≡ f.offset → x ≡ label_in k.labels.now left c d → x ≡ extension l (f ∷ rest) p c d
+value-here l k f rest left p c d x count agrees under_c under_d here is =
+    is ∙ ap (λ n. label_in k.labels.now n c d) (sym count)
+    ∙ sym (agrees.same.label_is (length (f ∷ rest)) c d (omega arith) under_c under_d)
+    ∙ sym (extension-here l f rest p c d here)
+
+-- and away from it
+pub value-away : (l : Labels) (k : Known) (f : Fixup) (rest : List Fixup) (left p c d x y : ℕ) (o : Option ℕ) → length (f ∷ rest) ≡ left → Agrees l k (f ∷ rest) → c < length k.registers.now + 1 → d < length k.registers.now + 1 → p ≢ f.offset → x ≡ label_in k.labels.now left c d → o ≡ offer_at l f rest c d → y ≡ moved_value (f.offset - p) x o → y ≡ extension l (f ∷ rest) p c d
+value-away l k f rest left p c d x y o count agrees under_c under_d away is offer value =
+    let label : x ≡ l.label (length (f ∷ rest)) c d = is ∙ ap (λ n. label_in k.labels.now n c d) (sym count) ∙ sym (agrees.same.label_is (length (f ∷ rest)) c d (omega arith) under_c under_d) in
+    value ∙ ap₂ (moved_value (f.offset - p)) label offer ∙ sym (extension-away l f rest p c d away)
+
+-- the least offer from the table
+pub offer-section_kept : (l : Labels) (k : Known) (f : Fixup) (rest : List Fixup) (left c d section n y : ℕ) → length (f ∷ rest) ≡ left → Agrees l k (f ∷ rest) → c < length k.registers.now + 1 → d < length k.registers.now + 1 → f.base ≡ Section section → n ≡ change d (class_of k.registers.now section) → y ≡ skip_in k.skips.now left c → Some (n + y) ≡ offer_at l f rest c d
+offer-section_kept l k f rest left c d section n y count agrees under_c under_d base first second =
+    let regs = agrees.same.registers_are in
+    offer-kept_section l f rest c d (skip_in k.skips.now (length (f ∷ rest)) c) section n y base
+    (agrees.offers.0 c d (subst (λ rs. c < length rs + 1) (sym regs) under_c) (subst (λ rs. d < length rs + 1) (sym regs) under_d))
+    (first ∙ ap (λ rs. change d (class_of rs section)) (sym regs))
+    (second ∙ ap (λ m. skip_in k.skips.now m c) (sym count))
+
+pub offer-import_kept : (l : Labels) (k : Known) (f : Fixup) (rest : List Fixup) (left c d import : ℕ) → length (f ∷ rest) ≡ left → Agrees l k (f ∷ rest) → c < length k.registers.now + 1 → d < length k.registers.now + 1 → f.base ≡ Import import → None ≡ offer_at l f rest c d
+offer-import_kept l k f rest left c d import count agrees under_c under_d base =
+    let regs = agrees.same.registers_are in
+    offer-kept_import l f rest c d (skip_in k.skips.now (length (f ∷ rest)) c) import base
+    (agrees.offers.0 c d (subst (λ rs. c < length rs + 1) (sym regs) under_c) (subst (λ rs. d < length rs + 1) (sym regs) under_d))
+
+-- where fewer are left
+pub same_fewer : (l : Labels) (registers : List ℕ) (labels : List (List (List ℕ))) (most m : ℕ) → SameLabels l registers labels most → m ≤ most → SameLabels l registers labels m
+same_fewer l registers labels most m same low = record {
+  registers_are = same.registers_are;
+  label_is = λ left c d under. same.label_is left c d (omega (arith, under, low));
+}
+
+pub agrees-behind : (l : Labels) (k : Known) (made left : List Fixup) → Agrees l k (made ++ left) → Agrees l k left
+agrees-behind l k [] left a = a
+agrees-behind l k (f ∷ made) left a =
+    agrees-behind l k made left (record {
+      same = same_fewer l k.registers.now k.labels.now (length (f ∷ (made ++ left))) (length (made ++ left)) a.same (omega arith);
+      offers = a.offers.1;
+    })
+
+-- behind one or more of a fixup and others
+pub agrees-left : (l : Labels) (k : Known) (f : Fixup) (others made left : List Fixup) → Agrees l k others → f ∷ others ≡ made ++ left → length left < length (f ∷ others) → Agrees l k left
+agrees-left l k f others [] left a parts fewer = let e = ap length parts in absurd (omega (arith, e))
+agrees-left l k f others (g ∷ made) left a parts fewer =
+    let same : others ≡ made ++ left = cc in
+    agrees-behind l k made left (subst (λ (fs : List Fixup). Agrees l k fs) same a)
+
+pub shaped_fewer : (k : Known) (most m : ℕ) → Shaped k most → m ≤ most → Shaped k m
+shaped_fewer k most m s low = record {
+  few = s.few;
+  count = (let n = s.count in omega (arith, n));
+  labels = (let n = s.labels in omega (arith, n));
+  skips = (let n = s.skips in omega (arith, n));
+  label_small = λ left c d under. s.label_small left c d (omega (arith, under, low));
+  skip_small = λ left c under. s.skip_small left c (omega (arith, under, low));
+}

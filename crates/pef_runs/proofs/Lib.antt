@@ -1,0 +1,7 @@
+pub mod Laws
+mod EndBest
+mod EndLemmas
+mod EndsKept
+mod KnownLemmas
+mod LineLemmas
+mod RunFacts

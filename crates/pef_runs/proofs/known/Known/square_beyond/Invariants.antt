@@ -1,0 +1,12 @@
+use Rattle.std.proofs.Common.{◌≡◌, ◌+◌, ◌<◌, ℕ, [], length, slice_index}
+use Rattle.std.specs.Prelude.{slice_index_or}
+use Rattle.pef_cert.specs.Extension.{extension}
+use Rattle.pef_cert.specs.Labels.{Labels}
+use Rattle.pef_runs.specs.Tables.{Agrees}
+use Rattle.pef_runs.proofs.known.Known.square_beyond.Given as goal
+
+abbrev pub invariant-loop-c : goal.invariant-loop-c
+invariant-loop-c l = record {
+  len : length l.square ≡ 9;
+  are : (c : ℕ) → c < l.c → (labels : Labels) → Agrees labels l.self l.at.others.now → slice_index (slice_index_or l.square c []) l.class ≡ extension labels l.at.others.now (l.at.first.offset + 8) c l.class;
+}

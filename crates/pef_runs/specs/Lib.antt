@@ -1,0 +1,5 @@
+pub mod Kept
+pub mod Leads
+pub mod Places
+pub mod Runs
+pub mod Tables

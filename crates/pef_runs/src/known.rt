@@ -1,0 +1,108 @@
+ghost use Rattle.std.specs.Prelude.{◌≡◌, ◌+◌, ◌*◌, ◌<◌, ◌≤◌, ◌∷◌, ℕ, [], IfSome, List, length, slice_index_or};
+ghost use Rattle.pef_cert.specs.Extension.{extension, offer_at};
+ghost use Rattle.pef_cert.specs.Labels.{Labels};
+ghost use Rattle.pef_runs.specs.Tables.{Agrees, Shaped};
+ghost use Rattle.pef_reloc.specs.declared.fixup.Fixup.{Fixup};
+
+use pef_cert::{change, class_of, moved_value};
+use pef_reloc::{Base, Fixup};
+use pef_squares::{Line, Square, Squares};
+
+/// What is known of the states at the fixups so far, from the last fixup back.
+#[derive(Clone, Copy, Debug)]
+pub struct Known<'a> {
+    pub registers: &'a [u32],
+    /// The labels, by how many fixups are left.
+    pub labels: &'a Squares,
+    /// The least that a skip at the next fixup leads to, by the class of register C and by how many
+    /// fixups are left.
+    pub skips: &'a [Line],
+}
+
+impl<'a> Known<'a> {
+    /// How many classes there are.
+    pub fn classes(self) -> usize
+        requires { length self.registers.now ≤ 8 }
+        ensures { result ≡ length self.entry.registers.now + 1 }
+    {
+        self.registers.len() + 1
+    }
+
+    /// The labels where so many fixups are left.
+    pub fn row(self, left: usize) -> &'a Square
+        requires { Shaped self left }
+        ensures { result.now ≡ slice_index_or self.entry.labels.now left [] }
+    {
+        self.labels.square(left)
+    }
+
+    /// The extension where these fixups are left, at a position and in classes of the registers.
+    pub fn value(self, rest: &[Fixup], position: u64, c: usize, d: usize) -> u64
+        requires shaped { Shaped self (length rest.now) }
+        requires c { c < length self.registers.now + 1 }
+        requires d { d < length self.registers.now + 1 }
+        ensures is { (l : Labels) → Agrees l self.entry rest.now → result ≡ extension l rest.now position c d }
+        ensures small { result ≤ 4 * length rest.now + 2 }
+    {
+        self.value_in(self.row(rest.len()), rest, position, c, d)
+    }
+
+    /// The same from the labels where these are left.
+    pub fn value_in(self, row: &Square, rest: &[Fixup], position: u64, c: usize, d: usize) -> u64
+        requires row { row.now ≡ slice_index_or self.labels.now (length rest.now) [] }
+        requires shaped { Shaped self (length rest.now) }
+        requires c { c < length self.registers.now + 1 }
+        requires d { d < length self.registers.now + 1 }
+        ensures is { (l : Labels) → Agrees l self.entry rest.now → result ≡ extension l rest.now position c d }
+        ensures small { result ≤ 4 * length rest.now + 2 }
+    {
+        match rest.split_first() {
+            Some((first, _)) => self.value_before(row, rest.len(), *first, position, c, d),
+            None => 0,
+        }
+    }
+
+    /// The same where so many are left, of which this is the first.
+    fn value_before(
+        self,
+        row: &Square,
+        left: usize,
+        first: Fixup,
+        position: u64,
+        c: usize,
+        d: usize,
+    ) -> u64
+        requires row { row.now ≡ slice_index_or self.labels.now left [] }
+        requires shaped { Shaped self left }
+        requires c { c < length self.registers.now + 1 }
+        requires d { d < length self.registers.now + 1 }
+        ensures is { (l : Labels) (rest : List Fixup) → length (first ∷ rest) ≡ left → Agrees l self.entry (first ∷ rest) → result ≡ extension l (first ∷ rest) position c d }
+        ensures small { result ≤ 4 * left + 2 }
+    {
+        let label = row[c][d];
+        let offset = u64::from(first.offset);
+        if position == offset {
+            return u64::from(label);
+        }
+        let ahead = offset.saturating_sub(position);
+        moved_value(ahead, label, self.offer(left, first.base, c, d))
+    }
+
+    /// The least offer where so many fixups are left, of which the first has this base.
+    fn offer(self, left: usize, base: Base, c: usize, d: usize) -> Option<u64>
+        requires shaped { Shaped self left }
+        requires c { c < length self.registers.now + 1 }
+        requires d { d < length self.registers.now + 1 }
+        ensures is { (l : Labels) (first : Fixup) (rest : List Fixup) → length (first ∷ rest) ≡ left → first.base ≡ base → Agrees l self.entry (first ∷ rest) → result ≡ offer_at l first rest c d }
+        ensures small { IfSome result (λ x. x ≤ 4 * left + 1) }
+    {
+        match base {
+            Base::Section(section) => {
+                let change = change(d, class_of(self.registers, section));
+                let skip = self.skips[left][c];
+                Some(change + u64::from(skip))
+            }
+            Base::Import(_) => None,
+        }
+    }
+}

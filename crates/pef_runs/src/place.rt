@@ -1,0 +1,49 @@
+use pef_reloc::{Fixup, Instr};
+
+/// The bytes of a word.
+pub const WORD: u64 = 4;
+
+/// A state, and the fixups that are left to make from there.
+#[derive(Clone, Copy, Debug)]
+pub struct Place<'a> {
+    pub left: &'a [Fixup],
+    pub position: u64,
+    pub import_index: u64,
+    /// The classes of the registers.
+    pub c: usize,
+    pub d: usize,
+}
+
+/// A state where fixups are left: the first of them, and those behind it.
+#[derive(Clone, Copy, Debug)]
+pub struct Here<'a> {
+    pub place: Place<'a>,
+    pub first: Fixup,
+    pub others: &'a [Fixup],
+}
+
+/// A state at a fixup, but for the registers.
+#[derive(Clone, Copy, Debug)]
+pub struct At<'a> {
+    pub left: &'a [Fixup],
+    pub first: Fixup,
+    /// The fixups behind it.
+    pub others: &'a [Fixup],
+    pub import_index: u64,
+}
+
+/// An instruction, and where it leads to.
+#[derive(Clone, Copy, Debug)]
+pub struct Step<'a> {
+    pub instr: Instr,
+    pub next: Place<'a>,
+}
+
+/// A step, and how many halfwords there are from before it to the end.
+#[derive(Clone, Copy, Debug)]
+pub struct Choice<'a> {
+    pub step: Step<'a>,
+    pub value: u64,
+    /// How many values behind ends of runs were looked at.
+    pub looks: u64,
+}
