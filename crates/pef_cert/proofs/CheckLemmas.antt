@@ -19,7 +19,7 @@ use Rattle.pef_cert.specs.Labels.{Labels, class_of, classes}
 use Rattle.pef_cert.specs.Valid.{Certified, RegistersOf, Valid}
 use Rattle.pef_cert.specs.Kept.Claims.{Holds, IsClaim, RowsFit, Shaped, labels_claimed}
 use Rattle.pef_cert.specs.Kept.RowsKept.{RowsFull, rows_from}
-use Rattle.pef_cert.specs.Kept.Tests.{Says}
+use Rattle.pef_fixups.specs.Answers.{Says}
 use Rattle.pef_cert.proofs.ClaimLemmas.{few_rising}
 use Rattle.pef_cert.proofs.ExtensionLemmas.{extension-end}
 use Rattle.pef_cert.proofs.LabelFacts.{extension-label}

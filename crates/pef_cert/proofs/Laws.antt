@@ -17,14 +17,12 @@ pub use Rattle.pef_cert.proofs.LabelFacts.{Offered, Stands, base_counts, extensi
 pub use Rattle.pef_cert.proofs.Falling.{World, falls, world-behind, world-first, world-next, world_left}
 pub use Rattle.pef_cert.proofs.Soundness.{none_shorter, whole_world}
 -- the tests of a fixup's labels, of which each follows from what lies behind the runs that it is about
-pub use Rattle.pef_cert.proofs.RunLemmas.{is_added-is, is_added-refl, numbered_test-met, pairs_test-met, row_test-met}
+pub use Rattle.pef_cert.proofs.RunLemmas.{numbered_test-met, pairs_test-met, row_test-met}
 pub use Rattle.pef_cert.proofs.TestLemmas.{ImportTests, SectionTests, asked-met, feasible-tested, import_tests-met, section_tests-met, tested}
 -- the least offer at a fixup, by its base
 pub use Rattle.pef_cert.proofs.SkipLemmas.{offer-import, offer-section}
 -- the least offer from the least skip that is kept
 pub use Rattle.pef_cert.proofs.ClaimLemmas.{few_rising, offer-kept_import, offer-kept_section}
--- what is left of fixups behind those that they begin with
-pub use Rattle.pef_cert.proofs.WalkLemmas.{behind-is, behind-made}
 -- the least and the greatest of some numbers, kept as they are gone through
 pub use Rattle.pef_cert.proofs.SetLemmas.{Attains, above-min, attains-min}
 -- the import index behind fixups, from the last import among them

@@ -19,4 +19,3 @@ mod Soundness
 mod StepLemmas
 mod SweepLemmas
 mod TestLemmas
-mod WalkLemmas

@@ -11,7 +11,7 @@ use Rattle.pef_words.proofs.Laws.Tests.{both_met, met_both}
 use Rattle.pef_cert.specs.Labels.{class_of}
 use Rattle.pef_cert.specs.Valid.{RegistersOf, is_among, rises}
 use Rattle.pef_cert.specs.Kept.Registers.{all_registered, is_registered}
-use Rattle.pef_cert.specs.Kept.Tests.{Says}
+use Rattle.pef_fixups.specs.Answers.{Says}
 use Rattle.pef_cert.proofs.ClassLemmas.{RegisteredBase, all_registered as each_registered, class_of-other, or_right}
 
 or_left : (a b : Bool) → a ≡ true → (a || b) ≡ true

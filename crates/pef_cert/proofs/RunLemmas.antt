@@ -1,46 +1,16 @@
 -- The tests along a run are met just where each run that begins the fixups is followed by enough.
-use Rattle.std.proofs.Common.{◌≡◌, ℕ, zero, suc, ◌+◌, ◌*◌, ◌<◌, ◌≤◌, inl, inr, Bool, true, false, ◌&&◌, ◌==◌, List, [], ◌∷◌, ◌++◌, refl, ap, sym, ◌∙◌, arith, eq-eqb}
+use Rattle.std.proofs.Common.{◌≡◌, ℕ, zero, suc, ◌+◌, ◌*◌, ◌<◌, ◌≤◌, Bool, true, false, ◌&&◌, List, [], ◌∷◌, ◌++◌, refl, ap, ◌∙◌, arith}
 use Rattle.std.proofs.lemmas.Bool.{leb-true, le-leb}
-use Rattle.std.proofs.lemmas.Bool.Decides.{eqb_tells}
 use Rattle.pef_reloc.specs.declared.fixup.Base.{Base}
-use Rattle.pef_reloc.specs.declared.fixup.Base.TheVariants.{Section, Import}
+use Rattle.pef_reloc.specs.declared.fixup.Base.TheVariants.{Import}
 use Rattle.pef_reloc.specs.declared.fixup.Fixup.{Fixup}
 use Rattle.pef_reloc.specs.Steps.{added, numbered, pairs, row}
 use Rattle.pef_words.proofs.Laws.Tests.{both_met, met_both}
 use Rattle.pef_cert.specs.Labels.{Labels}
 use Rattle.pef_cert.specs.Extension.{extension}
-use Rattle.pef_cert.specs.Kept.Tests.{is_added, numbered_test, one_from, pairs_test, row_test, run_on, same_base}
-
--- a base is itself, and one that passes for it is it
-same_base-refl : (b : Base) → same_base b b ≡ true
-same_base-refl (Section k) = eq-eqb k k refl
-same_base-refl (Import k) = eq-eqb k k refl
-
-same_base-is : (a b : Base) → same_base a b ≡ true → a ≡ b
-same_base-is (Section j) (Section k) e =
-    elim (eqb_tells j k) [
-      | inl same ↦ ap Section same.1
-      | inr other ↦ (let wrong : true ≡ false = sym e ∙ other.0 in absurd (cc))
-    ]
-same_base-is (Section j) (Import k) e = absurd (cc)
-same_base-is (Import j) (Section k) e = absurd (cc)
-same_base-is (Import j) (Import k) e =
-    elim (eqb_tells j k) [
-      | inl same ↦ ap Import same.1
-      | inr other ↦ (let wrong : true ≡ false = sym e ∙ other.0 in absurd (cc))
-    ]
-
-pub is_added-refl : (p : ℕ) (b : Base) (f : Fixup) → f ≡ added p b → is_added p b f ≡ true
-is_added-refl p b f is = rw (is, eq-eqb p p refl, same_base-refl b) refl
-
-pub is_added-is : (p : ℕ) (b : Base) (f : Fixup) → is_added p b f ≡ true → f ≡ added p b
-is_added-is p b f e =
-    let both = met_both (f.offset == p) (same_base f.base b) e in
-    let base = same_base-is f.base b both.1 in
-    elim (eqb_tells f.offset p) [
-      | inl same ↦ (λ i. record { offset = same.1 i; base = base i })
-      | inr other ↦ (let wrong : true ≡ false = sym both.0 ∙ other.0 in absurd (cc))
-    ]
+use Rattle.pef_fixups.specs.Additions.{is_added}
+use Rattle.pef_fixups.proofs.Laws.{is_added-is, is_added-refl}
+use Rattle.pef_cert.specs.Kept.Tests.{numbered_test, one_from, pairs_test, row_test, run_on}
 
 run_on-here : (b here more : Bool) → b ≡ true → run_on b here more ≡ true → here ≡ true
 run_on-here true here more is e = (met_both here more e).0

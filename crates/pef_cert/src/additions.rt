@@ -8,10 +8,8 @@ ghost use Rattle.pef_reloc.specs.declared.fixup.Base.TheVariants.{Section, Impor
 use crate::claim::{Behind, Claim};
 use crate::classes::class_of;
 use crate::runs::Tested;
+use pef_fixups::WORD;
 use pef_reloc::Base;
-
-/// The bytes of a word.
-const WORD: u64 = 4;
 
 /// How many imports can be named in nine bits.
 const SMALL_IMPORTS: u32 = 512;

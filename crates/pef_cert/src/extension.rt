@@ -2,6 +2,8 @@ ghost use Rattle.std.specs.Prelude.{◌≡◌, ◌+◌, ◌^◌, ◌<◌, ◌≤
 ghost use Rattle.pef_cert.specs.Extension.{moved_value};
 ghost use Rattle.pef_cert.specs.Kept.Values.{offered};
 
+use pef_fixups::WORD;
+
 /// How many bytes an increment moves, at most.
 pub const REACH: u64 = 4096;
 
@@ -10,9 +12,6 @@ pub const SKIP_REACH: u64 = 1020;
 
 /// How far both together move.
 const BOTH_REACH: u64 = REACH + SKIP_REACH;
-
-/// The bytes of a word.
-const WORD: u64 = 4;
 
 /// The extension away from the offset of the next fixup, in halfwords: the fixup lies `ahead` bytes ahead
 /// (0 where it lies behind), with the label there and the least offer, where there is one.

@@ -1,7 +1,8 @@
 ghost use Rattle.std.specs.Prelude.{◌≡◌, ◌+◌, ◌-◌, ◌<◌, ◌≤◌, ℕ, drop, length, take};
 ghost use Rattle.pef_cert.specs.Feasible.{FeasibleAt};
 ghost use Rattle.pef_cert.specs.Kept.Claims.{UnderTest, labels_claimed};
-ghost use Rattle.pef_cert.specs.Kept.Tests.{AllTests, LineTests, Says};
+ghost use Rattle.pef_cert.specs.Kept.Tests.{AllTests, LineTests};
+ghost use Rattle.pef_fixups.specs.Answers.{Says};
 ghost use Rattle.pef_reloc.specs.Deliveries.{index_after};
 
 use crate::claim::Behind;

@@ -9,7 +9,6 @@ mod claim;
 mod classes;
 mod extension;
 mod feasible;
-mod fixups;
 mod registers;
 mod rows;
 mod runs;
@@ -17,7 +16,6 @@ mod sets;
 mod skips;
 mod sweep;
 mod theorems;
-mod walk;
 
 pub use certificate::Certificate;
 pub use checking::check;

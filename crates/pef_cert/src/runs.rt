@@ -3,14 +3,11 @@ ghost use Rattle.pef_cert.specs.Kept.Claims.{Sees, Tests, labels_claimed};
 ghost use Rattle.pef_cert.specs.Kept.Tests.{adds_first, numbered_test, one_from, pairs_test, row_test};
 
 use crate::claim::{Behind, Claim};
-use crate::fixups::adds_at;
+use pef_fixups::{WORD, adds_at};
 use pef_reloc::{Base, Fixup};
 
 /// The most words, pairs or imports of a run.
 const MAX_RUN: u32 = 512;
-
-/// The bytes of a word.
-const WORD: u64 = 4;
 
 /// A state at a fixup's offset: the fixup and its index, the classes of the registers, and the label.
 #[derive(Clone, Copy, Debug)]

@@ -6,10 +6,8 @@ ghost use Rattle.pef_reloc.specs.declared.fixup.Base.TheVariants.{Section};
 
 use crate::claim::{Behind, MAX_CLASSES};
 use crate::classes::class_of;
+use pef_fixups::WORD;
 use pef_reloc::{Base, Fixup};
-
-/// The bytes of a word.
-const WORD: u64 = 4;
 
 /// The most words that a skip adds to behind the first.
 const MORE_WORDS: u32 = 62;

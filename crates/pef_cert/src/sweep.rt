@@ -3,7 +3,7 @@ ghost use Rattle.pef_cert.specs.Extension.{extension_at};
 ghost use Rattle.pef_cert.specs.Feasible.{Feasible, FeasibleAt, FeasibleFrom};
 ghost use Rattle.pef_cert.specs.Kept.Claims.{IsRowOf, Knows, Shaped, Skips, SkipsAre, UnderTest, labels_claimed};
 ghost use Rattle.pef_cert.specs.Kept.Sets.{RowIsZero};
-ghost use Rattle.pef_cert.specs.Kept.Tests.{Says};
+ghost use Rattle.pef_fixups.specs.Answers.{Says};
 ghost use Rattle.pef_reloc.specs.Deliveries.{index_after};
 ghost use Rattle.pef_reloc.specs.Steps.{start};
 

@@ -3,18 +3,9 @@ use Rattle.std.specs.Prelude.{◌≡◌, ◌≤◌, ◌<◌, ℕ, zero, suc, ◌
 use Rattle.pef_reloc.specs.declared.fixup.Base.{Base}
 use Rattle.pef_reloc.specs.declared.fixup.Base.TheVariants.{Section, Import}
 use Rattle.pef_reloc.specs.declared.fixup.Fixup.{Fixup}
+pub use Rattle.pef_fixups.specs.Additions.{is_added}
 use Rattle.pef_cert.specs.Labels.{Labels, class_of, classes}
 use Rattle.pef_cert.specs.Extension.{extension}
-
-abbrev pub same_base : Base → Base → Bool
-same_base (Section j) (Section k) = j == k
-same_base (Section j) (Import k) = false
-same_base (Import j) (Section k) = false
-same_base (Import j) (Import k) = j == k
-
--- a fixup adds a base at a position
-abbrev pub is_added : ℕ → Base → Fixup → Bool
-is_added p b f = f.offset == p && same_base f.base b
 
 -- the first of some fixups adds a base at a position
 abbrev pub adds_first : ℕ → Base → List Fixup → Bool
@@ -94,10 +85,6 @@ pub record SetsHold (l : Labels) (left : ℕ) : Type 0 where
 pub record TestsHold (l : Labels) (index : ℕ) (f : Fixup) (rest : List Fixup) : Type 0 where
   pub sets : SetsHold l (length (f ∷ rest))
   pub adds : (c d : ℕ) → c < classes l → d < classes l → adds_test l index f rest c d ≡ true
-
--- an answer that is yes just where something holds
-abbrev pub Says : Bool → Type 0 → Type 0
-Says answer P = (answer ≡ true → P) × (P → answer ≡ true)
 
 -- the tests of a state with register C in a class
 abbrev pub LineTests : Labels → ℕ → Fixup → List Fixup → ℕ → Type 0

@@ -1,6 +1,6 @@
 use Rattle.std.proofs.Common.{ℕ, true, false, subst}
 use Rattle.pef_cert.specs.Kept.Sets.{RowHolds}
-use Rattle.pef_cert.specs.Kept.Tests.{Says}
+use Rattle.pef_fixups.specs.Answers.{Says}
 use Rattle.pef_cert.proofs.FeasibleLemmas.{fixup-fails, fixup-says}
 use Rattle.pef_cert.proofs.claim.Behind.fixup_holds.Goals as goal
 

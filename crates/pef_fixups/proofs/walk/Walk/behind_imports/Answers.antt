@@ -1,6 +1,6 @@
 use Rattle.std.proofs.Common.{arith}
-use Rattle.pef_cert.proofs.WalkLemmas.{imports-end, imports-fail, imports-next}
-use Rattle.pef_cert.proofs.walk.Walk.behind_imports.Goals as goal
+use Rattle.pef_fixups.proofs.WalkLemmas.{imports-end, imports-fail, imports-next}
+use Rattle.pef_fixups.proofs.walk.Walk.behind_imports.Goals as goal
 
 pub returns-in_err-left : goal.returns-in_err-left
 returns-in_err-left c =

@@ -1,6 +1,6 @@
 use Rattle.std.proofs.Common.{◌≡◌, ◌*◌, ◌^◌, ◌≤◌, drop}
-use Rattle.pef_cert.specs.Kept.Walks.{place_of, start_place, walked}
-use Rattle.pef_cert.proofs.walk.walk_along.Given as goal
+use Rattle.pef_fixups.specs.Kept.Walks.{place_of, start_place, walked}
+use Rattle.pef_fixups.proofs.walk.walk_along.Given as goal
 
 abbrev pub invariant-loop-instr : goal.invariant-loop-instr
 invariant-loop-instr l = record {

@@ -1,6 +1,6 @@
 use Rattle.std.proofs.Common.{arith}
-use Rattle.pef_cert.proofs.WalkLemmas.{words-end, words-fail, words-next}
-use Rattle.pef_cert.proofs.walk.behind_words.Goals as goal
+use Rattle.pef_fixups.proofs.WalkLemmas.{words-end, words-fail, words-next}
+use Rattle.pef_fixups.proofs.walk.behind_words.Goals as goal
 
 pub returns-in_err-left : goal.returns-in_err-left
 returns-in_err-left c =

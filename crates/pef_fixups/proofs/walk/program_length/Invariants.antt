@@ -1,6 +1,6 @@
 use Rattle.std.proofs.Common.{◌≡◌, ◌+◌, ◌*◌, ◌≤◌, drop}
 use Rattle.pef_reloc.specs.Instrs.{program_length}
-use Rattle.pef_cert.proofs.walk.program_length.Given as goal
+use Rattle.pef_fixups.proofs.walk.program_length.Given as goal
 
 abbrev pub invariant-loop-instr : goal.invariant-loop-instr
 invariant-loop-instr l = record {

@@ -1,8 +1,8 @@
 use Rattle.std.proofs.Common.{◌≡◌, ◌+◌, ◌-◌, ◌*◌, ◌≤◌}
 use Rattle.pef_reloc.specs.declared.fixup.Base.TheVariants.{Section}
 use Rattle.pef_reloc.specs.Steps.{pairs}
-use Rattle.pef_cert.specs.Kept.Walks.{behind}
-use Rattle.pef_cert.proofs.walk.Walk.behind_pairs.Given as goal
+use Rattle.pef_fixups.specs.Kept.Walks.{behind}
+use Rattle.pef_fixups.proofs.walk.Walk.behind_pairs.Given as goal
 
 abbrev pub invariant-pairs : goal.invariant-pairs
 invariant-pairs l = record {

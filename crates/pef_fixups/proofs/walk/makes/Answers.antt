@@ -1,7 +1,7 @@
 use Rattle.std.proofs.Common.{false, refl, None, Some}
-use Rattle.pef_cert.specs.Kept.Walks.{place_of}
-use Rattle.pef_cert.proofs.WalkLemmas.{walk-says}
-use Rattle.pef_cert.proofs.walk.makes.Goals as goal
+use Rattle.pef_fixups.specs.Kept.Walks.{place_of}
+use Rattle.pef_fixups.proofs.WalkLemmas.{walk-says}
+use Rattle.pef_fixups.proofs.walk.makes.Goals as goal
 
 pub returns-in-Some : goal.returns-in-Some
 returns-in-Some c = walk-says c.args.program.now c.args.fixups.now (Some (place_of c.in-Some.walk)) c.is_empty.result c.in-Some.ensures c.is_empty.ensures

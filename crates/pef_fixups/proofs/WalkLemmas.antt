@@ -10,9 +10,10 @@ use Rattle.pef_reloc.specs.declared.instr.Instr.{Instr}
 use Rattle.pef_reloc.specs.Deliveries.{is_flat_instr}
 use Rattle.pef_reloc.specs.Steps.{Makes, State, added, additions, is_flat, next_state, numbered, pairs, row, start, state_after, trace}
 use Rattle.pef_reloc.proofs.Laws.{flat_parts, flat_more}
-use Rattle.pef_cert.specs.Kept.Tests.{Says, is_added}
-use Rattle.pef_cert.specs.Kept.Walks.{Place, behind, behind_first, passed, placed, start_place, stepped, walked}
-use Rattle.pef_cert.proofs.RunLemmas.{is_added-is, is_added-refl}
+use Rattle.pef_fixups.specs.Additions.{behind_first, is_added}
+use Rattle.pef_fixups.specs.Answers.{Says}
+use Rattle.pef_fixups.specs.Kept.Walks.{Place, behind, passed, placed, start_place, stepped, walked}
+use Rattle.pef_fixups.proofs.FixupLemmas.{is_added-is, is_added-refl}
 
 -- nothing is left
 abbrev pub at_end : Option Place → Bool

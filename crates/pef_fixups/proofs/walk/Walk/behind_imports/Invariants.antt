@@ -1,7 +1,7 @@
 use Rattle.std.proofs.Common.{◌≡◌, ◌+◌, ◌-◌, ◌*◌, ◌≤◌}
 use Rattle.pef_reloc.specs.Steps.{numbered}
-use Rattle.pef_cert.specs.Kept.Walks.{behind}
-use Rattle.pef_cert.proofs.walk.Walk.behind_imports.Given as goal
+use Rattle.pef_fixups.specs.Kept.Walks.{behind}
+use Rattle.pef_fixups.proofs.walk.Walk.behind_imports.Given as goal
 
 abbrev pub invariant-imports : goal.invariant-imports
 invariant-imports l = record {

@@ -1,7 +1,7 @@
 use Rattle.std.proofs.Common.{arith}
 use Rattle.pef_reloc.specs.declared.fixup.Base.TheVariants.{Section}
-use Rattle.pef_cert.proofs.WalkLemmas.{pairs-fail, pairs-fail_second, pairs-first, pairs-last, pairs-second}
-use Rattle.pef_cert.proofs.walk.Walk.behind_pairs.Goals as goal
+use Rattle.pef_fixups.proofs.WalkLemmas.{pairs-fail, pairs-fail_second, pairs-first, pairs-last, pairs-second}
+use Rattle.pef_fixups.proofs.walk.Walk.behind_pairs.Goals as goal
 
 pub returns-in_err-left : goal.returns-in_err-left
 returns-in_err-left c =

@@ -1,17 +1,15 @@
 ghost use Rattle.std.specs.Prelude.{◌≡◌, ◌+◌, ◌*◌, ◌^◌, ◌<◌, ◌≤◌, true, IfSome, length};
 ghost use Rattle.std.specs.Option.{option_map};
-ghost use Rattle.pef_cert.specs.Kept.Tests.{Says, is_added};
-ghost use Rattle.pef_cert.specs.Kept.Walks.{behind, behind_first, passed, place_of, placed, start_place, state_of, stepped, walked};
+ghost use Rattle.pef_fixups.specs.Additions.{behind_first};
+ghost use Rattle.pef_fixups.specs.Answers.{Says};
+ghost use Rattle.pef_fixups.specs.Kept.Walks.{behind, passed, place_of, placed, start_place, state_of, stepped, walked};
 ghost use Rattle.pef_reloc.specs.Deliveries.{is_flat_instr};
 ghost use Rattle.pef_reloc.specs.Instrs.{instr_fits, program_length};
 ghost use Rattle.pef_reloc.specs.Steps.{Makes, is_flat, moved, numbered, pairs, past_import, row};
 ghost use Rattle.pef_reloc.specs.declared.fixup.Base.TheVariants.{Import, Section};
 
-use crate::fixups::adds_at;
+use crate::additions::{WORD, behind_first, behind_import};
 use pef_reloc::{Base, Fixup, Instr};
-
-/// The bytes of a word.
-const WORD: u64 = 4;
 
 /// A program's way along fixups: the registers, and the fixups that are left to make.
 #[derive(Clone, Copy, Debug)]
@@ -23,8 +21,9 @@ struct Walk<'a> {
     d: u32,
 }
 
-/// Whether a program is flat and makes the fixups. It looks at no fixup twice.
-pub(crate) fn makes(fixups: &[Fixup], program: &[Instr]) -> bool
+/// Whether a program is flat, which is without repeats and with numbers that fit, and makes just these
+/// fixups in their order. It looks at no fixup twice.
+pub fn makes(fixups: &[Fixup], program: &[Instr]) -> bool
     requires { length program.now ≤ 2 ^ 33 }
     ensures { Says result ((is_flat program.now ≡ true) × Makes fixups.now program.now) }
 {
@@ -35,7 +34,7 @@ pub(crate) fn makes(fixups: &[Fixup], program: &[Instr]) -> bool
 }
 
 /// How many halfwords a program has.
-pub(crate) fn program_length(program: &[Instr]) -> u64
+pub fn program_length(program: &[Instr]) -> u64
     ensures { result ≡ program_length program.now }
 {
     let mut length = 0;
@@ -257,46 +256,4 @@ fn behind_words<'a>(
         position += stride;
     }
     Some(left)
-}
-
-/// What is left of fixups behind the first, where it adds `base` at `offset`.
-fn behind_first(fixups: &[Fixup], offset: u64, base: Base) -> Option<&[Fixup]>
-    ensures { option_map (λ l. l.now) result ≡ behind_first offset base fixups.now }
-{
-    match fixups.split_first() {
-        Some((first, rest)) => {
-            if adds_at(*first, offset, base) {
-                Some(rest)
-            } else {
-                None
-            }
-        }
-        None => None,
-    }
-}
-
-/// The same for an import, by its number.
-fn behind_import(fixups: &[Fixup], offset: u64, import: u64) -> Option<&[Fixup]>
-    ensures { option_map (λ l. l.now) result ≡ behind_first offset (Import import) fixups.now }
-{
-    match fixups.split_first() {
-        Some((first, rest)) => {
-            if adds_import_at(*first, offset, import) {
-                Some(rest)
-            } else {
-                None
-            }
-        }
-        None => None,
-    }
-}
-
-/// Whether a fixup adds the import of a number at `offset`.
-fn adds_import_at(fixup: Fixup, offset: u64, import: u64) -> bool
-    ensures { result ≡ is_added offset (Import import) fixup }
-{
-    match fixup.base {
-        Base::Import(number) => u64::from(fixup.offset) == offset && u64::from(number) == import,
-        Base::Section(_) => false,
-    }
 }

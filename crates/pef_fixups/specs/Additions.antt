@@ -1,0 +1,20 @@
+-- What a fixup adds where, and what is left of fixups behind the first.
+use Rattle.std.specs.Prelude.{ℕ, ◌==◌, Bool, false, ◌&&◌, if◌then◌else◌, List, [], ◌∷◌, Option, None, Some}
+use Rattle.pef_reloc.specs.declared.fixup.Base.{Base}
+use Rattle.pef_reloc.specs.declared.fixup.Base.TheVariants.{Section, Import}
+use Rattle.pef_reloc.specs.declared.fixup.Fixup.{Fixup}
+
+abbrev pub same_base : Base → Base → Bool
+same_base (Section j) (Section k) = j == k
+same_base (Section j) (Import k) = false
+same_base (Import j) (Section k) = false
+same_base (Import j) (Import k) = j == k
+
+-- a fixup adds a base at a position
+abbrev pub is_added : ℕ → Base → Fixup → Bool
+is_added p b f = f.offset == p && same_base f.base b
+
+-- what is left of fixups behind the first, where it adds a base at an offset
+abbrev pub behind_first : ℕ → Base → List Fixup → Option (List Fixup)
+behind_first p b [] = None
+behind_first p b (f ∷ rest) = if is_added p b f then Some rest else None
