@@ -9,8 +9,9 @@ ghost use Rattle.pef_runs.specs.Tables.{Agrees};
 ghost use Rattle.pef_reloc.specs.declared.fixup.Base.TheVariants.{Import, Section};
 
 use pef_cert::class_of;
+use pef_fixups::WORD;
 use pef_reloc::{Base, Instr};
-use pef_runs::{Choice, Here, Known, Place, Run, Step, WORD};
+use pef_runs::{Choice, Here, Known, Place, Run, Step};
 
 /// How many imports can be named in nine bits.
 const SMALL_IMPORTS: u32 = 512;

@@ -6,8 +6,9 @@ use crate::direct::direct;
 use crate::moves::{increment, label_of, set_c, set_d, set_position};
 use crate::skips::best_skip;
 use pef_cert::{REACH, SKIP_REACH, class_of};
+use pef_fixups::WORD;
 use pef_reloc::Base;
-use pef_runs::{Here, Known, Place, Step, WORD};
+use pef_runs::{Here, Known, Place, Step};
 
 /// A step, and how many values behind ends of runs were looked at to find it.
 #[derive(Clone, Copy, Debug)]

@@ -119,12 +119,15 @@ imports_best k h import first value w here at of base next held bests =
     (λ l agrees. subst (λ (b : Base). WordsAt l h.first.offset (h.first ∷ h.others.now) held.squares b) base (held.kept l agrees) h.place.c h.place.d (under_c l k h here agrees) (under_d l k h here agrees))
     (bests (length k.registers.now + 1) 512 held.squares held.is here.c here.d)
 
+by_run : (k : Known) (h : Here) (r : Run) (first value : ℕ) (e : RunEnds) → HereOf k h → h.place.position ≡ h.first.offset → RunOf k.registers.now r h.place h.place.position → Begins r h.place.import_index h.first.base h.others.now → EndsAt k h.others.now (h.first ∷ h.others.now) e → Bests (window_of e r) h first value → RunBest k h r first value
+by_run k h (WordsOfC section) first value e here at of begins ends bests = words_c_best k h section first value e.words here at of begins ends.words bests
+by_run k h (WordsOfD section) first value e here at of begins ends bests = words_d_best k h section first value e.words here at of begins ends.words bests
+by_run k h (Spaced section) first value e here at of begins ends bests = spaced_best k h section first value e.spaced here at of begins of.0 ends.spaced bests
+by_run k h (Pairs j s) first value e here at of begins ends bests = pairs_best k h j s first value e.pairs.here here at of begins.0 begins.1 ends.pairs.here bests
+by_run k h (SpacedPairs j s) first value e here at of begins ends bests = far_pairs_best k h j s first value e.far_pairs.here here at of begins.0 begins.1 of.0.1 ends.far_pairs.here bests
+by_run k h Imports first value e here at of begins ends bests = imports_best k h h.place.import_index first value e.words here at of begins refl ends.words bests
+by_run k h (Skip words section) first value e here at of begins ends bests = skips_best k h words section first value e.skips here at of begins ends.skips bests
+
 -- what the window of a run says of it
-pub run_low : (k : Known) (h : Here) (r : Run) (first value : ℕ) (e : RunEnds) → HereOf k h → h.place.position ≡ h.first.offset → RunOf k.registers.now r h.place h.place.position → Begins r h.place.import_index h.first.base h.others.now → EndsAt k h.others.now (h.first ∷ h.others.now) e → Bests (window_of e r) h first value → RunBest k h r first value
-run_low k h (WordsOfC section) first value e here at of begins ends bests = words_c_best k h section first value e.words here at of begins ends.words bests
-run_low k h (WordsOfD section) first value e here at of begins ends bests = words_d_best k h section first value e.words here at of begins ends.words bests
-run_low k h (Spaced section) first value e here at of begins ends bests = spaced_best k h section first value e.spaced here at of begins of.0 ends.spaced bests
-run_low k h (Pairs j s) first value e here at of begins ends bests = pairs_best k h j s first value e.pairs.here here at of begins.0 begins.1 ends.pairs.here bests
-run_low k h (SpacedPairs j s) first value e here at of begins ends bests = far_pairs_best k h j s first value e.far_pairs.here here at of begins.0 begins.1 of.0.1 ends.far_pairs.here bests
-run_low k h Imports first value e here at of begins ends bests = imports_best k h h.place.import_index first value e.words here at of begins refl ends.words bests
-run_low k h (Skip words section) first value e here at of begins ends bests = skips_best k h words section first value e.skips here at of begins ends.skips bests
+pub run_low : (k : Known) (h : Here) (r : Run) (first value : ℕ) (e : RunEnds) (w : Window) → HereOf k h → h.place.position ≡ h.first.offset → RunOf k.registers.now r h.place h.place.position → Begins r h.place.import_index h.first.base h.others.now → EndsAt k h.others.now (h.first ∷ h.others.now) e → w ≡ window_of e r → Bests w h first value → RunBest k h r first value
+run_low k h r first value e w here at of begins ends is bests = by_run k h r first value e here at of begins ends (subst (λ (x : Window). Bests x h first value) is bests)

@@ -10,9 +10,10 @@ ghost use Rattle.pef_squares.specs.Kept.Windows.{WindowOf};
 ghost use Rattle.pef_reloc.specs.declared.fixup.Base.TheVariants.{Section};
 
 use crate::known::Known;
-use crate::place::{At, Here, Place, WORD};
+use crate::place::{At, Here, Place};
 use crate::runs::{MAX_RUN, MAX_SKIP_RUN, Run};
 use pef_cert::class_of;
+use pef_fixups::WORD;
 use pef_reloc::{Base, Fixup};
 use pef_squares::{Line, MAX_CLASSES, Square, Window};
 use std::alloc::{AllocError, Global};

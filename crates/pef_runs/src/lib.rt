@@ -10,5 +10,5 @@ mod runs;
 
 pub use ends::RunEnds;
 pub use known::Known;
-pub use place::{At, Choice, Here, Place, Step, WORD};
+pub use place::{At, Choice, Here, Place, Step};
 pub use runs::Run;

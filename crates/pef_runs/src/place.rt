@@ -1,8 +1,5 @@
 use pef_reloc::{Fixup, Instr};
 
-/// The bytes of a word.
-pub const WORD: u64 = 4;
-
 /// A state, and the fixups that are left to make from there.
 #[derive(Clone, Copy, Debug)]
 pub struct Place<'a> {

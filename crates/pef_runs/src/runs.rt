@@ -1,8 +1,7 @@
 ghost use Rattle.std.specs.Prelude.{◌≡◌, ◌+◌, ◌*◌, ◌^◌, ◌++◌, ◌<◌, ◌≤◌, ◌⊎◌, ℕ, List, MatchOption, length};
 ghost use Rattle.std.specs.Option.{option_map};
 ghost use Rattle.pef_cert.specs.Labels.{Labels};
-ghost use Rattle.pef_cert.specs.Kept.Tests.{is_added};
-ghost use Rattle.pef_cert.specs.Kept.Walks.{behind, behind_first};
+ghost use Rattle.pef_fixups.specs.Kept.Walks.{behind};
 ghost use Rattle.pef_runs.specs.Places.{Chosen, GoesOn, HereOf, extension_in};
 ghost use Rattle.pef_runs.specs.Runs.{EndOf, Ends, RunOf, imports, limit, run_instr, stride, unit};
 ghost use Rattle.pef_runs.specs.Kept.Runs.{Next};
@@ -12,7 +11,8 @@ ghost use Rattle.pef_reloc.specs.declared.fixup.Base.TheVariants.{Import, Sectio
 ghost use Rattle.pef_reloc.specs.declared.fixup.Fixup.{Fixup};
 
 use crate::known::Known;
-use crate::place::{Choice, Here, Place, Step, WORD};
+use crate::place::{Choice, Here, Place, Step};
+use pef_fixups::{WORD, behind_first, behind_import};
 use pef_reloc::{Base, Fixup, Instr};
 
 /// The most words, pairs or imports of a run.
@@ -122,55 +122,6 @@ impl Run {
             }
             Run::Imports => behind_import(fixups, position, import),
         }
-    }
-}
-
-/// What is left of fixups behind the first, where it adds `base` at `offset`.
-fn behind_first(fixups: &[Fixup], offset: u64, base: Base) -> Option<&[Fixup]>
-    ensures { option_map (λ l. l.now) result ≡ behind_first offset base fixups.now }
-{
-    match fixups.split_first() {
-        Some((first, rest)) => {
-            if adds_at(*first, offset, base) {
-                Some(rest)
-            } else {
-                None
-            }
-        }
-        None => None,
-    }
-}
-
-/// Whether a fixup adds `base` at `offset`.
-fn adds_at(fixup: Fixup, offset: u64, base: Base) -> bool
-    ensures { result ≡ is_added offset base fixup }
-{
-    u64::from(fixup.offset) == offset && fixup.base == base
-}
-
-/// The same for an import, by its number.
-fn behind_import(fixups: &[Fixup], offset: u64, import: u64) -> Option<&[Fixup]>
-    ensures { option_map (λ l. l.now) result ≡ behind_first offset (Import import) fixups.now }
-{
-    match fixups.split_first() {
-        Some((first, rest)) => {
-            if adds_import_at(*first, offset, import) {
-                Some(rest)
-            } else {
-                None
-            }
-        }
-        None => None,
-    }
-}
-
-/// Whether a fixup adds the import of a number at `offset`.
-fn adds_import_at(fixup: Fixup, offset: u64, import: u64) -> bool
-    ensures { result ≡ is_added offset (Import import) fixup }
-{
-    match fixup.base {
-        Base::Import(number) => u64::from(fixup.offset) == offset && u64::from(number) == import,
-        Base::Section(_) => false,
     }
 }
 
