@@ -1,17 +1,15 @@
--- Blocks of owners, painted library by library.
-use Rattle.std.proofs.Common.{◌≡◌, ℕ, zero, suc, ◌+◌, ◌-◌, ◌^◌, ◌<◌, ◌≤◌, inl, inr, Bool, true, false, List, Option, None, Some, refl, ap, sym, ◌∙◌, arith}
+-- Cells of owners, painted library by library.
+use Rattle.std.proofs.Common.{◌≡◌, ℕ, zero, suc, ◌+◌, ◌-◌, ◌^◌, ◌<◌, ◌≤◌, inl, inr, Bool, true, false, List, Option, None, Some, length, refl, ap, ◌∙◌, arith}
 use Rattle.std.specs.Prelude.{◌&&◌, ◌==◌, min, nat_le, nat_lt, slice_index, if◌then◌else◌}
 use Rattle.std.specs.Option.{option_or}
 use Rattle.std.proofs.lemmas.Bool.{le-leb, ne_eqb}
 use Rattle.std.proofs.lemmas.Bool.Decides.{eqb_tells, leb_tells}
 use Rattle.pef_words.specs.Refusals.{first_among}
-use Rattle.pef_words.proofs.Laws.Refusals.{first_among-none}
-use Rattle.pef_loader.specs.declared.header.LoaderHeader.{LoaderHeader}
 use Rattle.pef_loader.specs.Import.{owner_at}
 use Rattle.pef_loader.specs.Library.{owns}
-use Rattle.pef_loader.specs.Kept.Blocks.{AreEmpty, AreOwners, AreOwnersBefore, IsAround, IsPainted, block_size, cell_library}
-use Rattle.pef_loader.specs.Kept.Ranges.{AreInOrder, IsFirstPast, end_of, first_of}
-use Rattle.pef_loader.proofs.RangeLemmas.{ends_before, owned, owns-ahead, owns-behind, owns_is, unowned}
+use Rattle.pef_loader.specs.Kept.Blocks.{AreOwnersBefore, IsPainted, cell_library}
+use Rattle.pef_loader.specs.Kept.Ranges.{end_of, first_of}
+use Rattle.pef_loader.proofs.RangeLemmas.{owned, owns_is, unowned}
 
 -- a library's number is no empty cell
 cell_is : (l : ℕ) → l < 2 ^ 32 - 1 → cell_library l ≡ Some l
@@ -46,18 +44,6 @@ among-more answer from (suc n) =
     let later = among-more answer (from + 1) n in
     rw (e, ← or-assoc (answer from) (first_among answer (from + 1) n) (answer (from + 1 + n))) (ap (option_or (answer from)) later)
 
--- places without an answer at the end
-settled : {F : Type 0} (answer : ℕ → Option F) (e d : ℕ) → ((i : ℕ) → e ≤ i → i < e + d → answer i ≡ None) → first_among answer 0 e ≡ first_among answer 0 (e + d)
-settled answer e zero none =
-    let same : e + 0 ≡ e = omega arith in
-    rw same refl
-settled answer e (suc d) none =
-    let same : e + suc d ≡ suc (e + d) = omega arith in
-    let before = settled answer e d (λ i low high. none i low (omega arith)) in
-    let from : 0 + (e + d) ≡ e + d = omega arith in
-    let last : answer (0 + (e + d)) ≡ None = rw from (none (e + d) (omega arith) (omega arith)) in
-    rw same (before ∙ sym (among-more answer 0 (e + d) ∙ ap (option_or (first_among answer 0 (e + d))) last ∙ or-none (first_among answer 0 (e + d))))
-
 -- a cell that is painted stays, and another one says whether this library has the import
 cell-last : (has : Bool) (answer : ℕ → Option ℕ) (l old new : ℕ) → l < 2 ^ 32 - 1 → new ≡ (if has && (old == 2 ^ 32 - 1) then l else old) → (has ≡ true → answer l ≡ Some l) → (has ≡ false → answer l ≡ None)
     → cell_library new ≡ option_or (cell_library old) (answer (0 + l))
@@ -78,49 +64,18 @@ cell-more has answer l old new few is some none before =
     let e : l + 1 ≡ suc l = omega arith in
     rw (e, among-more answer 0 l, ← before) (cell-last has answer l old new few is some none)
 
--- a range cut to the block has the cells of its imports
-pub in_block : (first end from k : ℕ) → k < block_size → (nat_le (min (first - from) block_size) k && nat_lt k (min (end - from) block_size)) ≡ (nat_le first (from + k) && nat_lt (from + k) end)
-in_block first end from k under =
-    rw (le_same (min (first - from) block_size) k first (from + k) (λ low. omega arith) (λ low. omega arith), le_same (suc k) (min (end - from) block_size) (suc (from + k)) end (λ low. omega arith) (λ low. omega arith)) refl
+-- a range cut to the cells has those of its imports
+pub in_cells : (first end from size k : ℕ) → k < size → (nat_le (min (first - from) size) k && nat_lt k (min (end - from) size)) ≡ (nat_le first (from + k) && nat_lt (from + k) end)
+in_cells first end from size k under =
+    rw (le_same (min (first - from) size) k first (from + k) (λ low. omega arith) (λ low. omega arith), le_same (suc k) (min (end - from) size) (suc (from + k)) end (λ low. omega arith) (λ low. omega arith)) refl
 
 -- the cells after one more library
 pub more : (bytes : List ℕ) (l from start end cell : ℕ) (old new : List ℕ) → l < 2 ^ 32 - 1 → AreOwnersBefore bytes l from old
-    → start ≡ min (first_of bytes l - from) block_size → end ≡ min (end_of bytes l - from) block_size → cell ≡ l → IsPainted old new start end cell → AreOwnersBefore bytes (l + 1) from new
+    → start ≡ min (first_of bytes l - from) (length old) → end ≡ min (end_of bytes l - from) (length old) → cell ≡ l → IsPainted old new start end cell → AreOwnersBefore bytes (l + 1) from new
 more bytes l from start end cell old new few before starts ends same painted = λ k inside.
-    let paint : IsPainted old new (min (first_of bytes l - from) block_size) (min (end_of bytes l - from) block_size) l = rw (← starts, ← ends, ← same) painted in
-    let has : (nat_le (min (first_of bytes l - from) block_size) k && nat_lt k (min (end_of bytes l - from) block_size)) ≡ owns bytes (from + k) l =
-    in_block (first_of bytes l) (end_of bytes l) from k inside ∙ owns_is bytes (from + k) l in
-    cell-more (owns bytes (from + k) l) (owner_at bytes (from + k)) l (slice_index old k) (slice_index new k) few (rw (← has) (paint k inside)) (owned bytes (from + k) l) (unowned bytes (from + k) l) (before k inside)
-
--- empty cells say that no library before the first one that can have an import has one
-pub fresh : (bytes : List ℕ) (n from start end : ℕ) (cells : List ℕ) → IsAround bytes n from start end → AreEmpty cells → AreOwnersBefore bytes start from cells
-fresh bytes n from start end cells around empty = λ k under.
-    let none = first_among-none (owner_at bytes (from + k)) 0 start (λ i low high. unowned bytes (from + k) i (owns-behind bytes (from + k) i (let ends = around.before i (omega arith) in omega arith))) in
-    rw (empty k under, none) refl
-
--- when all libraries that can have these imports were looked at, the cells say the owners
-pub whole : (bytes : List ℕ) (h : LoaderHeader) (from start end : ℕ) (cells : List ℕ) → IsAround bytes h.library_count from start end → AreOwnersBefore bytes end from cells → AreOwners bytes h from cells
-whole bytes h from start end cells around are = λ k under.
-    let inside = around.inside in
-    let all : end + (h.library_count - end) ≡ h.library_count = omega arith in
-    let rest = settled (owner_at bytes (from + k)) end (h.library_count - end) (λ i low high. unowned bytes (from + k) i (owns-ahead bytes (from + k) i (let begins = around.behind i low (omega arith) in omega arith))) in
-    are k under ∙ rw all at rest
-
--- the first range that ends behind an import isn't behind the first that ends behind a later one
-first_before : (bytes : List ℕ) (n from start last : ℕ) → IsFirstPast bytes n from start → IsFirstPast bytes n (from + block_size - 1) last → start ≤ min n (last + 1)
-first_before bytes n from start last first past =
-    let within = first.within in
-    elim (leb_tells start last) [
-      | inl low ↦ (let l = low.1 in omega arith)
-      | inr behind ↦ absurd (let less = behind.1 in let ends = first.behind last less in let end = past.past (omega arith) in omega arith)
-    ]
-
--- where ranges follow one another, only those from the first that ends behind the block's first import up to the
--- first that ends behind its last one have imports of it
-pub around_first : (bytes : List ℕ) (n from start last : ℕ) → AreInOrder bytes n → IsFirstPast bytes n from start → IsFirstPast bytes n (from + block_size - 1) last → IsAround bytes n from start (min n (last + 1))
-around_first bytes n from start last order first past = record {
-  inside = omega arith;
-  order = first_before bytes n from start last first past;
-  before = first.behind;
-  behind = λ i low under. (let ends = past.past (omega arith) in let begins = ends_before bytes n last i order (omega arith) under in omega arith);
-}
+    let many = painted.as_many in
+    let under : k < length old = omega arith in
+    let paint : IsPainted old new (min (first_of bytes l - from) (length old)) (min (end_of bytes l - from) (length old)) l = rw (← starts, ← ends, ← same) painted in
+    let has : (nat_le (min (first_of bytes l - from) (length old)) k && nat_lt k (min (end_of bytes l - from) (length old))) ≡ owns bytes (from + k) l =
+    in_cells (first_of bytes l) (end_of bytes l) from (length old) k under ∙ owns_is bytes (from + k) l in
+    cell-more (owns bytes (from + k) l) (owner_at bytes (from + k)) l (slice_index old k) (slice_index new k) few (rw (← has) (paint.each k under)) (owned bytes (from + k) l) (unowned bytes (from + k) l) (before k under)

@@ -42,6 +42,14 @@ owns-ahead-of j (Some e) ahead = grind (arith, nat_tests)
 pub owns-ahead : (bytes : List ℕ) (j i : ℕ) → j < first_of bytes i → owns bytes j i ≡ false
 owns-ahead bytes j i ahead = owns-ahead-of j (library_at bytes i) ahead
 
+-- and one from its first on that is before its end is
+owns-within-of : (j : ℕ) (e : Option LibraryEntry) → option_map_or (λ e. e.first) e 0 ≤ j → j < option_map_or (λ e. e.first + e.count) e 0 → option_map_or (λ e. nat_le e.first j && nat_lt j (e.first + e.count)) e false ≡ true
+owns-within-of j None first end = absurd (omega arith)
+owns-within-of j (Some e) first end = grind (arith, nat_tests)
+
+pub owns-within : (bytes : List ℕ) (j i : ℕ) → first_of bytes i ≤ j → j < end_of bytes i → owns bytes j i ≡ true
+owns-within bytes j i first end = owns-within-of j (library_at bytes i) first end
+
 -- an import before the end of a range that isn't in it is before all of it
 owns-not-of : (j : ℕ) (e : Option LibraryEntry) → option_map_or (λ e. nat_le e.first j && nat_lt j (e.first + e.count)) e false ≡ false → j < option_map_or (λ e. e.first + e.count) e 0 → j < option_map_or (λ e. e.first) e 0
 owns-not-of j None not past = absurd (omega arith)

@@ -23,7 +23,7 @@ impl<'a> ImportReader<'a> {
     pub fn new(loader: Loader<'a>) -> ImportReader<'a>
         ensures { result.loader ≡ loader.entry }
     {
-        let block = OwnerBlock::paint(loader.cut, loader.header, loader.in_order, 0);
+        let block = OwnerBlock::paint(loader.cut, loader.header, 0);
         ImportReader { loader, block }
     }
 
@@ -39,9 +39,7 @@ impl<'a> ImportReader<'a> {
         if j >= loader.imports() as usize {
             return None;
         }
-        let library = self
-            .block
-            .owner(loader.cut, loader.header, loader.in_order, j)?;
+        let library = self.block.owner(loader.cut, loader.header, j)?;
         loader.import_of(library, j)
     }
 }

@@ -6,11 +6,13 @@
 #![tactic(auto)]
 
 mod block;
+mod cursor;
 mod export;
 mod fault;
 mod header;
 mod import;
 mod import_reader;
+mod import_table;
 pub mod layout;
 mod library;
 mod names;
@@ -23,5 +25,6 @@ pub use export::ExportView;
 pub use fault::LoaderFault;
 pub use import::ImportView;
 pub use import_reader::ImportReader;
+pub use import_table::ImportTable;
 pub use library::LibraryView;
 pub use tables::Loader;

@@ -1,60 +1,91 @@
-ghost use Rattle.std.specs.Prelude.{◌≡◌, ◌<◌, ◌≤◌};
-ghost use Rattle.pef_loader.specs.Kept.Blocks.{AreEmpty, AreSteps, IsPainted, block_size};
+ghost use Rattle.std.specs.Prelude.{◌≡◌, ◌+◌, ◌<◌, ◌≤◌, ◌^◌, length};
+ghost use Rattle.pef_loader.specs.Kept.Blocks.{AreEmpty, AreOwners, AreSteps, IsPainted, IsStep, cell_library};
 
+use crate::header::LoaderHeader;
+use crate::owner::imports_of;
+use pef_words::Cut;
 use std::ops::Range;
-
-/// How many imports a block has. A function pays at entry for its locals, so a block isn't large.
-pub(crate) const BLOCK: usize = 2048;
 
 /// The cell of an import that no library has: no library has this number.
 pub(crate) const NO_LIBRARY: u32 = u32::MAX;
 
-/// The cells of a block while libraries paint them, each cell by the first library that has its import.
-#[derive(Drop)]
-pub(crate) struct Painting {
-    pub(crate) cells: [u32; BLOCK],
-    /// How far a cell is from a later one, where all cells between the two are painted.
-    steps: [u16; BLOCK],
-    ghost passing: { AreSteps cells steps },
+/// The library that a cell says.
+pub(crate) fn library_in(cell: u32) -> Option<usize>
+    ensures { result ≡ cell_library cell }
+{
+    if cell == NO_LIBRARY {
+        return None;
+    }
+    Some(cell as usize)
 }
 
-impl Painting {
-    /// Cells that no library has painted.
-    pub(crate) fn new() -> Painting
-        ensures { AreEmpty result.cells }
-    {
-        Painting {
-            cells: [NO_LIBRARY; BLOCK],
-            steps: [1; BLOCK],
-        }
+/// Paints the cells of the imports from `from` on, each cell by the first library that has its import.
+///
+/// At first each cell is empty. A step says how far a cell is from a later one, where all cells between
+/// the two are painted: at first that is 1.
+pub(crate) fn paint_owners(
+    cut: Cut<'_>,
+    header: LoaderHeader,
+    from: usize,
+    cells: &mut [u32],
+    steps: &mut [u32],
+)
+    requires few { length cells.old < 2 ^ 32 }
+    requires empty { AreEmpty cells.old }
+    requires steps { AreSteps cells.old steps.old }
+    ensures owners { AreOwners cut.entry.bytes.now header from cells.new }
+    ensures len { length cells.new ≡ length cells.old }
+{
+    for i in 0..header.library_count as usize {
+        let imports = imports_of(cut, i);
+        let start = imports.start.saturating_sub(from).min(cells.len());
+        let end = imports.end.saturating_sub(from).min(cells.len());
+        paint(cells, steps, start..end, i as u32);
     }
+}
 
-    /// Writes a library into those cells of its imports that no library before it has painted.
-    pub(crate) fn paint(&mut self, imports: Range<usize>, library: u32)
-        requires order { imports.start ≤ imports.end }
-        requires within { imports.end ≤ block_size }
-        ensures { IsPainted self.old.cells self.new.cells imports.start imports.end library }
-    {
-        let mut k = imports.start;
-        while k < imports.end {
-            if self.cells[k] == NO_LIBRARY {
-                self.cells[k] = library;
-            } else {
-                self.lengthen(k);
-            }
-            k += usize::from(self.steps[k]);
-        }
+/// Writes a library into those cells of its imports that no library before it has painted.
+fn paint(cells: &mut [u32], steps: &mut [u32], imports: Range<usize>, library: u32)
+    requires few { length cells.old < 2 ^ 32 }
+    requires order { imports.start ≤ imports.end }
+    requires within { imports.end ≤ length cells.old }
+    requires steps { AreSteps cells.old steps.old }
+    ensures painted { IsPainted cells.old cells.new imports.start imports.end library }
+    ensures steps { AreSteps cells.new steps.new }
+{
+    let mut k = imports.start;
+    while k < imports.end {
+        k = paint_cell(cells, steps, k, library);
     }
+}
 
-    /// Where the step from a cell leads to a painted cell, it goes on by that cell's own step. Each walk
-    /// over painted cells halves the next one, so libraries with the same imports don't walk them anew.
-    fn lengthen(&mut self, k: usize)
-        requires { k < block_size }
-        ensures { self.new.cells ≡ self.old.cells }
-    {
-        let next = k + usize::from(self.steps[k]);
-        if next < BLOCK && self.cells[next] != NO_LIBRARY {
-            self.steps[k] += self.steps[next];
-        }
+/// Writes a library into a cell that is empty, and tells the next cell to look at.
+fn paint_cell(cells: &mut [u32], steps: &mut [u32], k: usize, library: u32) -> usize
+    requires few { length cells.old < 2 ^ 32 }
+    requires within { k < length cells.old }
+    requires steps { AreSteps cells.old steps.old }
+    ensures painted { IsPainted cells.old cells.new k (k + 1) library }
+    ensures steps { AreSteps cells.new steps.new }
+    ensures next { IsStep cells.new k result }
+{
+    if cells[k] == NO_LIBRARY {
+        cells[k] = library;
+    } else {
+        lengthen(cells, steps, k);
+    }
+    k + steps[k] as usize
+}
+
+/// Where the step from a cell leads to a painted cell, it goes on by that cell's own step. Each walk
+/// over painted cells halves the next one, so libraries with the same imports don't walk them anew.
+fn lengthen(cells: &[u32], steps: &mut [u32], k: usize)
+    requires few { length cells.now < 2 ^ 32 }
+    requires within { k < length cells.now }
+    requires steps { AreSteps cells.now steps.old }
+    ensures { AreSteps cells.now steps.new }
+{
+    let next = k + steps[k] as usize;
+    if next < cells.len() && cells[next] != NO_LIBRARY {
+        steps[k] += steps[next];
     }
 }

@@ -13,6 +13,7 @@ ghost use Rattle.pef_loader.specs.Kept.Ranges.{AreInOrder};
 ghost use Rattle.pef_loader.specs.Reloc.{reloc_refusal};
 
 use crate::block::OwnerBlock;
+use crate::cursor::OwnerCursor;
 use crate::export::{ExportView, exports, has_exports, test_export};
 use crate::fault::LoaderFault;
 use crate::header::{LoaderHeader, is_entry, read_header};
@@ -278,9 +279,46 @@ fn test_imports(
     ensures { result_err result
         ≡ first_among (import_refusal cut.entry.bytes.now header) 0 header.import_count }
 {
-    let mut owners = OwnerBlock::paint(cut, header, in_order, 0);
+    if in_order {
+        test_imports_in_order(cut, header, names_end)
+    } else {
+        test_imports_by_blocks(cut, header, names_end)
+    }
+}
+
+/// The same, where the libraries come in the order of their imports.
+fn test_imports_in_order(
+    cut: Cut<'_>,
+    header: LoaderHeader,
+    names_end: usize,
+) -> Result<(), LoaderFault>
+    requires names { NamesEndAt cut.bytes.now names_end }
+    requires order { AreInOrder cut.bytes.now header.library_count }
+    ensures { result_err result
+        ≡ first_among (import_refusal cut.entry.bytes.now header) 0 header.import_count }
+{
+    let mut owners = OwnerCursor::new(cut, header);
     for j in 0..header.import_count as usize {
-        let owner = owners.owner(cut, header, in_order, j);
+        let owner = owners.owner(cut, header, j);
+        test_import(cut, header, names_end, owner, j)?;
+    }
+    Ok(())
+}
+
+/// The same in any order. Each call of `test_imports` would pay for the locals, if it stood there.
+#[inline(never)]
+fn test_imports_by_blocks(
+    cut: Cut<'_>,
+    header: LoaderHeader,
+    names_end: usize,
+) -> Result<(), LoaderFault>
+    requires { NamesEndAt cut.bytes.now names_end }
+    ensures { result_err result
+        ≡ first_among (import_refusal cut.entry.bytes.now header) 0 header.import_count }
+{
+    let mut owners = OwnerBlock::paint(cut, header, 0);
+    for j in 0..header.import_count as usize {
+        let owner = owners.owner(cut, header, j);
         test_import(cut, header, names_end, owner, j)?;
     }
     Ok(())

@@ -3,7 +3,7 @@ use Rattle.std.proofs.Common.{◌≡◌, ◌∙◌, ◌-◌, ◌<◌, refl, sym,
 use Rattle.std.proofs.lemmas.Result.{err_from_is_err_and}
 use Rattle.pef_words.proofs.Laws.Refusals.{first_among-here, first_among-next}
 use Rattle.pef_loader.specs.Import.{import_refusal}
-use Rattle.pef_loader.proofs.tables.test_imports.Goals as goal
+use Rattle.pef_loader.proofs.tables.test_imports_by_blocks.Goals as goal
 
 pub loop-j-init : goal.loop-j-init
 loop-j-init c =

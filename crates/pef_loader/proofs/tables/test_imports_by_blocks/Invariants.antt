@@ -3,7 +3,7 @@ use Rattle.std.proofs.Common.{◌≡◌, ◌-◌}
 use Rattle.pef_words.specs.Refusals.{first_among}
 use Rattle.pef_loader.specs.Import.{import_refusal}
 use Rattle.pef_loader.specs.Kept.Blocks.{AreOwners}
-use Rattle.pef_loader.proofs.tables.test_imports.Given as goal
+use Rattle.pef_loader.proofs.tables.test_imports_by_blocks.Given as goal
 
 abbrev pub invariant-loop-j : goal.invariant-loop-j
 invariant-loop-j l = record {
