@@ -2,8 +2,9 @@ use pef_loader::layout::{
     ABSOLUTE_EXPORT, CODE_SYMBOL, DATA_SYMBOL, GLUE_SYMBOL, INIT_BEFORE, REEXPORTED_IMPORT,
     TOC_SYMBOL, TRANSITION_VECTOR_SYMBOL, WEAK_LIBRARY,
 };
-use pef_loader::{ImportReader, ImportView, Loader};
+use pef_loader::{ImportReader, ImportTable, ImportView, Loader};
 use pef_views::Container;
+use std::alloc::Global;
 use std::process::Abort;
 
 /// Two instantiated sections, and a loader section of 90 bytes from byte 160 on with one relocation
@@ -48,12 +49,15 @@ const LIBRARIES: [u8; 195] = [
 /// Those bytes with other words at some places.
 fn changed<const N: usize>(rt: &impl Abort, bytes: &[u8; N], words: &[(usize, u32)]) -> [u8; N] {
     let mut bytes = *bytes;
-    for (at, word) in words {
-        assert!(rt; *at < 1000 && *at + 4 <= N);
-        let all = &mut bytes[..];
-        all[*at..*at + 4].copy_from_slice(&word.to_be_bytes());
-    }
+    change(rt, &mut bytes, words);
     bytes
+}
+
+fn change(rt: &impl Abort, bytes: &mut [u8], words: &[(usize, u32)]) {
+    for (at, word) in words {
+        assert!(rt; *at < 1000 && *at + 4 <= bytes.len());
+        bytes[*at..*at + 4].copy_from_slice(&word.to_be_bytes());
+    }
 }
 
 /// The number of the refusal, or 0 for a loader section.
@@ -264,14 +268,18 @@ fn imported<'a>(import: Option<ImportView<'a>>) -> Option<Imported<'a>> {
     Some((import.name, import.class, import.weak, import.library))
 }
 
-fn test_imports(rt: &impl Abort, loader: &Loader<'_>) {
+/// Imports are read one by one, by a reader, and from a table.
+fn test_imports(rt: &impl Abort, alloc: Global, loader: &Loader<'_>) {
     let mut reader = ImportReader::new(*loader);
+    let table = ImportTable::read(alloc, *loader).expect(rt, "memory");
     for (j, wanted) in IMPORTED.iter().enumerate() {
         assert!(rt; imported(loader.import(j)) == Some(*wanted), "import {j}");
         assert!(rt; imported(reader.import(j)) == Some(*wanted), "import {j}");
+        assert!(rt; imported(table.get(j)) == Some(*wanted), "import {j}");
     }
     assert!(rt; loader.import(3).is_none());
     assert!(rt; reader.import(3).is_none());
+    assert!(rt; table.get(3).is_none());
 }
 
 /// Tests that there are no entries, programs and exports.
@@ -288,47 +296,67 @@ fn libraries_and_imports(rt: HostRuntime) {
     let container = Container::read(&LIBRARIES).expect(&rt, "a container");
     let loader = Loader::read(&container).expect(&rt, "a loader section");
     test_libraries(&rt, &loader);
-    test_imports(&rt, &loader);
+    test_imports(&rt, rt.alloc(), &loader);
     test_nothing_else(&rt, &loader);
+    // In order, library `M` has import 2 alone.
+    let bytes = changed(&rt, &LIBRARIES, &[(160, 1), (164, 2)]);
+    let container = Container::read(&bytes).expect(&rt, "a container");
+    let loader = Loader::read(&container).expect(&rt, "a loader section");
+    test_imports(&rt, rt.alloc(), &loader);
 }
+
+/// A loader section alone, with 16,386 imports and two libraries out of order: library 0 has the last two
+/// imports, and library 1 all but the last.
+const TWO_BLOCKS: &[(usize, u32)] = &[
+    (0, 0x4A6F_7921),
+    (4, 0x7065_6666),
+    (8, 0x7077_7063),
+    (12, 1),
+    (32, 0x0001_0000),
+    (40, 0xFFFF_FFFF),
+    (56, 65_652),
+    (60, 68),
+    (64, 0x0404_0400),
+    // No entries.
+    (68, 0xFFFF_FFFF),
+    (76, 0xFFFF_FFFF),
+    (84, 0xFFFF_FFFF),
+    (92, 2),
+    (96, 16_386),
+    (104, 65_648),
+    (108, 65_648),
+    (112, 65_648),
+    // How many imports the libraries have, and the first of them.
+    (136, 2),
+    (140, 16_384),
+    (160, 16_385),
+    (164, 0),
+];
+
+/// Imports of both blocks and their libraries, in rising order, and back again.
+const OWNED: &[(usize, usize)] = &[
+    (0, 1),
+    (16_383, 1),
+    (16_384, 0),
+    (16_385, 0),
+    (16_383, 1),
+    (0, 1),
+];
 
 #[test]
 fn imports_of_two_blocks(rt: HostRuntime) {
-    // A loader section alone, with 2,050 imports and two libraries out of order: library 0 has the last
-    // two imports, and library 1 all but the last.
-    let words = [
-        (0, 0x4A6F_7921),
-        (4, 0x7065_6666),
-        (8, 0x7077_7063),
-        (12, 1),
-        (32, 0x0001_0000),
-        (40, 0xFFFF_FFFF),
-        (56, 8308),
-        (60, 68),
-        (64, 0x0404_0400),
-        // No entries.
-        (68, 0xFFFF_FFFF),
-        (76, 0xFFFF_FFFF),
-        (84, 0xFFFF_FFFF),
-        (92, 2),
-        (96, 2050),
-        (104, 8304),
-        (108, 8304),
-        (112, 8304),
-        // How many imports the libraries have, and the first of them.
-        (136, 2),
-        (140, 2048),
-        (160, 2049),
-        (164, 0),
-    ];
-    let bytes = changed(&rt, &[0; 8376], &words);
+    let mut bytes = vec![in rt.alloc(); 0; 65_720].expect(&rt, "memory");
+    change(&rt, &mut bytes, TWO_BLOCKS);
     let container = Container::read(&bytes).expect(&rt, "a container");
     let loader = Loader::read(&container).expect(&rt, "a loader section");
     let mut reader = ImportReader::new(loader);
-    // In rising order, and back again.
-    for (j, library) in [(0, 1), (2047, 1), (2048, 0), (2049, 0), (2047, 1), (0, 1)] {
-        let import = reader.import(j).expect(&rt, "an import");
-        assert_eq!(rt; import.library, library, "import {j}");
+    let table = ImportTable::read(rt.alloc(), loader).expect(&rt, "memory");
+    for (j, library) in OWNED.iter() {
+        let import = reader.import(*j).expect(&rt, "an import");
+        assert_eq!(rt; import.library, *library, "import {j}");
+        let import = table.get(*j).expect(&rt, "an import");
+        assert_eq!(rt; import.library, *library, "import {j}");
     }
-    assert!(rt; reader.import(2050).is_none());
+    assert!(rt; reader.import(16_386).is_none());
+    assert!(rt; table.get(16_386).is_none());
 }
