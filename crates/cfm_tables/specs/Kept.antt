@@ -1,0 +1,2 @@
+-- What the code keeps. No public clause speaks of it.
+pub mod Numbers
