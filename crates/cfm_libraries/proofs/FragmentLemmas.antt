@@ -2,7 +2,7 @@
 use Rattle.std.proofs.Common.{◌≡◌, ◌≢◌, ℕ, ◌<◌, List, length, Option, None, Some, Ok, sym, ap, ◌∙◌, subst, get_or, set, inl, inr}
 use Rattle.std.specs.Prelude.{option_map}
 use Rattle.std.proofs.lemmas.Bool.Decides.{eqb_tells}
-use Rattle.std.proofs.lemmas.List.{get_or-set_same, get_or-set_other, get_or_default}
+use Rattle.std.proofs.lemmas.List.{get_or-set_same, get_or-set_other}
 use Rattle.cfm_libraries.specs.declared.fragment.FragmentView.{FragmentView}
 use Rattle.cfm_libraries.specs.Fragments.{fragment_of}
 use Rattle.cfm_libraries.specs.Stores.{Pair}
@@ -10,8 +10,8 @@ use Rattle.cfm_libraries.specs.Kept.Views.{AreKept, AreRead, fragment_at}
 use Rattle.cfm_libraries.specs.Views.{fragment_seen}
 
 -- what was found in its place of a table is its fragment
-pub fragment_at-some : (table : List (Option FragmentView)) (p : ℕ) (d : Option FragmentView) (f : FragmentView) → p < length table → get_or table p d ≡ Some f → fragment_at table p ≡ Some (fragment_seen f)
-fragment_at-some table p d f inside is = ap (option_map fragment_seen) (get_or_default table p None d inside ∙ is)
+pub fragment_at-some : (table : List (Option FragmentView)) (p : ℕ) (f : FragmentView) → get_or table p None ≡ Some f → fragment_at table p ≡ Some (fragment_seen f)
+fragment_at-some table p f is = ap (option_map fragment_seen) is
 
 module _ (table : List (Option FragmentView)) (p : ℕ) (f : FragmentView) (inside : p < length table) where
   -- a fragment that is put into its place is there

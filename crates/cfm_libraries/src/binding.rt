@@ -11,6 +11,7 @@ use crate::fault::BindFault;
 use crate::fragment::{FragmentView, read_at};
 use crate::store::Store;
 use crate::versions::{Definition, Fit, Implementation, versions_fit};
+use cfm_tables::PlaceTable;
 use pef_loader::LibraryView;
 use pef_loader::layout::{INIT_BEFORE, WEAK_LIBRARY};
 
@@ -55,7 +56,7 @@ fn absent_or<'a>(weak: bool, fault: BindFault<'a>) -> Result<Option<usize>, Bind
 #[tactic(auto, unfolding(crate::specs::Libraries::bound))]
 pub(crate) fn bind<'a>(
     store: &Store<'a>,
-    fragments: &mut [Option<FragmentView<'a>>],
+    fragments: &mut PlaceTable<FragmentView<'a>>,
     fragment: &'a [u8],
     library: LibraryView<'a>,
 ) -> Result<Option<usize>, BindFault<'a>>
@@ -63,6 +64,7 @@ pub(crate) fn bind<'a>(
     requires read { AreRead store.now fragments.old }
     ensures answer { Answers (λ q. q) result (bound store.now fragment.entry.now (library_seen library.entry)) }
     ensures below { IfOk result (λ bound. IfSome bound (λ q. q < length store.now)) }
+    ensures size { length fragments.new ≡ length store.now }
     ensures read { AreRead store.now fragments.new }
     ensures kept { AreKept fragments.old fragments.new }
 {

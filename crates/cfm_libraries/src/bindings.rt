@@ -11,6 +11,7 @@ use crate::fragment::FragmentView;
 use crate::libraries::Libraries;
 use crate::store::Store;
 use crate::walk::Walk;
+use cfm_tables::PlaceTable;
 use std::alloc::Global;
 use std::marker::Model;
 
@@ -20,8 +21,9 @@ use std::marker::Model;
 pub struct Bindings<'a> {
     /// The pairs of the store. All else goes by their places.
     pairs: Vec<(&'a [u8], &'a [u8])>,
-    fragments: Vec<Option<FragmentView<'a>>>,
-    libraries: Vec<Libraries>,
+    fragments: PlaceTable<FragmentView<'a>>,
+    /// What the library entries of each fragment of the order stand for.
+    libraries: PlaceTable<Libraries>,
     order: Vec<usize>,
 }
 
@@ -36,7 +38,7 @@ impl<'a> Model for Bindings<'a> {
 
     ghost view = { λ b. record { pairs = map pair_seen b.pairs.items; order = b.order.items } };
 
-    ghost invariant = { λ b. AreBindings (map pair_seen b.pairs.items) b.fragments.items b.libraries.items b.order.items };
+    ghost invariant = { λ b. AreBindings (map pair_seen b.pairs.items) b.fragments b.libraries b.order.items };
 }
 
 impl<'a> Bindings<'a> {
@@ -89,7 +91,7 @@ impl<'a> Bindings<'a> {
         requires { p < length self.now.pairs }
         ensures { Contains self.now.order p → result ≡ import_count self.now.pairs p }
     {
-        match self.fragments[p] {
+        match self.fragments.get(p) {
             Some(fragment) => fragment.loader.imports() as usize,
             None => 0,
         }
@@ -100,8 +102,8 @@ impl<'a> Bindings<'a> {
         requires { Contains self.now.order p }
         ensures { fragment_of self.now.pairs p ≡ Ok (fragment_seen result) }
     {
-        match self.fragments[p] {
-            Some(fragment) => fragment,
+        match self.fragments.get(p) {
+            Some(fragment) => *fragment,
             None => unreachable!(),
         }
     }
@@ -121,7 +123,11 @@ impl<'a> Bindings<'a> {
         ensures bound { bound_to self.now.pairs p l ≡ Ok result }
         ensures inside { IfSome result (λ q. Contains self.now.order q) }
     {
-        match self.libraries[p].get(l) {
+        let libraries = match self.libraries.get(p) {
+            Some(libraries) => libraries,
+            None => unreachable!(),
+        };
+        match libraries.get(l) {
             Some(bound) => bound,
             None => unreachable!(),
         }

@@ -6,6 +6,7 @@ ghost use Rattle.cfm_libraries.specs.Views.{fragment_seen};
 
 use crate::fault::BindFault;
 use crate::store::Store;
+use cfm_tables::PlaceTable;
 use pef_loader::Loader;
 use pef_views::Container;
 
@@ -43,21 +44,22 @@ impl<'a> FragmentView<'a> {
 /// The fragment in a place of a store. It is read once, and kept in a table.
 pub(crate) fn read_at<'a>(
     store: &Store<'a>,
-    fragments: &mut [Option<FragmentView<'a>>],
+    fragments: &mut PlaceTable<FragmentView<'a>>,
     p: usize,
 ) -> Result<FragmentView<'a>, BindFault<'a>>
     requires place { p < length store.now }
     requires size { length fragments.old ≡ length store.now }
     requires read { AreRead store.now fragments.old }
     ensures answer { Answers fragment_seen result (fragment_of store.now p) }
+    ensures size { length fragments.new ≡ length store.now }
     ensures read { AreRead store.now fragments.new }
     ensures kept { AreKept fragments.old fragments.new }
     ensures here { IfOk result (λ f. fragment_at fragments.new p ≡ Some (fragment_seen f)) }
 {
-    if let Some(fragment) = fragments[p] {
-        return Ok(fragment);
+    if let Some(fragment) = fragments.get(p) {
+        return Ok(*fragment);
     }
     let fragment = FragmentView::read(store, p)?;
-    fragments[p] = Some(fragment);
+    fragments.put(p, fragment)?;
     Ok(fragment)
 }

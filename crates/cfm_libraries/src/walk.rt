@@ -11,6 +11,7 @@ use crate::fault::BindFault;
 use crate::fragment::{FragmentView, read_at};
 use crate::libraries::Libraries;
 use crate::store::Store;
+use cfm_tables::PlaceTable;
 use std::alloc::{AllocError, Global};
 
 /// A fragment that was met and isn't done: the walk is in one of its libraries.
@@ -27,9 +28,9 @@ pub(crate) struct Frame<'a> {
 pub(crate) struct Walk<'a> {
     alloc: Global,
     /// The fragments that were read.
-    pub fragments: Vec<Option<FragmentView<'a>>>,
+    pub fragments: PlaceTable<FragmentView<'a>>,
     /// What the library entries of those that are done stand for.
-    pub libraries: Vec<Libraries>,
+    pub libraries: PlaceTable<Libraries>,
     marked: Vec<bool>,
     /// From the root to the fragment that the walk is in.
     path: Vec<Frame<'a>>,
@@ -49,7 +50,7 @@ fn unmet(marked: &[bool], bound: Option<usize>) -> Option<usize>
 /// Binds library entries of a fragment until one stands for a fragment that wasn't met yet.
 fn bind_next<'a>(
     store: &Store<'a>,
-    fragments: &mut [Option<FragmentView<'a>>],
+    fragments: &mut PlaceTable<FragmentView<'a>>,
     marked: &[bool],
     frame: &mut Frame<'a>,
 ) -> Result<Option<usize>, BindFault<'a>>
@@ -58,6 +59,7 @@ fn bind_next<'a>(
     requires read { AreRead store.now fragments.old }
     requires frame { IsFrame store.now fragments.old frame.old }
     ensures next { (order : List ℕ) → Next store.now (record { marked = marked.now; order = order }) frame.old frame.new result }
+    ensures size { length fragments.new ≡ length store.now }
     ensures read { AreRead store.now fragments.new }
     ensures kept { AreKept fragments.old fragments.new }
     ensures frame { OnOk result (IsFrame store.now fragments.new frame.new) }
@@ -74,17 +76,6 @@ fn bind_next<'a>(
     Ok(None)
 }
 
-/// A table without library entries for each of `len` fragments.
-fn empty_tables(alloc: Global, len: usize) -> Result<Vec<Libraries>, AllocError>
-    ensures { IfOk result (λ tables. length tables.items ≡ len) }
-{
-    let mut tables = Vec::new(alloc);
-    for _i in 0..len {
-        tables.push(Libraries::new(alloc))?;
-    }
-    Ok(tables)
-}
-
 impl<'a> Walk<'a> {
     /// A walk that met no fragment yet.
     fn new(alloc: Global, store: &Store<'a>) -> Result<Walk<'a>, AllocError>
@@ -93,8 +84,8 @@ impl<'a> Walk<'a> {
         ensures path { IfOk result (λ w. w.path.items ≡ []) }
     {
         let len = store.len();
-        let libraries = empty_tables(alloc, len)?;
-        let fragments = vec![in alloc; None; len]?;
+        let fragments = PlaceTable::new(alloc, len)?;
+        let libraries = PlaceTable::new(alloc, len)?;
         let marked = vec![in alloc; false; len]?;
         Ok(Walk {
             alloc,
@@ -144,14 +135,14 @@ impl<'a> Walk<'a> {
     /// Ends with a fragment: it joins the order.
     fn finish(&mut self, store: &Store<'a>, frame: Frame<'a>) -> Result<(), BindFault<'a>>
         requires walk { IsWalk store.now self.old }
-        requires frame { IsFrame store.now self.old.fragments.items frame }
+        requires frame { IsFrame store.now self.old.fragments frame }
         requires all { length frame.libraries ≡ count_of frame }
         ensures walk { OnOk result (IsWalk store.now self.new) }
         ensures continues { Continues result (rest_of_path store.now self.new.path.items (state_of self.new)) (rest_of_path store.now self.old.path.items (joining frame.entry.p (state_of self.old))) }
         ensures fewer { OnOk result (steps_left self.new < steps_left self.old + 1) }
     {
         let p = frame.p;
-        self.libraries[p] = frame.libraries;
+        self.libraries.put(p, frame.libraries)?;
         self.order.push(p)?;
         Ok(())
     }
@@ -159,7 +150,7 @@ impl<'a> Walk<'a> {
     /// Goes on in the last fragment of the path, which was taken off it.
     fn step(&mut self, store: &Store<'a>, frame: Frame<'a>) -> Result<(), BindFault<'a>>
         requires walk { IsWalk store.now self.old }
-        requires frame { IsFrame store.now self.old.fragments.items frame }
+        requires frame { IsFrame store.now self.old.fragments frame }
         ensures walk { OnOk result (IsWalk store.now self.new) }
         ensures continues { Continues result (rest_of_path store.now self.new.path.items (state_of self.new)) (frame_and_rest store.now frame.entry self.old.path.items (state_of self.old)) }
         ensures fewer { OnOk result (steps_left self.new < steps_left self.old + 1) }

@@ -8,7 +8,7 @@ use Rattle.cfm_libraries.specs.Kept.Paths.{IsWalked}
 use Rattle.cfm_libraries.specs.Kept.Views.{AreRead}
 
 -- the tables of a closure order
-pub record AreBindings (pairs : List Pair) (fragments : List (Option FragmentView)) (libraries : List (List (Option ℕ))) (order : List ℕ) : Type 0 where
+pub record AreBindings (pairs : List Pair) (fragments : List (Option FragmentView)) (libraries : List (Option (List (Option ℕ)))) (order : List ℕ) : Type 0 where
   pub fragments_size : length fragments ≡ length pairs
   pub libraries_size : length libraries ≡ length pairs
   pub read : AreRead pairs fragments

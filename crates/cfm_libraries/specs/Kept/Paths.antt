@@ -53,18 +53,20 @@ pub record IsFrame (pairs : List Pair) (table : List (Option FragmentView)) (f :
   pub few : length f.libraries ≤ count_of f
 
 -- a fragment that is done was read, and all its library entries were bound
-pub record IsWalked (pairs : List Pair) (table : List (Option FragmentView)) (libraries : List (List (Option ℕ))) (p : ℕ) : Type 0 where
+pub record IsWalked (pairs : List Pair) (table : List (Option FragmentView)) (libraries : List (Option (List (Option ℕ)))) (p : ℕ) : Type 0 where
   pub inside : p < length pairs
   pub fragment : Fragment
   pub read : fragment_at table p ≡ Some fragment
-  pub bound : AreBound pairs p (slice_index_or libraries p [])
-  pub all : length (slice_index_or libraries p []) ≡ fragment.loader.header.library_count
+  pub bounds : List (Option ℕ)
+  pub stands : slice_index_or libraries p None ≡ Some bounds
+  pub bound : AreBound pairs p bounds
+  pub all : length bounds ≡ fragment.loader.header.library_count
 
 abbrev pub state_of : Walk → Walked
 state_of w = record { marked = w.marked.items; order = w.order.items }
 
 -- the tables of a walk are sound
-pub record AreTables (pairs : List Pair) (fragments : List (Option FragmentView)) (libraries : List (List (Option ℕ))) (marked : List Bool) (path : List Frame) (order : List ℕ) : Type 0 where
+pub record AreTables (pairs : List Pair) (fragments : List (Option FragmentView)) (libraries : List (Option (List (Option ℕ)))) (marked : List Bool) (path : List Frame) (order : List ℕ) : Type 0 where
   pub fragments_size : length fragments ≡ length pairs
   pub libraries_size : length libraries ≡ length pairs
   pub marked_size : length marked ≡ length pairs
@@ -73,7 +75,7 @@ pub record AreTables (pairs : List Pair) (fragments : List (Option FragmentView)
   pub walked : AllByRecursion (IsWalked pairs fragments libraries) order
 
 abbrev pub IsWalk : List Pair → Walk → Type 0
-IsWalk pairs w = AreTables pairs w.fragments.items w.libraries.items w.marked.items w.path.items w.order.items
+IsWalk pairs w = AreTables pairs w.fragments w.libraries w.marked.items w.path.items w.order.items
 
 -- an answer leads on to what is left, or is the refusal that was to come
 abbrev pub Continues : {A : Type 0} → Result A BindFault → Result Walked Refusal → Result Walked Refusal → Type 0

@@ -1,10 +1,9 @@
 -- What stands in its place was read.
-use Rattle.std.proofs.Common.{◌<◌, length, arith}
+use Rattle.std.proofs.Common.{sym}
 use Rattle.cfm_libraries.specs.Views.{fragment_seen}
 use Rattle.cfm_libraries.proofs.FragmentLemmas.{fragment_at-some}
 use Rattle.cfm_libraries.proofs.fragment.read_at.Goals as goal
 
 pub returns-in-Some-clause-answer : goal.returns-in-Some-clause-answer
 returns-in-Some-clause-answer c =
-    let inside : c.args.p < length c.args.fragments.now = omega (arith, c.requires.size, c.requires.place) in
-    c.requires.read c.args.p (fragment_seen c.in-Some.fragment) (fragment_at-some c.args.fragments.now c.args.p _ c.in-Some.fragment inside c.in-Some.is)
+    c.requires.read c.args.p (fragment_seen c.in-Some.fragment.now) (fragment_at-some c.args.fragments.now c.args.p c.in-Some.fragment.now (sym c.in-Some.ensures))

@@ -52,6 +52,7 @@ loop-library-preserved c =
     let there = c.in-Some.ensures.there.0 refl in
     let under : length f.libraries < count_of f = let e = c.len.ensures in omega arith in
     record {
+      size = c.in_ok-bound.ensures.size;
       read = c.in_ok-bound.ensures.read;
       kept = λ p g here. c.in_ok-bound.ensures.kept p g (inv.kept p g here);
       frame = frame-more c.args.store.now c.loop-library.fragments f inv.read inv.frame (library_seen c.in-Some.library) is under

@@ -6,6 +6,7 @@ use Rattle.cfm_libraries.proofs.walk.bind_next.Given as goal
 
 abbrev pub invariant-loop-library : goal.invariant-loop-library
 invariant-loop-library l = record {
+  size : length l.fragments ≡ length l.store;
   read : AreRead l.store l.fragments;
   kept : AreKept l.fn.fragments l.fragments;
   frame : IsFrame l.store l.fragments l.frame;

@@ -9,7 +9,7 @@ pub invariant_of-result : goal.invariant_of-result
 invariant_of-result c =
     let pairs = ap (map pair_seen) c.in_ok-pairs.ensures.items ∙ c.pairs.ensures.pairs in
     let tables = c.in_ok-walk.ensures.walk in
-    subst (λ pairs. AreBindings pairs c.in_ok-walk.walk.fragments.items c.in_ok-walk.walk.libraries.items c.in_ok-walk.walk.order.items) (sym pairs) (record {
+    subst (λ pairs. AreBindings pairs c.in_ok-walk.walk.fragments c.in_ok-walk.walk.libraries c.in_ok-walk.walk.order.items) (sym pairs) (record {
       fragments_size = tables.fragments_size;
       libraries_size = tables.libraries_size;
       read = tables.read;

@@ -1,12 +1,10 @@
 -- A fragment goes onto the path, or is refused.
-use Rattle.std.proofs.Common.{◌≡◌, ◌∙◌, ℕ, List, Option, length, sym, ap, subst, arith}
-use Rattle.std.proofs.lemmas.List.{with_items_is}
+use Rattle.std.proofs.Common.{◌∙◌, ℕ, List, Option, length, sym, ap}
 use Rattle.std.proofs.lemmas.Result.{err_from_is_err_and}
 use Rattle.cfm_libraries.specs.declared.walk.Frame.{Frame}
 use Rattle.cfm_libraries.specs.Faults.{◌>>=◌}
 use Rattle.cfm_libraries.specs.Kept.Paths.{count_of, rest_of, rest_of_path, state_of}
 use Rattle.cfm_libraries.specs.Walk.{marking}
-use Rattle.cfm_libraries.specs.Kept.Views.{AreKept}
 use Rattle.cfm_libraries.proofs.PathLemmas.{Fails-also, rest_of_path-push, visit-refused, visit-unmet}
 use Rattle.cfm_libraries.proofs.FrameLemmas.{new_frame}
 use Rattle.cfm_libraries.proofs.TableLemmas.{tables-marked, tables-pushed, tables-read}
@@ -24,14 +22,11 @@ returns-in_err-fragment-clause-continues c =
 pub returns-clause-walk : goal.returns-clause-walk
 returns-clause-walk c =
     let w = c.requires.walk in
-    let long : length c.read_at.new.fragments ≡ c.args.self.now.fragments.len = let a = c.read_at.auto.fragments in let b = c.deref_mut.ensures.len in omega arith in
-    let size : length c.read_at.new.fragments ≡ length c.args.store.now = let a = w.fragments_size in let b = c.args.self.now.fragments.ok.0 in omega arith in
     let frame : Frame = record { p = c.args.p; fragment = c.in_ok-fragment.fragment; libraries = c.new.result } in
-    let kept = subst (λ table. AreKept table c.read_at.new.fragments) c.deref_mut.ensures.value c.in_ok-fragment.ensures.kept in
-    let read = tables-read c.args.store.now c.args.self.now.fragments.items c.read_at.new.fragments kept _ _ _ _ w size c.in_ok-fragment.ensures.read in
+    let read = tables-read c.args.store.now c.args.self.now.fragments c.read_at.new.fragments c.in_ok-fragment.ensures.kept _ _ _ _ w c.in_ok-fragment.ensures.size c.in_ok-fragment.ensures.read in
     let marked = tables-marked c.args.store.now _ _ _ _ _ read c.args.p in
     let is = new_frame c.args.store.now c.read_at.new.fragments frame c.requires.place c.in_ok-fragment.ensures.here c.new.ensures in
-    rw (with_items_is c.args.self.now.fragments c.read_at.new.fragments long, c.in_ok-push.ensures.items) (tables-pushed c.args.store.now _ _ _ _ _ marked frame is)
+    rw c.in_ok-push.ensures.items (tables-pushed c.args.store.now _ _ _ _ _ marked frame is)
 
 pub returns-clause-continues : goal.returns-clause-continues
 returns-clause-continues c =

@@ -1,10 +1,8 @@
 -- A frame goes on with the next fragment that wasn't met, or its fragment is done.
-use Rattle.std.proofs.Common.{◌≡◌, ◌∙◌, length, sym, ap, subst, arith}
-use Rattle.std.proofs.lemmas.List.{with_items_is}
+use Rattle.std.proofs.Common.{◌∙◌, sym, ap, subst}
 use Rattle.cfm_libraries.specs.Faults.{◌>>=◌}
 use Rattle.cfm_libraries.specs.Kept.Paths.{Continues, rest_of_path, state_of, visit_and_rest}
 use Rattle.cfm_libraries.specs.Walk.{joining}
-use Rattle.cfm_libraries.specs.Kept.Views.{AreKept}
 use Rattle.cfm_libraries.proofs.FrameLemmas.{met_and_rest, next_is}
 use Rattle.cfm_libraries.proofs.TableLemmas.{tables-pushed, tables-read}
 use Rattle.cfm_libraries.proofs.walk.Walk.step.Goals as goal
@@ -22,19 +20,13 @@ enter-requires-clause-unmet c =
 pub enter-requires-clause-walk : goal.enter-requires-clause-walk
 enter-requires-clause-walk c =
     let w = c.requires.walk in
-    let long : length c.bind_next.new.fragments ≡ c.args.self.now.fragments.len = let a = c.bind_next.auto.fragments in let b = c.deref_mut.ensures.len in omega arith in
-    let size : length c.bind_next.new.fragments ≡ length c.args.store.now = let a = w.fragments_size in let b = c.args.self.now.fragments.ok.0 in omega arith in
-    let kept = subst (λ table. AreKept table c.bind_next.new.fragments) c.deref_mut.ensures.value c.in_ok-q.ensures.kept in
-    let read = tables-read c.args.store.now c.args.self.now.fragments.items c.bind_next.new.fragments kept _ _ _ _ w size c.in_ok-q.ensures.read in
-    rw (with_items_is c.args.self.now.fragments c.bind_next.new.fragments long, c.in_ok-push-in-Some.ensures.items) (tables-pushed c.args.store.now _ _ _ _ _ read c.bind_next.new.frame c.in_ok-q.ensures.frame)
+    let read = tables-read c.args.store.now c.args.self.now.fragments c.bind_next.new.fragments c.in_ok-q.ensures.kept _ _ _ _ w c.in_ok-q.ensures.size c.in_ok-q.ensures.read in
+    rw c.in_ok-push-in-Some.ensures.items (tables-pushed c.args.store.now _ _ _ _ _ read c.bind_next.new.frame c.in_ok-q.ensures.frame)
 
 pub finish-requires-clause-walk : goal.finish-requires-clause-walk
 finish-requires-clause-walk c =
     let w = c.requires.walk in
-    let long : length c.bind_next.new.fragments ≡ c.args.self.now.fragments.len = let a = c.bind_next.auto.fragments in let b = c.deref_mut.ensures.len in omega arith in
-    let size : length c.bind_next.new.fragments ≡ length c.args.store.now = let a = w.fragments_size in let b = c.args.self.now.fragments.ok.0 in omega arith in
-    let kept = subst (λ table. AreKept table c.bind_next.new.fragments) c.deref_mut.ensures.value c.in_ok-q.ensures.kept in
-    rw (with_items_is c.args.self.now.fragments c.bind_next.new.fragments long) (tables-read c.args.store.now c.args.self.now.fragments.items c.bind_next.new.fragments kept _ _ _ _ w size c.in_ok-q.ensures.read)
+    tables-read c.args.store.now c.args.self.now.fragments c.bind_next.new.fragments c.in_ok-q.ensures.kept _ _ _ _ w c.in_ok-q.ensures.size c.in_ok-q.ensures.read
 
 pub finish-requires-clause-all : goal.finish-requires-clause-all
 finish-requires-clause-all c =
