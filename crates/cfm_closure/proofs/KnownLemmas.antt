@@ -1,18 +1,19 @@
 -- Rows of targets, and what is noted in them.
-use Rattle.std.proofs.Common.{◌≡◌, ◌≢◌, ℕ, ◌+◌, ◌<◌, List, [], ◌∷◌, ◌++◌, length, drop, Option, None, Some, Ok, Err, refl, sym, ap, ◌∙◌, subst, get_or, set, inl, inr, arith, Contains}
+use Rattle.std.proofs.Common.{◌≡◌, ◌≢◌, ℕ, ◌+◌, ◌<◌, List, [], ◌∷◌, length, drop, Option, None, Some, Ok, Err, refl, sym, ap, ◌∙◌, subst, get_or, set, inl, inr, arith, Contains}
 use Rattle.std.specs.Prelude.{IsSome, replicate}
 use Rattle.std.specs.List.{AllByRecursion}
 use Rattle.std.specs.Option.{option_or}
 use Rattle.std.proofs.lemmas.Bool.{cases_lt}
 use Rattle.std.proofs.lemmas.Bool.Decides.{eqb_tells}
-use Rattle.std.proofs.lemmas.List.{at_drop_more, get_or-set_same, get_or-set_other, get_or-replicate, get_or_append_left, get_or_default, get_or_past, get_or_push, length-replicate, length-set, length_push}
+use Rattle.std.proofs.lemmas.List.{at_drop_more, get_or-set_same, get_or-set_other, get_or-replicate, get_or_default, get_or_past, length-replicate, length-set}
 use Rattle.pef_words.specs.Refusals.{unless}
 use Rattle.cfm_libraries.specs.Faults.{Refusal}
 use Rattle.cfm_libraries.specs.Fragments.{import_count}
+use Rattle.cfm_libraries.specs.Orders.{IsComplete}
 use Rattle.cfm_libraries.specs.Stores.{Pair}
 use Rattle.cfm_closure.specs.declared.targets.Target.{Target}
 use Rattle.cfm_closure.specs.Closures.{first_refused, imports_refusal}
-use Rattle.cfm_closure.specs.Kept.Targets.{AreRows, IsInTable, IsKnown, IsOnWay, IsResolved, KeepsKnown, Rows, all_noted, known_at, led_to, noted}
+use Rattle.cfm_closure.specs.Kept.Targets.{AreRows, IsInTable, IsKnown, IsOnWay, IsResolved, IsUnknown, KeepsKnown, Rows, all_noted, known_at, led_to, noted}
 
 module _ (rows : Rows) (p j : ℕ) (t : Option Target) (inside : IsInTable rows (p, j)) where
   row-here : get_or (noted rows p j t) p [] ≡ set (get_or rows p []) j (Some t)
@@ -126,36 +127,33 @@ get_or-unknown n j = elim (cases_lt j n) [
   | inr past ↦ get_or_past (replicate n None) j None (omega (arith, length-replicate {A = Option (Option Target)} n None))
 ]
 
-pub unknown-push : (rows : Rows) (n : ℕ) → ((q k : ℕ) → known_at rows q k ≡ None) → (q k : ℕ) → known_at (rows ++ replicate n None ∷ []) q k ≡ None
-unknown-push rows n none q k = elim (cases_lt q (length rows)) [
-  | inl under ↦ ap (λ r. get_or r k None) (get_or_append_left rows (replicate n None ∷ []) [] q under) ∙ none q k
-  | inr past ↦ elim (eqb_tells (length rows) q) [
-    | inl same ↦ ap (λ r. get_or r k None) (get_or_push rows (replicate n None) [] q same.1) ∙ get_or-unknown n k
-    | inr other ↦ (let apart = other.1 in
-        let long = length_push rows (replicate {A = Option (Option Target)} n None) in
-        ap (λ r. get_or r k None) (get_or_past (rows ++ replicate n None ∷ []) q [] (omega arith)))
-  ]
+pub unknown-set : (rows : Rows) (p n : ℕ) → ((q k : ℕ) → known_at rows q k ≡ None) → p < length rows → (q k : ℕ) → known_at (set rows p (replicate n None)) q k ≡ None
+unknown-set rows p n none inside q k = elim (eqb_tells q p) [
+  | inl same ↦ ap (λ q. known_at (set rows p (replicate n None)) q k) same.1 ∙ ap (λ r. get_or r k None) (get_or-set_same rows p (replicate n None) [] inside) ∙ get_or-unknown n k
+  | inr other ↦ ap (λ r. get_or r k None) (get_or-set_other rows p q (replicate n None) [] other.1) ∙ none q k
 ]
 
--- what is found in its place of its row is known
-pub known_at-index : (rows : Rows) (p j : ℕ) (row : List (Option (Option Target))) (t : Option Target) → p < length rows → row ≡ get_or rows p row → Some t ≡ get_or row j None → known_at rows p j ≡ Some t
-known_at-index rows p j row t inside is here = ap (λ r. get_or r j None) (get_or_default rows p [] row inside ∙ sym is) ∙ sym here
-
 -- one row more
-pub counts-push : (pairs : List Pair) (order : List ℕ) (rows : Rows) (new : Rows) (row : List (Option (Option Target))) (p n : ℕ) → length rows ≡ p
-    → ((q : ℕ) → q < p → Contains order q → length (get_or rows q []) ≡ import_count pairs q)
-    → (Contains order p → n ≡ import_count pairs p) → row ≡ replicate n None → new ≡ rows ++ row ∷ []
-    → (q : ℕ) → q < p + 1 → Contains order q → length (get_or new q []) ≡ import_count pairs q
-counts-push pairs order rows new row p n size counts count is more q under there =
-    ap (λ rows. length (get_or rows q [])) more ∙ elim (eqb_tells q p) [
-      | inl same ↦ (let P : ℕ → Type 0 = λ q. Contains order q in
-          let Q : ℕ → Type 0 = λ q. length (get_or (rows ++ row ∷ []) q []) ≡ import_count pairs q in
-          let here : length (get_or (rows ++ row ∷ []) p []) ≡ import_count pairs p =
-          ap length (get_or_push rows row [] p size) ∙ ap length is ∙ length-replicate {A = Option (Option Target)} n None ∙ count (subst P same.1 there) in
-          subst Q (sym same.1) here)
-      | inr other ↦ (let apart = other.1 in let below : q < p = omega arith in let inside : q < length rows = omega arith in
-          ap length (get_or_append_left rows (row ∷ []) [] q inside) ∙ counts q below there)
-    ]
+pub counts-set : (pairs : List Pair) (order : List ℕ) (rows : Rows) (i n : ℕ) → get_or order i 0 < length rows → n ≡ import_count pairs (get_or order i 0)
+    → ((k : ℕ) → k < i → length (get_or rows (get_or order k 0) []) ≡ import_count pairs (get_or order k 0))
+    → (k : ℕ) → k < i + 1 → length (get_or (set rows (get_or order i 0) (replicate n None)) (get_or order k 0) []) ≡ import_count pairs (get_or order k 0)
+counts-set pairs order rows i n inside count counts k under = elim (eqb_tells (get_or order k 0) (get_or order i 0)) [
+  | inl same ↦ (let P : ℕ → Type 0 = λ q. length (get_or (set rows (get_or order i 0) (replicate n None)) q []) ≡ import_count pairs q in
+      subst P (sym same.1) (ap length (get_or-set_same rows (get_or order i 0) (replicate n None) [] inside) ∙ length-replicate {A = Option (Option Target)} n None ∙ count))
+  | inr other ↦ (
+      let apart : k ≢ i = λ e. other.1 (ap (λ k. get_or order k 0) e) in
+      ap length (get_or-set_other rows (get_or order i 0) (get_or order k 0) (replicate n None) [] other.1) ∙ counts k (omega arith))
+]
+
+-- where each fragment of an order has its row, and nothing is known, the rows are those of the order
+pub rows-unknown : (pairs : List Pair) (order : List ℕ) (rows : Rows) → IsComplete pairs order → IsUnknown rows (length pairs)
+    → ((k : ℕ) → k < length order → length (get_or rows (get_or order k 0) []) ≡ import_count pairs (get_or order k 0)) → AreRows pairs order rows
+rows-unknown pairs order rows complete unknown counts = record {
+  complete = complete;
+  size = unknown.size;
+  counts = λ q there. (let P : ℕ → Type 0 = λ q. length (get_or rows q []) ≡ import_count pairs q in subst P (get_or_default order there.0 0 q there.1 ∙ there.2) (counts there.0 there.1));
+  right = λ q k t known. absurd (let e : None ≡ Some t = sym (unknown.none q k) ∙ known in cc);
+}
 
 -- an import is resolved: its way was noted, and then its own target
 pub record Resolves (pairs : List Pair) (order : List ℕ) (old new : Rows) (p j : ℕ) : Type 0 where

@@ -10,5 +10,6 @@ mod LoopLemmas
 mod Pigeons
 mod Ranks
 mod ReadLemmas
+mod RowLemmas
 mod SymbolLemmas
 mod TargetLemmas

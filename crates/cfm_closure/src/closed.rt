@@ -7,7 +7,8 @@ ghost use Rattle.cfm_libraries.specs.Orders.{IsComplete};
 ghost use Rattle.cfm_closure.specs.Promises.{LiesInside};
 ghost use Rattle.cfm_closure.specs.Targets.{target_of};
 
-use crate::targets::{Target, Targets};
+use crate::rows::Rows;
+use crate::targets::Target;
 use cfm_libraries::Bindings;
 use pef_loader::Loader;
 use pef_views::Container;
@@ -21,8 +22,7 @@ use std::marker::Model;
 #[derive(Drop)]
 pub struct Closure<'a> {
     pub(crate) bindings: Bindings<'a>,
-    /// For each place of the store, what the imports of the fragment there mean.
-    pub(crate) targets: Vec<Targets>,
+    pub(crate) targets: Rows,
     pub(crate) init_order: Vec<usize>,
 }
 
@@ -35,7 +35,7 @@ impl<'a> Model for Closure<'a> {
 
     ghost view = { λ c. record { pairs = c.bindings.pairs; order = c.bindings.order; init_order = c.init_order.items } };
 
-    ghost invariant = { λ c. AreTargets c.bindings.pairs c.bindings.order c.targets.items };
+    ghost invariant = { λ c. AreTargets c.bindings.pairs c.bindings.order c.targets };
 }
 
 impl<'a> Closure<'a> {
@@ -91,7 +91,7 @@ impl<'a> Closure<'a> {
         ensures target { target_of self.now.pairs p import ≡ Ok result }
         ensures inside { LiesInside self.now.pairs self.now.order result }
     {
-        match self.targets[p].get(import) {
+        match self.targets.get(p, import) {
             Some(target) => target,
             None => unreachable!(),
         }

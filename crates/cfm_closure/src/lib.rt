@@ -10,9 +10,9 @@
 mod closed;
 mod closing;
 mod hops;
-mod imports;
 mod init_order;
 mod resolve;
+mod rows;
 mod symbols;
 mod targets;
 pub mod theorems;

@@ -10,19 +10,19 @@ ghost use Rattle.cfm_closure.specs.Kept.Symbols.{AreSymbolsOf};
 ghost use Rattle.cfm_closure.specs.Kept.Targets.{AreRows, AreTargets, IsInTable, IsKnown, IsOnWay, IsResolved, KeepsKnown, Passes, all_noted, noted};
 
 use crate::hops::{Hop, import_hop};
+use crate::rows::Rows;
 use crate::symbols::Symbols;
-use crate::targets::{Target, Targets};
+use crate::targets::Target;
 use cfm_libraries::{BindFault, Bindings};
 use std::alloc::{AllocError, Global};
 
-/// A table for the imports of each fragment, of which nothing is known yet.
-fn unknown_targets<'a>(alloc: Global, bindings: &Bindings<'a>) -> Result<Vec<Targets>, AllocError>
-    ensures { IfOk result (λ rows. AreRows bindings.now.pairs bindings.now.order rows.items) }
+/// A row for the imports of each fragment, of which nothing is known yet.
+fn unknown_targets<'a>(alloc: Global, bindings: &Bindings<'a>) -> Result<Rows, AllocError>
+    ensures { IfOk result (λ rows. AreRows bindings.now.pairs bindings.now.order rows) }
 {
-    let mut rows = Vec::new(alloc);
-    for p in 0..bindings.places() {
-        let row = Targets::unknown(alloc, bindings.imports(p))?;
-        rows.push(row)?;
+    let mut rows = Rows::new(alloc, bindings)?;
+    for p in bindings.order() {
+        rows.add(alloc, *p, bindings.imports(*p))?;
     }
     Ok(rows)
 }
@@ -39,22 +39,13 @@ fn exports<'a>(bindings: &Bindings<'a>) -> usize
     exports
 }
 
-/// Notes the target of an import.
-fn note(rows: &mut [Targets], p: usize, j: usize, target: Option<Target>)
-    requires { IsInTable rows.old (p, j) }
-    ensures { rows.new ≡ noted rows.old p j target }
-{
-    let row = &mut rows[p];
-    row.note(j, target);
-}
-
 /// Notes the one target of all imports of a way.
-fn note_way(rows: &mut [Targets], way: &[(usize, usize)], target: Option<Target>)
+fn note_way(rows: &mut Rows, way: &[(usize, usize)], target: Option<Target>)
     requires { AllByRecursion (IsInTable rows.old) way.now }
     ensures { rows.new ≡ all_noted rows.old way.now target }
 {
     for import in way {
-        note(rows, import.0, import.1, target);
+        rows.note(import.0, import.1, target);
     }
 }
 
@@ -80,7 +71,7 @@ fn follow<'a>(
     bindings: &Bindings<'a>,
     symbols: &mut Symbols<'a>,
     exports: usize,
-    rows: &[Targets],
+    rows: &Rows,
     way: &mut Vec<(usize, usize)>,
     p: usize,
     j: usize,
@@ -98,7 +89,7 @@ fn follow<'a>(
 {
     let mut at = (p, j);
     for _hop in 0..exports + 1 {
-        if let Some(target) = rows[at.0].get(at.1) {
+        if let Some(target) = rows.get(at.0, at.1) {
             return Ok(target);
         }
         match import_hop(bindings, symbols, at.0, at.1)? {
@@ -116,7 +107,7 @@ fn resolve<'a>(
     bindings: &Bindings<'a>,
     symbols: &mut Symbols<'a>,
     exports: usize,
-    rows: &mut [Targets],
+    rows: &mut Rows,
     p: usize,
     j: usize,
 ) -> Result<Option<Target>, BindFault<'a>>
@@ -135,7 +126,7 @@ fn resolve<'a>(
     let mut way = Vec::new(alloc);
     let target = follow(bindings, symbols, exports, rows, &mut way, p, j)?;
     note_way(rows, &way, target);
-    note(rows, p, j, target);
+    rows.note(p, j, target);
     Ok(target)
 }
 
@@ -145,7 +136,7 @@ fn resolve_imports<'a>(
     bindings: &Bindings<'a>,
     symbols: &mut Symbols<'a>,
     exports: usize,
-    rows: &mut [Targets],
+    rows: &mut Rows,
     p: usize,
 ) -> Result<(), BindFault<'a>>
     requires place { Contains bindings.now.order p }
@@ -170,7 +161,7 @@ fn resolve_imports<'a>(
 fn resolve_all<'a>(
     alloc: Global,
     bindings: &Bindings<'a>,
-    rows: &mut [Targets],
+    rows: &mut Rows,
 ) -> Result<(), BindFault<'a>>
     requires { AreRows bindings.now.pairs bindings.now.order rows.old }
     ensures answer { Passes result (first_refused bindings.now.pairs bindings.now.order) }
@@ -185,12 +176,9 @@ fn resolve_all<'a>(
 }
 
 /// The targets of all imports of a closure's fragments.
-pub(crate) fn targets_of<'a>(
-    alloc: Global,
-    bindings: &Bindings<'a>,
-) -> Result<Vec<Targets>, BindFault<'a>>
+pub(crate) fn targets_of<'a>(alloc: Global, bindings: &Bindings<'a>) -> Result<Rows, BindFault<'a>>
     ensures answer { Passes result (first_refused bindings.now.pairs bindings.now.order) }
-    ensures targets { IfOk result (λ rows. AreTargets bindings.now.pairs bindings.now.order rows.items) }
+    ensures targets { IfOk result (λ rows. AreTargets bindings.now.pairs bindings.now.order rows) }
 {
     let mut rows = unknown_targets(alloc, bindings)?;
     resolve_all(alloc, bindings, &mut rows)?;

@@ -1,11 +1,11 @@
-ghost use Rattle.std.specs.Prelude.{◌≡◌, ◌<◌, [], Contains, IfOk, IfSome, OnOk, option_map, slice_index_or};
+ghost use Rattle.std.specs.Prelude.{◌≡◌, ◌<◌, None, Contains, IfOk, IfSome, option_map};
 ghost use Rattle.pef_loader.specs.Views.{import_seen};
 ghost use Rattle.cfm_libraries.specs.Fragments.{import_at, library_count};
-ghost use Rattle.cfm_closure.specs.Kept.Symbols.{AreEmpty, AreImportsIn, AreSymbolsOf};
+ghost use Rattle.cfm_closure.specs.Kept.Symbols.{AreSymbolsOf, table_at};
 
-use crate::imports::Imports;
 use cfm_libraries::Bindings;
-use pef_loader::ImportView;
+use cfm_tables::PlaceTable;
+use pef_loader::{ImportTable, ImportView};
 use std::alloc::{AllocError, Global};
 
 /// The imports of the fragments of a closure. Those of a fragment are read once, all together, when one of
@@ -13,19 +13,8 @@ use std::alloc::{AllocError, Global};
 #[derive(Drop)]
 pub(crate) struct Symbols<'a> {
     alloc: Global,
-    /// For each place of the store, the imports of the fragment there. None, where they weren't read.
-    tables: Vec<Imports<'a>>,
-}
-
-/// Tables without imports, for each of `len` fragments.
-fn empty_tables<'a>(alloc: Global, len: usize) -> Result<Vec<Imports<'a>>, AllocError>
-    ensures { IfOk result (λ tables. AreEmpty len tables.items) }
-{
-    let mut tables = Vec::new(alloc);
-    for _i in 0..len {
-        tables.push(Imports::none(alloc))?;
-    }
-    Ok(tables)
+    /// The imports of the fragments that were asked for. `None` stands where they were let go.
+    tables: PlaceTable<Option<ImportTable<'a>>>,
 }
 
 impl<'a> Symbols<'a> {
@@ -33,7 +22,7 @@ impl<'a> Symbols<'a> {
     pub fn new(alloc: Global, bindings: &Bindings<'a>) -> Result<Symbols<'a>, AllocError>
         ensures { IfOk result (λ symbols. AreSymbolsOf bindings.now.pairs bindings.now.order symbols) }
     {
-        let tables = empty_tables(alloc, bindings.places())?;
+        let tables = bindings.table(alloc)?;
         Ok(Symbols { alloc, tables })
     }
 
@@ -50,33 +39,26 @@ impl<'a> Symbols<'a> {
         ensures value { IfOk result (λ symbol. option_map import_seen symbol ≡ import_at bindings.now.pairs p j) }
         ensures library { IfOk result (λ symbol. IfSome symbol (λ v. v.library < library_count bindings.now.pairs p)) }
     {
-        self.read(bindings, p)?;
-        Ok(self.tables[p].get(j))
-    }
-
-    /// Reads the imports of a fragment, unless they were read before.
-    fn read(&mut self, bindings: &Bindings<'a>, p: usize) -> Result<(), AllocError>
-        requires place { Contains bindings.now.order p }
-        requires symbols { AreSymbolsOf bindings.now.pairs bindings.now.order self.old }
-        ensures symbols { AreSymbolsOf bindings.now.pairs bindings.now.order self.new }
-        ensures read { OnOk result (AreImportsIn bindings.now.pairs p (slice_index_or self.new.tables.items p [])) }
-    {
-        if !self.tables[p].is_empty() {
-            return Ok(());
+        if let Some(Some(table)) = self.tables.get(p) {
+            return Ok(table.get(j));
         }
         let fragment = bindings.fragment(p);
-        let table = &mut self.tables[p];
-        table.fill(self.alloc, fragment.loader)
+        let table = ImportTable::read(self.alloc, fragment.loader)?;
+        let import = table.get(j);
+        self.tables.put(p, Some(table))?;
+        Ok(import)
     }
 
     /// Lets go of the imports of a fragment, whose targets are all known.
     pub fn release(&mut self, bindings: &Bindings<'a>, p: usize)
         requires place { Contains bindings.now.order p }
         requires symbols { AreSymbolsOf bindings.now.pairs bindings.now.order self.old }
-        ensures gone { slice_index_or self.new.tables.items p [] ≡ [] }
+        ensures gone { table_at self.new.tables p ≡ None }
         ensures symbols { AreSymbolsOf bindings.now.pairs bindings.now.order self.new }
     {
-        let table = &mut self.tables[p];
-        table.clear(self.alloc);
+        if self.tables.get(p).is_some() {
+            let table = self.tables.value_mut(p);
+            *table = None;
+        }
     }
 }

@@ -44,10 +44,9 @@ impl Targets {
 
     /// The target of import `j`, where it is known.
     pub fn get(&self, j: usize) -> Option<Option<Target>>
-        requires { j < length self.now }
         ensures { result ≡ slice_index_or self.now j None }
     {
-        self.known[j]
+        *self.known.get(j)?
     }
 
     /// Notes the target of import `j`.

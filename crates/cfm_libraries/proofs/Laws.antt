@@ -13,7 +13,3 @@ pub use Rattle.cfm_libraries.proofs.WalkRules.{left-marking}
 pub use Rattle.cfm_libraries.proofs.WalkRules.{Came, came, same_ok}
 -- a fault that is a refusal of one thing is that of another with the same refusals
 pub use Rattle.cfm_libraries.proofs.PathLemmas.{Fails-also}
--- what is there where a test is met alone
-pub use Rattle.cfm_libraries.proofs.BoundLemmas.{met_if}
--- an element of a list with one more is one of the list's, or the last
-pub use Rattle.cfm_libraries.proofs.FrameLemmas.{slice_get-push}

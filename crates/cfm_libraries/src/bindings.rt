@@ -1,4 +1,4 @@
-ghost use Rattle.std.specs.Prelude.{◌≡◌, ◌<◌, ◌≤◌, length, Contains, Ok, IfOk, IfSome};
+ghost use Rattle.std.specs.Prelude.{◌≡◌, ◌<◌, ◌≤◌, length, replicate, Contains, None, Ok, IfOk, IfSome};
 ghost use Rattle.cfm_libraries.specs.Faults.{Answers};
 ghost use Rattle.cfm_libraries.specs.Fragments.{fragment_of, import_count, library_count};
 ghost use Rattle.cfm_libraries.specs.Libraries.{bound_to};
@@ -12,7 +12,7 @@ use crate::libraries::Libraries;
 use crate::store::Store;
 use crate::walk::Walk;
 use cfm_tables::PlaceTable;
-use std::alloc::Global;
+use std::alloc::{AllocError, Global};
 use std::marker::Model;
 
 /// The closure order of a fragment: the fragment with its libraries, theirs, and so on. It has what these
@@ -75,6 +75,14 @@ impl<'a> Bindings<'a> {
         ensures complete { IsComplete self.now.pairs self.now.order }
     {
         self.pairs.len()
+    }
+
+    /// A table for fragments of the store, without values.
+    pub fn table<T: Drop>(&self, alloc: Global) -> Result<PlaceTable<T>, AllocError>
+        ensures none { IfOk result (λ table. table ≡ replicate (length self.now.pairs) None) }
+        ensures complete { IsComplete self.now.pairs self.now.order }
+    {
+        PlaceTable::new(alloc, self.pairs.len())
     }
 
     /// The fragments by their places, each once: libraries before those that need them, as far as that can be,

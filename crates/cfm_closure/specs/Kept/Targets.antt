@@ -24,6 +24,11 @@ known_at rows p j = slice_index_or (slice_index_or rows p []) j None
 abbrev pub IsKnown : Rows → ℕ → ℕ → Type 0
 IsKnown rows p j = IsSome (known_at rows p j)
 
+-- so many rows, in which nothing is known
+pub record IsUnknown (rows : Rows) (count : ℕ) : Type 0 where
+  pub size : length rows ≡ count
+  pub none : (p j : ℕ) → known_at rows p j ≡ None
+
 -- what was known stays known
 abbrev pub KeepsKnown : Rows → Rows → Type 0
 KeepsKnown old new = (p j : ℕ) → IsKnown old p j → IsKnown new p j

@@ -6,7 +6,6 @@ use Rattle.pef_words.proofs.Laws.Lists.{all-append}
 use Rattle.cfm_libraries.proofs.Laws.{Fails-also}
 use Rattle.cfm_closure.specs.Targets.{hop, target_of}
 use Rattle.cfm_closure.specs.Kept.Targets.{IsOnWay}
-use Rattle.cfm_closure.proofs.KnownLemmas.{in_table, known_at-index}
 use Rattle.cfm_closure.proofs.LeadLemmas.{hops-more, hops-none, led-endless, led-ends, led-refused, on_way-more, target-endless, target-led}
 use Rattle.cfm_closure.proofs.resolve.follow.Goals as goal
 
@@ -25,8 +24,7 @@ returns-in-Some-clause-answer c =
     let pairs = c.args.bindings.now.pairs in
     let at = c.loop-hop.at in
     let on = c.loop-hop.invariant.at in
-    let inside = in_table pairs c.args.bindings.now.order c.args.rows.now at.0 at.1 c.requires.rows on.place on.import in
-    let known = known_at-index c.args.rows.now at.0 at.1 c.index-rows-at.result c.in-Some.target inside.0 c.index-rows-at.is c.in-Some.ensures in
+    let known = sym c.in-Some.ensures in
     target-led pairs c.args.p c.args.j (Ok c.in-Some.target) (sym on.leads ∙ c.requires.rows.right at.0 at.1 c.in-Some.target known)
 
 pub returns-in_err-target-clause-answer : goal.returns-in_err-target-clause-answer

@@ -21,13 +21,13 @@ note-requires c =
     let led = led-target pairs c.args.p c.args.j c.in_ok-target.target c.in_ok-target.ensures.answer in
     between_inside pairs order c.args.rows.now c.note_way.new.rows c.args.p c.args.j c.deref.result.now c.in_ok-target.target c.requires.rows c.requires.place c.requires.import on led c.note_way.ensures
 
-all : (c : goal.After-drop-way-2) → Resolves c.args.bindings.now.pairs c.args.bindings.now.order c.args.rows.now c.note.new.rows c.args.p c.args.j
+all : (c : goal.After-drop-way-2) → Resolves c.args.bindings.now.pairs c.args.bindings.now.order c.args.rows.now c.note.new.self c.args.p c.args.j
 all c =
     let pairs = c.args.bindings.now.pairs in
     let order = c.args.bindings.now.order in
     let on = subst (AllByRecursion (IsOnWay pairs order (c.args.p, c.args.j))) (sym c.deref.ensures.value) c.in_ok-target.ensures.way in
     let led = led-target pairs c.args.p c.args.j c.in_ok-target.target c.in_ok-target.ensures.answer in
-    resolves pairs order c.args.rows.now c.note_way.new.rows c.args.p c.args.j c.deref.result.now c.in_ok-target.target c.requires.rows c.requires.place c.requires.import on led c.note_way.ensures c.note.new.rows c.note.ensures
+    resolves pairs order c.args.rows.now c.note_way.new.rows c.args.p c.args.j c.deref.result.now c.in_ok-target.target c.requires.rows c.requires.place c.requires.import on led c.note_way.ensures c.note.new.self c.note.ensures
 
 pub returns-clause-rows : goal.returns-clause-rows
 returns-clause-rows c = (all c).are

@@ -1,13 +1,11 @@
--- One row for each place so far, of which nothing is known.
-use Rattle.std.proofs.Common.{◌≡◌, ℕ, ◌<◌, [], length, None, Contains}
-use Rattle.std.specs.Prelude.{slice_index_or}
+-- One row for each fragment so far, and nothing is known.
+use Rattle.std.proofs.Common.{◌≡◌, ℕ, ◌<◌, [], length, get_or}
 use Rattle.cfm_libraries.specs.Fragments.{import_count}
-use Rattle.cfm_closure.specs.Kept.Targets.{known_at}
+use Rattle.cfm_closure.specs.Kept.Targets.{IsUnknown}
 use Rattle.cfm_closure.proofs.resolve.unknown_targets.Given as goal
 
 abbrev pub invariant-loop-p : goal.invariant-loop-p
 invariant-loop-p l = record {
-  size : length l.rows.items ≡ l.p;
-  counts : (q : ℕ) → q < l.p → Contains l.bindings.order q → length (slice_index_or l.rows.items q []) ≡ import_count l.bindings.pairs q;
-  none : (q k : ℕ) → known_at l.rows.items q k ≡ None;
+  unknown : IsUnknown l.rows (length l.bindings.pairs);
+  counts : (k : ℕ) → k < l.p-index → length (get_or l.rows (get_or l.bindings.order k 0) []) ≡ import_count l.bindings.pairs (get_or l.bindings.order k 0);
 }

@@ -1,0 +1,62 @@
+ghost use Rattle.std.specs.Prelude.{◌≡◌, ◌<◌, None, length, replicate, slice_set, IfOk, OnOk, OnErr};
+ghost use Rattle.cfm_libraries.specs.Orders.{IsComplete};
+ghost use Rattle.cfm_closure.specs.Kept.Targets.{IsInTable, IsUnknown, known_at, noted};
+
+use crate::targets::{Target, Targets};
+use cfm_libraries::Bindings;
+use cfm_tables::PlaceTable;
+use std::alloc::{AllocError, Global};
+use std::marker::Model;
+
+/// What the imports of the fragments of a closure mean, so far as that is known.
+#[derive(Drop)]
+pub(crate) struct Rows {
+    rows: PlaceTable<Targets>,
+}
+
+impl Model for Rows {
+    ghost use Rattle.std.specs.Prelude.{List, Option};
+    ghost use Rattle.cfm_closure.specs.declared.targets.Target.{Target};
+
+    ghost Value = { List (List (Option (Option Target))) };
+
+    ghost use Rattle.cfm_closure.specs.Kept.Rows.{rows_of};
+
+    ghost view = { λ s. rows_of s.rows };
+}
+
+impl Rows {
+    /// No row, with a place for one of each fragment of the store.
+    pub fn new<'a>(alloc: Global, bindings: &Bindings<'a>) -> Result<Rows, AllocError>
+        ensures none { IfOk result (λ rows. IsUnknown rows (length bindings.now.pairs)) }
+        ensures complete { IsComplete bindings.now.pairs bindings.now.order }
+    {
+        let rows = bindings.table(alloc)?;
+        Ok(Rows { rows })
+    }
+
+    /// A row for the `len` imports of the fragment in a place, of which nothing is known.
+    pub fn add(&mut self, alloc: Global, p: usize, len: usize) -> Result<(), AllocError>
+        requires { p < length self.old }
+        ensures { OnOk result (self.new ≡ slice_set self.old p (replicate len None)) }
+    {
+        let row = Targets::unknown(alloc, len)?;
+        self.rows.put(p, row)
+    }
+
+    /// The target of import `j` of the fragment in a place, where it is known.
+    pub fn get(&self, p: usize, j: usize) -> Option<Option<Target>>
+        ensures { result ≡ known_at self.now p j }
+    {
+        self.rows.get(p)?.get(j)
+    }
+
+    /// Notes the target of an import.
+    pub fn note(&mut self, p: usize, j: usize, target: Option<Target>)
+        requires { IsInTable self.old (p, j) }
+        ensures { self.new ≡ noted self.old p j target }
+    {
+        let row = self.rows.value_mut(p);
+        row.note(j, target);
+    }
+}
