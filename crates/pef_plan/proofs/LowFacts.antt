@@ -12,8 +12,8 @@ use Rattle.pef_runs.specs.declared.place.At.{At}
 use Rattle.pef_runs.specs.declared.ends.RunEnds.{RunEnds}
 use Rattle.pef_runs.specs.Runs.{EndOf, Ends, Holds}
 use Rattle.pef_runs.specs.Kept.Ends.{EndsAt}
-use Rattle.pef_runs.specs.Leads.{LeadsWithin, Led}
-use Rattle.pef_runs.specs.Places.{AtOf, Counts, HereOf}
+use Rattle.pef_runs.specs.Leads.{LeadsWithin}
+use Rattle.pef_runs.specs.Places.{AtOf, Counts, HereOf, Led}
 use Rattle.pef_plan.specs.Kept.Rows.{DirectIs}
 use Rattle.pef_runs.specs.Tables.{Agrees}
 use Rattle.pef_cert.specs.Kept.Tests.{base_test}

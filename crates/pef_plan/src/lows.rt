@@ -2,9 +2,8 @@ ghost use Rattle.std.specs.Prelude.{◌≡◌, ◌+◌, ◌*◌, ◌==◌, ◌<�
 ghost use Rattle.pef_cert.specs.Labels.{Labels, class_of};
 ghost use Rattle.pef_cert.specs.Kept.Tests.{base_test, second_test};
 ghost use Rattle.pef_runs.specs.Kept.Ends.{EndsAt};
-ghost use Rattle.pef_runs.specs.Leads.{Led};
 ghost use Rattle.pef_runs.specs.Runs.{Holds, NextBase};
-ghost use Rattle.pef_runs.specs.Places.{HereOf};
+ghost use Rattle.pef_runs.specs.Places.{HereOf, Led};
 ghost use Rattle.pef_plan.specs.Kept.Met.{MetInC, MetInD, PairsMet};
 ghost use Rattle.pef_runs.specs.Tables.{Agrees};
 ghost use Rattle.pef_reloc.specs.declared.fixup.Base.TheVariants.{Import, Section};

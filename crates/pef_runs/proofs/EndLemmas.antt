@@ -15,8 +15,8 @@ use Rattle.pef_runs.specs.declared.runs.Run.TheVariants.{WordsOfC, WordsOfD, Spa
 use Rattle.pef_squares.specs.declared.window.Window.{Window}
 use Rattle.pef_runs.specs.Kept.Ends.{Brought, EndRows}
 use Rattle.pef_runs.specs.Runs.{EndAmong, EndsFrom, RunOf, imports, limit, run_instr, stride, unit, units}
-use Rattle.pef_runs.specs.Leads.{LeadsWithin, Led}
-use Rattle.pef_runs.specs.Places.{Chosen, InPlace, extension_in}
+use Rattle.pef_runs.specs.Leads.{LeadsWithin}
+use Rattle.pef_runs.specs.Places.{Chosen, InPlace, Led, extension_in}
 use Rattle.pef_runs.specs.Kept.Runs.{Next}
 use Rattle.pef_squares.specs.Squares.{number_in}
 use Rattle.pef_runs.specs.Tables.{Agrees}

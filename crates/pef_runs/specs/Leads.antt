@@ -7,10 +7,6 @@ use Rattle.pef_reloc.specs.Instrs.{instr_length}
 use Rattle.pef_reloc.specs.Steps.{State, next_state}
 use Rattle.pef_cert.specs.Labels.{Labels}
 use Rattle.pef_cert.specs.Extension.{extension_at}
-use Rattle.pef_runs.specs.declared.known.Known.{Known}
-use Rattle.pef_runs.specs.declared.place.Here.{Here}
-use Rattle.pef_runs.specs.Places.{InPlace}
-use Rattle.pef_runs.specs.Tables.{Agrees}
 
 -- an instruction that leads on from a state: it fits and is no repeat, it adds just the next of the fixups,
 -- one or more or none, and these are left; its halfwords and the extension behind it are at most a number
@@ -20,7 +16,3 @@ pub record LeadsWithin (l : Labels) (s : State) (fixups : List Fixup) (n : ℕ) 
   pub flat : is_flat_instr instr ≡ true
   pub delivers : Delivers instr s fixups left
   pub falls : instr_length instr + extension_at l left (next_state instr s) ≤ n
-
--- from each state at a place an instruction leads on within a number of halfwords
-abbrev pub Led : Known → Here → ℕ → Type 0
-Led k h value = (l : Labels) (s : State) → Agrees l k h.others.now → InPlace k.registers.now h.place s → LeadsWithin l s h.place.left.now value

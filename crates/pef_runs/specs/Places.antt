@@ -15,6 +15,7 @@ use Rattle.pef_runs.specs.declared.place.Here.{Here}
 use Rattle.pef_runs.specs.declared.place.Step.{Step}
 use Rattle.pef_runs.specs.declared.place.Choice.{Choice}
 use Rattle.pef_runs.specs.declared.place.At.{At}
+use Rattle.pef_runs.specs.Leads.{LeadsWithin}
 use Rattle.pef_runs.specs.Tables.{Agrees, Shaped}
 
 -- a state is at a place
@@ -68,3 +69,7 @@ pub record AtOf (k : Known) (a : At) : Type 0 where
 pub record Chosen (k : Known) (h : Here) (x : Choice) : Type 0 where
   pub goes : GoesOn k.registers.now h.place x.step
   pub worth : (l : Labels) → Agrees l k h.others.now → Worth l x
+
+-- from each state at a place an instruction leads on within a number of halfwords
+abbrev pub Led : Known → Here → ℕ → Type 0
+Led k h value = (l : Labels) (s : State) → Agrees l k h.others.now → InPlace k.registers.now h.place s → LeadsWithin l s h.place.left.now value

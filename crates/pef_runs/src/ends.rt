@@ -1,8 +1,7 @@
 ghost use Rattle.std.specs.Prelude.{◌≡◌, ◌+◌, ◌*◌, ◌^◌, ◌<◌, ◌≤◌, ◌∷◌, ◌⊎◌, [], ℕ, IfOk, List, OnOk, length, slice_index, slice_index_or};
 ghost use Rattle.pef_cert.specs.Extension.{extension};
 ghost use Rattle.pef_cert.specs.Labels.{Labels};
-ghost use Rattle.pef_runs.specs.Leads.{Led};
-ghost use Rattle.pef_runs.specs.Places.{AtOf, HereOf};
+ghost use Rattle.pef_runs.specs.Places.{AtOf, HereOf, Led};
 ghost use Rattle.pef_runs.specs.Runs.{Begins, EndOf, Ends, RunOf};
 ghost use Rattle.pef_runs.specs.Kept.Ends.{Brought, BroughtMaybe, EndsAt, EndsOf, FarAt, NearKept, far_pairs_of, number_of, pairs_of, sections_of, window_of, words_of};
 ghost use Rattle.pef_runs.specs.Tables.{Agrees};
@@ -58,7 +57,7 @@ struct InTurn {
 }
 
 impl RunEnds {
-    /// Behind all fixups, where no run begins.
+    /// Behind all fixups, where no run begins, with so many classes.
     pub fn new(alloc: Global, classes: usize) -> RunEnds
         requires { classes ≤ 9 }
         ensures { EndsOf (λ l. Unit {0}) classes [] result }
@@ -75,7 +74,11 @@ impl RunEnds {
         }
     }
 
-    /// Goes on to the fixup before.
+    /// Goes on to the fixup before, whose tables are not filled yet.
+    ///
+    /// # Errors
+    ///
+    /// `AllocError`, where a growth of memory was refused. The windows are those of no fixup then.
     pub fn pass(&mut self, known: Known<'_>, at: At<'_>) -> Result<(), AllocError>
         requires at { AtOf known at }
         requires ends { EndsAt known at.others.now at.others.now self.old }
@@ -101,7 +104,7 @@ impl RunEnds {
         }
     }
 
-    /// The lesser of a value and of what a run leads to that begins at the fixup.
+    /// The lesser of a value and of what a run leads to that begins at the fixup, in halfwords.
     pub fn low_of_run(&self, known: Known<'_>, here: Here<'_>, run: Run, first: u64) -> u64
         requires here { HereOf known here }
         requires at { here.place.position ≡ here.first.offset }

@@ -8,19 +8,22 @@ use pef_cert::{change, class_of, moved_value};
 use pef_reloc::{Base, Fixup};
 use pef_squares::{Line, Square, Squares};
 
-/// What is known of the states at the fixups so far, from the last fixup back.
+/// What is known of the states at some fixups: tables that are filled from the last fixup back. Numbers
+/// of a table are in halfwords.
 #[derive(Clone, Copy, Debug)]
 pub struct Known<'a> {
+    /// The sections that the fixups use, rising. A section's class is its place among them; all others are
+    /// of the class behind.
     pub registers: &'a [u32],
     /// The labels, by how many fixups are left.
     pub labels: &'a Squares,
-    /// The least that a skip at the next fixup leads to, by the class of register C and by how many
-    /// fixups are left.
+    /// The least that a skip at the next fixup leads to, by how many fixups are left and by the class of
+    /// register C.
     pub skips: &'a [Line],
 }
 
 impl<'a> Known<'a> {
-    /// How many classes there are.
+    /// How many classes of sections there are: at most nine.
     pub fn classes(self) -> usize
         requires { length self.registers.now ≤ 8 }
         ensures { result ≡ length self.entry.registers.now + 1 }
@@ -28,7 +31,7 @@ impl<'a> Known<'a> {
         self.registers.len() + 1
     }
 
-    /// The labels where so many fixups are left.
+    /// The labels where so many fixups are left: lines by the class of register C, in each the classes of D.
     pub fn row(self, left: usize) -> &'a Square
         requires { Shaped self left }
         ensures { result.now ≡ slice_index_or self.entry.labels.now left [] }
@@ -36,7 +39,8 @@ impl<'a> Known<'a> {
         self.labels.square(left)
     }
 
-    /// The extension where these fixups are left, at a position and in classes of the registers.
+    /// The extension in halfwords where these fixups are left, at a position in bytes and in classes of the
+    /// registers.
     pub fn value(self, rest: &[Fixup], position: u64, c: usize, d: usize) -> u64
         requires shaped { Shaped self (length rest.now) }
         requires c { c < length self.registers.now + 1 }

@@ -4,10 +4,13 @@ use pef_reloc::{Fixup, Instr};
 #[derive(Clone, Copy, Debug)]
 pub struct Place<'a> {
     pub left: &'a [Fixup],
+    /// In bytes.
     pub position: u64,
+    /// The number of the next import.
     pub import_index: u64,
-    /// The classes of the registers.
+    /// The class of register C.
     pub c: usize,
+    /// The class of register D.
     pub d: usize,
 }
 

@@ -126,7 +126,8 @@ impl Run {
 }
 
 impl<'a> Known<'a> {
-    /// The better of a choice and of the best end of a run that begins at a position.
+    /// The better of a choice and of the best end of a run that begins at a position, in bytes. It follows the
+    /// run unit by unit.
     pub fn best_of_run(self, here: Here<'a>, run: Run, from: u64, first: Choice<'a>) -> Choice<'a>
         requires here { HereOf self here }
         requires run { RunOf self.registers.now run here.place from }
