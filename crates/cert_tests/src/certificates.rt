@@ -1,9 +1,14 @@
-use crate::lists::{Labelled, S0, S1, S2, certificate, fixups, push, spelled};
+use crate::tables::{certificate, push};
 use pef_cert::{Certificate, LabelRows, check};
 use pef_reloc::{Base, Fixup, Instr, fixups_fit};
 use std::alloc::Global;
 use std::process::Abort;
 use std::test::Fail;
+use test_data::labels::{
+    CROSSED, IMPORTS_TWICE, Labelled, PAIR_THEN_FAR, PAIR_THEN_NEAR, SHORTER, SKIPPED, SPACED,
+    TRANSITION, VECTORS, VECTORS_LABELS, VTABLE, VTABLE_FAR,
+};
+use test_data::lists::{Listed, S0, S1, S2, fixups, spelled};
 
 /// Whether a certificate with these labels and this program is a yes.
 fn holds(
@@ -28,29 +33,16 @@ fn check_all(
 ) -> Result<(), Fail> {
     for row in rows {
         let (labelled, bytes) = *row;
-        let program = spelled(rt, alloc, bytes)?;
+        let program = spelled(alloc, bytes)?;
         assert_eq!(rt; holds(rt, alloc, labelled, program)?, want, "{bytes:?}");
     }
     Ok(())
 }
 
-/// One transition vector after another.
-const VECTORS: &[(u32, Base)] = &[(0, S0), (4, S1), (8, S0), (12, S1)];
+/// The vectors, a word later.
+const VECTORS_LATER: Listed = &[(4, S0), (8, S1), (12, S0), (16, S1)];
 
-/// The same, a word later.
-const VECTORS_LATER: &[(u32, Base)] = &[(4, S0), (8, S1), (12, S0), (16, S1)];
-
-const TRANSITION_LABELS: &[u32] = &[
-    2, 1, 2, 3, 2, 3, 3, 2, 3, //
-    3, 2, 3, 2, 3, 3, 3, 3, 3, //
-    2, 1, 2, 2, 2, 2, 2, 2, 2, //
-    1, 1, 1, 1, 1, 1, 1, 1, 1, //
-    0, 0, 0, 0, 0, 0, 0, 0, 0,
-];
-
-const TRANSITION: Labelled = (VECTORS, &[0, 1], TRANSITION_LABELS);
-
-const TRANSITION_LATER: Labelled = (VECTORS_LATER, &[0, 1], TRANSITION_LABELS);
+const TRANSITION_LATER: Labelled = (VECTORS_LATER, &[0, 1], VECTORS_LABELS);
 
 /// The greatest label that can be written.
 const MOST: u32 = 4_294_967_295;
@@ -58,92 +50,11 @@ const MOST: u32 = 4_294_967_295;
 /// Nothing to make.
 const NOTHING: Labelled = (&[], &[], &[0]);
 
-/// Labels that are the least lengths.
-const VTABLE: Labelled = (
-    &[(0, S1), (1028, S1)],
-    &[1],
-    &[2, 3, 2, 3, 1, 1, 1, 1, 0, 0, 0, 0],
-);
-
 /// Behind `VTable8 1` the second word lies 1,024 bytes ahead, 4 more than a skip can go.
 const VTABLE_SHORT: Labelled = (
     &[(0, S1), (1032, S1)],
     &[1],
     &[3, 3, 3, 3, 1, 1, 1, 1, 0, 0, 0, 0],
-);
-
-const VTABLE_FAR: Labelled = (
-    &[(0, S1), (5124, S1)],
-    &[1],
-    &[3, 4, 3, 4, 1, 1, 1, 1, 0, 0, 0, 0],
-);
-
-const SPACED: Labelled = (
-    &[(0, S2), (8, S2), (16, S2)],
-    &[2],
-    &[1, 2, 1, 2, 1, 2, 1, 2, 1, 1, 1, 1, 0, 0, 0, 0],
-);
-
-const SKIPPED: Labelled = (
-    &[(4, S2), (8, S2), (12, S2)],
-    &[2],
-    &[1, 1, 1, 2, 1, 1, 1, 2, 1, 1, 1, 1, 0, 0, 0, 0],
-);
-
-const SHORTER: Labelled = (
-    &[(0, S1), (8, S1), (12, S0)],
-    &[0, 1],
-    &[
-        4, 3, 4, 3, 3, 4, 4, 3, 4, //
-        2, 2, 2, 1, 2, 2, 2, 2, 2, //
-        1, 1, 1, 1, 1, 1, 1, 1, 1, //
-        0, 0, 0, 0, 0, 0, 0, 0, 0,
-    ],
-);
-
-const PAIR_THEN_FAR: Labelled = (
-    &[(0, S0), (4, S1), (1032, S1)],
-    &[0, 1],
-    &[
-        3, 2, 3, 4, 3, 4, 4, 3, 4, //
-        3, 2, 3, 3, 2, 3, 3, 2, 3, //
-        1, 1, 1, 1, 1, 1, 1, 1, 1, //
-        0, 0, 0, 0, 0, 0, 0, 0, 0,
-    ],
-);
-
-const PAIR_THEN_NEAR: Labelled = (
-    &[(0, S0), (4, S1), (12, S1)],
-    &[0, 1],
-    &[
-        3, 2, 3, 3, 2, 3, 3, 2, 3, //
-        2, 1, 2, 2, 1, 2, 2, 1, 2, //
-        1, 1, 1, 1, 1, 1, 1, 1, 1, //
-        0, 0, 0, 0, 0, 0, 0, 0, 0,
-    ],
-);
-
-const CROSSED: Labelled = (
-    &[(0, S1), (4, S0), (8, S1), (12, S0)],
-    &[0, 1],
-    &[
-        2, 3, 3, 1, 2, 2, 2, 3, 3, //
-        3, 2, 3, 2, 3, 3, 3, 3, 3, //
-        2, 2, 2, 1, 2, 2, 2, 2, 2, //
-        1, 1, 1, 1, 1, 1, 1, 1, 1, //
-        0, 0, 0, 0, 0, 0, 0, 0, 0,
-    ],
-);
-
-const IMPORTS_TWICE: Labelled = (
-    &[
-        (0, Base::Import(0)),
-        (4, Base::Import(1)),
-        (8, Base::Import(0)),
-        (12, Base::Import(1)),
-    ],
-    &[],
-    &[3, 3, 2, 1, 0],
 );
 
 const IMPORTS_APART: Labelled = (
@@ -162,7 +73,7 @@ const IMPORTS_LARGE: Labelled = (
     &[4, 3, 2, 0],
 );
 
-const THREE: &[(u32, Base)] = &[(0, S2), (4, S2), (8, S2)];
+const THREE: Listed = &[(0, S2), (4, S2), (8, S2)];
 
 const WORDS: Labelled = (
     THREE,
@@ -171,7 +82,7 @@ const WORDS: Labelled = (
 );
 
 /// One fixup, which one halfword makes where the position is its own.
-const fn alone(listed: &'static [(u32, Base)], registers: &'static [u32]) -> Labelled {
+const fn alone(listed: Listed, registers: &'static [u32]) -> Labelled {
     (listed, registers, &[1, 1, 1, 1, 0, 0, 0, 0])
 }
 
@@ -270,7 +181,7 @@ fn longer_programs(rt: HostRuntime) -> Result<(), Fail> {
 /// Labels that are not feasible, with programs that are as long as they say, or are least.
 #[test]
 fn labels_too_high(rt: HostRuntime) -> Result<(), Fail> {
-    let one: &[(u32, Base)] = &[(0, S1)];
+    let one: Listed = &[(0, S1)];
     let nothing: Labelled = (&[], &[], &[1]);
     let last: Labelled = (one, &[1], &[1, 1, 1, 1, 0, 1, 0, 0]);
     let huge: Labelled = (one, &[1], &[MOST; 8]);
@@ -383,7 +294,7 @@ fn labels_too_high(rt: HostRuntime) -> Result<(), Fail> {
 /// Programs that don't make the fixups, and registers and rows of another shape.
 #[test]
 fn other_programs_and_shapes(rt: HostRuntime) -> Result<(), Fail> {
-    let one: &[(u32, Base)] = &[(0, S1)];
+    let one: Listed = &[(0, S1)];
     let ones: &[u32] = &[1, 1, 1, 1, 1, 1, 1, 1, 1, 0, 0, 0, 0, 0, 0, 0, 0, 0];
     let rows: [(Labelled, &[u8]); 15] = [
         (NOTHING, &[0x42, 0x00]),

@@ -5,4 +5,4 @@
 #[cfg(test)]
 mod certificates;
 #[cfg(test)]
-mod lists;
+mod tables;

@@ -6,6 +6,7 @@ use std::alloc::{AllocError, Global};
 use std::fmt::Write;
 use std::process::Abort;
 use std::test::Fail;
+use test_data::labels::{VECTORS_LABELS, labels};
 
 /// The line of a refusal, 0 where the text is read, and 1,000,000 where memory is refused.
 fn refused_line(alloc: Global, text: &str) -> usize {
@@ -39,23 +40,13 @@ fn sections(rt: HostRuntime) -> Result<(), Fail> {
 }
 
 #[test]
-fn labels(rt: HostRuntime) -> Result<(), Fail> {
-    let certificates = read(rt.alloc(), TWO_SECTIONS.as_bytes())?;
+fn labels_in_rows(rt: HostRuntime) -> Result<(), Fail> {
+    let alloc = rt.alloc();
+    let certificates = read(alloc, TWO_SECTIONS.as_bytes())?;
     assert_eq!(rt; certificates.len(), 2);
-    let labels = certificates[1].labels();
-    let mut runs = labels.runs();
-    let rows: [[u32; 9]; 5] = [
-        [2, 1, 2, 3, 2, 3, 3, 2, 3],
-        [3, 2, 3, 2, 3, 3, 3, 3, 3],
-        [2, 1, 2, 2, 2, 2, 2, 2, 2],
-        [1, 1, 1, 1, 1, 1, 1, 1, 1],
-        [0, 0, 0, 0, 0, 0, 0, 0, 0],
-    ];
-    for row in &rows {
-        let run = runs.next_run().expect(&rt, "a row");
-        assert_eq!(rt; run.rows, 1);
-        assert_eq!(rt; run.labels, row.as_slice());
-    }
+    let labels = labels(alloc, &certificates[1])?;
+    assert!(rt; labels.as_slice() == VECTORS_LABELS);
+    assert_eq!(rt; certificates[1].labels().rows(), 5);
     Ok(())
 }
 

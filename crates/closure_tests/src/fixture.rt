@@ -1,23 +1,17 @@
-use cfm_closure::{BindFault, Closure, Store, Target, closure};
-use pef_script::Script;
-use pef_write::{Linked, link};
+use cfm_closure::{Closure, Store, Target, closure};
 use std::alloc::{AllocError, Global};
 use std::fmt::Write;
 use std::process::Abort;
 use std::test::Fail;
+use test_links::{link_text, tell_names};
 
 /// A fragment: its name, its script, and what is written over the end of its container. Where a script has
 /// one export, its section is the last two bytes, and its value the four before them.
 pub(crate) type Fragment = (&'static str, &'static str, &'static [u8]);
 
-fn link_text(alloc: Global, text: &str) -> Result<Linked, Fail> {
-    let script = Script::read(alloc, text.as_bytes())?;
-    Ok(link(alloc, &script)?)
-}
-
 /// The container of a script, with other bytes at its end.
 pub(crate) fn container(alloc: Global, script: &str, end: &[u8]) -> Result<Vec<u8>, Fail> {
-    let linked = link_text(alloc, script)?;
+    let linked = link_text(alloc, script.as_bytes())?;
     let kept = linked.bytes().len().saturating_sub(end.len());
     let mut bytes = Vec::from_slice(alloc, &linked.bytes()[..kept])?;
     bytes.extend_from_slice(end)?;
@@ -67,7 +61,10 @@ fn told_of(rt: &impl Abort, alloc: Global, store: &Store<'_>) -> Result<String, 
     let mut text = String::new(alloc);
     match closure(alloc, store, 0) {
         Ok(closure) => tell(&mut text, &closure)?,
-        Err(fault) => tell_fault(&mut text, fault)?,
+        Err(fault) => {
+            write!(text, "{} {fault}", fault.number())?;
+            tell_names(&mut text, fault)?;
+        }
     }
     Ok(text)
 }
@@ -101,44 +98,6 @@ fn tell_target(text: &mut String, target: Option<Target>) -> Result<(), AllocErr
         ) => write!(text, " at {fragment} {section} {offset}")?,
         Some(Target::Absolute(value)) => write!(text, " is {value}")?,
         None => text.push_str(" none")?,
-    }
-    Ok(())
-}
-
-fn tell_fault(text: &mut String, fault: BindFault<'_>) -> Result<(), AllocError> {
-    write!(text, "{} {fault}", fault.number())?;
-    match fault {
-        BindFault::Container { fragment, .. } | BindFault::Loader { fragment, .. } => {
-            tell_name(text, fragment)
-        }
-        BindFault::LibraryMissing { fragment, library }
-        | BindFault::ImplementationTooOld { fragment, library }
-        | BindFault::ImplementationTooNew { fragment, library } => {
-            tell_name(text, fragment)?;
-            tell_name(text, library)
-        }
-        BindFault::SymbolMissing {
-            fragment,
-            library,
-            symbol,
-        } => {
-            tell_name(text, fragment)?;
-            tell_name(text, library)?;
-            tell_name(text, symbol)
-        }
-        BindFault::ReexportLoop { fragment, symbol } => {
-            tell_name(text, fragment)?;
-            tell_name(text, symbol)
-        }
-        BindFault::InitLoop { fragment } => tell_name(text, fragment),
-        BindFault::OutOfMemory => Ok(()),
-    }
-}
-
-fn tell_name(text: &mut String, name: &[u8]) -> Result<(), AllocError> {
-    text.push(' ')?;
-    for byte in name {
-        text.push(char::from(*byte))?;
     }
     Ok(())
 }

@@ -1,11 +1,10 @@
-use cfm_closure::{BindFault, Store};
+use cfm_closure::Store;
 use cfm_prepare::{Connection, Context, PrepareFault};
-use pef_script::Script;
-use pef_write::{Linked, link};
 use std::alloc::{AllocError, Global};
 use std::fmt::Write;
 use std::process::Abort;
 use std::test::Fail;
+use test_links::{link_text, tell_name, tell_names};
 
 /// A fragment: its name, its script, and what is written over some bytes of its container.
 pub(crate) type Fragment = (&'static str, &'static str, &'static [(usize, u8)]);
@@ -17,15 +16,10 @@ pub(crate) enum Step {
     Close(u32),
 }
 
-fn link_text(alloc: Global, text: &str) -> Result<Linked, Fail> {
-    let script = Script::read(alloc, text.as_bytes())?;
-    Ok(link(alloc, &script)?)
-}
-
 /// The container of a script, with other bytes in some places, which count from the end where they are
 /// 1,000 and more.
 fn container(alloc: Global, fragment: &Fragment) -> Result<Vec<u8>, Fail> {
-    let linked = link_text(alloc, fragment.1)?;
+    let linked = link_text(alloc, fragment.1.as_bytes())?;
     let mut bytes = Vec::from_slice(alloc, linked.bytes())?;
     let len = bytes.len();
     for (place, byte) in fragment.2 {
@@ -145,23 +139,8 @@ fn tell_fault(text: &mut String, fault: PrepareFault<'_>) -> Result<(), AllocErr
     match fault {
         PrepareFault::NoRoom { fragment }
         | PrepareFault::Pack { fragment, .. }
-        | PrepareFault::Reloc { fragment, .. }
-        | PrepareFault::Bind(BindFault::Container { fragment, .. })
-        | PrepareFault::Bind(BindFault::Loader { fragment, .. })
-        | PrepareFault::Bind(BindFault::LibraryMissing { fragment, .. })
-        | PrepareFault::Bind(BindFault::SymbolMissing { fragment, .. })
-        | PrepareFault::Bind(BindFault::ImplementationTooOld { fragment, .. })
-        | PrepareFault::Bind(BindFault::ImplementationTooNew { fragment, .. })
-        | PrepareFault::Bind(BindFault::ReexportLoop { fragment, .. })
-        | PrepareFault::Bind(BindFault::InitLoop { fragment }) => tell_name(text, fragment),
+        | PrepareFault::Reloc { fragment, .. } => tell_name(text, fragment),
+        PrepareFault::Bind(fault) => tell_names(text, fault),
         _ => Ok(()),
     }
-}
-
-fn tell_name(text: &mut String, name: &[u8]) -> Result<(), AllocError> {
-    text.push(' ')?;
-    for byte in name {
-        text.push(char::from(*byte))?;
-    }
-    Ok(())
 }

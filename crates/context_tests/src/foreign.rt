@@ -93,7 +93,7 @@ fn binding(rt: HostRuntime) -> Result<(), Fail> {
         LIMIT,
         &steps,
     )?;
-    let steps = [(Prepare("A"), "62 SymbolMissing A")];
+    let steps = [(Prepare("A"), "62 SymbolMissing A L w")];
     take_steps(
         &rt,
         rt.alloc(),
@@ -101,7 +101,7 @@ fn binding(rt: HostRuntime) -> Result<(), Fail> {
         LIMIT,
         &steps,
     )?;
-    let steps = [(Prepare("A"), "61 LibraryMissing A")];
+    let steps = [(Prepare("A"), "61 LibraryMissing A L")];
     take_steps(&rt, rt.alloc(), &[("A", A, &[])], LIMIT, &steps)?;
     let steps = [(Prepare("A"), "0, A 00010000 00000007")];
     take_steps(&rt, rt.alloc(), &[("A", absent, &[])], LIMIT, &steps)?;

@@ -5,11 +5,12 @@ use pef_cert_text::read;
 use pef_plan::plan;
 use pef_reloc::fixups_fit;
 use pef_script::Script;
-use std::alloc::Global;
+use std::alloc::{AllocError, Global};
 use std::process::Abort;
 use std::test::Fail;
 use test_bench::runs::{Handed, run_tool};
 use test_bench::scripts::{EXAMPLE, VECTORS};
+use test_data::labels::labels;
 
 /// Scripts, each with its number of sections.
 const SCRIPTS: &[(&[u8], usize)] = &[
@@ -47,7 +48,7 @@ fn test_plans(
     for (k, certificate) in certificates.iter().enumerate() {
         assert_eq!(rt; certificate.section() as usize, k);
         let planned = planned(rt, alloc, &script, certificate.section())?;
-        assert!(rt; is_same(certificate, &planned), "section {k}");
+        assert!(rt; is_same(alloc, certificate, &planned)?, "section {k}");
     }
     Ok(())
 }
@@ -65,23 +66,11 @@ fn planned(
 }
 
 /// Whether two certificates have the same parts.
-fn is_same(one: &Certificate, other: &Certificate) -> bool {
-    one.section() == other.section()
-        && one.program() == other.program()
-        && one.registers() == other.registers()
-        && has_same_labels(one, other)
-}
-
-/// Whether two certificates have the same rows of labels.
-fn has_same_labels(one: &Certificate, other: &Certificate) -> bool {
-    let mut left = one.labels().runs();
-    let mut right = other.labels().runs();
-    for _ in 0..=one.labels().rows() {
-        match (left.next_run(), right.next_run()) {
-            (None, None) => return true,
-            (Some(a), Some(b)) if a.rows == b.rows && a.labels == b.labels => {}
-            _ => return false,
-        }
-    }
-    false
+fn is_same(alloc: Global, one: &Certificate, other: &Certificate) -> Result<bool, AllocError> {
+    Ok(
+        one.section() == other.section()
+            && one.program() == other.program()
+            && one.registers() == other.registers()
+            && labels(alloc, one)? == labels(alloc, other)?,
+    )
 }

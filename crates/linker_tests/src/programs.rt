@@ -1,23 +1,16 @@
 //! The relocation programs that are linked, and their certificates.
-use crate::write::link_text;
 use pef_cert::Certificate;
 use pef_loader::Loader;
-use pef_reloc::{Base, Instr, Program};
+use pef_reloc::{Base, Instr};
 use pef_views::Container;
 use pef_write::Linked;
 use std::alloc::{AllocError, Global};
 use std::fmt::Write;
 use std::process::Abort;
 use std::test::Fail;
-
-const S0: Base = Base::Section(0);
-
-const S1: Base = Base::Section(1);
-
-const S2: Base = Base::Section(2);
-
-/// Fixups by offset and base.
-type Listed = &'static [(u32, Base)];
+use test_data::labels::{VECTORS_LABELS, labels};
+use test_data::lists::{Listed, S0, S1, S2, spelled};
+use test_links::link_text;
 
 /// Fixups of a section, how many halfwords their shortest program has, and its bytes where there is one
 /// such program alone.
@@ -78,18 +71,6 @@ fn script_of(alloc: Global, listed: &[(u32, Base)]) -> Result<String, AllocError
     Ok(text)
 }
 
-/// The instructions of a program that is written.
-fn instrs(alloc: Global, bytes: &[u8]) -> Result<Vec<Instr>, Fail> {
-    let mut instrs = Vec::new(alloc);
-    let mut walk = Program::read(bytes)?.instrs();
-    for _ in 0..bytes.len() {
-        if let Some(instr) = walk.next_instr() {
-            instrs.push(instr)?;
-        }
-    }
-    Ok(instrs)
-}
-
 /// How many relocation headers a container has, and the section and the program of the first.
 fn first_header(bytes: &[u8]) -> Result<(u32, u32, &[u8]), Fail> {
     let container = Container::read(bytes)?;
@@ -107,7 +88,7 @@ fn test_written(
     written: &[u8],
 ) -> Result<(), Fail> {
     let certificate = certificate_of(rt, linked, section)?;
-    let program = instrs(alloc, written)?;
+    let program = spelled(alloc, written)?;
     assert_eq!(rt; section, OWN as u32);
     assert!(rt; certificate.program() == program.as_slice());
     Ok(())
@@ -182,29 +163,6 @@ tvector data 0 code data
 tvector data 8 code data
 ";
 
-/// The labels of the certificate of the vectors, where more fixups are left first.
-const LABELS: &[u32] = &[
-    2, 1, 2, 3, 2, 3, 3, 2, 3, //
-    3, 2, 3, 2, 3, 3, 3, 3, 3, //
-    2, 1, 2, 2, 2, 2, 2, 2, 2, //
-    1, 1, 1, 1, 1, 1, 1, 1, 1, //
-    0, 0, 0, 0, 0, 0, 0, 0, 0,
-];
-
-/// All labels of a certificate, row by row.
-fn labels(alloc: Global, certificate: &Certificate) -> Result<Vec<u32>, AllocError> {
-    let mut found = Vec::new(alloc);
-    let mut runs = certificate.labels().runs();
-    for _ in 0..certificate.labels().rows() {
-        if let Some(run) = runs.next_run() {
-            for _ in 0..run.rows {
-                found.extend_from_slice(run.labels)?;
-            }
-        }
-    }
-    Ok(found)
-}
-
 /// Tests the certificate of a section: its program, its registers and its labels.
 fn test_certificate(
     rt: &impl Abort,
@@ -240,7 +198,14 @@ fn test_certificates(rt: &impl Abort, alloc: Global, linked: &Linked) -> Result<
     let code = certificate_of(rt, linked, 0)?;
     test_certificate(rt, alloc, code, &[], &[], &[0])?;
     let data = certificate_of(rt, linked, 1)?;
-    test_certificate(rt, alloc, data, &[Instr::TVector8(2)], &[0, 1], LABELS)?;
+    test_certificate(
+        rt,
+        alloc,
+        data,
+        &[Instr::TVector8(2)],
+        &[0, 1],
+        VECTORS_LABELS,
+    )?;
     assert!(rt; linked.certificate(2).is_none());
     assert_eq!(rt; linked.certificates().len(), 2);
     for (k, certificate) in linked.certificates().iter().enumerate() {

@@ -1,8 +1,9 @@
-use crate::lists::{S0, S1, planned};
+use crate::plans::planned;
 use crate::search::least_length;
 use pef_reloc::{Base, Fixup};
 use std::alloc::Global;
 use std::test::Fail;
+use test_data::lists::{S0, S1};
 
 /// The fixups that there can be at 13 offsets with three bases, and one choice more for none.
 const CHOICES: u32 = 40;

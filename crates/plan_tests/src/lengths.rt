@@ -1,9 +1,10 @@
-use crate::lists::{Listed, S0, S1, S2, S3, fixups, planned};
+use crate::plans::planned;
 use pef_cert::check;
 use pef_reloc::Base;
 use std::alloc::Global;
 use std::process::Abort;
 use std::test::Fail;
+use test_data::lists::{Listed, S0, S1, S2, S3, fixups};
 
 /// Plans each list and compares the length of the program. The certificate is a yes.
 fn plan_all(rt: &impl Abort, alloc: Global, rows: &[(Listed, u64)]) -> Result<(), Fail> {

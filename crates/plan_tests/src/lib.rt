@@ -10,7 +10,7 @@ mod labels;
 #[cfg(test)]
 mod lengths;
 #[cfg(test)]
-mod lists;
+mod plans;
 #[cfg(test)]
 mod random;
 #[cfg(test)]

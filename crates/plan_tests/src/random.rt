@@ -1,6 +1,6 @@
 ghost use Rattle.std.specs.Prelude.{◌<◌};
 
-use crate::lists::{S1, planned};
+use crate::plans::planned;
 use crate::reference::{counted_labels, number_at, plain_labels};
 use pef_cert::check;
 use pef_reloc::{Base, Fixup};
@@ -8,6 +8,7 @@ use std::alloc::Global;
 use std::cell::Cell;
 use std::process::Abort;
 use std::test::Fail;
+use test_data::lists::S1;
 
 /// How many fixups a random list gets at least.
 const ENOUGH: usize = 120;

@@ -1,0 +1,53 @@
+//! What tests over linked scripts stand on: scripts are linked, and the names are told that a refusal has.
+#![tactic(auto)]
+
+use cfm_closure::BindFault;
+use pef_script::Script;
+use pef_write::{Linked, link};
+use std::alloc::{AllocError, Global};
+use std::test::Fail;
+
+/// Links a script.
+pub fn link_text(alloc: Global, text: &[u8]) -> Result<Linked, Fail> {
+    let script = Script::read(alloc, text)?;
+    Ok(link(alloc, &script)?)
+}
+
+/// Tells the names that a refusal has, behind a space each: the fragment, its library and the symbol.
+pub fn tell_names(text: &mut String, fault: BindFault<'_>) -> Result<(), AllocError> {
+    match fault {
+        BindFault::Container { fragment, .. } | BindFault::Loader { fragment, .. } => {
+            tell_name(text, fragment)
+        }
+        BindFault::LibraryMissing { fragment, library }
+        | BindFault::ImplementationTooOld { fragment, library }
+        | BindFault::ImplementationTooNew { fragment, library } => {
+            tell_name(text, fragment)?;
+            tell_name(text, library)
+        }
+        BindFault::SymbolMissing {
+            fragment,
+            library,
+            symbol,
+        } => {
+            tell_name(text, fragment)?;
+            tell_name(text, library)?;
+            tell_name(text, symbol)
+        }
+        BindFault::ReexportLoop { fragment, symbol } => {
+            tell_name(text, fragment)?;
+            tell_name(text, symbol)
+        }
+        BindFault::InitLoop { fragment } => tell_name(text, fragment),
+        BindFault::OutOfMemory => Ok(()),
+    }
+}
+
+/// Tells a name behind a space, a byte a character.
+pub fn tell_name(text: &mut String, name: &[u8]) -> Result<(), AllocError> {
+    text.push(' ')?;
+    for byte in name {
+        text.push(char::from(*byte))?;
+    }
+    Ok(())
+}
