@@ -2,7 +2,7 @@
 //!
 //! The format is that of Mac OS Runtime Architectures, "PEF Structure", and of PEFBinaryFormat.h.
 //! [`Loader::read`] judges the section once. The views that it gives are slices of it, so nothing is
-//! copied and nothing is allocated.
+//! copied, and nothing but an [`ImportTable`] takes memory.
 #![tactic(auto)]
 
 mod block;
