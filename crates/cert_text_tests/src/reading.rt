@@ -2,9 +2,7 @@ use crate::texts::TWO_SECTIONS;
 use pef_cert::Certificate;
 use pef_cert_text::read;
 use pef_reloc::Instr;
-use std::alloc::{AllocError, Global};
-use std::fmt::Write;
-use std::process::Abort;
+use std::alloc::Global;
 use std::test::Fail;
 use test_data::labels::{VECTORS_LABELS, labels};
 
