@@ -1,4 +1,4 @@
-ghost use Rattle.std.specs.Prelude.{◌≡◌, ◌+◌, ◌<◌};
+ghost use Rattle.std.specs.Prelude.{◌≡◌, ℕ, ◌+◌, ◌<◌};
 ghost use Rattle.pef_loader.specs.Import.{owner_of};
 ghost use Rattle.pef_loader.specs.Kept.Cursors.{IsTurn};
 ghost use Rattle.pef_loader.specs.Kept.Ranges.{AreInOrder, end_of};
@@ -18,8 +18,8 @@ pub(crate) struct OwnerCursor {
 
 impl OwnerCursor {
     /// At the first library.
-    pub(crate) fn new(cut: Cut<'_>, header: LoaderHeader) -> OwnerCursor
-        ensures { IsTurn cut.entry.bytes.now header.library_count 0 result }
+    pub(crate) fn new(cut: Cut<'_>) -> OwnerCursor
+        ensures { (n : ℕ) → IsTurn cut.entry.bytes.now n 0 result }
     {
         OwnerCursor {
             library: 0,

@@ -297,7 +297,7 @@ fn test_imports_in_order(
     ensures { result_err result
         ≡ first_among (import_refusal cut.entry.bytes.now header) 0 header.import_count }
 {
-    let mut owners = OwnerCursor::new(cut, header);
+    let mut owners = OwnerCursor::new(cut);
     for j in 0..header.import_count as usize {
         let owner = owners.owner(cut, header, j);
         test_import(cut, header, names_end, owner, j)?;

@@ -8,7 +8,7 @@ use Rattle.pef_loader.proofs.tables.test_imports_in_order.Goals as goal
 pub loop-j-init : goal.loop-j-init
 loop-j-init c =
     let all : c.args.header.import_count - 0 ≡ c.args.header.import_count = omega arith in
-    record { left = rw all refl; turn = c.new-owners.ensures }
+    record { left = rw all refl; turn = c.new-owners.ensures c.args.header.library_count }
 
 pub loop-j-preserved : goal.loop-j-preserved
 loop-j-preserved c =
