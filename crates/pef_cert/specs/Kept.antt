@@ -4,4 +4,3 @@ pub mod RowsKept
 pub mod Sets
 pub mod Tests
 pub mod Values
-pub mod Walks
