@@ -1,10 +1,13 @@
-ghost use Rattle.std.specs.Prelude.{◌≡◌, ◌<◌, ◌≤◌, ◌^◌, ◌↔◌, IsTrue};
+ghost use Rattle.std.specs.Prelude.{◌≡◌, ◌<◌, ◌≤◌, ◌^◌, ◌↔◌, IsTrue, option_map};
 ghost use Rattle.pef_loader.specs.Import.{owner_of};
-ghost use Rattle.pef_loader.specs.Library.{owns};
+ghost use Rattle.pef_loader.specs.Library.{library_at, owns};
 ghost use Rattle.pef_loader.specs.Kept.Ranges.{AreInOrder, IsFirstPast, end_of, first_of};
 
 use crate::header::LoaderHeader;
-use crate::library::read_library;
+use crate::layout::{
+    FIRST_IMPORTED_SYMBOL_AT, IMPORTED_SYMBOL_COUNT_AT, LIBRARY_OPTIONS_AT, LIBRARY_SIZE,
+    LOADER_HEADER_SIZE,
+};
 use pef_words::Cut;
 use std::ops::Range;
 
@@ -15,13 +18,28 @@ pub(crate) fn imports_of(cut: Cut<'_>, i: usize) -> Range<usize>
     ensures end { result.end ≡ end_of cut.entry.bytes.now i }
     ensures order { result.start ≤ result.end }
 {
-    match read_library(cut, i) {
-        Some(library) => {
-            let first = library.first as usize;
-            first..first + library.count as usize
+    match read_range(cut, i) {
+        Some((first, count)) => {
+            let first = first as usize;
+            first..first + count as usize
         }
         None => 0..0,
     }
+}
+
+/// The first import of library `i` and how many it has, or `None` where the library passes the end. Walks over
+/// the libraries read no more of them.
+#[tactic(auto, unfolding(crate::specs::Library::library_at, pef_words::specs::Bytes::number_at))]
+fn read_range(cut: Cut<'_>, i: usize) -> Option<(u32, u32)>
+    requires { i < 2 ^ 32 }
+    ensures { result ≡ option_map (λ e. (e.first, e.count)) (library_at cut.entry.bytes.now i) }
+{
+    let at = LOADER_HEADER_SIZE + LIBRARY_SIZE * i;
+    // The last field is only there where all are.
+    cut.u8_at(at + LIBRARY_OPTIONS_AT)?;
+    let count = cut.u32_at(at + IMPORTED_SYMBOL_COUNT_AT)?;
+    let first = cut.u32_at(at + FIRST_IMPORTED_SYMBOL_AT)?;
+    Some((first, count))
 }
 
 /// Whether the imports of each library follow those of the one before it.
