@@ -6,8 +6,6 @@ pub use Rattle.pef_loader.proofs.Loaders.{accepts}
 pub use Rattle.pef_loader.proofs.Loaders.{loaded_of-ok}
 -- each library below their count is there, and its imports are among all
 pub use Rattle.pef_loader.proofs.Loaders.{library_there}
--- each import is there, and its library too
-pub use Rattle.pef_loader.proofs.Loaders.{import_there}
 -- each relocation header is there, and its section is instantiated
 pub use Rattle.pef_loader.proofs.Loaders.{reloc_there}
 -- each export is there, in an instantiated section, absolute, or one of the imports

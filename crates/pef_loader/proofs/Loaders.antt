@@ -18,11 +18,11 @@ use Rattle.pef_loader.specs.declared.fault.LoaderFault.{LoaderFault}
 use Rattle.pef_loader.specs.declared.fault.LoaderFault.TheVariants.{LoaderShort, BadTableOffset, BadEntry, BadExportTable}
 use Rattle.pef_loader.specs.Header.{header_of, is_entry, tables_end}
 use Rattle.pef_loader.specs.Library.{Library, library_at, library_in, library_refusal, library_tests, owns}
-use Rattle.pef_loader.specs.Import.{Import, import_at, import_in, import_refusal, import_tests, owner_at, owner_of}
+use Rattle.pef_loader.specs.Import.{import_at, import_refusal, import_tests, owner_at, owner_of}
 use Rattle.pef_loader.specs.Reloc.{instructions_of, reloc_at, reloc_in, reloc_refusal, reloc_tests}
 use Rattle.pef_loader.specs.Export.{Export, export_in, export_refusal, export_table, export_tests, has_exports, has_section}
 use Rattle.pef_loader.specs.Kept.Accepted.{IsAccepted}
-use Rattle.pef_loader.specs.Loader.{IsLoader, Loaded, export_of, fault_if, has_entries, import_of, judged, library_of, loaded_of, named_of, reloc_of}
+use Rattle.pef_loader.specs.Loader.{IsLoader, Loaded, export_of, fault_if, has_entries, judged, library_of, loaded_of, named_of, reloc_of}
 
 unless_ok : {A F : Type 0} (fault : Option F) (r : Result A F) (x : A) → unless fault r ≡ Ok x → (fault ≡ None) × (r ≡ Ok x)
 unless_ok None r x ok = (refl, ok)
@@ -142,17 +142,6 @@ import_owned l j ok under =
     let part = refused_not (import_at l.bytes l.header j) (λ e. import_tests l.bytes l.header j e) BadTableOffset (none_among (import_refusal l.bytes l.header) 0 l.header.import_count j (accepted l ok).imports (omega arith) (omega arith)) in
     let name = first_unmet (is_none (name_at l.bytes (l.header.strings_offset + part.0.name_offset))) _ _ part.2 in
     some_if _ (first_unmet (is_none (owner_of l.bytes l.header j)) _ _ name.1).0
-
-pub import_there : (l : Loaded) (j : ℕ) → IsLoader l → j < l.header.import_count
-    → (x : Import) × (import_of l j ≡ Some x) × (x.library < l.header.library_count)
-unfolding import_of import_in
-import_there l j ok under =
-    let is = import_is l j ok under in
-    let owner = import_owned l j ok under in (
-      record { name = is.2.name; class = is.0.class; weak = is.0.weak; library = owner.0 },
-      rw (lt-ltb j l.header.import_count under, is.1, is.2.named, owner.1) refl,
-      owner-below l.bytes l.header j owner.0 owner.1,
-    )
 
 -- each relocation header is there, of an instantiated section, and its instructions lie inside
 pub record IsReloc (l : Loaded) (entry : RelocEntry) : Type 0 where
