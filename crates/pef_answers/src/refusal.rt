@@ -2,7 +2,7 @@ ghost use Rattle.std.specs.Prelude.{◌≡◌, ◌≤◌, ◌+◌, ◌++◌, len
 ghost use Rattle.arrayvec.specs.ArrayVec.{array_vec_len};
 ghost use Rattle.pef_ports.specs.Sent.{Sends};
 ghost use Rattle.pef_answers.specs.Answers.{answer_refused};
-ghost use Rattle.pef_answers.specs.Kept.Faults.{certificate_refusal, input_refusal, script_refusal};
+ghost use Rattle.pef_answers.specs.Told.{certificate_refusal, input_refusal, script_refusal};
 ghost use Rattle.pef_answers.specs.Refusals.{name_end, name_of, named_refusal_start, named_refusal_text, number_of, place_of, refusal_text, refused_name, refused_text};
 
 use crate::reply::{REFUSED, Reply};

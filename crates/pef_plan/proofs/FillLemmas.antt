@@ -23,7 +23,7 @@ use Rattle.pef_cert.proofs.Laws.{Numbers, RegisteredBase, World, all_registered,
 use Rattle.pef_runs.specs.declared.known.Known.{Known}
 use Rattle.pef_runs.specs.declared.place.At.{At}
 use Rattle.pef_runs.specs.declared.ends.RunEnds.{RunEnds}
-use Rattle.pef_runs.specs.Kept.Ends.{EndsAt, EndsOf}
+use Rattle.pef_runs.specs.Ends.{EndsAt, EndsOf}
 use Rattle.pef_runs.specs.Places.{AtOf, Counts}
 use Rattle.pef_plan.specs.Kept.Rows.{RowOf, SkipsOf}
 use Rattle.pef_squares.specs.Squares.{number_in}

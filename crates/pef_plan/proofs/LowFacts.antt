@@ -11,7 +11,7 @@ use Rattle.pef_runs.specs.declared.runs.Run.TheVariants.{Skip}
 use Rattle.pef_runs.specs.declared.place.At.{At}
 use Rattle.pef_runs.specs.declared.ends.RunEnds.{RunEnds}
 use Rattle.pef_runs.specs.Runs.{EndOf, Ends, Holds}
-use Rattle.pef_runs.specs.Kept.Ends.{EndsAt}
+use Rattle.pef_runs.specs.Ends.{EndsAt}
 use Rattle.pef_runs.specs.Leads.{LeadsWithin}
 use Rattle.pef_runs.specs.Places.{AtOf, Counts, HereOf, Led}
 use Rattle.pef_plan.specs.Kept.Rows.{DirectIs}

@@ -1,7 +1,7 @@
 ghost use Rattle.std.specs.Prelude.{◌≡◌, ◌+◌, ◌*◌, ◌==◌, ◌<◌, ◌≤◌, ◌∷◌, ℕ, length, true};
 ghost use Rattle.pef_cert.specs.Labels.{Labels, class_of};
 ghost use Rattle.pef_cert.specs.Kept.Tests.{base_test, second_test};
-ghost use Rattle.pef_runs.specs.Kept.Ends.{EndsAt};
+ghost use Rattle.pef_runs.specs.Ends.{EndsAt};
 ghost use Rattle.pef_runs.specs.Runs.{Holds, NextBase};
 ghost use Rattle.pef_runs.specs.Places.{HereOf, Led};
 ghost use Rattle.pef_plan.specs.Kept.Met.{MetInC, MetInD, PairsMet};

@@ -1,7 +1,7 @@
 ghost use Rattle.std.specs.Prelude.{◌≡◌, ◌+◌, ◌*◌, ◌<◌, ◌≤◌, ◌∷◌, ℕ, Some, length, slice_index};
 ghost use Rattle.pef_cert.specs.Extension.{extension, skips_at};
 ghost use Rattle.pef_cert.specs.Labels.{Labels, class_of};
-ghost use Rattle.pef_runs.specs.Kept.Ends.{EndsAt};
+ghost use Rattle.pef_runs.specs.Ends.{EndsAt};
 ghost use Rattle.pef_runs.specs.Places.{AtOf, Chosen, HereOf};
 ghost use Rattle.pef_plan.specs.Kept.Rows.{SkipsOf};
 ghost use Rattle.pef_runs.specs.Runs.{Holds};

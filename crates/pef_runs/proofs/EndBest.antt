@@ -11,10 +11,10 @@ use Rattle.pef_runs.specs.declared.runs.Run.TheVariants.{WordsOfC, WordsOfD, Spa
 use Rattle.pef_runs.specs.declared.ends.RunEnds.{RunEnds}
 use Rattle.pef_squares.specs.declared.window.Window.{Window}
 use Rattle.pef_runs.specs.Runs.{Begins, EndAmong, EndOf, Ends, EndsFrom, Holds, NextBase, RunOf, limit, stride, units}
-use Rattle.pef_runs.specs.Kept.Ends.{EndRows, EndsAt, FarPairsAt, FarPairsKept, Holding, PairsAt, PairsKept, SkipsAt, SkipsKept, SpacedAt, SpacedKept, WordsAt, WordsKept, window_of}
+use Rattle.pef_runs.specs.Ends.{EndRows, EndsAt, FarPairsAt, FarPairsKept, Holding, PairsAt, PairsKept, SkipsAt, SkipsKept, SpacedAt, SpacedKept, WordsAt, WordsKept, window_of}
 use Rattle.pef_runs.specs.Places.{HereOf, Led}
 use Rattle.pef_runs.specs.Tables.{Agrees}
-use Rattle.pef_squares.specs.Kept.Windows.{BestOf, IsOne, WindowOf}
+use Rattle.pef_squares.specs.Windows.{BestOf, IsOne, WindowOf}
 use Rattle.pef_runs.proofs.EndLemmas.{as_c, as_d, as_far, as_pairs, as_skip, as_spaced, best-led, best_end, best_ends, end_as, ends_as}
 use Rattle.pef_squares.proofs.Laws.{each-lower}
 

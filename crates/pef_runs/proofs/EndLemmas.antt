@@ -13,14 +13,14 @@ use Rattle.pef_runs.specs.declared.place.Choice.{Choice}
 use Rattle.pef_runs.specs.declared.runs.Run.{Run}
 use Rattle.pef_runs.specs.declared.runs.Run.TheVariants.{WordsOfC, WordsOfD, Spaced, Pairs, SpacedPairs, Skip}
 use Rattle.pef_squares.specs.declared.window.Window.{Window}
-use Rattle.pef_runs.specs.Kept.Ends.{Brought, EndRows}
+use Rattle.pef_runs.specs.Ends.{Brought, EndRows}
 use Rattle.pef_runs.specs.Runs.{EndAmong, EndsFrom, RunOf, imports, limit, run_instr, stride, unit, units}
 use Rattle.pef_runs.specs.Leads.{LeadsWithin}
 use Rattle.pef_runs.specs.Places.{Chosen, InPlace, Led, extension_in}
 use Rattle.pef_runs.specs.Kept.Runs.{Next}
 use Rattle.pef_squares.specs.Squares.{number_in}
 use Rattle.pef_runs.specs.Tables.{Agrees}
-use Rattle.pef_squares.specs.Kept.Windows.{AtMostEach, BestOf, IsOne, WindowOf}
+use Rattle.pef_squares.specs.Windows.{AtMostEach, BestOf, IsOne, WindowOf}
 use Rattle.pef_runs.proofs.RunFacts.{no_ends, run-adds, run-flat, run-next, run-one, units-more, units-none, units_c, units_d, units_far, units_pairs, units_skip, units_spaced}
 
 -- the extension at a state in a place

@@ -17,10 +17,10 @@ use Rattle.pef_runs.specs.declared.ends.RunEnds.{RunEnds}
 use Rattle.pef_runs.specs.declared.known.Known.{Known}
 use Rattle.pef_runs.specs.declared.place.Place.{Place}
 use Rattle.pef_runs.specs.declared.place.At.{At}
-use Rattle.pef_runs.specs.Kept.Ends.{Brought, BroughtMaybe, EndRows, EndsAt, EndsOf, FarAt, FarKept, FarPairsAt, FarPairsKept, Holding, HoldingTwo, NearKept, PairsAt, PairsKept, SkipsAt, SkipsKept, SpacedAt, SpacedKept, WordsAt, WordsKept, far_pairs_of, number_of, pairs_of, rest_of, second_of, sections_of, words_of}
+use Rattle.pef_runs.specs.Ends.{Brought, BroughtMaybe, EndRows, EndsAt, EndsOf, FarAt, FarKept, FarPairsAt, FarPairsKept, Holding, HoldingTwo, NearKept, PairsAt, PairsKept, SkipsAt, SkipsKept, SpacedAt, SpacedKept, WordsAt, WordsKept, far_pairs_of, number_of, pairs_of, rest_of, second_of, sections_of, words_of}
 use Rattle.pef_runs.specs.Places.{AtOf}
 use Rattle.pef_runs.specs.Tables.{Agrees}
-use Rattle.pef_squares.specs.Kept.Windows.{WindowOf}
+use Rattle.pef_squares.specs.Windows.{WindowOf}
 
 -- what a call that brings a window to a place says of it
 abbrev pub Brings : Run → Place → List (List ℕ) → Window → Window → Type 0

@@ -3,9 +3,9 @@ ghost use Rattle.pef_cert.specs.Extension.{extension};
 ghost use Rattle.pef_cert.specs.Labels.{Labels};
 ghost use Rattle.pef_runs.specs.Places.{AtOf, HereOf, Led};
 ghost use Rattle.pef_runs.specs.Runs.{Begins, EndOf, Ends, RunOf};
-ghost use Rattle.pef_runs.specs.Kept.Ends.{Brought, BroughtMaybe, EndsAt, EndsOf, FarAt, NearKept, far_pairs_of, number_of, pairs_of, sections_of, window_of, words_of};
+ghost use Rattle.pef_runs.specs.Ends.{Brought, BroughtMaybe, EndsAt, EndsOf, FarAt, NearKept, far_pairs_of, number_of, pairs_of, sections_of, window_of, words_of};
 ghost use Rattle.pef_runs.specs.Tables.{Agrees};
-ghost use Rattle.pef_squares.specs.Kept.Windows.{WindowOf};
+ghost use Rattle.pef_squares.specs.Windows.{WindowOf};
 ghost use Rattle.pef_reloc.specs.declared.fixup.Base.TheVariants.{Section};
 
 use crate::known::Known;

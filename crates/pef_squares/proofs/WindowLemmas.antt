@@ -9,7 +9,7 @@ use Rattle.std.specs.List.{slice_get}
 use Rattle.std.proofs.lemmas.List.{append-nil, append_assoc, get_or-take, length-reverse, length-take, reverse-append, take-append-le, take-take, take_all}
 use Rattle.pef_squares.specs.declared.window.Window.{Window}
 use Rattle.pef_squares.specs.Squares.{number_in}
-use Rattle.pef_squares.specs.Kept.Windows.{AtMostEach, BestOf, IsOne, LesserOf, LowIn, LowSquare, OlderOf, WindowOf}
+use Rattle.pef_squares.specs.Windows.{AtMostEach, BestOf, IsOne, LesserOf, LowIn, LowSquare, OlderOf, WindowOf}
 
 min_is : (v w : ℕ) → (min v w ≡ v) ⊎ (min v w ≡ w)
 min_is v w = grind arith

@@ -1,2 +1,1 @@
 pub mod SquaresKept
-pub mod Windows

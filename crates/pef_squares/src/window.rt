@@ -1,5 +1,5 @@
 ghost use Rattle.std.specs.Prelude.{◌≡◌, ◌+◌, ◌-◌, ◌<◌, ◌≤◌, ◌⊎◌, ◌++◌, ◌∷◌, ℕ, [], List, OnOk, length, min, reverse, slice_index, take, vec_len};
-ghost use Rattle.pef_squares.specs.Kept.Windows.{BestOf, LesserOf, LowSquare, OlderOf, WindowOf};
+ghost use Rattle.pef_squares.specs.Windows.{BestOf, LesserOf, LowSquare, OlderOf, WindowOf};
 
 use crate::square::{Line, MAX_CLASSES, Square};
 use std::alloc::{AllocError, Global};

@@ -15,7 +15,7 @@ use Rattle.pef_script.specs.Views.{Fails}
 use Rattle.pef_script.specs.declared.fault.ScriptFault.{ScriptFault}
 use Rattle.pef_script.specs.declared.fault.ScriptFault.TheVariants as script_fault
 use Rattle.pef_tool.specs.Check.{AreVerdicts, DiffersInSections, HasVerdicts, IsVerdict, Judges, JudgesFiles, ReadsSecond, Texts, match_sections}
-use Rattle.pef_answers.specs.Kept.Faults.{certificate_refusal, script_refusal}
+use Rattle.pef_answers.specs.Told.{certificate_refusal, script_refusal}
 use Rattle.pef_answers.specs.declared.refusal.Refusal.{Refusal}
 use Rattle.pef_tool.specs.declared.check.Verdict.{Verdict}
 

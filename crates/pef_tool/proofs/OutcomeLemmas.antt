@@ -14,7 +14,7 @@ use Rattle.pef_script.specs.declared.fault.ScriptFault.{ScriptFault}
 use Rattle.pef_script.specs.declared.fault.ScriptFault.TheVariants as script_fault
 use Rattle.pef_answers.specs.Answers.{answer_refused}
 use Rattle.pef_tool.specs.Check as check
-use Rattle.pef_answers.specs.Kept.Faults.{input_refusal, script_refusal}
+use Rattle.pef_answers.specs.Told.{input_refusal, script_refusal}
 use Rattle.pef_tool.specs.Distances as distances
 use Rattle.pef_tool.specs.Kept.Showing.{ScriptEnds}
 use Rattle.pef_tool.specs.Limits.{input_limit}

@@ -1,6 +1,6 @@
 use Rattle.std.proofs.Common.{◌≤◌, ◌+◌, drop, length, take}
 use Rattle.pef_reloc.specs.Deliveries.{index_after}
-use Rattle.pef_runs.specs.Kept.Ends.{EndsOf}
+use Rattle.pef_runs.specs.Ends.{EndsOf}
 use Rattle.pef_runs.specs.Tables.{SameLabels}
 use Rattle.pef_plan.specs.Kept.Tables.{Tabled}
 use Rattle.pef_plan.proofs.tables.fill.Given as goal

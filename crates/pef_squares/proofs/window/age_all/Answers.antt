@@ -1,6 +1,6 @@
 use Rattle.std.proofs.Common.{◌++◌, ◌∷◌, [], List, ℕ, subst, sym}
 use Rattle.std.specs.Prelude.{reverse}
-use Rattle.pef_squares.specs.Kept.Windows.{LowSquare, OlderOf}
+use Rattle.pef_squares.specs.Windows.{LowSquare, OlderOf}
 use Rattle.pef_squares.proofs.WindowLemmas.{Aged, aged-next}
 use Rattle.pef_squares.proofs.window.age_all.Goals as goal
 

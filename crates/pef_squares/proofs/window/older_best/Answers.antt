@@ -1,5 +1,5 @@
 use Rattle.std.proofs.Common.{◌+◌, ◌∙◌, ℕ, ap, min, subst, sym}
-use Rattle.pef_squares.specs.Kept.Windows.{BestOf}
+use Rattle.pef_squares.specs.Windows.{BestOf}
 use Rattle.pef_squares.proofs.WindowLemmas.{best-older}
 use Rattle.pef_squares.proofs.window.older_best.Goals as goal
 

@@ -1,5 +1,5 @@
 use Rattle.std.proofs.Common.{◌+◌, ◌∙◌, ◌<◌, ℕ, List, ap, arith, min, subst, sym}
-use Rattle.pef_squares.specs.Kept.Windows.{BestOf, OlderOf}
+use Rattle.pef_squares.specs.Windows.{BestOf, OlderOf}
 use Rattle.std.proofs.lemmas.Grind.{common_steps}
 use Rattle.pef_squares.proofs.WindowLemmas.{window-best, window-best_older}
 use Rattle.pef_squares.proofs.window.Window.best.Goals as goal

@@ -14,7 +14,7 @@ use Rattle.pef_runs.specs.declared.ends.RunEnds.{RunEnds}
 use Rattle.pef_runs.specs.Runs.{imports, stride, unit}
 use Rattle.pef_squares.specs.Squares.{number_in}
 use Rattle.pef_runs.specs.Tables.{Agrees}
-use Rattle.pef_squares.specs.Kept.Windows.{WindowOf}
+use Rattle.pef_squares.specs.Windows.{WindowOf}
 
 -- squares have the extension behind each end of a run, of up to so many units, the shortest first, at a
 -- pair of classes
