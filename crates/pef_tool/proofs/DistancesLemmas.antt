@@ -13,10 +13,10 @@ use Rattle.pef_script.specs.Script.{DescribedScript, DescribedSection}
 use Rattle.pef_script.specs.WellFormed.{SectionHolds}
 use Rattle.pef_words.proofs.Laws.Tests.{both_met}
 use Rattle.pef_write.specs.Linked.{AreCertified, IsLinked, LinkedContainer}
-use Rattle.pef_tool.specs.Check.{AreVerdicts, Judges, Texts, are_numbered, match_sections}
+use Rattle.pef_verdicts.specs.Check.{AreVerdicts, Judges, Texts, are_numbered, match_sections}
 use Rattle.pef_tool.specs.Distances.{IsYesToAll, LinksFile}
-use Rattle.pef_tool.specs.declared.check.Verdict.{Verdict}
-use Rattle.pef_tool.specs.declared.check.Verdict.TheVariants.{Yes, No}
+use Rattle.pef_verdicts.specs.declared.check.Verdict.{Verdict}
+use Rattle.pef_verdicts.specs.declared.check.Verdict.TheVariants.{Yes, No}
 use Rattle.pef_answers.specs.declared.refusal.Refusal.{Refusal}
 use Rattle.pef_answers.specs.declared.refusal.Refusal.TheVariants.{Script, Listing, BadCertificate, SectionsDiffer, InputUnreadable, InputTooLong, OutOfMemory}
 

@@ -1,5 +1,4 @@
 mod AloneLemmas
-mod CheckLemmas
 mod DescribedLemmas
 mod DistancesLemmas
 mod LeastLemmas

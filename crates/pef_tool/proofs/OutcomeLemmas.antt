@@ -13,7 +13,7 @@ use Rattle.pef_script.specs.Views.{Fails}
 use Rattle.pef_script.specs.declared.fault.ScriptFault.{ScriptFault}
 use Rattle.pef_script.specs.declared.fault.ScriptFault.TheVariants as script_fault
 use Rattle.pef_answers.specs.Answers.{answer_refused}
-use Rattle.pef_tool.specs.Check as check
+use Rattle.pef_verdicts.specs.Check as check
 use Rattle.pef_answers.specs.Told.{input_refusal, script_refusal}
 use Rattle.pef_tool.specs.Distances as distances
 use Rattle.pef_tool.specs.Kept.Showing.{ScriptEnds}

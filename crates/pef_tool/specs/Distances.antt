@@ -11,8 +11,8 @@ use Rattle.pef_script.specs.Script.{DescribedScript}
 use Rattle.pef_answers.specs.Answers.{Answer, answer_done, answer_refused}
 use Rattle.pef_tool.specs.Link.{RefusesFile}
 use Rattle.pef_answers.specs.Refusals.{refusal_text, unreadable_text}
-use Rattle.pef_tool.specs.declared.check.Verdict.{Verdict}
-use Rattle.pef_tool.specs.declared.check.Verdict.TheVariants.{Yes}
+use Rattle.pef_verdicts.specs.declared.check.Verdict.{Verdict}
+use Rattle.pef_verdicts.specs.declared.check.Verdict.TheVariants.{Yes}
 use Rattle.pef_answers.specs.declared.refusal.Refusal.{Refusal}
 use Rattle.pef_answers.specs.declared.refusal.Refusal.TheVariants.{Script, OutOfMemory}
 use Rattle.pef_write.specs.Linked.{IsLinked, LinkedContainer}

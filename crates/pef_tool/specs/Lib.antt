@@ -1,4 +1,3 @@
-pub mod Check
 pub mod Distances
 pub mod Fragment
 pub mod Kept

@@ -3,7 +3,7 @@ use Rattle.std.specs.Prelude.{◌≡◌, ◌⊎◌, Option, None, Some}
 use Rattle.pef_ports.specs.Ports.{FilesPort, Stream}
 use Rattle.pef_request.specs.Requests.{Asked, check, distances, link, list, load, show}
 use Rattle.pef_answers.specs.Answers.{Answer, answer_refused, answer_usage}
-use Rattle.pef_tool.specs.Check.{CheckAnswers}
+use Rattle.pef_verdicts.specs.Check.{CheckAnswers}
 use Rattle.pef_tool.specs.Distances.{DistancesAnswers}
 use Rattle.pef_tool.specs.Link.{LinkAnswers}
 use Rattle.pef_tool.specs.List.{ListAnswers}

@@ -4,7 +4,6 @@ ghost use Rattle.pef_request.specs.Requests.{asked_of};
 ghost use Rattle.pef_answers.specs.Answers.{Answer, Delivers};
 ghost use Rattle.pef_tool.specs.Run.{RunAnswers};
 
-use crate::check::check_files;
 use crate::distances::print_distances;
 use crate::link::link_files;
 use crate::list::list_file;
@@ -13,6 +12,7 @@ use crate::show::show;
 use pef_answers::{Refusal, Usage, deliver};
 use pef_ports::{Files, Sink, Source};
 use pef_request::{Request, WordsFault, read_words};
+use pef_verdicts::check_files;
 use std::alloc::Global;
 
 /// Runs the command that the words ask for, of which the first is the program's name.

@@ -22,12 +22,12 @@ ghost use Rattle.pef_pidata.specs.declared.fault.PackFault.{PackFault};
 ghost use Rattle.pef_reloc.specs.declared.fault.RelocFault.{RelocFault};
 ghost use Rattle.pef_script.specs.Grammar.{script_of};
 ghost use Rattle.pef_script.specs.Script.{DescribedScript, DescribedSection};
-ghost use Rattle.pef_tool.specs.Check.{Judges, Texts};
+ghost use Rattle.pef_verdicts.specs.Check.{Judges, Texts};
 ghost use Rattle.pef_tool.specs.Distances.{IsYesToAll};
 ghost use Rattle.pef_tool.specs.Least.{HasLeast};
 ghost use Rattle.pef_tool.specs.Now.{HasUnlinked, IsDescribedNow, IsUnlinked};
 ghost use Rattle.pef_views.specs.declared.fault.ViewFault.{ViewFault};
-ghost use Rattle.pef_tool.specs.declared.check.Verdict.{Verdict};
+ghost use Rattle.pef_verdicts.specs.declared.check.Verdict.{Verdict};
 ghost use Rattle.pef_answers.specs.declared.refusal.Refusal.{Refusal};
 ghost use Rattle.pef_write.specs.Linked.{IsLinked, LinkedContainer};
 

@@ -1,7 +1,7 @@
 -- The script, then the certificates, then their sections decide.
-use Rattle.pef_tool.specs.Check.{Texts}
-use Rattle.pef_tool.proofs.CheckLemmas.{no_certificates_judged, sections_differ, verdicts_judged}
-use Rattle.pef_tool.proofs.check.check_texts.Goals as goal
+use Rattle.pef_verdicts.specs.Check.{Texts}
+use Rattle.pef_verdicts.proofs.CheckLemmas.{no_certificates_judged, sections_differ, verdicts_judged}
+use Rattle.pef_verdicts.proofs.check.check_texts.Goals as goal
 
 pub returns-in-Err-read : goal.returns-in-Err-read
 returns-in-Err-read c =

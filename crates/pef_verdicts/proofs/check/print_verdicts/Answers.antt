@@ -2,9 +2,9 @@
 use Rattle.std.proofs.Common.{◌≡◌, ◌+◌, ◌++◌, drop, sym, ap, ◌∙◌}
 use Rattle.std.proofs.lemmas.List.{at_drop_more, drop_all}
 use Rattle.pef_ports.proofs.Laws.Sending.{Sends-short, sent-all, sent-nothing, sent-piece, sent-short}
-use Rattle.pef_tool.specs.Check.{verdicts_text}
-use Rattle.pef_tool.specs.declared.check.Verdict.TheVariants.{Yes}
-use Rattle.pef_tool.proofs.check.print_verdicts.Goals as goal
+use Rattle.pef_verdicts.specs.Check.{verdicts_text}
+use Rattle.pef_verdicts.specs.declared.check.Verdict.TheVariants.{Yes}
+use Rattle.pef_verdicts.proofs.check.print_verdicts.Goals as goal
 
 pub loop-k-init : goal.loop-k-init
 loop-k-init g c = sent-nothing (g.W.Sink.stream c.args.out.now) c.args.page.now.items (verdicts_text 0 c.args.verdicts.now)

@@ -12,8 +12,8 @@ use Rattle.pef_script.specs.Grammar.{script_of}
 use Rattle.pef_script.specs.Script.{DescribedScript, DescribedSection}
 use Rattle.pef_answers.specs.Answers.{Answer, answer_refused}
 use Rattle.pef_answers.specs.Refusals.{refusal_text, unreadable_text}
-use Rattle.pef_tool.specs.declared.check.Verdict.{Verdict}
-use Rattle.pef_tool.specs.declared.check.Verdict.TheVariants.{Yes, No}
+use Rattle.pef_verdicts.specs.declared.check.Verdict.{Verdict}
+use Rattle.pef_verdicts.specs.declared.check.Verdict.TheVariants.{Yes, No}
 use Rattle.pef_answers.specs.declared.refusal.Refusal.{Refusal}
 use Rattle.pef_answers.specs.declared.refusal.Refusal.TheVariants.{BadCertificate, OutOfMemory, Script, SectionsDiffer}
 

@@ -1,6 +1,6 @@
 use Rattle.std.proofs.Common.{◌≡◌, drop}
-use Rattle.pef_tool.specs.Check.{are_numbered}
-use Rattle.pef_tool.proofs.check.are_numbered.Given as goal
+use Rattle.pef_verdicts.specs.Check.{are_numbered}
+use Rattle.pef_verdicts.proofs.check.are_numbered.Given as goal
 
 -- those that are left decide
 abbrev pub invariant-loop-k : goal.invariant-loop-k

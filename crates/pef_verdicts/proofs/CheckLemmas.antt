@@ -14,10 +14,10 @@ use Rattle.pef_script.specs.Grammar.{script_of}
 use Rattle.pef_script.specs.Views.{Fails}
 use Rattle.pef_script.specs.declared.fault.ScriptFault.{ScriptFault}
 use Rattle.pef_script.specs.declared.fault.ScriptFault.TheVariants as script_fault
-use Rattle.pef_tool.specs.Check.{AreVerdicts, DiffersInSections, HasVerdicts, IsVerdict, Judges, JudgesFiles, ReadsSecond, Texts, match_sections}
+use Rattle.pef_verdicts.specs.Check.{AreVerdicts, DiffersInSections, HasVerdicts, IsVerdict, Judges, JudgesFiles, ReadsSecond, Texts, match_sections}
 use Rattle.pef_answers.specs.Told.{certificate_refusal, script_refusal}
 use Rattle.pef_answers.specs.declared.refusal.Refusal.{Refusal}
-use Rattle.pef_tool.specs.declared.check.Verdict.{Verdict}
+use Rattle.pef_verdicts.specs.declared.check.Verdict.{Verdict}
 
 -- verdicts on the first k certificates: with verdicts on the others they are verdicts on all
 abbrev pub AreSoFar : List DescribedSection → List Certified → ℕ → List Verdict → Type 0

@@ -1,8 +1,8 @@
 -- Each certificate has a section, and each turn says one verdict more.
 use Rattle.std.proofs.Common.{◌+◌, List, sym, subst}
-use Rattle.pef_tool.specs.declared.check.Verdict.{Verdict}
-use Rattle.pef_tool.proofs.CheckLemmas.{AreSoFar, all_said, none_said, one_said}
-use Rattle.pef_tool.proofs.check.check_sections.Goals as goal
+use Rattle.pef_verdicts.specs.declared.check.Verdict.{Verdict}
+use Rattle.pef_verdicts.proofs.CheckLemmas.{AreSoFar, all_said, none_said, one_said}
+use Rattle.pef_verdicts.proofs.check.check_sections.Goals as goal
 
 pub loop-k-init : goal.loop-k-init
 loop-k-init c = none_said c.args.script.now.sections c.args.certificates.now c.new-verdicts.result.items c.new-verdicts.ensures.items

@@ -1,11 +1,11 @@
 -- Both files are read, and their texts decide.
 use Rattle.std.proofs.Common.{Ok, Err, inl, inr, refl}
 use Rattle.pef_answers.specs.Answers.{answer_refused}
-use Rattle.pef_tool.specs.Check.{judged_answer, judges, lacks_memory, no_certificates}
+use Rattle.pef_verdicts.specs.Check.{judged_answer, judges, lacks_memory, no_certificates}
 use Rattle.pef_answers.specs.Refusals.{refusal_text, unreadable_text}
 use Rattle.pef_answers.specs.declared.refusal.Refusal.TheVariants.{OutOfMemory}
-use Rattle.pef_tool.proofs.CheckLemmas.{files_judged, second_read}
-use Rattle.pef_tool.proofs.check.check_files.Goals as goal
+use Rattle.pef_verdicts.proofs.CheckLemmas.{files_judged, second_read}
+use Rattle.pef_verdicts.proofs.check.check_files.Goals as goal
 
 pub returns-in-Err-OutOfMemory : goal.returns-in-Err-OutOfMemory
 returns-in-Err-OutOfMemory g c =
