@@ -12,8 +12,9 @@ use Rattle.cfm_prepare.specs.Fragments.{Present, extents_in, places_of}
 abbrev pub present_of : List Present → ℕ → Present
 present_of all p = record { position = p; places = places_of all p }
 
--- a fragment's sections were placed, as its container says, in a memory as it was then; and in the memory of now
--- each has what it is prepared to, with the addresses that its sections and its imports' targets have now
+-- a fragment's sections were placed, as its container says, in some memory (in which one, says the preparation that
+-- placed them, `Prepares`; and that they stay, the law `kept_fragments`); and in the memory of now each has what it is
+-- prepared to, with the addresses that its sections and its imports' targets have now
 pub record IsPreparedNow (pairs : List Pair) (s : State) (p : ℕ) : Type 0 where
   pub before : Layout
   pub empty : Layout

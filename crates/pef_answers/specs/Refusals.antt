@@ -11,8 +11,8 @@ use Rattle.pef_cert_text.specs.declared.fault.CertFault.TheVariants as cert_faul
 use Rattle.pef_listing.specs.Faults as listing
 use Rattle.pef_ports.specs.Names.{name_text}
 use Rattle.pef_script.specs.Faults as script
-use Rattle.pef_answers.specs.declared.refusal.NamedRefusal.{NamedRefusal}
-use Rattle.pef_answers.specs.declared.refusal.NamedRefusal.TheVariants.{FileUnreadable, FileUnwritable}
+use Rattle.pef_answers.specs.declared.refusal.FileRefusal.{FileRefusal}
+use Rattle.pef_answers.specs.declared.refusal.FileRefusal.TheVariants.{Unreadable, Unwritable}
 use Rattle.pef_answers.specs.declared.refusal.Refusal.{Refusal}
 use Rattle.pef_answers.specs.declared.refusal.Refusal.TheVariants.{Script, Listing, BadCertificate, SectionsDiffer, InputUnreadable, InputTooLong, OutOfMemory}
 
@@ -112,24 +112,32 @@ prepare_refusal_text fault = unprepared_text fault
 abbrev pub name_end : List ℕ → List ℕ
 name_end name = name_text name ++ 10 ∷ []
 
--- what the line of a refusal with a name begins with
-abbrev pub named_refusal_start : NamedRefusal → List ℕ
-named_refusal_start (FileUnreadable path) = codes "refused 71 FileUnreadable "
-named_refusal_start (FileUnwritable path) = codes "refused 72 FileUnwritable "
+-- the number and the name of a refusal over a file, and the file's path
 
--- the path of a file that failed
-abbrev pub refused_name : NamedRefusal → List ℕ
-refused_name (FileUnreadable path) = path.now
-refused_name (FileUnwritable path) = path.now
+abbrev pub file_number_of : FileRefusal → ℕ
+file_number_of (Unreadable path) = 71
+file_number_of (Unwritable path) = 72
 
--- the line of a refusal with a name
-abbrev pub named_refusal_text : NamedRefusal → List ℕ
-named_refusal_text refusal = named_refusal_start refusal ++ name_end (refused_name refusal)
+abbrev pub file_name_of : FileRefusal → List ℕ
+file_name_of (Unreadable path) = codes "FileUnreadable"
+file_name_of (Unwritable path) = codes "FileUnwritable"
+
+abbrev pub path_of : FileRefusal → List ℕ
+path_of (Unreadable path) = path.now
+path_of (Unwritable path) = path.now
+
+-- what the line of such a refusal begins with: what each begins with, and a space
+abbrev pub file_refusal_start : ℕ → List ℕ → List ℕ
+file_refusal_start number name = refused_text number name ++ codes " "
+
+-- the line of a refusal over a file
+abbrev pub file_refusal_text : FileRefusal → List ℕ
+file_refusal_text refusal = file_refusal_start (file_number_of refusal) (file_name_of refusal) ++ name_end (path_of refusal)
 
 -- the line of a file that couldn't be read
 abbrev pub unreadable_text : List ℕ → List ℕ
-unreadable_text path = codes "refused 71 FileUnreadable " ++ name_end path
+unreadable_text path = file_refusal_start 71 (codes "FileUnreadable") ++ name_end path
 
 -- the line of a file that couldn't be written
 abbrev pub unwritable_text : List ℕ → List ℕ
-unwritable_text path = codes "refused 72 FileUnwritable " ++ name_end path
+unwritable_text path = file_refusal_start 72 (codes "FileUnwritable") ++ name_end path

@@ -11,6 +11,6 @@ mod reply;
 
 pub use bind_refusal::print_behind;
 pub use refusal::{
-    NamedRefusal, Refusal, certificate_refusal, input_refusal, print_name_end, script_refusal,
+    FileRefusal, Refusal, certificate_refusal, input_refusal, print_name_end, script_refusal,
 };
 pub use reply::{DONE, REFUSED, Reply, Usage, deliver};

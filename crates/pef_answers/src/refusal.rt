@@ -3,7 +3,7 @@ ghost use Rattle.arrayvec.specs.ArrayVec.{array_vec_len};
 ghost use Rattle.pef_ports.specs.Sent.{Sends};
 ghost use Rattle.pef_answers.specs.Answers.{answer_refused};
 ghost use Rattle.pef_answers.specs.Told.{certificate_refusal, input_refusal, script_refusal};
-ghost use Rattle.pef_answers.specs.Refusals.{name_end, name_of, named_refusal_start, named_refusal_text, number_of, place_of, refusal_text, refused_name, refused_text};
+ghost use Rattle.pef_answers.specs.Refusals.{file_name_of, file_number_of, file_refusal_start, file_refusal_text, name_end, name_of, number_of, path_of, place_of, refusal_text, refused_text};
 
 use crate::reply::{REFUSED, Reply};
 use pef_cert_text::CertFault;
@@ -154,44 +154,64 @@ pub fn certificate_refusal(fault: CertFault) -> Refusal
 
 /// Why a run is refused over a file, whose path ends the line and may be long.
 #[derive(Clone, Copy, Debug, PartialEq, Eq)]
-pub enum NamedRefusal<'a> {
+pub enum FileRefusal<'a> {
     /// The file at the path could not be read.
-    FileUnreadable(&'a [u8]),
+    Unreadable(&'a [u8]),
     /// The file at the path could not be written.
-    FileUnwritable(&'a [u8]),
+    Unwritable(&'a [u8]),
 }
 
-impl<'a> NamedRefusal<'a> {
-    /// What the line of the refusal begins with: its number and name.
-    fn start(&self) -> &'static [u8]
-        ensures { result.now ≡ named_refusal_start self.now }
+impl<'a> FileRefusal<'a> {
+    /// The number of the refusal.
+    pub fn number(&self) -> u32
+        ensures { result ≡ file_number_of self.now }
     {
         match self {
-            NamedRefusal::FileUnreadable(_) => b"refused 71 FileUnreadable ",
-            NamedRefusal::FileUnwritable(_) => b"refused 72 FileUnwritable ",
+            FileRefusal::Unreadable(_) => 71,
+            FileRefusal::Unwritable(_) => 72,
+        }
+    }
+
+    /// The name of the refusal.
+    fn name(&self) -> &'static str
+        ensures name { result.now ≡ file_name_of self.now }
+        ensures short { length result.now ≤ 16 }
+    {
+        match self {
+            FileRefusal::Unreadable(_) => "FileUnreadable",
+            FileRefusal::Unwritable(_) => "FileUnwritable",
         }
     }
 
     /// The path of the file.
-    fn name(&self) -> &'a [u8]
-        ensures { result.now ≡ refused_name self.now }
+    fn path(&self) -> &'a [u8]
+        ensures { result.now ≡ path_of self.now }
     {
         match self {
-            NamedRefusal::FileUnreadable(name) | NamedRefusal::FileUnwritable(name) => name,
+            FileRefusal::Unreadable(path) | FileRefusal::Unwritable(path) => path,
         }
+    }
+
+    /// What the line of the refusal begins with.
+    fn start(&self) -> Line
+        ensures { result.items ≡ file_refusal_start (file_number_of self.now) (file_name_of self.now) }
+    {
+        let mut line = refused_line(self.number(), self.name());
+        push_text(&mut line, b" ");
+        line
     }
 }
 
-impl<'a> Reply for NamedRefusal<'a> {
-    ghost answer = { λ refusal. answer_refused (named_refusal_text refusal) };
+impl<'a> Reply for FileRefusal<'a> {
+    ghost answer = { λ refusal. answer_refused (file_refusal_text refusal) };
 
     fn status(&self) -> u8 {
         REFUSED
     }
 
     fn print<W: Sink>(&self, out: &mut W, page: &mut Page) -> Result<(), StreamFault> {
-        send(out, page, self.start())?;
-        print_name_end(out, page, self.name())
+        send(out, page, self.start().as_slice())?;
+        print_name_end(out, page, self.path())
     }
 }
 

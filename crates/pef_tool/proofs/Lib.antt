@@ -1,13 +1,3 @@
-mod AloneLemmas
-mod DescribedLemmas
 mod DistancesLemmas
-mod LeastLemmas
 mod LinkLemmas
-mod LinkedLemmas
-mod LoadLemmas
-mod LoadedLemmas
-mod NowLemmas
 mod OutcomeLemmas
-mod ProgramLemmas
-mod RefusedLemmas
-mod ShowLemmas

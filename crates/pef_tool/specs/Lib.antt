@@ -1,12 +1,4 @@
 pub mod Distances
-pub mod Fragment
-pub mod Kept
-pub mod Least
-pub mod Limits
 pub mod Link
 pub mod List
-pub mod Load
-pub mod Loaded
-pub mod Now
 pub mod Run
-pub mod Show

@@ -7,10 +7,9 @@ ghost use Rattle.pef_tool.specs.Run.{RunAnswers};
 use crate::distances::print_distances;
 use crate::link::link_files;
 use crate::list::list_file;
-use crate::load::load_files;
-use crate::show::show;
 use pef_answers::{Refusal, Usage, deliver};
 use pef_ports::{Files, Sink, Source};
+use pef_prepared::{load_files, show_input};
 use pef_request::{Request, WordsFault, read_words};
 use pef_verdicts::check_files;
 use std::alloc::Global;
@@ -50,7 +49,7 @@ fn run_request<F: Files, R: Source, W: Sink>(
         × Delivers (W.stream out.old) (W.stream out.new) answer result }
 {
     match request {
-        Request::Show => show(alloc, input, out),
+        Request::Show => show_input(alloc, input, out),
         Request::Link {
             script,
             out: target,

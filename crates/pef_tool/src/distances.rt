@@ -1,7 +1,7 @@
 ghost use Rattle.pef_answers.specs.Answers.{Answer, Delivers, answer_done};
 ghost use Rattle.pef_tool.specs.Distances.{DistancesAnswers};
 
-use pef_answers::{DONE, NamedRefusal, Refusal, Reply, deliver, script_refusal};
+use pef_answers::{DONE, FileRefusal, Refusal, Reply, deliver, script_refusal};
 use pef_cert_text::print;
 use pef_ports::{FileFault, Files, Page, Sink, StreamFault, send};
 use pef_script::Script;
@@ -25,7 +25,7 @@ pub fn print_distances<F: Files, W: Sink>(
 {
     let text = match files.read(alloc, script) {
         Ok(text) => text,
-        Err(FileFault::Failed) => return deliver(out, &NamedRefusal::FileUnreadable(script)),
+        Err(FileFault::Failed) => return deliver(out, &FileRefusal::Unreadable(script)),
         Err(FileFault::OutOfMemory) => return deliver(out, &Refusal::OutOfMemory),
     };
     let read = match Script::read(alloc, text.as_slice()) {

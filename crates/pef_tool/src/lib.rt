@@ -1,18 +1,14 @@
 //! The commands of `pef`, over any files, input and output.
 //!
 //! A command is one file: a function that reads what it is handed, delivers one `Reply` while all that it
-//! borrows is there, and says the status. Its clause says what it answers. `check` is a crate of its own,
-//! `pef_verdicts`. `run` chooses the command by the words.
+//! borrows is there, and says the status. Its clause says what it answers. `show` and `load` stand in a crate of their
+//! own, `pef_prepared`, and `check` in `pef_verdicts`. `run` chooses the command by the words.
 #![tactic(auto)]
 
 mod commands;
 mod distances;
-mod fragment;
 mod link;
 mod list;
-mod load;
-mod loaded;
-mod show;
 pub mod theorems;
 
 pub use commands::run;

@@ -3,7 +3,7 @@ ghost use Rattle.pef_ports.specs.Sent.{Sends};
 ghost use Rattle.pef_answers.specs.Answers.{Answer, Delivers, answer_done};
 ghost use Rattle.pef_tool.specs.Link.{LinkAnswers, length_text, lengths_text, linked_text, size_text};
 
-use pef_answers::{DONE, NamedRefusal, Refusal, Reply, deliver, script_refusal};
+use pef_answers::{DONE, FileRefusal, Refusal, Reply, deliver, script_refusal};
 use pef_ports::{FileFault, Files, Line, Page, Sink, StreamFault, push_number, push_text, send};
 use pef_script::Script;
 use pef_write::{Linked, link};
@@ -25,7 +25,7 @@ pub fn link_files<F: Files, W: Sink>(
 {
     let text = match files.read(alloc, script) {
         Ok(text) => text,
-        Err(FileFault::Failed) => return deliver(out, &NamedRefusal::FileUnreadable(script)),
+        Err(FileFault::Failed) => return deliver(out, &FileRefusal::Unreadable(script)),
         Err(FileFault::OutOfMemory) => return deliver(out, &Refusal::OutOfMemory),
     };
     let read = match Script::read(alloc, text.as_slice()) {
@@ -37,7 +37,7 @@ pub fn link_files<F: Files, W: Sink>(
     };
     match files.write(target, linked.bytes()) {
         Ok(()) => deliver(out, &LinkedReply { linked: &linked }),
-        Err(FileFault::Failed) => deliver(out, &NamedRefusal::FileUnwritable(target)),
+        Err(FileFault::Failed) => deliver(out, &FileRefusal::Unwritable(target)),
         Err(FileFault::OutOfMemory) => deliver(out, &Refusal::OutOfMemory),
     }
 }

@@ -3,7 +3,7 @@ ghost use Rattle.pef_listing.specs.Views.{parts};
 ghost use Rattle.pef_answers.specs.Answers.{Answer, Delivers, answer_done};
 ghost use Rattle.pef_tool.specs.List.{ListAnswers};
 
-use pef_answers::{DONE, NamedRefusal, Refusal, Reply, deliver};
+use pef_answers::{DONE, FileRefusal, Refusal, Reply, deliver};
 use pef_listing::Listing;
 use pef_ports::{FileFault, Files, Page, Sink, StreamFault};
 use std::alloc::Global;
@@ -18,7 +18,7 @@ pub fn list_file<F: Files, W: Sink>(alloc: Global, files: &mut F, path: &[u8], o
 {
     let bytes = match files.read(alloc, path) {
         Ok(bytes) => bytes,
-        Err(FileFault::Failed) => return deliver(out, &NamedRefusal::FileUnreadable(path)),
+        Err(FileFault::Failed) => return deliver(out, &FileRefusal::Unreadable(path)),
         Err(FileFault::OutOfMemory) => return deliver(out, &Refusal::OutOfMemory),
     };
     match Listing::read(bytes.as_slice()) {

@@ -6,7 +6,7 @@ ghost use Rattle.pef_verdicts.specs.Check.{AreVerdicts, CheckAnswers, IsVerdict,
 ghost use Rattle.pef_words.specs.Refusals.{result_map};
 
 use pef_answers::{
-    DONE, NamedRefusal, REFUSED, Refusal, Reply, certificate_refusal, deliver, script_refusal,
+    DONE, FileRefusal, REFUSED, Refusal, Reply, certificate_refusal, deliver, script_refusal,
 };
 use pef_cert::{Certificate, check};
 use pef_cert_text::read;
@@ -46,12 +46,12 @@ pub fn check_files<F: Files, W: Sink>(
 {
     let text = match files.read(alloc, script) {
         Ok(text) => text,
-        Err(FileFault::Failed) => return deliver(out, &NamedRefusal::FileUnreadable(script)),
+        Err(FileFault::Failed) => return deliver(out, &FileRefusal::Unreadable(script)),
         Err(FileFault::OutOfMemory) => return deliver(out, &Refusal::OutOfMemory),
     };
     let certificates = match files.read(alloc, cert) {
         Ok(certificates) => certificates,
-        Err(FileFault::Failed) => return deliver(out, &NamedRefusal::FileUnreadable(cert)),
+        Err(FileFault::Failed) => return deliver(out, &FileRefusal::Unreadable(cert)),
         Err(FileFault::OutOfMemory) => return deliver(out, &Refusal::OutOfMemory),
     };
     match check_texts(alloc, text.as_slice(), certificates.as_slice()) {

@@ -1,0 +1,11 @@
+mod AloneLemmas
+mod DescribedLemmas
+mod EndLemmas
+mod LeastLemmas
+mod LinkedLemmas
+mod LoadLemmas
+mod LoadedLemmas
+mod NowLemmas
+mod ProgramLemmas
+mod RefusedLemmas
+mod ShowLemmas

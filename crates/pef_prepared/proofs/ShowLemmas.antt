@@ -1,0 +1,154 @@
+-- What is linked of a script and prepared alone is shown as the script describes; only its closure and memory can be
+-- wanting, and none of its bytes is the reason.
+use Rattle.std.proofs.Common.{◌≡◌, ℕ, zero, suc, ◌+◌, ◌*◌, ◌^◌, ◌<◌, ◌≤◌, List, [], ◌∷◌, Some, Err, Contains, codes, inl, inr, length, map, slice_get, refl, sym, ap, subst, ◌∙◌, arith}
+use Rattle.std.specs.List.{AllByRecursion}
+use Rattle.std.specs.Option.{option_and_then, option_map_or}
+use Rattle.std.proofs.Math.Nat.{max-le, pow-le-pow_right}
+use Rattle.cfm_libraries.specs.Faults.{Fails, Refusal}
+use Rattle.cfm_libraries.specs.Fragments.{loader_at}
+use Rattle.cfm_libraries.specs.Stores.{Pair, pair_of}
+use Rattle.cfm_libraries.specs.declared.fault.BindFault.{BindFault}
+use Rattle.cfm_libraries.specs.declared.fault.BindFault.TheVariants as bind_fault
+use Rattle.cfm_closure.specs.Closures.{closed_of}
+use Rattle.cfm_closure.specs.Promises.{AllRead, IsOfBinding}
+use Rattle.cfm_closure.proofs.Laws.{closed-refused}
+use Rattle.cfm_fragment.specs.Prepared.{entry_address}
+use Rattle.cfm_memory.specs.Extents.{LackRoom, no_instances}
+use Rattle.cfm_memory.specs.Placement.{step_of}
+use Rattle.cfm_memory.proofs.Laws.{all_find_room, most_taken}
+use Rattle.cfm_prepare.specs.Contexts.{Open, State, fresh_state}
+use Rattle.cfm_prepare.specs.Fragments.{extents_in, places_of}
+use Rattle.cfm_prepare.specs.Placing.{LacksRoom}
+use Rattle.cfm_prepare.specs.Readers.{entries_of, main_address}
+use Rattle.cfm_prepare.specs.Steps.{MayNotPrepare, Prepares}
+use Rattle.cfm_prepare.specs.declared.fault.PrepareFault.{PrepareFault}
+use Rattle.cfm_prepare.specs.declared.fault.PrepareFault.TheVariants as prepare_fault
+use Rattle.pef_answers.specs.Answers.{answer_refused}
+use Rattle.pef_answers.specs.Refusals.{prepare_refusal_text}
+use Rattle.pef_answers.specs.declared.refusal.Refusal.TheVariants.{OutOfMemory}
+use Rattle.pef_loader.specs.Loader.{init_of, main_of, term_of}
+use Rattle.pef_script.specs.Script.{DescribedScript, DescribedSection}
+use Rattle.pef_script.specs.WellFormed.{SectionHolds}
+use Rattle.pef_write.specs.Linked.{IsLinked, LinkedContainer}
+use Rattle.pef_prepared.specs.Kept.Showing.{ScriptEnds}
+use Rattle.pef_prepared.specs.Limits.{memory_limit}
+use Rattle.pef_prepared.specs.Now.{HasUnlinked, described_extent, described_extents}
+use Rattle.pef_prepared.specs.Show.{FailsToBind, IsShown, ShowOutcome, it_alone, refuses, show_answer, unbound}
+use Rattle.pef_prepared.proofs.AloneLemmas.{is-found, new-is, open-is, prepared-alone, root-is}
+use Rattle.pef_prepared.proofs.DescribedLemmas.{extents_are}
+use Rattle.pef_prepared.proofs.NowLemmas.{described-from, extents-in, linked-read, loader-is, own, whole}
+use Rattle.pef_prepared.proofs.RefusedLemmas.{refused-image, refused-program}
+
+small_step : (alignment : ℕ) → alignment ≤ 12 → step_of alignment ≤ 2 ^ 12
+unfolding step_of
+small_step alignment small =
+    let two : 0 < 2 = omega arith in
+    max-le (omega arith) (pow-le-pow_right two small)
+
+-- the sections of a script take little
+most_small : (n m : ℕ) (sections : List DescribedSection) → AllByRecursion (SectionHolds n m) sections → most_taken (map described_extent sections) ≤ length sections * (2 ^ 24 + 2 ^ 13)
+most_small n m [] each = omega arith
+most_small n m (s ∷ sections) each = omega (arith, each.0.total, small_step s.header.align each.0.align, most_small n m sections each.1)
+
+-- where all fragments are read, the refusal of a closure isn't of their bytes
+fails_to_bind : (bytes : List ℕ) (fault : BindFault) → ((r : Refusal) → closed_of (it_alone bytes) 0 ≡ Err r → IsOfBinding r) → Fails fault (closed_of (it_alone bytes) 0) → FailsToBind bytes fault
+fails_to_bind bytes (bind_fault.Container f v) of fails = of _ fails
+fails_to_bind bytes (bind_fault.Loader f v) of fails = of _ fails
+fails_to_bind bytes (bind_fault.LibraryMissing f l) of fails = fails
+fails_to_bind bytes (bind_fault.SymbolMissing f l s) of fails = fails
+fails_to_bind bytes (bind_fault.ImplementationTooOld f l) of fails = fails
+fails_to_bind bytes (bind_fault.ImplementationTooNew f l) of fails = fails
+fails_to_bind bytes (bind_fault.ReexportLoop f s) of fails = fails
+fails_to_bind bytes (bind_fault.InitLoop f) of fails = fails
+fails_to_bind bytes bind_fault.OutOfMemory of fails = fails
+
+-- what is in a list of the first position alone
+only-first : (p : ℕ) → Contains (0 ∷ []) p → p ≡ 0
+only-first p (zero, low, is) = sym is
+only-first p (suc k, low, is) = absurd (omega (arith, low))
+
+-- how `show` ends with a script that isn't prepared for a reason, in the words of that reason
+pub record EndsUnprepared (script : DescribedScript) (fault : PrepareFault) : Type 0 where
+  pub outcome : ShowOutcome
+  pub ends : ScriptEnds script outcome
+  pub said : show_answer outcome ≡ answer_refused (prepare_refusal_text fault)
+
+module _ (script : DescribedScript) (k : LinkedContainer) (linked : IsLinked script k) where
+  abbrev alone : List Pair
+  alone = it_alone k.bytes
+
+  abbrev start : State
+  start = fresh_state alone memory_limit
+
+  -- what was prepared is what the script describes
+  pub shown_of : (s : State) (number : ℕ) → Prepares start (codes "it") number s → IsShown script s number
+  shown_of s number done =
+      let stands = prepared-alone k.bytes memory_limit s number done in
+      let described = described-from script k linked alone 0 refl s stands.now in
+      let places = places_of s.present 0 in
+      let loader = loader-is script k linked alone 0 refl in
+      let tables = (own script k linked alone 0 refl).of.tables in
+      let connected = open-is k.bytes memory_limit s number done in
+      let main : option_and_then main_of (loader_at alone 0) ≡ script.main = ap (option_and_then main_of) loader ∙ tables.main in
+      record {
+        container = k;
+        linked = linked;
+        prepared = done;
+        alone = record {
+          name = ap (λ pairs. option_map_or (λ (pair : Pair). pair.name) (slice_get pairs 0) []) done.pairs;
+          order = ap (λ x. option_map_or (λ (o : Open). o.closed.order) x []) connected;
+          init_order = ap (λ x. option_map_or (λ (o : Open). o.closed.init_order) x []) connected;
+          entries = ap (option_and_then (λ (o : Open). entries_of s.present o 0)) connected
+              ∙ ap Some (rw (ap (option_and_then init_of) loader ∙ tables.init, main, ap (option_and_then term_of) loader ∙ tables.term) refl);
+          main = ap (option_and_then (main_address s.present)) connected ∙ ap (entry_address places) main;
+        };
+        described = described.0;
+        first = described.1 ∙ stands.first;
+        others = stands.others;
+      }
+
+  -- it finds room
+  finds_room : LackRoom (no_instances memory_limit) (described_extents script) → ⊥
+  finds_room lacks =
+      let enough = most_small (length script.sections) (length script.imports) script.sections linked.holds.sections.each in
+      all_find_room memory_limit (described_extents script) (omega (arith, enough, linked.holds.sections.count)) lacks
+
+  room : (new : List ℕ) (name : List ℕ) → new ≡ 0 ∷ [] → LacksRoom alone (no_instances memory_limit) new name → ⊥
+  room new name is lacks =
+      let fragment = whole script k linked alone 0 refl in
+      let P : List ℕ → Type 0 = λ ps. LacksRoom alone (no_instances memory_limit) ps name in
+      let extents = extents-in script k linked alone 0 refl ∙ extents_are script k linked fragment.container fragment.loader (own script k linked alone 0 refl).of in
+      go extents (subst P is lacks)
+    where
+      go : extents_in alone 0 ≡ described_extents script → LacksRoom alone (no_instances memory_limit) (0 ∷ []) name → ⊥
+      go extents (inl here) = finds_room (subst (λ es. LackRoom (no_instances memory_limit) es) extents here.0)
+      go extents (inr later) = later.3
+
+  -- no fragment of it is one that wasn't linked
+  all_linked : (new : List ℕ) (name : List ℕ) → new ≡ 0 ∷ [] → HasUnlinked alone new name → ⊥
+  all_linked new name is has =
+      let at = only-first has.position (subst (λ ps. Contains ps has.position) is has.member) in
+      has.other script k linked (ap (λ p. (pair_of alone p).bytes) at)
+
+  all_read : AllRead alone
+  all_read zero inside = linked-read script k alone 0 linked refl
+  all_read (suc p) inside = absurd (omega (arith, inside))
+
+  lacks_closure : (root : ℕ) (fault : BindFault) → root ≡ 0 → Fails fault (closed_of alone root) → FailsToBind k.bytes fault
+  lacks_closure root fault is fails =
+      let P : ℕ → Type 0 = λ p. Fails fault (closed_of alone p) in
+      fails_to_bind k.bytes fault (λ r refused. closed-refused alone all_read 0 r (omega arith) refused) (subst P is fails)
+
+  -- so it isn't prepared for want of a closure or of memory alone
+  pub unprepared : (fault : PrepareFault) → MayNotPrepare start (codes "it") fault → EndsUnprepared script fault
+  unprepared prepare_fault.TooManyConnections why = absurd (omega (arith, why))
+  unprepared prepare_fault.RootMissing why = absurd (is-found k.bytes why.1)
+  unprepared (prepare_fault.Bind f) why = record {
+    outcome = unbound f;
+    ends = record { container = k; linked = linked; fails = lacks_closure why.0.root f (root-is k.bytes why.0.root why.0.is) why.1 };
+    said = refl;
+  }
+  unprepared (prepare_fault.NoRoom f) why = absurd (room _ f.now (new-is k.bytes memory_limit why.closure) why.why)
+  unprepared (prepare_fault.Pack f e) why = absurd (all_linked _ f.now (new-is k.bytes memory_limit why.closure) (refused-image alone (no_instances memory_limit) _ f.now e why.why))
+  unprepared (prepare_fault.Reloc f e) why = absurd (all_linked _ f.now (new-is k.bytes memory_limit why.closure) (refused-program alone [] (no_instances memory_limit) _ f.now e why.why))
+  unprepared prepare_fault.OutOfMemory why = record { outcome = refuses OutOfMemory; ends = refl; said = refl }
