@@ -2,6 +2,7 @@ pub mod Laws
 mod ActLists
 mod Acts
 mod Applying
+mod Beginnings
 mod Blocks
 mod CodeLemmas
 mod Decodes

@@ -5,9 +5,11 @@ ghost use Rattle.pef_reloc.specs.Decoding.{first_instr, long_instr, opcode_instr
 use crate::fault::RelocFault;
 use crate::instr::Instr;
 use crate::opcode::{
-    BY_SECT_C, BY_SECT_D, IMPORT_RUN, INCR_POSITION, LG_BY_IMPORT, LG_BY_SECTION, LG_REPEAT,
-    LG_SET_OR_BY_SECTION, LG_SET_SECT_C, LG_SET_SECT_D, SET_POSITION, SKIP_END, SM_BY_IMPORT,
-    SM_BY_SECTION, SM_REPEAT, SM_SET_SECT_C, SM_SET_SECT_D, T_VECTOR_8, T_VECTOR_12, V_TABLE_8,
+    BEHIND_EIGHT_BITS, BEHIND_FOUR_BITS, BEHIND_SEVEN_BITS, BEHIND_SIX_BITS, BEHIND_TEN_BITS,
+    BY_SECT_C, BY_SECT_D, FOUR_BITS, IMPORT_RUN, INCR_POSITION, LG_BY_IMPORT, LG_BY_SECTION,
+    LG_REPEAT, LG_SET_OR_BY_SECTION, LG_SET_SECT_C, LG_SET_SECT_D, SET_POSITION, SKIP_END,
+    SM_BY_IMPORT, SM_BY_SECTION, SM_REPEAT, SM_SET_SECT_C, SM_SET_SECT_D, T_VECTOR_8, T_VECTOR_12,
+    V_TABLE_8,
 };
 use pef_words::Cut;
 
@@ -17,29 +19,22 @@ use pef_words::Cut;
 ///
 /// `BadOpcode` where its first halfword begins none, and `CutInstruction` where the bytes end in it.
 #[inline(always)]
-#[tactic(auto, using(crate::proofs::Halfwords::number_inside), unfolding(crate::specs::Decoding::first_instr))]
+#[tactic(auto, using(crate::proofs::Halfwords::number_inside, crate::proofs::Beginnings::begins_with), unfolding(crate::specs::Decoding::first_instr))]
 pub(crate) fn first_instr(bytes: &[u8]) -> Result<Instr, RelocFault>
     ensures value { result ≡ first_instr bytes.now }
     ensures fits { IfOk result (λ x. instr_fits x ≡ true) }
     ensures inside { IfOk result (λ x. 2 * instr_length x ≤ length bytes.now) }
 {
     let cut = Cut::new(bytes);
-    let first = match cut.u16_at(0) {
-        Some(first) => first,
-        None => return Err(RelocFault::CutInstruction),
-    };
+    let first = cut.u16_at(0).ok_or(RelocFault::CutInstruction)?;
     if let Some(instr) = short_instr(first) {
         return Ok(instr);
     }
-    if long_instr(first, 0).is_none() {
-        return Err(RelocFault::BadOpcode);
-    }
-    let second = match cut.u16_at(2) {
-        Some(second) => second,
-        None => return Err(RelocFault::CutInstruction),
-    };
-    match long_instr(first, second) {
-        Some(instr) => Ok(instr),
+    // The first halfword alone tells whether there is an instruction.
+    let second = cut.u16_at(2);
+    let instr = long_instr(first, second.unwrap_or(0)).ok_or(RelocFault::BadOpcode)?;
+    match second {
+        Some(_) => Ok(instr),
         None => Err(RelocFault::CutInstruction),
     }
 }
@@ -66,18 +61,20 @@ fn short_instr(halfword: u16) -> Option<Instr>
     ensures fits { IfSome result (λ x. instr_fits x ≡ true) }
     ensures length { IfSome result (λ x. instr_length x ≡ 1) }
 {
-    let word = u32::from(halfword);
-    match halfword / 0x1000 {
+    match halfword / BEHIND_FOUR_BITS {
         0..SKIP_END => Some(Instr::BySectDWithSkip {
-            skip: word / 64,
-            count: word % 64,
+            skip: u32::from(halfword / BEHIND_TEN_BITS),
+            count: u32::from(halfword % BEHIND_TEN_BITS),
         }),
-        INCR_POSITION => Some(Instr::IncrPosition(word % 4096 + 1)),
+        INCR_POSITION => Some(Instr::IncrPosition(u32::from(halfword % BEHIND_FOUR_BITS) + 1)),
         SM_REPEAT => Some(Instr::SmRepeat {
-            blocks: word / 256 % 16 + 1,
-            count: word % 256 + 1,
+            blocks: u32::from(halfword / BEHIND_EIGHT_BITS % FOUR_BITS) + 1,
+            count: u32::from(halfword % BEHIND_EIGHT_BITS) + 1,
         }),
-        _ => opcode_instr(halfword / 512, word % 512),
+        _ => opcode_instr(
+            halfword / BEHIND_SEVEN_BITS,
+            u32::from(halfword % BEHIND_SEVEN_BITS),
+        ),
     }
 }
 
@@ -111,18 +108,18 @@ fn long_instr(first: u16, second: u16) -> Option<Instr>
     ensures fits { IfSome result (λ x. instr_fits x ≡ true) }
     ensures length { IfSome result (λ x. instr_length x ≡ 2) }
 {
-    let high = u32::from(first);
     let low = u32::from(second);
-    let number = high % 1024 * 0x1_0000 + low;
-    let index = high % 64 * 0x1_0000 + low;
-    match first / 1024 {
+    let number = u32::from(first % BEHIND_SIX_BITS) * 0x1_0000 + low;
+    let index = u32::from(first % BEHIND_TEN_BITS) * 0x1_0000 + low;
+    let four = first / BEHIND_TEN_BITS % FOUR_BITS;
+    match first / BEHIND_SIX_BITS {
         SET_POSITION => Some(Instr::SetPosition(number)),
         LG_BY_IMPORT => Some(Instr::LgByImport(number)),
         LG_REPEAT => Some(Instr::LgRepeat {
-            blocks: high / 64 % 16 + 1,
+            blocks: u32::from(four) + 1,
             count: index,
         }),
-        LG_SET_OR_BY_SECTION => section_instr(first / 64 % 16, index),
+        LG_SET_OR_BY_SECTION => section_instr(four, index),
         _ => None,
     }
 }

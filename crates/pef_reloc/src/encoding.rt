@@ -7,6 +7,7 @@ ghost use Rattle.pef_reloc.specs.declared.fault.RelocFault.TheVariants.{OutOfMem
 use crate::fault::RelocFault;
 use crate::instr::Instr;
 use crate::opcode::{
+    BEHIND_EIGHT_BITS, BEHIND_FOUR_BITS, BEHIND_SEVEN_BITS, BEHIND_SIX_BITS, BEHIND_TEN_BITS,
     BY_SECT_C, BY_SECT_D, IMPORT_RUN, INCR_POSITION, LG_BY_IMPORT, LG_BY_SECTION, LG_REPEAT,
     LG_SET_OR_BY_SECTION, LG_SET_SECT_C, LG_SET_SECT_D, SET_POSITION, SM_BY_IMPORT, SM_BY_SECTION,
     SM_REPEAT, SM_SET_SECT_C, SM_SET_SECT_D, T_VECTOR_8, T_VECTOR_12, V_TABLE_8,
@@ -38,7 +39,7 @@ impl Spelling {
         requires number { number < 512 }
         ensures { result ≡ record { first = opcode * 512 + number; second = None } }
     {
-        Spelling::one(u32::from(opcode) * 512 + number)
+        Spelling::one(u32::from(opcode * BEHIND_SEVEN_BITS) + number)
     }
 
     /// A six-bit opcode with a number of 26 bits.
@@ -48,7 +49,7 @@ impl Spelling {
         ensures { result ≡ record { first = opcode * 1024 + number / 0x10000; second = Some (number % 0x10000) } }
     {
         Spelling {
-            first: opcode * 1024 + (number / 0x1_0000) as u16,
+            first: opcode * BEHIND_SIX_BITS + (number / 0x1_0000) as u16,
             second: Some((number % 0x1_0000) as u16),
         }
     }
@@ -81,7 +82,9 @@ impl Instr {
         ensures { result.first ∷ option_to_list result.second ≡ halfwords_of self }
     {
         match self {
-            Instr::BySectDWithSkip { skip, count } => Spelling::one(skip * 64 + count),
+            Instr::BySectDWithSkip { skip, count } => {
+                Spelling::one(skip * u32::from(BEHIND_TEN_BITS) + count)
+            }
             Instr::BySectC(count) => Spelling::small(BY_SECT_C, count - 1),
             Instr::BySectD(count) => Spelling::small(BY_SECT_D, count - 1),
             Instr::TVector12(count) => Spelling::small(T_VECTOR_12, count - 1),
@@ -93,10 +96,14 @@ impl Instr {
             Instr::SmSetSectD(index) => Spelling::small(SM_SET_SECT_D, index),
             Instr::SmBySection(index) => Spelling::small(SM_BY_SECTION, index),
             Instr::IncrPosition(bytes) => {
-                Spelling::one(u32::from(INCR_POSITION) * 4096 + (bytes - 1))
+                Spelling::one(u32::from(INCR_POSITION * BEHIND_FOUR_BITS) + (bytes - 1))
             }
             Instr::SmRepeat { blocks, count } => {
-                Spelling::one(u32::from(SM_REPEAT) * 4096 + (blocks - 1) * 256 + (count - 1))
+                Spelling::one(
+                    u32::from(SM_REPEAT * BEHIND_FOUR_BITS)
+                        + (blocks - 1) * u32::from(BEHIND_EIGHT_BITS)
+                        + (count - 1),
+                )
             }
             Instr::SetPosition(offset) => Spelling::large(SET_POSITION, offset),
             Instr::LgByImport(index) => Spelling::large(LG_BY_IMPORT, index),

@@ -44,3 +44,18 @@ pub(crate) const LG_BY_SECTION: u16 = 0;
 pub(crate) const LG_SET_SECT_C: u16 = 1;
 
 pub(crate) const LG_SET_SECT_D: u16 = 2;
+
+/// How many numbers can stand behind so many of a halfword's high bits. So a halfword over this is what
+/// these bits say, and what is left of it is the number behind them.
+pub(crate) const BEHIND_FOUR_BITS: u16 = 0x1000;
+
+pub(crate) const BEHIND_SIX_BITS: u16 = 0x400;
+
+pub(crate) const BEHIND_SEVEN_BITS: u16 = 0x200;
+
+pub(crate) const BEHIND_EIGHT_BITS: u16 = 0x100;
+
+pub(crate) const BEHIND_TEN_BITS: u16 = 0x40;
+
+/// How many numbers four bits can hold.
+pub(crate) const FOUR_BITS: u16 = 16;
