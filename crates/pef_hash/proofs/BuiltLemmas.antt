@@ -3,9 +3,8 @@ use Rattle.std.proofs.Common.{◌≡◌, ◌∙◌, ℕ, suc, zero, ◌+◌, ◌
 use Rattle.std.specs.List.{All}
 use Rattle.std.proofs.lemmas.List.{get_or-map, get_or_default, length-map}
 use Rattle.std.proofs.lemmas.List.Elements.{All-map}
-use Rattle.pef_hash.specs.Build.{built, in_slots, keys_at, slot_words}
+use Rattle.pef_hash.specs.Build.{built, count_before, count_in, in_slots, keys_at, slot_words}
 use Rattle.pef_hash.specs.Exports.{slot_word}
-use Rattle.pef_hash.specs.Kept.Counts.{count_before, count_in}
 use Rattle.pef_hash.specs.Limits.{most_written_power, names_limit}
 use Rattle.pef_hash.specs.Word.{hash_word, power_of}
 use Rattle.pef_hash.proofs.Places.{count_before-past, slot_words-at}

@@ -1,5 +1,6 @@
 pub mod Laws
 mod BuiltLemmas
+mod FoundLemmas
 mod NamedExports
 mod Places
 mod RegularLemmas

@@ -6,9 +6,8 @@ use Rattle.std.proofs.Math.Seq.{get_or-append_right}
 use Rattle.std.proofs.lemmas.Bool.Decides.{eqb_tells, leb_tells}
 use Rattle.std.proofs.lemmas.List.{get_or-append-add}
 use Rattle.pef_hash.specs.Word.{slot}
-use Rattle.pef_hash.specs.Build.{in_slot, in_slots, slot_words}
+use Rattle.pef_hash.specs.Build.{count_before, count_in, in_slot, in_slots, slot_words}
 use Rattle.pef_hash.specs.Exports.{slot_word}
-use Rattle.pef_hash.specs.Kept.Counts.{count_before, count_in}
 use Rattle.pef_hash.proofs.SlotLists.{at_drop, drop_behind}
 
 -- a place that a slot lists is that of a word in the slot

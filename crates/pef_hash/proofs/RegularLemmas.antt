@@ -6,9 +6,8 @@ use Rattle.std.proofs.lemmas.List.{get_or-map, length-map}
 use Rattle.std.proofs.lemmas.Nat.{div-mul-add}
 use Rattle.std.proofs.Math.Nat.{mul-add-mod_self_right, mod-eq_of_lt}
 use Rattle.pef_hash.specs.Word.{hash_word, slot}
-use Rattle.pef_hash.specs.Build.{built, in_slots, keys_at, slot_words}
+use Rattle.pef_hash.specs.Build.{built, count_before, count_in, in_slots, keys_at, slot_words}
 use Rattle.pef_hash.specs.Exports.{ExportTable, export_named, key_of, name_of, slot_count, slot_first, slot_word, slot_word_of}
-use Rattle.pef_hash.specs.Kept.Counts.{count_before, count_in}
 use Rattle.pef_hash.specs.Limits.{index_limit, names_limit}
 use Rattle.pef_hash.specs.Regular.{AreDistinct, BuiltHasNoOther, BuiltHasOwn, BuiltIsRegular, IsCounted, RegularEndsInside, Spells}
 use Rattle.pef_hash.proofs.NamedExports.{export_named-none, export_named-some}

@@ -5,6 +5,7 @@ use Rattle.std.proofs.Math.Dec.{eqb}
 use Rattle.std.proofs.lemmas.Bool.{and_parts, eq-eqb, leb-true, ltb-true}
 use Rattle.std.proofs.lemmas.Bool.Decides.{eqb_tells, leb_tells}
 use Rattle.std.proofs.lemmas.Slice.Eq.{bytes_eq-Decides}
+use Rattle.std.proofs.lemmas.Option.{same_Some}
 use Rattle.std.specs.Option.{option_eq, option_map_or}
 use Rattle.std.specs.Str.{bytes_eq}
 use Rattle.pef_words.specs.Refusals.{◌>>=◌, first_among}
@@ -16,9 +17,6 @@ use Rattle.pef_hash.specs.Kept.Searches.{AreInTurnTo, AreSlotsInTurn, IsHashed, 
 use Rattle.pef_hash.proofs.NamedExports.{named_only}
 use Rattle.pef_hash.proofs.RegularLemmas.{key_inside, slot_inside}
 
-some_same : {A : Type 0} (x y : A) → Some x ≡ Some y → x ≡ y
-some_same x y same = cc
-
 none_of : {A : Type 0} (o : Option A) → ((x : A) → o ≡ Some x → ⊥) → o ≡ None
 none_of None not = refl
 none_of (Some x) not = absurd (not x refl)
@@ -28,7 +26,7 @@ bind_some None f x is = absurd (cc)
 bind_some (Some y) f x is = (y, refl)
 
 -- an export with a name is one of the table
-named_inside : (t : ExportTable) (name : List ℕ) (i : ℕ) → name_of t i ≡ Some name → i < t.count
+pub named_inside : (t : ExportTable) (name : List ℕ) (i : ℕ) → name_of t i ≡ Some name → i < t.count
 unfolding name_of
 named_inside t name i is =
     let key = bind_some (key_of t i) _ name is in
@@ -66,7 +64,7 @@ unnamed_false (Some found) name not = not_true (bytes_eq found name) (λ same. n
 other_key : (o : Option ℕ) (word : ℕ) → option_eq eqb o (Some word) ≡ false → o ≡ Some word → ⊥
 other_key None word other is = absurd (cc)
 other_key (Some key) word other is =
-    let same = eq-eqb key word (some_same key word is) in
+    let same = eq-eqb key word (same_Some key word is) in
     absurd (cc)
 
 pub unkeyed : (t : ExportTable) (name : List ℕ) (word i : ℕ) (o : Option ℕ) → LeadsToAll t → word ≡ hash_word name → o ≡ key_of t i → option_eq eqb o (Some word) ≡ false → is_named t name i ≡ false
@@ -119,7 +117,7 @@ chain_named t name word leads is = first_in_places t name word _ leads is refl
 pub hashed_leads : (t : ExportTable) → ((i : ℕ) → i < t.count → IsHashed t i) → LeadsToAll t
 hashed_leads t hashed = λ i name named.
     let h = hashed i (named_inside t name i named) in
-    let same : h.name ≡ name = some_same h.name name (sym h.named ∙ named) in
+    let same : h.name ≡ name = same_Some h.name name (sym h.named ∙ named) in
     (rw (← same) h.short, rw (← same) h.leads, rw (← same) h.key)
 
 -- the slot of a key is there and counts it
@@ -135,7 +133,7 @@ leads_there (Some word) i leads = (word, refl)
 slotted : (t : ExportTable) (i k : ℕ) → ((i : ℕ) → i < t.count → IsHashed t i) → key_of t i ≡ Some k → IsSlotted t i k
 slotted t i k hashed key =
     let h = hashed i (key_inside t i k key) in
-    let same : hash_word h.name ≡ k = some_same (hash_word h.name) k (sym h.key ∙ key) in
+    let same : hash_word h.name ≡ k = same_Some (hash_word h.name) k (sym h.key ∙ key) in
     let leads : IsTrue (leads_to (slot_word_of t (slot k t.power)) i) = rw (← same) h.leads in
     let there = leads_there (slot_word_of t (slot k t.power)) i leads in
     record { word = there.0; is = there.1; counted = leads_word _ there.0 i there.1 leads }
@@ -165,7 +163,7 @@ turn_regular t turn hashed = record {
         let h = hashed i under in
         record { key = hash_word h.name; is = h.key; here = same_slot t s word i (hash_word h.name) turn there counted (slotted t i (hash_word h.name) hashed h.key) }),
     (λ at. let p = slotted t i at.key hashed at.is in
-        let same : p.word ≡ word = some_same p.word word (sym p.is ∙ rw at.here there) in
+        let same : p.word ≡ word = same_Some p.word word (sym p.is ∙ rw at.here there) in
         rw (← same) p.counted),
   );
 }
@@ -182,13 +180,13 @@ counts_between : (t : ExportTable) (s word old end : ℕ) → slot_word_of t s �
 counts_between t s word old end there between rise turn = record {
   before = λ r v i less is counted. elim (eqb_tells r s) [
     | inl same ↦ (let e : slot_word_of t s ≡ Some v = rw same.1 at is in
-        let w : v ≡ word = some_same v word (sym e ∙ there) in
+        let w : v ≡ word = same_Some v word (sym e ∙ there) in
         (between i (rw w at counted)).1)
     | inr other ↦ (let apart = other.1 in let low = turn.before r v i (omega arith) is counted in omega arith)
   ];
   turn = λ q r v w i j before less is is' counted counted'. elim (eqb_tells r s) [
     | inl same ↦ (let at = same.1 in let e : slot_word_of t s ≡ Some w = rw same.1 at is' in
-        let e' : w ≡ word = some_same w word (sym e ∙ there) in
+        let e' : w ≡ word = same_Some w word (sym e ∙ there) in
         let low = turn.before q v i (omega arith) is counted in
         let high = (between j (rw e' at counted')).0 in
         omega arith)

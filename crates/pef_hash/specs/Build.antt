@@ -33,6 +33,14 @@ slot_words power words s first zero = []
 slot_words power words s first (suc n) =
     slot_word (length (in_slot power s 0 words)) first ∷ slot_words power words (s + 1) (first + length (in_slot power s 0 words)) n
 
+-- how many words are in slot s
+abbrev pub count_in : ℕ → List ℕ → ℕ → ℕ
+count_in power words s = length (in_slot power s 0 words)
+
+-- how many words are in the n slots from slot s on
+abbrev pub count_before : ℕ → List ℕ → ℕ → ℕ → ℕ
+count_before power words s n = length (in_slots power words s n)
+
 -- the words at some places
 unfoldable pub keys_at : List ℕ → List ℕ → List ℕ
 keys_at words order = map (λ i. slice_index words i) order

@@ -1,4 +1,3 @@
 -- What only proofs and private contracts speak of.
 pub mod Chains
-pub mod Counts
 pub mod Searches

@@ -1,6 +1,7 @@
 -- Tables whose slots lead to their keys (Mac OS Runtime Architectures, "PEF Structure", "Export Hash
 -- Table"), as they are written for some names. A container may hold any other table.
-use Rattle.std.specs.Prelude.{◌≡◌, ◌≢◌, ℕ, ◌+◌, ◌^◌, ◌<◌, ◌≤◌, ◌↔◌, List, [], length, None, Some, slice_index, slice_index_or}
+use Rattle.std.specs.Prelude.{◌≡◌, ◌≢◌, ℕ, zero, suc, ◌+◌, ◌^◌, ◌<◌, ◌≤◌, ◌↔◌, List, [], length, None, Some, slice_index, slice_index_or}
+use Rattle.std.specs.Option.{option_map_or}
 use Rattle.pef_hash.specs.Build.{BuiltTable, built}
 use Rattle.pef_hash.specs.Exports.{ExportTable, export_named, key_of, name_of, slot_count, slot_first, slot_word_of}
 use Rattle.pef_hash.specs.Limits.{names_limit}
@@ -23,6 +24,18 @@ pub record IsRegular (t : ExportTable) : Type 0 where
   pub keyed : (i : ℕ) → i < t.count → (name : List ℕ) × (name_of t i ≡ Some name) × (key_of t i ≡ Some (hash_word name))
   pub ordered : (i j k l : ℕ) → i < j → key_of t i ≡ Some k → key_of t j ≡ Some l → slot k t.power ≤ slot l t.power
   pub delimited : (s word i : ℕ) → slot_word_of t s ≡ Some word → IsCounted word i ↔ IsKeyOf t s i
+
+-- how many bytes the names of the first n exports have together
+unfoldable pub names_length : ExportTable → ℕ → ℕ
+names_length t zero = 0
+names_length t (suc n) = names_length t n + option_map_or length (name_of t n) 0
+
+-- a table that is searched by its slots: it has exports, it is regular, and its names, which may overlap, are together no
+-- longer than its strings (this project's own)
+pub record IsSearchable (t : ExportTable) : Type 0 where
+  pub some : 0 < t.count
+  pub regular : IsRegular t
+  pub within : names_length t t.count ≤ length t.strings
 
 -- a table has the power, slots and keys of a built one, and the names in its order
 pub record Spells (t : ExportTable) (b : BuiltTable) (names : List (List ℕ)) : Type 0 where

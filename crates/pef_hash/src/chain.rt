@@ -1,11 +1,11 @@
 ghost use Rattle.std.specs.Prelude.{◌≡◌, ℕ, ◌+◌, ◌<◌, ◌≤◌, IsTrue, Some, length};
 ghost use Rattle.pef_hash.specs.Exports.{has_table, name_of, slot_count, slot_first};
 ghost use Rattle.pef_hash.specs.Limits.{most_power};
-ghost use Rattle.pef_hash.specs.Regular.{IsRegular};
+ghost use Rattle.pef_hash.specs.Regular.{IsRegular, IsSearchable};
 ghost use Rattle.pef_hash.specs.Kept.Searches.{AreSlotsInTurn, IsHashed, LeadsToAll};
 
 use crate::exports::Exports;
-use crate::layout::{MOST_NAME_LENGTH, SLOT_COUNT_SHIFT};
+use crate::layout::SLOT_COUNT_SHIFT;
 use crate::word::{hash_word, slot};
 use std::ops::Range;
 
@@ -27,6 +27,7 @@ impl<'a> Exports<'a> {
     /// that the look takes no longer than to read the bytes.
     pub(crate) fn is_regular(&self) -> bool
         ensures regular { IsTrue result → IsRegular (table_of self.now) }
+        ensures found { IsSearchable (table_of self.now) → IsTrue result }
         ensures small { IsTrue result → self.now.power ≤ most_power }
         ensures leads { IsTrue result → LeadsToAll (table_of self.now) }
     {
@@ -36,7 +37,8 @@ impl<'a> Exports<'a> {
     /// Whether the slots delimit exports one behind the other, and none behind the last.
     fn has_slots_in_turn(&self) -> bool
         requires { self.now.power ≤ most_power }
-        ensures { IsTrue result → AreSlotsInTurn (table_of self.now) }
+        ensures turn { IsTrue result → AreSlotsInTurn (table_of self.now) }
+        ensures found { IsSearchable (table_of self.now) → IsTrue result }
     {
         let mut end = 0;
         for s in 0..1 << self.power {
@@ -57,7 +59,8 @@ impl<'a> Exports<'a> {
     /// Whether each key is the hash word of its name, and its slot counts it.
     fn has_hashed_keys(&self) -> bool
         requires { self.now.power ≤ most_power }
-        ensures { IsTrue result → ((i : ℕ) → i < self.now.count → IsHashed (table_of self.now) i) }
+        ensures hashed { IsTrue result → ((i : ℕ) → i < self.now.count → IsHashed (table_of self.now) i) }
+        ensures found { IsSearchable (table_of self.now) → IsTrue result }
     {
         let mut left = self.strings.len();
         for i in 0..self.count as usize {
@@ -76,13 +79,14 @@ impl<'a> Exports<'a> {
     fn is_hashed(&self, i: usize, name: &[u8]) -> bool
         requires power { self.now.power ≤ most_power }
         requires name { name_of (table_of self.now) i ≡ Some name.now }
-        ensures { IsTrue result → IsHashed (table_of self.now) i }
+        ensures hashed { IsTrue result → IsHashed (table_of self.now) i }
+        ensures found { IsSearchable (table_of self.now) → IsTrue result }
     {
-        if name.len() > MOST_NAME_LENGTH {
+        let Some(key) = self.key(i) else {
             return false;
-        }
+        };
         let word = hash_word(name);
-        if self.key(i) != Some(word) {
+        if key != word {
             return false;
         }
         match self.slot_word(slot(word, self.power) as usize) {

@@ -3,6 +3,7 @@ ghost use Rattle.std.specs.Option.{option_copied};
 ghost use Rattle.pef_words.specs.Refusals.{first_among};
 ghost use Rattle.pef_hash.specs.Exports.{entry_at, entry_of, export_place, export_named, has_table, is_named, key_place, key_of, name_of, named_at, slot_word_of};
 ghost use Rattle.pef_hash.specs.Limits.{most_power};
+ghost use Rattle.pef_hash.specs.Regular.{IsSearchable};
 ghost use Rattle.pef_hash.specs.Word.{hash_word};
 ghost use Rattle.pef_hash.specs.Kept.Searches.{LeadsToAll};
 
@@ -70,10 +71,12 @@ impl<'a> Exports<'a> {
     /// The view of `count` exports in a table of `2^power` slots, whose bytes begin at `table`, with
     /// names in `strings`.
     ///
-    /// It looks at each slot and each key once, to learn whether the table is regular.
+    /// It looks at each slot and each key once, to learn whether the table is regular. One whose names are
+    /// together longer than `strings` isn't looked at to the end, and counts as any other table.
     pub fn new(power: u32, count: u32, table: &'a [u8], strings: &'a [u8]) -> Exports<'a>
         requires { IsTrue (has_table power count table.now) }
-        ensures { table_of result ≡ record { power = power; count = count; bytes = table.entry.now; strings = strings.entry.now } }
+        ensures table { table_of result ≡ record { power = power; count = count; bytes = table.entry.now; strings = strings.entry.now } }
+        ensures found { IsSearchable (table_of result) → IsTrue result.regular }
     {
         let unsearched = Exports {
             power,
@@ -142,7 +145,8 @@ impl<'a> Exports<'a> {
     }
 
     /// The first export with this name, in every table: hash words and slots have no say. A regular
-    /// table, where they lead to each export, is searched by them.
+    /// table, where they lead to each export, is searched by them, unless its names are together longer
+    /// than its strings.
     #[tactic(auto, unfolding(crate::specs::Exports::export_named))]
     pub fn find(&self, name: &[u8]) -> Option<usize>
         ensures { result ≡ export_named (table_of self.now) name.now }

@@ -30,3 +30,15 @@ pub record AreInTurnTo (t : ExportTable) (s end : ℕ) : Type 0 where
 -- slots count only exports, and each counts behind those before it
 abbrev pub AreSlotsInTurn : ExportTable → Type 0
 AreSlotsInTurn t = AreInTurnTo t (2 ^ t.power) t.count
+
+-- a slot before slot s counts place i
+pub record IsCountedBefore (t : ExportTable) (s i : ℕ) : Type 0 where
+  pub r : ℕ
+  pub word : ℕ
+  pub before : r < s
+  pub is : slot_word_of t r ≡ Some word
+  pub counted : IsCounted word i
+
+-- the place before an end, where there is one, is counted by a slot before slot s
+abbrev pub IsEndOf : ExportTable → ℕ → ℕ → Type 0
+IsEndOf t s end = (i : ℕ) → end ≡ i + 1 → IsCountedBefore t s i

@@ -1,5 +1,5 @@
 -- An export with another key has another name.
-use Rattle.std.proofs.Common.{◌≡◌, ◌∙◌, sym}
+use Rattle.std.proofs.Common.{◌∙◌, sym}
 use Rattle.pef_hash.specs.Views.{table_of}
 use Rattle.pef_hash.proofs.SearchLemmas.{unkeyed}
 use Rattle.pef_hash.proofs.exports.Exports.is_keyed.Goals as goal

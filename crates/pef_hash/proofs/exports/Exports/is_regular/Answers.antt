@@ -9,9 +9,19 @@ use Rattle.pef_hash.proofs.exports.Exports.is_regular.Goals as goal
 pub returns-then-has_slots_in_turn-clause-regular : goal.returns-then-has_slots_in_turn-clause-regular
 returns-then-has_slots_in_turn-clause-regular c = λ all.
     elim c.if-self-gt0.branch [
-      | then-self-gt0 w ↦ turn_regular (table_of c.args.self.now) (w.has_slots_in_turn.ensures (sym w.value-is ∙ c.if-has_slots_in_turn.true)) (c.has_hashed_keys.ensures all)
+      | then-self-gt0 w ↦ turn_regular (table_of c.args.self.now) (w.has_slots_in_turn.ensures.turn (sym w.value-is ∙ c.if-has_slots_in_turn.true)) (c.has_hashed_keys.ensures.hashed all)
       | else-self-gt0 w ↦ absurd (let some = ltb-true 0 c.args.self.now.count (sym w.value-is ∙ c.if-has_slots_in_turn.true) in let none = w.if-self-gt0 in omega arith)
     ]
 
 pub returns-then-has_slots_in_turn-clause-leads : goal.returns-then-has_slots_in_turn-clause-leads
-returns-then-has_slots_in_turn-clause-leads c = λ all. hashed_leads (table_of c.args.self.now) (c.has_hashed_keys.ensures all)
+returns-then-has_slots_in_turn-clause-leads c = λ all. hashed_leads (table_of c.args.self.now) (c.has_hashed_keys.ensures.hashed all)
+
+pub returns-then-has_slots_in_turn-clause-found : goal.returns-then-has_slots_in_turn-clause-found
+returns-then-has_slots_in_turn-clause-found c = c.has_hashed_keys.ensures.found
+
+pub returns-else-has_slots_in_turn-clause-found : goal.returns-else-has_slots_in_turn-clause-found
+returns-else-has_slots_in_turn-clause-found c = λ sought.
+    elim c.if-self-gt0.branch [
+      | then-self-gt0 w ↦ (let turn = w.has_slots_in_turn.ensures.found sought in let no = sym w.value-is ∙ c.if-has_slots_in_turn.false in absurd (cc))
+      | else-self-gt0 w ↦ absurd (let some = sought.some in let none = w.if-self-gt0 in omega arith)
+    ]
