@@ -2,11 +2,11 @@
 use Rattle.std.proofs.Common.{◌≡◌, ℕ, ◌+◌, ◌*◌, ◌<◌, ◌≤◌, Bool, true, false, not, List, Option, None, Some, length, drop, take, refl, sym, ◌∙◌, ap, subst, arith}
 use Rattle.std.specs.Prelude.{◌&&◌, ◌||◌, Result, Ok, Err, IsTrue, IfSome, nat_lt, nat_le}
 use Rattle.std.specs.Option.{is_none, option_map_or}
-use Rattle.std.proofs.lemmas.Option.{cond_some}
+use Rattle.std.proofs.lemmas.Option.{cond_some, same_Some}
 use Rattle.std.proofs.lemmas.Bool.{not-false, and_parts, lt-ltb, le-leb, leb-false, ltb-false}
 use Rattle.pef_words.specs.Bytes.{name_at, part_of}
-use Rattle.pef_words.specs.Refusals.{first_among, first_met, unless}
-use Rattle.pef_words.proofs.Laws.Refusals.{first_unmet, none_among, some_among}
+use Rattle.pef_words.specs.Refusals.{first_among, first_met}
+use Rattle.pef_words.proofs.Laws.Refusals.{first_unmet, none_among, some_among, unless_ok}
 use Rattle.pef_hash.specs.Exports.{entry_of, name_of}
 use Rattle.pef_hash.proofs.Laws.{IsFirstNamed, export_named-some}
 use Rattle.pef_hash.specs.declared.exports.Entry.{Entry}
@@ -23,10 +23,6 @@ use Rattle.pef_loader.specs.Reloc.{instructions_of, reloc_at, reloc_in, reloc_re
 use Rattle.pef_loader.specs.Export.{Export, export_in, export_refusal, export_table, export_tests, has_exports, has_section}
 use Rattle.pef_loader.specs.Kept.Accepted.{IsAccepted}
 use Rattle.pef_loader.specs.Loader.{IsLoader, Loaded, export_of, fault_if, has_entries, judged, library_of, loaded_of, named_of, reloc_of}
-
-unless_ok : {A F : Type 0} (fault : Option F) (r : Result A F) (x : A) → unless fault r ≡ Ok x → (fault ≡ None) × (r ≡ Ok x)
-unless_ok None r x ok = (refl, ok)
-unless_ok (Some fault) r x ok = absurd (cc)
 
 abbrev value_or : {A F : Type 0} → A → Result A F → A
 value_or x (Ok y) = y
@@ -207,33 +203,30 @@ export_there l i ok under =
       is.2.section,
     )
 
-some_same : {A : Type 0} (x y : A) → Some x ≡ Some y → x ≡ y
-some_same x y same = cc
-
 -- the same of an entry that was read
 pub library_with : (l : Loaded) (i : ℕ) (e : LibraryEntry) → IsLoader l → i < l.header.library_count → library_at l.bytes i ≡ Some e → IsLibrary l e
 library_with l i e ok under at =
     let is = library_is l i ok under in
     let P : LibraryEntry → Type 0 = λ e. IsLibrary l e in
-    subst P (some_same is.0 e (sym is.1 ∙ at)) is.2
+    subst P (same_Some is.0 e (sym is.1 ∙ at)) is.2
 
 pub import_with : (l : Loaded) (j : ℕ) (e : ImportEntry) → IsLoader l → j < l.header.import_count → import_at l.bytes l.header j ≡ Some e → IsImport l e
 import_with l j e ok under at =
     let is = import_is l j ok under in
     let P : ImportEntry → Type 0 = λ e. IsImport l e in
-    subst P (some_same is.0 e (sym is.1 ∙ at)) is.2
+    subst P (same_Some is.0 e (sym is.1 ∙ at)) is.2
 
 pub reloc_with : (l : Loaded) (k : ℕ) (e : RelocEntry) → IsLoader l → k < l.header.reloc_count → reloc_at l.bytes l.header k ≡ Some e → IsReloc l e
 reloc_with l k e ok under at =
     let is = reloc_is l k ok under in
     let P : RelocEntry → Type 0 = λ e. IsReloc l e in
-    subst P (some_same is.0 e (sym is.1 ∙ at)) is.2
+    subst P (same_Some is.0 e (sym is.1 ∙ at)) is.2
 
 pub export_with : (l : Loaded) (i : ℕ) (e : Entry) → IsLoader l → i < l.header.export_count → entry_of (export_table l.bytes l.header) i ≡ Some e → IsExport l e i
 export_with l i e ok under at =
     let is = export_is l i ok under in
     let P : Entry → Type 0 = λ e. IsExport l e i in
-    subst P (some_same is.0 e (sym is.1 ∙ at)) is.2
+    subst P (same_Some is.0 e (sym is.1 ∙ at)) is.2
 
 parts_of : (sections : ℕ) (bytes : List ℕ) (l : Loaded) (h : Option LoaderHeader) → option_map_or (judged sections bytes) h (Err LoaderShort) ≡ Ok l → (sections ≡ l.sections) × (bytes ≡ l.bytes)
 parts_of sections bytes l None ok = absurd (cc)

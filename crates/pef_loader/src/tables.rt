@@ -1,4 +1,4 @@
-ghost use Rattle.std.specs.Prelude.{◌≡◌, ℕ, ◌+◌, ◌<◌, ◌≤◌, ◌^◌, ◌↔◌, Ok, Some, IfSome, IsSome, IsTrue, option_map};
+ghost use Rattle.std.specs.Prelude.{◌≡◌, ℕ, ◌+◌, ◌<◌, ◌≤◌, ◌^◌, ◌↔◌, Ok, Some, IfOk, IfSome, IsSome, IsTrue, option_map};
 ghost use Rattle.std.specs.Result.{result_err};
 ghost use Rattle.pef_words.specs.Refusals.{first_among, result_map};
 ghost use Rattle.pef_hash.specs.Views.{table_of};
@@ -58,13 +58,20 @@ impl<'a> Loader<'a> {
     /// The first rule that it breaks: those of the header, of the length of the tables, of each
     /// library, of each import, of the entries, of each relocation header, of the export table's
     /// length and of each export.
-    #[tactic(auto, unfolding(crate::specs::Loader::loaded_of))]
     pub fn read(container: &Container<'a>) -> Result<Loader<'a>, LoaderFault>
         ensures { result_map loaded result
             ≡ loaded_of (contained container.now).header.instantiated_section_count (contained container.now).loader }
     {
-        let cut = Cut::new(container.loader());
         let sections = container.header().instantiated_section_count;
+        Loader::read_cut(Cut::new(container.loader()), sections)
+    }
+
+    /// The loader section of a container with so many instantiated sections.
+    #[tactic(auto, unfolding(crate::specs::Loader::loaded_of))]
+    fn read_cut(cut: Cut<'a>, sections: u16) -> Result<Loader<'a>, LoaderFault>
+        ensures value { result_map loaded result ≡ loaded_of sections cut.entry.bytes.now }
+        ensures order { IfOk result (λ l. AreInOrder cut.entry.bytes.now l.header.library_count → IsTrue l.in_order) }
+    {
         let header = read_header(cut).ok_or(LoaderFault::LoaderShort)?;
         if cut.len() < header.end() {
             return Err(LoaderFault::BadTableOffset);
