@@ -16,7 +16,8 @@ use std::alloc::{AllocError, Global};
 use std::marker::Model;
 
 /// The closure order of a fragment: the fragment with its libraries, theirs, and so on. It has what these
-/// fragments are, and what their library entries stand for. No call takes memory but [`Bindings::of`].
+/// fragments are, and what their library entries stand for. No call takes memory but [`Bindings::of`] and
+/// [`Bindings::table`].
 #[derive(Drop)]
 pub struct Bindings<'a> {
     /// The pairs of the store. All else goes by their places.
@@ -96,13 +97,10 @@ impl<'a> Bindings<'a> {
 
     /// How many imports a fragment of the order has.
     pub fn imports(&self, p: usize) -> usize
-        requires { p < length self.now.pairs }
-        ensures { Contains self.now.order p → result ≡ import_count self.now.pairs p }
+        requires { Contains self.now.order p }
+        ensures { result ≡ import_count self.now.pairs p }
     {
-        match self.fragments.get(p) {
-            Some(fragment) => fragment.loader.imports() as usize,
-            None => 0,
-        }
+        self.fragment(p).loader.imports() as usize
     }
 
     /// A fragment of the order.

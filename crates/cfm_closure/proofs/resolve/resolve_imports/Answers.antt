@@ -12,12 +12,12 @@ use Rattle.cfm_closure.specs.Targets.{target_of}
 use Rattle.cfm_closure.proofs.resolve.resolve_imports.Goals as goal
 
 pub imports-j-end-requires : goal.imports-j-end-requires
-imports-j-end-requires c = (c.requires.rows.complete.members c.args.p c.requires.place).place
+imports-j-end-requires c = c.requires.place
 
 pub returns-in_err-resolve-clause-answer : goal.returns-in_err-resolve-clause-answer
 returns-in_err-resolve-clause-answer c =
     let pairs = c.args.bindings.now.pairs in
-    let count = c.imports-j-end.ensures c.requires.place in
+    let count = c.imports-j-end.ensures in
     let under : c.loop-j.j < import_count pairs c.args.p = omega arith in
     let p = err_from_is_err_and c.from_residual.result c.from_residual.ensures.1 in
     rw (p.1, p.2) (Fails-also c.in_err-resolve.field-0.0 (target_of pairs c.args.p c.loop-j.j) (unless (imports_refusal pairs c.args.p) (Ok (tt {0})))
@@ -28,7 +28,7 @@ returns-in_err-resolve-clause-answer c =
 pub loop-j-preserved : goal.loop-j-preserved
 loop-j-preserved c =
     let pairs = c.args.bindings.now.pairs in
-    let count = c.imports-j-end.ensures c.requires.place in
+    let count = c.imports-j-end.ensures in
     let under : c.loop-j.j < import_count pairs c.args.p = omega arith in
     let kept = c.in_ok-resolve.ensures.kept in
     let known = c.in_ok-resolve.ensures.known in

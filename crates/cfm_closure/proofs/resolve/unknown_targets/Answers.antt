@@ -1,5 +1,5 @@
 -- A row more, of which nothing is known.
-use Rattle.std.proofs.Common.{◌≡◌, ◌<◌, ◌≤◌, ◌∙◌, ℕ, List, [], None, Contains, refl, length, get_or, replicate, set, ap, subst, arith}
+use Rattle.std.proofs.Common.{◌≡◌, ◌<◌, ◌≤◌, ◌∙◌, ℕ, List, [], None, Contains, refl, length, get_or, replicate, set, ap, subst, sym, arith}
 use Rattle.std.proofs.lemmas.List.{length-set}
 use Rattle.std.proofs.lemmas.List.Elements.{Contains-get_or}
 use Rattle.cfm_libraries.specs.Fragments.{import_count}
@@ -9,7 +9,12 @@ use Rattle.cfm_closure.proofs.KnownLemmas.{counts-set, rows-unknown, unknown-set
 use Rattle.cfm_closure.proofs.resolve.unknown_targets.Goals as goal
 
 pub imports-requires : goal.imports-requires
-imports-requires c = place_in_order c.args.bindings.now.pairs c.args.bindings.now.order c.order-p-items.result.now c.loop-p.p-index c.new.ensures.complete c.order-p-items.ensures.order c.loop-p-test.true
+imports-requires c =
+    let order = c.args.bindings.now.order in
+    let i = c.loop-p.p-index in
+    let same = c.order-p-items.ensures.order in
+    let under = subst (λ (ps : List ℕ). i < length ps) same c.loop-p-test.true in
+    subst (λ (ps : List ℕ). Contains order (get_or ps i 0)) (sym same) (Contains-get_or order i 0 under)
 
 pub add-requires : goal.add-requires
 add-requires c =
@@ -30,8 +35,8 @@ loop-p-preserved c =
     let inside : get_or order i 0 < length rows = let size = c.loop-p.invariant.unknown.size in omega arith in
     let N : List ℕ → Type 0 = λ ps. c.add.new.self ≡ set rows (get_or ps i 0) (replicate n None) in
     let new = subst N same c.in_ok-add.ensures in
-    let C : List ℕ → Type 0 = λ ps. Contains order (get_or ps i 0) → n ≡ import_count pairs (get_or ps i 0) in
-    let count = subst C same c.imports.ensures (Contains-get_or order i 0 under) in
+    let C : List ℕ → Type 0 = λ ps. n ≡ import_count pairs (get_or ps i 0) in
+    let count = subst C same c.imports.ensures in
     record {
       unknown = record {
         size = ap length new ∙ length-set rows (get_or order i 0) (replicate n None) ∙ c.loop-p.invariant.unknown.size;
