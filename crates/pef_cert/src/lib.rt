@@ -21,7 +21,7 @@ pub use certificate::Certificate;
 pub use checking::check;
 pub use classes::{change, class_of};
 pub use extension::{REACH, SKIP_REACH, moved_value};
-pub use registers::uses_section;
+pub use registers::{rise, uses_section};
 pub use rows::{LabelRows, LabelRun, LabelRuns};
 pub use theorems::{
     extension_of_labels, extensions_fall, labels_are_near, valid_programs_are_least,

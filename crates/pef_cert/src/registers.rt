@@ -21,7 +21,7 @@ pub(crate) fn registers_hold(fixups: &[Fixup], registers: &[u32]) -> bool
 }
 
 /// Whether numbers rise.
-fn rise(numbers: &[u32]) -> bool
+pub fn rise(numbers: &[u32]) -> bool
     ensures { result ≡ rises numbers.now }
 {
     match numbers.split_first() {

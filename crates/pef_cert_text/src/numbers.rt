@@ -1,5 +1,4 @@
 ghost use Rattle.std.specs.Prelude.{◌≡◌, ◌≤◌, ◌++◌, length, option_map, vec_len, IfOk, OnOk};
-ghost use Rattle.pef_cert.specs.Valid.{above_all, rises};
 ghost use Rattle.pef_words.specs.Refusals.{result_map};
 ghost use Rattle.pef_cert_text.specs.Kept.Reading.{Says, words_left};
 ghost use Rattle.pef_cert_text.specs.Lines.{registers_in, registers_line, row_line};
@@ -8,6 +7,7 @@ ghost use Rattle.pef_cert_text.specs.Words.{numbers_in};
 use crate::CertFault;
 use crate::lines::Line;
 use crate::words::Words;
+use pef_cert::rise;
 use pef_lines::decimal_number;
 use std::alloc::Global;
 
@@ -47,23 +47,6 @@ fn registers_in(alloc: Global, line: Line<'_>, words: Words<'_>) -> Result<Vec<u
         registers.push(number)?;
     }
     Err(line.fault())
-}
-
-/// Whether each number is above the one before it.
-fn rise(numbers: &[u32]) -> bool
-    ensures { result ≡ rises numbers.now }
-{
-    let Some((first, others)) = numbers.split_first() else {
-        return true;
-    };
-    let mut low = *first;
-    for number in others {
-        if *number <= low {
-            return false;
-        }
-        low = *number;
-    }
-    true
 }
 
 /// The registers of a `registers` line, which rise.

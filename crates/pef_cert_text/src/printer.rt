@@ -3,7 +3,7 @@ ghost use Rattle.std.specs.List.{AllByRecursion};
 ghost use Rattle.std.specs.Option.{option_to_list};
 ghost use Rattle.std.specs.Result.{IfErr};
 ghost use Rattle.byteorder.specs.Endian.{big_bytes};
-ghost use Rattle.pef_reloc.specs.Instrs.{halfword_bytes, instrs_fit, program_length, spelled};
+ghost use Rattle.pef_reloc.specs.Instrs.{halfword_bytes, instrs_fit, spelled};
 ghost use Rattle.pef_cert_text.specs.declared.fault.CertFault.TheVariants.{OutOfMemory};
 ghost use Rattle.pef_cert_text.specs.Printed.{Printable, certificate_text, certificates_text, each_text, halfword_words, line_text, number_words, program_words, rows_text, words_text};
 
@@ -144,18 +144,6 @@ fn append_rows(text: &mut Vec<u8>, labels: &LabelRows) -> Result<(), AllocError>
     Ok(())
 }
 
-/// How many halfwords instructions have.
-fn halfwords(instrs: &[Instr]) -> usize
-    requires { program_length instrs.now < 2 ^ 32 }
-    ensures { result ≡ program_length instrs.now }
-{
-    let mut halfwords = 0;
-    for instr in instrs {
-        halfwords += instr.length();
-    }
-    halfwords
-}
-
 /// Appends the lines of a certificate.
 #[tactic(auto, unfolding(crate::specs::Printed::certificate_text))]
 fn append_certificate(text: &mut Vec<u8>, certificate: &Certificate) -> Result<(), AllocError>
@@ -163,11 +151,10 @@ fn append_certificate(text: &mut Vec<u8>, certificate: &Certificate) -> Result<(
     ensures { OnOk result (text.new.items ≡ text.old.items ++ certificate_text certificate.now) }
 {
     let labels = certificate.labels();
-    let program = certificate.program();
     append_field(text, b"section", certificate.section() as usize)?;
     append_field(text, b"fixups", labels.rows() - 1)?;
-    append_field(text, b"length", halfwords(program))?;
-    append_program(text, program)?;
+    append_field(text, b"length", certificate.program_length() as usize)?;
+    append_program(text, certificate.program())?;
     append_registers(text, certificate.registers())?;
     append_rows(text, labels)
 }
