@@ -18,4 +18,3 @@ pub use Rattle.pef_hash.proofs.SlotLists.{length-in_slots}
 pub use Rattle.pef_hash.proofs.RegularLemmas.{built_has_no_other, built_has_own}
 -- a slot word says how many words are in its slot and in those before it
 pub use Rattle.pef_hash.proofs.Places.{count_before-past, slot_words-at}
-pub use Rattle.pef_hash.specs.Build.{count_before, count_in}

@@ -4,9 +4,9 @@ use Rattle.std.specs.List.{All, flat_map, sum}
 use Rattle.std.proofs.lemmas.List.{drop_all, drop_at, length-map, take_at, get_or-map, get_or_default}
 use Rattle.std.proofs.lemmas.List.Elements.{All-map}
 use Rattle.std.proofs.lemmas.List.Sums.{sum_by-cons}
-use Rattle.pef_hash.specs.Build.{built, keys_at, names_in, slot_words}
+use Rattle.pef_hash.specs.Build.{built, count_before, count_in, keys_at, names_in, slot_words}
 use Rattle.pef_hash.specs.Word.{hash_word, least_power}
-use Rattle.pef_hash.proofs.Laws.{count_before, count_in, count_before-past, slot_words-at}
+use Rattle.pef_hash.proofs.Laws.{count_before-past, slot_words-at}
 use Rattle.pef_hash.proofs.Laws.{ordered_name}
 use Rattle.pef_hash.proofs.Laws.{least_power-most}
 use Rattle.pef_hash.proofs.Laws.{length-in_slots}

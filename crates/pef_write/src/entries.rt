@@ -10,14 +10,14 @@ ghost use Rattle.pef_write.specs.Kept.Tables.{IsBelow};
 
 use crate::fault::LinkFault;
 use crate::field::{Field, put_fields};
-use pef_loader::layout::WEAK_IMPORT;
+use pef_loader::layout::{CLASS_SHIFT, WEAK_IMPORT};
 use pef_script::{Export, Import, Library, Script};
 
 /// The byte behind the name of a library or an import.
 const NAME_END: u8 = 0;
 
 /// What a class byte counts for in a word of class and name offset.
-const CLASS_UNIT: u32 = 0x0100_0000;
+const CLASS_UNIT: u32 = 1 << CLASS_SHIFT;
 
 /// Appends the entries of the libraries of `script`, and their names to the strings.
 pub(crate) fn put_libraries(

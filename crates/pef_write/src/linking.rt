@@ -8,8 +8,9 @@ use crate::fault::LinkFault;
 use crate::loader::write_loader;
 use crate::parts::parts;
 use crate::program::{certificates, programs};
-use crate::relocations::{HALFWORD, section_programs};
+use crate::relocations::section_programs;
 use pef_cert::Certificate;
+use pef_loader::layout::HALFWORD_SIZE;
 use pef_script::Script;
 use std::alloc::{AllocError, Global};
 use std::marker::Model;
@@ -96,7 +97,7 @@ fn halfwords(alloc: Global, programs: &[Vec<u8>]) -> Result<Vec<u32>, AllocError
 {
     let mut lengths = Vec::with_capacity(alloc, programs.len())?;
     for program in programs {
-        lengths.push((program.len() / HALFWORD) as u32)?;
+        lengths.push((program.len() / HALFWORD_SIZE) as u32)?;
     }
     Ok(lengths)
 }

@@ -5,10 +5,8 @@ ghost use Rattle.pef_write.specs.Kept.Encoded.{nonempty_from};
 ghost use Rattle.pef_write.specs.Kept.Views.{program_entry};
 
 use crate::field::{Field, put_fields};
+use pef_loader::layout::HALFWORD_SIZE;
 use std::alloc::{AllocError, Global};
-
-/// The bytes of a halfword.
-pub(crate) const HALFWORD: usize = 2;
 
 /// The relocation program of a section.
 #[derive(Clone, Copy, Debug)]
@@ -89,7 +87,7 @@ fn relocation_entry(program: SectionProgram<'_>, at: u32) -> [Field; 4]
     [
         Field::Half(program.section),
         Field::Half(0),
-        Field::Word((program.bytes.len() / HALFWORD) as u32),
+        Field::Word((program.bytes.len() / HALFWORD_SIZE) as u32),
         Field::Word(at),
     ]
 }
