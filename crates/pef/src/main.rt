@@ -1,10 +1,8 @@
 //! The program `pef`: the commands of `pef_tool` over real files, standard input and standard output.
 #![tactic(auto)]
 
-mod adapters;
-
-use adapters::{DiskFiles, Input, Output};
 use pef_answers::{Refusal, deliver};
+use pef_files::{DiskFiles, Input, Output};
 use pef_tool::run;
 use std::alloc::AllocError;
 use std::env;
