@@ -13,7 +13,7 @@ use Rattle.std.proofs.lemmas.Option.{same_Some}
 use Rattle.cfm_memory.specs.declared.place.Place.{Place}
 use Rattle.cfm_memory.specs.Instances.{Instance, Layout, bytes_at, has_length, holds_place, fitted, with_bytes, with_instance, without, range_at, range_in}
 use Rattle.cfm_memory.specs.Kept.Searches.{part_of}
-use Rattle.cfm_memory.specs.Kept.Views.{instance_seen}
+use Rattle.cfm_memory.specs.Views.{instance_seen}
 use Rattle.cfm_memory.specs.Placement.{end_of, IsFree, IsLaidOut}
 use Rattle.cfm_memory.proofs.Changes.{laid_out_from}
 use Rattle.cfm_memory.proofs.Placing.{within_taken}

@@ -1,3 +1,2 @@
 -- What the code keeps: these definitions serve private contracts and proofs, and no public clause cites them.
 pub mod Searches
-pub mod Views

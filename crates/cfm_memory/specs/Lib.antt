@@ -5,3 +5,4 @@ pub mod Kept
 pub mod Lending
 pub mod Limits
 pub mod Placement
+pub mod Views

@@ -39,7 +39,7 @@ impl Model for Memory {
 
     ghost use Rattle.std.specs.Prelude.{map};
     ghost use Rattle.cfm_memory.specs.Kept.Searches.{IsKept};
-    ghost use Rattle.cfm_memory.specs.Kept.Views.{instance_seen, layout};
+    ghost use Rattle.cfm_memory.specs.Views.{instance_seen, layout};
 
     ghost view = { layout };
 

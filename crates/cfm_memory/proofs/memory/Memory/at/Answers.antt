@@ -1,7 +1,7 @@
 -- The range lies in the last instance that begins up to its address, or nowhere.
 use Rattle.std.proofs.Common.{◌≡◌, ℕ, [], ◌∷◌, ◌++◌, sym, ◌∙◌}
 use Rattle.std.specs.Global.{Vec}
-use Rattle.cfm_memory.specs.Kept.Views.{instance_seen}
+use Rattle.cfm_memory.specs.Views.{instance_seen}
 use Rattle.cfm_memory.specs.Limits.{first_address}
 use Rattle.cfm_memory.proofs.Entries.{entries_to, last_begins, none_to, part_is, range_of_last}
 use Rattle.cfm_memory.proofs.memory.Memory.at.Goals as goal

@@ -5,7 +5,7 @@ use Rattle.std.specs.Map.Iter.{TakesFirst, deref_pair}
 use Rattle.std.proofs.lemmas.Bool.{cases_lt}
 use Rattle.std.proofs.lemmas.Map.Iter.{rest_more}
 use Rattle.cfm_memory.specs.Kept.Searches.{IsFirstFree, IsFront}
-use Rattle.cfm_memory.specs.Kept.Views.{instance_seen}
+use Rattle.cfm_memory.specs.Views.{instance_seen}
 use Rattle.cfm_memory.specs.Limits.{first_address}
 use Rattle.cfm_memory.specs.Placement.{end_of, taken}
 use Rattle.cfm_memory.proofs.Changes.{laid_out_to}

@@ -2,7 +2,7 @@
 use Rattle.std.proofs.Common.{◌≡◌, ℕ, ◌%◌, ◌^◌, ◌<◌, map}
 use Rattle.cfm_memory.specs.Limits.{first_address}
 use Rattle.cfm_memory.specs.Placement.{IsLaidOut}
-use Rattle.cfm_memory.specs.Kept.Views.{instance_seen}
+use Rattle.cfm_memory.specs.Views.{instance_seen}
 use Rattle.cfm_memory.specs.Kept.Searches.{IsFirstFree}
 use Rattle.cfm_memory.proofs.memory.Memory.first_free.Given as goal
 

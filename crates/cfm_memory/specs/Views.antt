@@ -1,4 +1,4 @@
--- What the code keeps, seen without places in the machine's memory.
+-- What the code's memory is seen as, without places in the machine's memory.
 use Rattle.std.specs.Prelude.{ℕ, map}
 use Rattle.std.specs.Global.{Vec}
 use Rattle.cfm_memory.specs.declared.memory.Memory.TheInside.{Inside}
