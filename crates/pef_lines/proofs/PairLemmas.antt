@@ -7,7 +7,8 @@ use Rattle.std.specs.List.{list_all}
 use Rattle.std.specs.Option.{option_and_then, option_map}
 use Rattle.pef_lines.specs.Numbers.{hex_digit}
 use Rattle.pef_lines.specs.Pairs.{pair_of, pairs_of}
-use Rattle.pef_lines.specs.Kept.Pairs.{digit_value, is_hex, spelled}
+use Rattle.pef_lines.specs.Kept.Pairs.{is_hex}
+use Rattle.pef_lines.specs.Views.{digit_value, spelled}
 
 -- without the bytes behind it, a pair is none
 none_behind : (pair : Option ℕ) → option_and_then (λ byte. option_map (λ bytes. byte ∷ bytes) None) pair ≡ None

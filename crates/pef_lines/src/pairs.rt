@@ -1,6 +1,7 @@
 ghost use Rattle.std.specs.Prelude.{◌≡◌, ◌++◌, ◌*◌, ◌%◌, ◌≤◌, length, OnOk};
 ghost use Rattle.std.specs.List.{list_all};
-ghost use Rattle.pef_lines.specs.Kept.Pairs.{digit_value, is_hex, spelled};
+ghost use Rattle.pef_lines.specs.Kept.Pairs.{is_hex};
+ghost use Rattle.pef_lines.specs.Views.{digit_value, spelled};
 ghost use Rattle.pef_lines.specs.Pairs.{pairs_of};
 
 use crate::numbers::hex_digit;
@@ -15,7 +16,7 @@ pub struct Pairs<'a> {
 
 impl<'a> Model for Pairs<'a> {
     ghost use Rattle.std.specs.Prelude.{◌≡◌, ◌%◌, length, List, ℕ};
-    ghost use Rattle.pef_lines.specs.Kept.Pairs.{spelled};
+    ghost use Rattle.pef_lines.specs.Views.{spelled};
 
     ghost Value = { List ℕ };
 

@@ -1,5 +1,5 @@
 use Rattle.std.proofs.Common.{◌≡◌, ◌*◌, ◌++◌, drop, take}
-use Rattle.pef_lines.specs.Kept.Pairs.{spelled}
+use Rattle.pef_lines.specs.Views.{spelled}
 use Rattle.pef_lines.proofs.pairs.spell.Given as goal
 
 -- the bytes that are written and those of the pairs that are left are the whole
