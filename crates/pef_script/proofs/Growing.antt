@@ -16,18 +16,17 @@ use Rattle.pef_reloc.proofs.Laws.{fixups_fit-more, fixups_end-append}
 use Rattle.pef_script.specs.declared.fault.LineFault.{LineFault}
 use Rattle.pef_script.specs.declared.fault.LineFault.TheVariants.{RepeatedName, OutOfOrder, Overlap, OutsideSection, TooMany}
 use Rattle.pef_script.specs.Limits.{most_name_bytes}
-use Rattle.pef_script.specs.Script.{DescribedExport, DescribedImport, DescribedLibrary, DescribedSection}
+use Rattle.pef_script.specs.Script.{DescribedExport, DescribedImport, DescribedLibrary, DescribedSection, bytes_of_names, name_bytes}
 use Rattle.pef_script.specs.SoFar.{ScriptSoFar, counted_name_tests, has_no_room, is_repeated, library_group, name_tests, no_section, number_of_name, section_at}
 use Rattle.pef_script.specs.Declarations.{entered_import}
 use Rattle.pef_script.specs.Contents.{bytes_tests, fixup_of, fixup_tests, with_contents, with_fixups}
-use Rattle.pef_script.specs.WellFormed.{BaseThere, EntryHolds, ExportHolds, ExportsHold, ImportHolds, ImportsHold, PlaceHolds, ScriptHolds, SectionHolds, SectionsHold, SignedPlaceHolds, bytes_of_names, name_bytes, totals_of}
+use Rattle.pef_script.specs.WellFormed.{BaseThere, EntryHolds, ExportHolds, ExportsHold, ImportHolds, ImportsHold, PlaceHolds, ScriptHolds, SectionHolds, SectionsHold, SignedPlaceHolds, totals_of}
 use Rattle.pef_words.proofs.Laws.Lists.{all-append, all-at, all-set, all-weaker}
 use Rattle.pef_script.proofs.ListLemmas.{map-set}
 
 -- what is true while a script is read
-pub record StateHolds (s : ScriptSoFar) : Type 0 where
-  pub script : ScriptHolds s.script
-  pub names : s.names ≡ name_bytes s.script
+abbrev pub StateHolds : ScriptSoFar → Type 0
+StateHolds s = ScriptHolds s.script
 
 -- what tests that are not met say
 
@@ -60,7 +59,7 @@ name_tests-unmet names limit name others unmet =
 pub record CountedRoom (s : ScriptSoFar) (names : List (List ℕ)) (limit : ℕ) (name : List ℕ) : Type 0 where
   pub new : number_of_name names name ≡ None
   pub room : length names < limit
-  pub bytes : s.names + (length name + 1) ≤ most_name_bytes
+  pub bytes : name_bytes s.script + (length name + 1) ≤ most_name_bytes
 
 pub counted_tests-unmet : (s : ScriptSoFar) (names : List (List ℕ)) (limit : ℕ) (name : List ℕ) (others : List (Bool × LineFault)) → first_met (counted_name_tests s names limit name ++ others) ≡ None → CountedRoom s names limit name × (first_met others ≡ None)
 counted_tests-unmet s names limit name others unmet =
@@ -182,31 +181,27 @@ names-more names name = let more = sum_by-append (λ (n : List ℕ). length n + 
 pub changed : (s : ScriptSoFar) (k : ℕ) (section : DescribedSection) → StateHolds s → section.header ≡ (section_at s k).header → SectionHolds (length s.script.sections) (length s.script.imports) section → StateHolds (with_contents s k section)
 changed s k section holds same fits =
     let sections = s.script.sections in
-    let was = holds.script in
     let count : length (slice_set sections k section) ≡ length sections = length-set sections k section in
     let totals : totals_of (slice_set sections k section) ≡ totals_of sections = map-set (λ (x : DescribedSection). x.header) (λ h. h.total) sections k no_section section same in
     let names : map (λ (x : DescribedSection). x.header.name) (slice_set sections k section) ≡ map (λ (x : DescribedSection). x.header.name) sections = map-set (λ (x : DescribedSection). x.header) (λ h. h.name) sections k no_section section same in
     record {
-      script = record {
-        versions = was.versions;
-        libraries = was.libraries;
-        imports = was.imports;
-        sections = record {
-          count = omega (arith, count, was.sections.count);
-          each = rw count (all-set (SectionHolds (length sections) (length s.script.imports)) sections k section was.sections.each fits);
-          apart = rw names was.sections.apart;
-        };
-        exports = rw totals was.exports;
-        main = rw totals was.main;
-        init = rw totals was.init;
-        term = rw totals was.term;
-        names = was.names;
+      versions = holds.versions;
+      libraries = holds.libraries;
+      imports = holds.imports;
+      sections = record {
+        count = omega (arith, count, holds.sections.count);
+        each = rw count (all-set (SectionHolds (length sections) (length s.script.imports)) sections k section holds.sections.each fits);
+        apart = rw names holds.sections.apart;
       };
+      exports = rw totals holds.exports;
+      main = rw totals holds.main;
+      init = rw totals holds.init;
+      term = rw totals holds.term;
       names = holds.names;
     }
 
 pub at_section : (s : ScriptSoFar) (k : ℕ) → StateHolds s → k < length s.script.sections → SectionHolds (length s.script.sections) (length s.script.imports) (section_at s k)
-at_section s k holds under = all-at (SectionHolds (length s.script.sections) (length s.script.imports)) s.script.sections k no_section holds.script.sections.each under
+at_section s k holds under = all-at (SectionHolds (length s.script.sections) (length s.script.imports)) s.script.sections k no_section holds.sections.each under
 
 -- a base that is there is within the limits of bases
 base_within : (m n : ℕ) (b : Base) → m ≤ most_sections → n ≤ most_imports → BaseThere m n b → base_fits b ≡ true

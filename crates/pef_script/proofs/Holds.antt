@@ -15,7 +15,7 @@ use Rattle.pef_script.specs.declared.fault.LineFault.{LineFault}
 use Rattle.pef_script.specs.declared.fault.LineFault.TheVariants.{BadLine, OutsideSection}
 use Rattle.pef_reloc.specs.Limits.{most_imports, most_sections}
 use Rattle.pef_script.specs.Limits.{greatest_align, greatest_number, greatest_total, most_exports, most_libraries}
-use Rattle.pef_script.specs.Script.{DescribedExport, DescribedImport, DescribedLibrary, DescribedSection, DescribedScript, export_names, import_names, library_names, section_names}
+use Rattle.pef_script.specs.Script.{DescribedExport, DescribedImport, DescribedLibrary, DescribedSection, DescribedScript, bytes_of_names, export_names, import_names, library_names, section_names}
 use Rattle.pef_script.specs.Words.{image_of, last_name, last_word, next_name, next_word, number_up_to}
 use Rattle.pef_script.specs.SoFar.{ScriptSoFar, content_group, counted_name_tests, entered, entered_once, export_group, init_group, library_group, main_group, name_tests, section_at, section_group, section_named, term_group, versions_group}
 use Rattle.pef_script.specs.Declarations.{class_of, entered_import, import_line, is_weak_word, kind_of, library_line, options_of, section_line, share_of, versions_line}
@@ -23,7 +23,7 @@ use Rattle.pef_script.specs.Contents.{base_named, bytes_line, bytes_tests, fix_l
 use Rattle.pef_script.specs.Exports.{entry_in, export_line, init_line, main_line, place_tests, term_line}
 use Rattle.pef_lines.specs.Lines.{lines_of}
 use Rattle.pef_script.specs.Grammar.{Refusal, after_line, is_skipped, line_by_word, line_of, no_lines, read_lines, script_of}
-use Rattle.pef_script.specs.WellFormed.{ExportHolds, ImportHolds, LibraryHolds, PlaceHolds, ScriptHolds, SectionHolds, bytes_of_names, totals_of}
+use Rattle.pef_script.specs.WellFormed.{ExportHolds, ImportHolds, LibraryHolds, PlaceHolds, ScriptHolds, SectionHolds, totals_of}
 use Rattle.pef_script.proofs.Leads.{Leads, leads_if, leads_then, leads_unless, led}
 use Rattle.pef_words.proofs.Laws.Lists.{all-append, all-map, all-weaker}
 use Rattle.pef_script.proofs.ListLemmas.{distinct-more, no_names_apart, rises-more}
@@ -31,9 +31,6 @@ use Rattle.pef_script.proofs.WordLemmas.{base_named-is, class_of-is, kind_of-is,
 use Rattle.pef_script.proofs.Growing.{StateHolds, name_tests-unmet, counted_tests-unmet, bytes_tests-unmet, fixup_tests-unmet, entry-more, exports-more, section-more, sections-more, imports-more, entered_import-some, place_at, names-more, changed, at_section, fixup-more}
 
 module _ (s : ScriptSoFar) (holds : StateHolds s) (line : List ℕ) where
-  abbrev was : ScriptHolds s.script
-  was = holds.script
-
   versions_line-holds : Leads StateHolds (versions_line s line)
   unfolding versions_line
   versions_line-holds =
@@ -45,21 +42,18 @@ module _ (s : ScriptSoFar) (holds : StateHolds s) (line : List ℕ) where
       leads_then StateHolds (number_up_to greatest_number old_def_word.0) _ (λ old_def old_def_is.
       leads_then StateHolds (number_up_to greatest_number old_imp_word) _ (λ old_imp old_imp_is.
       record {
-        script = record {
-          versions = record {
-            current = number_up_to-is greatest_number current_word.0 current current_is;
-            old_def = number_up_to-is greatest_number old_def_word.0 old_def old_def_is;
-            old_imp = number_up_to-is greatest_number old_imp_word old_imp old_imp_is;
-          };
-          libraries = was.libraries;
-          imports = was.imports;
-          sections = was.sections;
-          exports = was.exports;
-          main = was.main;
-          init = was.init;
-          term = was.term;
-          names = was.names;
+        versions = record {
+          current = number_up_to-is greatest_number current_word.0 current current_is;
+          old_def = number_up_to-is greatest_number old_def_word.0 old_def old_def_is;
+          old_imp = number_up_to-is greatest_number old_imp_word old_imp old_imp_is;
         };
+        libraries = holds.libraries;
+        imports = holds.imports;
+        sections = holds.sections;
+        exports = holds.exports;
+        main = holds.main;
+        init = holds.init;
+        term = holds.term;
         names = holds.names;
       })))))))
 
@@ -82,30 +76,27 @@ module _ (s : ScriptSoFar) (holds : StateHolds s) (line : List ℕ) where
       let names : map (λ (l : DescribedLibrary). l.name) (libraries ++ library ∷ []) ≡ library_names s.script ++ name.0 ∷ [] = map-append (λ (l : DescribedLibrary). l.name) libraries (library ∷ []) in
       let bytes = ap bytes_of_names names ∙ names-more (library_names s.script) name.0 in
       record {
-        script = record {
-          versions = was.versions;
-          libraries = record {
-            count = omega (arith, count, room.room, length-map libraries (λ (l : DescribedLibrary). l.name));
-            each = all-append LibraryHolds libraries (library ∷ []) was.libraries.each (
-              record {
-                name = next_name-is line name name_is;
-                current = number_up_to-is greatest_number current_word.0 current current_is;
-                old_imp = number_up_to-is greatest_number old_imp_word.0 old_imp old_imp_is;
-                options = options_of-is option options options_is;
-              },
-              tt,
-            );
-            apart = rw names (distinct-more (library_names s.script) name.0 was.libraries.apart room.new);
-          };
-          imports = rw count (imports-more (length libraries) s.script.imports was.imports);
-          sections = was.sections;
-          exports = was.exports;
-          main = was.main;
-          init = was.init;
-          term = was.term;
-          names = omega (arith, bytes, holds.names, room.bytes);
+        versions = holds.versions;
+        libraries = record {
+          count = omega (arith, count, room.room, length-map libraries (λ (l : DescribedLibrary). l.name));
+          each = all-append LibraryHolds libraries (library ∷ []) holds.libraries.each (
+            record {
+              name = next_name-is line name name_is;
+              current = number_up_to-is greatest_number current_word.0 current current_is;
+              old_imp = number_up_to-is greatest_number old_imp_word.0 old_imp old_imp_is;
+              options = options_of-is option options options_is;
+            },
+            tt,
+          );
+          apart = rw names (distinct-more (library_names s.script) name.0 holds.libraries.apart room.new);
         };
-        names = omega (arith, bytes, holds.names);
+        imports = rw count (imports-more (length libraries) s.script.imports holds.imports);
+        sections = holds.sections;
+        exports = holds.exports;
+        main = holds.main;
+        init = holds.init;
+        term = holds.term;
+        names = omega (arith, bytes, room.bytes);
       })))))))))
 
   import_line-holds : Leads StateHolds (import_line s line)
@@ -128,31 +119,28 @@ module _ (s : ScriptSoFar) (holds : StateHolds s) (line : List ℕ) where
       let libraries : map (λ (i : DescribedImport). i.library) (imports ++ symbol ∷ []) ≡ map (λ (i : DescribedImport). i.library) imports ++ (n - 1) ∷ [] = map-append (λ (i : DescribedImport). i.library) imports (symbol ∷ []) in
       let bytes = ap bytes_of_names names ∙ names-more (import_names s.script) name.0 in
       record {
-        script = record {
-          versions = was.versions;
-          libraries = was.libraries;
-          imports = record {
-            count = omega (arith, count, room.room, length-map imports (λ (i : DescribedImport). i.name));
-            each = all-append (ImportHolds n) imports (symbol ∷ []) was.imports.each (
-              record {
-                name = next_name-is line name name_is;
-                class = class_of-is class_word.0 class class_is;
-                library = omega (arith, some);
-              },
-              tt,
-            );
-            apart = rw names (distinct-more (import_names s.script) name.0 was.imports.apart room.new);
-            grouped = rw libraries (rises-more (map (λ (i : DescribedImport). i.library) imports) (n - 1) was.imports.grouped
-                (all-map (λ (i : DescribedImport). i.library) (ImportHolds n) (λ x. x ≤ n - 1) imports (λ i fits. omega (arith, fits.library)) was.imports.each));
-          };
-          sections = rw count (sections-more (length imports) 1 s.script.sections was.sections);
-          exports = was.exports;
-          main = was.main;
-          init = was.init;
-          term = was.term;
-          names = omega (arith, bytes, holds.names, room.bytes);
+        versions = holds.versions;
+        libraries = holds.libraries;
+        imports = record {
+          count = omega (arith, count, room.room, length-map imports (λ (i : DescribedImport). i.name));
+          each = all-append (ImportHolds n) imports (symbol ∷ []) holds.imports.each (
+            record {
+              name = next_name-is line name name_is;
+              class = class_of-is class_word.0 class class_is;
+              library = omega (arith, some);
+            },
+            tt,
+          );
+          apart = rw names (distinct-more (import_names s.script) name.0 holds.imports.apart room.new);
+          grouped = rw libraries (rises-more (map (λ (i : DescribedImport). i.library) imports) (n - 1) holds.imports.grouped
+              (all-map (λ (i : DescribedImport). i.library) (ImportHolds n) (λ x. x ≤ n - 1) imports (λ i fits. omega (arith, fits.library)) holds.imports.each));
         };
-        names = omega (arith, bytes, holds.names);
+        sections = rw count (sections-more (length imports) 1 s.script.sections holds.sections);
+        exports = holds.exports;
+        main = holds.main;
+        init = holds.init;
+        term = holds.term;
+        names = omega (arith, bytes, room.bytes);
       })))))))
 
   section_line-holds : Leads StateHolds (section_line s line)
@@ -178,36 +166,33 @@ module _ (s : ScriptSoFar) (holds : StateHolds s) (line : List ℕ) where
       let same : i + 0 ≡ i = omega arith in
       let names : map (λ (x : DescribedSection). x.header.name) (sections ++ section ∷ []) ≡ section_names s.script ++ name.0 ∷ [] = map-append (λ (x : DescribedSection). x.header.name) sections (section ∷ []) in
       let totals : totals_of (sections ++ section ∷ []) ≡ totals_of sections ++ total ∷ [] = map-append (λ (x : DescribedSection). x.header.total) sections (section ∷ []) in
-      let others : AllByRecursion (SectionHolds (n + 1) i) sections = subst (λ j. AllByRecursion (SectionHolds (n + 1) j) sections) same (all-weaker (SectionHolds n i) (SectionHolds (n + 1) (i + 0)) sections (section-more n i 1 0) was.sections.each) in
+      let others : AllByRecursion (SectionHolds (n + 1) i) sections = subst (λ j. AllByRecursion (SectionHolds (n + 1) j) sections) same (all-weaker (SectionHolds n i) (SectionHolds (n + 1) (i + 0)) sections (section-more n i 1 0) holds.sections.each) in
       record {
-        script = record {
-          versions = was.versions;
-          libraries = was.libraries;
-          imports = was.imports;
-          sections = record {
-            count = omega (arith, count, room.room, length-map sections (λ (x : DescribedSection). x.header.name));
-            each = rw count (all-append (SectionHolds (n + 1) i) sections (section ∷ []) others (
-              record {
-                name = next_name-is line name name_is;
-                kind = kind_of-is kind_word.0 kind kind_is;
-                share = share_of-is share_word.0 share share_is;
-                align = number_up_to-is greatest_align align_word.0 align align_is;
-                total = number_up_to-is greatest_total total_word total total_is;
-                image = omega arith;
-                fixups = no_fixups_fit;
-                inside = omega arith;
-                bases = tt;
-              },
-              tt,
-            ));
-            apart = rw names (distinct-more (section_names s.script) name.0 was.sections.apart room.new);
-          };
-          exports = rw totals (exports-more (totals_of sections) (total ∷ []) s.script.exports was.exports);
-          main = rw totals (entry-more (totals_of sections) (total ∷ []) s.script.main was.main);
-          init = rw totals (entry-more (totals_of sections) (total ∷ []) s.script.init was.init);
-          term = rw totals (entry-more (totals_of sections) (total ∷ []) s.script.term was.term);
-          names = was.names;
+        versions = holds.versions;
+        libraries = holds.libraries;
+        imports = holds.imports;
+        sections = record {
+          count = omega (arith, count, room.room, length-map sections (λ (x : DescribedSection). x.header.name));
+          each = rw count (all-append (SectionHolds (n + 1) i) sections (section ∷ []) others (
+            record {
+              name = next_name-is line name name_is;
+              kind = kind_of-is kind_word.0 kind kind_is;
+              share = share_of-is share_word.0 share share_is;
+              align = number_up_to-is greatest_align align_word.0 align align_is;
+              total = number_up_to-is greatest_total total_word total total_is;
+              image = omega arith;
+              fixups = no_fixups_fit;
+              inside = omega arith;
+              bases = tt;
+            },
+            tt,
+          ));
+          apart = rw names (distinct-more (section_names s.script) name.0 holds.sections.apart room.new);
         };
+        exports = rw totals (exports-more (totals_of sections) (total ∷ []) s.script.exports holds.exports);
+        main = rw totals (entry-more (totals_of sections) (total ∷ []) s.script.main holds.main);
+        init = rw totals (entry-more (totals_of sections) (total ∷ []) s.script.init holds.init);
+        term = rw totals (entry-more (totals_of sections) (total ∷ []) s.script.term holds.term);
         names = holds.names;
       })))))))))))
 
@@ -251,7 +236,7 @@ module _ (s : ScriptSoFar) (holds : StateHolds s) (line : List ℕ) where
       let under = section_named-is s name.0 k k_is in
       let room = fixup_tests-unmet s k offset 1 unmet in
       changed s k (with_fixups (section_at s k) (fixup_of offset target ∷ [])) holds refl
-      (fixup-more (length s.script.sections) (length s.script.imports) (section_at s k) offset target (omega (arith, was.sections.count)) (omega (arith, was.imports.count)) (at_section s k holds under)
+      (fixup-more (length s.script.sections) (length s.script.imports) (section_at s k) offset target (omega (arith, holds.sections.count)) (omega (arith, holds.imports.count)) (at_section s k holds under)
       (omega (arith, room.room)) (omega (arith, room.inside)) room.after (base_named-is s is_section target_name target target_is))))))))))))
 
   tvector_line-holds : Leads StateHolds (tvector_line s line)
@@ -271,8 +256,8 @@ module _ (s : ScriptSoFar) (holds : StateHolds s) (line : List ℕ) where
       let room = fixup_tests-unmet s k offset 2 unmet in
       let m = length s.script.sections in
       let n = length s.script.imports in
-      let few : m ≤ most_sections = omega (arith, was.sections.count) in
-      let some : n ≤ most_imports = omega (arith, was.imports.count) in
+      let few : m ≤ most_sections = omega (arith, holds.sections.count) in
+      let some : n ≤ most_imports = omega (arith, holds.imports.count) in
       let section = section_at s k in
       let a = fixup_of offset (base.Section code) in
       let b = fixup_of (offset + 4) (base.Section data_section) in
@@ -304,29 +289,26 @@ module _ (s : ScriptSoFar) (holds : StateHolds s) (line : List ℕ) where
       let names : map (λ (e : DescribedExport). e.name) (exports ++ symbol ∷ []) ≡ export_names s.script ++ name.0 ∷ [] = map-append (λ (e : DescribedExport). e.name) exports (symbol ∷ []) in
       let bytes = ap bytes_of_names names ∙ names-more (export_names s.script) name.0 in
       record {
-        script = record {
-          versions = was.versions;
-          libraries = was.libraries;
-          imports = was.imports;
-          sections = was.sections;
-          exports = record {
-            count = omega (arith, count, room.room, length-map exports (λ (e : DescribedExport). e.name));
-            each = all-append (ExportHolds (totals_of s.script.sections)) exports (symbol ∷ []) was.exports.each (
-              record {
-                name = next_name-is line name name_is;
-                class = class_of-is class_word.0 class class_is;
-                place = place_at s k offset (section_named-is s section_name.0 k k_is) inside;
-              },
-              tt,
-            );
-            apart = rw names (distinct-more (export_names s.script) name.0 was.exports.apart room.new);
-          };
-          main = was.main;
-          init = was.init;
-          term = was.term;
-          names = omega (arith, bytes, holds.names, room.bytes);
+        versions = holds.versions;
+        libraries = holds.libraries;
+        imports = holds.imports;
+        sections = holds.sections;
+        exports = record {
+          count = omega (arith, count, room.room, length-map exports (λ (e : DescribedExport). e.name));
+          each = all-append (ExportHolds (totals_of s.script.sections)) exports (symbol ∷ []) holds.exports.each (
+            record {
+              name = next_name-is line name name_is;
+              class = class_of-is class_word.0 class class_is;
+              place = place_at s k offset (section_named-is s section_name.0 k k_is) inside;
+            },
+            tt,
+          );
+          apart = rw names (distinct-more (export_names s.script) name.0 holds.exports.apart room.new);
         };
-        names = omega (arith, bytes, holds.names);
+        main = holds.main;
+        init = holds.init;
+        term = holds.term;
+        names = omega (arith, bytes, room.bytes);
       })))))))))
 
   entry_in-holds : (group : ℕ) → Leads (λ (entry : ℕ × ℕ). PlaceHolds (totals_of s.script.sections) entry.0 entry.1) (entry_in s group line)
@@ -343,50 +325,41 @@ module _ (s : ScriptSoFar) (holds : StateHolds s) (line : List ℕ) where
 
   main_line-holds : Leads StateHolds (main_line s line)
   main_line-holds = leads_then StateHolds (entry_in s main_group line) _ (λ entry entry_is. record {
-    script = record {
-      versions = was.versions;
-      libraries = was.libraries;
-      imports = was.imports;
-      sections = was.sections;
-      exports = was.exports;
-      init = was.init;
-      term = was.term;
-      names = was.names;
-      main = led (λ (e : ℕ × ℕ). PlaceHolds (totals_of s.script.sections) e.0 e.1) (entry_in s main_group line) entry entry_is (entry_in-holds main_group);
-    };
+    versions = holds.versions;
+    libraries = holds.libraries;
+    imports = holds.imports;
+    sections = holds.sections;
+    exports = holds.exports;
+    init = holds.init;
+    term = holds.term;
     names = holds.names;
+    main = led (λ (e : ℕ × ℕ). PlaceHolds (totals_of s.script.sections) e.0 e.1) (entry_in s main_group line) entry entry_is (entry_in-holds main_group);
   })
 
   init_line-holds : Leads StateHolds (init_line s line)
   init_line-holds = leads_then StateHolds (entry_in s init_group line) _ (λ entry entry_is. record {
-    script = record {
-      versions = was.versions;
-      libraries = was.libraries;
-      imports = was.imports;
-      sections = was.sections;
-      exports = was.exports;
-      main = was.main;
-      term = was.term;
-      names = was.names;
-      init = led (λ (e : ℕ × ℕ). PlaceHolds (totals_of s.script.sections) e.0 e.1) (entry_in s init_group line) entry entry_is (entry_in-holds init_group);
-    };
+    versions = holds.versions;
+    libraries = holds.libraries;
+    imports = holds.imports;
+    sections = holds.sections;
+    exports = holds.exports;
+    main = holds.main;
+    term = holds.term;
     names = holds.names;
+    init = led (λ (e : ℕ × ℕ). PlaceHolds (totals_of s.script.sections) e.0 e.1) (entry_in s init_group line) entry entry_is (entry_in-holds init_group);
   })
 
   term_line-holds : Leads StateHolds (term_line s line)
   term_line-holds = leads_then StateHolds (entry_in s term_group line) _ (λ entry entry_is. record {
-    script = record {
-      versions = was.versions;
-      libraries = was.libraries;
-      imports = was.imports;
-      sections = was.sections;
-      exports = was.exports;
-      main = was.main;
-      init = was.init;
-      names = was.names;
-      term = led (λ (e : ℕ × ℕ). PlaceHolds (totals_of s.script.sections) e.0 e.1) (entry_in s term_group line) entry entry_is (entry_in-holds term_group);
-    };
+    versions = holds.versions;
+    libraries = holds.libraries;
+    imports = holds.imports;
+    sections = holds.sections;
+    exports = holds.exports;
+    main = holds.main;
+    init = holds.init;
     names = holds.names;
+    term = led (λ (e : ℕ × ℕ). PlaceHolds (totals_of s.script.sections) e.0 e.1) (entry_in s term_group line) entry entry_is (entry_in-holds term_group);
   })
 
 line_by_word-holds : (s : ScriptSoFar) (p : List ℕ × List ℕ) → StateHolds s → Leads StateHolds (line_by_word s p)
@@ -416,7 +389,7 @@ OkHolds (Ok script) = ScriptHolds script
 OkHolds (Err refusal) = Unit {0}
 
 read_lines-holds : (lines : List (List ℕ)) (s : ScriptSoFar) (number : ℕ) → StateHolds s → OkHolds (read_lines s number lines)
-read_lines-holds [] s number holds = holds.script
+read_lines-holds [] s number holds = holds
 read_lines-holds (line ∷ lines) s number holds = by (line_of s line) (line_of-holds s line holds) (λ next fits. read_lines-holds lines next (number + 1) fits)
   where
     by : (r : Result ScriptSoFar LineFault) → Leads StateHolds r → ((next : ScriptSoFar) → StateHolds next → OkHolds (read_lines next (number + 1) lines)) → OkHolds (after_line r number (λ next. read_lines next (number + 1) lines))
@@ -425,18 +398,15 @@ read_lines-holds (line ∷ lines) s number holds = by (line_of s line) (line_of-
 
 nothing-holds : StateHolds no_lines
 nothing-holds = record {
-  script = record {
-    versions = record { current = omega arith; old_def = omega arith; old_imp = omega arith };
-    libraries = record { count = omega arith; each = tt; apart = no_names_apart };
-    imports = record { count = omega arith; each = tt; apart = no_names_apart; grouped = tt };
-    sections = record { count = omega arith; each = tt; apart = no_names_apart };
-    exports = record { count = omega arith; each = tt; apart = no_names_apart };
-    main = tt;
-    init = tt;
-    term = tt;
-    names = omega arith;
-  };
-  names = refl;
+  versions = record { current = omega arith; old_def = omega arith; old_imp = omega arith };
+  libraries = record { count = omega arith; each = tt; apart = no_names_apart };
+  imports = record { count = omega arith; each = tt; apart = no_names_apart; grouped = tt };
+  sections = record { count = omega arith; each = tt; apart = no_names_apart };
+  exports = record { count = omega arith; each = tt; apart = no_names_apart };
+  main = tt;
+  init = tt;
+  term = tt;
+  names = omega arith;
 }
 
 -- every script that is read holds

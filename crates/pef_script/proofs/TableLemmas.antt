@@ -8,7 +8,7 @@ use Rattle.std.proofs.lemmas.Iterator.Adapters.{position_from-zero}
 use Rattle.pef_script.specs.declared.parts.ExportData.{ExportData}
 use Rattle.pef_script.specs.declared.parts.ImportData.{ImportData}
 use Rattle.pef_script.specs.declared.parts.LibraryData.{LibraryData}
-use Rattle.pef_script.specs.Kept.Reader.{export_of, import_of, library_of}
+use Rattle.pef_script.specs.Parts.{export_of, import_of, library_of}
 use Rattle.pef_script.specs.SoFar.{number_of_name}
 
 -- a place in a list is that in the list seen in another way

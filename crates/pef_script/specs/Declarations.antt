@@ -10,7 +10,7 @@ use Rattle.pef_script.specs.declared.fault.LineFault.TheVariants.{OutOfOrder, Ba
 use Rattle.pef_script.specs.declared.parts.Versions.{Versions}
 use Rattle.pef_script.specs.Limits.{greatest_align, greatest_number, greatest_total, most_libraries}
 use Rattle.pef_script.specs.Script.{DescribedHeader, DescribedImport, DescribedLibrary, import_names, library_names, section_names}
-use Rattle.pef_script.specs.SoFar.{◌>>=◌, ScriptSoFar, counted_name_tests, entered, entered_once, library_group, name_tests, section_group, versions_group, with_name, word_of}
+use Rattle.pef_script.specs.SoFar.{◌>>=◌, ScriptSoFar, counted_name_tests, entered, entered_once, library_group, name_tests, section_group, versions_group, with_script, word_of}
 use Rattle.pef_script.specs.Words.{next_word, last_word, next_name, number_up_to}
 
 -- `versions CURRENT OLDDEF OLDIMP`
@@ -37,7 +37,7 @@ options_of = word_of ((codes "-", 0) ∷ (codes "weak", 0x40) ∷ (codes "before
 -- a library with a name that is new and has room
 abbrev pub with_library : ScriptSoFar → DescribedLibrary → Result ScriptSoFar LineFault
 with_library s library = unless (first_met (counted_name_tests s (library_names s.script) most_libraries library.name))
-    (Ok (with_name s library_group library.name (record s.script { libraries = s.script.libraries ++ library ∷ [] })))
+    (Ok (with_script s library_group (record s.script { libraries = s.script.libraries ++ library ∷ [] })))
 
 unfoldable pub library_line : ScriptSoFar → List ℕ → Result ScriptSoFar LineFault
 library_line s line = do
@@ -65,7 +65,7 @@ entered_import s = if nat_lt library_group s.reached || length s.script.librarie
 -- an import with a name that is new and has room
 abbrev pub with_import : ScriptSoFar → DescribedImport → Result ScriptSoFar LineFault
 with_import s symbol = unless (first_met (counted_name_tests s (import_names s.script) most_imports symbol.name))
-    (Ok (with_name s library_group symbol.name (record s.script { imports = s.script.imports ++ symbol ∷ [] })))
+    (Ok (with_script s library_group (record s.script { imports = s.script.imports ++ symbol ∷ [] })))
 
 unfoldable pub import_line : ScriptSoFar → List ℕ → Result ScriptSoFar LineFault
 import_line s line = do

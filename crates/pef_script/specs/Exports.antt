@@ -7,7 +7,7 @@ use Rattle.pef_script.specs.declared.fault.LineFault.TheVariants.{OutsideSection
 use Rattle.pef_script.specs.Limits.{greatest_number, most_exports}
 use Rattle.pef_script.specs.Script.{DescribedExport, export_names}
 use Rattle.pef_script.specs.Declarations.{class_of}
-use Rattle.pef_script.specs.SoFar.{◌>>=◌, ScriptSoFar, counted_name_tests, entered, entered_once, export_group, init_group, main_group, section_at, section_named, term_group, with_name}
+use Rattle.pef_script.specs.SoFar.{◌>>=◌, ScriptSoFar, counted_name_tests, entered, entered_once, export_group, init_group, main_group, section_at, section_named, term_group, with_script}
 use Rattle.pef_script.specs.Words.{next_word, last_word, next_name, number_up_to}
 
 -- the test of an offset in section k, which may be its end
@@ -19,7 +19,7 @@ place_tests s k offset = (nat_lt (section_at s k).header.total offset, OutsideSe
 -- an export in section k with a name that is new and has room
 abbrev pub with_export : ScriptSoFar → ℕ → DescribedExport → Result ScriptSoFar LineFault
 with_export s k symbol = unless (first_met (counted_name_tests s (export_names s.script) most_exports symbol.name ++ place_tests s k symbol.value))
-    (Ok (with_name s export_group symbol.name (record s.script { exports = s.script.exports ++ symbol ∷ [] })))
+    (Ok (with_script s export_group (record s.script { exports = s.script.exports ++ symbol ∷ [] })))
 
 unfoldable pub export_line : ScriptSoFar → List ℕ → Result ScriptSoFar LineFault
 export_line s line = do

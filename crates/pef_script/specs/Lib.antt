@@ -6,6 +6,7 @@ pub mod Faults
 pub mod Grammar
 pub mod Kept
 pub mod Limits
+pub mod Parts
 pub mod Script
 pub mod SoFar
 pub mod Views

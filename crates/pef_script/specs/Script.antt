@@ -1,7 +1,8 @@
 -- What a script describes: the parts of a container, by their names and numbers. Kinds, shares, options
 -- and classes have the numbers of PEFBinaryFormat.h; the language of scripts is this project's own
 -- (docs/SCRIPTS.md).
-use Rattle.std.specs.Prelude.{ℕ, ℤ, Bool, List, Option, map}
+use Rattle.std.specs.Prelude.{ℕ, ℤ, ◌+◌, Bool, List, Option, length, map}
+use Rattle.std.specs.List.{sum_by}
 use Rattle.pef_reloc.specs.declared.fixup.Fixup.{Fixup}
 use Rattle.pef_script.specs.declared.parts.Versions.{Versions}
 
@@ -66,3 +67,11 @@ section_names script = map (λ section. section.header.name) script.sections
 
 abbrev pub export_names : DescribedScript → List (List ℕ)
 export_names script = map (λ symbol. symbol.name) script.exports
+
+-- the bytes of names, with one more for each
+abbrev pub bytes_of_names : List (List ℕ) → ℕ
+bytes_of_names names = sum_by (λ name. length name + 1) names
+
+-- those of the libraries, the imports and the exports
+abbrev pub name_bytes : DescribedScript → ℕ
+name_bytes s = bytes_of_names (library_names s) + bytes_of_names (import_names s) + bytes_of_names (export_names s)

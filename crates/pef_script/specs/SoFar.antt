@@ -7,7 +7,7 @@ use Rattle.std.specs.Str.{bytes_eq}
 use Rattle.pef_script.specs.declared.fault.LineFault.{LineFault}
 use Rattle.pef_script.specs.declared.fault.LineFault.TheVariants.{UnknownName, RepeatedName, OutOfOrder, TooMany, BadKind}
 use Rattle.pef_script.specs.Limits.{most_name_bytes}
-use Rattle.pef_script.specs.Script.{DescribedSection, DescribedScript, section_names}
+use Rattle.pef_script.specs.Script.{DescribedSection, DescribedScript, name_bytes, section_names}
 
 -- what a step that was not refused leads to
 infixl 10 ◌>>=◌
@@ -15,14 +15,12 @@ abbrev pub ◌>>=◌ : {A B : Type 0} → Result A LineFault → (A → Result B
 (Ok x) >>= f = f x
 (Err fault) >>= f = Err fault
 
--- the parts so far, the group of the last line (0 before the first), the number of the section that the
--- last line of contents was for, and how many bytes the names of libraries, imports and exports have,
--- with one more for each
+-- the parts so far, the group of the last line (0 before the first), and the number of the section that
+-- the last line of contents was for
 pub record ScriptSoFar : Type 0 where
   pub script : DescribedScript
   pub reached : ℕ
   pub section : ℕ
-  pub names : ℕ
 
 -- the groups of lines, in their order
 
@@ -89,7 +87,7 @@ is_repeated names name = is_some (number_of_name names name)
 
 -- whether the names have too many bytes with one more
 abbrev pub has_no_room : ScriptSoFar → List ℕ → Bool
-has_no_room s name = nat_lt most_name_bytes (s.names + (length name + 1))
+has_no_room s name = nat_lt most_name_bytes (name_bytes s.script + (length name + 1))
 
 -- the tests of a new name behind others of its kind, of which there may be so many
 abbrev pub name_tests : List (List ℕ) → ℕ → List ℕ → List (Bool × LineFault)
@@ -99,6 +97,6 @@ name_tests names limit name = (is_repeated names name, RepeatedName) ∷ (not (n
 abbrev pub counted_name_tests : ScriptSoFar → List (List ℕ) → ℕ → List ℕ → List (Bool × LineFault)
 counted_name_tests s names limit name = name_tests names limit name ++ (has_no_room s name, TooMany) ∷ []
 
--- a line of a group gave a name whose bytes count, and with it a script
-abbrev pub with_name : ScriptSoFar → ℕ → List ℕ → DescribedScript → ScriptSoFar
-with_name s group name script = record s { reached = group; names = s.names + (length name + 1); script = script }
+-- what a line of a group makes of it
+abbrev pub with_script : ScriptSoFar → ℕ → DescribedScript → ScriptSoFar
+with_script s group script = record s { reached = group; script = script }

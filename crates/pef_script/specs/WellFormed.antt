@@ -1,6 +1,6 @@
 -- What is true of every script that the grammar gives (docs/SCRIPTS.md, "Lines" and "Limits").
-use Rattle.std.specs.Prelude.{◌≡◌, ℕ, ℤ, pos, negsuc, ◌+◌, ◌<◌, ◌≤◌, ◌==◌, ◌||◌, Bool, true, List, [], ◌∷◌, Option, None, Some, length, map, slice_index}
-use Rattle.std.specs.List.{AllByRecursion, IsDistinct, list_all, sum_by}
+use Rattle.std.specs.Prelude.{◌≡◌, ℕ, ℤ, pos, negsuc, ◌<◌, ◌≤◌, ◌==◌, ◌||◌, Bool, true, List, [], ◌∷◌, Option, None, Some, length, map, slice_index}
+use Rattle.std.specs.List.{AllByRecursion, IsDistinct, list_all}
 use Rattle.std.specs.Str.{bytes_eq}
 use Rattle.pef_reloc.specs.declared.fixup.Base.{Base}
 use Rattle.pef_reloc.specs.declared.fixup.Base.TheVariants as base
@@ -9,7 +9,7 @@ use Rattle.pef_reloc.specs.Fixups.{fixups_fit, fixups_end}
 use Rattle.pef_reloc.specs.Limits.{most_imports, most_sections}
 use Rattle.pef_script.specs.Limits.{greatest_align, greatest_number, greatest_total, longest_name, most_exports, most_libraries, most_name_bytes}
 use Rattle.pef_script.specs.declared.parts.Versions.{Versions}
-use Rattle.pef_script.specs.Script.{DescribedExport, DescribedImport, DescribedLibrary, DescribedSection, DescribedScript, export_names, import_names, library_names}
+use Rattle.pef_script.specs.Script.{DescribedExport, DescribedImport, DescribedLibrary, DescribedSection, DescribedScript, name_bytes}
 use Rattle.pef_lines.specs.Words.{is_printing}
 
 -- a name has 1 to 255 bytes, each from 21 to 7E (hex)
@@ -113,13 +113,6 @@ pub record ExportsHold (totals : List ℕ) (exports : List DescribedExport) : Ty
 abbrev pub EntryHolds : List ℕ → Option (ℕ × ℕ) → Type 0
 EntryHolds totals None = Unit {0}
 EntryHolds totals (Some entry) = PlaceHolds totals entry.0 entry.1
-
--- the bytes of names, with one more for each
-abbrev pub bytes_of_names : List (List ℕ) → ℕ
-bytes_of_names names = sum_by (λ name. length name + 1) names
-
-abbrev pub name_bytes : DescribedScript → ℕ
-name_bytes s = bytes_of_names (library_names s) + bytes_of_names (import_names s) + bytes_of_names (export_names s)
 
 pub record ScriptHolds (s : DescribedScript) : Type 0 where
   pub versions : VersionsHold s.versions

@@ -2,8 +2,9 @@ ghost use Rattle.std.specs.Prelude.{◌≡◌, ◌+◌, IfOk};
 ghost use Rattle.std.specs.Result.{result_err};
 ghost use Rattle.indexmap.specs.IndexMap.{index_map_len};
 ghost use Rattle.pef_script.specs.Declarations.{entered_import, import_line, library_line, section_line, versions_line, with_import, with_library, with_section};
-ghost use Rattle.pef_script.specs.Kept.Reader.{import_of, library_of, so_far};
+ghost use Rattle.pef_script.specs.Kept.Reader.{so_far};
 ghost use Rattle.pef_script.specs.Kept.Steps.{Steps};
+ghost use Rattle.pef_script.specs.Parts.{import_of, library_of};
 ghost use Rattle.pef_script.specs.Views.{header_in};
 
 use crate::LineFault;

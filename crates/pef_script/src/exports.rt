@@ -2,8 +2,9 @@ ghost use Rattle.std.specs.Prelude.{◌≡◌, ◌<◌, vec_len};
 ghost use Rattle.std.specs.Result.{result_err};
 ghost use Rattle.pef_words.specs.Refusals.{first_met};
 ghost use Rattle.pef_script.specs.Exports.{entry_in, export_line, init_line, main_line, place_tests, term_line, with_export};
-ghost use Rattle.pef_script.specs.Kept.Reader.{export_of, so_far};
+ghost use Rattle.pef_script.specs.Kept.Reader.{so_far};
 ghost use Rattle.pef_script.specs.Kept.Steps.{Steps};
+ghost use Rattle.pef_script.specs.Parts.{export_of};
 
 use crate::LineFault;
 use crate::fault::Stop;

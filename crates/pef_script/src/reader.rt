@@ -3,7 +3,8 @@ ghost use Rattle.std.specs.Result.{result_err};
 ghost use Rattle.indexmap.specs.IndexMap.{index_map_len};
 ghost use Rattle.pef_words.specs.Refusals.{first_met};
 ghost use Rattle.pef_script.specs.Grammar.{is_skipped, line_by_word, line_of, no_lines};
-ghost use Rattle.pef_script.specs.Kept.Reader.{names_in, script_in, so_far};
+ghost use Rattle.pef_script.specs.Parts.{script_in};
+ghost use Rattle.pef_script.specs.Script.{name_bytes};
 ghost use Rattle.pef_script.specs.Kept.Steps.{NumberedSteps, Steps};
 ghost use Rattle.pef_script.specs.Limits.{most_name_bytes};
 ghost use Rattle.pef_script.specs.SoFar.{counted_name_tests, entered, entered_once, number_of_name, section_named};
@@ -30,6 +31,7 @@ pub struct Reader<'a> {
     pub section: usize,
     /// How many bytes the names of libraries, imports and exports have, with one more for each.
     pub names: usize,
+    ghost counted: { names ≡ name_bytes (script_in parts) },
 }
 
 /// Whether a line says nothing: it is empty or starts with `#`.
@@ -53,6 +55,8 @@ pub fn section_number(sections: &[Section], name: &[u8]) -> Option<usize>
 }
 
 impl<'a> Reader<'a> {
+    ghost use Rattle.pef_script.specs.Kept.Reader.{names_in, so_far};
+
     /// A reader of no lines.
     pub fn new(alloc: Global) -> Reader<'a>
         ensures { so_far result ≡ no_lines }

@@ -3,7 +3,7 @@ ghost use Rattle.std.specs.Option.{option_copied};
 ghost use Rattle.pef_reloc.specs.Fixups.{fixups_fit};
 ghost use Rattle.pef_script.specs.Grammar.{script_of};
 ghost use Rattle.pef_words.specs.Refusals.{result_map};
-ghost use Rattle.pef_script.specs.Kept.Reader.{script_in};
+ghost use Rattle.pef_script.specs.Parts.{script_in};
 ghost use Rattle.pef_script.specs.Views.{Reads, export_in, header_in, import_in, library_in};
 ghost use Rattle.pef_script.specs.WellFormed.{ScriptHolds};
 
@@ -22,7 +22,7 @@ pub struct Script<'a> {
 }
 
 impl<'a> Model for Script<'a> {
-    ghost use Rattle.pef_script.specs.Kept.Reader.{script_in};
+    ghost use Rattle.pef_script.specs.Parts.{script_in};
     ghost use Rattle.pef_script.specs.Script.{DescribedScript};
     ghost use Rattle.pef_script.specs.WellFormed.{ScriptHolds};
 

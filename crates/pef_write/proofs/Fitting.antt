@@ -18,9 +18,8 @@ use Rattle.pef_reloc.specs.declared.fixup.Fixup.{Fixup}
 use Rattle.pef_reloc.specs.declared.instr.Instr.{Instr}
 use Rattle.pef_reloc.specs.Instrs.{spelled}
 use Rattle.pef_reloc.specs.Limits.{most_fixups, offset_limit}
-use Rattle.pef_script.specs.Script.{DescribedExport, DescribedImport, DescribedLibrary, DescribedScript, DescribedSection}
-use Rattle.pef_script.specs.Script.{export_names}
-use Rattle.pef_script.specs.WellFormed.{EntryHolds, ExportHolds, ImportHolds, LibraryHolds, ScriptHolds, SectionHolds, SignedPlaceHolds, bytes_of_names, is_kind, is_options, is_share, totals_of}
+use Rattle.pef_script.specs.Script.{DescribedExport, DescribedImport, DescribedLibrary, DescribedScript, DescribedSection, bytes_of_names, export_names}
+use Rattle.pef_script.specs.WellFormed.{EntryHolds, ExportHolds, ImportHolds, LibraryHolds, ScriptHolds, SectionHolds, SignedPlaceHolds, is_kind, is_options, is_share, totals_of}
 use Rattle.pef_words.proofs.Laws.Lists.{all-at}
 use Rattle.pef_views.specs.Section.{is_instantiable}
 use Rattle.pef_write.specs.Containers.{DescribedPart}

@@ -1,5 +1,5 @@
 -- What was read is a script that a text is.
-use Rattle.pef_script.specs.Kept.Reader.{script_in}
+use Rattle.pef_script.specs.Parts.{script_in}
 use Rattle.pef_script.proofs.Holds.{script_of-holds}
 use Rattle.pef_script.proofs.script.Script.read.Goals as goal
 

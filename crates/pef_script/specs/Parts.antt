@@ -1,0 +1,32 @@
+-- What the parts that the code keeps are seen as: the script that they make.
+use Rattle.std.specs.Prelude.{ℕ, List, map}
+use denote.Ref.{Bor}
+use Rattle.pef_script.specs.declared.parts.ExportData.{ExportData}
+use Rattle.pef_script.specs.declared.parts.ImportData.{ImportData}
+use Rattle.pef_script.specs.declared.parts.LibraryData.{LibraryData}
+use Rattle.pef_script.specs.declared.parts.Parts.{Parts}
+use Rattle.pef_script.specs.Script.{DescribedExport, DescribedImport, DescribedLibrary, DescribedScript}
+
+-- a name and what is said of it
+
+abbrev pub library_of : Bor (List ℕ) × LibraryData → DescribedLibrary
+library_of e = record { name = e.0.now; current = e.1.current; old_imp = e.1.old_imp; options = e.1.options }
+
+abbrev pub import_of : Bor (List ℕ) × ImportData → DescribedImport
+import_of e = record { name = e.0.now; class = e.1.class; weak = e.1.weak; library = e.1.library }
+
+abbrev pub export_of : Bor (List ℕ) × ExportData → DescribedExport
+export_of e = record { name = e.0.now; class = e.1.class; section = e.1.section; value = e.1.value }
+
+-- the script of some parts
+abbrev pub script_in : Parts → DescribedScript
+script_in p = record {
+  versions = p.versions;
+  libraries = map library_of p.libraries.entries;
+  imports = map import_of p.imports.entries;
+  sections = p.sections.items;
+  exports = map export_of p.exports.entries;
+  main = p.main;
+  init = p.init;
+  term = p.term;
+}
