@@ -19,7 +19,7 @@ most_name_bytes = 8388608
 abbrev pub longest_name : ℕ
 longest_name = 255
 
--- the greatest alignment of a section, as a power of two
+-- the greatest alignment of a section, as an exponent of two
 abbrev pub greatest_align : ℕ
 greatest_align = 12
 

@@ -6,8 +6,8 @@ use Rattle.std.specs.List.{sum_by}
 use Rattle.pef_reloc.specs.declared.fixup.Fixup.{Fixup}
 use Rattle.pef_script.specs.declared.parts.Versions.{Versions}
 
--- a section's line (the fields of PEFSectionHeader): kind and share by their numbers, the alignment as a
--- power of two
+-- a section's line (the fields of PEFSectionHeader): kind and share by their numbers, the alignment as an
+-- exponent of two
 pub record DescribedHeader : Type 0 where
   pub name : List ℕ
   pub kind : ℕ

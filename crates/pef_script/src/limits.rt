@@ -18,7 +18,7 @@ pub const MAX_NAME_BYTES: usize = 8_388_608;
 /// How many bytes a name can have.
 pub const MAX_NAME: usize = 255;
 
-/// The greatest alignment of a section, as a power of two.
+/// The greatest alignment of a section, as an exponent of two.
 pub const MAX_ALIGN: u32 = 12;
 
 /// The most bytes of a section.

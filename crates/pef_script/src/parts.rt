@@ -46,7 +46,7 @@ pub struct SectionHeader<'a> {
     pub kind: u8,
     /// How the section is shared: 1 by process, 4 globally, 5 protected.
     pub share: u8,
-    /// The alignment, as a power of two: at most 12.
+    /// The alignment, as an exponent of two: at most 12.
     pub align: u8,
     /// How many bytes the section has: at most 16,777,216.
     pub total: u32,
