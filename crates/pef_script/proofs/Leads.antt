@@ -1,8 +1,8 @@
 -- What holds where a step of the grammar is not refused.
 use Rattle.std.proofs.Common.{◌≡◌, Bool, true, false, cond, Option, None, Some, Result, Ok, Err, refl, ap, subst}
 use Rattle.pef_words.specs.Refusals.{unless}
+use Rattle.pef_words.specs.Results.{◌>>=◌}
 use Rattle.pef_script.specs.declared.fault.LineFault.{LineFault}
-use Rattle.pef_script.specs.SoFar.{◌>>=◌}
 
 -- P holds of what a step led to
 abbrev pub Leads : {A : Type 0} → (A → Type 0) → Result A LineFault → Type 0

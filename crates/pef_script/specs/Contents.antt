@@ -4,6 +4,7 @@ use Rattle.std.specs.Prelude.{ℕ, true, false, ◌+◌, ◌*◌, ◌||◌, Bool
 use Rattle.std.specs.Option.{ok_or}
 use Rattle.std.specs.Str.{bytes_eq}
 use Rattle.pef_words.specs.Refusals.{first_met, unless}
+use Rattle.pef_words.specs.Results.{◌>>=◌}
 use Rattle.pef_reloc.specs.declared.fixup.Base.{Base}
 use Rattle.pef_reloc.specs.declared.fixup.Base.TheVariants as base
 use Rattle.pef_reloc.specs.declared.fixup.Fixup.{Fixup}
@@ -13,7 +14,7 @@ use Rattle.pef_script.specs.declared.fault.LineFault.{LineFault}
 use Rattle.pef_script.specs.declared.fault.LineFault.TheVariants.{UnknownName, OutOfOrder, Overlap, OutsideSection, TooMany, BadKind}
 use Rattle.pef_script.specs.Limits.{greatest_number}
 use Rattle.pef_script.specs.Script.{DescribedSection, import_names}
-use Rattle.pef_script.specs.SoFar.{◌>>=◌, ScriptSoFar, content_group, entered, number_of_name, section_at, section_named}
+use Rattle.pef_script.specs.SoFar.{ScriptSoFar, content_group, entered, number_of_name, section_at, section_named}
 use Rattle.pef_script.specs.Words.{next_word, last_word, next_name, last_name, number_up_to, image_of}
 
 -- section k is changed by a line

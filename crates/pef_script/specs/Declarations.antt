@@ -4,13 +4,14 @@
 use Rattle.std.specs.Prelude.{ℕ, true, false, ◌-◌, ◌==◌, ◌||◌, Bool, List, [], ◌∷◌, ◌++◌, Result, Ok, Err, length, codes, nat_lt, if◌then◌else◌}
 use Rattle.std.specs.Str.{bytes_eq}
 use Rattle.pef_words.specs.Refusals.{first_met, unless}
+use Rattle.pef_words.specs.Results.{◌>>=◌}
 use Rattle.pef_reloc.specs.Limits.{most_imports, most_sections}
 use Rattle.pef_script.specs.declared.fault.LineFault.{LineFault}
 use Rattle.pef_script.specs.declared.fault.LineFault.TheVariants.{OutOfOrder, BadKind}
 use Rattle.pef_script.specs.declared.parts.Versions.{Versions}
 use Rattle.pef_script.specs.Limits.{greatest_align, greatest_number, greatest_total, most_libraries}
 use Rattle.pef_script.specs.Script.{DescribedHeader, DescribedImport, DescribedLibrary, import_names, library_names, section_names}
-use Rattle.pef_script.specs.SoFar.{◌>>=◌, ScriptSoFar, counted_name_tests, entered, entered_once, library_group, name_tests, section_group, versions_group, with_script, word_of}
+use Rattle.pef_script.specs.SoFar.{ScriptSoFar, counted_name_tests, entered, entered_once, library_group, name_tests, section_group, versions_group, with_script, word_of}
 use Rattle.pef_script.specs.Words.{next_word, last_word, next_name, number_up_to}
 
 -- `versions CURRENT OLDDEF OLDIMP`

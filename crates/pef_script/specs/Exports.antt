@@ -2,12 +2,13 @@
 -- (docs/SCRIPTS.md, "Lines").
 use Rattle.std.specs.Prelude.{ℕ, pos, Bool, List, [], ◌∷◌, ◌++◌, Some, Result, Ok, nat_lt}
 use Rattle.pef_words.specs.Refusals.{first_met, unless}
+use Rattle.pef_words.specs.Results.{◌>>=◌}
 use Rattle.pef_script.specs.declared.fault.LineFault.{LineFault}
 use Rattle.pef_script.specs.declared.fault.LineFault.TheVariants.{OutsideSection}
 use Rattle.pef_script.specs.Limits.{greatest_number, most_exports}
 use Rattle.pef_script.specs.Script.{DescribedExport, export_names}
 use Rattle.pef_script.specs.Declarations.{class_of}
-use Rattle.pef_script.specs.SoFar.{◌>>=◌, ScriptSoFar, counted_name_tests, entered, entered_once, export_group, init_group, main_group, section_at, section_named, term_group, with_script}
+use Rattle.pef_script.specs.SoFar.{ScriptSoFar, counted_name_tests, entered, entered_once, export_group, init_group, main_group, section_at, section_named, term_group, with_script}
 use Rattle.pef_script.specs.Words.{next_word, last_word, next_name, number_up_to}
 
 -- the test of an offset in section k, which may be its end

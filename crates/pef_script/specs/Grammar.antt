@@ -2,11 +2,12 @@
 -- was read so far to more. Lines come in groups, and none stands behind one of a later group.
 use Rattle.std.specs.Prelude.{ℕ, true, ◌+◌, ◌==◌, Bool, List, [], ◌∷◌, None, Result, Ok, Err, codes, if◌then◌else◌}
 use Rattle.std.specs.Str.{bytes_eq}
+use Rattle.pef_words.specs.Results.{◌>>=◌}
 use Rattle.pef_script.specs.declared.fault.LineFault.{LineFault}
 use Rattle.pef_script.specs.declared.fault.LineFault.TheVariants.{BadLine}
 use Rattle.pef_script.specs.declared.parts.Versions.{Versions}
 use Rattle.pef_script.specs.Script.{DescribedScript}
-use Rattle.pef_script.specs.SoFar.{◌>>=◌, ScriptSoFar}
+use Rattle.pef_script.specs.SoFar.{ScriptSoFar}
 use Rattle.pef_script.specs.Declarations.{versions_line, library_line, import_line, section_line}
 use Rattle.pef_script.specs.Contents.{bytes_line, fix_line, tvector_line}
 use Rattle.pef_script.specs.Exports.{export_line, main_line, init_line, term_line}

@@ -9,12 +9,6 @@ use Rattle.pef_script.specs.declared.fault.LineFault.TheVariants.{UnknownName, R
 use Rattle.pef_script.specs.Limits.{most_name_bytes}
 use Rattle.pef_script.specs.Script.{DescribedSection, DescribedScript, name_bytes, section_names}
 
--- what a step that was not refused leads to
-infixl 10 ◌>>=◌
-abbrev pub ◌>>=◌ : {A B : Type 0} → Result A LineFault → (A → Result B LineFault) → Result B LineFault
-(Ok x) >>= f = f x
-(Err fault) >>= f = Err fault
-
 -- the parts so far, the group of the last line (0 before the first), and the number of the section that
 -- the last line of contents was for
 pub record ScriptSoFar : Type 0 where
