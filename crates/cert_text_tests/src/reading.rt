@@ -6,11 +6,11 @@ use std::alloc::Global;
 use std::test::Fail;
 use test_data::labels::{VECTORS_LABELS, labels};
 
-/// The line of a refusal, 0 where the text is read, and 1,000,000 where memory is refused.
-fn refused_line(alloc: Global, text: &str) -> usize {
+/// The line of a refusal, or `None` where the text is read. Fails where memory is refused.
+fn refused_line(alloc: Global, text: &str) -> Result<Option<usize>, Fail> {
     match read(alloc, text.as_bytes()) {
-        Ok(_) => 0,
-        Err(fault) => fault.line().unwrap_or(1_000_000),
+        Ok(_) => Ok(None),
+        Err(fault) => Ok(Some(fault.line().ok_or("no memory")?)),
     }
 }
 
@@ -48,89 +48,98 @@ fn labels_in_rows(rt: HostRuntime) -> Result<(), Fail> {
     Ok(())
 }
 
-/// Texts behind `pefcert 1`, and the number of the line that is refused; 0 where the text is read.
-const TEXTS: [(&str, usize); 46] = [
-    ("end\n", 0),
-    ("", 2),
-    ("end", 2),
-    ("end\n\n", 3),
-    ("end\nend\n", 3),
-    ("end\nx", 3),
-    ("\nend\n", 2),
-    ("End\n", 2),
-    ("section 0\n", 3),
-    ("section 00\nfixups 0\n", 2),
-    ("section  0\nfixups 0\n", 2),
-    ("section 0 \nfixups 0\n", 2),
-    ("section\nfixups 0\n", 2),
-    ("section 0x0\nfixups 0\n", 2),
-    ("section 4294967296\nfixups 0\n", 2),
-    ("section 4294967295\nfixups 0\n", 4),
-    ("section 0\nfixups 65537\n", 3),
-    ("section 0\nfixups 65536\n", 4),
-    ("section 0\nlength 0\n", 3),
-    ("section 0\nfixups 0\nlength 0\n", 5),
-    ("section 0\nfixups 0\nlength 0\nprogram\n", 5),
-    ("section 0\nfixups 0\nlength 0\nprogram - -\n", 5),
-    ("section 0\nfixups 0\nlength 1\nprogram -\n", 5),
-    ("section 0\nfixups 0\nlength 0\nprogram 4000\n", 5),
-    ("section 0\nfixups 0\nlength 2\nprogram 4000\n", 5),
-    ("section 0\nfixups 0\nlength 1\nprogram 400\n", 5),
-    ("section 0\nfixups 0\nlength 1\nprogram 40000\n", 5),
-    ("section 0\nfixups 0\nlength 1\nprogram 46ab\n", 5),
-    ("section 0\nfixups 0\nlength 1\nprogram 4C00\n", 5),
-    ("section 0\nfixups 0\nlength 1\nprogram A000\n", 5),
-    ("section 0\nfixups 0\nlength 1\nprogram 9000\n", 5),
-    ("section 0\nfixups 0\nlength 2\nprogram A000 0000\n", 6),
-    ("section 0\nfixups 0\nlength 2\nprogram 4200 9001\n", 6),
-    ("section 0\nfixups 0\nlength 0\nprogram -\nregisters\n", 6),
+/// Texts behind `pefcert 1`, and the number of the line that is refused, or `None` where the text is read.
+const TEXTS: [(&str, Option<usize>); 46] = [
+    ("end\n", None),
+    ("", Some(2)),
+    ("end", Some(2)),
+    ("end\n\n", Some(3)),
+    ("end\nend\n", Some(3)),
+    ("end\nx", Some(3)),
+    ("\nend\n", Some(2)),
+    ("End\n", Some(2)),
+    ("section 0\n", Some(3)),
+    ("section 00\nfixups 0\n", Some(2)),
+    ("section  0\nfixups 0\n", Some(2)),
+    ("section 0 \nfixups 0\n", Some(2)),
+    ("section\nfixups 0\n", Some(2)),
+    ("section 0x0\nfixups 0\n", Some(2)),
+    ("section 4294967296\nfixups 0\n", Some(2)),
+    ("section 4294967295\nfixups 0\n", Some(4)),
+    ("section 0\nfixups 65537\n", Some(3)),
+    ("section 0\nfixups 65536\n", Some(4)),
+    ("section 0\nlength 0\n", Some(3)),
+    ("section 0\nfixups 0\nlength 0\n", Some(5)),
+    ("section 0\nfixups 0\nlength 0\nprogram\n", Some(5)),
+    ("section 0\nfixups 0\nlength 0\nprogram - -\n", Some(5)),
+    ("section 0\nfixups 0\nlength 1\nprogram -\n", Some(5)),
+    ("section 0\nfixups 0\nlength 0\nprogram 4000\n", Some(5)),
+    ("section 0\nfixups 0\nlength 2\nprogram 4000\n", Some(5)),
+    ("section 0\nfixups 0\nlength 1\nprogram 400\n", Some(5)),
+    ("section 0\nfixups 0\nlength 1\nprogram 40000\n", Some(5)),
+    ("section 0\nfixups 0\nlength 1\nprogram 46ab\n", Some(5)),
+    ("section 0\nfixups 0\nlength 1\nprogram 4C00\n", Some(5)),
+    ("section 0\nfixups 0\nlength 1\nprogram A000\n", Some(5)),
+    ("section 0\nfixups 0\nlength 1\nprogram 9000\n", Some(5)),
+    (
+        "section 0\nfixups 0\nlength 2\nprogram A000 0000\n",
+        Some(6),
+    ),
+    (
+        "section 0\nfixups 0\nlength 2\nprogram 4200 9001\n",
+        Some(6),
+    ),
+    (
+        "section 0\nfixups 0\nlength 0\nprogram -\nregisters\n",
+        Some(6),
+    ),
     (
         "section 0\nfixups 0\nlength 0\nprogram -\nregisters 0 1\n",
-        6,
+        Some(6),
     ),
     (
         "section 0\nfixups 0\nlength 0\nprogram -\nregisters * 1\n",
-        6,
+        Some(6),
     ),
     (
         "section 0\nfixups 0\nlength 0\nprogram -\nregisters 1 0 *\n",
-        6,
+        Some(6),
     ),
     (
         "section 0\nfixups 0\nlength 0\nprogram -\nregisters 1 1 *\n",
-        6,
+        Some(6),
     ),
     (
         "section 0\nfixups 0\nlength 0\nprogram -\nregisters 0 1 2 3 4 5 6 7 8 9 10 11 12 13 14 15 16 *\n",
-        6,
+        Some(6),
     ),
     (
         "section 0\nfixups 0\nlength 0\nprogram -\nregisters 0 1 2 3 4 5 6 7 8 9 10 11 12 13 14 15 *\n",
-        7,
+        Some(7),
     ),
     (
         "section 0\nfixups 0\nlength 0\nprogram -\nregisters *\nend\n",
-        7,
+        Some(7),
     ),
     (
         "section 0\nfixups 0\nlength 0\nprogram -\nregisters *\nat 1 0\n",
-        7,
+        Some(7),
     ),
     (
         "section 0\nfixups 0\nlength 0\nprogram -\nregisters *\nat 0\n",
-        7,
+        Some(7),
     ),
     (
         "section 0\nfixups 0\nlength 0\nprogram -\nregisters *\nat 0 0 0\n",
-        7,
+        Some(7),
     ),
     (
         "section 0\nfixups 0\nlength 0\nprogram -\nregisters *\nat 0 0\nat 1 0\n",
-        8,
+        Some(8),
     ),
     (
         "section 0\nfixups 1\nlength 0\nprogram -\nregisters *\nat 0 0\nat 0 0\n",
-        8,
+        Some(8),
     ),
 ];
 
@@ -140,27 +149,28 @@ fn lines(rt: HostRuntime) -> Result<(), Fail> {
     for (lines, line) in &TEXTS {
         let mut text = String::from_str(alloc, "pefcert 1\n")?;
         text.push_str(lines)?;
-        assert_eq!(rt; refused_line(alloc, &text), *line, "{lines}");
+        assert_eq!(rt; refused_line(alloc, &text)?, *line, "{lines}");
     }
     Ok(())
 }
 
-/// Whole texts, and the number of the line that is refused.
-const WHOLE_TEXTS: [(&str, usize); 7] = [
-    ("", 1),
-    ("pefcert 1", 1),
-    ("pefcert 3\nend\n", 1),
-    ("pefcert 01\nend\n", 1),
-    ("pefcert 1 \nend\n", 1),
-    ("pefcert 1\r\nend\n", 1),
-    ("pefcert 1\nend\n", 0),
+/// Whole texts, and the number of the line that is refused, or `None` where the text is read.
+const WHOLE_TEXTS: [(&str, Option<usize>); 7] = [
+    ("", Some(1)),
+    ("pefcert 1", Some(1)),
+    ("pefcert 3\nend\n", Some(1)),
+    ("pefcert 01\nend\n", Some(1)),
+    ("pefcert 1 \nend\n", Some(1)),
+    ("pefcert 1\r\nend\n", Some(1)),
+    ("pefcert 1\nend\n", None),
 ];
 
 #[test]
-fn versions(rt: HostRuntime) {
+fn versions(rt: HostRuntime) -> Result<(), Fail> {
     for (text, line) in &WHOLE_TEXTS {
-        assert_eq!(rt; refused_line(rt.alloc(), text), *line, "{text}");
+        assert_eq!(rt; refused_line(rt.alloc(), text)?, *line, "{text}");
     }
+    Ok(())
 }
 
 #[test]
