@@ -3,6 +3,8 @@
 #![tactic(auto)]
 
 #[cfg(test)]
+mod fixture;
+#[cfg(test)]
 mod hash;
 #[cfg(test)]
 mod loader;

@@ -1,3 +1,4 @@
+use crate::fixture::refused_loader;
 use pef_loader::layout::{
     ABSOLUTE_EXPORT, CODE_SYMBOL, DATA_SYMBOL, GLUE_SYMBOL, INIT_BEFORE, REEXPORTED_IMPORT,
     TOC_SYMBOL, TRANSITION_VECTOR_SYMBOL, WEAK_LIBRARY,
@@ -6,6 +7,8 @@ use pef_loader::{ImportReader, ImportTable, ImportView, Loader};
 use pef_views::Container;
 use std::alloc::Global;
 use std::process::Abort;
+use std::test::Fail;
+use test_data::changes::{change_words, with_words};
 use test_data::containers::VECTORS_BYTES as GO;
 
 /// A loader section of 127 bytes from byte 68 on. Library `L` has imports 0 and 1, `v` and the weak
@@ -26,31 +29,6 @@ const LIBRARIES: [u8; 195] = [
     0x78, 0x79, 0x00,
 ];
 
-/// Those bytes with other words at some places.
-fn changed<const N: usize>(rt: &impl Abort, bytes: &[u8; N], words: &[(usize, u32)]) -> [u8; N] {
-    let mut bytes = *bytes;
-    change(rt, &mut bytes, words);
-    bytes
-}
-
-fn change(rt: &impl Abort, bytes: &mut [u8], words: &[(usize, u32)]) {
-    for (at, word) in words {
-        assert!(rt; *at < 1000 && *at + 4 <= bytes.len());
-        bytes[*at..*at + 4].copy_from_slice(&word.to_be_bytes());
-    }
-}
-
-/// The number of the refusal, or 0 for a loader section.
-fn answer(bytes: &[u8]) -> u32 {
-    match Container::read(bytes) {
-        Ok(container) => match Loader::read(&container) {
-            Ok(_) => 0,
-            Err(fault) => fault.number(),
-        },
-        Err(fault) => fault.number(),
-    }
-}
-
 #[test]
 fn values_of_fields(rt: HostRuntime) {
     let classes = [
@@ -66,91 +44,90 @@ fn values_of_fields(rt: HostRuntime) {
 }
 
 #[test]
-fn read(rt: HostRuntime) {
+fn read(rt: HostRuntime) -> Result<(), Fail> {
     // The loader header stands at 160, the relocation header at 216, the slot at 232, the key at 236
     // and the export at 240.
-    let rows: [(&[(usize, u32)], u32); 37] = [
-        (&[], 0),
-        (&[(112, 0)], 11),
-        (&[(112, 55)], 11),
-        (&[(112, 67)], 12),
-        (&[(184, 0xFFFF_FFFF)], 12),
-        (&[(192, 3)], 12),
-        (&[(184, 0xFFFF_FFFF), (160, 2)], 12),
+    let rows: [(&[(usize, u32)], Option<u32>); 37] = [
+        (&[], None),
+        (&[(112, 0)], Some(11)),
+        (&[(112, 55)], Some(11)),
+        (&[(112, 67)], Some(12)),
+        (&[(184, 0xFFFF_FFFF)], Some(12)),
+        (&[(192, 3)], Some(12)),
+        (&[(184, 0xFFFF_FFFF), (160, 2)], Some(12)),
         // The entries.
-        (&[(160, 2)], 16),
-        (&[(160, 0xFFFF_FFFE)], 16),
-        (&[(168, 2)], 16),
-        (&[(176, 0x8000_0000)], 16),
-        (&[(160, 0xFFFF_FFFF), (168, 0), (176, 1)], 0),
-        (&[(160, 2), (216, 0x0002_0000)], 16),
+        (&[(160, 2)], Some(16)),
+        (&[(160, 0xFFFF_FFFE)], Some(16)),
+        (&[(168, 2)], Some(16)),
+        (&[(176, 0x8000_0000)], Some(16)),
+        (&[(160, 0xFFFF_FFFF), (168, 0), (176, 1)], None),
+        (&[(160, 2), (216, 0x0002_0000)], Some(16)),
         // The relocation header.
-        (&[(216, 0x0002_0000)], 17),
-        (&[(216, 0x0002_0000), (220, 0xFFFF_FFFF)], 17),
-        (&[(220, 0xFFFF_FFFF)], 18),
-        (&[(224, 0xFFFF_FFFF)], 18),
-        (&[(220, 0), (224, 0xFFFF_FFFF)], 18),
-        (&[(220, 11)], 0),
-        (&[(220, 12)], 18),
-        (&[(220, 0), (224, 22)], 0),
-        (&[(220, 0), (224, 23)], 18),
-        (&[(220, 12), (208, 31)], 18),
+        (&[(216, 0x0002_0000)], Some(17)),
+        (&[(216, 0x0002_0000), (220, 0xFFFF_FFFF)], Some(17)),
+        (&[(220, 0xFFFF_FFFF)], Some(18)),
+        (&[(224, 0xFFFF_FFFF)], Some(18)),
+        (&[(220, 0), (224, 0xFFFF_FFFF)], Some(18)),
+        (&[(220, 11)], None),
+        (&[(220, 12)], Some(18)),
+        (&[(220, 0), (224, 22)], None),
+        (&[(220, 0), (224, 23)], Some(18)),
+        (&[(220, 12), (208, 31)], Some(18)),
         // The export table.
-        (&[(208, 31)], 19),
-        (&[(208, 30)], 19),
-        (&[(208, 1)], 19),
-        (&[(212, 2)], 19),
-        (&[(212, 0), (208, 31), (204, 0xFFFF_FFFF)], 0),
+        (&[(208, 31)], Some(19)),
+        (&[(208, 30)], Some(19)),
+        (&[(208, 1)], Some(19)),
+        (&[(212, 2)], Some(19)),
+        (&[(212, 0), (208, 31), (204, 0xFFFF_FFFF)], None),
         // The export.
-        (&[(200, 0xFFFF_FFFF)], 13),
-        (&[(200, 0xFFFF_FFFF), (236, 0)], 13),
-        (&[(236, 0x0014_0000)], 0),
-        (&[(236, 0x0015_0000)], 13),
-        (&[(236, 0x0015_0000), (246, 0xFFFF)], 13),
-        (&[(246, 0xFFFF)], 20),
-        (&[(246, 0xFFFC)], 20),
-        (&[(246, 0xFFFD)], 20),
-        (&[(246, 0xFFFE)], 0),
+        (&[(200, 0xFFFF_FFFF)], Some(13)),
+        (&[(200, 0xFFFF_FFFF), (236, 0)], Some(13)),
+        (&[(236, 0x0014_0000)], None),
+        (&[(236, 0x0015_0000)], Some(13)),
+        (&[(236, 0x0015_0000), (246, 0xFFFF)], Some(13)),
+        (&[(246, 0xFFFF)], Some(20)),
+        (&[(246, 0xFFFC)], Some(20)),
+        (&[(246, 0xFFFD)], Some(20)),
+        (&[(246, 0xFFFE)], None),
     ];
     for (i, (words, want)) in rows.iter().enumerate() {
-        assert_eq!(rt; answer(&changed(&rt, &GO, words)), *want, "row {i}");
+        let bytes = with_words(rt.alloc(), &GO, words)?;
+        assert_eq!(rt; refused_loader(&bytes), *want, "row {i}");
     }
     // The loader header stands at 68, the libraries at 124 and 148, the imports at 172, 176 and 180,
     // the strings at 184.
-    let rows: [(&[(usize, u32)], u32); 20] = [
-        (&[], 0),
-        (&[(124, 10)], 0),
-        (&[(124, 11)], 13),
-        (&[(124, 0xFFFF_FFFF)], 13),
-        (&[(164, 2)], 14),
-        (&[(164, 0xFFFF_FFFF)], 14),
-        (&[(160, 0), (164, 4)], 14),
-        (&[(136, 4), (148, 11)], 14),
-        (&[(148, 11), (164, 2)], 13),
-        (&[(172, 0x0100_000A)], 0),
-        (&[(172, 0x0100_000B)], 13),
-        (&[(160, 1)], 15),
-        (&[(160, 1), (180, 0x0100_000B)], 13),
-        (&[(140, 1), (176, 0x0100_000B)], 15),
-        (&[(191, 0x0078_7901)], 13),
-        (&[(136, 4), (172, 0x0100_000B)], 14),
-        (&[(160, 1), (68, 0)], 15),
+    let rows: [(&[(usize, u32)], Option<u32>); 20] = [
+        (&[], None),
+        (&[(124, 10)], None),
+        (&[(124, 11)], Some(13)),
+        (&[(124, 0xFFFF_FFFF)], Some(13)),
+        (&[(164, 2)], Some(14)),
+        (&[(164, 0xFFFF_FFFF)], Some(14)),
+        (&[(160, 0), (164, 4)], Some(14)),
+        (&[(136, 4), (148, 11)], Some(14)),
+        (&[(148, 11), (164, 2)], Some(13)),
+        (&[(172, 0x0100_000A)], None),
+        (&[(172, 0x0100_000B)], Some(13)),
+        (&[(160, 1)], Some(15)),
+        (&[(160, 1), (180, 0x0100_000B)], Some(13)),
+        (&[(140, 1), (176, 0x0100_000B)], Some(15)),
+        (&[(191, 0x0078_7901)], Some(13)),
+        (&[(136, 4), (172, 0x0100_000B)], Some(14)),
+        (&[(160, 1), (68, 0)], Some(15)),
         // Ranges that follow one another, without and with a gap, and none.
-        (&[(160, 1), (164, 2)], 0),
-        (&[(136, 1), (160, 1), (164, 2)], 15),
-        (&[(96, 0), (124, 11)], 13),
+        (&[(160, 1), (164, 2)], None),
+        (&[(136, 1), (160, 1), (164, 2)], Some(15)),
+        (&[(96, 0), (124, 11)], Some(13)),
     ];
     for (i, (words, want)) in rows.iter().enumerate() {
-        assert_eq!(rt;
-            answer(&changed(&rt, &LIBRARIES, words)),
-            *want,
-            "library row {i}"
-        );
+        let bytes = with_words(rt.alloc(), &LIBRARIES, words)?;
+        assert_eq!(rt; refused_loader(&bytes), *want, "library row {i}");
     }
+    Ok(())
 }
 
 #[test]
-fn relocs_exports_and_entries(rt: HostRuntime) {
+fn relocs_exports_and_entries(rt: HostRuntime) -> Result<(), Fail> {
     let container = Container::read(&GO).expect(&rt, "a container");
     let loader = Loader::read(&container).expect(&rt, "a loader section");
     assert_eq!(rt; (loader.libraries(), loader.imports()), (0, 0));
@@ -175,7 +152,7 @@ fn relocs_exports_and_entries(rt: HostRuntime) {
         (180, 12),
         (246, 0xFFFE),
     ];
-    let bytes = changed(&rt, &GO, &words);
+    let bytes = with_words(rt.alloc(), &GO, &words)?;
     let container = Container::read(&bytes).expect(&rt, "a container");
     let loader = Loader::read(&container).expect(&rt, "a loader section");
     assert_eq!(rt;
@@ -184,10 +161,11 @@ fn relocs_exports_and_entries(rt: HostRuntime) {
     );
     let export = loader.export(0).expect(&rt, "an export");
     assert_eq!(rt; (export.section, export.value), (ABSOLUTE_EXPORT, 0));
+    Ok(())
 }
 
 #[test]
-fn export_named(rt: HostRuntime) {
+fn export_named(rt: HostRuntime) -> Result<(), Fail> {
     let rows: [(&[(usize, u32)], &[u8], Option<usize>); 5] = [
         (&[], b"go", Some(0)),
         // Another hash word, and a slot without keys.
@@ -197,11 +175,12 @@ fn export_named(rt: HostRuntime) {
         (&[], b"g", None),
     ];
     for (i, (words, name, want)) in rows.iter().enumerate() {
-        let bytes = changed(&rt, &GO, words);
+        let bytes = with_words(rt.alloc(), &GO, words)?;
         let container = Container::read(&bytes).expect(&rt, "a container");
         let loader = Loader::read(&container).expect(&rt, "a loader section");
         assert_eq!(rt; loader.export_named(name), *want, "row {i}");
     }
+    Ok(())
 }
 
 /// A library: its name, its version and the oldest implementation, how many imports it has and the first of
@@ -272,17 +251,18 @@ fn test_nothing_else(rt: &impl Abort, loader: &Loader<'_>) {
 }
 
 #[test]
-fn libraries_and_imports(rt: HostRuntime) {
+fn libraries_and_imports(rt: HostRuntime) -> Result<(), Fail> {
     let container = Container::read(&LIBRARIES).expect(&rt, "a container");
     let loader = Loader::read(&container).expect(&rt, "a loader section");
     test_libraries(&rt, &loader);
     test_imports(&rt, rt.alloc(), &loader);
     test_nothing_else(&rt, &loader);
     // In order, library `M` has import 2 alone.
-    let bytes = changed(&rt, &LIBRARIES, &[(160, 1), (164, 2)]);
+    let bytes = with_words(rt.alloc(), &LIBRARIES, &[(160, 1), (164, 2)])?;
     let container = Container::read(&bytes).expect(&rt, "a container");
     let loader = Loader::read(&container).expect(&rt, "a loader section");
     test_imports(&rt, rt.alloc(), &loader);
+    Ok(())
 }
 
 /// A loader section alone, with 16,386 imports and two libraries out of order: library 0 has the last two
@@ -324,9 +304,9 @@ const OWNED: &[(usize, usize)] = &[
 ];
 
 #[test]
-fn imports_of_two_blocks(rt: HostRuntime) {
-    let mut bytes = vec![in rt.alloc(); 0; 65_720].expect(&rt, "memory");
-    change(&rt, &mut bytes, TWO_BLOCKS);
+fn imports_of_two_blocks(rt: HostRuntime) -> Result<(), Fail> {
+    let mut bytes = vec![in rt.alloc(); 0; 65_720]?;
+    change_words(&mut bytes, TWO_BLOCKS)?;
     let container = Container::read(&bytes).expect(&rt, "a container");
     let loader = Loader::read(&container).expect(&rt, "a loader section");
     let mut reader = ImportReader::new(loader);
@@ -339,4 +319,5 @@ fn imports_of_two_blocks(rt: HostRuntime) {
     }
     assert!(rt; reader.import(16_386).is_none());
     assert!(rt; table.get(16_386).is_none());
+    Ok(())
 }

@@ -1,87 +1,77 @@
+use crate::fixture::refused_container;
 use pef_views::Container;
-use std::process::Abort;
+use std::test::Fail;
+use test_data::changes::with_words;
 use test_data::containers::VECTORS_BYTES as BYTES;
 
-/// The bytes with other words at some places.
-fn changed(rt: &impl Abort, words: &[(usize, u32)]) -> [u8; 250] {
-    let mut bytes = BYTES;
-    for (at, word) in words {
-        assert!(rt; *at <= 246);
-        bytes[*at..*at + 4].copy_from_slice(&word.to_be_bytes());
-    }
-    bytes
-}
-
-/// The refusal's number, or 0 for a container.
-fn answer(bytes: &[u8]) -> u32 {
-    match Container::read(bytes) {
-        Ok(_) => 0,
-        Err(fault) => fault.number(),
-    }
-}
-
 #[test]
-fn read(rt: HostRuntime) {
+fn read(rt: HostRuntime) -> Result<(), Fail> {
     for len in 0..=BYTES.len() {
         let want = match len {
-            0..124 => 1,
-            124..250 => 6,
-            _ => 0,
+            0..124 => Some(1),
+            124..250 => Some(6),
+            _ => None,
         };
-        assert_eq!(rt; answer(&BYTES[..len]), want, "the first {len} bytes");
+        assert_eq!(rt;
+            refused_container(&BYTES[..len]),
+            want,
+            "the first {len} bytes"
+        );
     }
-    let rows: [(&[(usize, u32)], u32); 37] = [
-        (&[(0, 0x4A6F_7920)], 2),
-        (&[(4, 0x7065_6667)], 2),
-        (&[(0, 0), (8, 0)], 2),
-        (&[(8, 0x6D36_386B)], 3),
-        (&[(8, 0), (12, 0)], 3),
-        (&[(12, 0)], 4),
-        (&[(12, 2), (32, 0x0003_0004)], 4),
-        (&[(32, 0x0003_0004)], 5),
-        (&[(32, 0x0008_0009)], 5),
+    let rows: [(&[(usize, u32)], Option<u32>); 37] = [
+        (&[(0, 0x4A6F_7920)], Some(2)),
+        (&[(4, 0x7065_6667)], Some(2)),
+        (&[(0, 0), (8, 0)], Some(2)),
+        (&[(8, 0x6D36_386B)], Some(3)),
+        (&[(8, 0), (12, 0)], Some(3)),
+        (&[(12, 0)], Some(4)),
+        (&[(12, 2), (32, 0x0003_0004)], Some(4)),
+        (&[(32, 0x0003_0004)], Some(5)),
+        (&[(32, 0x0008_0009)], Some(5)),
         // Eight headers end at 264, seven at 236.
-        (&[(32, 0x0008_0002)], 1),
-        (&[(32, 0x0007_0002)], 6),
-        (&[(32, 0x0004_0002)], 0),
+        (&[(32, 0x0008_0002)], Some(1)),
+        (&[(32, 0x0007_0002)], Some(6)),
+        (&[(32, 0x0004_0002)], None),
         // Sections that aren't instantiated may have any kind, share kind and alignment.
-        (&[(32, 0x0004_0002), (148, 0x09FF_FFFF)], 0),
+        (&[(32, 0x0004_0002), (148, 0x09FF_FFFF)], None),
         // Raw bytes past the end, and no raw bytes.
-        (&[(60, 0xFFFF_FFFF)], 6),
-        (&[(112, 0x0000_005B)], 6),
-        (&[(112, 0)], 0),
-        (&[(52, 0), (56, 0), (60, 0xFFFF_FFFF)], 0),
+        (&[(60, 0xFFFF_FFFF)], Some(6)),
+        (&[(112, 0x0000_005B)], Some(6)),
+        (&[(112, 0)], None),
+        (&[(52, 0), (56, 0), (60, 0xFFFF_FFFF)], None),
         // Kinds of instantiated sections.
-        (&[(64, 0x0304_0400)], 0),
-        (&[(64, 0x0604_0400)], 0),
-        (&[(64, 0x0404_0400)], 7),
-        (&[(64, 0x0504_0400)], 7),
-        (&[(64, 0x0704_0400)], 7),
-        (&[(32, 0x0003_0003)], 7),
+        (&[(64, 0x0304_0400)], None),
+        (&[(64, 0x0604_0400)], None),
+        (&[(64, 0x0404_0400)], Some(7)),
+        (&[(64, 0x0504_0400)], Some(7)),
+        (&[(64, 0x0704_0400)], Some(7)),
+        (&[(32, 0x0003_0003)], Some(7)),
         // Sizes, and those of pattern-initialized data.
-        (&[(80, 17)], 8),
-        (&[(84, 15)], 8),
-        (&[(84, 17)], 0),
-        (&[(92, 0x0201_0400)], 0),
-        (&[(92, 0x0201_0400), (80, 17)], 8),
-        (&[(92, 0x0201_0400), (84, 0)], 0),
-        (&[(92, 0x0101_1F00)], 0),
-        (&[(92, 0x0101_2000)], 9),
+        (&[(80, 17)], Some(8)),
+        (&[(84, 15)], Some(8)),
+        (&[(84, 17)], None),
+        (&[(92, 0x0201_0400)], None),
+        (&[(92, 0x0201_0400), (80, 17)], Some(8)),
+        (&[(92, 0x0201_0400), (84, 0)], None),
+        (&[(92, 0x0101_1F00)], None),
+        (&[(92, 0x0101_2000)], Some(9)),
         // All tests of a section come before those of the next.
-        (&[(64, 0x0004_2000), (92, 0x0401_0400)], 9),
-        (&[(64, 0x0404_2000)], 7),
-        (&[(60, 0xFFFF_FFFF), (64, 0x0404_2000)], 6),
-        (&[(80, 17), (92, 0x0101_2000)], 8),
-        (&[(92, 0x0101_2000), (120, 0x0504_0400)], 9),
-        (&[(120, 0x0504_0400)], 10),
+        (&[(64, 0x0004_2000), (92, 0x0401_0400)], Some(9)),
+        (&[(64, 0x0404_2000)], Some(7)),
+        (&[(60, 0xFFFF_FFFF), (64, 0x0404_2000)], Some(6)),
+        (&[(80, 17), (92, 0x0101_2000)], Some(8)),
+        (&[(92, 0x0101_2000), (120, 0x0504_0400)], Some(9)),
+        (&[(120, 0x0504_0400)], Some(10)),
     ];
     for (i, (words, want)) in rows.iter().enumerate() {
-        assert_eq!(rt; answer(&changed(&rt, words)), *want, "row {i}");
+        let bytes = with_words(rt.alloc(), &BYTES, words)?;
+        assert_eq!(rt; refused_container(&bytes), *want, "row {i}");
     }
+    Ok(())
 }
 
 #[test]
-fn header(rt: HostRuntime) {
+fn header(rt: HostRuntime) -> Result<(), Fail> {
     let words = [
         (16, 0xB000_0001),
         (20, 0x0100_0002),
@@ -89,7 +79,7 @@ fn header(rt: HostRuntime) {
         (28, 0x0300_0004),
         (36, 0x0500_0006),
     ];
-    let bytes = changed(&rt, &words);
+    let bytes = with_words(rt.alloc(), &BYTES, &words)?;
     let header = Container::read(&bytes).expect(&rt, "a container").header();
     let fields = [
         header.tag_1,
@@ -118,10 +108,11 @@ fn header(rt: HostRuntime) {
         0x0500_0006,
     ];
     assert_eq!(rt; fields, want);
+    Ok(())
 }
 
 #[test]
-fn section(rt: HostRuntime) {
+fn section(rt: HostRuntime) -> Result<(), Fail> {
     // Of section 2, which isn't instantiated, all fields are other ones.
     let words = [
         (96, 0xFFFF_FFFE),
@@ -130,7 +121,7 @@ fn section(rt: HostRuntime) {
         (108, 0x0300_0004),
         (120, 0x0405_0607),
     ];
-    let bytes = changed(&rt, &words);
+    let bytes = with_words(rt.alloc(), &BYTES, &words)?;
     let container = Container::read(&bytes).expect(&rt, "a container");
     // Name offset; default address; sizes: total, unpacked, packed; place; kind, share kind, alignment, reserved.
     let rows = [
@@ -164,10 +155,11 @@ fn section(rt: HostRuntime) {
         assert_eq!(rt; Some(section.raw), container.raw(i), "section {i}");
     }
     assert!(rt; container.section(3).is_none());
+    Ok(())
 }
 
 #[test]
-fn raw_and_loader(rt: HostRuntime) {
+fn raw_and_loader(rt: HostRuntime) -> Result<(), Fail> {
     // What is changed; the raw bytes of section 0; the loader section's.
     let rows: [(&[(usize, u32)], &[u8], &[u8]); 5] = [
         (&[], &BYTES[0x80..0x88], &BYTES[160..]),
@@ -184,17 +176,18 @@ fn raw_and_loader(rt: HostRuntime) {
         ),
     ];
     for (words, raw, loader) in rows {
-        let bytes = changed(&rt, words);
+        let bytes = with_words(rt.alloc(), &BYTES, words)?;
         let container = Container::read(&bytes).expect(&rt, "a container");
         assert_eq!(rt; container.raw(0), Some(raw), "{words:?}");
         assert_eq!(rt; container.loader(), loader, "{words:?}");
         assert_eq!(rt; container.raw(2), Some(loader), "{words:?}");
         assert_eq!(rt; container.raw(4), None, "{words:?}");
     }
+    Ok(())
 }
 
 #[test]
-fn section_name(rt: HostRuntime) {
+fn section_name(rt: HostRuntime) -> Result<(), Fail> {
     // The bytes from 129 on are 11 22 33 44 55 66 77 00, and the container's last zero byte is at 248.
     let rows: [(u32, Option<&[u8]>); 7] = [
         (0, Some(b"")),
@@ -206,9 +199,10 @@ fn section_name(rt: HostRuntime) {
         (0xFFFF_FFFE, None),
     ];
     for (offset, want) in rows {
-        let bytes = changed(&rt, &[(40, offset)]);
+        let bytes = with_words(rt.alloc(), &BYTES, &[(40, offset)])?;
         let container = Container::read(&bytes).expect(&rt, "a container");
         assert_eq!(rt; container.section_name(0), want, "at {offset}");
         assert_eq!(rt; container.section_name(3), None);
     }
+    Ok(())
 }

@@ -54,3 +54,11 @@ pub const VECTORS_CERTIFIED: &[u8] = b"\
       section 1\nfixups 4\nlength 1\nprogram 4601\nregisters 0 1 *\n\
       at 0 2 1 2 3 2 3 3 2 3\nat 1 3 2 3 2 3 3 3 3 3\nat 2 2 1 2 2 2 2 2 2 2\n\
       at 3 1 1 1 1 1 1 1 1 1\nat 4 0 0 0 0 0 0 0 0 0\nend\n";
+
+/// A library with one export.
+pub const LIBRARY: &str =
+    "versions 1 0 0\nsection l data process 4 4\nbytes l 0000002A\nexport v data l 0\n";
+
+/// A fragment that needs that library by the name `L`: its word becomes the address of the export.
+pub const USER: &str =
+    "library L 1 0 -\nimport v data strong\nsection a data process 4 4\nfix a 0 import v\n";

@@ -1,0 +1,89 @@
+//! Scripts at the limits: how much of each a script may have, and lines for as much.
+
+use std::alloc::{AllocError, Global};
+use std::fmt::Write;
+
+/// As many sections as a script may have, by their names.
+pub const SECTIONS: [&str; 8] = ["s0", "s1", "s2", "s3", "s4", "s5", "s6", "s7"];
+
+pub const LIBRARIES: u32 = 4096;
+
+pub const IMPORTS: u32 = 65_536;
+
+/// The imports of each library, where each has as many.
+pub const IMPORTS_EACH: u32 = 16;
+
+pub const EXPORTS: u32 = 16_383;
+
+/// The fixups of a section.
+pub const FIXUPS: u32 = 16_384;
+
+/// The length of a section whose fixups stand at every other word.
+pub const EVERY_OTHER: u32 = 131_072;
+
+/// Fixups side by side or apart: the offset of the first, how far it is to the next, and how many.
+#[derive(Clone, Copy, Debug)]
+pub struct Spaced {
+    pub first: u32,
+    pub step: u32,
+    pub count: u32,
+}
+
+/// Lines for fixups of a section by a base that is spelled.
+pub fn push_fixups(
+    text: &mut String,
+    section: &str,
+    fixups: Spaced,
+    base: &str,
+) -> Result<(), AllocError> {
+    for i in 0..fixups.count {
+        let offset = i.wrapping_mul(fixups.step).wrapping_add(fixups.first);
+        writeln!(text, "fix {section} {offset} {base}")?;
+    }
+    Ok(())
+}
+
+/// Lines for all sections, of this alignment and length.
+pub fn push_sections(text: &mut String, align: u32, total: u32) -> Result<(), AllocError> {
+    for section in SECTIONS {
+        writeln!(text, "section {section} data process {align} {total}")?;
+    }
+    Ok(())
+}
+
+/// Lines for the fixups of all sections by a base that is spelled, at every other word.
+pub fn push_every_other(text: &mut String, base: &str) -> Result<(), AllocError> {
+    let fixups = Spaced {
+        first: 0,
+        step: 8,
+        count: FIXUPS,
+    };
+    for section in SECTIONS {
+        push_fixups(text, section, fixups, base)?;
+    }
+    Ok(())
+}
+
+/// Lines for all libraries with their imports.
+fn push_imports(text: &mut String) -> Result<(), AllocError> {
+    for import in 0..IMPORTS {
+        if import % IMPORTS_EACH == 0 {
+            writeln!(text, "library l{} 0 0 -", import / IMPORTS_EACH)?;
+        }
+        writeln!(text, "import i{import} data strong")?;
+    }
+    Ok(())
+}
+
+/// A script at all limits at once: libraries, imports, sections, exports, and fixups by the last import that
+/// don't adjoin.
+pub fn at_all_limits(alloc: Global) -> Result<String, AllocError> {
+    let mut text = String::new(alloc);
+    push_imports(&mut text)?;
+    push_sections(&mut text, 4, EVERY_OTHER)?;
+    push_every_other(&mut text, "import i65535")?;
+    for export in 0..EXPORTS {
+        writeln!(text, "export e{export} data s7 {export}")?;
+    }
+    Ok(text)
+}
