@@ -1,71 +1,68 @@
-use crate::fixture::{Fragment, container, told, told_of_pairs};
+use crate::fixture::{told, told_of_pairs};
 use std::alloc::Global;
 use std::process::Abort;
 use std::test::Fail;
-
-/// A library with one export, and a fragment that imports it.
-const L: &str = "versions 1 0 0\nsection l data process 4 4\nbytes l 0000002A\nexport v data l 0\n";
-
-const A: &str =
-    "library L 1 0 -\nimport v data strong\nsection a data process 4 4\nfix a 0 import v\n";
+use test_data::changes::{At, Change};
+use test_data::scripts::{LIBRARY, USER};
+use test_links::fragments::{Fragment, container};
 
 /// What is told of closures of the first fragment.
 const LIBRARIES: &[(&[Fragment], &str)] = &[
     (
-        &[("A", A, b""), ("B", A, b""), ("L", L, b"")],
+        &[("A", USER, &[]), ("B", USER, &[]), ("L", LIBRARY, &[])],
         "order 2 0, init 2 0, 0.0 at 2 0 0",
     ),
-    (&[("A", A, b"")], "61 LibraryMissing A L"),
+    (&[("A", USER, &[])], "61 LibraryMissing A L"),
     (
-        &[("A", "library L 1 0 weak\nimport v data strong\n", b"")],
+        &[("A", "library L 1 0 weak\nimport v data strong\n", &[])],
         "order 0, init 0, 0.0 none",
     ),
     // The first pair of a name counts.
     (
         &[
-            ("A", A, b""),
-            ("L", L, b""),
-            ("L", "section l data process 4 8\nexport v data l 4\n", b""),
+            ("A", USER, &[]),
+            ("L", LIBRARY, &[]),
+            ("L", "section l data process 4 8\nexport v data l 4\n", &[]),
         ],
         "order 1 0, init 1 0, 0.0 at 1 0 0",
     ),
     // Versions: a definition that is newer, and one that is older.
     (
         &[
-            ("A", "library L 5 3 -\n", b""),
-            ("L", "versions 3 0 0\n", b""),
+            ("A", "library L 5 3 -\n", &[]),
+            ("L", "versions 3 0 0\n", &[]),
         ],
         "order 1 0, init 1 0",
     ),
     (
         &[
-            ("A", "library L 5 3 -\n", b""),
-            ("L", "versions 2 0 0\n", b""),
+            ("A", "library L 5 3 -\n", &[]),
+            ("L", "versions 2 0 0\n", &[]),
         ],
         "63 ImplementationTooOld A L",
     ),
     (
         &[
-            ("A", "library L 2 0 -\n", b""),
-            ("L", "versions 5 3 0\n", b""),
+            ("A", "library L 2 0 -\n", &[]),
+            ("L", "versions 5 3 0\n", &[]),
         ],
         "64 ImplementationTooNew A L",
     ),
     (
         &[
-            ("A", "library L 2 0 weak\nimport v data strong\n", b""),
+            ("A", "library L 2 0 weak\nimport v data strong\n", &[]),
             (
                 "L",
                 "versions 5 3 0\nsection l data process 4 4\nexport v data l 0\n",
-                b"",
+                &[],
             ),
         ],
         "order 0, init 0, 0.0 none",
     ),
     (
         &[
-            ("A", "library L 2 0 weak\n", b""),
-            ("L", "versions 5 2 0\n", b""),
+            ("A", "library L 2 0 weak\n", &[]),
+            ("L", "versions 5 2 0\n", &[]),
         ],
         "order 1 0, init 1 0",
     ),
@@ -76,79 +73,79 @@ const LIBRARIES: &[(&[Fragment], &str)] = &[
 const ORDERS: &[(&[Fragment], &str)] = &[
     (
         &[
-            ("A", "library B 0 0 -\nlibrary C 0 0 -\n", b""),
-            ("B", "library D 0 0 -\n", b""),
-            ("C", "library D 0 0 -\n", b""),
-            ("D", "", b""),
+            ("A", "library B 0 0 -\nlibrary C 0 0 -\n", &[]),
+            ("B", "library D 0 0 -\n", &[]),
+            ("C", "library D 0 0 -\n", &[]),
+            ("D", "", &[]),
         ],
         "order 3 1 2 0, init 3 1 2 0",
     ),
-    (&[("P", "library P 0 0 -\n", b"")], "order 0, init 0"),
-    (&[("P", "library P 0 0 before\n", b"")], "66 InitLoop P"),
+    (&[("P", "library P 0 0 -\n", &[])], "order 0, init 0"),
+    (&[("P", "library P 0 0 before\n", &[])], "66 InitLoop P"),
     (
         &[
-            ("A", "library B 0 0 -\n", b""),
-            ("B", "library A 0 0 -\n", b""),
+            ("A", "library B 0 0 -\n", &[]),
+            ("B", "library A 0 0 -\n", &[]),
         ],
         "order 1 0, init 1 0",
     ),
     (
         &[
-            ("A", "library B 0 0 -\n", b""),
-            ("B", "library A 0 0 before\n", b""),
+            ("A", "library B 0 0 -\n", &[]),
+            ("B", "library A 0 0 before\n", &[]),
         ],
         "order 1 0, init 0 1",
     ),
     (
         &[
-            ("A", "library B 0 0 before\n", b""),
-            ("B", "library A 0 0 before\n", b""),
+            ("A", "library B 0 0 before\n", &[]),
+            ("B", "library A 0 0 before\n", &[]),
         ],
         "66 InitLoop B",
     ),
     (
         &[
-            ("A", "library B 0 0 before\n", b""),
-            ("B", "library C 0 0 -\n", b""),
-            ("C", "library A 0 0 -\n", b""),
+            ("A", "library B 0 0 before\n", &[]),
+            ("B", "library C 0 0 -\n", &[]),
+            ("C", "library A 0 0 -\n", &[]),
         ],
         "order 2 1 0, init 2 1 0",
     ),
     (
         &[
-            ("A", "library B 0 0 -\n", b""),
-            ("B", "library C 0 0 before\n", b""),
-            ("C", "library A 0 0 -\n", b""),
+            ("A", "library B 0 0 -\n", &[]),
+            ("B", "library C 0 0 before\n", &[]),
+            ("C", "library A 0 0 -\n", &[]),
         ],
         "order 2 1 0, init 2 1 0",
     ),
     (
         &[
-            ("A", "library B 0 0 -\n", b""),
-            ("B", "library C 0 0 -\n", b""),
-            ("C", "library A 0 0 before\n", b""),
+            ("A", "library B 0 0 -\n", &[]),
+            ("B", "library C 0 0 -\n", &[]),
+            ("C", "library A 0 0 before\n", &[]),
         ],
         "order 2 1 0, init 1 0 2",
     ),
     (
         &[
-            ("A", "library B 0 0 before\n", b""),
-            ("B", "library C 0 0 before\n", b""),
-            ("C", "library A 0 0 before\n", b""),
+            ("A", "library B 0 0 before\n", &[]),
+            ("B", "library C 0 0 before\n", &[]),
+            ("C", "library A 0 0 before\n", &[]),
         ],
         "66 InitLoop C",
     ),
     // An absent library doesn't have to come first.
     (
-        &[("A", "library B 0 0 weak,before\n", b"")],
+        &[("A", "library B 0 0 weak,before\n", &[])],
         "order 0, init 0",
     ),
 ];
 
-/// What is written over the section of an export that is absolute, or that passes on an import.
-const ABSOLUTE: &[u8] = b"\xFF\xFE";
+/// What is written over the section of the only export, so that it is absolute, or passes on an import.
+const ABSOLUTE: &[Change] = &[(At::End(2), b"\xFF\xFE")];
 
-const REEXPORT: &[u8] = b"\xFF\xFD";
+const REEXPORT: &[Change] = &[(At::End(2), b"\xFF\xFD")];
 
 /// A fragment whose export `u` can be made to pass on `v` of `L`.
 const M: &str =
@@ -158,8 +155,8 @@ const M: &str =
 const TARGETS: &[(&[Fragment], &str)] = &[
     (
         &[
-            ("A", "library L 1 0 -\nimport w data strong\n", b""),
-            ("L", L, b""),
+            ("A", "library L 1 0 -\nimport w data strong\n", &[]),
+            ("L", LIBRARY, &[]),
         ],
         "62 SymbolMissing A L w",
     ),
@@ -168,40 +165,40 @@ const TARGETS: &[(&[Fragment], &str)] = &[
             (
                 "A",
                 "library L 1 0 -\nimport w data weak\nimport v data weak\n",
-                b"",
+                &[],
             ),
-            ("L", L, b""),
+            ("L", LIBRARY, &[]),
         ],
         "order 1 0, init 1 0, 0.0 none, 0.1 at 1 0 0",
     ),
     (
         &[
-            ("A", "library M 1 0 -\nimport u data strong\n", b""),
+            ("A", "library M 1 0 -\nimport u data strong\n", &[]),
             ("M", M, REEXPORT),
-            ("L", L, b""),
+            ("L", LIBRARY, &[]),
         ],
         "order 2 1 0, init 2 1 0, 1.0 at 2 0 0, 0.0 at 2 0 0",
     ),
     (
         &[
-            ("A", "library M 1 0 -\nimport u data strong\n", b""),
+            ("A", "library M 1 0 -\nimport u data strong\n", &[]),
             ("M", M, ABSOLUTE),
-            ("L", L, b""),
+            ("L", LIBRARY, &[]),
         ],
         "order 2 1 0, init 2 1 0, 1.0 at 2 0 0, 0.0 is 0",
     ),
     (
         &[
-            ("A", "library M 1 0 -\nimport u data strong\n", b""),
-            ("M", M, b"\x00\x00\xAB\xCD\xFF\xFE"),
-            ("L", L, b""),
+            ("A", "library M 1 0 -\nimport u data strong\n", &[]),
+            ("M", M, &[(At::End(6), b"\x00\x00\xAB\xCD\xFF\xFE")]),
+            ("L", LIBRARY, &[]),
         ],
         "order 2 1 0, init 2 1 0, 1.0 at 2 0 0, 0.0 is 43981",
     ),
     // A chain that ends where a weak library is absent, and where a weak symbol is missing.
     (
         &[
-            ("A", "library M 1 0 -\nimport u data strong\n", b""),
+            ("A", "library M 1 0 -\nimport u data strong\n", &[]),
             (
                 "M",
                 "versions 1 0 0\nlibrary L 1 0 weak\nimport v data strong\nsection m data process 4 4\nexport u data m 0\n",
@@ -212,13 +209,13 @@ const TARGETS: &[(&[Fragment], &str)] = &[
     ),
     (
         &[
-            ("A", "library M 1 0 -\nimport u data strong\n", b""),
+            ("A", "library M 1 0 -\nimport u data strong\n", &[]),
             (
                 "M",
                 "versions 1 0 0\nlibrary L 1 0 -\nimport w data weak\nsection m data process 4 4\nexport u data m 0\n",
                 REEXPORT,
             ),
-            ("L", L, b""),
+            ("L", LIBRARY, &[]),
         ],
         "order 2 1 0, init 2 1 0, 1.0 none, 0.0 none",
     ),
@@ -231,7 +228,7 @@ const TARGETS: &[(&[Fragment], &str)] = &[
                 "versions 1 0 0\nlibrary A 0 0 -\nimport w data strong\nsection m data process 4 4\nexport u data m 0\n",
                 REEXPORT,
             ),
-            ("A", "library M 1 0 -\nimport u data strong\n", b""),
+            ("A", "library M 1 0 -\nimport u data strong\n", &[]),
         ],
         "62 SymbolMissing M A w",
     ),
@@ -240,7 +237,7 @@ const TARGETS: &[(&[Fragment], &str)] = &[
         &[(
             "P",
             "versions 1 0 0\nlibrary P 1 0 -\nimport u data strong\nsection m data process 4 4\nexport u data m 0\n",
-            b"",
+            &[],
         )],
         "order 0, init 0, 0.0 at 0 0 0",
     ),
@@ -305,53 +302,40 @@ fn test_told_of_pairs(
     Ok(())
 }
 
-/// A container whose main section is 0. It stands at the head of the loader section, here at 80.
-fn bad_main(rt: &impl Abort, alloc: Global) -> Result<Vec<u8>, Fail> {
-    let mut bytes = container(alloc, "", b"")?;
-    assert!(rt; bytes.len() > 83);
-    bytes[80] = 0;
-    bytes[81] = 0;
-    bytes[82] = 0;
-    bytes[83] = 0;
-    Ok(bytes)
-}
+/// What makes section 0 the main one in a container without sections: that stands at the head of the loader
+/// section, here at 80.
+const BAD_MAIN: &[Change] = &[(At::Front(80), &[0; 4])];
 
 /// A weak library that can't be read is refused all the same: its container, or its loader section.
 #[test]
 fn unreadable_libraries(rt: HostRuntime) -> Result<(), Fail> {
     let alloc = rt.alloc();
-    let needs = container(alloc, "library L 0 0 weak\n", b"")?;
+    let needs = container(alloc, "library L 0 0 weak\n", &[])?;
     let short: [(&str, &[u8]); 2] = [("A", &needs), ("L", b"Joy!")];
     test_told_of_pairs(&rt, alloc, &short, "1 TooShort L")?;
-    let bad_main = bad_main(&rt, alloc)?;
+    let bad_main = container(alloc, "", BAD_MAIN)?;
     let bad_entry: [(&str, &[u8]); 2] = [("A", &needs), ("L", &bad_main)];
     test_told_of_pairs(&rt, alloc, &bad_entry, "16 BadEntry L")
 }
 
-/// A container of two libraries, of which the second has the import of the first. It stands at 160: its count
-/// of imports at 172, its first one at 176.
-fn shared_import(rt: &impl Abort, alloc: Global) -> Result<Vec<u8>, Fail> {
-    let mut bytes = container(
-        alloc,
-        "library L 1 0 -\nimport v data strong\nlibrary K 0 0 -\n",
-        b"",
-    )?;
-    assert!(rt; bytes.len() > 179);
-    bytes[175] = 1;
-    bytes[179] = 0;
-    Ok(bytes)
-}
+/// What gives the second of two libraries the import of the first. It stands at 160: its count of imports at
+/// 172, its first one at 176.
+const SHARED_IMPORT: &[Change] = &[(At::Front(175), &[1]), (At::Front(179), &[0])];
 
 /// An import in the ranges of two libraries belongs to the first.
 #[test]
 fn import_of_two_libraries(rt: HostRuntime) -> Result<(), Fail> {
     let alloc = rt.alloc();
-    let importer = shared_import(&rt, alloc)?;
-    let first = container(alloc, L, b"")?;
+    let importer = container(
+        alloc,
+        "library L 1 0 -\nimport v data strong\nlibrary K 0 0 -\n",
+        SHARED_IMPORT,
+    )?;
+    let first = container(alloc, LIBRARY, &[])?;
     let second = container(
         alloc,
         "section k data process 4 8\nexport v data k 4\n",
-        b"",
+        &[],
     )?;
     let pairs: [(&str, &[u8]); 3] = [("A", &importer), ("K", &second), ("L", &first)];
     let wanted = "order 2 1 0, init 2 1 0, 0.0 at 2 0 0";
@@ -367,7 +351,7 @@ fn turned_imports(rt: &impl Abort, alloc: Global) -> Result<Vec<u8>, Fail> {
     let mut bytes = container(
         alloc,
         "library L 0 0 -\nimport v data strong\nlibrary Q 0 0 -\nimport w data strong\nsection p data process 4 4\nexport p data p 0\n",
-        b"\x00\x00\x00\x01\xFF\xFD",
+        &[(At::End(6), b"\x00\x00\x00\x01\xFF\xFD")],
     )?;
     assert!(rt; bytes.len() > 91);
     let loader = usize::from(bytes[91]);
@@ -388,12 +372,12 @@ fn import_before_its_turn(rt: HostRuntime) -> Result<(), Fail> {
     let first = container(
         alloc,
         "library P 0 0 -\nimport p data strong\nsection q data process 4 8\nexport v data q 4\n",
-        b"",
+        &[],
     )?;
     let last = container(
         alloc,
         "section l data process 4 4\nexport w data l 0\n",
-        b"",
+        &[],
     )?;
     let pairs: [(&str, &[u8]); 3] = [("P", &second), ("Q", &first), ("L", &last)];
     let wanted = "order 2 1 0, init 2 1 0, 1.0 at 2 0 0, 0.0 at 1 0 4, 0.1 at 2 0 0";

@@ -3,40 +3,14 @@ use std::alloc::{AllocError, Global};
 use std::fmt::Write;
 use std::process::Abort;
 use std::test::Fail;
-use test_links::{link_text, tell_names};
-
-/// A fragment: its name, its script, and what is written over the end of its container. Where a script has
-/// one export, its section is the last two bytes, and its value the four before them.
-pub(crate) type Fragment = (&'static str, &'static str, &'static [u8]);
-
-/// The container of a script, with other bytes at its end.
-pub(crate) fn container(alloc: Global, script: &str, end: &[u8]) -> Result<Vec<u8>, Fail> {
-    let linked = link_text(alloc, script.as_bytes())?;
-    let kept = linked.bytes().len().saturating_sub(end.len());
-    let mut bytes = Vec::from_slice(alloc, &linked.bytes()[..kept])?;
-    bytes.extend_from_slice(end)?;
-    Ok(bytes)
-}
-
-/// The containers of some fragments.
-pub(crate) fn containers(alloc: Global, fragments: &[Fragment]) -> Result<Vec<Vec<u8>>, Fail> {
-    let mut containers = Vec::new(alloc);
-    for (_, script, end) in fragments {
-        let bytes = container(alloc, script, end)?;
-        containers.push(bytes)?;
-    }
-    Ok(containers)
-}
+use test_links::fragments::{Fragment, add, containers, store_of};
+use test_links::tell_names;
 
 /// What is told of the closure of the first fragment of a store: its order, the order of initialization,
 /// and the targets of the fragments' imports; or its refusal with the names that it tells.
 pub(crate) fn told(rt: &impl Abort, alloc: Global, fragments: &[Fragment]) -> Result<String, Fail> {
     let containers = containers(alloc, fragments)?;
-    let mut store = Store::new(alloc);
-    for (fragment, bytes) in fragments.iter().zip(&containers) {
-        assert!(rt; store.len() < 256);
-        store.add(fragment.0.as_bytes(), bytes)?;
-    }
+    let store = store_of(alloc, fragments, &containers)?;
     told_of(rt, alloc, &store)
 }
 
@@ -49,8 +23,7 @@ pub(crate) fn told_of_pairs(
     let mut store = Store::new(alloc);
     for pair in pairs {
         let (name, bytes) = *pair;
-        assert!(rt; store.len() < 256);
-        store.add(name.as_bytes(), bytes)?;
+        add(&mut store, name, bytes)?;
     }
     told_of(rt, alloc, &store)
 }

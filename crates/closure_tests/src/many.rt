@@ -1,9 +1,9 @@
-use crate::fixture::container;
 use cfm_closure::{Closure, Store, closure};
 use std::alloc::{AllocError, Global};
 use std::fmt::Write;
 use std::process::Abort;
 use std::test::Fail;
+use test_links::fragments::{add, container};
 
 /// As many fragments as a store may have.
 const FRAGMENTS: usize = 256;
@@ -26,8 +26,7 @@ fn reversed(
 ) -> Result<(), Fail> {
     let mut store = Store::new(alloc);
     for (name, bytes) in names.iter().zip(containers) {
-        assert!(rt; store.len() < FRAGMENTS);
-        store.add(name.as_bytes(), bytes)?;
+        add(&mut store, name, bytes)?;
     }
     assert_eq!(rt; store.len(), FRAGMENTS);
     match closure(alloc, &store, 0) {
@@ -58,9 +57,9 @@ fn chain_and_complete_graph(rt: HostRuntime) -> Result<(), Fail> {
         chain.push(container(
             alloc,
             script(alloc, next, next.wrapping_add(1))?.as_str(),
-            b"",
+            &[],
         )?)?;
-        complete.push(container(alloc, script(alloc, 0, FRAGMENTS)?.as_str(), b"")?)?;
+        complete.push(container(alloc, script(alloc, 0, FRAGMENTS)?.as_str(), &[])?)?;
     }
     reversed(&rt, alloc, &names, &chain)?;
     reversed(&rt, alloc, &names, &complete)?;

@@ -1,5 +1,8 @@
-//! What tests over linked scripts stand on: scripts are linked, and the names are told that a refusal has.
+//! What tests over linked scripts stand on: scripts are linked, fragments are made of them, and the names are told that
+//! a refusal has.
 #![tactic(auto)]
+
+pub mod fragments;
 
 use cfm_closure::BindFault;
 use pef_script::Script;

@@ -1,0 +1,57 @@
+//! Fragments from scripts, and stores of them.
+
+use crate::link_text;
+use cfm_closure::Store;
+use std::alloc::Global;
+use std::test::Fail;
+use test_data::changes::{Change, change};
+
+/// How many fragments a store may have.
+const MOST: usize = 256;
+
+/// A fragment: its name, its script, and what is written over some bytes of its container.
+///
+/// Where a script has one export, that export's section is the last two bytes, and its value the four before them.
+pub type Fragment = (&'static str, &'static str, &'static [Change]);
+
+/// The container of a script, with some changes.
+pub fn container(alloc: Global, script: &str, changes: &[Change]) -> Result<Vec<u8>, Fail> {
+    let linked = link_text(alloc, script.as_bytes())?;
+    let mut bytes = Vec::from_slice(alloc, linked.bytes())?;
+    for (at, other) in changes {
+        change(&mut bytes, *at, other)?;
+    }
+    Ok(bytes)
+}
+
+/// The containers of some fragments.
+pub fn containers(alloc: Global, fragments: &[Fragment]) -> Result<Vec<Vec<u8>>, Fail> {
+    let mut containers = Vec::new(alloc);
+    for (_, script, changes) in fragments {
+        let bytes = container(alloc, script, changes)?;
+        containers.push(bytes)?;
+    }
+    Ok(containers)
+}
+
+/// Adds a pair to a store. Fails where that is full.
+pub fn add<'a>(store: &mut Store<'a>, name: &'a str, bytes: &'a [u8]) -> Result<(), Fail> {
+    if store.len() >= MOST {
+        return Err(Fail::new("the store is full"));
+    }
+    store.add(name.as_bytes(), bytes)?;
+    Ok(())
+}
+
+/// A store of some fragments, which have these containers.
+pub fn store_of<'a>(
+    alloc: Global,
+    fragments: &[Fragment],
+    containers: &'a [Vec<u8>],
+) -> Result<Store<'a>, Fail> {
+    let mut store = Store::new(alloc);
+    for (fragment, bytes) in fragments.iter().zip(containers) {
+        add(&mut store, fragment.0, bytes)?;
+    }
+    Ok(store)
+}
