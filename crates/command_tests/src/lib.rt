@@ -1,5 +1,5 @@
 //! Tests of the commands through `run`, over files, an input and an output in memory. Those of `load`
-//! and of `distances` stand in crates of their own.
+//! and of `distances` stand in crates of their own, but for the memory that is refused to them.
 //!
 //! Expected values come from the documents and from worked examples, never from the program.
 #![tactic(auto)]
@@ -16,6 +16,8 @@ mod link;
 mod list;
 #[cfg(test)]
 mod listings;
+#[cfg(test)]
+mod refused;
 #[cfg(test)]
 mod show;
 #[cfg(test)]

@@ -1,5 +1,6 @@
 use std::test::Fail;
-use test_bench::containers::{VECTORS_LEAST, changed};
+use test_bench::changes::{At, changed};
+use test_bench::containers::VECTORS_LEAST;
 use test_bench::runs::{Handed, assert_prints, assert_prints_over};
 use test_bench::scripts::{
     EMPTY_CONTAINER, EXAMPLE, EXAMPLE_CONTAINER, EXAMPLE_LINKED, EXAMPLE_PROGRAM, EXAMPLE_SHOWN,
@@ -38,7 +39,7 @@ fn link_example(rt: HostRuntime) -> Result<(), Fail> {
     let words = ["link", "a", "out"];
     let mut outcome = assert_prints(alloc, Handed::file(&words, EXAMPLE), EXAMPLE_LINKED, 0)?;
     let written = outcome.papers.bytes(b"out").ok_or("no container")?;
-    let same = changed(alloc, written, 180, EXAMPLE_PROGRAM)?;
+    let same = changed(alloc, written, At::Front(180), EXAMPLE_PROGRAM)?;
     assert_eq!(rt; same.as_slice(), EXAMPLE_CONTAINER);
     let words = ["load", "it=out"];
     assert_prints_over(alloc, &mut outcome.papers, &words, EXAMPLE_SHOWN, 0)

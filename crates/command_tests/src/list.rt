@@ -1,6 +1,7 @@
 use crate::listings::{RICH_LISTED, VECTORS_LISTED};
 use std::test::Fail;
-use test_bench::containers::{RICH, VECTORS_LEAST, changed};
+use test_bench::changes::{At, changed};
+use test_bench::containers::{RICH, VECTORS_LEAST};
 use test_bench::runs::{Handed, assert_cut_output, assert_prints, assert_unreadable, run_tool};
 use test_bench::scripts::EMPTY_CONTAINER;
 
@@ -33,8 +34,7 @@ fn list_reexport(rt: HostRuntime) -> Result<(), Fail> {
     let Some(container) = linked.papers.bytes(b"out") else {
         return Err(Fail::from("nothing was linked"));
     };
-    let end = container.len().saturating_sub(2);
-    let bytes = changed(rt.alloc(), container, end, b"\xFF\xFD")?;
+    let bytes = changed(rt.alloc(), container, At::End(2), b"\xFF\xFD")?;
     let outcome = run_tool(rt.alloc(), Handed::file(&["list", "a"], bytes.as_slice()))?;
     assert!(rt;
         outcome
@@ -99,7 +99,7 @@ fn list_damaged(rt: HostRuntime) -> Result<(), Fail> {
         (b"", 0, b"", b"refused 1 TooShort\n"),
     ];
     for (container, at, other, printed) in rows {
-        let bytes = changed(rt.alloc(), container, at, other)?;
+        let bytes = changed(rt.alloc(), container, At::Front(at), other)?;
         let handed = Handed::file(&["list", "a"], bytes.as_slice());
         assert_prints(rt.alloc(), handed, printed, 1)?;
     }

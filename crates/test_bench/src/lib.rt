@@ -1,5 +1,5 @@
 //! What tests of the commands stand on: files, an input and an output in memory, and runs of the tool over
-//! them, beside the scripts and the containers of `test_data`.
+//! them, beside what `test_data` has.
 //!
 //! The ports tell their bytes, so what `run` promises of bytes is promised over them; and they give and
 //! take bytes in parts, and fail at one call, behind which they would go on.
@@ -8,4 +8,4 @@
 pub mod ports;
 pub mod runs;
 
-pub use test_data::{containers, scripts};
+pub use test_data::{changes, containers, limits, scripts};

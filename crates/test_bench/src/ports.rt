@@ -3,7 +3,7 @@
 ghost use Rattle.std.specs.Prelude.{◌<◌};
 
 use pef_ports::{FileFault, Files, Sink, Source, StreamFault};
-use std::alloc::Global;
+use std::alloc::{AllocError, Global};
 
 /// An input that gives so many bytes a call, and fails at one call: the first where `fails_at` is 1, and
 /// none where it is 0.
@@ -58,7 +58,10 @@ impl<'a> Source for Text<'a> {
     }
 }
 
-/// An output that takes so many bytes a call, and fails at one call.
+/// How many bytes an output has room for from the start.
+const ROOM: usize = 4096;
+
+/// An output that takes so many bytes a call, and fails at one call. It takes no memory for a short text.
 #[derive(Drop)]
 pub struct Sheet {
     bytes: Vec<u8>,
@@ -70,16 +73,16 @@ pub struct Sheet {
 }
 
 impl Sheet {
-    pub fn new(alloc: Global, step: usize, fails_at: usize) -> Sheet
+    pub fn new(alloc: Global, step: usize, fails_at: usize) -> Result<Sheet, AllocError>
         requires { 0 < step }
     {
-        Sheet {
-            bytes: Vec::new(alloc),
+        Ok(Sheet {
+            bytes: Vec::with_capacity(alloc, ROOM)?,
             step,
             fails_at,
             failures: 0,
             failed: false,
-        }
+        })
     }
 
     /// What went out.

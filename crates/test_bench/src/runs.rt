@@ -6,6 +6,7 @@ use crate::ports::{Papers, Sheet, Text};
 use pef_tool::{FileFault, run};
 use std::alloc::{AllocError, Global};
 use std::test::Fail;
+use test_data::refusals::{say_answered, say_begins};
 
 /// What a run is handed. Where a call is numbered 0, none fails.
 #[derive(Clone, Copy)]
@@ -95,6 +96,16 @@ impl Outcome {
     }
 }
 
+/// The words of a line, behind the program's name.
+fn line_of(alloc: Global, words: &[&str]) -> Result<Vec<String>, AllocError> {
+    let mut line = Vec::new(alloc);
+    line.push(String::from_str(alloc, "pef")?)?;
+    for word in words {
+        line.push(String::from_str(alloc, word)?)?;
+    }
+    Ok(line)
+}
+
 /// Runs the tool on words over files: its status.
 fn run_words(
     alloc: Global,
@@ -103,11 +114,7 @@ fn run_words(
     input: &mut Text<'_>,
     out: &mut Sheet,
 ) -> Result<u8, AllocError> {
-    let mut line = Vec::new(alloc);
-    line.push(String::from_str(alloc, "pef")?)?;
-    for word in words {
-        line.push(String::from_str(alloc, word)?)?;
-    }
+    let line = line_of(alloc, words)?;
     Ok(run(alloc, line.as_slice(), papers, input, out))
 }
 
@@ -129,7 +136,7 @@ pub fn run_tool(alloc: Global, handed: Handed<'_>) -> Result<Outcome, Fail>
         put_file(&mut papers, "b", second)?;
     }
     let mut input = Text::new(handed.input, handed.step, handed.input_fails_at);
-    let mut out = Sheet::new(alloc, handed.step, handed.out_fails_at);
+    let mut out = Sheet::new(alloc, handed.step, handed.out_fails_at)?;
     let status = run_words(alloc, handed.words, &mut papers, &mut input, &mut out)?;
     Ok(Outcome {
         printed: out.into_bytes(),
@@ -228,9 +235,32 @@ pub fn run_over(
     words: &[&str],
 ) -> Result<(Vec<u8>, u8), AllocError> {
     let mut input = Text::new(b"", 1000, 0);
-    let mut out = Sheet::new(alloc, 1000, 0);
+    let mut out = Sheet::new(alloc, 1000, 0)?;
     let status = run_words(alloc, words, papers, &mut input, &mut out)?;
     Ok((out.into_bytes(), status))
+}
+
+/// Runs the tool over files and an input where one growth may be refused to it, as by `tools/refuse-memory`. It must
+/// print this and end with 0; or say that memory is refused, print nothing else and end with 1.
+pub fn assert_prints_or_lacks_memory(
+    rt: &impl Print,
+    alloc: Global,
+    papers: &mut Papers,
+    words: &[&str],
+    input: &[u8],
+    printed: &[u8],
+) -> Result<(), Fail> {
+    let line = line_of(alloc, words)?;
+    let mut input = Text::new(input, 1000, 0);
+    let mut out = Sheet::new(alloc, 1000, 0)?;
+    say_begins(rt)?;
+    let status = run(alloc, line.as_slice(), papers, &mut input, &mut out);
+    let told = out.into_bytes();
+    let refused = told.as_slice() == b"refused 99 OutOfMemory\n".as_slice() && status == 1;
+    if !refused && (told.as_slice() != printed || status != 0) {
+        return Err(unlike(words, &told, status));
+    }
+    say_answered(rt, refused)
 }
 
 /// Puts the container of a script at a path, and the script at `script`.

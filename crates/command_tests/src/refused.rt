@@ -1,0 +1,90 @@
+//! Each command where memory is refused to it. That shows where these tests are run with one growth refused after
+//! another, as by `tools/refuse-memory`.
+
+use crate::listings::VECTORS_LISTED;
+use pef_tool::FileFault;
+use std::alloc::Global;
+use std::test::Fail;
+use test_bench::containers::VECTORS_LEAST;
+use test_bench::ports::Papers;
+use test_bench::runs::{assert_prints_or_lacks_memory, put_file, put_linked};
+use test_bench::scripts::{
+    EXAMPLE, EXAMPLE_SHOWN, LIBRARY, USER, VECTORS, VECTORS_CERTIFIED, VECTORS_LINKED,
+};
+
+/// A file `a`, and nothing else.
+fn papers(alloc: Global, file: &[u8]) -> Result<Papers, Fail> {
+    let mut papers = Papers::new(alloc, 0, FileFault::Failed);
+    put_file(&mut papers, "a", file)?;
+    Ok(papers)
+}
+
+#[test]
+fn show(rt: HostRuntime) -> Result<(), Fail> {
+    let mut papers = papers(rt.alloc(), b"")?;
+    assert_prints_or_lacks_memory(
+        &rt,
+        rt.alloc(),
+        &mut papers,
+        &["show"],
+        EXAMPLE,
+        EXAMPLE_SHOWN,
+    )
+}
+
+/// The container is whole, or there is none.
+#[test]
+fn link(rt: HostRuntime) -> Result<(), Fail> {
+    let mut papers = papers(rt.alloc(), VECTORS)?;
+    let words = ["link", "a", "out"];
+    assert_prints_or_lacks_memory(&rt, rt.alloc(), &mut papers, &words, b"", VECTORS_LINKED)?;
+    let written = papers.bytes(b"out");
+    assert!(rt; written.is_none() || written == Some(VECTORS_LEAST));
+    Ok(())
+}
+
+#[test]
+fn distances(rt: HostRuntime) -> Result<(), Fail> {
+    let mut papers = papers(rt.alloc(), VECTORS)?;
+    assert_prints_or_lacks_memory(
+        &rt,
+        rt.alloc(),
+        &mut papers,
+        &["distances", "a"],
+        b"",
+        VECTORS_CERTIFIED,
+    )
+}
+
+#[test]
+fn check(rt: HostRuntime) -> Result<(), Fail> {
+    let mut papers = papers(rt.alloc(), VECTORS)?;
+    put_file(&mut papers, "b", VECTORS_CERTIFIED)?;
+    let checked = b"section 0 yes 0\nsection 1 yes 1\n";
+    let words = ["check", "a", "b"];
+    assert_prints_or_lacks_memory(&rt, rt.alloc(), &mut papers, &words, b"", checked)
+}
+
+#[test]
+fn list(rt: HostRuntime) -> Result<(), Fail> {
+    let mut papers = papers(rt.alloc(), VECTORS_LEAST)?;
+    assert_prints_or_lacks_memory(
+        &rt,
+        rt.alloc(),
+        &mut papers,
+        &["list", "a"],
+        b"",
+        VECTORS_LISTED,
+    )
+}
+
+#[test]
+fn load(rt: HostRuntime) -> Result<(), Fail> {
+    let mut papers = papers(rt.alloc(), b"")?;
+    put_linked(rt.alloc(), &mut papers, "user", USER.as_bytes())?;
+    put_linked(rt.alloc(), &mut papers, "library", LIBRARY.as_bytes())?;
+    let loaded =
+        b"fragment L\nsection 0 at 00010000 size 4\n00010000 0000002A\nfragment A\nsection 0 at 00010010 size 4\n00010010 00010000\n";
+    let words = ["load", "A=user", "L=library"];
+    assert_prints_or_lacks_memory(&rt, rt.alloc(), &mut papers, &words, b"", loaded)
+}
