@@ -19,7 +19,7 @@ use pef_reloc::{Program, RelocFault, apply};
 ///
 /// # Errors
 ///
-/// The first refusal, of a header's program or of what it does. What was done before it stands; nothing
+/// The first refusal, of a header's program or of what it does. The sections then have any bytes; nothing
 /// is given back.
 pub fn relocate_sections(
     memory: &mut Memory,
