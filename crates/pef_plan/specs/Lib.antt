@@ -1,3 +1,4 @@
 pub mod Exact
+pub mod Faults
 pub mod Kept
 pub mod Reached

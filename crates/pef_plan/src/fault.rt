@@ -1,4 +1,5 @@
-ghost use Rattle.std.specs.Prelude.{◌≡◌, codes};
+ghost use Rattle.std.specs.Prelude.{◌≡◌};
+ghost use Rattle.pef_plan.specs.Faults.{fault_name, fault_number};
 
 use std::alloc::{AllocError, AllocFailed};
 use std::fmt;
@@ -14,7 +15,7 @@ pub enum PlanFault {
 impl PlanFault {
     /// The number of the refusal.
     pub fn number(&self) -> u32
-        ensures { result ≡ 99 }
+        ensures { result ≡ fault_number self.now }
     {
         match self {
             PlanFault::OutOfMemory => 99,
@@ -23,7 +24,7 @@ impl PlanFault {
 
     /// The refusal's name, which is its text.
     pub fn name(&self) -> &'static str
-        ensures { result.now ≡ codes "OutOfMemory" }
+        ensures { result.now ≡ fault_name self.now }
     {
         match self {
             PlanFault::OutOfMemory => "OutOfMemory",
@@ -32,9 +33,10 @@ impl PlanFault {
 }
 
 impl fmt::Display for PlanFault {
-    ghost use Rattle.std.specs.Prelude.{Some, codes};
+    ghost use Rattle.std.specs.Prelude.{Some};
+    ghost use Rattle.pef_plan.specs.Faults.{fault_name};
 
-    ghost output = { λ fault. Some (codes "OutOfMemory") };
+    ghost output = { λ fault. Some (fault_name fault) };
 
     fn fmt<W: fmt::Write>(&self, f: &mut fmt::Formatter<W>) -> fmt::Result {
         f.write_str(self.name())
