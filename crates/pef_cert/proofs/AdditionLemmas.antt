@@ -18,7 +18,7 @@ use Rattle.pef_cert.specs.declared.runs.Tested.{Tested}
 use Rattle.pef_cert.specs.Labels.{Labels, class_of}
 use Rattle.pef_cert.specs.Extension.{extension}
 use Rattle.pef_cert.specs.Kept.Claims.{Sees, Shaped, Tests}
-use Rattle.pef_cert.specs.Kept.Tests.{adds_test, asked, base_test, import_cost, numbered_test, one_from, pair_test, row_test, second_test}
+use Rattle.pef_cert.specs.LabelTests.{adds_test, asked, base_test, import_cost, numbered_test, one_from, pair_test, row_test, second_test}
 use Rattle.pef_cert.proofs.ClaimLemmas.{get-drop, get_under, knows-sees, label_there}
 
 -- what lies right behind the fixup

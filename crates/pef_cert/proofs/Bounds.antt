@@ -9,7 +9,7 @@ use Rattle.pef_reloc.specs.Fixups.{fixup_fits}
 use Rattle.pef_reloc.proofs.Laws.{fixup_fits-parts}
 use Rattle.pef_cert.specs.Labels.{Labels, classes}
 use Rattle.pef_cert.specs.Extension.{extension}
-use Rattle.pef_cert.specs.Kept.Tests.{base_test}
+use Rattle.pef_cert.specs.LabelTests.{base_test}
 use Rattle.pef_cert.proofs.ExtensionLemmas.{extension-end}
 use Rattle.pef_cert.proofs.Falling.{World, world-first, world-next}
 use Rattle.pef_cert.proofs.LabelFacts.{Stands, extension-label}

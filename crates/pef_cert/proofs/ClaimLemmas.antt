@@ -18,8 +18,8 @@ use Rattle.pef_cert.specs.Valid.{above_all, is_among, rises}
 use Rattle.pef_cert.proofs.ClassLemmas.{or_right}
 use Rattle.pef_cert.proofs.ExtensionLemmas.{extension-away, extension-end, extension-here}
 use Rattle.pef_cert.specs.Labels.{Labels, class_of}
-use Rattle.pef_cert.specs.Extension.{change, extension, moved_value, offer_at}
-use Rattle.pef_cert.specs.Kept.Claims.{IsRowOf, Knows, OfferIs, Sees, Shaped, rows_before}
+use Rattle.pef_cert.specs.Extension.{OfferIs, change, extension, moved_value, offer_at}
+use Rattle.pef_cert.specs.Kept.Claims.{IsRowOf, Knows, Sees, Shaped, rows_before}
 use Rattle.pef_cert.specs.Kept.RowsKept.{RowsFull, rows_from}
 use Rattle.pef_cert.proofs.RowLemmas.{end_before, end_before-suc, end_before-zero, rows-at}
 

@@ -18,7 +18,8 @@ use Rattle.pef_cert.specs.Kept.Claims.{Shaped, UnderTest, labels_claimed}
 use Rattle.pef_cert.specs.Kept.RowsKept.{rows_from}
 use Rattle.pef_cert.specs.Kept.Sets.{RowHolds}
 use Rattle.pef_fixups.specs.Answers.{Says}
-use Rattle.pef_cert.specs.Kept.Tests.{AllTests, SetsHold, TestsHold}
+use Rattle.pef_cert.specs.Kept.Tests.{AllTests}
+use Rattle.pef_cert.specs.LabelTests.{SetsHold, TestsHold}
 use Rattle.pef_cert.proofs.AdditionLemmas.{got-fits}
 use Rattle.pef_cert.proofs.ClaimLemmas.{get_under}
 use Rattle.pef_cert.proofs.ClassLemmas.{RegisteredBase, all_registered, numbers}

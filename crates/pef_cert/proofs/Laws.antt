@@ -1,33 +1,67 @@
--- What this crate offers to the proofs of others: facts of labels and certificates, as `specs/` defines them.
+-- What this crate offers to the proofs of others: facts of labels and certificates, as `specs/` defines
+-- them. A fact in several parts gives a record, which is named here where a proof has to name it.
 
--- what the extension is behind the last fixup, in one line, at an offset and away from it
-pub use Rattle.pef_cert.proofs.ExtensionLemmas.{extension-end, extension-is, extension-here, extension-away}
--- the extension of feasible labels falls by at most an instruction's length
-pub use Rattle.pef_cert.proofs.Soundness.{trusted-falls}
 -- the program of a valid certificate is least
 pub use Rattle.pef_cert.proofs.Soundness.{valid-least}
--- numbers of which some may be missing: one that is there and is at most another, and the value away from an offset
-pub use Rattle.pef_cert.proofs.MinimaLemmas.{AtMost, at_most-weaker, Moved, far, near, skips, late, moved-is, moved-near, moved-skip}
--- classes and the numbers of sections in them
-pub use Rattle.pef_cert.proofs.ClassLemmas.{NumberOf, Numbers, RegisteredBase, all_registered, class_of-among, class_of-below, class_of-index, class_of-most, class_of-other, is_among-index, class_of-same, numbers}
--- what a skip is worth, and what an offer is made of
-pub use Rattle.pef_cert.proofs.ExtensionLemmas.{Skipped, length-row, skip-is, skip-most, skips-is}
-pub use Rattle.pef_cert.proofs.LabelFacts.{Offered, Stands, base_counts, extension-label, label-offer, offer-is, offer-most, skip_has}
--- labels in order from some fixups on; no flat list of instructions is shorter than the extension
-pub use Rattle.pef_cert.proofs.Falling.{World, falls, world-behind, world-first, world-next, world_left}
-pub use Rattle.pef_cert.proofs.Soundness.{none_shorter, whole_world}
--- the tests of a fixup's labels, of which each follows from what lies behind the runs that it is about
-pub use Rattle.pef_cert.proofs.RunLemmas.{numbered_test-met, pairs_test-met, row_test-met}
-pub use Rattle.pef_cert.proofs.TestLemmas.{ImportTests, SectionTests, asked-met, feasible-tested, import_tests-met, section_tests-met, tested}
+-- Classes.
+-- the class of a section is one of those that there are
+pub use Rattle.pef_cert.proofs.ClassLemmas.{class_of-below}
+-- two sections of one class below the last are the same
+pub use Rattle.pef_cert.proofs.ClassLemmas.{class_of-same}
+-- a section that isn't among the registers has the last class
+pub use Rattle.pef_cert.proofs.ClassLemmas.{class_of-other}
+-- the register at a place has that place as its class, and is among the registers
+pub use Rattle.pef_cert.proofs.ClassLemmas.{class_of-index, is_among-index}
+-- each class has a section that an instruction can name
+pub use Rattle.pef_cert.proofs.ClassLemmas.{NumberOf, Numbers, numbers}
+-- the base of each fixup is an import or one of the registers
+pub use Rattle.pef_cert.proofs.ClassLemmas.{RegisteredBase, all_registered}
+-- where a registered base has a class, it is that of a section, below the last
+pub use Rattle.pef_cert.proofs.LabelFacts.{base_counts}
+-- registers that rise below a number are at most so many
+pub use Rattle.pef_cert.proofs.ClaimLemmas.{few_rising}
+-- the import index behind one fixup more
+pub use Rattle.pef_cert.proofs.AdditionLemmas.{index_behind}
+-- The extension.
+-- it is 0 behind the last fixup
+pub use Rattle.pef_cert.proofs.ExtensionLemmas.{extension-end}
+-- it is the label at the offset of the next fixup, and what moves give away from it
+pub use Rattle.pef_cert.proofs.ExtensionLemmas.{extension-away, extension-here}
+-- how great it can get
+pub use Rattle.pef_cert.proofs.Bounds.{extension-small}
+-- an option that is there, and at most a number
+pub use Rattle.pef_cert.proofs.MinimaLemmas.{AtMost, at_most-weaker}
+-- the value away from an offset is one of what four moves give, and at most what the short move and the skip give
+pub use Rattle.pef_cert.proofs.MinimaLemmas.{Moved, far, late, moved-is, moved-near, moved-skip, near, skips}
+-- Skips and offers.
+-- a skip's value is 1 and the extension behind the end of one of its runs, and at most that behind each
+pub use Rattle.pef_cert.proofs.ExtensionLemmas.{skip-is, skip-most}
+-- what follows a skip of one word, and of more
+pub use Rattle.pef_cert.proofs.ExtensionLemmas.{skips-is}
+-- a skip that leads on begins at a word of its class
+pub use Rattle.pef_cert.proofs.LabelFacts.{skip_has}
+-- an offer is a skip and the changes of registers before it, and at most each of these
+pub use Rattle.pef_cert.proofs.LabelFacts.{Offered, offer-is, offer-most}
 -- the least offer at a fixup, by its base
 pub use Rattle.pef_cert.proofs.SkipLemmas.{offer-import, offer-section}
--- the least offer from the least skip that is kept
-pub use Rattle.pef_cert.proofs.ClaimLemmas.{few_rising, offer-kept_import, offer-kept_section}
--- the least and the greatest of some numbers, kept as they are gone through
-pub use Rattle.pef_cert.proofs.SetLemmas.{Attains, above-min, attains-min}
--- the import index behind fixups, from the last import among them
-pub use Rattle.pef_cert.proofs.AdditionLemmas.{index-import, index-section, index_behind}
--- a label is at most the extension from everywhere
-pub use Rattle.pef_cert.proofs.LabelFacts.{label-extension}
--- how great the extension can get
-pub use Rattle.pef_cert.proofs.Bounds.{extension-small}
+-- the same from the least skip that is kept
+pub use Rattle.pef_cert.proofs.ClaimLemmas.{offer-kept_import, offer-kept_section}
+-- Feasible labels.
+-- labels in order from some fixups on: all of them, from the first on and behind it
+pub use Rattle.pef_cert.proofs.Falling.{World, world-first, world-next}
+pub use Rattle.pef_cert.proofs.Soundness.{whole_world}
+-- no flat list of instructions is shorter than the extension
+pub use Rattle.pef_cert.proofs.Soundness.{none_shorter}
+-- a label is at most an offer, and at most the extension from everywhere
+pub use Rattle.pef_cert.proofs.LabelFacts.{label-extension, label-offer}
+-- The tests of a fixup's labels.
+-- a test under a condition is met where the condition gives it
+pub use Rattle.pef_cert.proofs.TestLemmas.{asked-met}
+-- the test of a run is met where the value is at most 1 and the extension behind each of its ends
+pub use Rattle.pef_cert.proofs.RunLemmas.{numbered_test-met, pairs_test-met, row_test-met}
+-- the tests of a section or of an import are met where each of them is
+pub use Rattle.pef_cert.proofs.TestLemmas.{import_tests-met, section_tests-met}
+-- a value that meets them is at most what each instruction leads to that adds at the fixup
+pub use Rattle.pef_cert.proofs.TestLemmas.{tested}
+-- labels that meet all of them are feasible at the fixup
+pub use Rattle.pef_cert.proofs.TestLemmas.{feasible-tested}

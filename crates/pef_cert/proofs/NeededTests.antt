@@ -16,7 +16,7 @@ use Rattle.pef_words.proofs.Laws.Tests.{both_met}
 use Rattle.pef_cert.specs.Labels.{Labels, class_of, classes}
 use Rattle.pef_cert.specs.Extension.{extension, extension_at}
 use Rattle.pef_cert.specs.Feasible.{FeasibleAt}
-use Rattle.pef_cert.specs.Kept.Tests.{TestsHold, base_test, pair_test, pairs_test, row_test, second_test}
+use Rattle.pef_cert.specs.LabelTests.{TestsHold, base_test, pair_test, pairs_test, row_test, second_test}
 use Rattle.pef_cert.proofs.LabelFacts.{Stands, label-set_c, label-set_d}
 use Rattle.pef_cert.proofs.RunLemmas.{numbered_test-met, pairs_test-met, row_test-met}
 use Rattle.pef_cert.proofs.TestLemmas.{asked-met, import_tests-met, section_tests-met}

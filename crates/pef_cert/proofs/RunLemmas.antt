@@ -10,7 +10,7 @@ use Rattle.pef_cert.specs.Labels.{Labels}
 use Rattle.pef_cert.specs.Extension.{extension}
 use Rattle.pef_fixups.specs.Additions.{is_added}
 use Rattle.pef_fixups.proofs.Laws.{is_added-is, is_added-refl}
-use Rattle.pef_cert.specs.Kept.Tests.{numbered_test, one_from, pairs_test, row_test, run_on}
+use Rattle.pef_cert.specs.LabelTests.{numbered_test, one_from, pairs_test, row_test, run_on}
 
 run_on-here : (b here more : Bool) → b ≡ true → run_on b here more ≡ true → here ≡ true
 run_on-here true here more is e = (met_both here more e).0

@@ -4,7 +4,7 @@ use Rattle.std.specs.Prelude.{slice_index_or}
 use Rattle.std.proofs.Math.Path.{ap₂}
 use borrow.Author.Count.{below_more}
 use Rattle.pef_cert.specs.Valid.{labels_in}
-use Rattle.pef_cert.specs.Kept.Tests.{SetsHold}
+use Rattle.pef_cert.specs.LabelTests.{SetsHold}
 use Rattle.pef_cert.specs.Kept.Sets.{RowHolds}
 
 -- a place below a count with a value

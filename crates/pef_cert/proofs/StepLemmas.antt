@@ -7,7 +7,8 @@ use Rattle.pef_reloc.specs.declared.fixup.Fixup.{Fixup}
 use Rattle.pef_words.proofs.Laws.Tests.{met_both}
 use Rattle.pef_cert.specs.Labels.{Labels}
 use Rattle.pef_fixups.specs.Additions.{is_added}
-use Rattle.pef_cert.specs.Kept.Tests.{adds_first, numbered_test, one_from, pairs_test, row_test, run_on}
+use Rattle.pef_cert.specs.Kept.Tests.{adds_first}
+use Rattle.pef_cert.specs.LabelTests.{numbered_test, one_from, pairs_test, row_test, run_on}
 
 run_stops : (b here more : Bool) → b ≡ false → run_on b here more ≡ true
 run_stops b here more e = rw e refl

@@ -17,11 +17,11 @@ use Rattle.pef_reloc.specs.Limits.{most_fixups}
 use Rattle.pef_reloc.proofs.Laws.{each_fits}
 use Rattle.pef_words.proofs.Laws.Tests.{met_both}
 use Rattle.pef_cert.specs.declared.claim.Claim.{Claim}
-use Rattle.pef_cert.specs.Extension.{offer_at, skips_at, change}
+use Rattle.pef_cert.specs.Extension.{OfferIs, change, offer_at, skips_at}
 use Rattle.pef_cert.specs.Feasible.{Feasible, FeasibleAt, FeasibleFrom}
 use Rattle.pef_cert.specs.Labels.{Labels, class_of, classes}
 use Rattle.pef_cert.specs.Valid.{above_all, labels_in}
-use Rattle.pef_cert.specs.Kept.Claims.{IsRowOf, KnownAt, OfferIs, Shaped, SkipsAre, Swept, labels_claimed, rows_before}
+use Rattle.pef_cert.specs.Kept.Claims.{IsRowOf, KnownAt, Shaped, SkipsAre, Swept, labels_claimed, rows_before}
 use Rattle.pef_cert.specs.Kept.RowsKept.{RowsFull, rows_from}
 use Rattle.pef_cert.specs.Kept.Sets.{RowIsZero}
 use Rattle.pef_cert.proofs.AdditionLemmas.{index_behind}

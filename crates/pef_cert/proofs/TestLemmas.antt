@@ -13,7 +13,7 @@ use Rattle.pef_words.proofs.Laws.Tests.{both_met, met_both}
 use Rattle.pef_cert.specs.Labels.{Labels, class_of}
 use Rattle.pef_cert.specs.Extension.{extension, extension_at}
 use Rattle.pef_cert.specs.Feasible.{AtFixup, FeasibleAt, label_at}
-use Rattle.pef_cert.specs.Kept.Tests.{SetsHold, TestsHold, adds_test, asked, base_test, import_cost, numbered_test, one_from, pair_test, pairs_test, row_test, second_test}
+use Rattle.pef_cert.specs.LabelTests.{SetsHold, TestsHold, adds_test, asked, base_test, import_cost, numbered_test, one_from, pair_test, pairs_test, row_test, second_test}
 use Rattle.pef_cert.proofs.ClassLemmas.{class_of-below}
 use Rattle.pef_cert.proofs.ExtensionLemmas.{extension-here}
 use Rattle.pef_cert.proofs.RunLemmas.{numbered_test-holds, pairs_test-holds, row_test-holds}

@@ -1,5 +1,7 @@
 -- The labels extended to all positions.
-use Rattle.std.specs.Prelude.{ℕ, zero, suc, ◌+◌, ◌-◌, ◌%◌, ◌==◌, Bool, true, false, ◌&&◌, nat_le, if◌then◌else◌, List, [], ◌∷◌, length, Option, None, Some}
+use Rattle.std.specs.Prelude.{◌≡◌, ℕ, zero, suc, ◌+◌, ◌-◌, ◌%◌, ◌==◌, Bool, true, false, ◌&&◌, nat_le, if◌then◌else◌, List, [], ◌∷◌, length, Option, None, Some}
+use Rattle.pef_reloc.specs.declared.fixup.Base.{Base}
+use Rattle.pef_reloc.specs.declared.fixup.Base.TheVariants.{Section, Import}
 use Rattle.pef_reloc.specs.declared.fixup.Fixup.{Fixup}
 use Rattle.pef_reloc.specs.Steps.{State}
 use Rattle.pef_cert.specs.Labels.{Labels, class_of, classes, has_class}
@@ -57,6 +59,11 @@ skips_at l f rest c d = skip l 63 f.offset c d (f ∷ rest)
 -- S* there
 abbrev pub offer_at : Labels → Fixup → List Fixup → ℕ → ℕ → Option ℕ
 offer_at l f rest c d = offer_of (classes l) (skips_at l f rest) c d
+
+-- S* at a fixup by its base, from the least S there with register C as it is
+abbrev pub OfferIs : Labels → Fixup → List Fixup → ℕ → ℕ → ℕ → Base → Type 0
+OfferIs l f rest c d x (Section k) = offer_at l f rest c d ≡ Some (change d (class_of l.registers k) + x)
+OfferIs l f rest c d x (Import k) = offer_at l f rest c d ≡ None
 
 -- G at a state
 abbrev pub extension_at : Labels → List Fixup → State → ℕ

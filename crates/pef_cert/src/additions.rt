@@ -1,7 +1,7 @@
 ghost use Rattle.std.specs.Prelude.{◌≡◌, ◌+◌, ◌==◌, ◌^◌, ◌<◌, ◌≤◌, ◌||◌, drop, length, nat_le, take};
 ghost use Rattle.pef_cert.specs.Extension.{extension};
 ghost use Rattle.pef_cert.specs.Kept.Claims.{Tests, labels_claimed};
-ghost use Rattle.pef_cert.specs.Kept.Tests.{asked, base_test, import_cost, numbered_test, one_from, pair_test, row_test, second_test};
+ghost use Rattle.pef_cert.specs.LabelTests.{asked, base_test, import_cost, numbered_test, one_from, pair_test, row_test, second_test};
 ghost use Rattle.pef_reloc.specs.Deliveries.{index_after};
 ghost use Rattle.pef_reloc.specs.declared.fixup.Base.TheVariants.{Section, Import};
 

@@ -1,6 +1,7 @@
 ghost use Rattle.std.specs.Prelude.{◌≡◌, ◌+◌, ◌^◌, ◌&&◌, ◌<◌, ◌≤◌, drop, length};
 ghost use Rattle.pef_cert.specs.Kept.Claims.{Sees, Tests, labels_claimed};
-ghost use Rattle.pef_cert.specs.Kept.Tests.{adds_first, numbered_test, one_from, pairs_test, row_test};
+ghost use Rattle.pef_cert.specs.Kept.Tests.{adds_first};
+ghost use Rattle.pef_cert.specs.LabelTests.{numbered_test, one_from, pairs_test, row_test};
 
 use crate::claim::{Behind, Claim};
 use pef_fixups::{WORD, adds_at};

@@ -10,9 +10,9 @@ use Rattle.pef_reloc.specs.declared.instr.Instr.{Instr}
 use Rattle.pef_reloc.specs.Deliveries.{is_flat_instr}
 use Rattle.pef_reloc.specs.Steps.{Makes, State, added, additions, is_flat, next_state, numbered, pairs, row, start, state_after, trace}
 use Rattle.pef_reloc.proofs.Laws.{flat_parts, flat_more}
-use Rattle.pef_fixups.specs.Additions.{behind_first, is_added}
+use Rattle.pef_fixups.specs.Additions.{behind, behind_first, is_added}
 use Rattle.pef_fixups.specs.Answers.{Says}
-use Rattle.pef_fixups.specs.Kept.Walks.{Place, behind, passed, placed, start_place, stepped, walked}
+use Rattle.pef_fixups.specs.Kept.Walks.{Place, passed, placed, start_place, stepped, walked}
 use Rattle.pef_fixups.proofs.FixupLemmas.{is_added-is, is_added-refl}
 
 -- nothing is left

@@ -1,5 +1,6 @@
--- What a fixup adds where, and what is left of fixups behind the first.
+-- What a fixup adds where, and what is left of fixups behind those that they begin with.
 use Rattle.std.specs.Prelude.{ℕ, ◌==◌, Bool, false, ◌&&◌, if◌then◌else◌, List, [], ◌∷◌, Option, None, Some}
+use Rattle.std.specs.Option.{option_and_then}
 use Rattle.pef_reloc.specs.declared.fixup.Base.{Base}
 use Rattle.pef_reloc.specs.declared.fixup.Base.TheVariants.{Section, Import}
 use Rattle.pef_reloc.specs.declared.fixup.Fixup.{Fixup}
@@ -18,3 +19,8 @@ is_added p b f = f.offset == p && same_base f.base b
 abbrev pub behind_first : ℕ → Base → List Fixup → Option (List Fixup)
 behind_first p b [] = None
 behind_first p b (f ∷ rest) = if is_added p b f then Some rest else None
+
+-- what is left of fixups behind those that they begin with
+abbrev pub behind : List Fixup → List Fixup → Option (List Fixup)
+behind [] fixups = Some fixups
+behind (a ∷ made) fixups = option_and_then (behind made) (behind_first a.offset a.base fixups)

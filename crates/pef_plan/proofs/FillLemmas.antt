@@ -15,10 +15,9 @@ use Rattle.pef_reloc.specs.Deliveries.{index_after, index_past}
 use Rattle.pef_reloc.specs.Fixups.{base_fits, fixup_fits, fixups_fit}
 use Rattle.pef_reloc.proofs.Laws.{each_fits, fixup_fits-parts, fixups_fit-parts, used_section-below}
 use Rattle.pef_cert.specs.Labels.{Labels, class_of, classes}
-use Rattle.pef_cert.specs.Extension.{extension, skips_at}
+use Rattle.pef_cert.specs.Extension.{OfferIs, extension, skips_at}
 use Rattle.pef_cert.specs.Feasible.{FeasibleAt}
 use Rattle.pef_cert.specs.Valid.{RegistersOf}
-use Rattle.pef_cert.specs.Kept.Claims.{OfferIs}
 use Rattle.pef_cert.proofs.Laws.{Numbers, RegisteredBase, World, all_registered, class_of-below, extension-here, feasible-tested, few_rising, index_behind, numbers, offer-import, offer-section}
 use Rattle.pef_runs.specs.declared.known.Known.{Known}
 use Rattle.pef_runs.specs.declared.place.At.{At}

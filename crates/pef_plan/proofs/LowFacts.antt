@@ -16,7 +16,7 @@ use Rattle.pef_runs.specs.Leads.{LeadsWithin}
 use Rattle.pef_runs.specs.Places.{AtOf, Counts, HereOf, Led}
 use Rattle.pef_plan.specs.Kept.Rows.{DirectIs}
 use Rattle.pef_runs.specs.Tables.{Agrees}
-use Rattle.pef_cert.specs.Kept.Tests.{base_test}
+use Rattle.pef_cert.specs.LabelTests.{base_test}
 use Rattle.pef_plan.proofs.RowLemmas.{With}
 use Rattle.pef_plan.proofs.SkipFacts.{best_skip-is}
 

@@ -7,8 +7,7 @@ use Rattle.pef_reloc.specs.declared.fixup.Base.{Base}
 use Rattle.pef_reloc.specs.declared.fixup.Base.TheVariants.{Section, Import}
 use Rattle.pef_reloc.specs.declared.fixup.Fixup.{Fixup}
 use Rattle.pef_cert.specs.Labels.{Labels, class_of}
-use Rattle.pef_cert.specs.Extension.{change, extension, moved_value, offer_at, skips_at}
-use Rattle.pef_cert.specs.Kept.Claims.{OfferIs}
+use Rattle.pef_cert.specs.Extension.{OfferIs, change, extension, moved_value, offer_at, skips_at}
 use Rattle.pef_cert.proofs.Laws.{Moved, World, class_of-below, extension-away, extension-here, far, label-offer, late, moved-is, moved-near, moved-skip, near, offer-import, offer-section, skips, world-first, world-next}
 use Rattle.pef_runs.specs.declared.known.Known.{Known}
 use Rattle.pef_runs.specs.declared.place.Here.{Here}

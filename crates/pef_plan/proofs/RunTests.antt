@@ -6,7 +6,7 @@ use Rattle.pef_reloc.specs.declared.fixup.Fixup.{Fixup}
 use Rattle.pef_words.proofs.Laws.Tests.{both_met}
 use Rattle.pef_cert.specs.Labels.{Labels, class_of}
 use Rattle.pef_cert.specs.Extension.{extension}
-use Rattle.pef_cert.specs.Kept.Tests.{base_test, import_cost, numbered_test, pairs_test, row_test}
+use Rattle.pef_cert.specs.LabelTests.{base_test, import_cost, numbered_test, pairs_test, row_test}
 use Rattle.pef_cert.proofs.Laws.{asked-met, import_tests-met, numbered_test-met, pairs_test-met, row_test-met, section_tests-met}
 use Rattle.pef_runs.specs.declared.known.Known.{Known}
 use Rattle.pef_runs.specs.declared.place.Here.{Here}

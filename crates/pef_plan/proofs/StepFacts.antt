@@ -9,7 +9,7 @@ use Rattle.pef_reloc.proofs.Laws.{some_length}
 use Rattle.pef_cert.specs.Labels.{Labels, class_of}
 use Rattle.pef_cert.specs.Extension.{extension, extension_at}
 use Rattle.pef_cert.specs.Valid.{is_among}
-use Rattle.pef_cert.specs.Kept.Tests.{base_test}
+use Rattle.pef_cert.specs.LabelTests.{base_test}
 use Rattle.pef_cert.proofs.Laws.{NumberOf, World, class_of-below, class_of-index, class_of-other, extension-here, is_among-index, label-extension, tested, world-first}
 use Rattle.pef_runs.specs.declared.known.Known.{Known}
 use Rattle.pef_runs.specs.declared.place.Place.{Place}

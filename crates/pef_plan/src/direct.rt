@@ -1,7 +1,7 @@
 ghost use Rattle.std.specs.Prelude.{◌≡◌, ◌+◌, ◌*◌, ◌==◌, ◌<◌, ◌≤◌, ◌∷◌, ℕ, List, length, true};
 ghost use Rattle.pef_cert.specs.Extension.{extension};
 ghost use Rattle.pef_cert.specs.Labels.{Labels, class_of};
-ghost use Rattle.pef_cert.specs.Kept.Tests.{base_test, import_cost, second_test};
+ghost use Rattle.pef_cert.specs.LabelTests.{base_test, import_cost, second_test};
 ghost use Rattle.pef_runs.specs.Places.{Chosen, HereOf};
 ghost use Rattle.pef_runs.specs.Runs.{Holds};
 ghost use Rattle.pef_plan.specs.Kept.Met.{MetInC, MetInD, PairsMet};

@@ -1,6 +1,6 @@
 ghost use Rattle.std.specs.Prelude.{◌≡◌, ◌+◌, ◌*◌, ◌==◌, ◌<◌, ◌≤◌, ◌∷◌, ℕ, length, true};
 ghost use Rattle.pef_cert.specs.Labels.{Labels, class_of};
-ghost use Rattle.pef_cert.specs.Kept.Tests.{base_test, second_test};
+ghost use Rattle.pef_cert.specs.LabelTests.{base_test, second_test};
 ghost use Rattle.pef_runs.specs.Ends.{EndsAt};
 ghost use Rattle.pef_runs.specs.Runs.{Holds, NextBase};
 ghost use Rattle.pef_runs.specs.Places.{HereOf, Led};

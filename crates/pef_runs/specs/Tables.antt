@@ -3,7 +3,7 @@ use Rattle.std.specs.Prelude.{◌≡◌, ◌≤◌, ◌<◌, ℕ, ◌+◌, ◌*�
 use Rattle.pef_squares.specs.Squares.{number_in}
 use Rattle.pef_reloc.specs.declared.fixup.Fixup.{Fixup}
 use Rattle.pef_cert.specs.Labels.{Labels, classes}
-use Rattle.pef_cert.specs.Kept.Claims.{OfferIs}
+use Rattle.pef_cert.specs.Extension.{OfferIs}
 use Rattle.pef_runs.specs.declared.known.Known.{Known}
 
 -- the label in a table where so many fixups are left, and the least skip

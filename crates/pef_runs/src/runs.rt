@@ -1,7 +1,7 @@
 ghost use Rattle.std.specs.Prelude.{◌≡◌, ◌+◌, ◌*◌, ◌^◌, ◌++◌, ◌<◌, ◌≤◌, ◌⊎◌, ℕ, List, MatchOption, length};
 ghost use Rattle.std.specs.Option.{option_map};
 ghost use Rattle.pef_cert.specs.Labels.{Labels};
-ghost use Rattle.pef_fixups.specs.Kept.Walks.{behind};
+ghost use Rattle.pef_fixups.specs.Additions.{behind};
 ghost use Rattle.pef_runs.specs.Places.{Chosen, GoesOn, HereOf, extension_in};
 ghost use Rattle.pef_runs.specs.Runs.{EndOf, Ends, RunOf, imports, limit, run_instr, stride, unit};
 ghost use Rattle.pef_runs.specs.Kept.Runs.{Next};

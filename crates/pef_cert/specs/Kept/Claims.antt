@@ -1,8 +1,7 @@
 -- What a check keeps in view: the labels that are claimed, and what it has found behind the fixup under test.
-use Rattle.std.specs.Prelude.{◌≡◌, ◌≤◌, ◌<◌, ℕ, zero, suc, ◌+◌, ◌*◌, ◌%◌, true, List, [], ◌∷◌, length, drop, slice_get, slice_index, slice_index_or, None, Some}
+use Rattle.std.specs.Prelude.{◌≡◌, ◌≤◌, ◌<◌, ℕ, zero, suc, ◌+◌, ◌*◌, ◌%◌, true, List, [], ◌∷◌, length, drop, slice_get, slice_index, slice_index_or, Some}
 use Rattle.std.specs.List.{AllByRecursion}
-use Rattle.pef_reloc.specs.declared.fixup.Base.{Base}
-use Rattle.pef_reloc.specs.declared.fixup.Base.TheVariants.{Section, Import}
+use Rattle.pef_reloc.specs.declared.fixup.Base.TheVariants.{Section}
 use Rattle.pef_reloc.specs.declared.fixup.Fixup.{Fixup}
 use Rattle.pef_reloc.specs.declared.instr.Instr.{Instr}
 use Rattle.pef_reloc.specs.Fixups.{fixups_fit}
@@ -12,8 +11,8 @@ use Rattle.pef_cert.specs.declared.claim.Behind.{Behind}
 use Rattle.pef_cert.specs.declared.claim.Claim.{Claim}
 use Rattle.pef_cert.specs.declared.feasible.Under.{Under}
 use Rattle.pef_cert.specs.declared.runs.Tested.{Tested}
-use Rattle.pef_cert.specs.Labels.{Labels, class_of, classes}
-use Rattle.pef_cert.specs.Extension.{change, extension_at, offer_at}
+use Rattle.pef_cert.specs.Labels.{Labels, classes}
+use Rattle.pef_cert.specs.Extension.{OfferIs, extension_at}
 use Rattle.pef_cert.specs.Feasible.{Feasible}
 use Rattle.pef_cert.specs.Kept.RowsKept.{RowsFull, rows_from}
 use Rattle.pef_cert.specs.Valid.{RegistersOf, labels_in}
@@ -40,11 +39,6 @@ pub record IsRowOf (ends : List ℕ) (q j : ℕ) : Type 0 where
   pub kept : q < length ends
   pub after : rows_before ends q ≤ j
   pub before : j < slice_index ends q
-
--- the least offer at a fixup, from the least skip there with register C as it is
-abbrev pub OfferIs : Labels → Fixup → List Fixup → ℕ → ℕ → ℕ → Base → Type 0
-OfferIs l f rest c d x (Section k) = offer_at l f rest c d ≡ Some (change d (class_of l.registers k) + x)
-OfferIs l f rest c d x (Import k) = offer_at l f rest c d ≡ None
 
 -- the least skips with register C in each class, at a fixup where others are left
 abbrev pub SkipsAre : Claim → Fixup → List Fixup → List ℕ → Type 0

@@ -6,12 +6,7 @@ use Rattle.pef_reloc.specs.declared.instr.Instr.{Instr}
 use Rattle.pef_reloc.specs.Deliveries.{is_flat_instr}
 use Rattle.pef_reloc.specs.Steps.{State, additions, next_state, start}
 use Rattle.pef_fixups.specs.declared.walk.Walk.{Walk}
-use Rattle.pef_fixups.specs.Additions.{behind_first}
-
--- what is left of fixups behind those that they begin with
-abbrev pub behind : List Fixup → List Fixup → Option (List Fixup)
-behind [] fixups = Some fixups
-behind (a ∷ made) fixups = option_and_then (behind made) (behind_first a.offset a.base fixups)
+use Rattle.pef_fixups.specs.Additions.{behind}
 
 -- a state, and the fixups that are left to make from there
 pub record Place : Type 0 where

@@ -2,7 +2,7 @@
 use Rattle.std.specs.Prelude.{◌≡◌, ℕ, true, ◌∷◌}
 use Rattle.pef_reloc.specs.declared.fixup.Base.TheVariants.{Section}
 use Rattle.pef_cert.specs.Labels.{Labels}
-use Rattle.pef_cert.specs.Kept.Tests.{pair_test, row_test, second_test}
+use Rattle.pef_cert.specs.LabelTests.{pair_test, row_test, second_test}
 use Rattle.pef_runs.specs.declared.place.Here.{Here}
 
 -- what the runs of a section in register C have to meet, and those of one in register D

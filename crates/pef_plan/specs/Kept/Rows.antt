@@ -5,7 +5,7 @@ use Rattle.pef_cert.specs.Labels.{Labels, class_of}
 use Rattle.pef_cert.specs.Extension.{skips_at}
 use Rattle.pef_cert.specs.Feasible.{AtFixup}
 use Rattle.pef_reloc.specs.declared.fixup.Base.TheVariants.{Section}
-use Rattle.pef_cert.specs.Kept.Tests.{base_test}
+use Rattle.pef_cert.specs.LabelTests.{base_test}
 use Rattle.pef_runs.specs.declared.known.Known.{Known}
 use Rattle.pef_runs.specs.declared.place.At.{At}
 use Rattle.pef_squares.specs.Squares.{number_in}

@@ -1,6 +1,6 @@
 use Rattle.std.proofs.Common.{◌≡◌, ◌+◌, ◌-◌, ◌*◌, ◌≤◌}
 use Rattle.pef_reloc.specs.Steps.{row}
-use Rattle.pef_fixups.specs.Kept.Walks.{behind}
+use Rattle.pef_fixups.specs.Additions.{behind}
 use Rattle.pef_fixups.proofs.walk.behind_words.Given as goal
 
 abbrev pub invariant-words : goal.invariant-words

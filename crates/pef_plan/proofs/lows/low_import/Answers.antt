@@ -1,5 +1,5 @@
 use Rattle.std.proofs.Common.{◌≡◌, ◌∷◌, ℕ, true, arith, subst}
-use Rattle.pef_cert.specs.Kept.Tests.{numbered_test}
+use Rattle.pef_cert.specs.LabelTests.{numbered_test}
 use Rattle.pef_runs.specs.declared.runs.Run.TheVariants.{Imports}
 use Rattle.pef_runs.proofs.Laws.{chosen-led}
 use Rattle.pef_plan.proofs.RunTests.{ends_here, import_met, imports_met}

@@ -1,6 +1,6 @@
 use Rattle.std.proofs.Common.{◌≡◌, ◌+◌, ◌-◌, ◌*◌, ◌≤◌, drop, length}
 use Rattle.pef_cert.specs.Kept.Claims.{labels_claimed}
-use Rattle.pef_cert.specs.Kept.Tests.{numbered_test}
+use Rattle.pef_cert.specs.LabelTests.{numbered_test}
 use Rattle.pef_cert.proofs.claim.Behind.imports_hold.Given as goal
 
 abbrev pub invariant-imports : goal.invariant-imports

@@ -2,7 +2,7 @@ use Rattle.std.proofs.Common.{◌≡◌, ◌+◌, true, false, drop, take, sym, 
 use borrow.Author.Count.{below_more}
 use Rattle.pef_reloc.specs.Deliveries.{index_after}
 use Rattle.pef_cert.specs.Kept.Claims.{labels_claimed}
-use Rattle.pef_cert.specs.Kept.Tests.{adds_test}
+use Rattle.pef_cert.specs.LabelTests.{adds_test}
 use Rattle.pef_cert.proofs.AdditionLemmas.{adds-here}
 use Rattle.pef_cert.proofs.ClaimLemmas.{get_under}
 use Rattle.pef_cert.proofs.claim.Behind.line_additions_hold.Goals as goal

@@ -1,7 +1,7 @@
 use Rattle.std.proofs.Common.{◌≡◌, ◌+◌, ◌<◌, ℕ, true, drop, take}
 use Rattle.pef_reloc.specs.Deliveries.{index_after}
 use Rattle.pef_cert.specs.Kept.Claims.{labels_claimed}
-use Rattle.pef_cert.specs.Kept.Tests.{adds_test}
+use Rattle.pef_cert.specs.LabelTests.{adds_test}
 use Rattle.pef_cert.proofs.claim.Behind.line_additions_hold.Given as goal
 
 abbrev pub invariant-loop-d : goal.invariant-loop-d

@@ -1,6 +1,6 @@
 use Rattle.std.proofs.Common.{◌≡◌, ◌+◌, ◌-◌, ◌*◌, ◌≤◌, drop, length}
 use Rattle.pef_cert.specs.Kept.Claims.{labels_claimed}
-use Rattle.pef_cert.specs.Kept.Tests.{pairs_test}
+use Rattle.pef_cert.specs.LabelTests.{pairs_test}
 use Rattle.pef_cert.proofs.claim.Behind.pairs_hold.Given as goal
 
 abbrev pub invariant-pairs : goal.invariant-pairs

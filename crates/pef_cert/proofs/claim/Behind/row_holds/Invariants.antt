@@ -1,6 +1,6 @@
 use Rattle.std.proofs.Common.{◌≡◌, ◌+◌, ◌-◌, ◌*◌, ◌≤◌, drop, length}
 use Rattle.pef_cert.specs.Kept.Claims.{labels_claimed}
-use Rattle.pef_cert.specs.Kept.Tests.{row_test}
+use Rattle.pef_cert.specs.LabelTests.{row_test}
 use Rattle.pef_cert.proofs.claim.Behind.row_holds.Given as goal
 
 abbrev pub invariant-words : goal.invariant-words

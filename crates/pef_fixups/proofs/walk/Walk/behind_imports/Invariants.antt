@@ -1,6 +1,6 @@
 use Rattle.std.proofs.Common.{◌≡◌, ◌+◌, ◌-◌, ◌*◌, ◌≤◌}
 use Rattle.pef_reloc.specs.Steps.{numbered}
-use Rattle.pef_fixups.specs.Kept.Walks.{behind}
+use Rattle.pef_fixups.specs.Additions.{behind}
 use Rattle.pef_fixups.proofs.walk.Walk.behind_imports.Given as goal
 
 abbrev pub invariant-imports : goal.invariant-imports

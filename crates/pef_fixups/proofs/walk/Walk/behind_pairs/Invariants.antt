@@ -1,7 +1,7 @@
 use Rattle.std.proofs.Common.{◌≡◌, ◌+◌, ◌-◌, ◌*◌, ◌≤◌}
 use Rattle.pef_reloc.specs.declared.fixup.Base.TheVariants.{Section}
 use Rattle.pef_reloc.specs.Steps.{pairs}
-use Rattle.pef_fixups.specs.Kept.Walks.{behind}
+use Rattle.pef_fixups.specs.Additions.{behind}
 use Rattle.pef_fixups.proofs.walk.Walk.behind_pairs.Given as goal
 
 abbrev pub invariant-pairs : goal.invariant-pairs
