@@ -1,8 +1,9 @@
-ghost use Rattle.std.specs.Prelude.{◌≡◌, ◌<◌, IfSome, length};
+ghost use Rattle.std.specs.Prelude.{◌≡◌};
 ghost use Rattle.pef_loader.specs.Loader.{init_of, main_of, term_of};
 ghost use Rattle.pef_loader.specs.Views.{loaded};
 ghost use Rattle.cfm_fragment.specs.Prepared.{entry_address};
 
+use crate::places::section_address;
 use cfm_memory::Place;
 use pef_loader::Loader;
 
@@ -16,7 +17,6 @@ pub struct Entries {
 
 /// The addresses of a loader section's entries, of a fragment whose sections have these places.
 pub fn find_entries(loader: &Loader<'_>, places: &[Place]) -> Entries
-    requires { (loaded loader.now).sections ≡ length places.now }
     ensures init { result.init ≡ entry_address places.now (init_of (loaded loader.now)) }
     ensures main { result.main ≡ entry_address places.now (main_of (loaded loader.now)) }
     ensures term { result.term ≡ entry_address places.now (term_of (loaded loader.now)) }
@@ -30,9 +30,8 @@ pub fn find_entries(loader: &Loader<'_>, places: &[Place]) -> Entries
 
 /// The address of an entry, given by its section and the offset in it.
 fn entry_address(places: &[Place], entry: Option<(u32, u32)>) -> Option<u32>
-    requires { IfSome entry (λ e. e.0 < length places.now) }
     ensures { result ≡ entry_address places.now entry }
 {
     let (section, offset) = entry?;
-    Some(places[section as usize].address.wrapping_add(offset))
+    Some(section_address(places, section).wrapping_add(offset))
 }

@@ -2,8 +2,8 @@
 //!
 //! A fragment is prepared in three steps, each a call of its own, so that several fragments can take each
 //! step together: its sections are placed ([`place_sections`]), filled with their images
-//! ([`fill_sections`]), and relocated ([`relocate_sections`]). [`prepare`] takes all three for one fragment,
-//! and [`prepare_placed`] the last two, where the addresses of imports aren't known before it is placed.
+//! ([`fill_sections`]), and relocated ([`relocate_sections`]). Where one is refused, the caller gives back
+//! what was placed ([`give_back`]).
 //!
 //! What a section's image is, and what relocation does to it, is the format's (Mac OS Runtime
 //! Architectures, "PEF Structure"). Where sections lie, and which of several refusals comes first, is this
@@ -11,15 +11,11 @@
 #![tactic(auto)]
 
 mod entries;
-mod fault;
-mod fragment;
 mod images;
 mod places;
 mod relocation;
 
 pub use entries::{Entries, find_entries};
-pub use fault::PrepareFault;
-pub use fragment::{Fragment, prepare, prepare_placed};
 pub use images::fill_sections;
-pub use places::{give_back, place_sections, section_addresses};
+pub use places::{give_back, place_sections, section_address, section_addresses};
 pub use relocation::relocate_sections;

@@ -1,5 +1,5 @@
 ghost use Rattle.std.specs.Prelude.{◌≡◌, ◌++◌, ℕ, [], ◌∷◌, Err, IfErr, IfOk, IsTrue, OnErr, OnOk, map};
-ghost use Rattle.cfm_memory.specs.Extents.{AreApart, AreHeld, ArePlaced, MayNotPlace, given_back};
+ghost use Rattle.cfm_memory.specs.Extents.{AreApart, AreHeld, ArePlaced, MayNotPlace, given_back, place_at};
 ghost use Rattle.cfm_memory.specs.Instances.{holds_place, with_instances, without};
 ghost use Rattle.cfm_memory.specs.declared.place.MemoryFault.TheVariants.{OutOfMemory};
 ghost use Rattle.pef_views.specs.Views.{contained};
@@ -98,4 +98,14 @@ pub fn section_addresses(alloc: Global, places: &[Place]) -> Result<Vec<u32>, Me
         addresses.push(place.address)?;
     }
     Ok(addresses)
+}
+
+/// The address of a section of a fragment whose sections have these places; 0 where it isn't there.
+pub fn section_address(places: &[Place], section: u32) -> u32
+    ensures { result ≡ (place_at places.now section).address }
+{
+    match places.get(section as usize) {
+        Some(place) => place.address,
+        None => 0,
+    }
 }

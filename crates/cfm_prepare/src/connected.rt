@@ -3,15 +3,13 @@ ghost use Rattle.pef_loader.specs.Export.{has_section};
 ghost use Rattle.pef_loader.specs.Views.{loaded};
 ghost use Rattle.cfm_libraries.specs.Fragments.{loader_at};
 ghost use Rattle.cfm_prepare.specs.Contexts.{has};
-ghost use Rattle.cfm_fragment.specs.Prepared.{entry_address};
-ghost use Rattle.cfm_prepare.specs.Fragments.{places_of};
 ghost use Rattle.cfm_prepare.specs.Readers.{entries_of, export_address, main_address, symbol_address};
 ghost use Rattle.cfm_prepare.specs.Kept.Users.{IsOnce};
 
 use crate::present::Fragments;
-use crate::relocating::{section_address, target_address};
+use crate::relocating::target_address;
 use cfm_closure::Closure;
-use cfm_fragment::Entries;
+use cfm_fragment::{Entries, find_entries, section_address};
 use pef_loader::layout::{ABSOLUTE_EXPORT, REEXPORTED_IMPORT};
 use pef_loader::{ExportView, Loader};
 use std::marker::Model;
@@ -98,7 +96,8 @@ impl<'a> Connected<'a> {
                 target_address(present, target)
             }
             section => {
-                let address = section_address(present, self.root, section.cast_unsigned());
+                let places = present.places(self.root);
+                let address = section_address(places, section.cast_unsigned());
                 address.wrapping_add(export.value)
             }
         }
@@ -108,8 +107,8 @@ impl<'a> Connected<'a> {
     pub fn main(&self, present: &Fragments) -> Option<u32>
         ensures { result ≡ main_address present.now.items self.now }
     {
-        let (section, offset) = self.closure.loader(self.root).main()?;
-        Some(section_address(present, self.root, section).wrapping_add(offset))
+        let loader = self.closure.loader(self.root);
+        find_entries(&loader, present.places(self.root)).main
     }
 
     /// The addresses at which a fragment of the closure is entered.
@@ -120,20 +119,8 @@ impl<'a> Connected<'a> {
             return None;
         }
         let loader = self.closure.loader(position);
-        Some(Entries {
-            init: entry_address(present, position, loader.init()),
-            main: entry_address(present, position, loader.main()),
-            term: entry_address(present, position, loader.term()),
-        })
+        Some(find_entries(&loader, present.places(position)))
     }
-}
-
-/// The address of an entry of a fragment, given by its section and the offset in it.
-fn entry_address(present: &Fragments, position: usize, entry: Option<(u32, u32)>) -> Option<u32>
-    ensures { result ≡ entry_address (places_of present.now.items position) entry }
-{
-    let (section, offset) = entry?;
-    Some(section_address(present, position, section).wrapping_add(offset))
 }
 
 /// Whether a list has a number.

@@ -1,5 +1,5 @@
 ghost use Rattle.std.specs.Prelude.{◌≡◌, ◌<◌, ◌≤◌, Contains, IfOk, OnOk};
-ghost use Rattle.cfm_memory.specs.Extents.{AreApart, AreHeld, Stand, given_back, place_at};
+ghost use Rattle.cfm_memory.specs.Extents.{AreApart, AreHeld, Stand, given_back};
 ghost use Rattle.cfm_libraries.specs.Fragments.{import_count};
 ghost use Rattle.cfm_prepare.specs.Addresses.{addresses_of, first_bad_program, imports_from, section_of, target_address};
 ghost use Rattle.cfm_prepare.specs.Fragments.{StandAll, all_given_back, filled_in, named, places_of, reloc_refusal_in};
@@ -10,7 +10,7 @@ use crate::fault::PrepareFault;
 use crate::placing::name_of;
 use crate::present::Fragments;
 use cfm_closure::{Closure, Store, Target};
-use cfm_fragment::{relocate_sections, section_addresses};
+use cfm_fragment::{relocate_sections, section_address, section_addresses};
 use cfm_memory::Memory;
 use std::alloc::{AllocError, Global};
 
@@ -109,16 +109,6 @@ pub(crate) fn target_address(present: &Fragments, target: Option<Target>) -> u32
                 section,
                 offset,
             },
-        ) => section_address(present, fragment, section).wrapping_add(offset),
-    }
-}
-
-/// The address of a section of a fragment; 0 where it isn't there.
-pub(crate) fn section_address(present: &Fragments, fragment: usize, section: u32) -> u32
-    ensures { result ≡ (place_at (places_of present.now.items fragment) section).address }
-{
-    match present.places(fragment).get(section as usize) {
-        Some(place) => place.address,
-        None => 0,
+        ) => section_address(present.places(fragment), section).wrapping_add(offset),
     }
 }

@@ -1,187 +1,238 @@
-use cfm_fragment::{Fragment, prepare};
-use cfm_memory::Memory;
-use pef_loader::Loader;
-use pef_views::Container;
+use cfm_closure::Store;
+use cfm_prepare::Context;
 use std::alloc::{AllocError, Global};
+use std::process::Abort;
 use std::test::Fail;
 
-/// A container: how many sections are instantiated, one or two; the kind, the total length, the image's
-/// length and the raw bytes of the first; and up to two relocation programs for it, where none is empty.
-/// Then the number of its refusal, or 0, and the first section's memory at 00010000 (hex).
-///
-/// A second section has one word, 00000001.
-type Row = (
-    u16,
-    u8,
-    u32,
-    u32,
-    &'static [u8],
-    &'static [u8],
-    &'static [u8],
-    u32,
-    &'static [u8],
-);
+/// A container, and what comes of it where it is prepared in empty memory up to 00020000 (hex). It has one
+/// import, which it exports itself as the number 00000100.
+#[derive(Clone, Copy, Debug)]
+struct Row {
+    /// The first section: its kind, its total length, the length of its image, and its raw bytes.
+    kind: u8,
+    total: u32,
+    unpacked: u32,
+    raw: &'static [u8],
+    /// The relocation programs for it. An empty one has no header.
+    program: &'static [u8],
+    next_program: &'static [u8],
+    /// Whether a second section follows, of one word, 00000001.
+    second: bool,
+    /// The first section's memory, or the number of the refusal.
+    wanted: Result<&'static [u8], u32>,
+}
 
-const ROWS: &[Row] = &[
-    // Zeros stand behind an image, packed or not; raw bytes past it are passed over.
-    (
-        1,
-        2,
-        10,
-        8,
-        &[0x62, 0x01, 0x02, 0xAA, 0xBB, 0x01, 0x02],
-        &[],
-        &[],
-        0,
-        &[0xAA, 0xBB, 0x01, 0xAA, 0xBB, 0x02, 0xAA, 0xBB, 0x00, 0x00],
-    ),
-    (1, 2, 4, 0, &[0xA0], &[], &[], 0, &[0x00, 0x00, 0x00, 0x00]),
-    (
-        1,
-        1,
-        6,
-        4,
-        &[0x01, 0x02, 0x03, 0x04, 0x05, 0x06, 0x07, 0x08],
-        &[],
-        &[],
-        0,
-        &[0x01, 0x02, 0x03, 0x04, 0x00, 0x00],
-    ),
-    // Addresses are added to what stands there; each header begins with fresh registers.
-    (
-        1,
-        1,
-        4,
-        4,
-        &[0x00, 0x00, 0x00, 0x08],
-        &[0x40, 0x00],
-        &[],
-        0,
-        &[0x00, 0x01, 0x00, 0x08],
-    ),
-    (
-        1,
-        1,
-        8,
-        0,
-        &[],
-        &[0x40, 0x00],
-        &[0x40, 0x00],
-        0,
-        &[0x00, 0x02, 0x00, 0x00, 0x00, 0x00, 0x00, 0x00],
-    ),
-    (
-        2,
-        1,
-        12,
-        0,
-        &[],
-        &[0x42, 0x00, 0x90, 0x01],
-        &[],
-        0,
-        &[
-            0x00, 0x01, 0x00, 0x10, 0x00, 0x01, 0x00, 0x10, 0x00, 0x01, 0x00, 0x10,
-        ],
-    ),
-    (
-        2,
-        1,
-        4,
-        0,
-        &[],
-        &[0x66, 0x01],
-        &[],
-        0,
-        &[0x00, 0x01, 0x00, 0x10],
-    ),
-    (
-        1,
-        1,
-        8,
-        0,
-        &[],
-        &[0x4A, 0x00],
-        &[],
-        0,
-        &[0x00, 0x00, 0x01, 0x00, 0x00, 0x00, 0x00, 0x00],
-    ),
-    // A register of a section that isn't there adds nothing; an instruction that names it is refused.
-    (
-        1,
-        1,
-        4,
-        4,
-        &[0x01, 0x02, 0x03, 0x04],
-        &[0x42, 0x00],
-        &[],
-        0,
-        &[0x01, 0x02, 0x03, 0x04],
-    ),
-    (1, 1, 4, 0, &[], &[0x66, 0x01], &[], 39, &[]),
-    (1, 2, 2, 2, &[0x22, 0x01], &[], &[], 21, &[]),
-    (1, 2, 1, 1, &[0xA0], &[], &[], 22, &[]),
-    (
-        1,
-        2,
-        1,
-        1,
-        &[0x20, 0xFF, 0xFF, 0xFF, 0xFF, 0x7F],
-        &[],
-        &[],
-        23,
-        &[],
-    ),
-    (1, 2, 1, 1, &[0x22, 0x01, 0x02], &[], &[], 24, &[]),
-    (1, 2, 2, 2, &[0x21, 0x05], &[], &[], 25, &[]),
-    (1, 1, 4, 0, &[], &[0x4C, 0x00], &[], 31, &[]),
-    (1, 1, 4, 0, &[], &[0xA0, 0x00], &[], 32, &[]),
-    (1, 1, 4, 0, &[], &[0x42, 0x00, 0x91, 0x00], &[], 33, &[]),
-    (
-        1,
-        1,
-        4,
-        0,
-        &[],
-        &[0xA0, 0x00, 0x00, 0x00, 0x90, 0x00],
-        &[],
-        34,
-        &[],
-    ),
-    (
-        1,
-        1,
-        4,
-        0,
-        &[],
-        &[0x42, 0x00, 0x90, 0x01, 0x90, 0x01],
-        &[],
-        35,
-        &[],
-    ),
-    (
-        1,
-        1,
-        4,
-        0,
-        &[],
-        &[
-            0x80, 0x00, 0x80, 0x00, 0x80, 0x00, 0x80, 0x00, 0xB0, 0xFF, 0xFF, 0xFF,
-        ],
-        &[],
-        36,
-        &[],
-    ),
-    (1, 1, 3, 0, &[], &[0x40, 0x00], &[], 37, &[]),
-    (1, 1, 8, 0, &[], &[0x4A, 0x01], &[], 38, &[]),
-    (2, 1, 4, 0, &[], &[0x62, 0x07], &[], 39, &[]),
-    // Room comes before images, images before programs, and a program is applied before the next is read.
-    (1, 2, 0x1_0001, 1, &[0xA0], &[0x4C, 0x00], &[], 67, &[]),
-    (1, 2, 1, 1, &[0xA0], &[0x4C, 0x00], &[], 22, &[]),
-    (1, 1, 8, 0, &[], &[0x4A, 0x01], &[0x4C, 0x00], 38, &[]),
-    (1, 1, 8, 0, &[], &[0x40, 0x00], &[0x4C, 0x00], 31, &[]),
+/// One word of zeros.
+const ZEROS: Row = Row {
+    kind: 1,
+    total: 4,
+    unpacked: 0,
+    raw: b"",
+    program: b"",
+    next_program: b"",
+    second: false,
+    wanted: Ok(b"\x00\x00\x00\x00"),
+};
+
+/// One byte of pattern-initialized data, whose raw bytes begin with a byte that is no opcode.
+const BAD_PATTERN: Row = Row {
+    kind: 2,
+    total: 1,
+    unpacked: 1,
+    raw: b"\xA0",
+    wanted: Err(22),
+    ..ZEROS
+};
+
+/// Zeros stand behind an image, packed or not; raw bytes past it are passed over.
+const IMAGES: &[Row] = &[
+    ZEROS,
+    Row {
+        kind: 2,
+        total: 10,
+        unpacked: 8,
+        raw: b"\x62\x01\x02\xAA\xBB\x01\x02",
+        wanted: Ok(b"\xAA\xBB\x01\xAA\xBB\x02\xAA\xBB\x00\x00"),
+        ..ZEROS
+    },
+    Row {
+        kind: 2,
+        raw: b"\xA0",
+        ..ZEROS
+    },
+    Row {
+        total: 6,
+        unpacked: 4,
+        raw: b"\x01\x02\x03\x04\x05\x06\x07\x08",
+        wanted: Ok(b"\x01\x02\x03\x04\x00\x00"),
+        ..ZEROS
+    },
 ];
 
-const SECOND: &[u8] = &[0, 0, 0, 1];
+/// Addresses are added to what stands there; each header begins with fresh registers. A register of a
+/// section that isn't there adds nothing; an instruction that names it is refused.
+const RELOCATED: &[Row] = &[
+    Row {
+        unpacked: 4,
+        raw: b"\x00\x00\x00\x08",
+        program: b"\x40\x00",
+        wanted: Ok(b"\x00\x01\x00\x08"),
+        ..ZEROS
+    },
+    Row {
+        total: 8,
+        program: b"\x40\x00",
+        next_program: b"\x40\x00",
+        wanted: Ok(b"\x00\x02\x00\x00\x00\x00\x00\x00"),
+        ..ZEROS
+    },
+    Row {
+        total: 12,
+        program: b"\x42\x00\x90\x01",
+        second: true,
+        wanted: Ok(b"\x00\x01\x00\x10\x00\x01\x00\x10\x00\x01\x00\x10"),
+        ..ZEROS
+    },
+    Row {
+        program: b"\x66\x01",
+        second: true,
+        wanted: Ok(b"\x00\x01\x00\x10"),
+        ..ZEROS
+    },
+    Row {
+        total: 8,
+        program: b"\x4A\x00",
+        wanted: Ok(b"\x00\x00\x01\x00\x00\x00\x00\x00"),
+        ..ZEROS
+    },
+    Row {
+        unpacked: 4,
+        raw: b"\x01\x02\x03\x04",
+        program: b"\x42\x00",
+        wanted: Ok(b"\x01\x02\x03\x04"),
+        ..ZEROS
+    },
+    Row {
+        program: b"\x66\x01",
+        wanted: Err(39),
+        ..ZEROS
+    },
+];
+
+const BAD_IMAGES: &[Row] = &[
+    Row {
+        total: 2,
+        unpacked: 2,
+        raw: b"\x22\x01",
+        wanted: Err(21),
+        ..BAD_PATTERN
+    },
+    BAD_PATTERN,
+    Row {
+        raw: b"\x20\xFF\xFF\xFF\xFF\x7F",
+        wanted: Err(23),
+        ..BAD_PATTERN
+    },
+    Row {
+        raw: b"\x22\x01\x02",
+        wanted: Err(24),
+        ..BAD_PATTERN
+    },
+    Row {
+        total: 2,
+        unpacked: 2,
+        raw: b"\x21\x05",
+        wanted: Err(25),
+        ..BAD_PATTERN
+    },
+];
+
+const BAD_PROGRAMS: &[Row] = &[
+    Row {
+        program: b"\x4C\x00",
+        wanted: Err(31),
+        ..ZEROS
+    },
+    Row {
+        program: b"\xA0\x00",
+        wanted: Err(32),
+        ..ZEROS
+    },
+    Row {
+        program: b"\x42\x00\x91\x00",
+        wanted: Err(33),
+        ..ZEROS
+    },
+    Row {
+        program: b"\xA0\x00\x00\x00\x90\x00",
+        wanted: Err(34),
+        ..ZEROS
+    },
+    Row {
+        program: b"\x42\x00\x90\x01\x90\x01",
+        wanted: Err(35),
+        ..ZEROS
+    },
+    Row {
+        program: b"\x80\x00\x80\x00\x80\x00\x80\x00\xB0\xFF\xFF\xFF",
+        wanted: Err(36),
+        ..ZEROS
+    },
+    Row {
+        total: 3,
+        program: b"\x40\x00",
+        wanted: Err(37),
+        ..ZEROS
+    },
+    Row {
+        total: 8,
+        program: b"\x4A\x01",
+        wanted: Err(38),
+        ..ZEROS
+    },
+    Row {
+        program: b"\x62\x07",
+        second: true,
+        wanted: Err(39),
+        ..ZEROS
+    },
+];
+
+/// Room comes before images, images before programs, and a program is applied before the next is read.
+const FIRST_REFUSALS: &[Row] = &[
+    Row {
+        total: 0x1_0001,
+        program: b"\x4C\x00",
+        wanted: Err(67),
+        ..BAD_PATTERN
+    },
+    Row {
+        program: b"\x4C\x00",
+        ..BAD_PATTERN
+    },
+    Row {
+        total: 8,
+        program: b"\x4A\x01",
+        next_program: b"\x4C\x00",
+        wanted: Err(38),
+        ..ZEROS
+    },
+    Row {
+        total: 8,
+        program: b"\x40\x00",
+        next_program: b"\x4C\x00",
+        wanted: Err(31),
+        ..ZEROS
+    },
+];
+
+const SECOND: &[u8] = b"\x00\x00\x00\x01";
+
+/// The names of the fragment, which is its own library, and of its import and export, at 3.
+const NAMES: &[u8] = b"it\x00a\x00";
+
+/// A slot of one key, the key of `a`, and its export: an absolute symbol, the number 00000100 (hex).
+const EXPORTS: &[u8] = b"\x00\x04\x00\x00\x00\x01\x00\x61\x01\x00\x00\x03\x00\x00\x01\x00\xFF\xFE";
 
 fn len(bytes: &[u8]) -> u32 {
     u32::try_from(bytes.len()).unwrap_or(0)
@@ -207,27 +258,31 @@ fn push_section(
     bytes.extend_from_slice(&[kind, 1, 4, 0])
 }
 
-/// A loader section without entries, libraries, imports and exports, with a relocation header for each
-/// program that isn't empty.
-fn loader(alloc: Global, programs: [&[u8]; 2]) -> Result<Vec<u8>, AllocError> {
-    let mut bytes = Vec::new(alloc);
+/// The loader section of a row: no entries, one library with one import, a relocation header for each
+/// program that isn't empty, and one export.
+fn loader(alloc: Global, row: &Row) -> Result<Vec<u8>, AllocError> {
     let mut headers = Vec::new(alloc);
     let mut instructions = Vec::new(alloc);
     let mut count: u32 = 0;
-    for program in programs {
+    for program in [row.program, row.next_program] {
         if !program.is_empty() {
-            let at = len(instructions.as_slice());
+            let at = len(&instructions);
             push_words(&mut headers, &[0, len(program) / 2, at])?;
             instructions.extend_from_slice(program)?;
             count = count.wrapping_add(1);
         }
     }
-    let from = len(headers.as_slice()).wrapping_add(56);
+    let from = len(&headers).wrapping_add(84);
+    let names = from.wrapping_add(len(&instructions));
+    let exports = names.wrapping_add(len(NAMES));
     let none = 0xFFFF_FFFF;
-    push_words(&mut bytes, &[none, 0, none, 0, none, 0, 0, 0, count])?;
-    push_words(&mut bytes, &[from, from, from, 0, 0])?;
-    bytes.extend_from_slice(headers.as_slice())?;
-    bytes.extend_from_slice(instructions.as_slice())?;
+    let mut bytes = Vec::new(alloc);
+    push_words(&mut bytes, &[none, 0, none, 0, none, 0, 1, 1, count])?;
+    push_words(&mut bytes, &[from, names, exports, 0, 1])?;
+    push_words(&mut bytes, &[0, 0, 0, 1, 0, 0, 0x0100_0003])?;
+    for part in [headers.as_slice(), &instructions, NAMES, EXPORTS] {
+        bytes.extend_from_slice(part)?;
+    }
     Ok(bytes)
 }
 
@@ -240,86 +295,87 @@ fn push_header(bytes: &mut Vec<u8>, sections: u16) -> Result<(), AllocError> {
     push_words(bytes, &[0])
 }
 
-/// The headers of one section and of a loader section, whose contents follow one another.
-fn push_one(bytes: &mut Vec<u8>, row: Row, loader: u32) -> Result<(), AllocError> {
-    let behind = len(row.4).wrapping_add(96);
-    push_section(bytes, row.1, row.2, row.3, len(row.4), 96)?;
-    push_section(bytes, 4, 0, 0, loader, behind)
-}
-
-/// The same with the second section between them.
-fn push_two(bytes: &mut Vec<u8>, row: Row, loader: u32) -> Result<(), AllocError> {
-    let behind = len(row.4).wrapping_add(124);
-    push_section(bytes, row.1, row.2, row.3, len(row.4), 124)?;
-    push_section(bytes, 1, 4, 4, 4, behind)?;
-    push_section(bytes, 4, 0, 0, loader, behind.wrapping_add(4))
-}
-
-/// The container of a row.
-fn container(alloc: Global, row: Row) -> Result<Vec<u8>, AllocError> {
-    let loader = loader(alloc, [row.5, row.6])?;
+/// The container of a row. The contents of its sections follow one another.
+fn container(alloc: Global, row: &Row) -> Result<Vec<u8>, AllocError> {
+    let loader = loader(alloc, row)?;
+    let packed = len(row.raw);
     let mut bytes = Vec::new(alloc);
-    push_header(&mut bytes, row.0)?;
-    if row.0 == 2 {
-        push_two(&mut bytes, row, len(loader.as_slice()))?;
-        bytes.extend_from_slice(row.4)?;
-        bytes.extend_from_slice(SECOND)?;
+    if row.second {
+        push_header(&mut bytes, 2)?;
+        let behind = packed.wrapping_add(124);
+        push_section(&mut bytes, row.kind, row.total, row.unpacked, packed, 124)?;
+        push_section(&mut bytes, 1, 4, 4, 4, behind)?;
+        push_section(&mut bytes, 4, 0, 0, len(&loader), behind.wrapping_add(4))?;
     } else {
-        push_one(&mut bytes, row, len(loader.as_slice()))?;
-        bytes.extend_from_slice(row.4)?;
+        push_header(&mut bytes, 1)?;
+        let behind = packed.wrapping_add(96);
+        push_section(&mut bytes, row.kind, row.total, row.unpacked, packed, 96)?;
+        push_section(&mut bytes, 4, 0, 0, len(&loader), behind)?;
     }
-    bytes.extend_from_slice(loader.as_slice())?;
+    let second = if row.second { SECOND } else { &[] };
+    for part in [row.raw, second, &loader] {
+        bytes.extend_from_slice(part)?;
+    }
     Ok(bytes)
 }
 
-/// Prepares the container that some bytes are; `None` where they are none.
-fn prepare_bytes(
-    alloc: Global,
-    memory: &mut Memory,
-    bytes: &[u8],
-    imports: &[u32],
-) -> Option<Result<Fragment, u32>> {
-    let Ok(container) = Container::read(bytes) else {
-        return None;
-    };
-    let Ok(loader) = Loader::read(&container) else {
-        return None;
-    };
-    match prepare(alloc, memory, &container, &loader, imports) {
-        Ok(fragment) => Some(Ok(fragment)),
-        Err(fault) => Some(Err(fault.number())),
+/// A store of the one fragment of a container.
+fn store_of<'a>(alloc: Global, container: &'a [u8]) -> Result<Store<'a>, Fail> {
+    let mut store = Store::new(alloc);
+    store.add(b"it", container)?;
+    Ok(store)
+}
+
+/// The number of the fragment's refusal, where it isn't prepared.
+fn refusal(context: &mut Context<'_>) -> Option<u32> {
+    match context.prepare(b"it") {
+        Ok(_) => None,
+        Err(fault) => Some(fault.number()),
     }
 }
 
-/// Whether the first section's memory is the row's.
-fn shows(memory: &Memory, row: Row) -> bool {
-    match memory.at(0x1_0000, row.2) {
-        Some(bytes) => bytes == row.8,
+/// Whether the first section stands at the lowest address, and its memory is the wanted one.
+fn shows(context: &Context<'_>, wanted: &[u8]) -> bool {
+    match context.fragment_section(0, 0) {
+        Some((address, bytes)) => address == 0x1_0000 && bytes == wanted,
         None => false,
     }
 }
 
-/// What came of a row: the number of the refusal, or 0, and whether memory is then as it has to be. What
-/// was placed is given back on a refusal.
-fn outcome(alloc: Global, row: Row) -> Result<(u32, bool), AllocError> {
-    let bytes = container(alloc, row)?;
-    let mut memory = Memory::new(alloc, 0x2_0000);
-    match prepare_bytes(alloc, &mut memory, bytes.as_slice(), &[0x100]) {
-        Some(Ok(fragment)) => {
-            let all = fragment.places.len() == usize::from(row.0);
-            Ok((0, all && shows(&memory, row)))
+/// Prepares the fragment of a row, and compares what comes of it. Where it is refused, it isn't present.
+fn test_prepared(rt: &impl Abort, context: &mut Context<'_>, row: &Row) {
+    let refusal = refusal(context);
+    let sections = context.section_count(0);
+    match row.wanted {
+        Ok(memory) => {
+            let count = if row.second { 2 } else { 1 };
+            assert_eq!(rt; refusal, None, "{row:?}");
+            assert_eq!(rt; sections, count, "{row:?}");
+            assert!(rt; shows(context, memory), "{row:?}");
         }
-        Some(Err(number)) => Ok((number, memory.at(0x1_0000, 0).is_none())),
-        None => Ok((0, false)),
+        Err(number) => {
+            assert_eq!(rt; refusal, Some(number), "{row:?}");
+            assert_eq!(rt; sections, 0, "{row:?}");
+        }
     }
+}
+
+/// Tries a row in a context of its own.
+fn test_row(rt: &impl Abort, alloc: Global, row: &Row) -> Result<(), Fail> {
+    let bytes = container(alloc, row)?;
+    let store = store_of(alloc, &bytes)?;
+    let mut context = Context::new(alloc, store, 0x2_0000);
+    test_prepared(rt, &mut context, row);
+    Ok(())
 }
 
 #[test]
 fn fragments(rt: HostRuntime) -> Result<(), Fail> {
-    for (i, row) in ROWS.iter().enumerate() {
-        let (number, sound) = outcome(rt.alloc(), *row)?;
-        assert_eq!(rt; number, row.7, "row {i}");
-        assert!(rt; sound, "row {i}");
+    let tables = [IMAGES, RELOCATED, BAD_IMAGES, BAD_PROGRAMS, FIRST_REFUSALS];
+    for table in tables {
+        for row in table {
+            test_row(&rt, rt.alloc(), row)?;
+        }
     }
     Ok(())
 }
