@@ -1,67 +1,27 @@
 -- The relocation programs of what is linked relocate their sections, and aren't refused.
-use Rattle.std.proofs.Common.{◌≡◌, ◌∙◌, ℕ, zero, suc, ◌+◌, ◌^◌, ◌%◌, ◌&&◌, ◌≤◌, true, List, [], ◌∷◌, ◌++◌, None, Some, length, map, take, drop, slice_get, leb, refl, ap, subst, sym, arith}
+use Rattle.std.proofs.Common.{◌≡◌, ◌∙◌, ℕ, zero, suc, ◌+◌, true, List, [], ◌∷◌, ◌++◌, Some, length, map, slice_get, refl, ap, subst, sym, arith}
 use Rattle.std.specs.List.{AllByRecursion}
-use Rattle.std.proofs.lemmas.Bool.{leb-true, le-leb, lt-ltb}
-use Rattle.std.proofs.lemmas.List.{length-append, length-drop, length-take}
-use Rattle.byteorder.specs.Endian.{big_bytes, big_number}
-use Rattle.byteorder.specs.Numbers.{length-bytes_high_first}
 use Rattle.pef_reloc.specs.declared.fixup.Base.{Base}
 use Rattle.pef_reloc.specs.declared.fixup.Base.TheVariants.{Section, Import}
 use Rattle.pef_reloc.specs.declared.fixup.Fixup.{Fixup}
 use Rattle.pef_reloc.specs.declared.instr.Instr.{Instr}
-use Rattle.pef_reloc.specs.Applied.{Addresses, Done, act_fault, added_at, address_of, applied, unless_refused}
-use Rattle.pef_reloc.specs.Fixups.{fixup_fits, fixups_end, fixups_from}
-use Rattle.pef_reloc.specs.Instrs.{program_length, spelled}
+use Rattle.pef_reloc.specs.Additions.{IsThere}
+use Rattle.pef_reloc.specs.Applied.{Addresses, Done, applied}
+use Rattle.pef_reloc.specs.Instrs.{spelled}
 use Rattle.pef_reloc.specs.Steps.{add, names_below, start}
-use Rattle.pef_reloc.proofs.Laws.{applied-trace, fixups_fit-parts, program_fault-spelled, relocated-spelled, some_length}
+use Rattle.pef_reloc.proofs.Laws.{applied-trace, count-length, fixups_fit-parts, program_fault-spelled, relocated-spelled}
+use Rattle.pef_reloc.proofs.Laws.Additions.{additions-done, fixups-inside}
 use Rattle.pef_script.specs.Script.{DescribedScript, DescribedSection}
 use Rattle.pef_script.specs.WellFormed.{BaseThere, SectionHolds}
-use Rattle.pef_words.proofs.Laws.Lists.{all-get}
-use Rattle.pef_words.proofs.Laws.Tests.{met_both}
+use Rattle.pef_words.proofs.Laws.Lists.{all-get, all-weaker}
 use Rattle.pef_write.specs.Linked.{AreProgramsFor, IsLinked, IsProgramFor, LinkedContainer, program_of, programs_from}
 use Rattle.pef_write.specs.Loaders.{ProgramEntry}
 use Rattle.pef_write.specs.ReadBack.{IsSectionProgram, Relocates}
 
--- an addition whose base and word are there isn't refused
-addition_there : (a : Addresses) (fixup : Fixup) (len : ℕ) → BaseThere (length a.sections) (length a.imports) fixup.base → fixup.offset + 4 ≤ len → act_fault a len (add fixup) ≡ None
-addition_there a fixup len there inside = go fixup.base there
-  where
-    go : (base : Base) → BaseThere (length a.sections) (length a.imports) base → act_fault a len (add (record fixup { base = base })) ≡ None
-    go (Section k) is = rw (le-leb (fixup.offset + 4) len inside) refl
-    go (Import j) is = rw (lt-ltb j (length a.imports) is, le-leb (fixup.offset + 4) len inside) refl
-
--- memory is as long after an addition
-length-added : (memory : List ℕ) (at x : ℕ) → at + 4 ≤ length memory → length (added_at memory at x) ≡ length memory
-unfolding added_at
-length-added memory at x inside =
-    let word = big_bytes 4 ((big_number 4 (drop at memory) + x) % 2 ^ 32) in
-    omega (arith, inside, length-append (take at memory ++ word) (drop (at + 4) memory), length-append (take at memory) word, length-take at memory, length-drop (at + 4) memory, length-bytes_high_first 4 ((big_number 4 (drop at memory) + x) % 2 ^ 32))
-
--- the last word of fixups in order ends at or behind the given end
-end_behind : (from : ℕ) (fixups : List Fixup) → fixups_from from fixups ≡ true → from ≤ fixups_end from fixups
-end_behind from [] fit = omega arith
-end_behind from (fixup ∷ fixups) fit =
-    let here = met_both (leb from fixup.offset && fixup_fits fixup) (fixups_from (fixup.offset + 4) fixups) fit in
-    let low = leb-true from fixup.offset (met_both (leb from fixup.offset) (fixup_fits fixup) here.0).0 in
-    omega (arith, low, end_behind (fixup.offset + 4) fixups here.1)
-
--- the additions of fixups that end inside memory, and whose bases are there, aren't refused
-additions_unrefused : (a : Addresses) (from : ℕ) (fixups : List Fixup) (memory : List ℕ) → fixups_from from fixups ≡ true → fixups_end from fixups ≤ length memory
-    → AllByRecursion (λ (fixup : Fixup). BaseThere (length a.sections) (length a.imports) fixup.base) fixups → (applied a (map add fixups) memory).fault ≡ None
-unfolding applied
-additions_unrefused a from [] memory fit ends bases = refl
-additions_unrefused a from (fixup ∷ fixups) memory fit ends bases =
-    let others = (met_both (leb from fixup.offset && fixup_fits fixup) (fixups_from (fixup.offset + 4) fixups) fit).1 in
-    let inside : fixup.offset + 4 ≤ length memory = omega (arith, ends, end_behind (fixup.offset + 4) fixups others) in
-    let next = added_at memory fixup.offset (address_of a fixup.base) in
-    let size = length-added memory fixup.offset (address_of a fixup.base) inside in
-    ap (λ o. (unless_refused o memory (applied a (map add fixups) next)).fault) (addition_there a fixup (length memory) bases.0 inside)
-    ∙ additions_unrefused a (fixup.offset + 4) fixups next others (omega (arith, size, ends)) bases.1
-
--- instructions have no more halfwords than their program
-length_most : (instrs : List Instr) → length instrs ≤ program_length instrs
-length_most [] = omega arith
-length_most (x ∷ instrs) = omega (arith, some_length x, length_most instrs)
+-- a base of a script is there where its sections and its imports have addresses
+is_there : (a : Addresses) (base : Base) → BaseThere (length a.sections) (length a.imports) base → IsThere a base
+is_there a (Section k) there = there
+is_there a (Import j) there = there
 
 -- a program for a section's fixups relocates the section
 pub relocates : (s : DescribedScript) (section : DescribedSection) (instrs : List Instr) → SectionHolds (length s.sections) (length s.imports) section → IsProgramFor (length s.sections) section.fixups instrs → Relocates s section (spelled instrs)
@@ -71,13 +31,15 @@ relocates s section instrs holds program =
     let names = subst (λ n. names_below n instrs ≡ true) (sym sections) program.names in
     relocated-spelled instrs a memory program.flat ∙ applied-trace a instrs start memory names ∙ ap (λ fixups. applied a (map add fixups) memory) program.makes) in
     record {
-      readable = program_fault-spelled instrs program.flat (omega (arith, program.short, few.count, length_most instrs));
+      readable = program_fault-spelled instrs program.flat (omega (arith, program.short, few.count, count-length instrs));
       does = does;
       unrefused = λ a memory sections imports whole.
           let P : ℕ → Type 0 = λ n. AllByRecursion (λ (fixup : Fixup). BaseThere n (length s.imports) fixup.base) section.fixups in
           let Q : ℕ → Type 0 = λ n. AllByRecursion (λ (fixup : Fixup). BaseThere (length a.sections) n fixup.base) section.fixups in
           let bases = subst Q (sym imports) (subst P (sym sections) holds.bases) in
-          ap (λ (d : Done). d.fault) (does a memory sections) ∙ additions_unrefused a 0 section.fixups memory few.apart (omega (arith, holds.inside, whole)) bases;
+          let there = all-weaker (λ (fixup : Fixup). BaseThere (length a.sections) (length a.imports) fixup.base) (λ (fixup : Fixup). IsThere a fixup.base) section.fixups (λ fixup. is_there a fixup.base) bases in
+          let inside = fixups-inside a 0 (length memory) section.fixups few.apart (omega (arith, holds.inside, whole)) there in
+          ap (λ (d : Done). d.fault) (does a memory sections ∙ additions-done a section.fixups memory inside);
     }
 
 -- each of the programs of sections is that of one of them, and is for its fixups
