@@ -1,49 +1,45 @@
 use pef_tool::FileFault;
 use std::test::Fail;
-use test_bench::containers::{VECTORS_LEAST, changed};
+use test_bench::changes::{At, changed};
+use test_bench::containers::VECTORS_LEAST;
 use test_bench::ports::Papers;
 use test_bench::runs::{assert_prints_over, put_file, put_linked, run_over};
+use test_bench::scripts::{LIBRARY, USER};
 
 /// Scripts, and the paths at which their containers lie.
-const SCRIPTS: [(&str, &[u8]); 14] = [
-    (
-        "user",
-        b"library L 1 0 -\nimport v data strong\nsection a data process 4 4\nfix a 0 import v\n",
-    ),
-    (
-        "library",
-        b"versions 1 0 0\nsection l data process 4 4\nbytes l 0000002A\nexport v data l 0\n",
-    ),
+const SCRIPTS: [(&str, &str); 14] = [
+    ("user", USER),
+    ("library", LIBRARY),
     (
         "fixed",
-        b"versions 1 0 0\nsection l data process 4 4\nbytes l 0000002A\nfix l 0 section l\nexport v data l 0\n",
+        "versions 1 0 0\nsection l data process 4 4\nbytes l 0000002A\nfix l 0 section l\nexport v data l 0\n",
     ),
     (
         "weak-symbol",
-        b"library L 1 0 -\nimport w data weak\nsection a data process 4 4\nbytes a 00000007\nfix a 0 import w\n",
+        "library L 1 0 -\nimport w data weak\nsection a data process 4 4\nbytes a 00000007\nfix a 0 import w\n",
     ),
     (
         "strong-symbol",
-        b"library L 1 0 -\nimport w data strong\nsection a data process 4 4\nbytes a 00000007\nfix a 0 import w\n",
+        "library L 1 0 -\nimport w data strong\nsection a data process 4 4\nbytes a 00000007\nfix a 0 import w\n",
     ),
     (
         "weak-library",
-        b"library L 1 0 weak\nimport v data strong\nsection a data process 4 4\nbytes a 00000007\nfix a 0 import v\n",
+        "library L 1 0 weak\nimport v data strong\nsection a data process 4 4\nbytes a 00000007\nfix a 0 import v\n",
     ),
-    ("before-a", b"library A 0 0 before\n"),
-    ("before-b", b"library B 0 0 before\n"),
-    ("old", b"library L 5 3 -\n"),
-    ("new", b"library L 0 0 -\n"),
-    ("grown", b"versions 5 3 0\n"),
-    ("odd-name", b"library a%b 0 0 -\n"),
+    ("before-a", "library A 0 0 before\n"),
+    ("before-b", "library B 0 0 before\n"),
+    ("old", "library L 5 3 -\n"),
+    ("new", "library L 0 0 -\n"),
+    ("grown", "versions 5 3 0\n"),
+    ("odd-name", "library a%b 0 0 -\n"),
     // the library is placed first, and initialized behind the fragment that needs it
     (
         "first",
-        b"library L 0 0 -\nsection a data process 4 16\nmain a 4\ninit a 0\nterm a 8\n",
+        "library L 0 0 -\nsection a data process 4 16\nmain a 4\ninit a 0\nterm a 8\n",
     ),
     (
         "second",
-        b"library A 0 0 before\nsection l data process 4 16\nmain l 0\ninit l 4\nterm l 12\n",
+        "library A 0 0 before\nsection l data process 4 16\nmain l 0\ninit l 4\nterm l 12\n",
     ),
 ];
 
@@ -165,11 +161,11 @@ fn load(rt: HostRuntime) -> Result<(), Fail> {
     let alloc = rt.alloc();
     let mut papers = Papers::new(alloc, 0, FileFault::Failed);
     for (path, script) in SCRIPTS {
-        put_linked(alloc, &mut papers, path, script)?;
+        put_linked(alloc, &mut papers, path, script.as_bytes())?;
     }
     put_linked(alloc, &mut papers, "x=y", b"")?;
     put_file(&mut papers, "vectors", VECTORS_LEAST)?;
-    let longer = changed(alloc, VECTORS_LEAST, 223, b"\x02")?;
+    let longer = changed(alloc, VECTORS_LEAST, At::Front(223), b"\x02")?;
     put_file(&mut papers, "longer", longer.as_slice())?;
     put_file(&mut papers, "text", b"versions 1 0 0\n")?;
     for (words, printed, status) in rows {

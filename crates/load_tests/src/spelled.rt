@@ -2,7 +2,8 @@
 
 use pef_tool::FileFault;
 use std::test::Fail;
-use test_bench::containers::{SPELLED, TWICE, changed};
+use test_bench::changes::{At, changed};
+use test_bench::containers::{SPELLED, TWICE};
 use test_bench::ports::Papers;
 use test_bench::runs::{assert_prints_over, put_file, put_linked};
 
@@ -147,16 +148,16 @@ fn load_spelled(rt: HostRuntime) -> Result<(), Fail> {
     let alloc = rt.alloc();
     let mut papers = Papers::new(alloc, 0, FileFault::Failed);
     put_linked(alloc, &mut papers, "needs-p", b"library P 0 0 -\n")?;
-    let kind = changed(alloc, SPELLED, 64, b"\x02")?;
-    let size = changed(alloc, kind.as_slice(), 59, b"\x03")?;
-    let packed = changed(alloc, size.as_slice(), 96, b"\x41\x09\x7F")?;
+    let kind = changed(alloc, SPELLED, At::Front(64), b"\x02")?;
+    let size = changed(alloc, kind.as_slice(), At::Front(59), b"\x03")?;
+    let packed = changed(alloc, size.as_slice(), At::Front(96), b"\x41\x09\x7F")?;
     for (library, at, other, printed) in SPELLED_ROWS {
         let base = match library {
             Library::Plain => SPELLED,
             Library::Packed => packed.as_slice(),
             Library::Twice => TWICE,
         };
-        let container = changed(alloc, base, at, other)?;
+        let container = changed(alloc, base, At::Front(at), other)?;
         put_file(&mut papers, "p", container.as_slice())?;
         let status = if printed.starts_with(b"fragment") {
             0
@@ -212,8 +213,7 @@ fn load_circles(rt: HostRuntime) -> Result<(), Fail> {
         put_linked(alloc, &mut papers, "linked", script)?;
         let linked = papers.bytes(b"linked").ok_or("nothing was linked")?;
         // the section of the only export stands at the end
-        let at = linked.len().saturating_sub(2);
-        let circle = changed(alloc, linked, at, b"\xFF\xFD")?;
+        let circle = changed(alloc, linked, At::End(2), b"\xFF\xFD")?;
         put_file(&mut papers, path, circle.as_slice())?;
     }
     let user = b"library P 1 0 -\nimport u data strong\n";
