@@ -4,60 +4,17 @@ use std::alloc::{AllocError, Global};
 use std::fmt::Write;
 use std::process::Abort;
 use std::test::Fail;
-use test_links::{link_text, tell_name, tell_names};
+use test_links::fragments::{Fragment, containers, store_of};
+use test_links::{tell_name, tell_names};
 
-/// A fragment: its name, its script, and what is written over some bytes of its container.
-pub(crate) type Fragment = (&'static str, &'static str, &'static [(usize, u8)]);
+/// The limit of the command's memory.
+pub(crate) const LIMIT: u32 = 0x1000_0000;
 
 /// What is done: a fragment is prepared, or a connection closed.
 #[derive(Clone, Copy, Debug)]
 pub(crate) enum Step {
     Prepare(&'static str),
     Close(u32),
-}
-
-/// The container of a script, with other bytes in some places, which count from the end where they are
-/// 1,000 and more.
-fn container(alloc: Global, fragment: &Fragment) -> Result<Vec<u8>, Fail> {
-    let linked = link_text(alloc, fragment.1.as_bytes())?;
-    let mut bytes = Vec::from_slice(alloc, linked.bytes())?;
-    let len = bytes.len();
-    for (place, byte) in fragment.2 {
-        let at = if *place < 1_000 {
-            *place
-        } else {
-            len.saturating_sub(*place - 1_000)
-        };
-        if at < bytes.len() {
-            bytes[at] = *byte;
-        }
-    }
-    Ok(bytes)
-}
-
-/// The containers of some fragments.
-pub(crate) fn containers(alloc: Global, fragments: &[Fragment]) -> Result<Vec<Vec<u8>>, Fail> {
-    let mut containers = Vec::new(alloc);
-    for fragment in fragments {
-        let bytes = container(alloc, fragment)?;
-        containers.push(bytes)?;
-    }
-    Ok(containers)
-}
-
-/// A store of some fragments, which have these containers.
-pub(crate) fn store_of<'a>(
-    rt: &impl Abort,
-    alloc: Global,
-    fragments: &[Fragment],
-    containers: &'a [Vec<u8>],
-) -> Result<Store<'a>, Fail> {
-    let mut store = Store::new(alloc);
-    for (fragment, bytes) in fragments.iter().zip(containers) {
-        assert!(rt; store.len() < 256);
-        store.add(fragment.0.as_bytes(), bytes)?;
-    }
-    Ok(store)
 }
 
 /// Takes steps in a context over some fragments, and compares after each what was answered, and which
@@ -74,7 +31,7 @@ pub(crate) fn take_steps(
     for fragment in fragments {
         names.push(fragment.0)?;
     }
-    let store = store_of(rt, alloc, fragments, &containers)?;
+    let store = store_of(alloc, fragments, &containers)?;
     take_steps_in(rt, alloc, store, &names, limit, steps)
 }
 

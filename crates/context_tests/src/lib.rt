@@ -7,6 +7,8 @@ mod fixture;
 #[cfg(test)]
 mod foreign;
 #[cfg(test)]
+mod loading;
+#[cfg(test)]
 mod readers;
 #[cfg(test)]
 mod refused;

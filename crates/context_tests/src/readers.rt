@@ -1,11 +1,11 @@
-use crate::fixture::{Fragment, containers, store_of};
+use crate::fixture::LIMIT;
 use cfm_prepare::{Connection, Context};
 use std::alloc::{AllocError, Global};
 use std::fmt::Write;
 use std::process::Abort;
 use std::test::Fail;
-
-const LIMIT: u32 = 0x1000_0000;
+use test_data::scripts::LIBRARY;
+use test_links::fragments::{Fragment, containers, store_of};
 
 /// A fragment with a main entry, an export of its own, and one of a library that is initialized before it.
 const A: Fragment = (
@@ -14,11 +14,7 @@ const A: Fragment = (
     &[],
 );
 
-const L: Fragment = (
-    "L",
-    "versions 1 0 0\nsection l data process 4 4\nbytes l 0000002A\nexport v data l 0\n",
-    &[],
-);
+const L: Fragment = ("L", LIBRARY, &[]);
 
 /// What is told of a connection.
 pub(crate) fn told(
@@ -75,7 +71,7 @@ fn tell_connection(
     fragments: &[Fragment],
 ) -> Result<(String, String), Fail> {
     let containers = containers(alloc, fragments)?;
-    let store = store_of(rt, alloc, fragments, &containers)?;
+    let store = store_of(alloc, fragments, &containers)?;
     let mut context = Context::new(alloc, store, LIMIT);
     Ok(tell_open_and_closed(rt, alloc, &mut context)?)
 }
@@ -107,11 +103,11 @@ fn readers(rt: HostRuntime) -> Result<(), Fail> {
     Ok(())
 }
 
-/// The number of a connection to a fragment, or that of its refusal and a million.
-pub(crate) fn prepared(context: &mut Context<'_>, name: &[u8]) -> u32 {
+/// The number of a connection to a fragment, or that of its refusal.
+pub(crate) fn prepared(context: &mut Context<'_>, name: &[u8]) -> Result<u32, u32> {
     match context.prepare(name) {
-        Ok(connection) => connection.0,
-        Err(fault) => fault.number().saturating_add(1_000_000),
+        Ok(connection) => Ok(connection.0),
+        Err(fault) => Err(fault.number()),
     }
 }
 
@@ -121,12 +117,12 @@ fn all_numbers(rt: HostRuntime) -> Result<(), Fail> {
     let alloc = rt.alloc();
     let fragments: [Fragment; 1] = [("E", "", &[])];
     let containers = containers(alloc, &fragments)?;
-    let store = store_of(&rt, alloc, &fragments, &containers)?;
+    let store = store_of(alloc, &fragments, &containers)?;
     let mut context = Context::new(alloc, store, LIMIT);
     for number in 0..65_536 {
-        assert_eq!(rt; prepared(&mut context, b"E"), number);
+        assert_eq!(rt; prepared(&mut context, b"E"), Ok(number));
         assert!(rt; context.close(Connection(number)).is_ok());
     }
-    assert_eq!(rt; prepared(&mut context, b"E"), 1_000_069);
+    assert_eq!(rt; prepared(&mut context, b"E"), Err(69));
     Ok(())
 }

@@ -1,38 +1,41 @@
-use crate::fixture::{Fragment, containers, store_of};
+//! Calls to which memory is refused. That shows where these tests are run with one growth refused after another, as by
+//! `tools/refuse-memory`.
+
+use crate::fixture::LIMIT;
 use crate::readers::{prepared, told};
+use cfm_memory::{Memory, MemoryFault, Place};
 use cfm_prepare::{Connection, Context};
 use std::alloc::{AllocError, Global};
 use std::process::Abort;
 use std::test::Fail;
-
-const LIMIT: u32 = 0x1000_0000;
+use test_data::refusals::{say_answered, say_begins};
+use test_data::scripts::LIBRARY;
+use test_links::fragments::{Fragment, containers, store_of};
 
 /// A library with one export, and two fragments that import it.
-const FRAGMENTS: &[Fragment] = &[
-    ("A", A, &[]),
-    ("B", A, &[]),
-    (
-        "L",
-        "versions 1 0 0\nsection l data process 4 4\nbytes l 0000002A\nexport v data l 0\n",
-        &[],
-    ),
-];
+const FRAGMENTS: &[Fragment] = &[("A", A, &[]), ("B", A, &[]), ("L", LIBRARY, &[])];
 
 const A: &str =
     "library L 1 0 -\nimport v data strong\nsection a data process 4 4\nfix a 0 import v\nexport own data a 0\n";
 
 /// Prepares the second of two fragments behind the first, and once more where memory is refused.
-fn prepare_again(rt: &impl Abort, alloc: Global, context: &mut Context<'_>) -> Result<(), Fail> {
-    assert_eq!(rt; prepared(context, b"A"), 0);
+fn prepare_again(
+    rt: &(impl Abort + Print),
+    alloc: Global,
+    context: &mut Context<'_>,
+) -> Result<(), Fail> {
+    assert_eq!(rt; prepared(context, b"A"), Ok(0));
     let before = told(alloc, context, Connection(0))?;
-    let mut number = prepared(context, b"B");
-    if number != 1 {
-        assert_eq!(rt; number, 1_000_099);
+    say_begins(rt)?;
+    let mut answer = prepared(context, b"B");
+    let refused = answer == Err(99);
+    if refused {
         test_told(rt, alloc, context, 0, &before)?;
         assert!(rt; context.fragment_section(1, 0).is_none());
-        number = prepared(context, b"B");
+        answer = prepared(context, b"B");
     }
-    assert_eq!(rt; number, 1);
+    assert_eq!(rt; answer, Ok(1));
+    say_answered(rt, refused)?;
     test_told(rt, alloc, context, 0, &before)?;
     test_told(
         rt,
@@ -58,12 +61,40 @@ fn test_told(
 }
 
 /// Where memory is refused to `prepare`, the readers answer as before, and the next `prepare` answers as this one
-/// would have. That shows where this test is run with one growth refused, as by `rt try --test --fail-alloc N`.
+/// would have.
 #[test]
 fn prepared_again(rt: HostRuntime) -> Result<(), Fail> {
     let alloc = rt.alloc();
     let containers = containers(alloc, FRAGMENTS)?;
-    let store = store_of(&rt, alloc, FRAGMENTS, &containers)?;
+    let store = store_of(alloc, FRAGMENTS, &containers)?;
     let mut context = Context::new(alloc, store, LIMIT);
     prepare_again(&rt, alloc, &mut context)
+}
+
+/// Places four bytes, which come right behind those at an address, and once more where memory is refused.
+fn place_again(rt: &(impl Abort + Print), memory: &mut Memory, first: Place) -> Result<(), Fail> {
+    say_begins(rt)?;
+    let mut answer = memory.place(4, 4);
+    let refused = answer == Err(MemoryFault::OutOfMemory);
+    if refused {
+        assert!(rt; memory.holds(first));
+        assert!(rt; memory.at(0x0001_0010, 1).is_none());
+        answer = memory.place(4, 4);
+    }
+    assert_eq!(rt;
+        answer.map(|place| (place.address, place.size)),
+        Ok((0x0001_0010, 4))
+    );
+    say_answered(rt, refused)?;
+    assert!(rt; memory.holds(first));
+    Ok(())
+}
+
+/// Where memory is refused to `place`, nothing is placed, and the next `place` answers as this one would have.
+#[test]
+fn placed_again(rt: HostRuntime) -> Result<(), Fail> {
+    let mut memory = Memory::new(rt.alloc(), LIMIT);
+    let first = memory.place(4, 4)?;
+    assert_eq!(rt; first.address, 0x0001_0000);
+    place_again(&rt, &mut memory, first)
 }

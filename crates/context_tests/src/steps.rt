@@ -1,14 +1,8 @@
 use crate::fixture::Step::{Close, Prepare};
-use crate::fixture::{Fragment, Step, take_steps};
+use crate::fixture::{LIMIT, Step, take_steps};
 use std::test::Fail;
-
-const LIMIT: u32 = 0x1000_0000;
-
-/// A library with one export, and a fragment that imports it.
-const L: &str = "versions 1 0 0\nsection l data process 4 4\nbytes l 0000002A\nexport v data l 0\n";
-
-const A: &str =
-    "library L 1 0 -\nimport v data strong\nsection a data process 4 4\nfix a 0 import v\n";
+use test_data::scripts::{LIBRARY, USER};
+use test_links::fragments::Fragment;
 
 /// A library that is shared keeps its address and its bytes until no connection needs it.
 const SHARED: [(Step, &str); 9] = [
@@ -37,7 +31,7 @@ const SHARED: [(Step, &str); 9] = [
 
 #[test]
 fn shared_library(rt: HostRuntime) -> Result<(), Fail> {
-    let fragments: [Fragment; 3] = [("A", A, &[]), ("B", A, &[]), ("L", L, &[])];
+    let fragments: [Fragment; 3] = [("A", USER, &[]), ("B", USER, &[]), ("L", LIBRARY, &[])];
     take_steps(&rt, rt.alloc(), &fragments, LIMIT, &SHARED)
 }
 
@@ -46,7 +40,7 @@ fn shared_library(rt: HostRuntime) -> Result<(), Fail> {
 fn relocated_once(rt: HostRuntime) -> Result<(), Fail> {
     let own =
         "versions 1 0 0\nsection l data process 4 4\nbytes l 0000002A\nfix l 0 section l\nexport v data l 0\n";
-    let fragments: [Fragment; 3] = [("A", A, &[]), ("B", A, &[]), ("L", own, &[])];
+    let fragments: [Fragment; 3] = [("A", USER, &[]), ("B", USER, &[]), ("L", own, &[])];
     let steps = [
         (Prepare("A"), "0, A 00010010 00010000, L 00010000 0001002A"),
         (
@@ -60,7 +54,7 @@ fn relocated_once(rt: HostRuntime) -> Result<(), Fail> {
 /// What finds no room leaves nothing.
 #[test]
 fn no_room(rt: HostRuntime) -> Result<(), Fail> {
-    let fragments: [Fragment; 3] = [("A", A, &[]), ("B", A, &[]), ("L", L, &[])];
+    let fragments: [Fragment; 3] = [("A", USER, &[]), ("B", USER, &[]), ("L", LIBRARY, &[])];
     let steps = [
         (Prepare("A"), "67 NoRoom A"),
         (Prepare("L"), "0, L 00010000 0000002A"),

@@ -1,0 +1,69 @@
+//! What `docs/LOADING.md` shows to the author of an emulator: its lines stand in `load` as they stand there.
+
+use cfm_closure::Store;
+use cfm_prepare::Context;
+use std::alloc::Global;
+use std::test::Fail;
+use test_links::link_text;
+
+/// The memory of a machine, from the address 00010000 on.
+#[derive(Drop)]
+struct Machine {
+    memory: [u8; 24],
+}
+
+impl Machine {
+    /// Copies bytes to an address, where the machine has memory for them.
+    fn write(&mut self, address: u32, bytes: &[u8]) {
+        let from = address.saturating_sub(0x0001_0000) as usize;
+        if from <= 24 && bytes.len() <= 24 - from {
+            self.memory[from..from + bytes.len()].copy_from_slice(bytes);
+        }
+    }
+}
+
+/// Loads an application and its library into a machine.
+fn load(
+    alloc: Global,
+    tools_bytes: &[u8],
+    app_bytes: &[u8],
+    machine: &mut Machine,
+) -> Result<(), Fail> {
+    let mut store = Store::new(alloc);
+    store.add(b"Tools", tools_bytes)?;
+    store.add(b"App", app_bytes)?;
+    let mut context = Context::new(alloc, store, 0x1000_0000);
+    let app = context.prepare(b"App")?;
+    for position in context.fragments(app).unwrap_or(&[]) {
+        // copy each section to where the machine has it
+        for i in 0..context.section_count(*position) {
+            if let Some((address, bytes)) = context.fragment_section(*position, i) {
+                machine.write(address, bytes);
+            }
+        }
+    }
+    // then run the initialization routines in order, and the main routine
+    context.close(app)?;
+    Ok(())
+}
+
+const TOOLS: &[u8] =
+    b"versions 1 0 0\nsection data data process 4 4\nbytes data 0000002A\nexport answer data data 0\n";
+
+const APP: &[u8] =
+    b"library Tools 1 0 -\nimport answer data strong\nsection data data process 4 8\nbytes data 0000000000000004\nfix data 0 import answer\nfix data 4 section data\nmain data 0\n";
+
+/// The library lies at 00010000, and the application behind it, at 00010010.
+#[test]
+fn loading(rt: HostRuntime) -> Result<(), Fail> {
+    let alloc = rt.alloc();
+    let tools = link_text(alloc, TOOLS)?;
+    let app = link_text(alloc, APP)?;
+    let mut machine = Machine { memory: [0xEE; 24] };
+    load(alloc, tools.bytes(), app.bytes(), &mut machine)?;
+    let mut wanted = [0xEE; 24];
+    wanted[..4].copy_from_slice(&[0, 0, 0, 0x2A]);
+    wanted[16..].copy_from_slice(&[0, 1, 0, 0, 0, 1, 0, 0x14]);
+    assert_eq!(rt; machine.memory, wanted);
+    Ok(())
+}
