@@ -1,7 +1,5 @@
 //! Containers that are spelled by hand.
 
-use std::alloc::{AllocError, Global};
-
 /// The container of the script with two transition vectors: code of 8 bytes and data of 16, a program of one
 /// halfword and the export `go`. The section headers stand at 40, 68 and 96, the section name table at 124, and
 /// the loader section, of 90 bytes, at 160.
@@ -109,18 +107,3 @@ pub const TWICE: &[u8] = b"\
       \x00\x00\x00\x00\x00\x00\x00\x00\x00\x00\x00\x00\x00\x00\x00\x03\
       \x00\x00\x00\x00\x00\x00\x00\x00\x00\x00\x00\x02\x00\x00\x00\x06\
       \xA0\x00\x00\x04\x66\x00\x66\x00\x66\x00\x00\x00\x00\x00\x00\x00";
-
-/// A copy of a container, with other bytes from a place on.
-pub fn changed(
-    alloc: Global,
-    container: &[u8],
-    at: usize,
-    other: &[u8],
-) -> Result<Vec<u8>, AllocError> {
-    let (front, rest) = container.split_at(at.min(container.len()));
-    let (_, back) = rest.split_at(other.len().min(rest.len()));
-    let mut bytes = Vec::from_slice(alloc, front)?;
-    bytes.extend_from_slice(other)?;
-    bytes.extend_from_slice(back)?;
-    Ok(bytes)
-}
