@@ -42,8 +42,8 @@ impl Refusal {
             Refusal::Listing(fault) => fault.number(),
             Refusal::BadCertificate { line } => CertFault::BadCertificate { line: *line }.number(),
             Refusal::SectionsDiffer => 52,
-            Refusal::InputUnreadable => 73,
-            Refusal::InputTooLong => 74,
+            Refusal::InputUnreadable => InputFault::Unreadable.number(),
+            Refusal::InputTooLong => InputFault::TooLong.number(),
             Refusal::OutOfMemory => 99,
         }
     }
@@ -59,8 +59,8 @@ impl Refusal {
             Refusal::Listing(fault) => fault.name(),
             Refusal::BadCertificate { line } => CertFault::BadCertificate { line: *line }.name(),
             Refusal::SectionsDiffer => "SectionsDiffer",
-            Refusal::InputUnreadable => "InputUnreadable",
-            Refusal::InputTooLong => "InputTooLong",
+            Refusal::InputUnreadable => InputFault::Unreadable.name(),
+            Refusal::InputTooLong => InputFault::TooLong.name(),
             Refusal::OutOfMemory => "OutOfMemory",
         }
     }

@@ -1,26 +1,60 @@
-ghost use Rattle.std.specs.Prelude.{◌<◌, length};
+ghost use Rattle.std.specs.Prelude.{◌≡◌, ◌<◌, length};
+ghost use Rattle.pef_ports.specs.Faults.{fault_name, fault_number};
 ghost use Rattle.pef_ports.specs.Input.{ReadsInput};
 ghost use Rattle.pef_ports.specs.Kept.Chunks.{ReadsChunk};
 
 use crate::ports::{Source, StreamFault};
 use std::alloc::{AllocError, Global};
+use std::fmt;
 use thiserror::Error;
 
 /// How many bytes are asked for at a time.
 const CHUNK: usize = 65536;
 
-/// Why an input could not be read whole.
+/// Why an input could not be read whole. Its text is its name.
 #[derive(Clone, Copy, Debug, PartialEq, Eq, Error)]
 pub enum InputFault {
     /// The input failed.
-    #[error("InputUnreadable")]
     Unreadable,
     /// The input has more bytes than the limit.
-    #[error("InputTooLong")]
     TooLong,
     /// A growth of memory was refused.
-    #[error("OutOfMemory")]
     OutOfMemory,
+}
+
+impl InputFault {
+    /// The refusal's number: 73 or 74, which no refusal of another crate has, or 99.
+    pub fn number(&self) -> u32
+        ensures { result ≡ fault_number self.now }
+    {
+        match self {
+            InputFault::Unreadable => 73,
+            InputFault::TooLong => 74,
+            InputFault::OutOfMemory => 99,
+        }
+    }
+
+    /// The refusal's name, which is its text.
+    pub fn name(&self) -> &'static str
+        ensures { result.now ≡ fault_name self.now }
+    {
+        match self {
+            InputFault::Unreadable => "InputUnreadable",
+            InputFault::TooLong => "InputTooLong",
+            InputFault::OutOfMemory => "OutOfMemory",
+        }
+    }
+}
+
+impl fmt::Display for InputFault {
+    ghost use Rattle.std.specs.Prelude.{Some};
+    ghost use Rattle.pef_ports.specs.Faults.{fault_name};
+
+    ghost output = { λ fault. Some (fault_name fault) };
+
+    fn fmt<W: fmt::Write>(&self, f: &mut fmt::Formatter<W>) -> fmt::Result {
+        f.write_str(self.name())
+    }
 }
 
 impl From<AllocError> for InputFault {
