@@ -72,11 +72,7 @@ pub(crate) fn single_section<'a>(known: Known<'a>, here: Here<'a>, section: u32)
     let next = place_behind(here, here.place.import_index);
     let value = 1 + value_behind(known, here);
     let step = Step { instr, next };
-    Choice {
-        step,
-        value,
-        looks: 1,
-    }
+    Choice { step, value }
 }
 
 /// The extension behind the first fixup.
@@ -211,18 +207,10 @@ pub(crate) fn single_import<'a>(known: Known<'a>, here: Here<'a>, import: u32) -
         let instr = Instr::SmByImport(import);
         let value = 1 + behind;
         let step = Step { instr, next };
-        return Choice {
-            step,
-            value,
-            looks: 1,
-        };
+        return Choice { step, value };
     }
     let instr = Instr::LgByImport(import);
     let value = 2 + behind;
     let step = Step { instr, next };
-    Choice {
-        step,
-        value,
-        looks: 1,
-    }
+    Choice { step, value }
 }

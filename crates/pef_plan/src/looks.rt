@@ -1,10 +1,12 @@
-//! How many looks a plan takes: how often the value at a possible end of a run is read.
+//! How many looks a plan takes: how often the value at a possible end of a run is read, by whatever reads it.
 ghost use Rattle.std.specs.Prelude.{◌≡◌, true};
 ghost use Rattle.pef_reloc.specs.Fixups.{fixups_fit};
 
 use crate::planner::counted_plan;
 use pef_reloc::{Base, Fixup, fixups_fit};
+use pef_squares::Looks;
 use std::alloc::Global;
+use std::cell::Cell;
 use std::process::Abort;
 use std::test::Fail;
 
@@ -24,9 +26,10 @@ fn words(alloc: Global, count: u32) -> Result<Vec<Fixup>, Fail> {
 fn looks_and_labels(alloc: Global, fixups: &[Fixup]) -> Result<(u64, usize), Fail>
     requires { fixups_fit fixups.now ≡ true }
 {
-    let (certificate, looks) = counted_plan(alloc, 1, fixups)?;
+    let count = Cell::new(0);
+    let certificate = counted_plan(alloc, 1, fixups, Looks::new(&count))?;
     let labels = certificate.labels();
-    Ok((looks, labels.rows().wrapping_mul(labels.width())))
+    Ok((count.get(), labels.rows().wrapping_mul(labels.width())))
 }
 
 #[test]

@@ -12,8 +12,9 @@ use crate::tables::fill;
 use pef_cert::{Certificate, LabelRows};
 use pef_reloc::Fixup;
 use pef_runs::Known;
-use pef_squares::{Square, Squares};
+use pef_squares::{Looks, Square, Squares};
 use std::alloc::{AllocError, Global};
+use std::cell::Cell;
 
 /// A program of the fewest halfwords that makes the fixups of a section, with the certificate that proves
 /// it.
@@ -28,32 +29,33 @@ pub fn plan(alloc: Global, section: u32, fixups: &[Fixup]) -> Result<Certificate
     ensures exact { IfOk result (λ certificate. Exact (labels_of certificate (length fixups.now)) fixups.now) }
     ensures fault { IfErr result (λ fault. fault ≡ OutOfMemory) }
 {
-    let (certificate, _) = counted_plan(alloc, section, fixups)?;
-    Ok(certificate)
+    let count = Cell::new(0);
+    Ok(counted_plan(alloc, section, fixups, Looks::new(&count))?)
 }
 
-/// A plan, and how many looks it took: how often the value at a possible end of a run was read.
+/// A plan, of which the looks are counted.
 pub(crate) fn counted_plan(
     alloc: Global,
     section: u32,
     fixups: &[Fixup],
-) -> Result<(Certificate, u64), AllocError>
+    looks: Looks<'_>,
+) -> Result<Certificate, AllocError>
     requires fit { fixups_fit fixups.now ≡ true }
-    ensures section { IfOk result (λ counted. counted.0.section ≡ section) }
-    ensures valid { IfOk result (λ counted. Valid fixups.now counted.0) }
-    ensures exact { IfOk result (λ counted. Exact (labels_of counted.0 (length fixups.now)) fixups.now) }
+    ensures section { IfOk result (λ certificate. certificate.section ≡ section) }
+    ensures valid { IfOk result (λ certificate. Valid fixups.now certificate) }
+    ensures exact { IfOk result (λ certificate. Exact (labels_of certificate (length fixups.now)) fixups.now) }
 {
     let registers = registers_of(alloc, fixups)?;
-    let tables = fill(alloc, fixups, &registers)?;
+    let tables = fill(alloc, fixups, &registers, looks)?;
     let known = Known {
         registers: &registers,
         labels: &tables.labels,
         skips: &tables.skips,
+        looks,
     };
-    let (program, looks) = least_program(known, alloc, fixups)?;
+    let program = least_program(known, alloc, fixups)?;
     let labels = rows(alloc, &tables.labels, registers.len() + 1)?;
-    let looks = tables.looks.saturating_add(looks);
-    Ok((Certificate::new(section, program, registers, labels), looks))
+    Ok(Certificate::new(section, program, registers, labels))
 }
 
 /// Labels in rows, those of the most fixups left first.

@@ -5,26 +5,24 @@ ghost use Rattle.pef_plan.specs.Kept.Tables.{Tabled};
 ghost use Rattle.pef_reloc.specs.Fixups.{fixups_fit};
 ghost use Rattle.pef_reloc.specs.Steps.{Least};
 
-use crate::reading::{Found, step_at, step_to};
+use crate::reading::{step_at, step_to};
 use pef_cert::class_of;
 use pef_reloc::{Fixup, Instr};
-use pef_runs::{Here, Known, Place};
+use pef_runs::{Here, Known, Place, Step};
 use std::alloc::{AllocError, Global};
 
-/// A program of the fewest halfwords that makes fixups, read off their tables, and how many values
-/// behind ends of runs were looked at.
+/// A program of the fewest halfwords that makes fixups, read off their tables.
 pub(crate) fn least_program<'a>(
     known: Known<'a>,
     alloc: Global,
     fixups: &'a [Fixup],
-) -> Result<(Vec<Instr>, u64), AllocError>
+) -> Result<Vec<Instr>, AllocError>
     requires fit { fixups_fit fixups.now ≡ true }
     requires registers { RegistersOf fixups.now known.registers.now }
     requires tabled { Tabled known.registers.now known.labels.now known.skips.now 0 fixups.now }
-    ensures { IfOk result (λ read. Least fixups.entry.now read.0.items) }
+    ensures { IfOk result (λ program. Least fixups.entry.now program.items) }
 {
     let mut program = Vec::new(alloc);
-    let mut looks: u64 = 0;
     let mut place = Place {
         left: fixups,
         position: 0,
@@ -34,7 +32,7 @@ pub(crate) fn least_program<'a>(
     };
     'steps: while let Some((first, others)) = place.left.split_first() {
         let first = *first;
-        let found = step(
+        let step = next_step(
             known,
             Here {
                 place,
@@ -42,17 +40,16 @@ pub(crate) fn least_program<'a>(
                 others,
             },
         );
-        looks = looks.saturating_add(found.looks);
-        program.push(found.step.instr)?;
-        place = found.step.next;
+        program.push(step.instr)?;
+        place = step.next;
     }
-    Ok((program, looks))
+    Ok(program)
 }
 
 /// An instruction that leads on.
-fn step<'a>(known: Known<'a>, here: Here<'a>) -> Found<'a>
+fn next_step<'a>(known: Known<'a>, here: Here<'a>) -> Step<'a>
     requires { TrackedHere known here }
-    ensures { FallsOn known.entry here.entry.place result.step }
+    ensures { FallsOn known.entry here.entry.place result }
 {
     if here.place.position == u64::from(here.first.offset) {
         step_at(known, here)

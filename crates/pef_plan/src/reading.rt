@@ -10,47 +10,35 @@ use pef_fixups::WORD;
 use pef_reloc::Base;
 use pef_runs::{Here, Known, Place, Step};
 
-/// A step, and how many values behind ends of runs were looked at to find it.
-#[derive(Clone, Copy, Debug)]
-pub(crate) struct Found<'a> {
-    pub(crate) step: Step<'a>,
-    pub(crate) looks: u64,
-}
-
 /// An instruction that leads on from a fixup.
-pub(crate) fn step_at<'a>(known: Known<'a>, here: Here<'a>) -> Found<'a>
+pub(crate) fn step_at<'a>(known: Known<'a>, here: Here<'a>) -> Step<'a>
     requires here { TrackedHere known here }
     requires at { here.place.position ≡ here.first.offset }
-    ensures { FallsOn known.entry here.entry.place result.step }
+    ensures { FallsOn known.entry here.entry.place result }
 {
     let best = direct(known, here);
-    let looks = best.looks;
     let Place { c, d, .. } = here.place;
     let row = known.row(here.place.left.len());
     let label = label_of(row, c, d);
     if best.value <= label {
-        let step = best.step;
-        return Found { step, looks };
+        return best.step;
     }
     for class in 0..known.classes() {
         if label_of(row, class, d) < label {
-            let step = set_c(known, here.place, class);
-            return Found { step, looks };
+            return set_c(known, here.place, class);
         }
         if label_of(row, c, class) < label {
-            let step = set_d(known, here.place, class);
-            return Found { step, looks };
+            return set_d(known, here.place, class);
         }
     }
-    let step = best.step;
-    Found { step, looks }
+    best.step
 }
 
 /// An instruction that leads on from before or behind a fixup.
-pub(crate) fn step_to<'a>(known: Known<'a>, here: Here<'a>) -> Found<'a>
+pub(crate) fn step_to<'a>(known: Known<'a>, here: Here<'a>) -> Step<'a>
     requires here { TrackedHere known here }
     requires away { here.place.position ≢ here.first.offset }
-    ensures { FallsOn known.entry here.entry.place result.step }
+    ensures { FallsOn known.entry here.entry.place result }
 {
     let place = here.place;
     let ahead = u64::from(here.first.offset).saturating_sub(place.position);
@@ -58,54 +46,43 @@ pub(crate) fn step_to<'a>(known: Known<'a>, here: Here<'a>) -> Found<'a>
     let label = label_of(row, place.c, place.d);
     let value = known.value_in(row, place.left, place.position, place.c, place.d);
     if value == 2 + label {
-        let step = set_position(known, here);
-        return Found { step, looks: 0 };
+        return set_position(known, here);
     }
     if 1 <= ahead && ahead <= REACH && value == 1 + label {
-        let step = increment(known, place, ahead);
-        return Found { step, looks: 0 };
+        return increment(known, place, ahead);
     }
     if ahead > REACH {
-        let step = increment(known, place, ahead - SKIP_REACH);
-        return Found { step, looks: 0 };
+        return increment(known, place, ahead - SKIP_REACH);
     }
     skip_to(known, here, ahead)
 }
 
 /// The skip to a fixup so many bytes ahead, or the change of register D before it.
-fn skip_to<'a>(known: Known<'a>, here: Here<'a>, ahead: u64) -> Found<'a>
+fn skip_to<'a>(known: Known<'a>, here: Here<'a>, ahead: u64) -> Step<'a>
     requires here { TrackedHere known here }
     requires away { here.place.position ≢ here.first.offset }
     requires ahead { ahead ≡ here.first.offset - here.place.position }
     requires near { SkipsTo known here }
-    ensures { FallsOn known.entry here.entry.place result.step }
+    ensures { FallsOn known.entry here.entry.place result }
 {
     match here.first.base {
         Base::Section(section) => skip_words(known, here, ahead / WORD, section),
-        Base::Import(_) => Found {
-            step: set_position(known, here),
-            looks: 0,
-        },
+        Base::Import(_) => set_position(known, here),
     }
 }
 
 /// The same where the fixup has a section, so many words ahead.
-fn skip_words<'a>(known: Known<'a>, here: Here<'a>, words: u64, section: u32) -> Found<'a>
+fn skip_words<'a>(known: Known<'a>, here: Here<'a>, words: u64, section: u32) -> Step<'a>
     requires here { TrackedHere known here }
     requires away { here.place.position ≢ here.first.offset }
     requires words { words ≡ (here.first.offset - here.place.position) / 4 }
     requires near { SkipsTo known here }
     requires base { here.first.base ≡ Section section }
-    ensures { FallsOn known.entry here.entry.place result.step }
+    ensures { FallsOn known.entry here.entry.place result }
 {
     let class = class_of(known.registers, section);
     if class != here.place.d {
-        let step = set_d(known, here.place, class);
-        return Found { step, looks: 0 };
+        return set_d(known, here.place, class);
     }
-    let best = best_skip(known, here, words as u32, section);
-    Found {
-        step: best.step,
-        looks: best.looks,
-    }
+    best_skip(known, here, words as u32, section).step
 }

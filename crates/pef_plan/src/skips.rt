@@ -95,9 +95,5 @@ fn single_skip<'a>(known: Known<'a>, here: Here<'a>, words: u32, section: u32) -
     let next = place_behind(here, here.place.import_index);
     let value = 1 + value_behind(known, here);
     let step = Step { instr, next };
-    Choice {
-        step,
-        value,
-        looks: 1,
-    }
+    Choice { step, value }
 }

@@ -8,7 +8,7 @@ use crate::rows::labels_at;
 use crate::skips::skips_at;
 use pef_reloc::{Base, Fixup};
 use pef_runs::{At, Known, RunEnds};
-use pef_squares::{Line, MAX_CLASSES, Squares};
+use pef_squares::{Line, Looks, MAX_CLASSES, Squares};
 use std::alloc::{AllocError, Global};
 
 /// Labels and least skips, by how many fixups are left.
@@ -17,12 +17,15 @@ pub(crate) struct Tables {
     /// Equal neighbours are kept once.
     pub(crate) labels: Squares,
     pub(crate) skips: Vec<Line>,
-    /// How many values behind ends of runs were looked at.
-    pub(crate) looks: u64,
 }
 
 /// Fills the tables from the last fixup to the first.
-pub(crate) fn fill(alloc: Global, fixups: &[Fixup], registers: &[u32]) -> Result<Tables, AllocError>
+pub(crate) fn fill(
+    alloc: Global,
+    fixups: &[Fixup],
+    registers: &[u32],
+    looks: Looks<'_>,
+) -> Result<Tables, AllocError>
     requires fit { fixups_fit fixups.now ≡ true }
     requires registers { RegistersOf fixups.now registers.now }
     ensures { IfOk result (λ t. Tabled registers.now t.labels t.skips.items 0 fixups.now) }
@@ -41,6 +44,7 @@ pub(crate) fn fill(alloc: Global, fixups: &[Fixup], registers: &[u32]) -> Result
             registers,
             labels: &labels,
             skips: &skips,
+            looks,
         };
         ends.pass(known, state)?;
         let row = labels_at(known, state, &ends);
@@ -48,11 +52,7 @@ pub(crate) fn fill(alloc: Global, fixups: &[Fixup], registers: &[u32]) -> Result
         labels.push(&row)?;
         skips.push(line)?;
     }
-    Ok(Tables {
-        labels,
-        skips,
-        looks: ends.looks,
-    })
+    Ok(Tables { labels, skips })
 }
 
 /// The state at the fixup of an index, with the index of the next import.

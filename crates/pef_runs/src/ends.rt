@@ -1,4 +1,4 @@
-ghost use Rattle.std.specs.Prelude.{◌≡◌, ◌+◌, ◌*◌, ◌^◌, ◌<◌, ◌≤◌, ◌∷◌, ◌⊎◌, [], ℕ, IfOk, List, OnOk, length, slice_index, slice_index_or};
+ghost use Rattle.std.specs.Prelude.{◌≡◌, ◌+◌, ◌*◌, ◌^◌, ◌<◌, ◌≤◌, ◌∷◌, ◌⊎◌, [], ℕ, List, OnOk, length, slice_index, slice_index_or};
 ghost use Rattle.pef_cert.specs.Extension.{extension};
 ghost use Rattle.pef_cert.specs.Labels.{Labels};
 ghost use Rattle.pef_runs.specs.Places.{AtOf, HereOf, Led};
@@ -14,16 +14,9 @@ use crate::runs::{MAX_RUN, MAX_SKIP_RUN, Run};
 use pef_cert::class_of;
 use pef_fixups::WORD;
 use pef_reloc::{Base, Fixup};
-use pef_squares::{Line, MAX_CLASSES, Square, Window};
+use pef_squares::{Line, Looks, MAX_CLASSES, Square, Window};
 use std::alloc::{AllocError, Global};
 use std::mem;
-
-/// How often the values of a square are read as it is made: once for itself, and once for the instructions
-/// that add one word, those of the labels beside the near square and those of the skips beside the far one.
-const MADE: u64 = 2;
-
-/// How often a window reads a square that it takes: once as it comes, and at most once more as it grows old.
-const TAKEN: u64 = 2;
 
 /// What lies behind the ends of the runs that begin at a fixup: for each kind of run a window, which
 /// follows as the tables are filled from the last fixup back.
@@ -43,8 +36,6 @@ pub struct RunEnds {
     near: Square,
     /// What lies a word further on, where register D holds the fixup's section.
     far: Square,
-    /// How many values behind ends of runs were looked at.
-    pub looks: u64,
 }
 
 /// Two windows of runs that go on at each second fixup.
@@ -70,7 +61,6 @@ impl RunEnds {
             far_pairs: InTurn::new(alloc, classes),
             near: [[0; MAX_CLASSES]; MAX_CLASSES],
             far: [[0; MAX_CLASSES]; MAX_CLASSES],
-            looks: 0,
         }
     }
 
@@ -85,20 +75,20 @@ impl RunEnds {
         ensures { OnOk result (EndsAt known.entry at.entry.others.now (at.entry.first ∷ at.entry.others.now) self.new) }
     {
         let start = at.start();
-        let pairs = self.pairs.pass(pairs_at(at), start, &self.near)?;
-        let far_pairs = self.far_pairs.pass(far_pairs_at(at), start, &self.far)?;
+        let looks = known.looks;
+        self.pairs.pass(pairs_at(at), start, &self.near, looks)?;
+        self.far_pairs
+            .pass(far_pairs_at(at), start, &self.far, looks)?;
         self.near = known.square_behind(at);
-        let words = bring(&mut self.words, words_at(at.first.base), start, &self.near)?;
-        let looks = known.looks_at(pairs + far_pairs + words + MADE);
-        self.looks = self.looks.saturating_add(looks);
+        let words = words_at(at.first.base);
+        bring(&mut self.words, words, start, &self.near, looks)?;
         match at.first.base {
             Base::Section(section) => {
                 self.far = known.square_beyond(at, section);
-                let skips = bring(&mut self.skips, Run::WordsOfD(section), start, &self.near)?;
-                let spaced = bring(&mut self.spaced, Run::Spaced(section), start, &self.far)?;
-                let looks = known.looks_at(skips + spaced + MADE);
-                self.looks = self.looks.saturating_add(looks);
-                Ok(())
+                let words = Run::WordsOfD(section);
+                bring(&mut self.skips, words, start, &self.near, looks)?;
+                let spaced = Run::Spaced(section);
+                bring(&mut self.spaced, spaced, start, &self.far, looks)
             }
             Base::Import(_) => Ok(()),
         }
@@ -151,53 +141,48 @@ impl InTurn {
         run: Option<Run>,
         start: Place<'_>,
         square: &Square,
-    ) -> Result<u64, AllocError>
+        looks: Looks<'_>,
+    ) -> Result<(), AllocError>
         requires here { self.old.here.classes ≤ 9 }
         requires next { self.old.next.classes ≤ 9 }
         requires position { start.position ≤ 2 ^ 24 }
         requires import_index { start.import_index ≤ 65536 }
         ensures next { OnOk result (self.new.next ≡ self.old.here) }
         ensures here { OnOk result ((classes limit : ℕ) (squares : List (List (List ℕ))) → WindowOf classes limit squares self.old.next → BroughtMaybe run classes limit start.entry.left.now start.entry.position start.entry.import_index squares square.now self.new.here) }
-        ensures looks { IfOk result (λ looks. looks ≤ 2) }
     {
         mem::swap(&mut self.here, &mut self.next);
         match run {
-            Some(run) => bring(&mut self.here, run, start, square),
-            None => Ok(0),
+            Some(run) => bring(&mut self.here, run, start, square, looks),
+            None => Ok(()),
         }
     }
 }
 
-/// Brings a window to a place where a run may begin, with what lies behind its first unit. Gives how often
-/// it reads a square.
+/// Brings a window to a place where a run may begin, with what lies behind its first unit.
 fn bring(
     window: &mut Window,
     run: Run,
     start: Place<'_>,
     square: &Square,
-) -> Result<u64, AllocError>
+    looks: Looks<'_>,
+) -> Result<(), AllocError>
     requires few { window.old.classes ≤ 9 }
     requires position { start.position ≤ 2 ^ 24 }
     requires import_index { start.import_index ≤ 65536 }
-    ensures brought { OnOk result ((classes limit : ℕ) (squares : List (List (List ℕ))) → WindowOf classes limit squares window.old → Brought run classes limit start.entry.left.now start.entry.position start.entry.import_index squares square.now window.new) }
-    ensures looks { IfOk result (λ looks. looks ≤ 2) }
+    ensures { OnOk result ((classes limit : ℕ) (squares : List (List (List ℕ))) → WindowOf classes limit squares window.old → Brought run classes limit start.entry.left.now start.entry.position start.entry.import_index squares square.now window.new) }
 {
     let next = match run.next(start) {
         Some(next) => next,
         None => {
             window.clear();
-            return Ok(0);
+            return Ok(());
         }
     };
     match run.next(next) {
-        Some(_) => {
-            window.add(square)?;
-            Ok(TAKEN)
-        }
+        Some(_) => window.add(square, looks),
         None => {
             window.clear();
-            window.add(square)?;
-            Ok(TAKEN)
+            window.add(square, looks)
         }
     }
 }
@@ -278,16 +263,6 @@ fn second_section(first: u32, others: &[Fixup]) -> Option<(u32, u32)>
 }
 
 impl<'a> Known<'a> {
-    /// How many looks it takes to read a square so often, at every pair of classes.
-    fn looks_at(self, squares: u64) -> u64
-        requires few { length self.registers.now ≤ 8 }
-        requires squares { squares ≤ 16 }
-        ensures { result ≡ squares * ((length self.entry.registers.now + 1) * (length self.entry.registers.now + 1)) }
-    {
-        let classes = self.classes() as u64;
-        squares * (classes * classes)
-    }
-
     /// The extension right behind a fixup.
     fn square_behind(self, at: At<'a>) -> Square
         requires { AtOf self at }

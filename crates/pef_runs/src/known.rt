@@ -6,7 +6,7 @@ ghost use Rattle.pef_reloc.specs.declared.fixup.Fixup.{Fixup};
 
 use pef_cert::{change, class_of, moved_value};
 use pef_reloc::{Base, Fixup};
-use pef_squares::{Line, Square, Squares};
+use pef_squares::{Line, Looks, Square, Squares};
 
 /// What is known of the states at some fixups: tables that are filled from the last fixup back. Numbers
 /// of a table are in halfwords.
@@ -20,6 +20,8 @@ pub struct Known<'a> {
     /// The least that a skip at the next fixup leads to, by how many fixups are left and by the class of
     /// register C.
     pub skips: &'a [Line],
+    /// Counts how often a value is read.
+    pub looks: Looks<'a>,
 }
 
 impl<'a> Known<'a> {
@@ -40,7 +42,7 @@ impl<'a> Known<'a> {
     }
 
     /// The extension in halfwords where these fixups are left, at a position in bytes and in classes of the
-    /// registers.
+    /// registers. Each reading is a look.
     pub fn value(self, rest: &[Fixup], position: u64, c: usize, d: usize) -> u64
         requires shaped { Shaped self (length rest.now) }
         requires c { c < length self.registers.now + 1 }
@@ -60,6 +62,7 @@ impl<'a> Known<'a> {
         ensures is { (l : Labels) → Agrees l self.entry rest.now → result ≡ extension l rest.now position c d }
         ensures small { result ≤ 4 * length rest.now + 2 }
     {
+        self.looks.add(1);
         match rest.split_first() {
             Some((first, _)) => self.value_before(row, rest.len(), *first, position, c, d),
             None => 0,

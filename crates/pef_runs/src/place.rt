@@ -44,6 +44,4 @@ pub struct Step<'a> {
 pub struct Choice<'a> {
     pub step: Step<'a>,
     pub value: u64,
-    /// How many values behind ends of runs were looked at.
-    pub looks: u64,
 }

@@ -173,11 +173,10 @@ impl<'a> Known<'a> {
     {
         let next = step.next;
         let value = 1 + self.value(next.left, next.position, next.c, next.d);
-        let looks = best.looks.saturating_add(1);
         if value < best.value {
-            Choice { step, value, looks }
+            Choice { step, value }
         } else {
-            Choice { looks, ..best }
+            best
         }
     }
 }

@@ -1,6 +1,7 @@
 ghost use Rattle.std.specs.Prelude.{◌≡◌, ◌+◌, ◌-◌, ◌<◌, ◌≤◌, ◌⊎◌, ◌++◌, ◌∷◌, ℕ, [], List, OnOk, length, min, reverse, slice_index, take, vec_len};
 ghost use Rattle.pef_squares.specs.Windows.{BestOf, LesserOf, LowSquare, OlderOf, WindowOf};
 
+use crate::looks::Looks;
 use crate::square::{Line, MAX_CLASSES, Square};
 use std::alloc::{AllocError, Global};
 
@@ -46,23 +47,24 @@ impl Window {
         self.newer.clear();
     }
 
-    /// Takes one more square in, and lets the oldest go where there are too many.
+    /// Takes one more square in, and lets the oldest go where there are too many. Its numbers are looked at
+    /// as it comes, and once more as it grows old; the least that is kept is no look.
     ///
     /// # Errors
     ///
     /// There is no memory for the square. Nothing is known of the window then.
-    pub fn add(&mut self, square: &Square) -> Result<(), AllocError>
+    pub fn add(&mut self, square: &Square, looks: Looks<'_>) -> Result<(), AllocError>
         requires few { self.old.classes ≤ 9 }
         ensures { OnOk result ((classes limit : ℕ) (squares : List (List (List ℕ))) → WindowOf classes limit squares self.old → WindowOf classes limit (square.now ∷ take (limit - 1) squares) self.new) }
     {
-        self.make_room()?;
-        self.low = self.with_newer(square);
+        self.make_room(looks)?;
+        self.low = self.with_newer(square, looks);
         self.newer.push(*square)?;
         Ok(())
     }
 
     /// Lets the oldest square go where there are as many as there can be.
-    fn make_room(&mut self) -> Result<(), AllocError>
+    fn make_room(&mut self, looks: Looks<'_>) -> Result<(), AllocError>
         requires few { self.old.classes ≤ 9 }
         ensures few { self.new.classes ≡ self.old.classes }
         ensures room { OnOk result ((classes limit : ℕ) (squares : List (List (List ℕ))) → WindowOf classes limit squares self.old → WindowOf classes limit (take (limit - 1) squares) self.new) }
@@ -70,13 +72,13 @@ impl Window {
         if self.older.len() + self.newer.len() < self.limit {
             return Ok(());
         }
-        self.age()?;
+        self.age(looks)?;
         self.older.pop();
         Ok(())
     }
 
     /// Sees to it that there are older squares, where there are squares.
-    fn age(&mut self) -> Result<(), AllocError>
+    fn age(&mut self, looks: Looks<'_>) -> Result<(), AllocError>
         requires few { self.old.classes ≤ 9 }
         ensures few { self.new.classes ≡ self.old.classes }
         ensures same { OnOk result ((classes limit : ℕ) (squares : List (List (List ℕ))) → WindowOf classes limit squares self.old → WindowOf classes limit squares self.new) }
@@ -85,18 +87,18 @@ impl Window {
         if !self.older.is_empty() {
             return Ok(());
         }
-        age_all(&mut self.older, &mut self.newer, self.classes)
+        age_all(&mut self.older, &mut self.newer, self.classes, looks)
     }
 
     /// The least of the newer squares and of one more.
-    fn with_newer(&self, square: &Square) -> Square
+    fn with_newer(&self, square: &Square, looks: Looks<'_>) -> Square
         requires few { self.now.classes ≤ 9 }
         ensures { (classes limit : ℕ) (squares : List (List (List ℕ))) → WindowOf classes limit squares self.now → LowSquare classes (square.now ∷ reverse self.now.newer.items) result }
     {
         if self.newer.is_empty() {
-            *square
+            only(square, self.classes, looks)
         } else {
-            lesser(square, &self.low, self.classes)
+            lesser(square, &self.low, self.classes, looks)
         }
     }
 
@@ -132,6 +134,7 @@ fn age_all(
     older: &mut Vec<Square>,
     newer: &mut Vec<Square>,
     classes: usize,
+    looks: Looks<'_>,
 ) -> Result<(), AllocError>
     requires few { classes ≤ 9 }
     requires none { older.old.items ≡ [] }
@@ -139,42 +142,52 @@ fn age_all(
     ensures older { OnOk result (OlderOf classes (reverse newer.old.items) older.new.items) }
 {
     while let Some(square) = newer.pop() {
-        let low = with_older(older, &square, classes);
+        let low = with_older(older, &square, classes, looks);
         older.push(low)?;
     }
     Ok(())
 }
 
 /// What is kept for one more older square.
-fn with_older(older: &[Square], square: &Square, classes: usize) -> Square
+fn with_older(older: &[Square], square: &Square, classes: usize, looks: Looks<'_>) -> Square
     requires few { classes ≤ 9 }
     ensures { (squares : List (List (List ℕ))) → OlderOf classes squares older.now → LowSquare classes (squares ++ square.now ∷ []) result }
 {
     match older.last() {
-        Some(low) => lesser(low, square, classes),
-        None => *square,
+        Some(low) => lesser(low, square, classes, looks),
+        None => only(square, classes, looks),
     }
 }
 
-/// The lesser of two squares at each pair of classes.
-fn lesser(one: &Square, other: &Square, classes: usize) -> Square
+/// The least of a square alone, which is looked at.
+fn only(square: &Square, classes: usize, looks: Looks<'_>) -> Square
+    requires few { classes ≤ 9 }
+    ensures { result ≡ square.now }
+{
+    looks.add((classes * classes) as u64);
+    *square
+}
+
+/// The lesser of two squares at each pair of classes: of a kept one, and of one that is looked at.
+fn lesser(one: &Square, other: &Square, classes: usize, looks: Looks<'_>) -> Square
     requires few { classes ≤ 9 }
     ensures { LesserOf classes one.now other.now result }
 {
     let mut square = [[0; MAX_CLASSES]; MAX_CLASSES];
     for c in 0..classes {
-        square[c] = lesser_line(&one[c], &other[c], classes);
+        square[c] = lesser_line(&one[c], &other[c], classes, looks);
     }
     square
 }
 
-/// The lesser of two lines at each class.
-fn lesser_line(one: &Line, other: &Line, classes: usize) -> Line
+/// The same of two lines at each class.
+fn lesser_line(one: &Line, other: &Line, classes: usize, looks: Looks<'_>) -> Line
     requires few { classes ≤ 9 }
     ensures { (d : ℕ) → d < classes → slice_index result d ≡ min (slice_index one.now d) (slice_index other.now d) }
 {
     let mut line = [0; MAX_CLASSES];
     for d in 0..classes {
+        looks.add(1);
         line[d] = one[d].min(other[d]);
     }
     line

@@ -14,9 +14,9 @@ steps-init c =
 
 pub steps-preserved : goal.steps-preserved
 steps-preserved c =
-    subst (λ (xs : List Instr). ReadTo c.args.known c.args.fixups.now xs c.step-found.result.step.next) (sym c.in_ok-push.ensures.items)
-    (read_next c.args.known c.args.fixups.now c.steps.program.items c.steps.place c.step-found.result.step c.steps.invariant
-    (c.step-found.ensures (state_after c.steps.program.items start) c.steps.invariant.in_place))
+    subst (λ (xs : List Instr). ReadTo c.args.known c.args.fixups.now xs c.next_step-step.result.next) (sym c.in_ok-push.ensures.items)
+    (read_next c.args.known c.args.fixups.now c.steps.program.items c.steps.place c.next_step-step.result c.steps.invariant
+    (c.next_step-step.ensures (state_after c.steps.program.items start) c.steps.invariant.in_place))
 
 pub returns : goal.returns
 returns c = read_least c.args.known c.args.fixups.now c.steps.program.items c.steps.place c.requires.fit c.requires.registers c.requires.tabled c.steps.invariant c.in_default.ensures.cases

@@ -4,8 +4,8 @@ use Rattle.pef_plan.proofs.MoveFacts.{counts_here, skip_set, skip_taken}
 use Rattle.pef_plan.proofs.StepFacts.{agrees_others}
 use Rattle.pef_plan.proofs.reading.skip_words.Goals as goal
 
-pub set_d-step-requires-clause-low : goal.set_d-step-requires-clause-low
-set_d-step-requires-clause-low c =
+pub set_d-requires-clause-low : goal.set_d-requires-clause-low
+set_d-requires-clause-low c =
     skip_set c.args.known c.args.here c.args.section c.class_of-class.result c.requires.here c.requires.near c.requires.away c.requires.base c.class_of-class.ensures c.if-class-here.true
 
 pub returns : goal.returns
@@ -13,6 +13,6 @@ returns c = λ s in_place.
     let k = c.args.known in
     let h = c.args.here in
     let agrees = agrees_others k h c.requires.here in
-    let worth = c.best_skip-best.ensures.chosen.worth (labels_tabled k) agrees in
-    let value = skip_taken k h c.args.section c.best_skip-best.result.value c.requires.here c.requires.near c.requires.base (sym c.class_of-class.ensures ∙ c.if-class-here.false) (counts_here k h c.args.section c.requires.here c.requires.base) (c.best_skip-best.ensures.is (labels_tabled k) agrees) in
-    record { goes = c.best_skip-best.ensures.chosen.goes s in_place; falls = omega (arith, worth, value) }
+    let worth = c.best_skip.ensures.chosen.worth (labels_tabled k) agrees in
+    let value = skip_taken k h c.args.section c.best_skip.result.value c.requires.here c.requires.near c.requires.base (sym c.class_of-class.ensures ∙ c.if-class-here.false) (counts_here k h c.args.section c.requires.here c.requires.base) (c.best_skip.ensures.is (labels_tabled k) agrees) in
+    record { goes = c.best_skip.ensures.chosen.goes s in_place; falls = omega (arith, worth, value) }

@@ -10,8 +10,8 @@ returns-then-best-label c =
     let is = c.label_of-label.ensures ∙ ap (λ q. number_in q c.args.here.place.c c.args.here.place.d) c.row-row.ensures in
     chosen_falls c.args.known c.args.here c.direct-best.result c.requires.here c.requires.at c.direct-best.ensures.chosen (omega (arith, low, is))
 
-pub set_c-step-requires-clause-low : goal.set_c-step-requires-clause-low
-set_c-step-requires-clause-low c =
+pub set_c-requires-clause-low : goal.set_c-requires-clause-low
+set_c-requires-clause-low c =
     let p = c.args.here.place in
     let there = extension_label c.args.known c.args.here c.loop-class.class p.d c.requires.here c.requires.at in
     let mine = extension_label c.args.known c.args.here p.c p.d c.requires.here c.requires.at in
@@ -20,8 +20,8 @@ set_c-step-requires-clause-low c =
     let two = c.label_of-label.ensures ∙ ap (λ q. number_in q p.c p.d) c.row-row.ensures in
     omega (arith, there, mine, low, one, two)
 
-pub set_d-step-requires-clause-low : goal.set_d-step-requires-clause-low
-set_d-step-requires-clause-low c =
+pub set_d-requires-clause-low : goal.set_d-requires-clause-low
+set_d-requires-clause-low c =
     let p = c.args.here.place in
     let there = extension_label c.args.known c.args.here p.c c.loop-class.class c.requires.here c.requires.at in
     let mine = extension_label c.args.known c.args.here p.c p.d c.requires.here c.requires.at in

@@ -9,8 +9,8 @@ use Rattle.pef_plan.proofs.MoveFacts.{label-there, short_move, skips_to}
 use Rattle.pef_plan.proofs.reading.step_to.Goals as goal
 use Rattle.pef_plan.proofs.reading.step_to.Goals.{else-ahead-ge1-via-then-ahead-ge1+then-ahead-le-REACH+else-value-label-2, else-ahead-ge1-via-then-ahead-ge1+else-ahead-le-REACH, else-ahead-ge1-via-else-ahead-ge1}
 
-pub set_position-step-requires-clause-low : goal.set_position-step-requires-clause-low
-set_position-step-requires-clause-low c =
+pub set_position-requires-clause-low : goal.set_position-requires-clause-low
+set_position-requires-clause-low c =
     let k = c.args.known in
     let h = c.args.here in
     let there = label-there k h h.first.offset c.requires.here refl in
@@ -19,8 +19,8 @@ set_position-step-requires-clause-low c =
     let two = c.if-value-label.true in
     omega (arith, there, value, label, two)
 
-pub increment-step-requires-clause-low : goal.increment-step-requires-clause-low
-increment-step-requires-clause-low c =
+pub increment-requires-clause-low : goal.increment-requires-clause-low
+increment-requires-clause-low c =
     let k = c.args.known in
     let h = c.args.here in
     let from = c.from.ensures in
@@ -32,8 +32,8 @@ increment-step-requires-clause-low c =
     let one = c.if-value-label-2.true in
     omega (arith, there, value, label, one)
 
-pub increment-step-requires-then-ahead-gt-REACH-clause-few : goal.increment-step-requires-then-ahead-gt-REACH-clause-few
-increment-step-requires-then-ahead-gt-REACH-clause-few c =
+pub increment-requires-then-ahead-gt-REACH-clause-few : goal.increment-requires-then-ahead-gt-REACH-clause-few
+increment-requires-then-ahead-gt-REACH-clause-few c =
     let k = c.args.known in
     let h = c.args.here in
     let is = c.saturating_sub-ahead.ensures ∙ ap (λ n. n - h.place.position) c.from.ensures in
@@ -43,8 +43,8 @@ increment-step-requires-then-ahead-gt-REACH-clause-few c =
     let most = (short_move k h c.requires.here c.requires.away (omega (arith, is, beyond)) other).1 in
     omega (arith, is, most)
 
-pub increment-step-requires-then-ahead-gt-REACH-clause-low : goal.increment-step-requires-then-ahead-gt-REACH-clause-low
-increment-step-requires-then-ahead-gt-REACH-clause-low c =
+pub increment-requires-then-ahead-gt-REACH-clause-low : goal.increment-requires-then-ahead-gt-REACH-clause-low
+increment-requires-then-ahead-gt-REACH-clause-low c =
     let k = c.args.known in
     let h = c.args.here in
     let is = c.saturating_sub-ahead.ensures ∙ ap (λ n. n - h.place.position) c.from.ensures in
