@@ -5,6 +5,8 @@
 #[cfg(test)]
 mod programs;
 #[cfg(test)]
+mod refused;
+#[cfg(test)]
 mod script;
 #[cfg(test)]
 mod write;

@@ -3,6 +3,7 @@ use pef_script::Script;
 use std::alloc::{AllocError, Global};
 use std::fmt::Write;
 use std::test::Fail;
+use test_data::limits::{Spaced, at_all_limits, push_fixups};
 
 /// The number and the line of a refusal, or `None` where the text is read.
 fn refusal(alloc: Global, text: &str) -> Option<(u32, usize)> {
@@ -319,46 +320,26 @@ const FIXUPS: [(u32, &str, Option<(u32, usize)>); 6] = [
     (16_383, "tvector s 0 s s", Some((48, 16_385))),
 ];
 
-/// Lines for so many fixups of a section, so far apart.
-fn push_fixups(text: &mut String, section: &str, count: u32, step: u32) -> Result<(), AllocError> {
-    for i in 0..count {
-        write!(
-            text,
-            "fix {section} {} section {section}\n",
-            i.wrapping_mul(step)
-        )?;
-    }
-    Ok(())
-}
-
 #[test]
 fn read_most_fixups(rt: HostRuntime) -> Result<(), Fail> {
     let alloc = rt.alloc();
     for (count, last, wanted) in FIXUPS {
         let mut text = format!(in alloc; "section s data process 0 65544\n")?;
-        push_fixups(&mut text, "s", count, 4)?;
+        let fixups = Spaced {
+            first: 0,
+            step: 4,
+            count,
+        };
+        push_fixups(&mut text, "s", fixups, "section s")?;
         text.push_str(last)?;
         assert_eq!(rt; refusal(alloc, &text), wanted, "{count} and {last}");
     }
     Ok(())
 }
 
-/// All limits at once: sections, libraries, imports, exports, and fixups that don't adjoin.
-fn most_of_all(alloc: Global) -> Result<String, AllocError> {
-    let mut text = names(alloc, "", "library l", 4096, " 1 0 -")?;
-    text.push_str(&names(alloc, "", "import i", 65_536, " data weak")?)?;
-    text.push_str(&names(alloc, "", "section s", 8, " data process 12 131072")?)?;
-    text.push_str("\n")?;
-    for section in ["s0", "s1", "s2", "s3", "s4", "s5", "s6", "s7"] {
-        push_fixups(&mut text, section, 16_384, 8)?;
-    }
-    text.push_str(&names(alloc, "", "export e", 16_383, " data s0 131072")?)?;
-    Ok(text)
-}
-
 #[test]
 fn read_most_of_all(rt: HostRuntime) -> Result<(), Fail> {
-    let text = most_of_all(rt.alloc())?;
+    let text = at_all_limits(rt.alloc())?;
     let script = Script::read(rt.alloc(), text.as_bytes())?;
     assert_eq!(rt; counts(&script), (4096, 65_536, 8, 16_383));
     assert_eq!(rt; script.fixups(7).map_or(0, |fixups| fixups.len()), 16_384);

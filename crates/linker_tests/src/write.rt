@@ -5,6 +5,9 @@ use std::alloc::{AllocError, Global};
 use std::process::Abort;
 use std::test::Fail;
 use test_data::containers::VECTORS_LEAST;
+use test_data::limits::{
+    EXPORTS, FIXUPS, IMPORTS, IMPORTS_EACH, LIBRARIES, SECTIONS, Spaced, push_fixups, push_sections,
+};
 use test_data::scripts::{EMPTY_CONTAINER, VECTORS};
 use test_links::link_text;
 
@@ -141,21 +144,8 @@ fn linked(rt: HostRuntime) -> Result<(), Fail> {
     Ok(())
 }
 
-/// How many there may be of each in a script, and how many bytes a section may have.
-const SECTIONS: u32 = 8;
-
-const LIBRARIES: u32 = 4096;
-
-const IMPORTS: u32 = 65_536;
-
-const EXPORTS: u32 = 16_383;
-
-const FIXUPS: u32 = 16_384;
-
+/// How many bytes a section may have.
 const TOTAL: u32 = 16_777_216;
-
-/// The imports of each library, where each has as many.
-const IMPORTS_EACH: u32 = 16;
 
 /// The bytes of a line of contents.
 const LINE_BYTES: u32 = 16_384;
@@ -171,16 +161,12 @@ fn greatest_script(alloc: Global) -> Result<String, AllocError> {
         write!(text, "library {library:0127} 1 0 weak\n")?;
         push_imports(&mut text, library)?;
     }
-    for section in 0..SECTIONS {
-        write!(text, "section s{section} data process 12 {TOTAL}\n")?;
-    }
+    push_sections(&mut text, 12, TOTAL)?;
     let zeros = format!(in alloc; "bytes s0 {:032768}\n", 0)?;
     for _ in 0..TOTAL / LINE_BYTES {
         text.push_str(&zeros)?;
     }
-    for section in 0..SECTIONS {
-        push_fixups(&mut text, section)?;
-    }
+    push_far_fixups(alloc, &mut text)?;
     for export in 0..EXPORTS {
         write!(text, "export {export:095} tvector s7 {export}\n")?;
     }
@@ -196,11 +182,16 @@ fn push_imports(text: &mut String, library: u32) -> Result<(), AllocError> {
     Ok(())
 }
 
-/// The lines for the fixups of a section: the address of the last import, 1,024 bytes apart.
-fn push_fixups(text: &mut String, section: u32) -> Result<(), AllocError> {
-    for fixup in 0..FIXUPS {
-        let offset = fixup.wrapping_mul(1024).wrapping_add(4);
-        write!(text, "fix s{section} {offset} import {:095}\n", IMPORTS - 1)?;
+/// The lines for the fixups of all sections: the address of the last import, 1,024 bytes apart.
+fn push_far_fixups(alloc: Global, text: &mut String) -> Result<(), AllocError> {
+    let base = format!(in alloc; "import {:095}", IMPORTS - 1)?;
+    let fixups = Spaced {
+        first: 4,
+        step: 1024,
+        count: FIXUPS,
+    };
+    for section in SECTIONS {
+        push_fixups(text, section, fixups, &base)?;
     }
     Ok(())
 }
