@@ -18,6 +18,7 @@ const LINES: &[&str] = &[
     "pef load user=user.pef",
     "pef check transition-vectors.pefscript transition-vectors.pefcert",
     "pef check transition-vectors.pefscript shared-library.pefscript",
+    "pef distances transition-vectors.pefscript",
     "pef link missing.pefscript never.pef",
     "pef list never.pef",
     "pef link shared-library.pefscript nowhere/tools.pef",
