@@ -1,4 +1,4 @@
--- What a command answers, and how its answer goes out.
+-- What a command answers, and how its answer goes out (README, "Output and status").
 use Rattle.std.specs.Prelude.{◌≡◌, ◌⊎◌, ℕ, List, codes, take}
 use Rattle.pef_ports.specs.Ports.{Stream, Grows, LastFailed, NoneFailed}
 

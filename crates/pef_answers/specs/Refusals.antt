@@ -1,4 +1,5 @@
--- The line that ends a refused run. The numbers and names of the libraries' faults are theirs.
+-- The line that ends a refused run (docs/REFUSALS.md, "How a refusal is printed"). The numbers and names of the libraries'
+-- faults are theirs.
 use Rattle.std.specs.Prelude.{ℕ, List, [], ◌∷◌, ◌++◌, Option, None, Some, codes, decimal}
 use Rattle.cfm_libraries.specs.Faults as bind
 use Rattle.cfm_libraries.specs.declared.fault.BindFault.{BindFault}

@@ -1,4 +1,4 @@
--- What the faults of the readers of inputs, scripts and certificates are told as.
+-- What the faults of the readers of inputs, scripts and certificates are told as (docs/REFUSALS.md).
 use Rattle.pef_cert_text.specs.declared.fault.CertFault.{CertFault}
 use Rattle.pef_cert_text.specs.declared.fault.CertFault.TheVariants as cert_fault
 use Rattle.pef_ports.specs.declared.input.InputFault.{InputFault}

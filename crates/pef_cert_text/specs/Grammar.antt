@@ -1,6 +1,6 @@
--- Texts of certificates, line by line (docs/FORMATS.md, "Certificates"). A text is refused at its first line that breaks
--- a rule by itself or against the lines before it, by the number of that line, from 1; where a line is missing, by that
--- of the line after the last.
+-- Texts of certificates, line by line (docs/FORMATS.md, "Texts of certificates"). A text is refused at its first line
+-- that breaks a rule by itself or against the lines before it, by the number of that line, from 1; where a line is
+-- missing, by that of the line after the last.
 use Rattle.std.specs.Prelude.{ℕ, zero, suc, ◌+◌, ◌*◌, ◌==◌, List, [], ◌∷◌, ◌++◌, Option, Result, Ok, Err, length, if◌then◌else◌}
 use Rattle.std.specs.Option.{ok_or}
 use Rattle.pef_cert.specs.Valid.{Certified}

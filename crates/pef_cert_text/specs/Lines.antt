@@ -1,5 +1,5 @@
--- What each line of a text of certificates says (docs/FORMATS.md, "Certificates"), and nothing where it breaks a rule by
--- itself or against the lines before it.
+-- What each line of a text of certificates says (docs/FORMATS.md, "Texts of certificates"), and nothing where it breaks
+-- a rule by itself or against the lines before it.
 use Rattle.std.specs.Prelude.{ℕ, ◌*◌, ◌==◌, ◌&&◌, Bool, List, [], ◌∷◌, Option, None, Some, codes, length, nat_le, option_map, if◌then◌else◌}
 use Rattle.std.specs.Option.{is_none}
 use Rattle.std.specs.Str.{bytes_eq}

@@ -1,4 +1,4 @@
--- How certificates are printed (docs/FORMATS.md, "Certificates"), and which can be.
+-- How certificates are printed (docs/FORMATS.md, "Texts of certificates"), and which can be.
 use Rattle.std.specs.Prelude.{◌≡◌, ℕ, ◌+◌, ◌-◌, ◌^◌, ◌<◌, ◌≤◌, true, List, [], ◌∷◌, ◌++◌, None, codes, decimal, length}
 use Rattle.std.specs.List.{AllByRecursion}
 use Rattle.pef_cert.specs.Valid.{Certified, rises}

@@ -1,5 +1,5 @@
--- The words of a line (docs/FORMATS.md, "Certificates"): what stands between its spaces. A number is decimal without a
--- leading zero; the bytes of a program stand in words of four upper-case hex digits.
+-- The words of a line (docs/FORMATS.md, "Texts of certificates"): what stands between its spaces. A number is decimal
+-- without a leading zero; the bytes of a program stand in words of four upper-case hex digits.
 use Rattle.std.specs.Prelude.{ℕ, ◌+◌, ◌*◌, ◌-◌, ◌==◌, ◌&&◌, Bool, true, false, List, [], ◌∷◌, ◌++◌, Option, None, Some, length, nat_le, if◌then◌else◌}
 use Rattle.std.specs.Str.{bytes_eq}
 use Rattle.pef_lines.specs.Lines.{parts_of}

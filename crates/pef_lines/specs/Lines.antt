@@ -1,4 +1,4 @@
--- What stands between the bytes of a text that are alike: its lines, and the words of a line.
+-- What stands between the bytes of a text that are alike: its lines, and the words of a line (docs/SCRIPTS.md, "Text").
 use Rattle.std.specs.Prelude.{ℕ, ◌==◌, List, [], ◌∷◌, Option, None, Some, option_map, if◌then◌else◌}
 
 -- what stands before the first such byte and what behind it; none where there is no such byte

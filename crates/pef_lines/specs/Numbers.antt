@@ -1,4 +1,4 @@
--- The numbers that digits spell.
+-- The numbers that digits spell (docs/SCRIPTS.md, "Text").
 use Rattle.std.specs.Prelude.{ℕ, ◌+◌, ◌*◌, ◌-◌, ◌^◌, ◌==◌, ◌&&◌, ◌||◌, List, [], ◌∷◌, Option, None, Some, length, nat_le, nat_lt, if◌then◌else◌}
 use Rattle.std.specs.Option.{option_and_then}
 

@@ -1,4 +1,4 @@
--- The bytes that pairs of hex digits spell.
+-- The bytes that pairs of hex digits spell (docs/SCRIPTS.md, `bytes`).
 use Rattle.std.specs.Prelude.{ℕ, ◌+◌, ◌*◌, List, [], ◌∷◌, Option, None, Some, option_map}
 use Rattle.std.specs.Option.{option_and_then}
 use Rattle.pef_lines.specs.Numbers.{hex_digit}

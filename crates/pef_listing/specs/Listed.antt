@@ -1,5 +1,5 @@
--- Which bytes can be listed: a container, its loader section and all its relocation programs are read
--- before the first line is printed.
+-- Which bytes can be listed (docs/FORMATS.md, "Listings"): a container, its loader section and all its relocation
+-- programs are read before the first line is printed.
 use Rattle.std.specs.Prelude.{ℕ, List, Option, Some, None, option_and_then, Result, Ok, Err}
 use Rattle.pef_words.specs.Refusals.{first_among}
 use Rattle.pef_views.specs.Container.{Contained, container_of}

@@ -1,5 +1,5 @@
--- What a listing of a container says: a line for each thing that it holds, in this order: its header, its
--- sections, libraries, imports and entries, each relocation header with its instructions, its exports.
+-- What a listing of a container says (docs/FORMATS.md, "Listings"): a line for each thing that it holds, in this order:
+-- its header, its sections, libraries, imports and entries, each relocation header with its instructions, its exports.
 -- Numbers are decimal; options, offsets, addresses and values are upper-case hex.
 use Rattle.std.specs.Prelude.{ℕ, ℤ, pos, negsuc, zero, suc, ◌+◌, Bool, List, [], ◌∷◌, ◌++◌, Option, None, Some, codes, decimal, if◌then◌else◌, length, ◌/◌}
 use Rattle.std.specs.Option.{option_map_or}

@@ -1,4 +1,4 @@
--- A line as its pieces.
+-- A line of a listing as its pieces (docs/FORMATS.md, "Listings").
 use Rattle.std.specs.Prelude.{ℕ, List, [], ◌∷◌, ◌++◌, decimal}
 use Rattle.pef_listing.specs.declared.pieces.Piece.{Piece}
 use Rattle.pef_listing.specs.declared.pieces.Piece.TheVariants.{Text, Name, Number, Word, Byte}

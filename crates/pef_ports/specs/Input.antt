@@ -1,4 +1,4 @@
--- What is read of a whole input.
+-- What is read of a whole input (docs/REFUSALS.md, 73 and 74).
 use Rattle.std.specs.Prelude.{◌≡◌, ℕ, ◌<◌, ◌≤◌, ⊤, List, Option, None, Some, Result, Ok, Err, length}
 use Rattle.std.specs.declared.vec.Vec.{Vec}
 use Rattle.std.specs.declared.alloc.Global.{Global}

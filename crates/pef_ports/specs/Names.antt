@@ -1,4 +1,5 @@
--- How names and paths are printed, so that none can break a line or pass for another.
+-- How names and paths are printed, so that none can break a line or pass for another (docs/REFUSALS.md, "How a refusal is
+-- printed").
 use Rattle.std.specs.Prelude.{ℕ, ◌/◌, ◌%◌, ◌==◌, ◌&&◌, Bool, not, List, [], ◌∷◌, ◌++◌, nat_le, if◌then◌else◌}
 use Rattle.pef_ports.specs.Text.{hex_digit}
 

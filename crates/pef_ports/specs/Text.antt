@@ -1,4 +1,4 @@
--- How numbers and memory are printed.
+-- How numbers and memory are printed (README, `pef show`): upper-case hex, sixteen bytes a line. Our own form.
 use Rattle.std.specs.Prelude.{ℕ, zero, suc, ◌+◌, ◌/◌, ◌%◌, List, [], ◌∷◌, ◌++◌, nat_lt, length, take, drop, if◌then◌else◌}
 use Rattle.byteorder.specs.Endian.{big_bytes}
 

@@ -1,4 +1,4 @@
--- What is printed of a prepared fragment.
+-- What is printed of a prepared fragment (README, `pef show`).
 use Rattle.std.specs.Prelude.{ℕ, ◌+◌, List, [], ◌∷◌, ◌++◌, Option, None, Some, length, codes, decimal, unwrap_or}
 use Rattle.cfm_memory.specs.Instances.{Layout, bytes_at}
 use Rattle.cfm_memory.specs.declared.place.Place.{Place}

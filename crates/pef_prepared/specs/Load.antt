@@ -1,6 +1,6 @@
--- What `load NAME=FILE ..` answers: it reads the files, in the order of the words, before it looks at any; then it
--- prepares the fragment of the first name in a store of all, and prints the memory of its closure. No other call is
--- made on files.
+-- What `load NAME=FILE ..` answers (README): it reads the files, in the order of the words, before it looks at any;
+-- then it prepares the fragment of the first name in a store of all, and prints the memory of its closure. No other
+-- call is made on files.
 use Rattle.std.specs.Prelude.{◌≡◌, ◌⊎◌, ℕ, ◌<◌, List, [], ◌∷◌, ◌++◌, Ok, Err, length, take}
 use Rattle.cfm_libraries.specs.Stores.{Pair}
 use Rattle.cfm_prepare.specs.Contexts.{State, fresh_state}

@@ -1,6 +1,6 @@
--- What is printed of a connection in a context: its fragments in closure order, each with its sections; then the
--- initialization routines in the order in which they would run, the main entry, and the termination routines in the
--- reverse order.
+-- What is printed of a connection in a context (README, `pef load`): its fragments in closure order, each with its
+-- sections; then the initialization routines in the order in which they would run, the main entry, and the termination
+-- routines in the reverse order.
 use Rattle.std.specs.Prelude.{ℕ, List, [], ◌∷◌, ◌++◌, Option, codes, map, slice_get}
 use Rattle.std.specs.Option.{option_and_then, option_map_or}
 use Rattle.cfm_prepare.specs.Contexts.{State, open_of}

@@ -1,4 +1,5 @@
--- What `show` answers: it reads the whole input, and shows the memory that its script describes.
+-- What `show` answers (README; docs/RULES.md, "A fragment alone"): it reads the whole input, and shows the memory that
+-- its script describes.
 use Rattle.std.specs.Prelude.{◌≡◌, ℕ, ◌≤◌, List, [], ◌∷◌, Some, Ok, Err, codes, length}
 use Rattle.cfm_libraries.specs.Faults.{Fails}
 use Rattle.cfm_libraries.specs.Stores.{Pair}

@@ -1,4 +1,4 @@
--- Which words are which command, where none begins with `-`.
+-- Which words are which command, where none begins with `-` (README, "The commands").
 use Rattle.std.specs.Prelude.{◌≢◌, ℕ, ⊤, List, [], ◌∷◌, length, nat_le, Option, None, Some, codes, if◌then◌else◌, option_map}
 use Rattle.std.specs.Str.{bytes_eq}
 use Rattle.pef_request.specs.Files.{named_files}

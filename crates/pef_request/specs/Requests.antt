@@ -1,4 +1,4 @@
--- What a command line can ask for.
+-- What a command line can ask for (README, "The commands").
 use Rattle.std.specs.Prelude.{◌≡◌, ℕ, ⊤, List, map, Option, None, Some, Result, Ok, Err}
 use Rattle.pef_request.specs.declared.files.NamedFile.{NamedFile}
 use Rattle.pef_request.specs.declared.command_line.Request.{Request}

@@ -1,5 +1,5 @@
--- What `distances SCRIPT` answers: it reads SCRIPT, links it, and prints the certificates of its sections. No other call is
--- made on files: the container isn't written.
+-- What `distances SCRIPT` answers (README): it reads SCRIPT, links it, and prints the certificates of its sections. No
+-- other call is made on files: the container isn't written.
 use Rattle.std.specs.Prelude.{◌≡◌, ◌⊎◌, ℕ, List, Result, Ok, Err, map}
 use Rattle.pef_cert.specs.Valid.{Certified}
 use Rattle.pef_cert_text.specs.Printed.{certificates_text}

@@ -1,5 +1,5 @@
--- What `link SCRIPT OUT` answers: it reads SCRIPT, links it, and writes its whole container to OUT. No other call is
--- made on files.
+-- What `link SCRIPT OUT` answers (README): it reads SCRIPT, links it, and writes its whole container to OUT. No other
+-- call is made on files.
 use Rattle.std.specs.Prelude.{◌≡◌, ◌⊎◌, ℕ, ◌+◌, List, [], ◌∷◌, ◌++◌, Result, Ok, Err, codes, decimal, length}
 use Rattle.pef_ports.specs.Ports.{FilesPort, Reads, Writes}
 use Rattle.pef_ports.specs.declared.ports.FileFault.{FileFault}

@@ -1,5 +1,5 @@
--- What `list FILE` answers: it reads FILE, and prints the listing of the container that it is. No other call is made on
--- files, and nothing is printed of a container of which a part is refused.
+-- What `list FILE` answers (README): it reads FILE, and prints the listing of the container that it is. No other call
+-- is made on files, and nothing is printed of a container of which a part is refused.
 use Rattle.std.specs.Prelude.{◌≡◌, ◌⊎◌, ℕ, List, Result, Ok, Err}
 use Rattle.pef_listing.specs.Listed.{Parts, listed_of}
 use Rattle.pef_listing.specs.Listing.{listing_text}
