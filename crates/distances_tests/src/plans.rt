@@ -44,7 +44,7 @@ fn test_plans(
     text: &[u8],
     certificates: &[Certificate],
 ) -> Result<(), Fail> {
-    let script = Script::read(alloc, text)?;
+    let script = pef_script_text::read(alloc, text)?;
     for (k, certificate) in certificates.iter().enumerate() {
         assert_eq!(rt; certificate.section() as usize, k);
         let planned = planned(rt, alloc, &script, certificate.section())?;

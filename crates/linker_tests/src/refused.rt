@@ -36,6 +36,6 @@ fn link_again(
 #[test]
 fn linked_again(rt: HostRuntime) -> Result<(), Fail> {
     let alloc = rt.alloc();
-    let script = Script::read(alloc, VECTORS)?;
+    let script = pef_script_text::read(alloc, VECTORS)?;
     link_again(&rt, alloc, &script, VECTORS_LEAST)
 }

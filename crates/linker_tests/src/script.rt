@@ -7,7 +7,7 @@ use test_data::limits::{Spaced, at_all_limits, push_fixups};
 
 /// The number and the line of a refusal, or `None` where the text is read.
 fn refusal(alloc: Global, text: &str) -> Option<(u32, usize)> {
-    match Script::read(alloc, text.as_bytes()) {
+    match pef_script_text::read(alloc, text.as_bytes()) {
         Ok(_) => None,
         Err(fault) => Some((fault.number(), fault.line().unwrap_or(0))),
     }
@@ -241,7 +241,7 @@ fn has_entries(script: &Script) -> bool {
 
 #[test]
 fn parts(rt: HostRuntime) -> Result<(), Fail> {
-    let script = Script::read(rt.alloc(), EVERY_LINE.as_bytes())?;
+    let script = pef_script_text::read(rt.alloc(), EVERY_LINE.as_bytes())?;
     assert!(rt; has_tables(&script));
     assert!(rt; has_sections(&script));
     assert!(rt; has_entries(&script));
@@ -340,7 +340,7 @@ fn read_most_fixups(rt: HostRuntime) -> Result<(), Fail> {
 #[test]
 fn read_most_of_all(rt: HostRuntime) -> Result<(), Fail> {
     let text = at_all_limits(rt.alloc())?;
-    let script = Script::read(rt.alloc(), text.as_bytes())?;
+    let script = pef_script_text::read(rt.alloc(), text.as_bytes())?;
     assert_eq!(rt; counts(&script), (4096, 65_536, 8, 16_383));
     assert_eq!(rt; script.fixups(7).map_or(0, |fixups| fixups.len()), 16_384);
     Ok(())

@@ -17,8 +17,8 @@ use Rattle.pef_pidata.specs.declared.fault.PackFault.TheVariants as pack
 use Rattle.pef_reloc.specs.Faults as relocs
 use Rattle.pef_reloc.specs.declared.fault.RelocFault.{RelocFault}
 use Rattle.pef_reloc.specs.declared.fault.RelocFault.TheVariants as reloc
-use Rattle.pef_script.specs.declared.fault.LineFault.{LineFault}
-use Rattle.pef_script.specs.declared.fault.LineFault.TheVariants as script
+use Rattle.pef_script_text.specs.declared.fault.LineFault.{LineFault}
+use Rattle.pef_script_text.specs.declared.fault.LineFault.TheVariants as script
 use Rattle.pef_views.specs.Faults as views
 use Rattle.pef_views.specs.declared.fault.ViewFault.{ViewFault}
 use Rattle.pef_views.specs.declared.fault.ViewFault.TheVariants as view

@@ -11,7 +11,7 @@ use Rattle.pef_cert_text.specs.Faults as cert
 use Rattle.pef_cert_text.specs.declared.fault.CertFault.TheVariants as cert_fault
 use Rattle.pef_listing.specs.Faults as listing
 use Rattle.pef_ports.specs.Names.{name_text}
-use Rattle.pef_script.specs.Faults as script
+use Rattle.pef_script_text.specs.Faults as script
 use Rattle.pef_answers.specs.declared.refusal.FileRefusal.{FileRefusal}
 use Rattle.pef_answers.specs.declared.refusal.FileRefusal.TheVariants.{Unreadable, Unwritable}
 use Rattle.pef_answers.specs.declared.refusal.Refusal.{Refusal}

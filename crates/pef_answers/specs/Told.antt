@@ -3,8 +3,8 @@ use Rattle.pef_cert_text.specs.declared.fault.CertFault.{CertFault}
 use Rattle.pef_cert_text.specs.declared.fault.CertFault.TheVariants as cert_fault
 use Rattle.pef_ports.specs.declared.input.InputFault.{InputFault}
 use Rattle.pef_ports.specs.declared.input.InputFault.TheVariants as input_fault
-use Rattle.pef_script.specs.declared.fault.ScriptFault.{ScriptFault}
-use Rattle.pef_script.specs.declared.fault.ScriptFault.TheVariants as script_fault
+use Rattle.pef_script_text.specs.declared.fault.ScriptFault.{ScriptFault}
+use Rattle.pef_script_text.specs.declared.fault.ScriptFault.TheVariants as script_fault
 use Rattle.pef_answers.specs.declared.refusal.Refusal.{Refusal}
 use Rattle.pef_answers.specs.declared.refusal.Refusal.TheVariants as refusal
 

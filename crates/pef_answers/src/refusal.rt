@@ -11,7 +11,7 @@ use pef_listing::ListFault;
 use pef_ports::{
     InputFault, Line, Page, Sink, StreamFault, print_name, push_number, push_text, send,
 };
-use pef_script::{LineFault, ScriptFault};
+use pef_script_text::{LineFault, ScriptFault};
 
 /// Why a run is refused.
 #[derive(Clone, Copy, Debug, PartialEq, Eq)]

@@ -7,11 +7,11 @@ use Rattle.pef_ports.specs.Input.{ReadsInput}
 use Rattle.pef_ports.specs.Ports.{Stream}
 use Rattle.pef_ports.specs.declared.input.InputFault.{InputFault}
 use Rattle.pef_ports.specs.declared.input.InputFault.TheVariants.{Unreadable, TooLong, OutOfMemory}
-use Rattle.pef_script.specs.Grammar.{script_of}
+use Rattle.pef_script_text.specs.Grammar.{script_of}
 use Rattle.pef_script.specs.Script.{DescribedScript}
-use Rattle.pef_script.specs.Views.{Fails}
-use Rattle.pef_script.specs.declared.fault.ScriptFault.{ScriptFault}
-use Rattle.pef_script.specs.declared.fault.ScriptFault.TheVariants as script_fault
+use Rattle.pef_script_text.specs.Reads.{Fails}
+use Rattle.pef_script_text.specs.declared.fault.ScriptFault.{ScriptFault}
+use Rattle.pef_script_text.specs.declared.fault.ScriptFault.TheVariants as script_fault
 use Rattle.pef_prepared.specs.Kept.Showing.{ScriptEnds}
 use Rattle.pef_prepared.specs.Limits.{input_limit}
 use Rattle.pef_prepared.specs.Show.{ShowEnds, ShowOutcome, refuses, shows, unbound}

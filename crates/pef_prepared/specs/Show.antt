@@ -19,9 +19,9 @@ use Rattle.pef_answers.specs.declared.refusal.Refusal.{Refusal}
 use Rattle.pef_answers.specs.declared.refusal.Refusal.TheVariants.{Script, InputUnreadable, InputTooLong, OutOfMemory}
 use Rattle.pef_ports.specs.Input.{IsLonger, IsWhole, WasReadWithin}
 use Rattle.pef_ports.specs.Ports.{Stream, LastFailed, NoneFailed}
-use Rattle.pef_script.specs.Grammar.{script_of}
+use Rattle.pef_script_text.specs.Grammar.{script_of}
 use Rattle.pef_script.specs.Script.{DescribedScript}
-use Rattle.pef_script.specs.declared.fault.LineFault.{LineFault}
+use Rattle.pef_script_text.specs.declared.fault.LineFault.{LineFault}
 use Rattle.pef_prepared.specs.Limits.{input_limit, memory_limit}
 use Rattle.pef_prepared.specs.Loaded.{entries_in, init_order_in, loaded_text, main_in, name_in, order_in}
 use Rattle.pef_prepared.specs.Now.{IsDescribedNow}

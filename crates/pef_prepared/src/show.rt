@@ -24,7 +24,7 @@ pub fn show_input<R: Source, W: Sink>(alloc: Global, input: &mut R, out: &mut W)
         Ok(text) => text,
         Err(fault) => return deliver(out, &input_refusal(fault)),
     };
-    match Script::read(alloc, text.as_slice()) {
+    match pef_script_text::read(alloc, text.as_slice()) {
         Ok(script) => show_script(alloc, &script, out),
         Err(fault) => deliver(out, &script_refusal(fault)),
     }

@@ -1,10 +1,2 @@
 pub mod Laws
 mod Described
-mod Ends
-mod Growing
-mod Holds
-mod Leads
-mod LineLemmas
-mod ListLemmas
-mod TableLemmas
-mod WordLemmas

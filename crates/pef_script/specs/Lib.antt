@@ -1,14 +1,6 @@
-pub mod Contents
-pub mod Declarations
 pub mod Described
-pub mod Exports
-pub mod Faults
-pub mod Grammar
-pub mod Kept
 pub mod Limits
 pub mod Parts
 pub mod Script
-pub mod SoFar
 pub mod Views
 pub mod WellFormed
-pub mod Words

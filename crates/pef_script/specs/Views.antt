@@ -1,14 +1,9 @@
--- What the code's types show of a script, without places in memory, and what an answer of `Script::read`
--- says.
-use Rattle.std.specs.Prelude.{◌≡◌, Result, Ok, Err}
-use Rattle.pef_script.specs.declared.fault.ScriptFault.{ScriptFault}
-use Rattle.pef_script.specs.declared.fault.ScriptFault.TheVariants as fault
+-- What the code's types show of a script, without places in memory.
 use Rattle.pef_script.specs.declared.parts.Export.{Export}
 use Rattle.pef_script.specs.declared.parts.Import.{Import}
 use Rattle.pef_script.specs.declared.parts.Library.{Library}
 use Rattle.pef_script.specs.declared.parts.SectionHeader.{SectionHeader}
-use Rattle.pef_script.specs.Script.{DescribedExport, DescribedHeader, DescribedImport, DescribedLibrary, DescribedScript}
-use Rattle.pef_script.specs.Grammar.{Refusal}
+use Rattle.pef_script.specs.Script.{DescribedExport, DescribedHeader, DescribedImport, DescribedLibrary}
 
 abbrev pub header_in : SectionHeader → DescribedHeader
 header_in h = record { name = h.name.now; kind = h.kind; share = h.share; align = h.align; total = h.total }
@@ -21,13 +16,3 @@ import_in i = record { name = i.name.now; class = i.class; weak = i.weak; librar
 
 abbrev pub export_in : Export → DescribedExport
 export_in e = record { name = e.name.now; class = e.class; section = e.section; value = e.value }
-
--- an answer is the one that was wanted, where there was memory for it
-
-abbrev pub Fails : ScriptFault → Result DescribedScript Refusal → Type 0
-Fails (fault.Refused what line) wanted = wanted ≡ Err (record { fault = what; line = line })
-Fails fault.OutOfMemory wanted = Unit {0}
-
-abbrev pub Reads : Result DescribedScript ScriptFault → Result DescribedScript Refusal → Type 0
-Reads (Ok script) wanted = wanted ≡ Ok script
-Reads (Err failed) wanted = Fails failed wanted

@@ -1,23 +1,15 @@
-//! Link scripts: the lines of a script, read from text into the parts that a container is made of.
+//! Link scripts: what a container is made of, and the memory that this describes.
 //!
-//! [`Script::read`] takes the text; what it refuses is a [`ScriptFault`] with the number of its line.
+//! A [`Script`] keeps the limits, and has everything in its place. Its text is read by the crate `pef_script_text`.
 #![tactic(auto)]
 
-mod contents;
-mod declarations;
-mod exports;
-mod fault;
-mod kinds;
-mod limits;
-mod numbers;
 mod parts;
-mod reader;
 mod script;
-mod tables;
 mod theorems;
-mod words;
 
-pub use fault::{LineFault, ScriptFault};
-pub use parts::{Export, Import, Library, SectionHeader, Versions};
+pub use parts::{
+    Export, ExportData, Import, ImportData, Library, LibraryData, Parts, Section, SectionHeader,
+    Versions,
+};
 pub use script::Script;
-pub use theorems::{described_bytes, scripts_hold};
+pub use theorems::described_bytes;

@@ -4,9 +4,7 @@ ghost use Rattle.pef_reloc.specs.Limits.{most_imports, most_sections};
 ghost use Rattle.pef_script.specs.Limits.{most_libraries};
 
 use indexmap::IndexMap;
-use pef_lines::Pairs;
-use pef_reloc::{Fixup, WORD};
-use std::alloc::AllocError;
+use pef_reloc::Fixup;
 use std::marker::Model;
 
 /// The versions of a container.
@@ -109,37 +107,7 @@ impl<'a> Model for Section<'a> {
     } };
 }
 
-impl<'a> Section<'a> {
-    ghost use Rattle.std.specs.Prelude.{◌≡◌, OnOk};
-    ghost use Rattle.pef_reloc.specs.Fixups.{fixups_end};
-    ghost use Rattle.pef_script.specs.Contents.{with_fixups, with_image};
-
-    /// Where the last fixup's word ends, and 0 without fixups.
-    pub fn fixups_end(&self) -> u64
-        ensures { result ≡ fixups_end 0 self.now.fixups }
-    {
-        match self.fixups.last().copied() {
-            Some(fixup) => u64::from(fixup.offset) + u64::from(WORD),
-            None => 0,
-        }
-    }
-
-    /// Appends the bytes that pairs of hex digits spell to the image.
-    pub fn append(&mut self, pairs: Pairs) -> Result<(), AllocError>
-        ensures { OnOk result (self.new ≡ with_image self.old pairs.entry) }
-    {
-        pairs.append_to(&mut self.image)
-    }
-
-    /// Appends fixups, which come behind those that are there.
-    pub fn add_fixups(&mut self, fixups: &[Fixup]) -> Result<(), AllocError>
-        ensures { OnOk result (self.new ≡ with_fixups self.old fixups.now) }
-    {
-        self.fixups.extend_from_slice(fixups)
-    }
-}
-
-/// What was read of a script. Libraries, imports and exports are numbered as their names came.
+/// The parts of a script. Libraries, imports and exports are numbered as their names came.
 #[derive(Drop)]
 pub struct Parts<'a> {
     pub versions: Versions,

@@ -1,18 +1,12 @@
 ghost use Rattle.std.specs.Prelude.{◌≡◌, IfSome, length, option_map, slice_get, true};
 ghost use Rattle.std.specs.Option.{option_copied};
 ghost use Rattle.pef_reloc.specs.Fixups.{fixups_fit};
-ghost use Rattle.pef_script.specs.Grammar.{script_of};
-ghost use Rattle.pef_words.specs.Refusals.{result_map};
 ghost use Rattle.pef_script.specs.Parts.{script_in};
-ghost use Rattle.pef_script.specs.Views.{Reads, export_in, header_in, import_in, library_in};
+ghost use Rattle.pef_script.specs.Views.{export_in, header_in, import_in, library_in};
 ghost use Rattle.pef_script.specs.WellFormed.{ScriptHolds};
 
-use crate::ScriptFault;
-use crate::parts::{Export, Import, Library, Parts, SectionHeader, Versions};
-use crate::reader::Reader;
-use pef_lines::{LINE_FEED, cut_at};
+use crate::{Export, Import, Library, Parts, SectionHeader, Versions};
 use pef_reloc::Fixup;
-use std::alloc::Global;
 use std::marker::Model;
 
 /// A link script: what a container is made of. Names are borrowed from the text.
@@ -34,15 +28,12 @@ impl<'a> Model for Script<'a> {
 }
 
 impl<'a> Script<'a> {
-    /// Reads a script.
-    ///
-    /// # Errors
-    /// The first fault of the first line that has one, or that a growth of memory was refused.
-    pub fn read(alloc: Global, text: &'a [u8]) -> Result<Script<'a>, ScriptFault>
-        ensures { Reads result (script_of text.entry.now) }
+    /// The script of some parts that keep the limits, have names apart and have everything in its place.
+    pub fn new(parts: Parts<'a>) -> Script<'a>
+        requires { ScriptHolds (script_in parts.entry) }
+        ensures { result ≡ script_in parts.entry }
     {
-        let parts = read_parts(alloc, text)?;
-        Ok(Script { parts })
+        Script { parts }
     }
 
     /// The versions of the container: 0, 0 and 0 without a line for them.
@@ -168,20 +159,4 @@ impl<'a> Script<'a> {
     {
         self.parts.term
     }
-}
-
-/// Reads the lines of a script.
-fn read_parts<'a>(alloc: Global, text: &'a [u8]) -> Result<Parts<'a>, ScriptFault>
-    ensures { Reads (result_map script_in result) (script_of text.entry.now) }
-{
-    let mut reader = Reader::new(alloc);
-    let mut rest = text;
-    let mut number: usize = 1;
-    'lines: while let Some((line, behind)) = cut_at(LINE_FEED, rest) {
-        reader.read_numbered(line, number)?;
-        rest = behind;
-        number += 1;
-    }
-    reader.read_numbered(rest, number)?;
-    Ok(reader.into_parts())
 }

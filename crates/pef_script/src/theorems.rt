@@ -1,18 +1,12 @@
 //! Laws of the definitions, for whoever speaks of scripts. The functions do nothing.
-ghost use Rattle.std.specs.Prelude.{◌≡◌, ◌<◌, ◌+◌, ◌%◌, ◌^◌, ℕ, List, Ok, Some, length, take, drop, slice_get, unwrap_or};
+ghost use Rattle.std.specs.Prelude.{◌≡◌, ◌<◌, ◌+◌, ◌%◌, ◌^◌, ℕ, Some, length, take, drop, slice_get, unwrap_or};
 ghost use Rattle.byteorder.specs.Endian.{big_bytes, big_number};
 ghost use Rattle.pef_words.specs.Bytes.{filled};
 ghost use Rattle.pef_reloc.specs.declared.fixup.Base.{Base};
 ghost use Rattle.pef_reloc.specs.declared.fixup.Fixup.{Fixup};
 ghost use Rattle.pef_script.specs.Described.{IsOutside, described_memory};
-ghost use Rattle.pef_script.specs.Grammar.{script_of};
-ghost use Rattle.pef_script.specs.Script.{DescribedScript, DescribedSection};
-ghost use Rattle.pef_script.specs.WellFormed.{ScriptHolds, SectionHolds};
-
-/// Every script that the grammar gives keeps the limits, and has names apart and everything in its place.
-pub fn scripts_hold()
-    ensures { (text : List ℕ) (s : DescribedScript) → script_of text ≡ Ok s → ScriptHolds s }
-{}
+ghost use Rattle.pef_script.specs.Script.{DescribedSection};
+ghost use Rattle.pef_script.specs.WellFormed.{SectionHolds};
 
 /// The memory that a script describes, byte by byte: a section has its bytes in all; outside fixups they
 /// are the image's, and 0 past the image; at a fixup they spell the word that would stand there plus the

@@ -7,8 +7,8 @@ use Rattle.pef_cert_text.specs.Printed.{Printable, certificates_text}
 use Rattle.pef_cert_text.proofs.Laws.{reads_back, valid_prints}
 use Rattle.pef_ports.specs.Ports.{FilesPort, Reads}
 use Rattle.pef_reloc.specs.Instrs.{program_length}
-use Rattle.pef_script.specs.Grammar as grammar
-use Rattle.pef_script.specs.Grammar.{script_of}
+use Rattle.pef_script_text.specs.Grammar as grammar
+use Rattle.pef_script_text.specs.Grammar.{script_of}
 use Rattle.pef_script.specs.Script.{DescribedScript, DescribedSection}
 use Rattle.pef_script.specs.WellFormed.{SectionHolds}
 use Rattle.pef_words.proofs.Laws.Tests.{both_met}

@@ -2,10 +2,10 @@
 use Rattle.std.proofs.Common.{◌≡◌, List, [], ℕ, Option, None, Some, Ok, refl, sym, ap, ◌∙◌, inl, inr, arith}
 use Rattle.pef_ports.specs.Ports.{Begins, FilesPort, Reads, Stream}
 use Rattle.pef_request.specs.Requests.{Asked, check, distances, link, list, load, show}
-use Rattle.pef_script.specs.Grammar.{script_of}
-use Rattle.pef_script.specs.Views.{Fails}
-use Rattle.pef_script.specs.declared.fault.ScriptFault.{ScriptFault}
-use Rattle.pef_script.specs.declared.fault.ScriptFault.TheVariants as script_fault
+use Rattle.pef_script_text.specs.Grammar.{script_of}
+use Rattle.pef_script_text.specs.Reads.{Fails}
+use Rattle.pef_script_text.specs.declared.fault.ScriptFault.{ScriptFault}
+use Rattle.pef_script_text.specs.declared.fault.ScriptFault.TheVariants as script_fault
 use Rattle.pef_answers.specs.Answers.{answer_refused}
 use Rattle.pef_answers.specs.Told.{script_refusal}
 use Rattle.pef_answers.specs.Refusals.{refusal_text}

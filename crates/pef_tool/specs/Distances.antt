@@ -6,7 +6,7 @@ use Rattle.pef_cert_text.specs.Printed.{certificates_text}
 use Rattle.pef_ports.specs.Ports.{FilesPort, Reads}
 use Rattle.pef_ports.specs.declared.ports.FileFault.TheVariants as file_fault
 use Rattle.pef_reloc.specs.Instrs.{program_length}
-use Rattle.pef_script.specs.Grammar.{script_of}
+use Rattle.pef_script_text.specs.Grammar.{script_of}
 use Rattle.pef_script.specs.Script.{DescribedScript}
 use Rattle.pef_answers.specs.Answers.{Answer, answer_done, answer_refused}
 use Rattle.pef_tool.specs.Link.{RefusesFile}

@@ -4,7 +4,6 @@ ghost use Rattle.pef_tool.specs.Distances.{DistancesAnswers};
 use pef_answers::{DONE, FileRefusal, Refusal, Reply, deliver, script_refusal};
 use pef_cert_text::print;
 use pef_ports::{FileFault, Files, Page, Sink, StreamFault, send};
-use pef_script::Script;
 use pef_write::link;
 use std::alloc::Global;
 
@@ -28,7 +27,7 @@ pub fn print_distances<F: Files, W: Sink>(
         Err(FileFault::Failed) => return deliver(out, &FileRefusal::Unreadable(script)),
         Err(FileFault::OutOfMemory) => return deliver(out, &Refusal::OutOfMemory),
     };
-    let read = match Script::read(alloc, text.as_slice()) {
+    let read = match pef_script_text::read(alloc, text.as_slice()) {
         Ok(read) => read,
         Err(fault) => return deliver(out, &script_refusal(fault)),
     };

@@ -1,7 +1,7 @@
 //! A law of two commands. Its function does nothing.
 ghost use Rattle.std.specs.Prelude.{◌≡◌, List, Result, Ok};
 ghost use Rattle.pef_cert_text.specs.Printed.{certificates_text};
-ghost use Rattle.pef_script.specs.Grammar.{script_of};
+ghost use Rattle.pef_script_text.specs.Grammar.{script_of};
 ghost use Rattle.pef_script.specs.Script.{DescribedScript};
 ghost use Rattle.pef_verdicts.specs.Check.{Judges, Texts};
 ghost use Rattle.pef_tool.specs.Distances.{IsYesToAll};

@@ -10,10 +10,10 @@ use Rattle.pef_cert_text.specs.declared.fault.CertFault.{CertFault}
 use Rattle.pef_cert_text.specs.declared.fault.CertFault.TheVariants as cert_fault
 use Rattle.pef_ports.specs.Ports.{FilesPort, Reads}
 use Rattle.pef_ports.specs.declared.ports.FileFault.{FileFault}
-use Rattle.pef_script.specs.Grammar.{script_of}
-use Rattle.pef_script.specs.Views.{Fails}
-use Rattle.pef_script.specs.declared.fault.ScriptFault.{ScriptFault}
-use Rattle.pef_script.specs.declared.fault.ScriptFault.TheVariants as script_fault
+use Rattle.pef_script_text.specs.Grammar.{script_of}
+use Rattle.pef_script_text.specs.Reads.{Fails}
+use Rattle.pef_script_text.specs.declared.fault.ScriptFault.{ScriptFault}
+use Rattle.pef_script_text.specs.declared.fault.ScriptFault.TheVariants as script_fault
 use Rattle.pef_verdicts.specs.Check.{AreVerdicts, DiffersInSections, HasVerdicts, IsVerdict, Judges, JudgesFiles, ReadsSecond, Texts, match_sections}
 use Rattle.pef_answers.specs.Told.{certificate_refusal, script_refusal}
 use Rattle.pef_answers.specs.declared.refusal.Refusal.{Refusal}

@@ -8,7 +8,7 @@ use Rattle.pef_ports.specs.declared.ports.FileFault.{FileFault}
 use Rattle.pef_ports.specs.declared.ports.FileFault.TheVariants as file_fault
 use Rattle.pef_reloc.specs.Instrs.{program_length}
 use Rattle.pef_reloc.specs.declared.fixup.Fixup.{Fixup}
-use Rattle.pef_script.specs.Grammar.{script_of}
+use Rattle.pef_script_text.specs.Grammar.{script_of}
 use Rattle.pef_script.specs.Script.{DescribedScript, DescribedSection}
 use Rattle.pef_answers.specs.Answers.{Answer, answer_refused}
 use Rattle.pef_answers.specs.Refusals.{refusal_text, unreadable_text}

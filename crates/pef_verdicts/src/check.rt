@@ -64,7 +64,7 @@ pub fn check_files<F: Files, W: Sink>(
 fn check_texts(alloc: Global, script: &[u8], certificates: &[u8]) -> Result<Verdicts, Refusal>
     ensures { Judges (record { script = script.now; certificates = certificates.now }) (result_map (λ v. v.verdicts.items) result) }
 {
-    let script = match Script::read(alloc, script) {
+    let script = match pef_script_text::read(alloc, script) {
         Ok(script) => script,
         Err(fault) => return Err(script_refusal(fault)),
     };

@@ -18,7 +18,7 @@ use Rattle.pef_reloc.specs.declared.instr.Instr.{Instr}
 use Rattle.pef_reloc.specs.Instrs.{spelled}
 use Rattle.pef_script.specs.Script.{DescribedExport, DescribedImport, DescribedLibrary, DescribedScript, DescribedSection}
 use Rattle.pef_script.specs.Script.{export_names}
-use Rattle.pef_script.specs.Words.{is_printing}
+use Rattle.pef_lines.specs.Words.{is_printing}
 use Rattle.pef_script.specs.WellFormed.{EntryHolds, ExportHolds, ImportHolds, LibraryHolds, Rises, ScriptHolds, SignedPlaceHolds, totals_of}
 use Rattle.pef_words.proofs.Laws.Lists.{all-at, all-get}
 use Rattle.pef_words.proofs.Laws.Tests.{met_both}

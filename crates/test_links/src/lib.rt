@@ -5,14 +5,13 @@
 pub mod fragments;
 
 use cfm_closure::BindFault;
-use pef_script::Script;
 use pef_write::{Linked, link};
 use std::alloc::{AllocError, Global};
 use std::test::Fail;
 
 /// Links a script.
 pub fn link_text(alloc: Global, text: &[u8]) -> Result<Linked, Fail> {
-    let script = Script::read(alloc, text)?;
+    let script = pef_script_text::read(alloc, text)?;
     Ok(link(alloc, &script)?)
 }
 

@@ -1,0 +1,134 @@
+-- What is known of words that were read.
+use Rattle.std.proofs.Common.{◌≡◌, ℕ, ◌+◌, ◌<◌, ◌≤◌, ◌==◌, not, Bool, true, false, cond, List, [], ◌∷◌, Option, None, Some, Result, Ok, Err, length, refl, arith}
+use Rattle.std.specs.Prelude.{codes, nat_lt}
+use Rattle.std.specs.Option.{ok_or}
+use Rattle.std.specs.List.{list_all}
+use Rattle.std.specs.Str.{bytes_eq}
+use Rattle.std.proofs.lemmas.Bool.{ltb-false, ltb-true}
+use Rattle.std.proofs.lemmas.List.{length-map}
+use Rattle.pef_reloc.specs.declared.fixup.Base.{Base}
+use Rattle.pef_reloc.specs.declared.fixup.Base.TheVariants as base
+use Rattle.pef_words.proofs.Laws.Tests.{met_both}
+use Rattle.pef_script_text.specs.declared.fault.LineFault.{LineFault}
+use Rattle.pef_script_text.specs.declared.fault.LineFault.TheVariants.{BadLine, BadNumber, UnknownName, BadKind}
+use Rattle.pef_lines.specs.Lines.{cut_at}
+use Rattle.pef_lines.specs.Numbers.{below}
+use Rattle.pef_lines.specs.Words.{is_word, is_printing, word_before}
+use Rattle.pef_lines.specs.Words as words
+use Rattle.pef_script_text.specs.Words.{named, next_name, next_word, number_in, number_up_to}
+use Rattle.pef_script.specs.Limits.{longest_name}
+use Rattle.pef_script.specs.Script.{import_names, section_names}
+use Rattle.pef_script_text.specs.SoFar.{ScriptSoFar, number_of_name, section_named}
+use Rattle.pef_script_text.specs.Declarations.{class_of, kind_of, options_of, share_of}
+use Rattle.pef_script_text.specs.Contents.{base_named, import_named}
+use Rattle.pef_script.specs.WellFormed.{BaseThere, IsName, is_kind, is_options, is_share}
+use Rattle.pef_script_text.proofs.Leads.{Leads, leads_if, leads_then, led}
+use Rattle.pef_script_text.proofs.ListLemmas.{position_from-under}
+
+word_before-is : (cut : Option (List ℕ × List ℕ)) → Leads (λ p. is_word p.0 ≡ true) (ok_or (word_before cut) BadLine)
+word_before-is None = tt
+word_before-is (Some p) = by (is_word p.0) refl
+  where
+    by : (b : Bool) → is_word p.0 ≡ b → Leads (λ (q : List ℕ × List ℕ). is_word q.0 ≡ true) (ok_or (cond b (Some p) None) BadLine)
+    by true is = is
+    by false isnt = tt
+
+-- a word that is not too long is a name
+name_if : (word : List ℕ) → is_word word ≡ true → length word ≤ longest_name → IsName word
+name_if [] is most = absurd (cc)
+name_if (b ∷ bytes) is most = record { least = omega arith; most = most; bytes = (met_both (not (length (b ∷ bytes) == 0)) (list_all is_printing (b ∷ bytes)) is).1 }
+
+named-is : (r : Result (List ℕ × List ℕ) LineFault) → Leads (λ p. is_word p.0 ≡ true) r → Leads (λ p. IsName p.0) (named (λ p. p.0) r)
+named-is (Err fault) word = tt
+named-is (Ok p) word = leads_if (λ (q : List ℕ × List ℕ). IsName q.0) (nat_lt longest_name (length p.0)) (Err BadLine) (Ok p) (λ over. tt) (λ within. name_if p.0 word (ltb-false _ _ within))
+
+pub next_name-is : (line : List ℕ) (p : List ℕ × List ℕ) → next_name line ≡ Ok p → IsName p.0
+unfolding next_name next_word words.next_word
+next_name-is line p is = led (λ (q : List ℕ × List ℕ). IsName q.0) (next_name line) p is (named-is (next_word line) (word_before-is (cut_at 0x20 line)))
+
+pub number_up_to-is : (greatest : ℕ) (word : List ℕ) (n : ℕ) → number_up_to greatest word ≡ Ok n → n ≤ greatest
+unfolding number_up_to
+number_up_to-is greatest word n is = led (λ m. m ≤ greatest) (number_up_to greatest word) n is (by (number_in word))
+  where
+    by : (o : Option ℕ) → Leads (λ m. m ≤ greatest) (ok_or (below (greatest + 1) o) BadNumber)
+    by None = tt
+    by (Some m) = inside (nat_lt m (greatest + 1)) refl
+      where
+        inside : (b : Bool) → nat_lt m (greatest + 1) ≡ b → Leads (λ m. m ≤ greatest) (ok_or (cond b (Some m) None) BadNumber)
+        inside true is = (let under = ltb-true m (greatest + 1) is in omega (arith, under))
+        inside false is = tt
+
+-- numbers that tables have for words
+
+pub options_of-is : (word : List ℕ) (options : ℕ) → options_of word ≡ Ok options → is_options options ≡ true
+options_of-is word options is = led (λ o. is_options o ≡ true) (options_of word) options is
+    (by (bytes_eq word (codes "-")) (bytes_eq word (codes "weak")) (bytes_eq word (codes "before")) (bytes_eq word (codes "weak,before")))
+  where
+    by : (a b c d : Bool) → Leads (λ o. is_options o ≡ true) (ok_or (cond a (Some 0) (cond b (Some 0x40) (cond c (Some 0x80) (cond d (Some 0xC0) None)))) BadKind)
+    by true b c d = refl
+    by false true c d = refl
+    by false false true d = refl
+    by false false false true = refl
+    by false false false false = tt
+
+pub class_of-is : (word : List ℕ) (class : ℕ) → class_of word ≡ Ok class → class ≤ 4
+class_of-is word class is = led (λ n. n ≤ 4) (class_of word) class is
+    (by (bytes_eq word (codes "code")) (bytes_eq word (codes "data")) (bytes_eq word (codes "tvector")) (bytes_eq word (codes "toc")) (bytes_eq word (codes "glue")))
+  where
+    by : (a b c d e : Bool) → Leads (λ n. n ≤ 4) (ok_or (cond a (Some 0) (cond b (Some 1) (cond c (Some 2) (cond d (Some 3) (cond e (Some 4) None))))) BadKind)
+    by true b c d e = omega arith
+    by false true c d e = omega arith
+    by false false true d e = omega arith
+    by false false false true e = omega arith
+    by false false false false true = omega arith
+    by false false false false false = tt
+
+pub kind_of-is : (word : List ℕ) (kind : ℕ) → kind_of word ≡ Ok kind → is_kind kind ≡ true
+kind_of-is word kind is = led (λ k. is_kind k ≡ true) (kind_of word) kind is
+    (by (bytes_eq word (codes "code")) (bytes_eq word (codes "data")) (bytes_eq word (codes "const")) (bytes_eq word (codes "exec")))
+  where
+    by : (a b c d : Bool) → Leads (λ k. is_kind k ≡ true) (ok_or (cond a (Some 0) (cond b (Some 1) (cond c (Some 3) (cond d (Some 6) None)))) BadKind)
+    by true b c d = refl
+    by false true c d = refl
+    by false false true d = refl
+    by false false false true = refl
+    by false false false false = tt
+
+pub share_of-is : (word : List ℕ) (share : ℕ) → share_of word ≡ Ok share → is_share share ≡ true
+share_of-is word share is = led (λ k. is_share k ≡ true) (share_of word) share is
+    (by (bytes_eq word (codes "process")) (bytes_eq word (codes "global")) (bytes_eq word (codes "protected")))
+  where
+    by : (a b c : Bool) → Leads (λ k. is_share k ≡ true) (ok_or (cond a (Some 1) (cond b (Some 4) (cond c (Some 5) None))) BadKind)
+    by true b c = refl
+    by false true c = refl
+    by false false true = refl
+    by false false false = tt
+
+-- names that were found
+
+found_under : (names : List (List ℕ)) (name : List ℕ) (k : ℕ) → ok_or (number_of_name names name) UnknownName ≡ Ok k → k < length names
+found_under names name k is = by (number_of_name names name) refl is
+  where
+    by : (o : Option ℕ) → number_of_name names name ≡ o → ok_or o UnknownName ≡ Ok k → k < length names
+    by None found is = absurd (cc)
+    by (Some j) found is = (let e : j ≡ k = cc in let under = position_from-under (bytes_eq name) 0 names j found in omega (arith, under))
+
+pub section_named-is : (s : ScriptSoFar) (name : List ℕ) (k : ℕ) → section_named s name ≡ Ok k → k < length s.script.sections
+section_named-is s name k is =
+    let under = found_under (section_names s.script) name k is in
+    let count : length (section_names s.script) ≡ length s.script.sections = simp length-map in
+    omega (arith, under, count)
+
+import_named-is : (s : ScriptSoFar) (name : List ℕ) (j : ℕ) → import_named s name ≡ Ok j → j < length s.script.imports
+import_named-is s name j is =
+    let under = found_under (import_names s.script) name j is in
+    let count : length (import_names s.script) ≡ length s.script.imports = simp length-map in
+    omega (arith, under, count)
+
+pub base_named-is : (s : ScriptSoFar) (is_section : Bool) (name : List ℕ) (b : Base) → base_named s is_section name ≡ Ok b → BaseThere (length s.script.sections) (length s.script.imports) b
+base_named-is s true name b is =
+    let P : Base → Type 0 = BaseThere (length s.script.sections) (length s.script.imports) in
+    led P (base_named s true name) b is (leads_then P (section_named s name) (λ k. Ok (base.Section k)) (λ k found. section_named-is s name k found))
+base_named-is s false name b is =
+    let P : Base → Type 0 = BaseThere (length s.script.sections) (length s.script.imports) in
+    led P (base_named s false name) b is (leads_then P (import_named s name) (λ j. Ok (base.Import j)) (λ j found. import_named-is s name j found))

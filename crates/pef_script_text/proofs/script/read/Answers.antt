@@ -1,0 +1,7 @@
+-- What was read is a script that a text is.
+use Rattle.pef_script.specs.Parts.{script_in}
+use Rattle.pef_script_text.proofs.Holds.{script_of-holds}
+use Rattle.pef_script_text.proofs.script.read.Goals as goal
+
+pub invariant_of-result : goal.invariant_of-result
+invariant_of-result c = script_of-holds c.args.text.now (script_in c.in_ok-parts.parts) c.in_ok-parts.ensures

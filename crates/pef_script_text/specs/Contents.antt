@@ -1,0 +1,104 @@
+-- The lines that say what is in a section, each behind its first word (docs/SCRIPTS.md, "Lines"). They come
+-- section by section.
+use Rattle.std.specs.Prelude.{ℕ, true, false, ◌+◌, ◌*◌, ◌||◌, Bool, List, [], ◌∷◌, ◌++◌, Result, Ok, Err, length, codes, nat_lt, slice_set, if◌then◌else◌}
+use Rattle.std.specs.Option.{ok_or}
+use Rattle.std.specs.Str.{bytes_eq}
+use Rattle.pef_words.specs.Refusals.{first_met, unless}
+use Rattle.pef_words.specs.Results.{◌>>=◌}
+use Rattle.pef_reloc.specs.declared.fixup.Base.{Base}
+use Rattle.pef_reloc.specs.declared.fixup.Base.TheVariants as base
+use Rattle.pef_reloc.specs.declared.fixup.Fixup.{Fixup}
+use Rattle.pef_reloc.specs.Limits.{most_fixups}
+use Rattle.pef_reloc.specs.Fixups.{fixups_end}
+use Rattle.pef_script_text.specs.declared.fault.LineFault.{LineFault}
+use Rattle.pef_script_text.specs.declared.fault.LineFault.TheVariants.{UnknownName, OutOfOrder, Overlap, OutsideSection, TooMany, BadKind}
+use Rattle.pef_script.specs.Limits.{greatest_number}
+use Rattle.pef_script.specs.Script.{DescribedSection, import_names}
+use Rattle.pef_script_text.specs.SoFar.{ScriptSoFar, content_group, entered, number_of_name, section_at, section_named}
+use Rattle.pef_script_text.specs.Words.{next_word, last_word, next_name, last_name, number_up_to, image_of}
+
+-- section k is changed by a line
+abbrev pub with_contents : ScriptSoFar → ℕ → DescribedSection → ScriptSoFar
+with_contents s k section = record s {
+  reached = content_group;
+  section = k;
+  script = record s.script { sections = slice_set s.script.sections k section };
+}
+
+-- `bytes SECTION HEX`: more bytes of a section's image
+
+abbrev pub bytes_tests : ScriptSoFar → ℕ → ℕ → List (Bool × LineFault)
+bytes_tests s k count = (nat_lt k s.section, OutOfOrder)
+    ∷ (nat_lt (section_at s k).header.total (length (section_at s k).image + count), OutsideSection)
+    ∷ []
+
+abbrev pub with_image : DescribedSection → List ℕ → DescribedSection
+with_image section bytes = record section { image = section.image ++ bytes }
+
+unfoldable pub bytes_line : ScriptSoFar → List ℕ → Result ScriptSoFar LineFault
+bytes_line s line = do
+  name ← next_name line
+  digits ← last_word name.1
+  bytes ← image_of digits
+  group ← entered s content_group
+  k ← section_named s name.0
+  unless (first_met (bytes_tests s k (length bytes))) (Ok (with_contents s k (with_image (section_at s k) bytes)))
+
+-- the tests of so many fixups, one behind the other, from an offset in section k
+abbrev pub fixup_tests : ScriptSoFar → ℕ → ℕ → ℕ → List (Bool × LineFault)
+fixup_tests s k offset count = (nat_lt most_fixups (length (section_at s k).fixups + count), TooMany)
+    ∷ (nat_lt k s.section || nat_lt (offset + 4) (fixups_end 0 (section_at s k).fixups), OutOfOrder)
+    ∷ (nat_lt (section_at s k).header.total (offset + 4 * count), OutsideSection)
+    ∷ (nat_lt offset (fixups_end 0 (section_at s k).fixups), Overlap)
+    ∷ []
+
+abbrev pub with_fixups : DescribedSection → List Fixup → DescribedSection
+with_fixups section fixups = record section { fixups = section.fixups ++ fixups }
+
+abbrev pub fixup_of : ℕ → Base → Fixup
+fixup_of offset base = record { offset = offset; base = base }
+
+-- `fix SECTION OFFSET section NAME` or `fix SECTION OFFSET import NAME`: a word to which the address of a
+-- section or of an import is added
+
+-- whether the name of a base is a section's, and not an import's
+abbrev pub is_section_word : List ℕ → Result Bool LineFault
+is_section_word word = if bytes_eq word (codes "section") then Ok true else if bytes_eq word (codes "import") then Ok false else Err BadKind
+
+-- the number of the import with a name
+abbrev pub import_named : ScriptSoFar → List ℕ → Result ℕ LineFault
+import_named s name = ok_or (number_of_name (import_names s.script) name) UnknownName
+
+-- the base with a name
+abbrev pub base_named : ScriptSoFar → Bool → List ℕ → Result Base LineFault
+base_named s true name = section_named s name >>= λ k. Ok (base.Section k)
+base_named s false name = import_named s name >>= λ j. Ok (base.Import j)
+
+unfoldable pub fix_line : ScriptSoFar → List ℕ → Result ScriptSoFar LineFault
+fix_line s line = do
+  name ← next_name line
+  offset ← next_word name.1
+  kind ← next_word offset.1
+  target ← last_name kind.1
+  group ← entered s content_group
+  is_section ← is_section_word kind.0
+  offset ← number_up_to greatest_number offset.0
+  k ← section_named s name.0
+  target ← base_named s is_section target
+  unless (first_met (fixup_tests s k offset 1)) (Ok (with_contents s k (with_fixups (section_at s k) (fixup_of offset target ∷ []))))
+
+-- `tvector SECTION OFFSET CODE DATA`: a transition vector, to whose words the addresses of a section of
+-- code and of one of data are added
+
+unfoldable pub tvector_line : ScriptSoFar → List ℕ → Result ScriptSoFar LineFault
+tvector_line s line = do
+  name ← next_name line
+  offset ← next_word name.1
+  code ← next_name offset.1
+  data_name ← last_name code.1
+  group ← entered s content_group
+  offset ← number_up_to greatest_number offset.0
+  k ← section_named s name.0
+  code ← section_named s code.0
+  data_section ← section_named s data_name
+  unless (first_met (fixup_tests s k offset 2)) (Ok (with_contents s k (with_fixups (section_at s k) (fixup_of offset (base.Section code) ∷ fixup_of (offset + 4) (base.Section data_section) ∷ []))))

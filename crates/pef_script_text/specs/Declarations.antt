@@ -1,0 +1,108 @@
+-- The lines that declare versions, libraries, imports and sections, each behind its first word
+-- (docs/SCRIPTS.md, "Lines"). The numbers of options, classes, kinds and shares are those of
+-- PEFBinaryFormat.h.
+use Rattle.std.specs.Prelude.{ℕ, true, false, ◌-◌, ◌==◌, ◌||◌, Bool, List, [], ◌∷◌, ◌++◌, Result, Ok, Err, length, codes, nat_lt, if◌then◌else◌}
+use Rattle.std.specs.Str.{bytes_eq}
+use Rattle.pef_words.specs.Refusals.{first_met, unless}
+use Rattle.pef_words.specs.Results.{◌>>=◌}
+use Rattle.pef_reloc.specs.Limits.{most_imports, most_sections}
+use Rattle.pef_script_text.specs.declared.fault.LineFault.{LineFault}
+use Rattle.pef_script_text.specs.declared.fault.LineFault.TheVariants.{OutOfOrder, BadKind}
+use Rattle.pef_script.specs.declared.parts.Versions.{Versions}
+use Rattle.pef_script.specs.Limits.{greatest_align, greatest_number, greatest_total, most_libraries}
+use Rattle.pef_script.specs.Script.{DescribedHeader, DescribedImport, DescribedLibrary, import_names, library_names, section_names}
+use Rattle.pef_script_text.specs.SoFar.{ScriptSoFar, counted_name_tests, entered, entered_once, library_group, name_tests, section_group, versions_group, with_script, word_of}
+use Rattle.pef_script_text.specs.Words.{next_word, last_word, next_name, number_up_to}
+
+-- `versions CURRENT OLDDEF OLDIMP`
+
+abbrev pub with_versions : ScriptSoFar → Versions → ScriptSoFar
+with_versions s versions = record s { reached = versions_group; script = record s.script { versions = versions } }
+
+unfoldable pub versions_line : ScriptSoFar → List ℕ → Result ScriptSoFar LineFault
+versions_line s line = do
+  current ← next_word line
+  old_def ← next_word current.1
+  old_imp ← last_word old_def.1
+  group ← entered_once s versions_group
+  current ← number_up_to greatest_number current.0
+  old_def ← number_up_to greatest_number old_def.0
+  old_imp ← number_up_to greatest_number old_imp
+  Ok (with_versions s (record { current = current; old_def = old_def; old_imp = old_imp }))
+
+-- `library NAME CURRENT OLDIMP OPTION`
+
+abbrev pub options_of : List ℕ → Result ℕ LineFault
+options_of = word_of ((codes "-", 0) ∷ (codes "weak", 0x40) ∷ (codes "before", 0x80) ∷ (codes "weak,before", 0xC0) ∷ [])
+
+-- a library with a name that is new and has room
+abbrev pub with_library : ScriptSoFar → DescribedLibrary → Result ScriptSoFar LineFault
+with_library s library = unless (first_met (counted_name_tests s (library_names s.script) most_libraries library.name))
+    (Ok (with_script s library_group (record s.script { libraries = s.script.libraries ++ library ∷ [] })))
+
+unfoldable pub library_line : ScriptSoFar → List ℕ → Result ScriptSoFar LineFault
+library_line s line = do
+  name ← next_name line
+  current ← next_word name.1
+  old_imp ← next_word current.1
+  option ← last_word old_imp.1
+  group ← entered s library_group
+  options ← options_of option
+  current ← number_up_to greatest_number current.0
+  old_imp ← number_up_to greatest_number old_imp.0
+  with_library s (record { name = name.0; current = current; old_imp = old_imp; options = options })
+
+-- `import NAME CLASS STRENGTH`: a symbol of the last library, of which there is one
+
+abbrev pub class_of : List ℕ → Result ℕ LineFault
+class_of = word_of ((codes "code", 0) ∷ (codes "data", 1) ∷ (codes "tvector", 2) ∷ (codes "toc", 3) ∷ (codes "glue", 4) ∷ [])
+
+abbrev pub is_weak_word : List ℕ → Result Bool LineFault
+is_weak_word word = if bytes_eq word (codes "strong") then Ok false else if bytes_eq word (codes "weak") then Ok true else Err BadKind
+
+abbrev pub entered_import : ScriptSoFar → Result ℕ LineFault
+entered_import s = if nat_lt library_group s.reached || length s.script.libraries == 0 then Err OutOfOrder else Ok library_group
+
+-- an import with a name that is new and has room
+abbrev pub with_import : ScriptSoFar → DescribedImport → Result ScriptSoFar LineFault
+with_import s symbol = unless (first_met (counted_name_tests s (import_names s.script) most_imports symbol.name))
+    (Ok (with_script s library_group (record s.script { imports = s.script.imports ++ symbol ∷ [] })))
+
+unfoldable pub import_line : ScriptSoFar → List ℕ → Result ScriptSoFar LineFault
+import_line s line = do
+  name ← next_name line
+  class ← next_word name.1
+  strength ← last_word class.1
+  group ← entered_import s
+  class ← class_of class.0
+  weak ← is_weak_word strength
+  with_import s (record { name = name.0; class = class; weak = weak; library = length s.script.libraries - 1 })
+
+-- `section NAME KIND SHARE ALIGN TOTAL`
+
+abbrev pub kind_of : List ℕ → Result ℕ LineFault
+kind_of = word_of ((codes "code", 0) ∷ (codes "data", 1) ∷ (codes "const", 3) ∷ (codes "exec", 6) ∷ [])
+
+abbrev pub share_of : List ℕ → Result ℕ LineFault
+share_of = word_of ((codes "process", 1) ∷ (codes "global", 4) ∷ (codes "protected", 5) ∷ [])
+
+-- a section with a name that is new and has room
+abbrev pub with_section : ScriptSoFar → DescribedHeader → Result ScriptSoFar LineFault
+with_section s header = unless (first_met (name_tests (section_names s.script) most_sections header.name)) (Ok (record s {
+  reached = section_group;
+  script = record s.script { sections = s.script.sections ++ record { header = header; image = []; fixups = [] } ∷ [] };
+}))
+
+unfoldable pub section_line : ScriptSoFar → List ℕ → Result ScriptSoFar LineFault
+section_line s line = do
+  name ← next_name line
+  kind ← next_word name.1
+  share ← next_word kind.1
+  align ← next_word share.1
+  total ← last_word align.1
+  group ← entered s section_group
+  kind ← kind_of kind.0
+  share ← share_of share.0
+  align ← number_up_to greatest_align align.0
+  total ← number_up_to greatest_total total
+  with_section s (record { name = name.0; kind = kind; share = share; align = align; total = total })

@@ -1,0 +1,55 @@
+-- The lines that say what a container exports and where it is entered, each behind its first word
+-- (docs/SCRIPTS.md, "Lines").
+use Rattle.std.specs.Prelude.{ℕ, pos, Bool, List, [], ◌∷◌, ◌++◌, Some, Result, Ok, nat_lt}
+use Rattle.pef_words.specs.Refusals.{first_met, unless}
+use Rattle.pef_words.specs.Results.{◌>>=◌}
+use Rattle.pef_script_text.specs.declared.fault.LineFault.{LineFault}
+use Rattle.pef_script_text.specs.declared.fault.LineFault.TheVariants.{OutsideSection}
+use Rattle.pef_script.specs.Limits.{greatest_number, most_exports}
+use Rattle.pef_script.specs.Script.{DescribedExport, export_names}
+use Rattle.pef_script_text.specs.Declarations.{class_of}
+use Rattle.pef_script_text.specs.SoFar.{ScriptSoFar, counted_name_tests, entered, entered_once, export_group, init_group, main_group, section_at, section_named, term_group, with_script}
+use Rattle.pef_script_text.specs.Words.{next_word, last_word, next_name, number_up_to}
+
+-- the test of an offset in section k, which may be its end
+abbrev pub place_tests : ScriptSoFar → ℕ → ℕ → List (Bool × LineFault)
+place_tests s k offset = (nat_lt (section_at s k).header.total offset, OutsideSection) ∷ []
+
+-- `export NAME CLASS SECTION OFFSET`
+
+-- an export in section k with a name that is new and has room
+abbrev pub with_export : ScriptSoFar → ℕ → DescribedExport → Result ScriptSoFar LineFault
+with_export s k symbol = unless (first_met (counted_name_tests s (export_names s.script) most_exports symbol.name ++ place_tests s k symbol.value))
+    (Ok (with_script s export_group (record s.script { exports = s.script.exports ++ symbol ∷ [] })))
+
+unfoldable pub export_line : ScriptSoFar → List ℕ → Result ScriptSoFar LineFault
+export_line s line = do
+  name ← next_name line
+  class ← next_word name.1
+  section ← next_name class.1
+  offset ← last_word section.1
+  group ← entered s export_group
+  class ← class_of class.0
+  offset ← number_up_to greatest_number offset
+  k ← section_named s section.0
+  with_export s k (record { name = name.0; class = class; section = pos k; value = offset })
+
+-- `main SECTION OFFSET`, `init SECTION OFFSET` and `term SECTION OFFSET`
+
+unfoldable pub entry_in : ScriptSoFar → ℕ → List ℕ → Result (ℕ × ℕ) LineFault
+entry_in s group line = do
+  section ← next_name line
+  offset ← last_word section.1
+  group ← entered_once s group
+  offset ← number_up_to greatest_number offset
+  k ← section_named s section.0
+  unless (first_met (place_tests s k offset)) (Ok (k, offset))
+
+abbrev pub main_line : ScriptSoFar → List ℕ → Result ScriptSoFar LineFault
+main_line s line = entry_in s main_group line >>= λ entry. Ok (record s { reached = main_group; script = record s.script { main = Some entry } })
+
+abbrev pub init_line : ScriptSoFar → List ℕ → Result ScriptSoFar LineFault
+init_line s line = entry_in s init_group line >>= λ entry. Ok (record s { reached = init_group; script = record s.script { init = Some entry } })
+
+abbrev pub term_line : ScriptSoFar → List ℕ → Result ScriptSoFar LineFault
+term_line s line = entry_in s term_group line >>= λ entry. Ok (record s { reached = term_group; script = record s.script { term = Some entry } })

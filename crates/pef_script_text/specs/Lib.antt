@@ -1,0 +1,9 @@
+pub mod Contents
+pub mod Declarations
+pub mod Exports
+pub mod Faults
+pub mod Grammar
+pub mod Kept
+pub mod Reads
+pub mod SoFar
+pub mod Words

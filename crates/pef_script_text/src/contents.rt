@@ -1,0 +1,155 @@
+ghost use Rattle.std.specs.Prelude.{◌≡◌, true, ◌+◌, ◌*◌, ◌^◌, ◌<◌, vec_len, IfOk, OnOk};
+ghost use Rattle.std.specs.Result.{result_err};
+ghost use Rattle.pef_words.specs.Refusals.{first_met};
+ghost use Rattle.pef_script_text.specs.Contents.{base_named, bytes_line, bytes_tests, fix_line, fixup_tests, import_named, tvector_line};
+ghost use Rattle.pef_script_text.specs.Kept.Reader.{so_far};
+ghost use Rattle.pef_script_text.specs.Kept.Steps.{Steps};
+
+use crate::LineFault;
+use crate::fault::Stop;
+use crate::kinds::is_section_word;
+use crate::limits::{CONTENT_GROUP, MAX_NUMBER};
+use crate::numbers::read_number;
+use crate::reader::Reader;
+use crate::sections::{add_fixups, append, fixups_end};
+use crate::tables::number_of_name;
+use crate::words::{last_name, last_word, next_name, next_word, read_pairs};
+use pef_reloc::{Base, Fixup, MAX_FIXUPS, WORD};
+
+impl<'a> Reader<'a> {
+    /// `bytes SECTION HEX`, behind its first word.
+    #[tactic(auto, unfolding(crate::specs::Contents::bytes_line))]
+    pub fn read_bytes(&mut self, line: &[u8]) -> Result<(), Stop>
+        ensures { Steps result (so_far self.new) (bytes_line (so_far self.old) line.now) }
+    {
+        let (name, rest) = next_name(line)?;
+        let pairs = read_pairs(last_word(rest)?)?;
+        self.enter(CONTENT_GROUP)?;
+        let k = self.section_named(name)?;
+        self.test_bytes(k, pairs.count())?;
+        let parts = &mut self.parts;
+        append(&mut parts.sections[k], pairs)?;
+        self.reached = CONTENT_GROUP;
+        self.section = k;
+        Ok(())
+    }
+
+    /// `fix SECTION OFFSET section NAME` or `fix SECTION OFFSET import NAME`, behind its first word.
+    #[tactic(auto, unfolding(crate::specs::Contents::fix_line))]
+    pub fn read_fix(&mut self, line: &[u8]) -> Result<(), Stop>
+        ensures { Steps result (so_far self.new) (fix_line (so_far self.old) line.now) }
+    {
+        let (name, rest) = next_name(line)?;
+        let (offset, rest) = next_word(rest)?;
+        let (kind, rest) = next_word(rest)?;
+        let target = last_name(rest)?;
+        self.enter(CONTENT_GROUP)?;
+        let is_section = is_section_word(kind)?;
+        let offset = read_number(MAX_NUMBER, offset)?;
+        let k = self.section_named(name)?;
+        let base = self.base_named(is_section, target)?;
+        self.test_fixups(k, offset, 1)?;
+        let parts = &mut self.parts;
+        add_fixups(&mut parts.sections[k], &[Fixup { offset, base }])?;
+        self.reached = CONTENT_GROUP;
+        self.section = k;
+        Ok(())
+    }
+
+    /// `tvector SECTION OFFSET CODE DATA`, behind its first word.
+    #[tactic(auto, unfolding(crate::specs::Contents::tvector_line))]
+    pub fn read_tvector(&mut self, line: &[u8]) -> Result<(), Stop>
+        ensures { Steps result (so_far self.new) (tvector_line (so_far self.old) line.now) }
+    {
+        let (name, rest) = next_name(line)?;
+        let (offset, rest) = next_word(rest)?;
+        let (code, rest) = next_name(rest)?;
+        let data = last_name(rest)?;
+        self.enter(CONTENT_GROUP)?;
+        let offset = read_number(MAX_NUMBER, offset)?;
+        let k = self.section_named(name)?;
+        let code = self.section_base(code)?;
+        let data = self.section_base(data)?;
+        self.test_fixups(k, offset, 2)?;
+        let code = Fixup { offset, base: code };
+        let data = Fixup {
+            offset: offset + WORD,
+            base: data,
+        };
+        let parts = &mut self.parts;
+        add_fixups(&mut parts.sections[k], &[code, data])?;
+        self.reached = CONTENT_GROUP;
+        self.section = k;
+        Ok(())
+    }
+
+    /// The section with a name, as a base.
+    fn section_base(&self, name: &[u8]) -> Result<Base, LineFault>
+        ensures { result ≡ base_named (so_far self.now) true name.now }
+    {
+        let k = self.section_named(name)?;
+        Ok(Base::Section(k as u32))
+    }
+
+    /// The number of the import with a name.
+    #[tactic(auto, using(crate::proofs::TableLemmas::imports_seen))]
+    fn import_named(&self, name: &[u8]) -> Result<usize, LineFault>
+        ensures found { result ≡ import_named (so_far self.now) name.now }
+        ensures below { IfOk result (λ j. j < 2 ^ 32) }
+    {
+        number_of_name(&self.parts.imports, name).ok_or(LineFault::UnknownName)
+    }
+
+    /// The section or the import with a name, as a base.
+    fn base_named(&self, is_section: bool, name: &[u8]) -> Result<Base, LineFault>
+        ensures { result ≡ base_named (so_far self.now) is_section name.now }
+    {
+        if is_section {
+            return self.section_base(name);
+        }
+        let j = self.import_named(name)?;
+        Ok(Base::Import(j as u32))
+    }
+
+    /// Refuses more bytes of an earlier section, or past the section's end.
+    fn test_bytes(&self, k: usize, count: usize) -> Result<(), LineFault>
+        requires { k < vec_len self.now.parts.sections }
+        ensures { result_err result ≡ first_met (bytes_tests (so_far self.now) k count) }
+    {
+        if k < self.section {
+            return Err(LineFault::OutOfOrder);
+        }
+        let section = &self.parts.sections[k];
+        let total = section.header.total as usize;
+        let filled = section.image.len();
+        if filled > total || count > total - filled {
+            return Err(LineFault::OutsideSection);
+        }
+        Ok(())
+    }
+
+    /// Refuses so many fixups, one behind the other, from an offset in section `k`.
+    fn test_fixups(&self, k: usize, offset: u32, count: u8) -> Result<(), LineFault>
+        requires { k < vec_len self.now.parts.sections }
+        ensures tests { result_err result ≡ first_met (fixup_tests (so_far self.now) k offset count) }
+        ensures inside { OnOk result (offset + 4 * count < 2 ^ 32) }
+    {
+        let section = &self.parts.sections[k];
+        if section.fixups.len() + usize::from(count) > MAX_FIXUPS {
+            return Err(LineFault::TooMany);
+        }
+        let end = fixups_end(&section.fixups);
+        let offset = u64::from(offset);
+        if k < self.section || offset + u64::from(WORD) < end {
+            return Err(LineFault::OutOfOrder);
+        }
+        let total = section.header.total;
+        if offset + u64::from(WORD) * u64::from(count) > u64::from(total) {
+            return Err(LineFault::OutsideSection);
+        }
+        if offset < end {
+            return Err(LineFault::Overlap);
+        }
+        Ok(())
+    }
+}

@@ -1,0 +1,112 @@
+ghost use Rattle.std.specs.Prelude.{◌≡◌, ◌<◌, vec_len};
+ghost use Rattle.std.specs.Result.{result_err};
+ghost use Rattle.pef_words.specs.Refusals.{first_met};
+ghost use Rattle.pef_script_text.specs.Exports.{entry_in, export_line, init_line, main_line, place_tests, term_line, with_export};
+ghost use Rattle.pef_script_text.specs.Kept.Reader.{so_far};
+ghost use Rattle.pef_script_text.specs.Kept.Steps.{Steps};
+ghost use Rattle.pef_script.specs.Parts.{export_of};
+
+use crate::LineFault;
+use crate::fault::Stop;
+use crate::kinds::class_of;
+use crate::limits::{EXPORT_GROUP, INIT_GROUP, MAIN_GROUP, MAX_EXPORTS, MAX_NUMBER, TERM_GROUP};
+use crate::numbers::read_number;
+use crate::reader::Reader;
+use crate::tables::declare;
+use crate::words::{last_word, next_name, next_word};
+use pef_script::ExportData;
+
+impl<'a> Reader<'a> {
+    /// `export NAME CLASS SECTION OFFSET`, behind its first word.
+    #[tactic(auto, unfolding(crate::specs::Exports::export_line))]
+    pub fn read_export(&mut self, line: &'a [u8]) -> Result<(), Stop>
+        ensures { Steps result (so_far self.new) (export_line (so_far self.old) line.entry.now) }
+    {
+        let (name, rest) = next_name(line)?;
+        let (class, rest) = next_word(rest)?;
+        let (section, rest) = next_name(rest)?;
+        let offset = last_word(rest)?;
+        self.enter(EXPORT_GROUP)?;
+        let class = class_of(class)?;
+        let value = read_number(MAX_NUMBER, offset)?;
+        let k = self.section_named(section)?;
+        let export = ExportData {
+            class,
+            section: k as i32,
+            value,
+        };
+        self.add_export(name, k, export)
+    }
+
+    /// `main SECTION OFFSET`, behind its first word.
+    pub fn read_main(&mut self, line: &[u8]) -> Result<(), Stop>
+        ensures { Steps result (so_far self.new) (main_line (so_far self.old) line.now) }
+    {
+        let entry = self.read_entry(MAIN_GROUP, line)?;
+        self.parts.main = Some(entry);
+        self.reached = MAIN_GROUP;
+        Ok(())
+    }
+
+    /// `init SECTION OFFSET`, behind its first word.
+    pub fn read_init(&mut self, line: &[u8]) -> Result<(), Stop>
+        ensures { Steps result (so_far self.new) (init_line (so_far self.old) line.now) }
+    {
+        let entry = self.read_entry(INIT_GROUP, line)?;
+        self.parts.init = Some(entry);
+        self.reached = INIT_GROUP;
+        Ok(())
+    }
+
+    /// `term SECTION OFFSET`, behind its first word.
+    pub fn read_term(&mut self, line: &[u8]) -> Result<(), Stop>
+        ensures { Steps result (so_far self.new) (term_line (so_far self.old) line.now) }
+    {
+        let entry = self.read_entry(TERM_GROUP, line)?;
+        self.parts.term = Some(entry);
+        self.reached = TERM_GROUP;
+        Ok(())
+    }
+
+    /// A section by its number and an offset in it, of a line of a group that may stand once.
+    #[tactic(auto, unfolding(crate::specs::Exports::entry_in))]
+    fn read_entry(&self, group: u8, line: &[u8]) -> Result<(u32, u32), LineFault>
+        ensures { result ≡ entry_in (so_far self.now) group line.now }
+    {
+        let (section, rest) = next_name(line)?;
+        let offset = last_word(rest)?;
+        self.enter_once(group)?;
+        let offset = read_number(MAX_NUMBER, offset)?;
+        let k = self.section_named(section)?;
+        self.test_place(k, offset)?;
+        Ok((k as u32, offset))
+    }
+
+    /// Adds an export of section `k`, unless its name is another's or passes the limits, or it passes the
+    /// section's end.
+    #[tactic(auto, using(crate::proofs::TableLemmas::exports_seen))]
+    fn add_export(&mut self, name: &'a [u8], k: usize, export: ExportData) -> Result<(), Stop>
+        requires { k < vec_len self.old.parts.sections }
+        ensures { Steps result (so_far self.new) (with_export (so_far self.old) k (export_of (name.entry, export))) }
+    {
+        self.test_name(&self.parts.exports, MAX_EXPORTS, name)?;
+        self.test_place(k, export.value)?;
+        let parts = &mut self.parts;
+        declare(&mut parts.exports, name, export)?;
+        self.names += name.len() + 1;
+        self.reached = EXPORT_GROUP;
+        Ok(())
+    }
+
+    /// Refuses an offset past the end of section `k`.
+    fn test_place(&self, k: usize, offset: u32) -> Result<(), LineFault>
+        requires { k < vec_len self.now.parts.sections }
+        ensures { result_err result ≡ first_met (place_tests (so_far self.now) k offset) }
+    {
+        let section = &self.parts.sections[k];
+        if offset > section.header.total {
+            return Err(LineFault::OutsideSection);
+        }
+        Ok(())
+    }
+}

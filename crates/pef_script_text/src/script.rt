@@ -1,0 +1,38 @@
+ghost use Rattle.std.specs.Prelude.{◌≡◌};
+ghost use Rattle.pef_script.specs.Parts.{script_in};
+ghost use Rattle.pef_script_text.specs.Grammar.{script_of};
+ghost use Rattle.pef_script_text.specs.Reads.{Reads};
+ghost use Rattle.pef_words.specs.Refusals.{result_map};
+
+use crate::ScriptFault;
+use crate::reader::Reader;
+use pef_lines::{LINE_FEED, cut_at};
+use pef_script::{Parts, Script};
+use std::alloc::Global;
+
+/// Reads a script. Its names are borrowed from the text.
+///
+/// # Errors
+/// The first fault of the first line that has one, or that a growth of memory was refused.
+pub fn read<'a>(alloc: Global, text: &'a [u8]) -> Result<Script<'a>, ScriptFault>
+    ensures { Reads result (script_of text.entry.now) }
+{
+    let parts = read_parts(alloc, text)?;
+    Ok(Script::new(parts))
+}
+
+/// Reads the lines of a script.
+fn read_parts<'a>(alloc: Global, text: &'a [u8]) -> Result<Parts<'a>, ScriptFault>
+    ensures { Reads (result_map script_in result) (script_of text.entry.now) }
+{
+    let mut reader = Reader::new(alloc);
+    let mut rest = text;
+    let mut number: usize = 1;
+    'lines: while let Some((line, behind)) = cut_at(LINE_FEED, rest) {
+        reader.read_numbered(line, number)?;
+        rest = behind;
+        number += 1;
+    }
+    reader.read_numbered(rest, number)?;
+    Ok(reader.into_parts())
+}
