@@ -30,7 +30,7 @@ impl<'a> Model for Script<'a> {
 impl<'a> Script<'a> {
     /// The script of some parts that keep the limits, have names apart and have everything in its place.
     pub fn new(parts: Parts<'a>) -> Script<'a>
-        requires { ScriptHolds (script_in parts.entry) }
+        requires { ScriptHolds (script_in parts) }
         ensures { result ≡ script_in parts.entry }
     {
         Script { parts }

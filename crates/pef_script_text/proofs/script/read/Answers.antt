@@ -3,5 +3,5 @@ use Rattle.pef_script.specs.Parts.{script_in}
 use Rattle.pef_script_text.proofs.Holds.{script_of-holds}
 use Rattle.pef_script_text.proofs.script.read.Goals as goal
 
-pub invariant_of-result : goal.invariant_of-result
-invariant_of-result c = script_of-holds c.args.text.now (script_in c.in_ok-parts.parts) c.in_ok-parts.ensures
+pub new-requires : goal.new-requires
+new-requires c = script_of-holds c.args.text.now (script_in c.in_ok-parts.parts) c.in_ok-parts.ensures
