@@ -10,7 +10,9 @@ use Rattle.cfm_prepare.specs.declared.fault.PrepareFault.TheVariants as prepare_
 use Rattle.pef_cert_text.specs.Faults as cert
 use Rattle.pef_cert_text.specs.declared.fault.CertFault.TheVariants as cert_fault
 use Rattle.pef_listing.specs.Faults as listing
+use Rattle.pef_ports.specs.Faults as input
 use Rattle.pef_ports.specs.Names.{name_text}
+use Rattle.pef_ports.specs.declared.input.InputFault.TheVariants as input_fault
 use Rattle.pef_script_text.specs.Faults as script
 use Rattle.pef_answers.specs.declared.refusal.FileRefusal.{FileRefusal}
 use Rattle.pef_answers.specs.declared.refusal.FileRefusal.TheVariants.{Unreadable, Unwritable}
@@ -23,8 +25,8 @@ number_of (Script fault line) = script.fault_number fault
 number_of (Listing fault) = listing.fault_number fault
 number_of (BadCertificate line) = cert.fault_number (cert_fault.BadCertificate line)
 number_of SectionsDiffer = 52
-number_of InputUnreadable = 73
-number_of InputTooLong = 74
+number_of InputUnreadable = input.fault_number input_fault.Unreadable
+number_of InputTooLong = input.fault_number input_fault.TooLong
 number_of OutOfMemory = 99
 
 -- the names of the refusals
@@ -33,8 +35,8 @@ name_of (Script fault line) = script.fault_name fault
 name_of (Listing fault) = listing.fault_name fault
 name_of (BadCertificate line) = cert.fault_name (cert_fault.BadCertificate line)
 name_of SectionsDiffer = codes "SectionsDiffer"
-name_of InputUnreadable = codes "InputUnreadable"
-name_of InputTooLong = codes "InputTooLong"
+name_of InputUnreadable = input.fault_name input_fault.Unreadable
+name_of InputTooLong = input.fault_name input_fault.TooLong
 name_of OutOfMemory = codes "OutOfMemory"
 
 -- what else the line says
@@ -113,15 +115,29 @@ prepare_refusal_text fault = unprepared_text fault
 abbrev pub name_end : List ℕ → List ℕ
 name_end name = name_text name ++ 10 ∷ []
 
+-- a file that couldn't be read, and one that couldn't be written: numbers and names
+
+abbrev pub unreadable_number : ℕ
+unreadable_number = 71
+
+abbrev pub unreadable_name : List ℕ
+unreadable_name = codes "FileUnreadable"
+
+abbrev pub unwritable_number : ℕ
+unwritable_number = 72
+
+abbrev pub unwritable_name : List ℕ
+unwritable_name = codes "FileUnwritable"
+
 -- the number and the name of a refusal over a file, and the file's path
 
 abbrev pub file_number_of : FileRefusal → ℕ
-file_number_of (Unreadable path) = 71
-file_number_of (Unwritable path) = 72
+file_number_of (Unreadable path) = unreadable_number
+file_number_of (Unwritable path) = unwritable_number
 
 abbrev pub file_name_of : FileRefusal → List ℕ
-file_name_of (Unreadable path) = codes "FileUnreadable"
-file_name_of (Unwritable path) = codes "FileUnwritable"
+file_name_of (Unreadable path) = unreadable_name
+file_name_of (Unwritable path) = unwritable_name
 
 abbrev pub path_of : FileRefusal → List ℕ
 path_of (Unreadable path) = path.now
@@ -137,8 +153,8 @@ file_refusal_text refusal = file_refusal_start (file_number_of refusal) (file_na
 
 -- the line of a file that couldn't be read
 abbrev pub unreadable_text : List ℕ → List ℕ
-unreadable_text path = file_refusal_start 71 (codes "FileUnreadable") ++ name_end path
+unreadable_text path = file_refusal_start unreadable_number unreadable_name ++ name_end path
 
 -- the line of a file that couldn't be written
 abbrev pub unwritable_text : List ℕ → List ℕ
-unwritable_text path = file_refusal_start 72 (codes "FileUnwritable") ++ name_end path
+unwritable_text path = file_refusal_start unwritable_number unwritable_name ++ name_end path
