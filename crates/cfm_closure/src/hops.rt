@@ -1,4 +1,4 @@
-ghost use Rattle.std.specs.Prelude.{◌≡◌, ◌<◌, Contains, None, IfOk, IsTrue};
+ghost use Rattle.std.specs.Prelude.{◌<◌, Contains, None, IfOk, IsTrue};
 ghost use Rattle.pef_loader.specs.Export.{has_section};
 ghost use Rattle.pef_loader.specs.Views.{import_seen, loaded};
 ghost use Rattle.cfm_closure.specs.Targets.{hop, hop_by, hop_to};

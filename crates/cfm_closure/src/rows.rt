@@ -1,4 +1,4 @@
-ghost use Rattle.std.specs.Prelude.{◌≡◌, ◌<◌, None, length, replicate, slice_set, IfOk, OnOk, OnErr};
+ghost use Rattle.std.specs.Prelude.{◌≡◌, ◌<◌, None, length, replicate, slice_set, IfOk, OnOk};
 ghost use Rattle.cfm_libraries.specs.Orders.{IsComplete};
 ghost use Rattle.cfm_closure.specs.Kept.Targets.{IsInTable, IsUnknown, known_at, noted};
 

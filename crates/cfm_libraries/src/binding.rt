@@ -1,9 +1,7 @@
 ghost use Rattle.std.specs.Prelude.{◌≡◌, ◌<◌, length, Ok, Err, None, IfOk, IfSome, if◌then◌else◌};
-ghost use Rattle.std.specs.Option.{option_map_or};
-ghost use Rattle.pef_loader.specs.Loader.{library_of};
-ghost use Rattle.pef_loader.specs.Views.{library_seen, loaded};
+ghost use Rattle.pef_loader.specs.Views.{library_seen};
 ghost use Rattle.cfm_libraries.specs.Faults.{Answers};
-ghost use Rattle.cfm_libraries.specs.Kept.Views.{AreKept, AreRead, fragment_at};
+ghost use Rattle.cfm_libraries.specs.Kept.Views.{AreKept, AreRead};
 ghost use Rattle.cfm_libraries.specs.Views.{fragment_seen};
 ghost use Rattle.cfm_libraries.specs.Libraries.{bound, fit_with, is_before, is_weak};
 

@@ -1,4 +1,4 @@
-ghost use Rattle.std.specs.Prelude.{◌≡◌, ◌<◌, ◌≤◌, Contains, IfOk, OnOk};
+ghost use Rattle.std.specs.Prelude.{◌≡◌, ◌<◌, Contains, IfOk, OnOk};
 ghost use Rattle.cfm_memory.specs.Extents.{AreApart, AreHeld, Stand, given_back};
 ghost use Rattle.cfm_libraries.specs.Fragments.{import_count};
 ghost use Rattle.cfm_prepare.specs.Addresses.{addresses_of, first_bad_program, imports_from, section_of, target_address};

@@ -1,4 +1,4 @@
-ghost use Rattle.std.specs.Prelude.{◌≡◌, ◌≢◌, option_map};
+ghost use Rattle.std.specs.Prelude.{◌≡◌, option_map};
 ghost use Rattle.cfm_prepare.specs.Faults.{fault_name, fault_number};
 ghost use Rattle.pef_ports.specs.Sent.{Sends};
 ghost use Rattle.pef_answers.specs.Answers.{answer_refused};

@@ -1,4 +1,4 @@
-ghost use Rattle.std.specs.Prelude.{◌≡◌, ◌+◌, ◌-◌, ◌<◌, ◌≤◌, ℕ, drop, length, take};
+ghost use Rattle.std.specs.Prelude.{◌+◌, ◌-◌, ◌<◌, drop, length, take};
 ghost use Rattle.pef_cert.specs.Feasible.{FeasibleAt};
 ghost use Rattle.pef_cert.specs.Kept.Claims.{UnderTest, labels_claimed};
 ghost use Rattle.pef_cert.specs.Kept.Tests.{AllTests, LineTests};

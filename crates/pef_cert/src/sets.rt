@@ -1,4 +1,4 @@
-ghost use Rattle.std.specs.Prelude.{◌≡◌, ◌+◌, ◌*◌, ◌<◌, ◌≤◌, ℕ, length};
+ghost use Rattle.std.specs.Prelude.{◌≡◌, ◌+◌, ◌*◌, ◌<◌, ℕ, length};
 ghost use Rattle.pef_cert.specs.Kept.Sets.{LineHolds, LinesHold, RowHolds};
 ghost use Rattle.pef_fixups.specs.Answers.{Says};
 

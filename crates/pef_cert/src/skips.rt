@@ -1,4 +1,4 @@
-ghost use Rattle.std.specs.Prelude.{◌≡◌, ◌+◌, ◌^◌, ◌<◌, ◌≤◌, ℕ, Some, drop, length, slice_get, slice_index};
+ghost use Rattle.std.specs.Prelude.{◌≡◌, ◌+◌, ◌<◌, Some, drop, length};
 ghost use Rattle.pef_cert.specs.Extension.{skips_at};
 ghost use Rattle.pef_cert.specs.Kept.Claims.{Skips, labels_claimed};
 ghost use Rattle.pef_cert.specs.Labels.{class_of};

@@ -1,4 +1,4 @@
-ghost use Rattle.std.specs.Prelude.{◌≡◌, ◌+◌, ◌*◌, ◌^◌, ◌<◌, ◌≤◌, MatchOption, ◌-◌, length, drop, take, slice_get, slice_index, ℕ};
+ghost use Rattle.std.specs.Prelude.{◌≡◌, ◌+◌, ◌*◌, ◌<◌, MatchOption, ◌-◌, drop, take, slice_get};
 ghost use Rattle.pef_cert.specs.Extension.{extension_at};
 ghost use Rattle.pef_cert.specs.Feasible.{Feasible, FeasibleAt, FeasibleFrom};
 ghost use Rattle.pef_cert.specs.Kept.Claims.{IsRowOf, Knows, Shaped, Skips, SkipsAre, UnderTest, labels_claimed};

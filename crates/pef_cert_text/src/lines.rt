@@ -43,7 +43,6 @@ pub struct Lines<'a> {
 }
 
 impl<'a> Lines<'a> {
-    ghost use Rattle.pef_cert_text.specs.Grammar.{Left};
     ghost use Rattle.pef_cert_text.specs.Kept.Reading.{NextLine, left};
     ghost use Rattle.pef_cert_text.specs.declared.fault.CertFault.TheVariants.{BadCertificate};
 

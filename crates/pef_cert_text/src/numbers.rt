@@ -1,4 +1,4 @@
-ghost use Rattle.std.specs.Prelude.{◌≡◌, ◌≤◌, ◌++◌, length, option_map, vec_len, IfOk, OnOk};
+ghost use Rattle.std.specs.Prelude.{◌≡◌, ◌≤◌, ◌++◌, option_map, vec_len, IfOk, OnOk};
 ghost use Rattle.pef_words.specs.Refusals.{result_map};
 ghost use Rattle.pef_cert_text.specs.Kept.Reading.{Says, words_left};
 ghost use Rattle.pef_cert_text.specs.Lines.{registers_in, registers_line, row_line};

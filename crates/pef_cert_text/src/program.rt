@@ -1,4 +1,4 @@
-ghost use Rattle.std.specs.Prelude.{◌≡◌, ◌≤◌, ◌*◌, ◌++◌, length, option_map, IfOk, IfSome};
+ghost use Rattle.std.specs.Prelude.{◌≡◌, ◌≤◌, ◌*◌, ◌++◌, option_map, IfOk, IfSome};
 ghost use Rattle.pef_words.specs.Refusals.{result_map};
 ghost use Rattle.pef_reloc.specs.Unrolled.{instrs_of};
 ghost use Rattle.pef_reloc.specs.Views.{program_bytes};

@@ -3,7 +3,6 @@ ghost use Rattle.std.specs.Option.{option_map};
 ghost use Rattle.pef_fixups.specs.Additions.{behind, behind_first};
 ghost use Rattle.pef_fixups.specs.Answers.{Says};
 ghost use Rattle.pef_fixups.specs.Kept.Walks.{passed, place_of, placed, start_place, state_of, stepped, walked};
-ghost use Rattle.pef_reloc.specs.Deliveries.{is_flat_instr};
 ghost use Rattle.pef_reloc.specs.Instrs.{instr_fits, program_length};
 ghost use Rattle.pef_reloc.specs.Steps.{Makes, is_flat, moved, numbered, pairs, past_import, row};
 ghost use Rattle.pef_reloc.specs.declared.fixup.Base.TheVariants.{Import, Section};

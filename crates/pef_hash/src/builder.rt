@@ -1,7 +1,7 @@
-ghost use Rattle.std.specs.Prelude.{◌≡◌, ℕ, ◌+◌, ◌^◌, ◌<◌, ◌≤◌, ◌++◌, List, length, map, sum, IfOk, OnOk};
+ghost use Rattle.std.specs.Prelude.{◌≡◌, ◌+◌, ◌^◌, ◌<◌, ◌≤◌, ◌++◌, length, map, sum, IfOk, OnOk};
 ghost use Rattle.pef_hash.specs.Word.{hash_word};
 ghost use Rattle.pef_hash.specs.Kept.Chains.{IsChained};
-ghost use Rattle.pef_hash.specs.Build.{BuiltTable, built, in_slot, in_slots, keys_at, names_in, of_words, slot_words};
+ghost use Rattle.pef_hash.specs.Build.{BuiltTable, built, in_slot, keys_at, names_in, of_words};
 ghost use Rattle.pef_hash.specs.Limits.{most_written_power, names_limit};
 
 use crate::fault::HashFault;

@@ -1,5 +1,5 @@
-ghost use Rattle.std.specs.Prelude.{◌≡◌, ℕ, ◌+◌, ◌<◌, ◌≤◌, IsTrue, Some, length};
-ghost use Rattle.pef_hash.specs.Exports.{has_table, name_of, slot_count, slot_first};
+ghost use Rattle.std.specs.Prelude.{◌≡◌, ℕ, ◌+◌, ◌<◌, ◌≤◌, IsTrue, Some};
+ghost use Rattle.pef_hash.specs.Exports.{name_of, slot_count, slot_first};
 ghost use Rattle.pef_hash.specs.Limits.{most_power};
 ghost use Rattle.pef_hash.specs.Regular.{IsRegular, IsSearchable};
 ghost use Rattle.pef_hash.specs.Kept.Searches.{AreSlotsInTurn, IsHashed, LeadsToAll};

@@ -1,7 +1,7 @@
-ghost use Rattle.std.specs.Prelude.{◌≡◌, ◌<◌, ◌≤◌, ℕ, List, IsTrue, None, Some, option_map};
+ghost use Rattle.std.specs.Prelude.{◌≡◌, ◌<◌, ℕ, List, None, Some};
 ghost use Rattle.std.specs.Option.{option_copied};
 ghost use Rattle.pef_views.specs.Views.{contained};
-ghost use Rattle.pef_loader.specs.Loader.{export_of, import_of, library_of, reloc_of};
+ghost use Rattle.pef_loader.specs.Loader.{import_of};
 ghost use Rattle.pef_loader.specs.Views.{import_seen, loaded};
 ghost use Rattle.pef_ports.specs.Sent.{Sends};
 ghost use Rattle.pef_listing.specs.Listed.{programs_fault};

@@ -1,4 +1,3 @@
-ghost use Rattle.std.specs.Prelude.{◌≡◌};
 ghost use Rattle.pef_listing.specs.Pieces.{piece_text, pieces_text};
 ghost use Rattle.pef_ports.specs.Sent.{Sends};
 

@@ -1,7 +1,5 @@
 ghost use Rattle.std.specs.Prelude.{◌≡◌, drop, IsTrue};
 ghost use Rattle.std.specs.Result.{result_err};
-ghost use Rattle.pef_words.specs.Refusals.{first_met};
-ghost use Rattle.pef_hash.specs.Exports.{ExportTable};
 ghost use Rattle.pef_hash.specs.Views.{table_of};
 ghost use Rattle.pef_loader.specs.Export.{export_refusal, export_table, export_tests, has_exports, has_section};
 

@@ -1,6 +1,5 @@
 ghost use Rattle.std.specs.Prelude.{◌≡◌, ◌<◌, ◌^◌};
 ghost use Rattle.std.specs.Result.{result_err};
-ghost use Rattle.pef_words.specs.Refusals.{first_met};
 ghost use Rattle.pef_loader.specs.Kept.Names.{NamesEndAt};
 ghost use Rattle.pef_loader.specs.Import.{import_at, import_refusal, import_tests, owner_of};
 

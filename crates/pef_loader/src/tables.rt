@@ -6,7 +6,7 @@ ghost use Rattle.pef_loader.specs.Export.{export_refusal, export_table, has_expo
 ghost use Rattle.pef_loader.specs.Header.{entry_of, is_entry};
 ghost use Rattle.pef_loader.specs.Import.{import_refusal, owner_of};
 ghost use Rattle.pef_loader.specs.Library.{library_refusal};
-ghost use Rattle.pef_loader.specs.Loader.{export_of, fault_if, has_entries, import_of, init_of, library_of, loaded_of, main_of, named_of, reloc_of, term_of};
+ghost use Rattle.pef_loader.specs.Loader.{export_of, has_entries, import_of, init_of, library_of, loaded_of, main_of, named_of, reloc_of, term_of};
 ghost use Rattle.pef_loader.specs.Kept.Names.{NamesEndAt};
 ghost use Rattle.pef_loader.specs.Kept.Tests.{TestsEach};
 ghost use Rattle.pef_loader.specs.Kept.Ranges.{AreInOrder};

@@ -1,4 +1,4 @@
-ghost use Rattle.std.specs.Prelude.{◌≡◌, ◌+◌, ◌*◌, ◌^◌, ◌<◌, ◌++◌, length, replicate};
+ghost use Rattle.std.specs.Prelude.{◌≡◌, ◌+◌, ◌*◌, ◌^◌, ◌<◌, ◌++◌, length};
 ghost use Rattle.pef_pidata.specs.Pattern.{copied_len, output, repeated, spelled_len, woven};
 
 use crate::instruction::Instruction;

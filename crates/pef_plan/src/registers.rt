@@ -1,5 +1,5 @@
 ghost use Rattle.std.specs.Prelude.{◌≡◌, IfOk, true};
-ghost use Rattle.pef_cert.specs.Valid.{RegistersOf, rises};
+ghost use Rattle.pef_cert.specs.Valid.{RegistersOf};
 ghost use Rattle.pef_reloc.specs.Fixups.{fixups_fit};
 
 use pef_cert::uses_section;

@@ -1,6 +1,6 @@
-ghost use Rattle.std.specs.Prelude.{◌≡◌, ◌+◌, ◌<◌, ◌≤◌, ◌∷◌, ℕ, [], length, slice_index, slice_index_or};
+ghost use Rattle.std.specs.Prelude.{◌≡◌, ◌+◌, ◌<◌, ◌≤◌, ◌∷◌, ℕ, length, slice_index};
 ghost use Rattle.pef_runs.specs.Ends.{EndsAt};
-ghost use Rattle.pef_runs.specs.Places.{AtOf, HereOf};
+ghost use Rattle.pef_runs.specs.Places.{AtOf};
 ghost use Rattle.pef_plan.specs.Kept.Rows.{ClosedOf, DirectLine, DirectSquare, LeastOf, LineOf, LinesOf, RowOf, SmallLine, SmallSquare};
 ghost use Rattle.pef_squares.specs.Squares.{number_in};
 

@@ -1,4 +1,4 @@
-ghost use Rattle.std.specs.Prelude.{◌≡◌, ◌<◌, length};
+ghost use Rattle.std.specs.Prelude.{◌≡◌, ◌<◌};
 ghost use Rattle.pef_ports.specs.Faults.{fault_name, fault_number};
 ghost use Rattle.pef_ports.specs.Input.{ReadsInput};
 ghost use Rattle.pef_ports.specs.Kept.Chunks.{ReadsChunk};

@@ -1,4 +1,4 @@
-ghost use Rattle.std.specs.Prelude.{◌≡◌, ◌≤◌, ◌<◌, length, OnOk, []};
+ghost use Rattle.std.specs.Prelude.{◌≡◌, ◌<◌, OnOk, []};
 ghost use Rattle.pef_ports.specs.Sent.{Sends};
 
 use crate::ports::{Sink, StreamFault};

@@ -1,4 +1,4 @@
-ghost use Rattle.std.specs.Prelude.{◌≡◌, ℕ, List, Result};
+ghost use Rattle.std.specs.Prelude.{ℕ, List, Result};
 ghost use Rattle.pef_words.specs.Refusals.{result_map};
 ghost use Rattle.pef_ports.specs.Ports.{FilesState, ReadsFile, ReadsSome, Stream, WritesFile, WritesSome};
 ghost use Rattle.pef_ports.specs.declared.ports.FileFault.{FileFault};

@@ -1,5 +1,5 @@
 -- Where an instruction begins to add, the import index that it leaves, and which bases stand in a list.
-use Rattle.std.proofs.Common.{◌≡◌, ℕ, zero, suc, ◌+◌, ◌*◌, ◌<◌, ◌≤◌, ◌⊎◌, inl, inr, Bool, true, false, ◌&&◌, ◌||◌, nat_le, List, [], ◌∷◌, ◌++◌, length, refl, ap, sym, ◌∙◌, arith}
+use Rattle.std.proofs.Common.{◌≡◌, ℕ, zero, suc, ◌+◌, ◌*◌, ◌<◌, ◌≤◌, ◌⊎◌, inl, inr, Bool, true, false, ◌&&◌, ◌||◌, nat_le, List, [], ◌∷◌, ◌++◌, refl, ap, sym, ◌∙◌, arith}
 use Rattle.std.specs.List.{AllByRecursion}
 use Rattle.std.proofs.lemmas.Bool.{leb-true, ltb-true}
 use Rattle.std.proofs.lemmas.Bool.Decides.{eqb_tells}
@@ -12,8 +12,8 @@ use Rattle.pef_reloc.specs.Deliveries.{index_after, index_past, is_import, is_se
 use Rattle.pef_reloc.specs.Fixups.{base_fits, fixup_fits, fixups_fit, fixups_from}
 use Rattle.pef_reloc.specs.Limits.{most_imports, most_sections, offset_limit}
 use Rattle.pef_reloc.specs.Steps.{State, added, additions, next_state, numbered, pairs, row}
-use Rattle.pef_reloc.proofs.FixupLemmas.{fixups_fit-parts, fixups_from-first}
-use Rattle.pef_words.proofs.Laws.Tests.{both_met, met_both}
+use Rattle.pef_reloc.proofs.FixupLemmas.{fixups_fit-parts}
+use Rattle.pef_words.proofs.Laws.Tests.{met_both}
 
 begins : (f g : Fixup) (fs gs : List Fixup) (p : ℕ) → f ∷ fs ≡ g ∷ gs → f.offset ≡ p → g.offset ≡ p
 begins f g fs gs p e at = let same : f ≡ g = cc in sym (ap (λ (h : Fixup). h.offset) same) ∙ at

@@ -1,4 +1,4 @@
-ghost use Rattle.std.specs.Prelude.{◌≡◌, ◌+◌, ◌*◌, ◌<◌, ◌≤◌, ◌∷◌, ℕ, [], IfSome, List, length, slice_index_or};
+ghost use Rattle.std.specs.Prelude.{◌≡◌, ◌+◌, ◌*◌, ◌<◌, ◌≤◌, ◌∷◌, [], IfSome, List, length, slice_index_or};
 ghost use Rattle.pef_cert.specs.Extension.{extension, offer_at};
 ghost use Rattle.pef_cert.specs.Labels.{Labels};
 ghost use Rattle.pef_runs.specs.Tables.{Agrees, Shaped};

@@ -7,7 +7,7 @@ ghost use Rattle.pef_runs.specs.Runs.{EndOf, Ends, RunOf, imports, limit, run_in
 ghost use Rattle.pef_runs.specs.Kept.Runs.{Next};
 ghost use Rattle.pef_runs.specs.Tables.{Agrees, Shaped};
 ghost use Rattle.pef_reloc.specs.Instrs.{instr_length};
-ghost use Rattle.pef_reloc.specs.declared.fixup.Base.TheVariants.{Import, Section};
+ghost use Rattle.pef_reloc.specs.declared.fixup.Base.TheVariants.{Section};
 ghost use Rattle.pef_reloc.specs.declared.fixup.Fixup.{Fixup};
 
 use crate::known::Known;

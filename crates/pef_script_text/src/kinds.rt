@@ -2,7 +2,7 @@ ghost use Rattle.std.specs.Prelude.{◌≡◌, map};
 ghost use Rattle.std.specs.Str.{bytes_eq};
 ghost use Rattle.pef_script_text.specs.Contents.{is_section_word};
 ghost use Rattle.pef_script_text.specs.Declarations.{class_of, is_weak_word, kind_of, options_of, share_of};
-ghost use Rattle.pef_script_text.specs.SoFar.{word_in, word_of};
+ghost use Rattle.pef_script_text.specs.SoFar.{word_of};
 
 use crate::LineFault;
 use pef_loader::layout::{

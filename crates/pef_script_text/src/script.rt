@@ -1,4 +1,3 @@
-ghost use Rattle.std.specs.Prelude.{◌≡◌};
 ghost use Rattle.pef_script.specs.Parts.{script_in};
 ghost use Rattle.pef_script_text.specs.Grammar.{script_of};
 ghost use Rattle.pef_script_text.specs.Reads.{Reads};

@@ -1,4 +1,4 @@
-ghost use Rattle.std.specs.Prelude.{◌≡◌, ◌+◌, ◌*◌, ◌-◌, ◌++◌, ◌<◌, ◌≤◌, ◌^◌, OnOk, IfOk, length, map};
+ghost use Rattle.std.specs.Prelude.{◌≡◌, ◌+◌, ◌*◌, ◌-◌, ◌++◌, ◌<◌, ◌^◌, OnOk, IfOk, length, map};
 ghost use Rattle.pef_write.specs.Fields.{padded, spelled};
 ghost use Rattle.pef_write.specs.Containers.{data_from, header_fields, loader_header, part_header, raw_data, section_fields, spelled_headers, written_container, written_header, written_sections};
 ghost use Rattle.pef_write.specs.Kept.Views.{described};

@@ -1,5 +1,5 @@
 -- Where memory is refused, what was read is within the limit.
-use Rattle.std.proofs.Common.{◌++◌, ◌∙◌, length, take, arith, length-append, length-take}
+use Rattle.std.proofs.Common.{◌++◌, ◌∙◌, take, arith, length-append, length-take}
 use Rattle.std.proofs.lemmas.Result.{err_from_is_err_and}
 use Rattle.pef_ports.proofs.InputLemmas.{Begins-then}
 use Rattle.pef_ports.proofs.input.read_input.Goals as goal
