@@ -1,5 +1,5 @@
--- The limits of a script, which are this project's own (docs/SCRIPTS.md, "Limits"). The code has them as
--- constants; here they stand as plain numbers, so that one checks the other. How many sections, imports
+-- The limits of a script, which are this project's own (docs/SCRIPTS.md, "Limits"). The reader of scripts has
+-- them as constants; here they stand as plain numbers, so that one checks the other. How many sections, imports
 -- and fixups there may be is said where fixups are defined, in the Limits of pef_reloc.
 use Rattle.std.specs.Prelude.{ℕ}
 

@@ -1,4 +1,4 @@
--- What the parts that the code keeps are seen as: the script that they make.
+-- What the parts of a script are seen as: the script that they make.
 use Rattle.std.specs.Prelude.{ℕ, List, map}
 use denote.Ref.{Bor}
 use Rattle.pef_script.specs.declared.parts.ExportData.{ExportData}

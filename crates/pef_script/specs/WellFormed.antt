@@ -1,4 +1,4 @@
--- What is true of every script that the grammar gives (docs/SCRIPTS.md, "Lines" and "Limits").
+-- What is true of every script: names, limits, everything in its place (docs/SCRIPTS.md, "Lines" and "Limits").
 use Rattle.std.specs.Prelude.{◌≡◌, ℕ, ℤ, pos, negsuc, ◌<◌, ◌≤◌, ◌==◌, ◌||◌, Bool, true, List, [], ◌∷◌, Option, None, Some, length, map, slice_index}
 use Rattle.std.specs.List.{AllByRecursion, IsDistinct, list_all}
 use Rattle.std.specs.Str.{bytes_eq}

@@ -9,7 +9,7 @@ use crate::{Export, Import, Library, Parts, SectionHeader, Versions};
 use pef_reloc::Fixup;
 use std::marker::Model;
 
-/// A link script: what a container is made of. Names are borrowed from the text.
+/// A link script: what a container is made of. Names are borrowed.
 #[derive(Drop)]
 pub struct Script<'a> {
     parts: Parts<'a>,
@@ -36,7 +36,7 @@ impl<'a> Script<'a> {
         Script { parts }
     }
 
-    /// The versions of the container: 0, 0 and 0 without a line for them.
+    /// The versions of the container.
     pub fn versions(&self) -> Versions
         ensures { result ≡ self.now.versions }
     {
@@ -101,7 +101,7 @@ impl<'a> Script<'a> {
         })
     }
 
-    /// The line of section `k`.
+    /// Section `k` without its bytes and its fixups.
     pub fn section(&self, k: usize) -> Option<SectionHeader<'a>>
         ensures { option_map header_in result ≡ option_map (λ section. section.header) (slice_get self.now.sections k) }
     {

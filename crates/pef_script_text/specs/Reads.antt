@@ -1,4 +1,4 @@
--- What an answer of `read` says.
+-- What an answer of `read` says of a text (docs/SCRIPTS.md, "What is refused, and in which order").
 use Rattle.std.specs.Prelude.{◌≡◌, Result, Ok, Err}
 use Rattle.pef_script.specs.Script.{DescribedScript}
 use Rattle.pef_script_text.specs.declared.fault.ScriptFault.{ScriptFault}
