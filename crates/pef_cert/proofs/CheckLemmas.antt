@@ -149,5 +149,5 @@ pub check-least : (fixups : List Fixup) (c : Certified) (answer : Bool) → fixu
 check-least fixups c answer fit says e = valid-least fixups c fit (says.0 e)
 
 -- a few classes have few pairs
-pub small-square : (r : ℕ) → r ≤ 9 → r * r ≤ 81
+pub small-square : (r : ℕ) → r ≤ most_sections + 1 → r * r ≤ (most_sections + 1) * (most_sections + 1)
 small-square r few = let low = mul-le-mul_left r few in omega (arith, low, few)

@@ -183,7 +183,7 @@ world_left claim index at shaped feasible = record {
   feasible = feasible;
 }
 
-small_fixups : (fixups : List Fixup) → fixups_fit fixups ≡ true → length fixups ≤ 16384
+small_fixups : (fixups : List Fixup) → fixups_fit fixups ≡ true → length fixups ≤ most_fixups
 unfolding fixups_fit
 small_fixups fixups fit = leb-true (length fixups) most_fixups (met_both (nat_le (length fixups) most_fixups) (fixups_from 0 fixups) fit).0
 

@@ -17,7 +17,7 @@ use Rattle.pef_words.proofs.Laws.Tests.{met_both}
 use Rattle.pef_words.specs.Refusals.{◌>>=◌}
 use Rattle.pef_cert_text.specs.declared.fields.Head.{Head}
 use Rattle.pef_cert_text.specs.declared.fields.Head.TheVariants.{Section, End}
-use Rattle.pef_cert_text.specs.Lines.{bytes_spelled, fixups_line, head_line, length_line, most_fixups, most_registers, number_line, program_in, program_line, registers_in, registers_line, row_line, version_line}
+use Rattle.pef_cert_text.specs.Lines.{bytes_spelled, fixups_line, head_line, length_line, most_text_fixups, most_text_registers, number_line, program_in, program_line, registers_in, registers_line, row_line, version_line}
 use Rattle.pef_cert_text.specs.Printed.{IsNumber, IsRow, halfword_words, number_words, program_words, words_text}
 use Rattle.pef_cert_text.specs.Words.{behind, bytes_in, digit_in, ended, first_of, halfword_in, halfwords_in, none_left, numbers_in, provided, words_of}
 use Rattle.pef_cert_text.proofs.RoundLemmas.{ArePairs, length-spelled}
@@ -36,13 +36,13 @@ number_line-is name line n is =
     let are : words ≡ decimal n ∷ [] = first_of-some words digits found ∙ ap₂ (λ (w : List ℕ) (ws : List (List ℕ)). w ∷ ws) (q.0 ∙ ap decimal p.1) (none_left-true digits.1 p.0) in
     (line-is line name words (decimal n ∷ []) begins are, subst IsNumber p.1 q.1))))
 
-pub fixups_line-is : (line : List ℕ) (n : ℕ) → fixups_line line ≡ Some n → (line ≡ codes "fixups" ++ words_text (decimal n ∷ [])) × (n ≤ most_fixups)
+pub fixups_line-is : (line : List ℕ) (n : ℕ) → fixups_line line ≡ Some n → (line ≡ codes "fixups" ++ words_text (decimal n ∷ [])) × (n ≤ most_text_fixups)
 unfolding fixups_line
-fixups_line-is line n is = then_some (number_line (codes "fixups") line) (λ count. provided (nat_le count most_fixups) count) n is (λ count said rest.
-    let p = provided-some (nat_le count most_fixups) count n rest in
-    let few = leb-true count most_fixups p.0 in
+fixups_line-is line n is = then_some (number_line (codes "fixups") line) (λ count. provided (nat_le count most_text_fixups) count) n is (λ count said rest.
+    let p = provided-some (nat_le count most_text_fixups) count n rest in
+    let few = leb-true count most_text_fixups p.0 in
     let q = number_line-is (codes "fixups") line count said in
-    (q.0 ∙ ap (λ (m : ℕ). codes "fixups" ++ words_text (decimal m ∷ [])) p.1, subst (λ (m : ℕ). m ≤ most_fixups) p.1 few))
+    (q.0 ∙ ap (λ (m : ℕ). codes "fixups" ++ words_text (decimal m ∷ [])) p.1, subst (λ (m : ℕ). m ≤ most_text_fixups) p.1 few))
 
 pub length_line-is : (line : List ℕ) (n : ℕ) → length_line line ≡ Some n → (line ≡ codes "length" ++ words_text (decimal n ∷ [])) × IsNumber n
 unfolding length_line
@@ -98,21 +98,21 @@ pub record RegistersText (line registers : List ℕ) : Type 0 where
   pub text : line ≡ codes "registers" ++ words_text (number_words registers ++ codes "*" ∷ [])
   pub numbers : AllByRecursion IsNumber registers
   pub rising : rises registers ≡ true
-  pub few : length registers ≤ most_registers
+  pub few : length registers ≤ most_text_registers
 
 pub registers_line-is : (line registers : List ℕ) → registers_line line ≡ Some registers → RegistersText line registers
 unfolding registers_line
 registers_line-is line registers is =
-    then_some (behind (codes "registers") (words_of line)) (λ words. registers_in words >>= λ rs. provided (rises rs && nat_le (length rs) most_registers) rs) registers is (λ words begins rest.
-    then_some (registers_in words) (λ rs. provided (rises rs && nat_le (length rs) most_registers) rs) registers rest (λ rs said last.
-    let p = provided-some (rises rs && nat_le (length rs) most_registers) rs registers last in
-    let tests = met_both (rises rs) (nat_le (length rs) most_registers) p.0 in
+    then_some (behind (codes "registers") (words_of line)) (λ words. registers_in words >>= λ rs. provided (rises rs && nat_le (length rs) most_text_registers) rs) registers is (λ words begins rest.
+    then_some (registers_in words) (λ rs. provided (rises rs && nat_le (length rs) most_text_registers) rs) registers rest (λ rs said last.
+    let p = provided-some (rises rs && nat_le (length rs) most_text_registers) rs registers last in
+    let tests = met_both (rises rs) (nat_le (length rs) most_text_registers) p.0 in
     let q = registers_in-are words rs said in
     subst (RegistersText line) p.1 (record {
       text = line-is line (codes "registers") words (number_words rs ++ codes "*" ∷ []) begins q.0;
       numbers = q.1;
       rising = tests.0;
-      few = leb-true (length rs) most_registers tests.1;
+      few = leb-true (length rs) most_text_registers tests.1;
     })))
 
 -- labels

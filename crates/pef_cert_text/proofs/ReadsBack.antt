@@ -8,7 +8,7 @@ use Rattle.pef_cert.specs.Valid.{Certified}
 use Rattle.pef_reloc.specs.Instrs.{program_length}
 use Rattle.pef_cert_text.specs.declared.fields.Head.TheVariants.{Section, End}
 use Rattle.pef_cert_text.specs.Grammar.{◌>>=◌, certificate_read, certificates_of, certificates_read, line_read, row_width}
-use Rattle.pef_cert_text.specs.Lines.{fixups_line, head_line, length_line, most_fixups, program_line, registers_line, version_line}
+use Rattle.pef_cert_text.specs.Lines.{fixups_line, head_line, length_line, most_text_fixups, program_line, registers_line, version_line}
 use Rattle.pef_cert_text.specs.Printed.{IsNumber, Printable, certificate_text, certificates_text, each_text, line_text, number_words, program_words, rows_text, words_text}
 use Rattle.pef_cert_text.proofs.RoundLemmas.{Behind, both, number_line-text, program-above, program_line-text, registers-above, registers_line-text, rows_read-text}
 use Rattle.pef_cert_text.proofs.TextLemmas.{above, decimal-above, line_read-line}
@@ -19,9 +19,9 @@ assoc a b c d e f rest = simp append_assoc
 one-above : (n : ℕ) → IsNumber n → above 0x20 (decimal n) ≡ true
 one-above n small = decimal-above n (omega (arith, small))
 
-fixups_line-text : (n : ℕ) → n ≤ most_fixups → fixups_line (codes "fixups" ++ words_text (decimal n ∷ [])) ≡ Some n
+fixups_line-text : (n : ℕ) → n ≤ most_text_fixups → fixups_line (codes "fixups" ++ words_text (decimal n ∷ [])) ≡ Some n
 unfolding fixups_line
-fixups_line-text n most = rw (number_line-text (codes "fixups") n refl refl (omega arith), le-leb n most_fixups most) refl
+fixups_line-text n most = rw (number_line-text (codes "fixups") n refl refl (omega arith), le-leb n most_text_fixups most) refl
 
 length_line-text : (n : ℕ) → IsNumber n → length_line (codes "length" ++ words_text (decimal n ∷ [])) ≡ Some n
 unfolding length_line

@@ -12,7 +12,7 @@ use Rattle.pef_reloc.specs.Instrs.{halfword_bytes, halfwords_of, instrs_fit, pro
 use Rattle.pef_reloc.specs.Unrolled.{program_fault}
 use Rattle.pef_reloc.proofs.Laws.{instrs_of-spelled, length_spelling, spelled-nothing, spelled-one, some_length}
 use Rattle.pef_cert_text.specs.Grammar.{Left, rows_read}
-use Rattle.pef_cert_text.specs.Lines.{bytes_spelled, most_registers, number_line, program_line, registers_in, registers_line, row_line}
+use Rattle.pef_cert_text.specs.Lines.{bytes_spelled, most_text_registers, number_line, program_line, registers_in, registers_line, row_line}
 use Rattle.pef_cert_text.specs.Printed.{IsNumber, IsRow, halfword_words, line_text, number_words, program_words, rows_text, words_text}
 use Rattle.pef_cert_text.specs.Words.{digit_in, halfword_in, halfwords_in, none_left, numbers_in}
 use Rattle.pef_cert_text.proofs.TextLemmas.{above, all_above, decimal-above, decimal-no_star, decimal_number-decimal, line_read-line, words_of-words}
@@ -45,10 +45,10 @@ pub registers-above : (registers : List ℕ) → AllByRecursion IsNumber registe
 registers-above [] all = refl
 registers-above (n ∷ registers) all = both (above 0x20 (decimal n)) (all_above 0x20 (number_words registers ++ codes "*" ∷ [])) (decimal-above n (let small = all.0 in omega (arith, small))) (registers-above registers all.1)
 
-pub registers_line-text : (registers : List ℕ) → AllByRecursion IsNumber registers → rises registers ≡ true → length registers ≤ most_registers → registers_line (codes "registers" ++ words_text (number_words registers ++ codes "*" ∷ [])) ≡ Some registers
+pub registers_line-text : (registers : List ℕ) → AllByRecursion IsNumber registers → rises registers ≡ true → length registers ≤ most_text_registers → registers_line (codes "registers" ++ words_text (number_words registers ++ codes "*" ∷ [])) ≡ Some registers
 unfolding registers_line
 registers_line-text registers all rising few =
-    rw (words_of-words (codes "registers") (number_words registers ++ codes "*" ∷ []) refl (registers-above registers all), registers_in-words registers all, rising, le-leb (length registers) most_registers few) refl
+    rw (words_of-words (codes "registers") (number_words registers ++ codes "*" ∷ []) refl (registers-above registers all), registers_in-words registers all, rising, le-leb (length registers) most_text_registers few) refl
 
 -- labels
 pub row_line-text : (width at : ℕ) (row : List ℕ) → IsNumber at → IsRow width row → row_line width at (codes "at" ++ words_text (decimal at ∷ number_words row)) ≡ Some row

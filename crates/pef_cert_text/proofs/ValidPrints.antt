@@ -15,6 +15,7 @@ use Rattle.pef_cert.specs.Valid.{Certified, Valid, is_among, labels_of}
 use Rattle.pef_cert.proofs.Laws.{World, class_of-below, extension-small, few_rising, label-extension, whole_world, world-first, world-next}
 use Rattle.pef_cert_text.specs.Grammar.{row_width}
 use Rattle.pef_cert_text.specs.Printed.{IsNumber, IsRow, Printable}
+use Rattle.pef_reloc.specs.Limits.{most_sections}
 
 -- what holds at each place of a list holds of its members
 each_number : (ns : List ℕ) → ((i : ℕ) → i < length ns → IsNumber (slice_index ns i)) → AllByRecursion IsNumber ns
@@ -31,7 +32,7 @@ row_wide width (row ∷ rows) zero all under = all.0
 row_wide width (row ∷ rows) (suc i) all under = row_wide width rows i all.1 (omega (arith, under))
 
 -- the registers are numbers of sections
-among_small : (rs : List ℕ) (most : ℕ) → most ≤ 8 → ((k : ℕ) → is_among rs k ≡ true → k < most) → AllByRecursion IsNumber rs
+among_small : (rs : List ℕ) (most : ℕ) → most ≤ most_sections → ((k : ℕ) → is_among rs k ≡ true → k < most) → AllByRecursion IsNumber rs
 among_small [] most few below = tt
 among_small (r ∷ rs) most few below =
     let here = below r (rw (eq-eqb r r refl) refl) in
@@ -108,8 +109,8 @@ valid_prints fixups c fit valid section =
     let few = (fixups_fit-parts fixups fit).count in
     let short = program_short fixups c fit valid in
     let instrs = count-length c.program in
-    let below : (k : ℕ) → is_among c.registers k ≡ true → k < 8 = λ k among. used_section-below fixups k fit (sym (valid.registers.used k) ∙ among) in
-    let registers = few_rising 8 c.registers valid.registers.rising below in
+    let below : (k : ℕ) → is_among c.registers k ≡ true → k < most_sections = λ k among. used_section-below fixups k fit (sym (valid.registers.used k) ∙ among) in
+    let registers = few_rising most_sections c.registers valid.registers.rising below in
     let count = valid.rows in
     record {
       section = section;
@@ -118,7 +119,7 @@ valid_prints fixups c fit valid section =
       halfwords = omega (arith, short, few);
       rising = valid.registers.rising;
       few = omega (arith, registers);
-      registers = among_small c.registers 8 (omega arith) below;
+      registers = among_small c.registers most_sections (omega arith) below;
       some = omega (arith, count);
       most = omega (arith, count, few);
       rows = rows_right fixups c fit valid;

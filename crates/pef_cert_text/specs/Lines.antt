@@ -12,12 +12,12 @@ use Rattle.pef_cert_text.specs.declared.fields.Head.{Head}
 use Rattle.pef_cert_text.specs.declared.fields.Head.TheVariants.{Section, End}
 use Rattle.pef_cert_text.specs.Words.{behind, ended, first_of, halfwords_in, numbers_in, provided, words_of}
 
--- the most fixups that a certificate is for, and the most sections that count as values of a register
-abbrev pub most_fixups : ℕ
-most_fixups = 65536
+-- the most fixups that the text of a certificate is for, and the most sections that count as values of a register in it
+abbrev pub most_text_fixups : ℕ
+most_text_fixups = 65536
 
-abbrev pub most_registers : ℕ
-most_registers = 16
+abbrev pub most_text_registers : ℕ
+most_text_registers = 16
 
 -- `pefcert 1`: the version
 unfoldable pub version_line : List ℕ → Option ℕ
@@ -39,7 +39,7 @@ head_line line = if bytes_eq line (codes "end") then Some End else option_map Se
 unfoldable pub fixups_line : List ℕ → Option ℕ
 fixups_line line = do
   count ← number_line (codes "fixups") line
-  provided (nat_le count most_fixups) count
+  provided (nat_le count most_text_fixups) count
 
 -- `length N`: the halfwords of the program
 unfoldable pub length_line : List ℕ → Option ℕ
@@ -80,7 +80,7 @@ unfoldable pub registers_line : List ℕ → Option (List ℕ)
 registers_line line = do
   words ← behind (codes "registers") (words_of line)
   registers ← registers_in words
-  provided (rises registers && nat_le (length registers) most_registers) registers
+  provided (rises registers && nat_le (length registers) most_text_registers) registers
 
 -- `at I L ..`: the index that is wanted, and so many labels
 unfoldable pub row_line : ℕ → ℕ → List ℕ → Option (List ℕ)

@@ -7,7 +7,7 @@ use Rattle.pef_reloc.specs.declared.instr.Instr.{Instr}
 use Rattle.pef_reloc.specs.Instrs.{instrs_fit, program_length, spelled}
 use Rattle.pef_reloc.specs.Unrolled.{program_fault}
 use Rattle.pef_cert_text.specs.Grammar.{row_width}
-use Rattle.pef_cert_text.specs.Lines.{most_fixups, most_registers}
+use Rattle.pef_cert_text.specs.Lines.{most_text_fixups, most_text_registers}
 
 -- words behind the first, each behind a space
 abbrev pub words_text : List (List ℕ) → List ℕ
@@ -73,8 +73,8 @@ pub record Printable (c : Certified) : Type 0 where
   pub readable : program_fault (spelled c.program) ≡ None
   pub halfwords : IsNumber (program_length c.program)
   pub rising : rises c.registers ≡ true
-  pub few : length c.registers ≤ most_registers
+  pub few : length c.registers ≤ most_text_registers
   pub registers : AllByRecursion IsNumber c.registers
   pub some : 0 < length c.labels
-  pub most : length c.labels ≤ most_fixups + 1
+  pub most : length c.labels ≤ most_text_fixups + 1
   pub rows : AllByRecursion (IsRow (row_width c.registers)) c.labels

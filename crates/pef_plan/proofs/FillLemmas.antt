@@ -31,6 +31,8 @@ use Rattle.pef_plan.specs.Kept.Tables.{Tabled}
 use Rattle.pef_runs.specs.Leads.{LeadsWithin}
 use Rattle.pef_plan.specs.Reached.{ReachedAt}
 use Rattle.pef_runs.proofs.Laws.{ends-map}
+use Rattle.pef_reloc.specs.Limits.{most_imports, most_sections}
+use Rattle.pef_squares.specs.Limits.{most_classes}
 
 counts-one : (rs : List ℕ) (b : Base) → RegisteredBase rs b → Counts rs b
 counts-one rs (Section k) is = is
@@ -59,11 +61,11 @@ all-take P zero fs all = tt
 all-take P (suc n) [] all = tt
 all-take P (suc n) (f ∷ fs) all = (all.0, all-take P n fs all.1)
 
-past_small : (b : Base) (m : ℕ) → base_fits b ≡ true → m ≤ 65536 → index_past b m ≤ 65536
+past_small : (b : Base) (m : ℕ) → base_fits b ≡ true → m ≤ most_imports → index_past b m ≤ most_imports
 past_small (Section k) m fits small = small
-past_small (Import k) m fits small = let low = ltb-true k 65536 fits in omega (arith, low)
+past_small (Import k) m fits small = let low = ltb-true k most_imports fits in omega (arith, low)
 
-pub index-small : (fs : List Fixup) (m : ℕ) → AllByRecursion (λ f. fixup_fits f ≡ true) fs → m ≤ 65536 → index_after fs m ≤ 65536
+pub index-small : (fs : List Fixup) (m : ℕ) → AllByRecursion (λ f. fixup_fits f ≡ true) fs → m ≤ most_imports → index_after fs m ≤ most_imports
 index-small [] m fit small = small
 index-small (f ∷ fs) m fit small = index-small fs (index_past f.base m) fit.1 (past_small f.base m (fixup_fits-parts f fit.0).base small)
 
@@ -317,7 +319,7 @@ known_shaped fixups rs labels skips k index rest fit right few t known =
     let regs = known.registers_are in
     let e = ap length regs in
     record {
-      few = (let low = few_rising 8 rs right.rising (λ j among. used_section-below fixups j fit (sym (right.used j) ∙ among)) in omega (arith, e, low));
+      few = (let low = few_rising most_sections rs right.rising (λ j among. used_section-below fixups j fit (sym (right.used j) ∙ among)) in omega (arith, e, low));
       count = (let low = (fixups_fit-parts fixups fit).count in omega (arith, few, low));
       labels = (let count = t.labels_count in let same = ap length known.labels_are in omega (arith, count, same));
       skips = (let count = t.skips_count in let same = ap length known.skips_are in omega (arith, count, same));
@@ -416,8 +418,8 @@ tabled-none rs index m n = record {
   offers = λ l same. tt;
 }
 
-pub fill-none : (rest : List Fixup) (rs : List ℕ) (labels : List (List (List ℕ))) (skips : List (List ℕ)) (index : ℕ) → rest ≡ [] → labels ≡ replicate 9 (replicate 9 0) ∷ [] → skips ≡ replicate 9 0 ∷ [] → Tabled rs labels skips index rest
-fill-none rest rs labels skips index none labels_are skips_are = rw (none, labels_are, skips_are) (tabled-none rs index 9 9)
+pub fill-none : (rest : List Fixup) (rs : List ℕ) (labels : List (List (List ℕ))) (skips : List (List ℕ)) (index : ℕ) → rest ≡ [] → labels ≡ replicate most_classes (replicate most_classes 0) ∷ [] → skips ≡ replicate most_classes 0 ∷ [] → Tabled rs labels skips index rest
+fill-none rest rs labels skips index none labels_are skips_are = rw (none, labels_are, skips_are) (tabled-none rs index most_classes most_classes)
 
 pub ends-none : (rest : List Fixup) (rs : List ℕ) (labels : List (List (List ℕ))) (count : ℕ) (e : RunEnds) → rest ≡ [] → count ≡ length rs + 1 → EndsOf (λ l. Unit {0}) count [] e → EndsOf (λ l. SameLabels l rs labels (length rest)) (length rs + 1) rest e
 ends-none rest rs labels count e none same ends =

@@ -17,6 +17,8 @@ use Rattle.pef_squares.specs.Squares.{number_in}
 use Rattle.pef_runs.specs.Tables.{SameLabels}
 use Rattle.pef_plan.specs.Kept.Tables.{Tabled}
 use Rattle.pef_plan.proofs.Reaching.{reached-exact, reached-least}
+use Rattle.pef_squares.specs.Limits.{most_classes}
+use Rattle.pef_reloc.specs.Limits.{most_sections}
 
 all_rows : (width : ℕ) (rows : List (List ℕ)) → ((i : ℕ) → i < length rows → length (slice_index_or rows i []) ≡ width) → AllByRecursion (λ row. length row ≡ width) rows
 all_rows width [] each = tt
@@ -79,7 +81,7 @@ plan_exact fixups labels skips rows c p =
     (p.tabled.reached (labels_of c (length fixups)) (plan_same fixups labels skips rows c p))
 
 -- there are nine classes at most
-pub few_classes : (fixups : List Fixup) (registers : List ℕ) → fixups_fit fixups ≡ true → RegistersOf fixups registers → length registers + 1 ≤ 9
+pub few_classes : (fixups : List Fixup) (registers : List ℕ) → fixups_fit fixups ≡ true → RegistersOf fixups registers → length registers + 1 ≤ most_classes
 few_classes fixups registers fit right =
-    let low = few_rising 8 registers right.rising (λ j among. used_section-below fixups j fit (sym (right.used j) ∙ among)) in
+    let low = few_rising most_sections registers right.rising (λ j among. used_section-below fixups j fit (sym (right.used j) ∙ among)) in
     omega (arith, low)

@@ -22,17 +22,18 @@ use Rattle.pef_plan.specs.Reached.{LeadsOn, ReachedFrom}
 use Rattle.pef_reloc.specs.Fixups.{fixup_fits}
 use Rattle.pef_plan.proofs.FillLemmas.{registered-all}
 use Rattle.pef_runs.proofs.Laws.{agrees-behind, shaped_fewer}
+use Rattle.pef_reloc.specs.Limits.{most_sections}
 
 -- a section of each class
-pub section_there : (rs : List ℕ) (class : ℕ) → Sections rs → class < length rs → (class_of rs (slice_index rs class) ≡ class) × (slice_index rs class < 8)
+pub section_there : (rs : List ℕ) (class : ℕ) → Sections rs → class < length rs → (class_of rs (slice_index rs class) ≡ class) × (slice_index rs class < most_sections)
 section_there rs class s under = (class_of-index rs class s.rising under, s.below (slice_index rs class) (is_among-index rs class under))
 
 false_of : (b : Bool) → (b ≡ true → ⊥) → b ≡ false
 false_of true never = absurd (never refl)
 false_of false never = refl
 
-pub section_free : (rs : List ℕ) → Sections rs → class_of rs 8 ≡ length rs
-section_free rs s = class_of-other rs 8 (false_of (is_among rs 8) (λ among. let low = s.below 8 among in omega (arith, low)))
+pub section_free : (rs : List ℕ) → Sections rs → class_of rs most_sections ≡ length rs
+section_free rs s = class_of-other rs most_sections (false_of (is_among rs most_sections) (λ among. let low = s.below most_sections among in omega (arith, low)))
 
 pub section_is : (rs : List ℕ) (class : ℕ) → Sections rs → class < length rs → class_of rs (slice_index rs class) ≡ class
 section_is rs class s under = (section_there rs class s under).0
@@ -40,12 +41,12 @@ section_is rs class s under = (section_there rs class s under).0
 pub section_small : (rs : List ℕ) (class : ℕ) → Sections rs → class < length rs → slice_index rs class < 512
 section_small rs class s under = let low = (section_there rs class s under).1 in omega (arith, low)
 
-pub section_last : (rs : List ℕ) (class : ℕ) → Sections rs → class < length rs + 1 → length rs ≤ class → class_of rs 8 ≡ class
+pub section_last : (rs : List ℕ) (class : ℕ) → Sections rs → class < length rs + 1 → length rs ≤ class → class_of rs most_sections ≡ class
 section_last rs class s under past = let free = section_free rs s in omega (arith, free, under, past)
 
 number_of : (rs : List ℕ) (class : ℕ) → Sections rs → (class < length rs) ⊎ (class ≡ length rs) → NumberOf rs class
 number_of rs class s (inl under) = let there = section_there rs class s under in let low = there.1 in record { number = slice_index rs class; small = omega (arith, low); is = there.0 }
-number_of rs class s (inr last) = record { number = 8; small = omega arith; is = section_free rs s ∙ sym last }
+number_of rs class s (inr last) = record { number = most_sections; small = omega arith; is = section_free rs s ∙ sym last }
 
 below_or : (a b : ℕ) → a < b + 1 → (a < b) ⊎ (a ≡ b)
 below_or a b under = grind (arith, under)

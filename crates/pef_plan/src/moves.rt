@@ -4,6 +4,7 @@ ghost use Rattle.pef_cert.specs.Labels.{class_of};
 ghost use Rattle.pef_runs.specs.Places.{extension_in};
 ghost use Rattle.pef_plan.specs.Kept.Steps.{FallsOn, Sections, Tracked, TrackedHere, labels_tabled};
 ghost use Rattle.pef_squares.specs.Squares.{number_in};
+ghost use Rattle.pef_squares.specs.Limits.{most_classes};
 
 use pef_reloc::{Instr, MAX_SECTIONS};
 use pef_runs::{Here, Known, Place, Step};
@@ -11,8 +12,8 @@ use pef_squares::Square;
 
 /// The label of a row in classes of the registers.
 pub(crate) fn label_of(row: &Square, c: usize, d: usize) -> u64
-    requires c { c < 9 }
-    requires d { d < 9 }
+    requires c { c < most_classes }
+    requires d { d < most_classes }
     ensures { result ≡ number_in row.now c d }
 {
     u64::from(row[c][d])

@@ -4,6 +4,7 @@ ghost use Rattle.pef_plan.specs.declared.fault.PlanFault.TheVariants.{OutOfMemor
 ghost use Rattle.pef_plan.specs.Exact.{Exact};
 ghost use Rattle.pef_plan.specs.Kept.Laid.{LaidLabels, LaidSquare};
 ghost use Rattle.pef_reloc.specs.Fixups.{fixups_fit};
+ghost use Rattle.pef_squares.specs.Limits.{most_classes};
 
 use crate::fault::PlanFault;
 use crate::program::least_program;
@@ -60,7 +61,7 @@ pub(crate) fn counted_plan(
 
 /// Labels in rows, those of the most fixups left first.
 fn rows(alloc: Global, labels: &Squares, classes: usize) -> Result<LabelRows, AllocError>
-    requires { classes ≤ 9 }
+    requires { classes ≤ most_classes }
     ensures { IfOk result (λ rows. LaidLabels classes labels.now rows) }
 {
     let mut rows = LabelRows::new(alloc, classes * classes);
@@ -75,7 +76,7 @@ fn rows(alloc: Global, labels: &Squares, classes: usize) -> Result<LabelRows, Al
 
 /// A row of labels, with the classes of C outside and those of D inside.
 fn row(alloc: Global, square: &Square, classes: usize) -> Result<Vec<u32>, AllocError>
-    requires { classes ≤ 9 }
+    requires { classes ≤ most_classes }
     ensures { IfOk result (λ row. LaidSquare classes square.now row.items) }
 {
     let mut row = Vec::new(alloc);

@@ -3,6 +3,7 @@ ghost use Rattle.pef_runs.specs.Ends.{EndsAt};
 ghost use Rattle.pef_runs.specs.Places.{AtOf};
 ghost use Rattle.pef_plan.specs.Kept.Rows.{ClosedOf, DirectLine, DirectSquare, LeastOf, LineOf, LinesOf, RowOf, SmallLine, SmallSquare};
 ghost use Rattle.pef_squares.specs.Squares.{number_in};
+ghost use Rattle.pef_squares.specs.Limits.{most_classes};
 
 use crate::lows::low;
 use pef_reloc::Fixup;
@@ -72,7 +73,7 @@ pub(crate) fn at_classes<'a>(at: At<'a>, c: usize, d: usize) -> Here<'a>
 /// The least over all classes, with 1 for each register that changes.
 fn closed(direct: &Square, classes: usize) -> Square
     requires some { 0 < classes }
-    requires few { classes ≤ 9 }
+    requires few { classes ≤ most_classes }
     requires small { SmallSquare classes direct.now }
     ensures { ClosedOf classes direct.now result }
 {
@@ -84,7 +85,7 @@ fn closed(direct: &Square, classes: usize) -> Square
 /// The same from the least of each column and of all.
 fn closed_lines(direct: &Square, lows: &Line, low: u32, classes: usize) -> Square
     requires some { 0 < classes }
-    requires few { classes ≤ 9 }
+    requires few { classes ≤ most_classes }
     requires small { SmallSquare classes direct.now }
     requires lows { SmallLine classes lows.now }
     requires low { low ≤ 1048576 }
@@ -100,7 +101,7 @@ fn closed_lines(direct: &Square, lows: &Line, low: u32, classes: usize) -> Squar
 /// The same for one class of register C.
 fn closed_line(direct: &Line, lows: &Line, low: u32, classes: usize) -> Line
     requires some { 0 < classes }
-    requires few { classes ≤ 9 }
+    requires few { classes ≤ most_classes }
     requires small { SmallLine classes direct.now }
     requires lows { SmallLine classes lows.now }
     requires low { low ≤ 1048576 }
@@ -117,7 +118,7 @@ fn closed_line(direct: &Line, lows: &Line, low: u32, classes: usize) -> Line
 /// The least of each column of a square, by the class of register D.
 fn least_columns(square: &Square, classes: usize) -> Line
     requires some { 0 < classes }
-    requires few { classes ≤ 9 }
+    requires few { classes ≤ most_classes }
     ensures { (d : ℕ) → d < classes → LeastOf classes (λ c. number_in square.now c d) (slice_index result d) }
 {
     let mut line = [0; MAX_CLASSES];
@@ -130,7 +131,7 @@ fn least_columns(square: &Square, classes: usize) -> Line
 /// The least of one column.
 fn least_in_column(square: &Square, d: usize, classes: usize) -> u32
     requires some { 0 < classes }
-    requires few { classes ≤ 9 }
+    requires few { classes ≤ most_classes }
     requires d { d < classes }
     ensures { LeastOf classes (λ c. number_in square.now c d) result }
 {
@@ -144,7 +145,7 @@ fn least_in_column(square: &Square, d: usize, classes: usize) -> u32
 /// The least of so many numbers of a line.
 fn least(line: &Line, classes: usize) -> u32
     requires some { 0 < classes }
-    requires few { classes ≤ 9 }
+    requires few { classes ≤ most_classes }
     ensures { LeastOf classes (λ d. slice_index line.now d) result }
 {
     let mut low = line[0];

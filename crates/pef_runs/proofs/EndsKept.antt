@@ -21,6 +21,8 @@ use Rattle.pef_runs.specs.Ends.{Brought, BroughtMaybe, EndRows, EndsAt, EndsOf, 
 use Rattle.pef_runs.specs.Places.{AtOf}
 use Rattle.pef_runs.specs.Tables.{Agrees}
 use Rattle.pef_squares.specs.Windows.{WindowOf}
+use Rattle.pef_reloc.specs.Limits.{most_imports, offset_limit}
+use Rattle.pef_squares.specs.Limits.{most_classes}
 
 -- what a call that brings a window to a place says of it
 abbrev pub Brings : Run → Place → List (List ℕ) → Window → Window → Type 0
@@ -277,11 +279,11 @@ ends-map P Q count fixups e to ends = record {
 }
 
 -- what calls on the way require
-number_small : (b : Base) → base_fits b ≡ true → number_of b ≤ 65536
+number_small : (b : Base) → base_fits b ≡ true → number_of b ≤ most_imports
 number_small (Section k) fits = omega arith
-number_small (Import k) fits = let low = ltb-true k 65536 fits in omega (arith, low)
+number_small (Import k) fits = let low = ltb-true k most_imports fits in omega (arith, low)
 
-pub start-small : (k : Known) (a : At) (start : Place) → AtOf k a → StartAt a.first a.others.now start → (start.position ≤ 16777216) × (start.import_index ≤ 65536)
+pub start-small : (k : Known) (a : At) (start : Place) → AtOf k a → StartAt a.first a.others.now start → (start.position ≤ offset_limit) × (start.import_index ≤ most_imports)
 start-small k a start at is =
     let parts = fixup_fits-parts a.first at.fit.0 in
     let inside = parts.inside in
@@ -290,5 +292,5 @@ start-small k a start at is =
     let index = is.import_index in
     (omega (arith, inside, position), omega (arith, small, index))
 
-pub held-few : (P : Labels → Type 0) (count n : ℕ) (Kept : Labels → List (List (List ℕ)) → Type 0) (w : Window) → Holding P count n Kept w → w.classes ≤ 9
+pub held-few : (P : Labels → Type 0) (count n : ℕ) (Kept : Labels → List (List (List ℕ)) → Type 0) (w : Window) → Holding P count n Kept w → w.classes ≤ most_classes
 held-few P count n Kept w held = let same = held.is.classes_is in let few = held.is.few in omega (arith, same, few)

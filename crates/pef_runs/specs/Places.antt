@@ -17,6 +17,7 @@ use Rattle.pef_runs.specs.declared.place.Choice.{Choice}
 use Rattle.pef_runs.specs.declared.place.At.{At}
 use Rattle.pef_runs.specs.Leads.{LeadsWithin}
 use Rattle.pef_runs.specs.Tables.{Agrees, Shaped}
+use Rattle.pef_reloc.specs.Limits.{most_imports}
 
 -- a state is at a place
 pub record InPlace (registers : List ℕ) (p : Place) (s : State) : Type 0 where
@@ -55,7 +56,7 @@ pub record HereOf (k : Known) (h : Here) : Type 0 where
   pub d : h.place.d < length k.registers.now + 1
   pub fit : AllByRecursion (λ f. fixup_fits f ≡ true) (h.first ∷ h.others.now)
   pub counts : AllByRecursion (λ f. Counts k.registers.now f.base) (h.first ∷ h.others.now)
-  pub import_small : h.place.import_index ≤ 65536
+  pub import_small : h.place.import_index ≤ most_imports
 
 -- the same with the registers in any classes
 pub record AtOf (k : Known) (a : At) : Type 0 where
@@ -63,7 +64,7 @@ pub record AtOf (k : Known) (a : At) : Type 0 where
   pub shaped : Shaped k (length a.others.now)
   pub fit : AllByRecursion (λ f. fixup_fits f ≡ true) (a.first ∷ a.others.now)
   pub counts : AllByRecursion (λ f. Counts k.registers.now f.base) (a.first ∷ a.others.now)
-  pub import_small : a.import_index ≤ 65536
+  pub import_small : a.import_index ≤ most_imports
 
 -- a choice there
 pub record Chosen (k : Known) (h : Here) (x : Choice) : Type 0 where

@@ -5,6 +5,7 @@ use Rattle.pef_reloc.specs.declared.fixup.Fixup.{Fixup}
 use Rattle.pef_cert.specs.Labels.{Labels, classes}
 use Rattle.pef_cert.specs.Extension.{OfferIs}
 use Rattle.pef_runs.specs.declared.known.Known.{Known}
+use Rattle.pef_reloc.specs.Limits.{most_fixups, most_sections}
 
 -- the label in a table where so many fixups are left, and the least skip
 abbrev pub label_in : List (List (List ℕ)) → ℕ → ℕ → ℕ → ℕ
@@ -15,8 +16,8 @@ skip_in skips left c = slice_index (slice_index_or skips left []) c
 
 -- tables where up to so many fixups are left
 pub record Shaped (k : Known) (most : ℕ) : Type 0 where
-  pub few : length k.registers.now ≤ 8
-  pub count : most ≤ 16384
+  pub few : length k.registers.now ≤ most_sections
+  pub count : most ≤ most_fixups
   pub labels : most < length k.labels.now
   pub skips : most < length k.skips.now
   pub label_small : (left c d : ℕ) → left ≤ most → c < length k.registers.now + 1 → d < length k.registers.now + 1 → label_in k.labels.now left c d ≤ 4 * left

@@ -7,6 +7,8 @@ ghost use Rattle.pef_runs.specs.Ends.{Brought, BroughtMaybe, EndsAt, EndsOf, Far
 ghost use Rattle.pef_runs.specs.Tables.{Agrees};
 ghost use Rattle.pef_squares.specs.Windows.{WindowOf};
 ghost use Rattle.pef_reloc.specs.declared.fixup.Base.TheVariants.{Section};
+ghost use Rattle.pef_reloc.specs.Limits.{most_imports};
+ghost use Rattle.pef_squares.specs.Limits.{most_classes};
 
 use crate::known::Known;
 use crate::place::{At, Here, Place};
@@ -50,7 +52,7 @@ struct InTurn {
 impl RunEnds {
     /// Behind all fixups, where no run begins, with so many classes.
     pub fn new(alloc: Global, classes: usize) -> RunEnds
-        requires { classes ≤ 9 }
+        requires { classes ≤ most_classes }
         ensures { EndsOf (λ l. Unit {0}) classes [] result }
     {
         RunEnds {
@@ -125,7 +127,7 @@ impl RunEnds {
 
 impl InTurn {
     fn new(alloc: Global, classes: usize) -> InTurn
-        requires { classes ≤ 9 }
+        requires { classes ≤ most_classes }
         ensures here { WindowOf classes 512 [] result.here }
         ensures next { WindowOf classes 512 [] result.next }
     {
@@ -143,10 +145,10 @@ impl InTurn {
         square: &Square,
         looks: Looks<'_>,
     ) -> Result<(), AllocError>
-        requires here { self.old.here.classes ≤ 9 }
-        requires next { self.old.next.classes ≤ 9 }
+        requires here { self.old.here.classes ≤ most_classes }
+        requires next { self.old.next.classes ≤ most_classes }
         requires position { start.position ≤ 2 ^ 24 }
-        requires import_index { start.import_index ≤ 65536 }
+        requires import_index { start.import_index ≤ most_imports }
         ensures next { OnOk result (self.new.next ≡ self.old.here) }
         ensures here { OnOk result ((classes limit : ℕ) (squares : List (List (List ℕ))) → WindowOf classes limit squares self.old.next → BroughtMaybe run classes limit start.entry.left.now start.entry.position start.entry.import_index squares square.now self.new.here) }
     {
@@ -166,9 +168,9 @@ fn bring(
     square: &Square,
     looks: Looks<'_>,
 ) -> Result<(), AllocError>
-    requires few { window.old.classes ≤ 9 }
+    requires few { window.old.classes ≤ most_classes }
     requires position { start.position ≤ 2 ^ 24 }
-    requires import_index { start.import_index ≤ 65536 }
+    requires import_index { start.import_index ≤ most_imports }
     ensures { OnOk result ((classes limit : ℕ) (squares : List (List (List ℕ))) → WindowOf classes limit squares window.old → Brought run classes limit start.entry.left.now start.entry.position start.entry.import_index squares square.now window.new) }
 {
     let next = match run.next(start) {

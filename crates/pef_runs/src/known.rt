@@ -3,6 +3,7 @@ ghost use Rattle.pef_cert.specs.Extension.{extension, offer_at};
 ghost use Rattle.pef_cert.specs.Labels.{Labels};
 ghost use Rattle.pef_runs.specs.Tables.{Agrees, Shaped};
 ghost use Rattle.pef_reloc.specs.declared.fixup.Fixup.{Fixup};
+ghost use Rattle.pef_reloc.specs.Limits.{most_sections};
 
 use pef_cert::{change, class_of, moved_value};
 use pef_reloc::{Base, Fixup};
@@ -27,7 +28,7 @@ pub struct Known<'a> {
 impl<'a> Known<'a> {
     /// How many classes of sections there are: at most nine.
     pub fn classes(self) -> usize
-        requires { length self.registers.now ≤ 8 }
+        requires { length self.registers.now ≤ most_sections }
         ensures { result ≡ length self.entry.registers.now + 1 }
     {
         self.registers.len() + 1

@@ -10,6 +10,7 @@ use Rattle.std.proofs.lemmas.List.{append-nil, append_assoc, get_or-take, length
 use Rattle.pef_squares.specs.declared.window.Window.{Window}
 use Rattle.pef_squares.specs.Squares.{number_in}
 use Rattle.pef_squares.specs.Windows.{AtMostEach, BestOf, IsOne, LesserOf, LowIn, LowSquare, OlderOf, WindowOf}
+use Rattle.pef_squares.specs.Limits.{most_classes}
 
 min_is : (v w : ℕ) → (min v w ≡ v) ⊎ (min v w ≡ w)
 min_is v w = grind arith
@@ -179,7 +180,7 @@ pub best-no_older : (classes : ℕ) (squares lows : List (List (List ℕ))) (fir
 best-no_older classes squares lows first c d o got = best-none first c d squares (older-none classes squares lows o got)
 
 -- a window of none
-pub window-none : (classes limit : ℕ) (w : Window) → w.classes ≡ classes → w.limit ≡ limit → classes ≤ 9 → 0 < limit → w.older.items ≡ [] → w.newer.items ≡ [] → WindowOf classes limit [] w
+pub window-none : (classes limit : ℕ) (w : Window) → w.classes ≡ classes → w.limit ≡ limit → classes ≤ most_classes → 0 < limit → w.older.items ≡ [] → w.newer.items ≡ [] → WindowOf classes limit [] w
 window-none classes limit w classes_is limit_is few some older newer = record {
   classes_is = classes_is;
   limit_is = limit_is;

@@ -1,3 +1,4 @@
 pub mod Kept
+pub mod Limits
 pub mod Squares
 pub mod Windows

@@ -2,6 +2,7 @@
 use Rattle.std.specs.Prelude.{◌≡◌, ◌≤◌, ◌<◌, ◌⊎◌, ℕ, ◌+◌, min, List, [], ◌∷◌, ◌++◌, length, reverse, slice_index_or, take}
 use Rattle.pef_squares.specs.declared.window.Window.{Window}
 use Rattle.pef_squares.specs.Squares.{number_in}
+use Rattle.pef_squares.specs.Limits.{most_classes}
 
 -- a value is at most each number of some squares at a pair of classes, and so much more
 abbrev pub AtMostEach : ℕ → ℕ → List (List (List ℕ)) → ℕ → ℕ → Type 0
@@ -34,7 +35,7 @@ pub record OlderOf (classes : ℕ) (squares lows : List (List (List ℕ))) : Typ
 pub record WindowOf (classes limit : ℕ) (squares : List (List (List ℕ))) (w : Window) : Type 0 where
   pub classes_is : w.classes ≡ classes
   pub limit_is : w.limit ≡ limit
-  pub few : classes ≤ 9
+  pub few : classes ≤ most_classes
   pub some : 0 < limit
   pub older : List (List (List ℕ))
   pub parts : squares ≡ reverse w.newer.items ++ older

@@ -1,5 +1,6 @@
 ghost use Rattle.std.specs.Prelude.{◌≡◌, ◌+◌, ◌-◌, ◌<◌, ◌≤◌, ◌⊎◌, ◌++◌, ◌∷◌, ℕ, [], List, OnOk, min, reverse, slice_index, take, vec_len};
 ghost use Rattle.pef_squares.specs.Windows.{BestOf, LesserOf, LowSquare, OlderOf, WindowOf};
+ghost use Rattle.pef_squares.specs.Limits.{most_classes};
 
 use crate::looks::Looks;
 use crate::square::{Line, MAX_CLASSES, Square};
@@ -25,7 +26,7 @@ pub struct Window {
 impl Window {
     /// A window of no squares, which can have up to so many.
     pub fn new(alloc: Global, classes: usize, limit: usize) -> Window
-        requires few { classes ≤ 9 }
+        requires few { classes ≤ most_classes }
         requires some { 0 < limit }
         ensures { WindowOf classes limit [] result }
     {
@@ -54,7 +55,7 @@ impl Window {
     ///
     /// There is no memory for the square. Nothing is known of the window then.
     pub fn add(&mut self, square: &Square, looks: Looks<'_>) -> Result<(), AllocError>
-        requires few { self.old.classes ≤ 9 }
+        requires few { self.old.classes ≤ most_classes }
         ensures { OnOk result ((classes limit : ℕ) (squares : List (List (List ℕ))) → WindowOf classes limit squares self.old → WindowOf classes limit (square.now ∷ take (limit - 1) squares) self.new) }
     {
         self.make_room(looks)?;
@@ -65,7 +66,7 @@ impl Window {
 
     /// Lets the oldest square go where there are as many as there can be.
     fn make_room(&mut self, looks: Looks<'_>) -> Result<(), AllocError>
-        requires few { self.old.classes ≤ 9 }
+        requires few { self.old.classes ≤ most_classes }
         ensures few { self.new.classes ≡ self.old.classes }
         ensures room { OnOk result ((classes limit : ℕ) (squares : List (List (List ℕ))) → WindowOf classes limit squares self.old → WindowOf classes limit (take (limit - 1) squares) self.new) }
     {
@@ -79,7 +80,7 @@ impl Window {
 
     /// Sees to it that there are older squares, where there are squares.
     fn age(&mut self, looks: Looks<'_>) -> Result<(), AllocError>
-        requires few { self.old.classes ≤ 9 }
+        requires few { self.old.classes ≤ most_classes }
         ensures few { self.new.classes ≡ self.old.classes }
         ensures same { OnOk result ((classes limit : ℕ) (squares : List (List (List ℕ))) → WindowOf classes limit squares self.old → WindowOf classes limit squares self.new) }
         ensures some { OnOk result ((vec_len self.new.newer ≡ 0) ⊎ (0 < vec_len self.new.older)) }
@@ -92,7 +93,7 @@ impl Window {
 
     /// The least of the newer squares and of one more.
     fn with_newer(&self, square: &Square, looks: Looks<'_>) -> Square
-        requires few { self.now.classes ≤ 9 }
+        requires few { self.now.classes ≤ most_classes }
         ensures { (classes limit : ℕ) (squares : List (List (List ℕ))) → WindowOf classes limit squares self.now → LowSquare classes (square.now ∷ reverse self.now.newer.items) result }
     {
         if self.newer.is_empty() {
@@ -104,8 +105,8 @@ impl Window {
 
     /// The least of a number and of 1 more than each of the squares at a pair of classes.
     pub fn best(&self, first: u64, c: usize, d: usize) -> u64
-        requires c { c < 9 }
-        requires d { d < 9 }
+        requires c { c < most_classes }
+        requires d { d < most_classes }
         ensures { (classes limit : ℕ) (squares : List (List (List ℕ))) → WindowOf classes limit squares self.now → c < classes → d < classes → BestOf first squares c d result }
     {
         let best = older_best(&self.older, first, c, d);
@@ -119,8 +120,8 @@ impl Window {
 
 /// The least of a number and of 1 more than each of some older squares at a pair of classes.
 fn older_best(older: &[Square], first: u64, c: usize, d: usize) -> u64
-    requires c { c < 9 }
-    requires d { d < 9 }
+    requires c { c < most_classes }
+    requires d { d < most_classes }
     ensures { (classes : ℕ) (squares : List (List (List ℕ))) → OlderOf classes squares older.now → c < classes → d < classes → BestOf first squares c d result }
 {
     match older.last() {
@@ -136,7 +137,7 @@ fn age_all(
     classes: usize,
     looks: Looks<'_>,
 ) -> Result<(), AllocError>
-    requires few { classes ≤ 9 }
+    requires few { classes ≤ most_classes }
     requires none { older.old.items ≡ [] }
     ensures none { OnOk result (newer.new.items ≡ []) }
     ensures older { OnOk result (OlderOf classes (reverse newer.old.items) older.new.items) }
@@ -150,7 +151,7 @@ fn age_all(
 
 /// What is kept for one more older square.
 fn with_older(older: &[Square], square: &Square, classes: usize, looks: Looks<'_>) -> Square
-    requires few { classes ≤ 9 }
+    requires few { classes ≤ most_classes }
     ensures { (squares : List (List (List ℕ))) → OlderOf classes squares older.now → LowSquare classes (squares ++ square.now ∷ []) result }
 {
     match older.last() {
@@ -161,7 +162,7 @@ fn with_older(older: &[Square], square: &Square, classes: usize, looks: Looks<'_
 
 /// The least of a square alone, which is looked at.
 fn only(square: &Square, classes: usize, looks: Looks<'_>) -> Square
-    requires few { classes ≤ 9 }
+    requires few { classes ≤ most_classes }
     ensures { result ≡ square.now }
 {
     looks.add((classes * classes) as u64);
@@ -170,7 +171,7 @@ fn only(square: &Square, classes: usize, looks: Looks<'_>) -> Square
 
 /// The lesser of two squares at each pair of classes: of a kept one, and of one that is looked at.
 fn lesser(one: &Square, other: &Square, classes: usize, looks: Looks<'_>) -> Square
-    requires few { classes ≤ 9 }
+    requires few { classes ≤ most_classes }
     ensures { LesserOf classes one.now other.now result }
 {
     let mut square = [[0; MAX_CLASSES]; MAX_CLASSES];
@@ -182,7 +183,7 @@ fn lesser(one: &Square, other: &Square, classes: usize, looks: Looks<'_>) -> Squ
 
 /// The same of two lines at each class.
 fn lesser_line(one: &Line, other: &Line, classes: usize, looks: Looks<'_>) -> Line
-    requires few { classes ≤ 9 }
+    requires few { classes ≤ most_classes }
     ensures { (d : ℕ) → d < classes → slice_index result d ≡ min (slice_index one.now d) (slice_index other.now d) }
 {
     let mut line = [0; MAX_CLASSES];

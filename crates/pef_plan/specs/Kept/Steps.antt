@@ -17,6 +17,7 @@ use Rattle.pef_runs.specs.declared.place.Step.{Step}
 use Rattle.pef_runs.specs.Places.{Counts, Goes, InPlace, extension_in}
 use Rattle.pef_runs.specs.Tables.{Agrees, Shaped, label_in}
 use Rattle.pef_plan.specs.Reached.{ReachedFrom}
+use Rattle.pef_reloc.specs.Limits.{most_imports, most_sections}
 
 -- the labels of tables
 abbrev pub labels_tabled : Known → Labels
@@ -25,7 +26,7 @@ labels_tabled k = record { registers = k.registers.now; label = λ left c d. lab
 -- registers that rise, each the number of a section
 pub record Sections (registers : List ℕ) : Type 0 where
   pub rising : rises registers ≡ true
-  pub below : (k : ℕ) → is_among registers k ≡ true → k < 8
+  pub below : (k : ℕ) → is_among registers k ≡ true → k < most_sections
 
 -- a place where fixups are left, with tables of them all
 pub record Tracked (k : Known) (p : Place) : Type 0 where
@@ -35,7 +36,7 @@ pub record Tracked (k : Known) (p : Place) : Type 0 where
   pub d : p.d < length k.registers.now + 1
   pub fit : AllByRecursion (λ f. fixup_fits f ≡ true) p.left.now
   pub counts : AllByRecursion (λ f. Counts k.registers.now f.base) p.left.now
-  pub import_small : p.import_index ≤ 65536
+  pub import_small : p.import_index ≤ most_imports
   pub position_small : p.position ≤ 1073741824
   pub agrees : Agrees (labels_tabled k) k p.left.now
   pub feasible : FeasibleFrom (labels_tabled k) p.import_index p.left.now

@@ -2,9 +2,10 @@ use Rattle.std.proofs.Common.{◌≡◌, ◌<◌, ℕ, [], length}
 use Rattle.std.specs.Prelude.{slice_index_or}
 use Rattle.pef_plan.specs.Kept.Rows.{DirectLine}
 use Rattle.pef_plan.proofs.rows.direct_square.Given as goal
+use Rattle.pef_squares.specs.Limits.{most_classes}
 
 abbrev pub invariant-loop-c : goal.invariant-loop-c
 invariant-loop-c l = record {
-  len : length l.square ≡ 9;
+  len : length l.square ≡ most_classes;
   are : (c : ℕ) → c < l.c → DirectLine l.known l.at c (slice_index_or l.square c []);
 }
