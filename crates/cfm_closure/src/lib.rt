@@ -18,7 +18,7 @@ mod targets;
 pub mod theorems;
 
 pub use cfm_libraries::{
-    BindFault, Definition, Fit, Implementation, Store, StoreFault, versions_fit,
+    BindFault, Definition, Fit, Implementation, MAX_PAIRS, Store, StoreFault, versions_fit,
 };
 pub use closed::Closure;
 pub use closing::closure;

@@ -2,6 +2,7 @@ pub mod Faults
 pub mod Fragments
 pub mod Kept
 pub mod Libraries
+pub mod Limits
 pub mod Orders
 pub mod Seen
 pub mod Stores

@@ -5,6 +5,7 @@ ghost use Rattle.cfm_libraries.specs.Libraries.{bound_to};
 ghost use Rattle.cfm_libraries.specs.Orders.{IsComplete};
 ghost use Rattle.cfm_libraries.specs.Walk.{order_of};
 ghost use Rattle.cfm_libraries.specs.Views.{fragment_seen};
+ghost use Rattle.cfm_libraries.specs.Limits.{most_pairs};
 
 use crate::fault::BindFault;
 use crate::fragment::FragmentView;
@@ -90,7 +91,7 @@ impl<'a> Bindings<'a> {
     /// and the one that needs all of them last.
     pub fn order(&self) -> &[usize]
         ensures order { result.now ≡ self.now.order }
-        ensures few { length self.now.order ≤ 256 }
+        ensures few { length self.now.order ≤ most_pairs }
     {
         &self.order
     }

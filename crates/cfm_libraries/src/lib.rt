@@ -19,5 +19,5 @@ pub use binding::is_before;
 pub use bindings::Bindings;
 pub use fault::{BindFault, StoreFault};
 pub use fragment::FragmentView;
-pub use store::Store;
+pub use store::{MAX_PAIRS, Store};
 pub use versions::{Definition, Fit, Implementation, versions_fit};

@@ -2,11 +2,15 @@ ghost use Rattle.std.specs.Prelude.{◌≡◌, ◌==◌, ◌<◌, ◌≤◌, ◌
 ghost use Rattle.cfm_libraries.specs.Kept.Places.{NotesPlace};
 ghost use Rattle.cfm_libraries.specs.Seen.{pair_seen};
 ghost use Rattle.cfm_libraries.specs.Stores.{pair_of, place_of};
+ghost use Rattle.cfm_libraries.specs.Limits.{most_pairs};
 
 use crate::fault::StoreFault;
 use indexmap::IndexMap;
 use std::alloc::Global;
 use std::marker::Model;
+
+/// How many pairs a store has at most.
+pub const MAX_PAIRS: usize = 256;
 
 /// Fragments by name: pairs of a name and the bytes of a container, borrowed, in the order in which they
 /// were added. A name may come again; the first pair of a name counts.
@@ -43,13 +47,13 @@ impl<'a> Store<'a> {
         }
     }
 
-    /// Appends a pair. A store has at most 256.
+    /// Appends a pair. A store has at most [`MAX_PAIRS`].
     ///
     /// # Errors
     ///
     /// `OutOfMemory` where the machine refuses memory. The store is then as before.
     pub fn add(&mut self, name: &'a [u8], bytes: &'a [u8]) -> Result<(), StoreFault>
-        requires { length self.old < 256 }
+        requires { length self.old < most_pairs }
         ensures ok { OnOk result (self.new ≡ self.old ++ (record { name = name.now; bytes = bytes.now }) ∷ []) }
         ensures err { OnErr result (self.new ≡ self.old) }
     {
@@ -60,10 +64,10 @@ impl<'a> Store<'a> {
         Ok(())
     }
 
-    /// How many pairs there are: at most 256.
+    /// How many pairs there are: at most [`MAX_PAIRS`].
     pub fn len(&self) -> usize
         ensures len { result ≡ length self.now }
-        ensures few { result ≤ 256 }
+        ensures few { result ≤ most_pairs }
     {
         self.pairs.len()
     }
@@ -85,7 +89,7 @@ impl<'a> Store<'a> {
     /// All pairs.
     pub(crate) fn pairs(&self) -> &[(&'a [u8], &'a [u8])]
         ensures pairs { map pair_seen result.now ≡ self.now }
-        ensures few { length self.now ≤ 256 }
+        ensures few { length self.now ≤ most_pairs }
     {
         &self.pairs
     }

@@ -7,14 +7,11 @@ ghost use Rattle.pef_prepared.specs.Limits.{most_files};
 ghost use Rattle.pef_prepared.specs.Load.{LoadAnswers, WereRead, paired};
 
 use crate::loaded::prepare_root;
-use cfm_closure::{Store, StoreFault};
+use cfm_closure::{MAX_PAIRS, Store, StoreFault};
 use pef_answers::{FileRefusal, Refusal, Usage, deliver};
 use pef_ports::{FileFault, Files, Sink};
 use pef_request::NamedFile;
 use std::alloc::Global;
-
-/// The most files of `load`.
-const MOST_FILES: usize = 256;
 
 /// Why not all files were read.
 enum ReadingFault<'a> {
@@ -38,7 +35,7 @@ pub fn load_files<F: Files, W: Sink>(
         × LoadAnswers (record { state = F.state; was_read = F.was_read; was_written = F.was_written }) files.old files.new (map pair_of named.now) answer
         × Delivers (W.stream out.old) (W.stream out.new) answer result }
 {
-    if named.is_empty() || named.len() > MOST_FILES {
+    if named.is_empty() || named.len() > MAX_PAIRS {
         return deliver(out, &Usage);
     }
     let contents = match read_files(alloc, files, named) {

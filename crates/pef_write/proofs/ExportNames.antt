@@ -13,6 +13,7 @@ use Rattle.pef_hash.proofs.Laws.{length-in_slots}
 use Rattle.pef_script.specs.Script.{DescribedExport, DescribedScript}
 use Rattle.pef_script.specs.Script.{export_names}
 use Rattle.pef_write.proofs.Listing.{finished, mapped-all, none_past}
+use Rattle.pef_script.specs.Limits.{longest_name}
 
 -- the bytes of some names, one after the other
 abbrev pub joined : List (List ℕ) → List ℕ
@@ -91,11 +92,11 @@ slots_small names few k d under =
     let count = length-slot_words power words 0 0 (2 ^ power) in
     rw (get_or_default (built names).slots k d 0 under) (slot_small power k words (omega (arith, length-map names hash_word)) (omega (arith, count)))
 
-hash_small : (name : List ℕ) → length name ≤ 255 → hash_word name < 2 ^ 32
+hash_small : (name : List ℕ) → length name ≤ longest_name → hash_word name < 2 ^ 32
 unfolding hash_word
 hash_small name short = omega arith
 
-pub keys_small : (names : List (List ℕ)) → All (λ name. length name ≤ 255) names → All (λ w. w < 2 ^ 32) (built names).keys
+pub keys_small : (names : List (List ℕ)) → All (λ name. length name ≤ longest_name) names → All (λ w. w < 2 ^ 32) (built names).keys
 unfolding built keys_at
 keys_small names short =
     All-map (λ w. w < 2 ^ 32) (λ i. get_or (map hash_word names) i 0) (built names).order

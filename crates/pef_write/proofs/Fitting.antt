@@ -30,6 +30,7 @@ use Rattle.pef_write.proofs.Containers.{container_size}
 use Rattle.pef_write.proofs.ExportNames.{keys_small, length-keys, length-order, length-slots, order_below, power_small, slots_small}
 use Rattle.pef_write.proofs.Loaders.{length-table_fields, length-written_loader}
 use Rattle.pef_write.proofs.Programs.{length-spelled, short_program}
+use Rattle.pef_script.specs.Limits.{longest_name}
 
 -- how many bytes each section has
 totals_small : (n j : ℕ) (sections : List DescribedSection) (k : ℕ) → AllByRecursion (SectionHolds n j) sections → get_or (totals_of sections) k 0 < 2 ^ 32
@@ -120,17 +121,17 @@ exports_fit totals exports order few small each below =
     let holds = all-at (ExportHolds totals) exports (get_or order k d) no_export each (below k d under) in
     record { class = omega (arith, holds.class); value = value_small totals e.section e.value small holds.place; section = section_small totals e.section e.value few holds.place })
 
-names_short : (totals : List ℕ) (exports : List DescribedExport) → AllByRecursion (ExportHolds totals) exports → All (λ name. length name ≤ 255) (map (λ symbol. symbol.name) exports)
+names_short : (totals : List ℕ) (exports : List DescribedExport) → AllByRecursion (ExportHolds totals) exports → All (λ name. length name ≤ longest_name) (map (λ symbol. symbol.name) exports)
 names_short totals [] each = λ k d under. absurd (omega arith)
 names_short totals (e ∷ exports) each =
-    All-cons (λ (name : List ℕ). length name ≤ 255) e.name (map (λ symbol. symbol.name) exports) each.0.name.most (names_short totals exports each.1)
+    All-cons (λ (name : List ℕ). length name ≤ longest_name) e.name (map (λ symbol. symbol.name) exports) each.0.name.most (names_short totals exports each.1)
 
 export_names-size : (totals : List ℕ) (exports : List DescribedExport) (order : List ℕ) → AllByRecursion (ExportHolds totals) exports → All (λ e. e < length exports) order
-    → length (flat_map (λ e. e.name) (exports_at exports order)) ≤ length order * 255
+    → length (flat_map (λ e. e.name) (exports_at exports order)) ≤ length order * longest_name
 export_names-size totals exports order each below =
-    let short = All-map (λ (e : Export). length e.name ≤ 255) (λ e. linked_export (get_or exports e no_export)) order
+    let short = All-map (λ (e : Export). length e.name ≤ longest_name) (λ e. linked_export (get_or exports e no_export)) order
     (λ k d under. (all-at (ExportHolds totals) exports (get_or order k d) no_export each (below k d under)).name.most) in
-    omega (arith, length-flat_map (λ (e : Export). e.name) (exports_at exports order), sum_by-le (λ (e : Export). length e.name) 255 (exports_at exports order) short, length-map order (λ e. linked_export (get_or exports e no_export)))
+    omega (arith, length-flat_map (λ (e : Export). e.name) (exports_at exports order), sum_by-le (λ (e : Export). length e.name) longest_name (exports_at exports order) short, length-map order (λ e. linked_export (get_or exports e no_export)))
 
 -- the names in the string table are those of the script
 

@@ -1,13 +1,10 @@
 //! Fragments from scripts, and stores of them.
 
 use crate::link_text;
-use cfm_closure::Store;
+use cfm_closure::{MAX_PAIRS, Store};
 use std::alloc::Global;
 use std::test::Fail;
 use test_data::changes::{Change, change};
-
-/// How many fragments a store may have.
-const MOST: usize = 256;
 
 /// A fragment: its name, its script, and what is written over some bytes of its container.
 ///
@@ -36,7 +33,7 @@ pub fn containers(alloc: Global, fragments: &[Fragment]) -> Result<Vec<Vec<u8>>,
 
 /// Adds a pair to a store. Fails where that is full.
 pub fn add<'a>(store: &mut Store<'a>, name: &'a str, bytes: &'a [u8]) -> Result<(), Fail> {
-    if store.len() >= MOST {
+    if store.len() >= MAX_PAIRS {
         return Err(Fail::new("the store is full"));
     }
     store.add(name.as_bytes(), bytes)?;

@@ -6,6 +6,7 @@ use Rattle.cfm_libraries.specs.Orders.{IsComplete}
 use Rattle.cfm_libraries.specs.Stores.{Pair}
 use Rattle.cfm_libraries.specs.Kept.Paths.{IsWalked}
 use Rattle.cfm_libraries.specs.Kept.Views.{AreRead}
+use Rattle.cfm_libraries.specs.Limits.{most_pairs}
 
 -- the tables of a closure order
 pub record AreBindings (pairs : List Pair) (fragments : List (Option FragmentView)) (libraries : List (Option (List (Option ℕ)))) (order : List ℕ) : Type 0 where
@@ -14,4 +15,4 @@ pub record AreBindings (pairs : List Pair) (fragments : List (Option FragmentVie
   pub read : AreRead pairs fragments
   pub walked : AllByRecursion (IsWalked pairs fragments libraries) order
   pub complete : IsComplete pairs order
-  pub few : length pairs ≤ 256
+  pub few : length pairs ≤ most_pairs

@@ -5,8 +5,9 @@ use Rattle.cfm_libraries.specs.Kept.Places.{ArePlaces}
 use Rattle.cfm_libraries.specs.Seen.{pair_seen}
 use Rattle.cfm_libraries.proofs.PlaceLemmas.{length-seen, seen-push}
 use Rattle.cfm_libraries.proofs.store.Store.add.Goals as goal
+use Rattle.cfm_libraries.specs.Limits.{most_pairs}
 
-one_more : (n : ℕ) {m : ℕ} → m ≡ n + 1 → n < 256 → m ≤ 256
+one_more : (n : ℕ) {m : ℕ} → m ≡ n + 1 → n < most_pairs → m ≤ most_pairs
 one_more n more few = omega arith
 
 pub invariant_of-self-2 : goal.invariant_of-self-2
