@@ -1,6 +1,8 @@
-use Rattle.std.proofs.Common.{◌≡◌, arith}
+-- The section is the same number behind the cast as before it.
+use Rattle.std.proofs.Common.{◌≡◌, ◌∙◌, ap, arith}
 use Rattle.std.specs.Int.{w32, cast_signed, cast_unsigned}
 use Rattle.std.proofs.lemmas.Int.{to_z-of_z}
+use Rattle.pef_loader.specs.Header.{entry_of}
 use Rattle.pef_loader.specs.Views.{loaded}
 use Rattle.pef_loader.proofs.Loaders.{entries_are}
 use Rattle.pef_loader.proofs.tables.Loader.init.Goals as goal
@@ -10,3 +12,9 @@ entry-requires c =
     let section = c.args.self.now.header.init_section in
     let same : cast_signed w32 (cast_unsigned w32 section) ≡ section = search (arith, to_z-of_z) in
     rw same (entries_are (loaded c.args.self.now) c.args.self.now.accepted).init
+
+pub returns-clause-value : goal.returns-clause-value
+returns-clause-value c =
+    let header = c.args.self.now.header in
+    let same : cast_signed w32 (cast_unsigned w32 header.init_section) ≡ header.init_section = search (arith, to_z-of_z) in
+    c.entry.ensures.value ∙ ap (λ section. entry_of section header.init_offset) same

@@ -1,6 +1,9 @@
 -- Each library below their count is there, with a name.
-use Rattle.std.proofs.Common.{◌∙◌, ap, sym, arith}
+use Rattle.std.proofs.Common.{◌∙◌, ap, refl, sym, arith}
+use Rattle.std.proofs.lemmas.Bool.{lt-ltb}
 use Rattle.pef_words.specs.Bytes.{name_at}
+use Rattle.pef_loader.specs.Library.{library_in}
+use Rattle.pef_loader.specs.Loader.{library_of}
 use Rattle.pef_loader.specs.Views.{loaded}
 use Rattle.pef_loader.proofs.Loaders.{library_is, library_with}
 use Rattle.pef_loader.proofs.tables.Loader.library.Goals as goal
@@ -19,3 +22,10 @@ returns-in_err-name_at-clause-there c =
 
 pub returns-clause-range : goal.returns-clause-range
 returns-clause-range c = (library_with (loaded c.args.self.now) c.args.i c.in_ok-library.library c.args.self.now.accepted (omega arith) (sym c.in_ok-library.ensures)).range
+
+pub returns-clause-value : goal.returns-clause-value
+unfolding library_of library_in
+returns-clause-value c =
+    let l = loaded c.args.self.now in
+    let named = c.in_ok-name_at.ensures ∙ ap (name_at l.bytes) c.name.ensures in
+    rw (lt-ltb c.args.i l.header.library_count (omega arith), ← c.in_ok-library.ensures, ← named) refl
