@@ -1,7 +1,7 @@
-ghost use Rattle.std.specs.Prelude.{◌≡◌, true, ◌+◌, ◌*◌, ◌^◌, ◌<◌, vec_len, IfOk, OnOk};
+ghost use Rattle.std.specs.Prelude.{◌≡◌, true, ◌+◌, ◌*◌, ◌^◌, ◌<◌, [], ◌∷◌, vec_len, IfOk, OnOk};
 ghost use Rattle.std.specs.Result.{result_err};
 ghost use Rattle.pef_words.specs.Refusals.{first_met};
-ghost use Rattle.pef_script_text.specs.Contents.{base_named, bytes_line, bytes_tests, fix_line, fixup_tests, import_named, tvector_line};
+ghost use Rattle.pef_script_text.specs.Contents.{base_named, bytes_line, bytes_tests, fix_line, fixup_of, fixup_tests, import_named, tvector_line};
 ghost use Rattle.pef_script_text.specs.Kept.Reader.{so_far};
 ghost use Rattle.pef_script_text.specs.Kept.Steps.{Steps};
 
@@ -71,13 +71,9 @@ impl<'a> Reader<'a> {
         let code = self.section_base(code)?;
         let data = self.section_base(data)?;
         self.test_fixups(k, offset, 2)?;
-        let code = Fixup { offset, base: code };
-        let data = Fixup {
-            offset: offset + WORD,
-            base: data,
-        };
+        let fixups = vector_fixups(offset, code, data);
         let parts = &mut self.parts;
-        add_fixups(&mut parts.sections[k], &[code, data])?;
+        add_fixups(&mut parts.sections[k], &fixups)?;
         self.reached = CONTENT_GROUP;
         self.section = k;
         Ok(())
@@ -152,4 +148,20 @@ impl<'a> Reader<'a> {
         }
         Ok(())
     }
+}
+
+/// The fixups of a transition vector at an offset: its words stand one behind the other.
+fn vector_fixups(offset: u32, code_base: Base, data_base: Base) -> [Fixup; 2]
+    requires { offset + 4 < 2 ^ 32 }
+    ensures { result ≡ fixup_of offset code_base ∷ fixup_of (offset + 4) data_base ∷ [] }
+{
+    let code = Fixup {
+        offset,
+        base: code_base,
+    };
+    let data = Fixup {
+        offset: offset + WORD,
+        base: data_base,
+    };
+    [code, data]
 }
