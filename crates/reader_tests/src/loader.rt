@@ -5,7 +5,7 @@ use pef_loader::layout::{
 };
 use pef_loader::{ImportReader, ImportTable, ImportView, Loader};
 use pef_views::Container;
-use std::alloc::Global;
+use std::alloc::{AllocError, Global};
 use std::process::Abort;
 use std::test::Fail;
 use test_data::changes::{change_words, with_words};
@@ -43,142 +43,178 @@ fn values_of_fields(rt: HostRuntime) {
     assert_eq!(rt; (ABSOLUTE_EXPORT, REEXPORTED_IMPORT), (-2, -3));
 }
 
-#[test]
-fn read(rt: HostRuntime) -> Result<(), Fail> {
-    // The loader header stands at 160, the relocation header at 216, the slot at 232, the key at 236
-    // and the export at 240.
-    let rows: [(&[(usize, u32)], Option<u32>); 37] = [
-        (&[], None),
-        (&[(112, 0)], Some(11)),
-        (&[(112, 55)], Some(11)),
-        (&[(112, 67)], Some(12)),
-        (&[(184, 0xFFFF_FFFF)], Some(12)),
-        (&[(192, 3)], Some(12)),
-        (&[(184, 0xFFFF_FFFF), (160, 2)], Some(12)),
-        // The entries.
-        (&[(160, 2)], Some(16)),
-        (&[(160, 0xFFFF_FFFE)], Some(16)),
-        (&[(168, 2)], Some(16)),
-        (&[(176, 0x8000_0000)], Some(16)),
-        (&[(160, 0xFFFF_FFFF), (168, 0), (176, 1)], None),
-        (&[(160, 2), (216, 0x0002_0000)], Some(16)),
-        // The relocation header.
-        (&[(216, 0x0002_0000)], Some(17)),
-        (&[(216, 0x0002_0000), (220, 0xFFFF_FFFF)], Some(17)),
-        (&[(220, 0xFFFF_FFFF)], Some(18)),
-        (&[(224, 0xFFFF_FFFF)], Some(18)),
-        (&[(220, 0), (224, 0xFFFF_FFFF)], Some(18)),
-        (&[(220, 11)], None),
-        (&[(220, 12)], Some(18)),
-        (&[(220, 0), (224, 22)], None),
-        (&[(220, 0), (224, 23)], Some(18)),
-        (&[(220, 12), (208, 31)], Some(18)),
-        // The export table.
-        (&[(208, 31)], Some(19)),
-        (&[(208, 30)], Some(19)),
-        (&[(208, 1)], Some(19)),
-        (&[(212, 2)], Some(19)),
-        (&[(212, 0), (208, 31), (204, 0xFFFF_FFFF)], None),
-        // The export.
-        (&[(200, 0xFFFF_FFFF)], Some(13)),
-        (&[(200, 0xFFFF_FFFF), (236, 0)], Some(13)),
-        (&[(236, 0x0014_0000)], None),
-        (&[(236, 0x0015_0000)], Some(13)),
-        (&[(236, 0x0015_0000), (246, 0xFFFF)], Some(13)),
-        (&[(246, 0xFFFF)], Some(20)),
-        (&[(246, 0xFFFC)], Some(20)),
-        (&[(246, 0xFFFD)], Some(20)),
-        (&[(246, 0xFFFE)], None),
-    ];
+/// Words at some places, and the number of the refusal.
+type Refused = (&'static [(usize, u32)], Option<u32>);
+
+/// The loader header stands at 160, the relocation header at 216, the slot at 232, the key at 236 and the
+/// export at 240.
+const GO_WORDS: &[Refused] = &[
+    (&[], None),
+    (&[(112, 0)], Some(11)),
+    (&[(112, 55)], Some(11)),
+    (&[(112, 67)], Some(12)),
+    (&[(184, 0xFFFF_FFFF)], Some(12)),
+    (&[(192, 3)], Some(12)),
+    (&[(184, 0xFFFF_FFFF), (160, 2)], Some(12)),
+    // The entries.
+    (&[(160, 2)], Some(16)),
+    (&[(160, 0xFFFF_FFFE)], Some(16)),
+    (&[(168, 2)], Some(16)),
+    (&[(176, 0x8000_0000)], Some(16)),
+    (&[(160, 0xFFFF_FFFF), (168, 0), (176, 1)], None),
+    (&[(160, 2), (216, 0x0002_0000)], Some(16)),
+    // The relocation header.
+    (&[(216, 0x0002_0000)], Some(17)),
+    (&[(216, 0x0002_0000), (220, 0xFFFF_FFFF)], Some(17)),
+    (&[(220, 0xFFFF_FFFF)], Some(18)),
+    (&[(224, 0xFFFF_FFFF)], Some(18)),
+    (&[(220, 0), (224, 0xFFFF_FFFF)], Some(18)),
+    (&[(220, 11)], None),
+    (&[(220, 12)], Some(18)),
+    (&[(220, 0), (224, 22)], None),
+    (&[(220, 0), (224, 23)], Some(18)),
+    (&[(220, 12), (208, 31)], Some(18)),
+    // The export table.
+    (&[(208, 31)], Some(19)),
+    (&[(208, 30)], Some(19)),
+    (&[(208, 1)], Some(19)),
+    (&[(212, 2)], Some(19)),
+    (&[(212, 0), (208, 31), (204, 0xFFFF_FFFF)], None),
+    // The export.
+    (&[(200, 0xFFFF_FFFF)], Some(13)),
+    (&[(200, 0xFFFF_FFFF), (236, 0)], Some(13)),
+    (&[(236, 0x0014_0000)], None),
+    (&[(236, 0x0015_0000)], Some(13)),
+    (&[(236, 0x0015_0000), (246, 0xFFFF)], Some(13)),
+    (&[(246, 0xFFFF)], Some(20)),
+    (&[(246, 0xFFFC)], Some(20)),
+    (&[(246, 0xFFFD)], Some(20)),
+    (&[(246, 0xFFFE)], None),
+];
+
+/// The loader header stands at 68, the libraries at 124 and 148, the imports at 172, 176 and 180, the strings at 184.
+const LIBRARY_WORDS: &[Refused] = &[
+    (&[], None),
+    (&[(124, 10)], None),
+    (&[(124, 11)], Some(13)),
+    (&[(124, 0xFFFF_FFFF)], Some(13)),
+    (&[(164, 2)], Some(14)),
+    (&[(164, 0xFFFF_FFFF)], Some(14)),
+    (&[(160, 0), (164, 4)], Some(14)),
+    (&[(136, 4), (148, 11)], Some(14)),
+    (&[(148, 11), (164, 2)], Some(13)),
+    (&[(172, 0x0100_000A)], None),
+    (&[(172, 0x0100_000B)], Some(13)),
+    (&[(160, 1)], Some(15)),
+    (&[(160, 1), (180, 0x0100_000B)], Some(13)),
+    (&[(140, 1), (176, 0x0100_000B)], Some(15)),
+    (&[(191, 0x0078_7901)], Some(13)),
+    (&[(136, 4), (172, 0x0100_000B)], Some(14)),
+    (&[(160, 1), (68, 0)], Some(15)),
+    // Ranges that follow one another, without and with a gap, and none.
+    (&[(160, 1), (164, 2)], None),
+    (&[(136, 1), (160, 1), (164, 2)], Some(15)),
+    (&[(96, 0), (124, 11)], Some(13)),
+];
+
+fn test_refused(
+    rt: &impl Abort,
+    alloc: Global,
+    container: &[u8],
+    rows: &[Refused],
+) -> Result<(), Fail> {
+    let length = container.len();
     for (i, (words, want)) in rows.iter().enumerate() {
-        let bytes = with_words(rt.alloc(), &GO, words)?;
-        assert_eq!(rt; refused_loader(&bytes), *want, "row {i}");
-    }
-    // The loader header stands at 68, the libraries at 124 and 148, the imports at 172, 176 and 180,
-    // the strings at 184.
-    let rows: [(&[(usize, u32)], Option<u32>); 20] = [
-        (&[], None),
-        (&[(124, 10)], None),
-        (&[(124, 11)], Some(13)),
-        (&[(124, 0xFFFF_FFFF)], Some(13)),
-        (&[(164, 2)], Some(14)),
-        (&[(164, 0xFFFF_FFFF)], Some(14)),
-        (&[(160, 0), (164, 4)], Some(14)),
-        (&[(136, 4), (148, 11)], Some(14)),
-        (&[(148, 11), (164, 2)], Some(13)),
-        (&[(172, 0x0100_000A)], None),
-        (&[(172, 0x0100_000B)], Some(13)),
-        (&[(160, 1)], Some(15)),
-        (&[(160, 1), (180, 0x0100_000B)], Some(13)),
-        (&[(140, 1), (176, 0x0100_000B)], Some(15)),
-        (&[(191, 0x0078_7901)], Some(13)),
-        (&[(136, 4), (172, 0x0100_000B)], Some(14)),
-        (&[(160, 1), (68, 0)], Some(15)),
-        // Ranges that follow one another, without and with a gap, and none.
-        (&[(160, 1), (164, 2)], None),
-        (&[(136, 1), (160, 1), (164, 2)], Some(15)),
-        (&[(96, 0), (124, 11)], Some(13)),
-    ];
-    for (i, (words, want)) in rows.iter().enumerate() {
-        let bytes = with_words(rt.alloc(), &LIBRARIES, words)?;
-        assert_eq!(rt; refused_loader(&bytes), *want, "library row {i}");
+        let bytes = with_words(alloc, container, words)?;
+        assert_eq!(rt; refused_loader(&bytes), *want, "row {i} of {length} bytes");
     }
     Ok(())
 }
 
 #[test]
-fn relocs_exports_and_entries(rt: HostRuntime) -> Result<(), Fail> {
-    let container = Container::read(&GO).expect(&rt, "a container");
-    let loader = Loader::read(&container).expect(&rt, "a loader section");
+fn read(rt: HostRuntime) -> Result<(), Fail> {
+    test_refused(&rt, rt.alloc(), &GO, GO_WORDS)?;
+    test_refused(&rt, rt.alloc(), &LIBRARIES, LIBRARY_WORDS)
+}
+
+fn test_relocs(rt: &impl Abort, loader: &Loader<'_>) {
     assert_eq!(rt; (loader.libraries(), loader.imports()), (0, 0));
     assert_eq!(rt; (loader.relocs(), loader.exports()), (1, 1));
     assert_eq!(rt; loader.reloc(0), Some((1, &GO[228..230])));
     assert_eq!(rt; loader.reloc(1), None);
-    let export = loader.export(0).expect(&rt, "an export");
-    assert_eq!(rt; export.name, &GO[230..232]);
-    assert_eq!(rt;
-        (export.class, export.section, export.value),
-        (TRANSITION_VECTOR_SYMBOL, 1, 0)
-    );
-    assert!(rt; loader.export(1).is_none());
-    assert_eq!(rt; loader.main(), Some((1, 0)));
-    assert_eq!(rt; (loader.init(), loader.term()), (None, None));
-    // Other entries, and an absolute export.
-    let words = [
-        (160, 0xFFFF_FFFF),
-        (168, 0),
-        (172, 4),
-        (176, 1),
-        (180, 12),
-        (246, 0xFFFE),
-    ];
-    let bytes = with_words(rt.alloc(), &GO, &words)?;
-    let container = Container::read(&bytes).expect(&rt, "a container");
-    let loader = Loader::read(&container).expect(&rt, "a loader section");
-    assert_eq!(rt;
-        (loader.main(), loader.init(), loader.term()),
-        (None, Some((0, 4)), Some((1, 12)))
-    );
-    let export = loader.export(0).expect(&rt, "an export");
-    assert_eq!(rt; (export.section, export.value), (ABSOLUTE_EXPORT, 0));
-    Ok(())
+}
+
+/// An export: its name, its class, its section and its value.
+type Exported<'a> = (&'a [u8], u8, i32, u32);
+
+fn exported<'a>(loader: &Loader<'a>, i: usize) -> Option<Exported<'a>> {
+    let export = loader.export(i)?;
+    Some((export.name, export.class, export.section, export.value))
+}
+
+/// Where `main`, `init` and `term` stand: a section and an offset.
+type Entries = (Option<(u32, u32)>, Option<(u32, u32)>, Option<(u32, u32)>);
+
+fn entries(loader: &Loader<'_>) -> Entries {
+    (loader.main(), loader.init(), loader.term())
 }
 
 #[test]
-fn export_named(rt: HostRuntime) -> Result<(), Fail> {
-    let rows: [(&[(usize, u32)], &[u8], Option<usize>); 5] = [
-        (&[], b"go", Some(0)),
-        // Another hash word, and a slot without keys.
-        (&[(236, 0x0002_00A2)], b"go", Some(0)),
-        (&[(232, 0)], b"go", Some(0)),
-        (&[(236, 0x0001_00A1)], b"go", None),
-        (&[], b"g", None),
-    ];
-    for (i, (words, name, want)) in rows.iter().enumerate() {
+fn relocs_exports_and_entries(rt: HostRuntime) -> Result<(), Fail> {
+    let container = Container::read(&GO)?;
+    let loader = Loader::read(&container)?;
+    test_relocs(&rt, &loader);
+    let export = (&GO[230..232], TRANSITION_VECTOR_SYMBOL, 1, 0);
+    assert_eq!(rt; exported(&loader, 0), Some(export));
+    assert_eq!(rt; exported(&loader, 1), None);
+    assert_eq!(rt; entries(&loader), (Some((1, 0)), None, None));
+    Ok(())
+}
+
+/// Other entries, and an absolute export.
+const OTHER_ENTRIES: &[(usize, u32)] = &[
+    (160, 0xFFFF_FFFF),
+    (168, 0),
+    (172, 4),
+    (176, 1),
+    (180, 12),
+    (246, 0xFFFE),
+];
+
+#[test]
+fn other_entries(rt: HostRuntime) -> Result<(), Fail> {
+    let bytes = with_words(rt.alloc(), &GO, OTHER_ENTRIES)?;
+    let container = Container::read(&bytes)?;
+    let loader = Loader::read(&container)?;
+    assert_eq!(rt; entries(&loader), (None, Some((0, 4)), Some((1, 12))));
+    let (_, _, section, value) = exported(&loader, 0).ok_or("no export")?;
+    assert_eq!(rt; (section, value), (ABSOLUTE_EXPORT, 0));
+    Ok(())
+}
+
+/// Words at some places, a name, and the number of its export.
+const EXPORTS_NAMED: &[(&[(usize, u32)], &[u8], Option<usize>)] = &[
+    (&[], b"go", Some(0)),
+    // Another hash word, and a slot without keys.
+    (&[(236, 0x0002_00A2)], b"go", Some(0)),
+    (&[(232, 0)], b"go", Some(0)),
+    (&[(236, 0x0001_00A1)], b"go", None),
+    (&[], b"g", None),
+];
+
+/// The number of a name's export.
+fn export_named(container: &[u8], name: &[u8]) -> Result<Option<usize>, Fail> {
+    let container = Container::read(container)?;
+    let loader = Loader::read(&container)?;
+    Ok(loader.export_named(name))
+}
+
+#[test]
+fn exports_named(rt: HostRuntime) -> Result<(), Fail> {
+    for (i, (words, name, want)) in EXPORTS_NAMED.iter().enumerate() {
         let bytes = with_words(rt.alloc(), &GO, words)?;
-        let container = Container::read(&bytes).expect(&rt, "a container");
-        let loader = Loader::read(&container).expect(&rt, "a loader section");
-        assert_eq!(rt; loader.export_named(name), *want, "row {i}");
+        let found = export_named(&bytes, name)?;
+        assert_eq!(rt; found, *want, "row {i}");
     }
     Ok(())
 }
@@ -227,18 +263,21 @@ fn imported<'a>(import: Option<ImportView<'a>>) -> Option<Imported<'a>> {
     Some((import.name, import.class, import.weak, import.library))
 }
 
-/// Imports are read one by one, by a reader, and from a table.
-fn test_imports(rt: &impl Abort, alloc: Global, loader: &Loader<'_>) {
+/// Tests an import, or that there is none.
+fn test_import(rt: &impl Abort, j: usize, import: Option<ImportView<'_>>) {
+    assert!(rt; imported(import) == IMPORTED.get(j).copied(), "import {j}");
+}
+
+/// Imports are read one by one, by a reader, and from a table. The last one that is tried isn't there.
+fn test_imports(rt: &impl Abort, alloc: Global, loader: &Loader<'_>) -> Result<(), AllocError> {
     let mut reader = ImportReader::new(*loader);
-    let table = ImportTable::read(alloc, *loader).expect(rt, "memory");
-    for (j, wanted) in IMPORTED.iter().enumerate() {
-        assert!(rt; imported(loader.import(j)) == Some(*wanted), "import {j}");
-        assert!(rt; imported(reader.import(j)) == Some(*wanted), "import {j}");
-        assert!(rt; imported(table.get(j)) == Some(*wanted), "import {j}");
+    let table = ImportTable::read(alloc, *loader)?;
+    for j in 0..=3 {
+        test_import(rt, j, loader.import(j));
+        test_import(rt, j, reader.import(j));
+        test_import(rt, j, table.get(j));
     }
-    assert!(rt; loader.import(3).is_none());
-    assert!(rt; reader.import(3).is_none());
-    assert!(rt; table.get(3).is_none());
+    Ok(())
 }
 
 /// Tests that there are no entries, programs and exports.
@@ -252,16 +291,21 @@ fn test_nothing_else(rt: &impl Abort, loader: &Loader<'_>) {
 
 #[test]
 fn libraries_and_imports(rt: HostRuntime) -> Result<(), Fail> {
-    let container = Container::read(&LIBRARIES).expect(&rt, "a container");
-    let loader = Loader::read(&container).expect(&rt, "a loader section");
+    let container = Container::read(&LIBRARIES)?;
+    let loader = Loader::read(&container)?;
     test_libraries(&rt, &loader);
-    test_imports(&rt, rt.alloc(), &loader);
     test_nothing_else(&rt, &loader);
-    // In order, library `M` has import 2 alone.
+    test_imports(&rt, rt.alloc(), &loader)?;
+    Ok(())
+}
+
+/// In order, library `M` has import 2 alone.
+#[test]
+fn imports_in_order(rt: HostRuntime) -> Result<(), Fail> {
     let bytes = with_words(rt.alloc(), &LIBRARIES, &[(160, 1), (164, 2)])?;
-    let container = Container::read(&bytes).expect(&rt, "a container");
-    let loader = Loader::read(&container).expect(&rt, "a loader section");
-    test_imports(&rt, rt.alloc(), &loader);
+    let container = Container::read(&bytes)?;
+    let loader = Loader::read(&container)?;
+    test_imports(&rt, rt.alloc(), &loader)?;
     Ok(())
 }
 
@@ -293,31 +337,38 @@ const TWO_BLOCKS: &[(usize, u32)] = &[
     (164, 0),
 ];
 
-/// Imports of both blocks and their libraries, in rising order, and back again.
-const OWNED: &[(usize, usize)] = &[
-    (0, 1),
-    (16_383, 1),
-    (16_384, 0),
-    (16_385, 0),
-    (16_383, 1),
-    (0, 1),
+/// Imports of both blocks and their libraries, in rising order, and back again, and one that isn't there.
+const OWNED: &[(usize, Option<usize>)] = &[
+    (0, Some(1)),
+    (16_383, Some(1)),
+    (16_384, Some(0)),
+    (16_385, Some(0)),
+    (16_383, Some(1)),
+    (0, Some(1)),
+    (16_386, None),
 ];
+
+fn library_of(import: Option<ImportView<'_>>) -> Option<usize> {
+    Some(import?.library)
+}
+
+/// Imports are read by a reader, and from a table.
+fn test_owned(rt: &impl Abort, alloc: Global, loader: Loader<'_>) -> Result<(), AllocError> {
+    let mut reader = ImportReader::new(loader);
+    let table = ImportTable::read(alloc, loader)?;
+    for (j, library) in OWNED {
+        assert_eq!(rt; library_of(reader.import(*j)), *library, "import {j}");
+        assert_eq!(rt; library_of(table.get(*j)), *library, "import {j}");
+    }
+    Ok(())
+}
 
 #[test]
 fn imports_of_two_blocks(rt: HostRuntime) -> Result<(), Fail> {
     let mut bytes = vec![in rt.alloc(); 0; 65_720]?;
     change_words(&mut bytes, TWO_BLOCKS)?;
-    let container = Container::read(&bytes).expect(&rt, "a container");
-    let loader = Loader::read(&container).expect(&rt, "a loader section");
-    let mut reader = ImportReader::new(loader);
-    let table = ImportTable::read(rt.alloc(), loader).expect(&rt, "memory");
-    for (j, library) in OWNED.iter() {
-        let import = reader.import(*j).expect(&rt, "an import");
-        assert_eq!(rt; import.library, *library, "import {j}");
-        let import = table.get(*j).expect(&rt, "an import");
-        assert_eq!(rt; import.library, *library, "import {j}");
-    }
-    assert!(rt; reader.import(16_386).is_none());
-    assert!(rt; table.get(16_386).is_none());
+    let container = Container::read(&bytes)?;
+    let loader = Loader::read(&container)?;
+    test_owned(&rt, rt.alloc(), loader)?;
     Ok(())
 }

@@ -1,11 +1,12 @@
 use crate::fixture::refused_container;
-use pef_views::Container;
+use pef_views::{Container, Header, SectionView};
+use std::process::Abort;
 use std::test::Fail;
 use test_data::changes::with_words;
 use test_data::containers::VECTORS_BYTES as BYTES;
 
 #[test]
-fn read(rt: HostRuntime) -> Result<(), Fail> {
+fn read_beginnings(rt: HostRuntime) {
     for len in 0..=BYTES.len() {
         let want = match len {
             0..124 => Some(1),
@@ -18,191 +19,215 @@ fn read(rt: HostRuntime) -> Result<(), Fail> {
             "the first {len} bytes"
         );
     }
-    let rows: [(&[(usize, u32)], Option<u32>); 37] = [
-        (&[(0, 0x4A6F_7920)], Some(2)),
-        (&[(4, 0x7065_6667)], Some(2)),
-        (&[(0, 0), (8, 0)], Some(2)),
-        (&[(8, 0x6D36_386B)], Some(3)),
-        (&[(8, 0), (12, 0)], Some(3)),
-        (&[(12, 0)], Some(4)),
-        (&[(12, 2), (32, 0x0003_0004)], Some(4)),
-        (&[(32, 0x0003_0004)], Some(5)),
-        (&[(32, 0x0008_0009)], Some(5)),
-        // Eight headers end at 264, seven at 236.
-        (&[(32, 0x0008_0002)], Some(1)),
-        (&[(32, 0x0007_0002)], Some(6)),
-        (&[(32, 0x0004_0002)], None),
-        // Sections that aren't instantiated may have any kind, share kind and alignment.
-        (&[(32, 0x0004_0002), (148, 0x09FF_FFFF)], None),
-        // Raw bytes past the end, and no raw bytes.
-        (&[(60, 0xFFFF_FFFF)], Some(6)),
-        (&[(112, 0x0000_005B)], Some(6)),
-        (&[(112, 0)], None),
-        (&[(52, 0), (56, 0), (60, 0xFFFF_FFFF)], None),
-        // Kinds of instantiated sections.
-        (&[(64, 0x0304_0400)], None),
-        (&[(64, 0x0604_0400)], None),
-        (&[(64, 0x0404_0400)], Some(7)),
-        (&[(64, 0x0504_0400)], Some(7)),
-        (&[(64, 0x0704_0400)], Some(7)),
-        (&[(32, 0x0003_0003)], Some(7)),
-        // Sizes, and those of pattern-initialized data.
-        (&[(80, 17)], Some(8)),
-        (&[(84, 15)], Some(8)),
-        (&[(84, 17)], None),
-        (&[(92, 0x0201_0400)], None),
-        (&[(92, 0x0201_0400), (80, 17)], Some(8)),
-        (&[(92, 0x0201_0400), (84, 0)], None),
-        (&[(92, 0x0101_1F00)], None),
-        (&[(92, 0x0101_2000)], Some(9)),
-        // All tests of a section come before those of the next.
-        (&[(64, 0x0004_2000), (92, 0x0401_0400)], Some(9)),
-        (&[(64, 0x0404_2000)], Some(7)),
-        (&[(60, 0xFFFF_FFFF), (64, 0x0404_2000)], Some(6)),
-        (&[(80, 17), (92, 0x0101_2000)], Some(8)),
-        (&[(92, 0x0101_2000), (120, 0x0504_0400)], Some(9)),
-        (&[(120, 0x0504_0400)], Some(10)),
-    ];
-    for (i, (words, want)) in rows.iter().enumerate() {
+}
+
+/// Words at some places, and the number of the refusal.
+const WORDS: &[(&[(usize, u32)], Option<u32>)] = &[
+    (&[(0, 0x4A6F_7920)], Some(2)),
+    (&[(4, 0x7065_6667)], Some(2)),
+    (&[(0, 0), (8, 0)], Some(2)),
+    (&[(8, 0x6D36_386B)], Some(3)),
+    (&[(8, 0), (12, 0)], Some(3)),
+    (&[(12, 0)], Some(4)),
+    (&[(12, 2), (32, 0x0003_0004)], Some(4)),
+    (&[(32, 0x0003_0004)], Some(5)),
+    (&[(32, 0x0008_0009)], Some(5)),
+    // Eight headers end at 264, seven at 236.
+    (&[(32, 0x0008_0002)], Some(1)),
+    (&[(32, 0x0007_0002)], Some(6)),
+    (&[(32, 0x0004_0002)], None),
+    // Sections that aren't instantiated may have any kind, share kind and alignment.
+    (&[(32, 0x0004_0002), (148, 0x09FF_FFFF)], None),
+    // Raw bytes past the end, and no raw bytes.
+    (&[(60, 0xFFFF_FFFF)], Some(6)),
+    (&[(112, 0x0000_005B)], Some(6)),
+    (&[(112, 0)], None),
+    (&[(52, 0), (56, 0), (60, 0xFFFF_FFFF)], None),
+    // Kinds of instantiated sections.
+    (&[(64, 0x0304_0400)], None),
+    (&[(64, 0x0604_0400)], None),
+    (&[(64, 0x0404_0400)], Some(7)),
+    (&[(64, 0x0504_0400)], Some(7)),
+    (&[(64, 0x0704_0400)], Some(7)),
+    (&[(32, 0x0003_0003)], Some(7)),
+    // Sizes, and those of pattern-initialized data.
+    (&[(80, 17)], Some(8)),
+    (&[(84, 15)], Some(8)),
+    (&[(84, 17)], None),
+    (&[(92, 0x0201_0400)], None),
+    (&[(92, 0x0201_0400), (80, 17)], Some(8)),
+    (&[(92, 0x0201_0400), (84, 0)], None),
+    (&[(92, 0x0101_1F00)], None),
+    (&[(92, 0x0101_2000)], Some(9)),
+    // All tests of a section come before those of the next.
+    (&[(64, 0x0004_2000), (92, 0x0401_0400)], Some(9)),
+    (&[(64, 0x0404_2000)], Some(7)),
+    (&[(60, 0xFFFF_FFFF), (64, 0x0404_2000)], Some(6)),
+    (&[(80, 17), (92, 0x0101_2000)], Some(8)),
+    (&[(92, 0x0101_2000), (120, 0x0504_0400)], Some(9)),
+    (&[(120, 0x0504_0400)], Some(10)),
+];
+
+#[test]
+fn read(rt: HostRuntime) -> Result<(), Fail> {
+    for (i, (words, want)) in WORDS.iter().enumerate() {
         let bytes = with_words(rt.alloc(), &BYTES, words)?;
         assert_eq!(rt; refused_container(&bytes), *want, "row {i}");
     }
     Ok(())
 }
 
+/// Other words in the container's header.
+const HEADER_WORDS: &[(usize, u32)] = &[
+    (16, 0xB000_0001),
+    (20, 0x0100_0002),
+    (24, 0x0200_0003),
+    (28, 0x0300_0004),
+    (36, 0x0500_0006),
+];
+
+const HEADER: Header = Header {
+    tag_1: 0x4A6F_7921,
+    tag_2: 0x7065_6666,
+    architecture: 0x7077_7063,
+    format_version: 1,
+    date_time_stamp: 0xB000_0001,
+    old_def_version: 0x0100_0002,
+    old_imp_version: 0x0200_0003,
+    current_version: 0x0300_0004,
+    section_count: 3,
+    instantiated_section_count: 2,
+    reserved: 0x0500_0006,
+};
+
 #[test]
 fn header(rt: HostRuntime) -> Result<(), Fail> {
-    let words = [
-        (16, 0xB000_0001),
-        (20, 0x0100_0002),
-        (24, 0x0200_0003),
-        (28, 0x0300_0004),
-        (36, 0x0500_0006),
-    ];
-    let bytes = with_words(rt.alloc(), &BYTES, &words)?;
-    let header = Container::read(&bytes).expect(&rt, "a container").header();
-    let fields = [
-        header.tag_1,
-        header.tag_2,
-        header.architecture,
-        header.format_version,
-        header.date_time_stamp,
-        header.old_def_version,
-        header.old_imp_version,
-        header.current_version,
-        u32::from(header.section_count),
-        u32::from(header.instantiated_section_count),
-        header.reserved,
-    ];
-    let want = [
-        0x4A6F_7921,
-        0x7065_6666,
-        0x7077_7063,
-        1,
-        0xB000_0001,
-        0x0100_0002,
-        0x0200_0003,
-        0x0300_0004,
-        3,
-        2,
-        0x0500_0006,
-    ];
-    assert_eq!(rt; fields, want);
+    let bytes = with_words(rt.alloc(), &BYTES, HEADER_WORDS)?;
+    let header = Container::read(&bytes)?.header();
+    assert_eq!(rt; header, HEADER);
     Ok(())
+}
+
+/// Other words for all fields of section 2, which isn't instantiated.
+const SECTION_WORDS: &[(usize, u32)] = &[
+    (96, 0xFFFF_FFFE),
+    (100, 0x0100_0002),
+    (104, 0x0200_0003),
+    (108, 0x0300_0004),
+    (120, 0x0405_0607),
+];
+
+/// Name offset; default address; sizes: total, unpacked, packed; place; kind, share kind, alignment, reserved.
+type Fields = (i32, [u32; 5], [u8; 4]);
+
+const SECTIONS: &[Fields] = &[
+    (-1, [0, 8, 8, 8, 0x80], [0, 4, 4, 0]),
+    (-1, [0, 16, 16, 16, 0x90], [1, 1, 4, 0]),
+    (
+        -2,
+        [0x0100_0002, 0x0200_0003, 0x0300_0004, 90, 0xA0],
+        [4, 5, 6, 7],
+    ),
+];
+
+fn fields(section: &SectionView<'_>) -> Fields {
+    let words = [
+        section.default_address,
+        section.total_size,
+        section.unpacked_size,
+        section.packed_size,
+        section.container_offset,
+    ];
+    let bytes = [
+        section.section_kind,
+        section.share_kind,
+        section.alignment,
+        section.reserved,
+    ];
+    (section.name_offset, words, bytes)
+}
+
+fn test_sections(rt: &impl Abort, container: &Container<'_>) {
+    for (i, wanted) in SECTIONS.iter().enumerate() {
+        let section = container.section(i).expect(rt, "a section");
+        assert_eq!(rt; fields(&section), *wanted, "section {i}");
+        assert_eq!(rt; Some(section.raw), container.raw(i), "section {i}");
+    }
+    assert!(rt; container.section(3).is_none());
 }
 
 #[test]
 fn section(rt: HostRuntime) -> Result<(), Fail> {
-    // Of section 2, which isn't instantiated, all fields are other ones.
-    let words = [
-        (96, 0xFFFF_FFFE),
-        (100, 0x0100_0002),
-        (104, 0x0200_0003),
-        (108, 0x0300_0004),
-        (120, 0x0405_0607),
-    ];
-    let bytes = with_words(rt.alloc(), &BYTES, &words)?;
-    let container = Container::read(&bytes).expect(&rt, "a container");
-    // Name offset; default address; sizes: total, unpacked, packed; place; kind, share kind, alignment, reserved.
-    let rows = [
-        (0, -1, [0, 8, 8, 8, 0x80], [0, 4, 4, 0]),
-        (1, -1, [0, 16, 16, 16, 0x90], [1, 1, 4, 0]),
-        (
-            2,
-            -2,
-            [0x0100_0002, 0x0200_0003, 0x0300_0004, 90, 0xA0],
-            [4, 5, 6, 7],
-        ),
-    ];
-    for (i, name_offset, words, bytes) in rows {
-        let section = container.section(i).expect(&rt, "a section");
-        assert_eq!(rt; section.name_offset, name_offset, "section {i}");
-        let found = [
-            section.default_address,
-            section.total_size,
-            section.unpacked_size,
-            section.packed_size,
-            section.container_offset,
-        ];
-        assert_eq!(rt; found, words, "section {i}");
-        let found = [
-            section.section_kind,
-            section.share_kind,
-            section.alignment,
-            section.reserved,
-        ];
-        assert_eq!(rt; found, bytes, "section {i}");
-        assert_eq!(rt; Some(section.raw), container.raw(i), "section {i}");
-    }
-    assert!(rt; container.section(3).is_none());
+    let bytes = with_words(rt.alloc(), &BYTES, SECTION_WORDS)?;
+    let container = Container::read(&bytes)?;
+    test_sections(&rt, &container);
     Ok(())
+}
+
+/// The raw bytes of section 0, without any change.
+const RAW: &[u8] = b"\x00\x11\x22\x33\x44\x55\x66\x77";
+
+/// What is changed, and the raw bytes of section 0.
+const RAW_BYTES: &[(&[(usize, u32)], &[u8])] = &[
+    (&[], RAW),
+    // An image of four bytes: the raw bytes beyond it belong to the section.
+    (&[(52, 4)], RAW),
+    // No raw bytes, at the end and far behind it.
+    (&[(52, 0), (56, 0), (60, 250)], &[]),
+    (&[(52, 0), (56, 0), (60, 0xFFFF_FFFF)], &[]),
+    // The first of two loader sections counts.
+    (&[(32, 0x0004_0002), (148, 0x0400_0000)], RAW),
+];
+
+/// Tests the raw bytes of section 0, and those of the loader section.
+fn test_raw(rt: &impl Abort, row: usize, container: &Container<'_>, raw: &[u8], loader: &[u8]) {
+    assert_eq!(rt; container.raw(0), Some(raw), "row {row}");
+    assert_eq!(rt; container.loader(), loader, "row {row}");
+    assert_eq!(rt; container.raw(2), Some(loader), "row {row}");
+    assert_eq!(rt; container.raw(4), None, "row {row}");
 }
 
 #[test]
 fn raw_and_loader(rt: HostRuntime) -> Result<(), Fail> {
-    // What is changed; the raw bytes of section 0; the loader section's.
-    let rows: [(&[(usize, u32)], &[u8], &[u8]); 5] = [
-        (&[], &BYTES[0x80..0x88], &BYTES[160..]),
-        // An image of four bytes: the raw bytes beyond it belong to the section.
-        (&[(52, 4)], &BYTES[0x80..0x88], &BYTES[160..]),
-        // No raw bytes, at the end and far behind it.
-        (&[(52, 0), (56, 0), (60, 250)], &[], &BYTES[160..]),
-        (&[(52, 0), (56, 0), (60, 0xFFFF_FFFF)], &[], &BYTES[160..]),
-        // The first of two loader sections counts.
-        (
-            &[(32, 0x0004_0002), (148, 0x0400_0000)],
-            &BYTES[0x80..0x88],
-            &BYTES[160..],
-        ),
-    ];
-    for (words, raw, loader) in rows {
+    assert_eq!(rt; RAW, &BYTES[0x80..0x88]);
+    for (i, (words, raw)) in RAW_BYTES.iter().enumerate() {
         let bytes = with_words(rt.alloc(), &BYTES, words)?;
-        let container = Container::read(&bytes).expect(&rt, "a container");
-        assert_eq!(rt; container.raw(0), Some(raw), "{words:?}");
-        assert_eq!(rt; container.loader(), loader, "{words:?}");
-        assert_eq!(rt; container.raw(2), Some(loader), "{words:?}");
-        assert_eq!(rt; container.raw(4), None, "{words:?}");
+        let container = Container::read(&bytes)?;
+        test_raw(&rt, i, &container, raw, &BYTES[160..]);
     }
+    Ok(())
+}
+
+/// Where a name begins, and the name. The bytes from 129 on are 11 22 33 44 55 66 77 00, and the container's last zero
+/// byte is at 248.
+const NAMES: &[(u32, Option<&[u8]>)] = &[
+    (0, Some(b"")),
+    (5, Some(b"\x11\x22\x33\x44\x55\x66\x77")),
+    (124, Some(b"")),
+    (125, None),
+    (0x7FFF_FFFF, None),
+    (0x8000_0000, None),
+    (0xFFFF_FFFE, None),
+];
+
+fn test_section_name(
+    rt: &impl Abort,
+    bytes: &[u8],
+    offset: u32,
+    want: Option<&[u8]>,
+) -> Result<(), Fail> {
+    let container = Container::read(bytes)?;
+    assert_eq!(rt; container.section_name(0), want, "at {offset}");
+    assert_eq!(rt; container.section_name(3), None);
     Ok(())
 }
 
 #[test]
 fn section_name(rt: HostRuntime) -> Result<(), Fail> {
-    // The bytes from 129 on are 11 22 33 44 55 66 77 00, and the container's last zero byte is at 248.
-    let rows: [(u32, Option<&[u8]>); 7] = [
-        (0, Some(b"")),
-        (5, Some(b"\x11\x22\x33\x44\x55\x66\x77")),
-        (124, Some(b"")),
-        (125, None),
-        (0x7FFF_FFFF, None),
-        (0x8000_0000, None),
-        (0xFFFF_FFFE, None),
-    ];
-    for (offset, want) in rows {
+    for row in NAMES {
+        let (offset, want) = *row;
         let bytes = with_words(rt.alloc(), &BYTES, &[(40, offset)])?;
-        let container = Container::read(&bytes).expect(&rt, "a container");
-        assert_eq!(rt; container.section_name(0), want, "at {offset}");
-        assert_eq!(rt; container.section_name(3), None);
+        test_section_name(&rt, &bytes, offset, want)?;
     }
     Ok(())
 }

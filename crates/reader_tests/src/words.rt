@@ -1,4 +1,5 @@
 use pef_words::Cut;
+use std::process::Abort;
 
 /// An offset, and what stands there as `u8`, `u16`, `i16`, `u32` and `i32`.
 type Numbers = (
@@ -10,107 +11,130 @@ type Numbers = (
     Option<i32>,
 );
 
+const NUMBERS: &[Numbers] = &[
+    (
+        0,
+        Some(0),
+        Some(0x0080),
+        Some(128),
+        Some(0x0080_FF7F),
+        Some(8_454_015),
+    ),
+    (
+        1,
+        Some(0x80),
+        Some(0x80FF),
+        Some(-32_513),
+        Some(0x80FF_7FFE),
+        Some(-2_130_739_202),
+    ),
+    (
+        2,
+        Some(0xFF),
+        Some(0xFF7F),
+        Some(-129),
+        Some(0xFF7F_FE12),
+        Some(-8_389_102),
+    ),
+    (3, Some(0x7F), Some(0x7FFE), Some(32_766), None, None),
+    (4, Some(0xFE), Some(0xFE12), Some(-494), None, None),
+    (5, Some(0x12), None, None, None, None),
+    (6, None, None, None, None, None),
+    (usize::MAX - 1, None, None, None, None, None),
+    (usize::MAX, None, None, None, None, None),
+];
+
+/// The numbers at an offset.
+fn numbers_at(cut: Cut<'_>, at: usize) -> Numbers {
+    (
+        at,
+        cut.u8_at(at),
+        cut.u16_at(at),
+        cut.i16_at(at),
+        cut.u32_at(at),
+        cut.i32_at(at),
+    )
+}
+
 #[test]
 fn numbers(rt: HostRuntime) {
     let cut = Cut::new(&[0x00, 0x80, 0xFF, 0x7F, 0xFE, 0x12]);
-    let rows: [Numbers; 9] = [
-        (
-            0,
-            Some(0),
-            Some(0x0080),
-            Some(128),
-            Some(0x0080_FF7F),
-            Some(8_454_015),
-        ),
-        (
-            1,
-            Some(0x80),
-            Some(0x80FF),
-            Some(-32_513),
-            Some(0x80FF_7FFE),
-            Some(-2_130_739_202),
-        ),
-        (
-            2,
-            Some(0xFF),
-            Some(0xFF7F),
-            Some(-129),
-            Some(0xFF7F_FE12),
-            Some(-8_389_102),
-        ),
-        (3, Some(0x7F), Some(0x7FFE), Some(32_766), None, None),
-        (4, Some(0xFE), Some(0xFE12), Some(-494), None, None),
-        (5, Some(0x12), None, None, None, None),
-        (6, None, None, None, None, None),
-        (usize::MAX - 1, None, None, None, None, None),
-        (usize::MAX, None, None, None, None, None),
-    ];
-    for (at, byte, half, signed_half, word, signed_word) in rows {
-        assert_eq!(rt; cut.u8_at(at), byte, "at {at}");
-        assert_eq!(rt; cut.u16_at(at), half, "at {at}");
-        assert_eq!(rt; cut.i16_at(at), signed_half, "at {at}");
-        assert_eq!(rt; cut.u32_at(at), word, "at {at}");
-        assert_eq!(rt; cut.i32_at(at), signed_word, "at {at}");
+    for wanted in NUMBERS {
+        assert_eq!(rt; numbers_at(cut, wanted.0), *wanted);
     }
+}
+
+/// Bytes, where a part of them begins, how many it has, and the part.
+const PARTS: &[(&[u8], usize, usize, Option<&[u8]>)] = &[
+    (b"abcd", 0, 4, Some(b"abcd")),
+    (b"abcd", 1, 2, Some(b"bc")),
+    (b"abcd", 3, 1, Some(b"d")),
+    (b"abcd", 0, 0, Some(b"")),
+    (b"abcd", 4, 0, Some(b"")),
+    (b"abcd", 4, 1, None),
+    (b"abcd", 3, 2, None),
+    (b"abcd", 0, 5, None),
+    (b"abcd", 5, 0, None),
+    (b"abcd", usize::MAX, 0, None),
+    (b"abcd", usize::MAX, 1, None),
+    (b"abcd", usize::MAX - 1, 4, None),
+    (b"abcd", 1, usize::MAX, None),
+    (b"", 0, 0, Some(b"")),
+    (b"", 0, 1, None),
+    (b"", 1, 0, None),
+];
+
+/// Tests that a part ends where it ends, and not where its source does.
+fn test_end(rt: &impl Abort, part: Cut<'_>, len: usize) {
+    assert_eq!(rt; part.len(), len);
+    assert_eq!(rt; part.u8_at(len), None, "{len} bytes");
+}
+
+fn test_part(rt: &impl Abort, cut: Cut<'_>, from: usize, len: usize, want: Option<&[u8]>) {
+    let part = cut.part(from, len);
+    let found = part.map(|part| part.bytes());
+    assert_eq!(rt; found, want, "{len} from {from}");
+    if let Some(part) = part {
+        test_end(rt, part, len);
+    }
+}
+
+fn test_bytes(rt: &impl Abort, cut: Cut<'_>, bytes: &[u8]) {
+    assert_eq!(rt; cut.bytes(), bytes);
+    assert_eq!(rt; cut.is_empty(), bytes.is_empty());
 }
 
 #[test]
 fn part(rt: HostRuntime) {
-    let rows: [(&[u8], usize, usize, Option<&[u8]>); 16] = [
-        (b"abcd", 0, 4, Some(b"abcd")),
-        (b"abcd", 1, 2, Some(b"bc")),
-        (b"abcd", 3, 1, Some(b"d")),
-        (b"abcd", 0, 0, Some(b"")),
-        (b"abcd", 4, 0, Some(b"")),
-        (b"abcd", 4, 1, None),
-        (b"abcd", 3, 2, None),
-        (b"abcd", 0, 5, None),
-        (b"abcd", 5, 0, None),
-        (b"abcd", usize::MAX, 0, None),
-        (b"abcd", usize::MAX, 1, None),
-        (b"abcd", usize::MAX - 1, 4, None),
-        (b"abcd", 1, usize::MAX, None),
-        (b"", 0, 0, Some(b"")),
-        (b"", 0, 1, None),
-        (b"", 1, 0, None),
-    ];
-    for (bytes, from, len, want) in rows {
+    for row in PARTS {
+        let (bytes, from, len, want) = *row;
         let cut = Cut::new(bytes);
-        assert_eq!(rt; cut.bytes(), bytes);
-        assert_eq!(rt; cut.is_empty(), bytes.is_empty());
-        match cut.part(from, len) {
-            Some(part) => {
-                assert_eq!(rt; Some(part.bytes()), want, "{len} from {from}");
-                // A part ends where it ends, and not where its source does.
-                assert_eq!(rt; part.len(), len);
-                assert_eq!(rt; part.u8_at(len), None, "{len} from {from}");
-            }
-            None => assert_eq!(rt; want, None, "{len} from {from}"),
-        }
+        test_bytes(&rt, cut, bytes);
+        test_part(&rt, cut, from, len, want);
     }
 }
 
+/// Bytes, where a name begins, and the name.
+const NAMES: &[(&[u8], usize, Option<&[u8]>)] = &[
+    (b"go\0\0main", 0, Some(b"go")),
+    (b"go\0\0main", 1, Some(b"o")),
+    (b"go\0\0main", 2, Some(b"")),
+    (b"go\0\0main", 3, Some(b"")),
+    (b"go\0\0main", 4, None),
+    (b"go\0\0main", 8, None),
+    (b"go\0\0main", 9, None),
+    (b"go\0\0main", usize::MAX, None),
+    (b"main\0", 0, Some(b"main")),
+    (b"main\0", 4, Some(b"")),
+    (b"main\0", 5, None),
+    (b"", 0, None),
+];
+
 #[test]
 fn name_at(rt: HostRuntime) {
-    let rows: [(&[u8], usize, Option<&[u8]>); 12] = [
-        (b"go\0\0main", 0, Some(b"go")),
-        (b"go\0\0main", 1, Some(b"o")),
-        (b"go\0\0main", 2, Some(b"")),
-        (b"go\0\0main", 3, Some(b"")),
-        (b"go\0\0main", 4, None),
-        (b"go\0\0main", 8, None),
-        (b"go\0\0main", 9, None),
-        (b"go\0\0main", usize::MAX, None),
-        (b"main\0", 0, Some(b"main")),
-        (b"main\0", 4, Some(b"")),
-        (b"main\0", 5, None),
-        (b"", 0, None),
-    ];
-    for (bytes, from, want) in rows {
-        assert_eq!(rt;
-            Cut::new(bytes).name_at(from),
-            want,
-            "from {from} of {bytes:?}"
-        );
+    for row in NAMES {
+        let (bytes, from, want) = *row;
+        let found = Cut::new(bytes).name_at(from);
+        assert_eq!(rt; found, want, "from {from} of {bytes:?}");
     }
 }
