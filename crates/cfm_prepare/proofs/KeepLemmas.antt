@@ -1,18 +1,16 @@
 -- What stays of a fragment that is present, over a step behind any list of steps.
-use Rattle.std.proofs.Common.{◌≡◌, ℕ, suc, ◌<◌, ◌==◌, Bool, true, false, List, [], ◌∷◌, ◌++◌, Some, cond, length, refl, sym, ap, subst, ◌∙◌, inl, inr, arith}
+use Rattle.std.proofs.Common.{◌≡◌, ◌≢◌, ℕ, suc, ◌<◌, ◌==◌, Bool, true, false, List, [], ◌∷◌, ◌++◌, Some, cond, length, refl, sym, ap, subst, ◌∙◌, inl, inr, arith}
 use Rattle.std.proofs.lemmas.Bool.Decides.{eqb_tells}
 use Rattle.cfm_memory.specs.Extents.{given_back, place_at}
 use Rattle.cfm_memory.specs.Instances.{Layout, bytes_at}
 use Rattle.cfm_memory.proofs.Laws.{given_back_elsewhere}
 use Rattle.cfm_libraries.specs.Stores.{Pair}
-use Rattle.cfm_prepare.specs.Addresses.{section_of}
+use Rattle.cfm_present.specs.Addresses.{section_of}
+use Rattle.cfm_present.specs.Fragments.{Present, all_given_back, is_present, places_of, present_at}
+use Rattle.cfm_present.proofs.Laws.{ArePairApart, placed-pairs, placed-new, turned}
 use Rattle.cfm_prepare.specs.Contexts.{Open, State, fresh_state, is_needed, needed_of, unneeded_of}
-use Rattle.cfm_prepare.specs.Fragments.{Present, all_given_back, is_present, places_of, present_at}
 use Rattle.cfm_prepare.specs.Runs.{Keeps, Runs, Step, Takes, closed, prepared}
 use Rattle.cfm_prepare.specs.Steps.{Closes, Prepares}
-use Rattle.cfm_prepare.specs.Kept.Ready.{AllApart}
-use Rattle.cfm_prepare.proofs.PlacedLemmas.{placed-apart, placed-new}
-use Rattle.cfm_prepare.proofs.ReadyLemmas.{ArePairApart, turned}
 use Rattle.cfm_prepare.proofs.RunLemmas.{present-needed}
 
 -- what holds of each of some fragments
@@ -61,11 +59,11 @@ apart-append : (xs ys : List Present) → AreApartAll xs → AreApartAll ys → 
 apart-append [] ys left right cross = right
 apart-append (f ∷ xs) ys left right cross = (all-append (ArePairApart f) xs ys left.0 cross.0, apart-append xs ys left.1 right cross.1)
 
-apart-index : (fs : List Present) → AllApart fs → AreApartAll fs
+apart-index : (fs : List Present) → ((i j : ℕ) → i < length fs → j < length fs → i ≢ j → ArePairApart (present_at fs i) (present_at fs j)) → AreApartAll fs
 apart-index [] apart = tt
 apart-index (f ∷ fs) apart = (
-  all-index (ArePairApart f) fs (λ i under a b. apart 0 (suc i) a b (omega arith) (omega (arith, under)) (λ e. absurd (omega (arith, e)))),
-  apart-index fs (λ i j a b under high other. apart (suc i) (suc j) a b (omega (arith, under)) (omega (arith, high)) (λ e. other (omega (arith, e)))),
+  all-index (ArePairApart f) fs (λ i under. apart 0 (suc i) (omega arith) (omega (arith, under)) (λ e. absurd (omega (arith, e)))),
+  apart-index fs (λ i j under high other. apart (suc i) (suc j) (omega (arith, under)) (omega (arith, high)) (λ e. other (omega (arith, e)))),
 )
 
 chosen-apart : (b : Bool) (f : Present) (fs : List Present) → AllBy (ArePairApart f) fs → AreApartAll fs → AreApartAll (cond b (f ∷ fs) fs)
@@ -126,7 +124,7 @@ laid-prepare pairs s t name number laid step =
     (λ f there. all-map (λ g. ArePairApart g f) (ArePairApart f) step.fresh (λ g. turned g f) (apart-new pairs s t name number step f there)) laid.there in
     record {
       there = subst (AllBy (IsThere t.memory)) (sym step.present) (all-append (IsThere t.memory) s.present step.fresh old new);
-      apart = subst AreApartAll (sym step.present) (apart-append s.present step.fresh laid.apart (apart-index step.fresh (placed-apart s.pairs s.memory step.fresh are.empty are.placed)) cross);
+      apart = subst AreApartAll (sym step.present) (apart-append s.present step.fresh laid.apart (apart-index step.fresh (placed-pairs s.pairs s.memory step.fresh are.empty are.placed)) cross);
     }
 
 -- those that are kept by a closing keep their bytes

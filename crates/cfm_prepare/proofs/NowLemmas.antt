@@ -1,5 +1,5 @@
 -- A fragment that is present is prepared as its container says, with the addresses of now, after any list of steps.
-use Rattle.std.proofs.Common.{◌≡◌, ℕ, zero, suc, ◌+◌, ◌==◌, ◌%◌, ◌^◌, Bool, true, false, List, [], ◌∷◌, ◌++◌, Option, None, Some, Ok, Err, Contains, cond, refl, sym, ap, ap₂, subst, ◌∙◌, inl, inr, arith}
+use Rattle.std.proofs.Common.{◌≡◌, ℕ, zero, suc, ◌+◌, ◌==◌, ◌%◌, ◌^◌, Bool, true, false, List, [], ◌∷◌, ◌++◌, Option, None, Some, Ok, Err, Contains, cond, refl, sym, ap, ap₂, subst, ◌∙◌, inl, inr}
 use Rattle.std.specs.Prelude.{Result}
 use Rattle.std.specs.Result.{result_unwrap_or}
 use Rattle.std.proofs.lemmas.Bool.Decides.{eqb_tells}
@@ -16,23 +16,17 @@ use Rattle.cfm_closure.specs.declared.targets.Target.{Target}
 use Rattle.cfm_closure.specs.declared.targets.Target.TheVariants.{Absolute, At}
 use Rattle.cfm_closure.proofs.Laws.{closed-complete, target-inside}
 use Rattle.cfm_fragment.specs.Prepared.{addresses_at}
-use Rattle.cfm_prepare.specs.Addresses.{import_address, imports_from, section_of, target_address}
-use Rattle.cfm_prepare.specs.Contexts.{Open, State, fresh_state, has, is_needed, needed_of}
-use Rattle.cfm_prepare.specs.Fragments.{Present, is_present, places_of, prepared_in}
+use Rattle.cfm_present.specs.Addresses.{import_address, imports_from, section_of, target_address}
+use Rattle.cfm_present.specs.Lists.{has}
+use Rattle.cfm_present.specs.Fragments.{Present, is_present, places_of, prepared_in}
+use Rattle.cfm_present.specs.Placing.{Fits}
+use Rattle.cfm_present.proofs.Laws.{has-at, has-contains, placed-fit}
+use Rattle.cfm_prepare.specs.Contexts.{Open, State, fresh_state, is_needed, needed_of}
 use Rattle.cfm_prepare.specs.Now.{IsPreparedNow}
 use Rattle.cfm_prepare.specs.Runs.{AreClosed, Keeps, Runs, Step, closed, prepared}
 use Rattle.cfm_prepare.specs.Steps.{Closes, Prepares}
-use Rattle.cfm_prepare.specs.Kept.Ready.{Fits}
 use Rattle.cfm_prepare.proofs.KeepLemmas.{AllBy, IsLaid, IsThere, all-append, all-both, all-index, all-map, all-needed, kept-close, kept-new, laid-close, laid-prepare, places-before, places-needed}
-use Rattle.cfm_prepare.proofs.PlacedLemmas.{placed-fit}
-use Rattle.cfm_prepare.proofs.ReaderLemmas.{has-contains}
 use Rattle.cfm_prepare.proofs.RunLemmas.{IsSound, after-close, after-prepare, fresh-sound, needed-either}
-
--- what is in a list, the list has
-has-at : (ps : List ℕ) (p : ℕ) → Contains ps p → has ps p ≡ true
-has-at [] p there = absurd (let low = there.1 in omega arith)
-has-at (q ∷ qs) p (zero, low, is) = elim (eqb_tells q p) [ inl same ↦ rw same.0 refl | inr other ↦ (let same : q ≡ p = is in absurd (other.1 same)) ]
-has-at (q ∷ qs) p (suc k, low, is) = elim (eqb_tells q p) [ inl same ↦ rw same.0 refl | inr other ↦ rw other.0 (has-at qs p (k, omega (arith, low), is)) ]
 
 -- two lists of fragments have the places that some connections need
 abbrev AgreeOn : List Open → List Present → List Present → Type 0

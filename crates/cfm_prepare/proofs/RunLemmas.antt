@@ -4,8 +4,9 @@ use Rattle.std.proofs.Common.{◌≡◌, ℕ, ◌==◌, Bool, true, false, List,
 use Rattle.std.proofs.lemmas.Bool.Decides.{eqb_tells}
 use Rattle.cfm_libraries.specs.Stores.{Pair}
 use Rattle.cfm_closure.specs.Closures.{closed_of}
-use Rattle.cfm_prepare.specs.Contexts.{Open, State, fresh_state, has, is_needed, needed_of, open_without}
-use Rattle.cfm_prepare.specs.Fragments.{Present, is_present, new_among, positions}
+use Rattle.cfm_present.specs.Lists.{has}
+use Rattle.cfm_present.specs.Fragments.{Present, is_present, new_among, positions}
+use Rattle.cfm_prepare.specs.Contexts.{Open, State, fresh_state, is_needed, needed_of, open_without}
 use Rattle.cfm_prepare.specs.Runs.{AreClosed, Runs, Step, closed, prepared}
 use Rattle.cfm_prepare.specs.Steps.{Closes, Prepares}
 

@@ -1,14 +1,13 @@
 -- The counts of the users of fragments.
 use Rattle.std.proofs.Common.{◌≡◌, ◌≢◌, ℕ, zero, suc, ◌+◌, ◌<◌, ◌≤◌, Bool, true, false, List, [], ◌∷◌, ◌++◌, Some, nat_lt, not, length, replicate, refl, sym, ap, ap₂, subst, ◌∙◌, inl, inr, cond, arith}
-use Rattle.std.specs.List.{AllPairs}
 use Rattle.std.proofs.Math.ListN.{set}
 use Rattle.std.proofs.lemmas.Bool.Decides.{eqb_tells, nat_tests}
 use Rattle.std.proofs.lemmas.List.{get_or-set_other, get_or-set_same}
-use Rattle.cfm_prepare.specs.Contexts.{Open, has, is_needed, needed_of, open_of, open_without, unneeded_of}
-use Rattle.cfm_prepare.specs.Fragments.{Present, is_present}
-use Rattle.cfm_prepare.specs.Kept.Users.{AreUsedBut, CountsMore, CountUsers, IsOnce, count_at, counted, is_used, unused_of, used_of, users_of}
-use Rattle.cfm_prepare.proofs.ReaderLemmas.{has-contains}
-use Rattle.cfm_prepare.proofs.TableLemmas.{present-append}
+use Rattle.cfm_present.specs.Lists.{has}
+use Rattle.cfm_present.specs.Fragments.{Present, is_present}
+use Rattle.cfm_present.proofs.Laws.{has-first, present-append}
+use Rattle.cfm_prepare.specs.Contexts.{Open, is_needed, needed_of, open_of, open_without, unneeded_of}
+use Rattle.cfm_prepare.specs.Kept.Users.{AreUsedBut, CountsMore, CountUsers, count_at, counted, is_used, unused_of, used_of, users_of}
 
 -- a fragment is needed where it has users
 needed-one : (b c : Bool) (n : ℕ) → c ≡ nat_lt 0 n → cond b true c ≡ nat_lt 0 (cond b 1 0 + n)
@@ -69,16 +68,6 @@ users-without (x ∷ os) number o p is = elim (eqb_tells x.number number) [
       )
 ]
 
--- a list in which all are apart has none twice
-pub once-from-pairs : (xs : List ℕ) → AllPairs (λ p q. p ≢ q) xs → IsOnce xs
-once-from-pairs [] apart = tt
-once-from-pairs (x ∷ xs) apart =
-    (go (has xs x) refl, once-from-pairs xs (λ i j d less below. apart (suc i) (suc j) d (omega (arith, less)) (omega (arith, below))))
-  where
-    go : (b : Bool) → has xs x ≡ b → b ≡ false
-    go true is = let there = has-contains xs x is in absurd (apart 0 (suc there.0) x (omega arith) (let h = there.1 in omega (arith, h)) (sym there.2))
-    go false is = refl
-
 -- past the last count there is none
 pub under-length : (counts : List ℕ) (p : ℕ) → 0 < count_at counts p → p < length counts
 under-length [] p some = absurd (omega (arith, some))
@@ -102,12 +91,6 @@ count-here counts q v under = get_or-set_same counts q v 0 under
 
 count-other : (counts : List ℕ) (q v p : ℕ) → p ≢ q → count_at (set counts q v) p ≡ count_at counts p
 count-other counts q v p apart = get_or-set_other counts q p v 0 apart
-
-pub has-first : (q : ℕ) (qs : List ℕ) → has (q ∷ qs) q ≡ true
-has-first q qs = elim (eqb_tells q q) [ inl same ↦ rw same.0 refl | inr other ↦ absurd (other.1 refl) ]
-
-pub has-later : (q : ℕ) (qs : List ℕ) (p : ℕ) → has qs p ≡ true → has (q ∷ qs) p ≡ true
-has-later q qs p there = elim (eqb_tells q p) [ inl same ↦ rw same.0 refl | inr other ↦ rw other.0 there ]
 
 one-first : (q : ℕ) (qs : List ℕ) → counted (q ∷ qs) q ≡ 1
 one-first q qs = ap (λ b. cond b 1 0) (has-first q qs)

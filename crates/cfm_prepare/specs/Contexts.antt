@@ -7,7 +7,8 @@ use Rattle.cfm_memory.specs.Extents.{no_instances}
 use Rattle.cfm_memory.specs.Instances.{Layout}
 use Rattle.cfm_libraries.specs.Stores.{Pair}
 use Rattle.cfm_closure.specs.Closures.{Closed}
-use Rattle.cfm_prepare.specs.Fragments.{Present}
+use Rattle.cfm_present.specs.Fragments.{Present}
+use Rattle.cfm_present.specs.Lists.{has}
 
 -- how many connections a context gives in all
 abbrev pub most_connections : ℕ
@@ -42,11 +43,6 @@ open_of (o ∷ os) number = if o.number == number then Some o else open_of os nu
 abbrev pub open_without : List Open → ℕ → List Open
 open_without [] number = []
 open_without (o ∷ os) number = if o.number == number then os else o ∷ open_without os number
-
--- whether a list has a number
-abbrev pub has : List ℕ → ℕ → Bool
-has [] p = false
-has (q ∷ qs) p = if q == p then true else has qs p
 
 -- whether an open connection's closure has a fragment
 abbrev pub is_needed : List Open → ℕ → Bool

@@ -1,5 +1,4 @@
 -- What the code keeps. Private contracts and proofs speak of it, public ones don't.
 pub mod Connections
-pub mod Ready
-pub mod Tables
+pub mod Contexts
 pub mod Users

@@ -1,11 +1,7 @@
-pub mod Addresses
 pub mod Contexts
 pub mod Faults
-pub mod Fragments
 pub mod Kept
 pub mod Now
-pub mod Placing
 pub mod Readers
 pub mod Runs
-pub mod Seen
 pub mod Steps

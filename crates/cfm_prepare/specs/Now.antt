@@ -4,13 +4,9 @@ use Rattle.std.specs.Prelude.{ℕ, List}
 use Rattle.cfm_memory.specs.Extents.{ArePlaced, Stand}
 use Rattle.cfm_memory.specs.Instances.{Layout}
 use Rattle.cfm_libraries.specs.Stores.{Pair}
-use Rattle.cfm_prepare.specs.Addresses.{section_of}
+use Rattle.cfm_present.specs.Addresses.{section_of}
+use Rattle.cfm_present.specs.Fragments.{extents_in, places_of, present_of}
 use Rattle.cfm_prepare.specs.Contexts.{State}
-use Rattle.cfm_prepare.specs.Fragments.{Present, extents_in, places_of}
-
--- the fragment of a position, with the places that it has among some
-abbrev pub present_of : List Present → ℕ → Present
-present_of all p = record { position = p; places = places_of all p }
 
 -- a fragment's sections were placed, as its container says, in some memory (in which one, says the preparation that
 -- placed them, `Prepares`; and that they stay, the law `kept_fragments`); and in the memory of now each has what it is

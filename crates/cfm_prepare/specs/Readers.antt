@@ -1,30 +1,22 @@
--- What a context tells: where the sections of fragments that are present lie, what they hold, and where the
--- fragments of a connection are entered (Mac OS Runtime Architectures, "Code Fragment Manager", "Finding Symbols").
-use Rattle.std.specs.Prelude.{ℕ, ◌==◌, ℤ, pos, negsuc, List, Option, None, Some, if◌then◌else◌, option_map, slice_get}
+-- What a context tells of its connections: the sections of their roots, and where their fragments are entered
+-- (Mac OS Runtime Architectures, "Code Fragment Manager", "Finding Symbols").
+use Rattle.std.specs.Prelude.{ℕ, ◌==◌, ℤ, pos, negsuc, List, Option, None, Some, if◌then◌else◌, option_map}
 use Rattle.std.specs.Option.{option_and_then}
-use Rattle.cfm_memory.specs.Instances.{Layout, bytes_at}
-use Rattle.cfm_memory.specs.declared.place.Place.{Place}
 use Rattle.pef_loader.specs.Loader.{export_of, init_of, main_of, named_of, term_of}
 use Rattle.cfm_libraries.specs.Fragments.{loader_at}
 use Rattle.cfm_libraries.specs.Stores.{Pair}
 use Rattle.cfm_closure.specs.declared.targets.Target.TheVariants.{At}
 use Rattle.cfm_fragment.specs.Prepared.{entry_address}
 use Rattle.cfm_fragment.specs.declared.entries.Entries.{Entries}
-use Rattle.cfm_prepare.specs.Addresses.{import_address, target_address}
-use Rattle.cfm_prepare.specs.Contexts.{Open, State, has, open_of}
-use Rattle.cfm_prepare.specs.Fragments.{Present, places_of}
-
--- what stands at a place: its address and its bytes
-abbrev pub held_at : Layout → Place → Option (ℕ × List ℕ)
-held_at m p = option_map (λ bytes. (p.address, bytes)) (bytes_at m.instances p.address)
-
--- section i of the fragment in a place of the store; none where the fragment isn't present
-abbrev pub section_in : State → ℕ → ℕ → Option (ℕ × List ℕ)
-section_in s p i = option_and_then (held_at s.memory) (slice_get (places_of s.present p) i)
+use Rattle.cfm_present.specs.Addresses.{import_address, target_address}
+use Rattle.cfm_present.specs.Fragments.{Present, places_of}
+use Rattle.cfm_present.specs.Lists.{has}
+use Rattle.cfm_present.specs.Sections.{section_in}
+use Rattle.cfm_prepare.specs.Contexts.{Open, State, open_of}
 
 -- section i of a connection's root
 abbrev pub root_section : State → ℕ → ℕ → Option (ℕ × List ℕ)
-root_section s number i = option_and_then (λ o. section_in s o.root i) (open_of s.connections number)
+root_section s number i = option_and_then (λ o. section_in s.memory s.present o.root i) (open_of s.connections number)
 
 -- the address of an export of a fragment, by its value and its section: in a section, an absolute number, or
 -- that of the import that it passes on

@@ -1,16 +1,14 @@
 -- The steps of a context: a fragment is prepared, or a connection closed; and why a fragment isn't prepared.
 -- The order of the refusals is this project's own rule.
 use Rattle.std.specs.Prelude.{◌≡◌, ◌≤◌, ◌<◌, ℕ, ◌+◌, List, [], ◌∷◌, ◌++◌, None, Some, Ok}
-use Rattle.cfm_memory.specs.Instances.{Layout}
-use Rattle.pef_pidata.specs.declared.fault.PackFault.{PackFault}
-use Rattle.pef_reloc.specs.declared.fault.RelocFault.{RelocFault}
 use Rattle.cfm_libraries.specs.Faults.{Fails}
-use Rattle.cfm_libraries.specs.Stores.{Pair, place_of}
+use Rattle.cfm_libraries.specs.Stores.{place_of}
 use Rattle.cfm_closure.specs.Closures.{Closed, closed_of}
-use Rattle.cfm_prepare.specs.Addresses.{first_bad_program}
+use Rattle.cfm_present.specs.Fragments.{Present, all_given_back, new_among}
+use Rattle.cfm_present.specs.Placing.{ArePrepared}
+use Rattle.cfm_present.specs.Refusals.{MayNotPrepareNew}
+use Rattle.cfm_present.specs.declared.fault.FragmentFault.{FragmentFault}
 use Rattle.cfm_prepare.specs.Contexts.{Open, State, most_connections, needed_of, open_of, open_without, unneeded_of}
-use Rattle.cfm_prepare.specs.Fragments.{Present, all_given_back, first_bad_image, new_among}
-use Rattle.cfm_prepare.specs.Placing.{AreNew, ArePrepared, LacksRoom}
 use Rattle.cfm_prepare.specs.declared.fault.PrepareFault.{PrepareFault}
 use Rattle.cfm_prepare.specs.declared.fault.PrepareFault.TheVariants as fault
 
@@ -41,32 +39,8 @@ pub record Prepares (s : State) (name : List ℕ) (n : ℕ) (t : State) : Type 0
   pub connections : t.connections ≡ s.connections ++ (record { number = s.given; root = closure.has.root; closed = closure.closed }) ∷ []
   pub present : t.present ≡ s.present ++ fresh
 
--- new fragments find places, and this is the first refusal of an image
-pub record HasBadImage (pairs : List Pair) (m : Layout) (new : List ℕ) (name : List ℕ) (k : PackFault) : Type 0 where
-  pub fresh : List Present
-  pub are : AreNew pairs m new fresh
-  pub first : first_bad_image pairs fresh ≡ Some (name, k)
-
--- they find places and have images, and this is the first refusal of a relocation header
-pub record HasBadProgram (pairs : List Pair) (there : List Present) (m : Layout) (new : List ℕ) (name : List ℕ) (k : RelocFault) : Type 0 where
-  pub fresh : List Present
-  pub are : AreNew pairs m new fresh
-  pub filled : first_bad_image pairs fresh ≡ None
-  pub first : first_bad_program pairs (there ++ fresh) fresh ≡ Some (name, k)
-
--- why new fragments aren't prepared: one finds no room; else an image is refused; else a relocation header;
--- or memory is refused
-abbrev pub MayNotPrepareNew : List Pair → List Present → Layout → List ℕ → PrepareFault → Type 0
-MayNotPrepareNew pairs there m new fault.TooManyConnections = ⊥
-MayNotPrepareNew pairs there m new fault.RootMissing = ⊥
-MayNotPrepareNew pairs there m new (fault.Bind f) = ⊥
-MayNotPrepareNew pairs there m new (fault.NoRoom f) = LacksRoom pairs m new f.now
-MayNotPrepareNew pairs there m new (fault.Pack f k) = HasBadImage pairs m new f.now k
-MayNotPrepareNew pairs there m new (fault.Reloc f k) = HasBadProgram pairs there m new f.now k
-MayNotPrepareNew pairs there m new fault.OutOfMemory = Unit {0}
-
 -- the fragment has a closure, whose new fragments aren't prepared
-pub record IsRefusedLate (s : State) (name : List ℕ) (f : PrepareFault) : Type 0 where
+pub record IsRefusedLate (s : State) (name : List ℕ) (f : FragmentFault) : Type 0 where
   pub closure : HasClosure s name
   pub why : MayNotPrepareNew s.pairs s.present s.memory (new_of s closure.closed) f
 
@@ -76,9 +50,7 @@ abbrev pub MayNotPrepare : State → List ℕ → PrepareFault → Type 0
 MayNotPrepare s name fault.TooManyConnections = most_connections ≤ s.given
 MayNotPrepare s name fault.RootMissing = (s.given < most_connections) × (place_of s.pairs name ≡ None)
 MayNotPrepare s name (fault.Bind f) = (has : HasRoot s name) × Fails f (closed_of s.pairs has.root)
-MayNotPrepare s name (fault.NoRoom f) = IsRefusedLate s name (fault.NoRoom f)
-MayNotPrepare s name (fault.Pack f k) = IsRefusedLate s name (fault.Pack f k)
-MayNotPrepare s name (fault.Reloc f k) = IsRefusedLate s name (fault.Reloc f k)
+MayNotPrepare s name (fault.Fragment f) = IsRefusedLate s name f
 MayNotPrepare s name fault.OutOfMemory = HasRoot s name
 
 -- an open connection is closed: the fragments that no other connection's closure has are given back

@@ -2,14 +2,12 @@ ghost use Rattle.std.specs.Prelude.{◌≡◌, Contains, IsTrue, Some};
 ghost use Rattle.pef_loader.specs.Export.{has_section};
 ghost use Rattle.pef_loader.specs.Views.{loaded};
 ghost use Rattle.cfm_libraries.specs.Fragments.{loader_at};
-ghost use Rattle.cfm_prepare.specs.Contexts.{has};
+ghost use Rattle.cfm_present.specs.Lists.{IsOnce, has};
 ghost use Rattle.cfm_prepare.specs.Readers.{entries_of, export_address, main_address, symbol_address};
-ghost use Rattle.cfm_prepare.specs.Kept.Users.{IsOnce};
 
-use crate::present::Fragments;
-use crate::relocating::target_address;
 use cfm_closure::Closure;
 use cfm_fragment::{Entries, find_entries, section_address};
+use cfm_present::Fragments;
 use pef_loader::layout::{ABSOLUTE_EXPORT, REEXPORTED_IMPORT};
 use pef_loader::{ExportView, Loader};
 use std::marker::Model;
@@ -28,7 +26,7 @@ impl<'a> Model for Connected<'a> {
     ghost Value = { Open };
 
     ghost use Rattle.std.specs.Prelude.{Contains};
-    ghost use Rattle.cfm_prepare.specs.Kept.Users.{IsOnce};
+    ghost use Rattle.cfm_present.specs.Lists.{IsOnce};
 
     ghost view = { λ c. record { number = c.number; root = c.root; closed = c.closure } };
 
@@ -69,34 +67,34 @@ impl<'a> Connected<'a> {
 
     /// The address of the root's first export of a name.
     #[tactic(auto, unfolding(crate::specs::Readers::symbol_address))]
-    pub fn symbol(&self, present: &Fragments, name: &[u8]) -> Option<u32>
-        ensures { result ≡ symbol_address present.now.items self.now name.now }
+    pub fn symbol(&self, fragments: &Fragments, name: &[u8]) -> Option<u32>
+        ensures { result ≡ symbol_address fragments.now.present self.now name.now }
     {
         let loader = self.closure.loader(self.root);
         let index = loader.export_named(name)?;
         let export = loader.export(index)?;
-        Some(self.export_address(present, &loader, export))
+        Some(self.export_address(fragments, &loader, export))
     }
 
     /// The address of an export of the root.
     fn export_address(
         &self,
-        present: &Fragments,
+        fragments: &Fragments,
         loader: &Loader<'_>,
         export: ExportView<'_>,
     ) -> u32
         requires loader { loader_at self.now.closed.pairs self.now.root ≡ Some (loaded loader.now) }
         requires section { IsTrue (has_section (loaded loader.now).header (loaded loader.now).sections export.value export.section) }
-        ensures { result ≡ export_address self.now.closed.pairs present.now.items self.now.root export.entry.value export.entry.section }
+        ensures { result ≡ export_address self.now.closed.pairs fragments.now.present self.now.root export.entry.value export.entry.section }
     {
         match export.section {
             ABSOLUTE_EXPORT => export.value,
             REEXPORTED_IMPORT => {
                 let target = self.closure.target(self.root, export.value as usize);
-                target_address(present, target)
+                fragments.target_address(target)
             }
             section => {
-                let places = present.places(self.root);
+                let places = fragments.places(self.root);
                 let address = section_address(places, section.cast_unsigned());
                 address.wrapping_add(export.value)
             }
@@ -104,22 +102,22 @@ impl<'a> Connected<'a> {
     }
 
     /// The address of the root's main entry.
-    pub fn main(&self, present: &Fragments) -> Option<u32>
-        ensures { result ≡ main_address present.now.items self.now }
+    pub fn main(&self, fragments: &Fragments) -> Option<u32>
+        ensures { result ≡ main_address fragments.now.present self.now }
     {
         let loader = self.closure.loader(self.root);
-        find_entries(&loader, present.places(self.root)).main
+        find_entries(&loader, fragments.places(self.root)).main
     }
 
     /// The addresses at which a fragment of the closure is entered.
-    pub fn entries(&self, present: &Fragments, position: usize) -> Option<Entries>
-        ensures { result ≡ entries_of present.now.items self.now position }
+    pub fn entries(&self, fragments: &Fragments, position: usize) -> Option<Entries>
+        ensures { result ≡ entries_of fragments.now.present self.now position }
     {
         if !has(self.closure.order(), position) {
             return None;
         }
         let loader = self.closure.loader(position);
-        Some(find_entries(&loader, present.places(position)))
+        Some(find_entries(&loader, fragments.places(position)))
     }
 }
 

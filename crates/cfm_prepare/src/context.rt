@@ -1,22 +1,20 @@
 ghost use Rattle.std.specs.Prelude.{◌≡◌, ◌<◌, ◌≤◌, ◌+◌, ℕ, List, IfErr, IfOk, MatchOption, None, OnErr, OnOk, Some, length, option_map, slice_get};
 ghost use Rattle.std.specs.Option.{option_and_then, option_copied};
 ghost use Rattle.cfm_libraries.specs.Stores.{place_of};
+ghost use Rattle.cfm_present.specs.Fragments.{places_of};
+ghost use Rattle.cfm_present.specs.Sections.{section_in, section_seen};
 ghost use Rattle.cfm_prepare.specs.Contexts.{fresh_state, most_connections, open_of};
-ghost use Rattle.cfm_prepare.specs.Fragments.{places_of};
-ghost use Rattle.cfm_prepare.specs.Readers.{entries_of, main_address, root_section, section_in, symbol_address};
-ghost use Rattle.cfm_prepare.specs.Seen.{section_seen};
+ghost use Rattle.cfm_prepare.specs.Readers.{entries_of, main_address, root_section, symbol_address};
 ghost use Rattle.cfm_prepare.specs.Steps.{Closes, MayNotPrepare, Prepares};
 
 use crate::connected::Connected;
 use crate::connections::Connections;
 use crate::fault::{CloseFault, PrepareFault};
-use crate::preparing::prepare_new;
-use crate::present::{Fragments, new_among};
 use crate::releasing::release;
 use crate::users::{enter, leave, make_room};
 use cfm_closure::{Store, closure};
 use cfm_fragment::Entries;
-use cfm_memory::Memory;
+use cfm_present::Fragments;
 use std::alloc::Global;
 use std::marker::Model;
 
@@ -35,13 +33,12 @@ pub struct Connection(pub u32);
 pub struct Context<'a> {
     alloc: Global,
     store: Store<'a>,
-    memory: Memory,
     /// How many connections were given.
     given: u32,
     connections: Connections<'a>,
     /// How many of them have a fragment in their closures, by its place in the store.
     users: Vec<usize>,
-    present: Fragments,
+    fragments: Fragments,
 }
 
 impl<'a> Model for Context<'a> {
@@ -49,11 +46,11 @@ impl<'a> Model for Context<'a> {
 
     ghost Value = { State };
 
-    ghost use Rattle.cfm_prepare.specs.Kept.Ready.{IsKept};
+    ghost use Rattle.cfm_prepare.specs.Kept.Contexts.{IsKept};
 
-    ghost view = { λ c. record { pairs = c.store; memory = c.memory; given = c.given; connections = c.connections; present = c.present.items } };
+    ghost view = { λ c. record { pairs = c.store; memory = c.fragments.memory; given = c.given; connections = c.connections; present = c.fragments.present } };
 
-    ghost invariant = { λ c. IsKept c.memory c.given c.users.items c.connections c.present.items };
+    ghost invariant = { λ c. IsKept c.given c.users.items c.connections c.fragments.present };
 }
 
 impl<'a> Context<'a> {
@@ -65,11 +62,10 @@ impl<'a> Context<'a> {
         Context {
             alloc,
             store,
-            memory: Memory::new(alloc, limit),
             given: 0,
             connections: Connections::new(alloc),
             users: Vec::new(alloc),
-            present: Fragments::new(alloc),
+            fragments: Fragments::new(alloc, limit),
         }
     }
 
@@ -105,20 +101,12 @@ impl<'a> Context<'a> {
         ensures unchanged { OnErr result (self.new ≡ self.old) }
     {
         let closure = closure(self.alloc, &self.store, root)?;
-        let new = new_among(self.alloc, &self.present, closure.order())?;
         make_room(&mut self.users, self.store.len())?;
         let number = self.given;
         self.connections
             .push(Connected::new(number, root, closure))?;
         let closure = self.connections.get(number).unwrap().closure();
-        match prepare_new(
-            self.alloc,
-            &mut self.memory,
-            &self.store,
-            closure,
-            &new,
-            &mut self.present,
-        ) {
+        match self.fragments.prepare(&self.store, closure) {
             Ok(()) => {
                 enter(&mut self.users, closure.order());
                 self.given += 1;
@@ -126,7 +114,7 @@ impl<'a> Context<'a> {
             }
             Err(fault) => {
                 self.connections.remove(number);
-                Err(fault)
+                Err(PrepareFault::Fragment(fault))
             }
         }
     }
@@ -146,7 +134,7 @@ impl<'a> Context<'a> {
         };
         let order = closed.closure().order();
         leave(&mut self.users, order);
-        release(&mut self.memory, &self.users, &mut self.present, order);
+        release(&mut self.fragments, &self.users, order);
         Ok(())
     }
 
@@ -156,7 +144,7 @@ impl<'a> Context<'a> {
         ensures { result ≡ option_and_then (λ o. symbol_address self.now.present o name.now) (open_of self.now.connections connection.0) }
     {
         let connected = self.connections.get(connection.0)?;
-        connected.symbol(&self.present, name)
+        connected.symbol(&self.fragments, name)
     }
 
     /// The address and the bytes of section `i` of the fragment that a connection was opened to.
@@ -172,7 +160,7 @@ impl<'a> Context<'a> {
         ensures { result ≡ option_and_then (λ o. main_address self.now.present o) (open_of self.now.connections connection.0) }
     {
         let connected = self.connections.get(connection.0)?;
-        connected.main(&self.present)
+        connected.main(&self.fragments)
     }
 
     /// The fragments of a connection's closure in the order of their initialization, by their places in
@@ -195,18 +183,17 @@ impl<'a> Context<'a> {
     /// The address and the bytes of section `i` of the fragment in a place of the store. `None` where the
     /// fragment isn't present, or has no such section.
     pub fn fragment_section(&self, position: usize, i: usize) -> Option<(u32, &[u8])>
-        ensures section { option_map section_seen result ≡ section_in self.now position i }
+        ensures section { option_map section_seen result ≡ section_in self.now.memory self.now.present position i }
         ensures within { MatchOption result (length (places_of self.now.present position) ≤ i) (λ s. s.0 + length s.1.now ≤ self.now.memory.limit) }
     {
-        let place = *self.present.places(position).get(i)?;
-        Some((place.address, self.memory.part(place)))
+        self.fragments.section(position, i)
     }
 
     /// How many instantiated sections the fragment in a place of the store has; none where it isn't present.
     pub fn section_count(&self, position: usize) -> usize
         ensures { result ≡ length (places_of self.now.present position) }
     {
-        self.present.places(position).len()
+        self.fragments.places(position).len()
     }
 
     /// The addresses at which a fragment of a connection's closure is entered, given by its place in the
@@ -215,7 +202,7 @@ impl<'a> Context<'a> {
         ensures { result ≡ option_and_then (λ o. entries_of self.now.present o position) (open_of self.now.connections connection.0) }
     {
         let connected = self.connections.get(connection.0)?;
-        connected.entries(&self.present, position)
+        connected.entries(&self.fragments, position)
     }
 
     /// The name of the fragment in a place of the store. `None` past the last place.

@@ -2,14 +2,12 @@ ghost use Rattle.std.specs.Prelude.{◌≡◌};
 ghost use Rattle.cfm_prepare.specs.Faults.{close_fault_name, close_fault_number, fault_name, fault_number};
 
 use cfm_closure::BindFault;
-use pef_pidata::PackFault;
-use pef_reloc::RelocFault;
+use cfm_present::FragmentFault;
 use std::alloc::{AllocError, AllocFailed};
 use std::fmt;
 use thiserror::Error;
 
-/// Why a fragment isn't prepared. Its text is its name; `fragment` is the name of the fragment that is
-/// refused.
+/// Why a fragment isn't prepared. Its text is its name.
 #[derive(Clone, Copy, Debug, PartialEq, Eq, Error)]
 pub enum PrepareFault<'a> {
     /// All numbers of connections were given.
@@ -21,29 +19,15 @@ pub enum PrepareFault<'a> {
     /// The fragment has no closure.
     Bind(BindFault<'a>),
 
-    /// A section finds no room in memory.
-    NoRoom {
-        fragment: &'a [u8],
-    },
-
-    /// The raw bytes of a section of pattern-initialized data don't spell its image.
-    Pack {
-        fragment: &'a [u8],
-        fault: PackFault,
-    },
-
-    /// A relocation program is no program, or can't be applied.
-    Reloc {
-        fragment: &'a [u8],
-        fault: RelocFault,
-    },
+    /// The new fragments of the closure aren't prepared.
+    Fragment(FragmentFault<'a>),
 
     /// The machine refused memory.
     OutOfMemory,
 }
 
 impl<'a> PrepareFault<'a> {
-    /// The refusal's number: 69, 60, that of the closure's refusal, 67, 21 to 25, 31 to 39, or 99.
+    /// The refusal's number: 69, 60, that of the closure's or of a fragment's refusal, or 99.
     pub fn number(&self) -> u32
         ensures { result ≡ fault_number self.now }
     {
@@ -51,9 +35,7 @@ impl<'a> PrepareFault<'a> {
             PrepareFault::TooManyConnections => 69,
             PrepareFault::RootMissing => 60,
             PrepareFault::Bind(fault) => fault.number(),
-            PrepareFault::NoRoom { .. } => 67,
-            PrepareFault::Pack { fault, .. } => fault.number(),
-            PrepareFault::Reloc { fault, .. } => fault.number(),
+            PrepareFault::Fragment(fault) => fault.number(),
             PrepareFault::OutOfMemory => 99,
         }
     }
@@ -66,9 +48,7 @@ impl<'a> PrepareFault<'a> {
             PrepareFault::TooManyConnections => "TooManyConnections",
             PrepareFault::RootMissing => "RootMissing",
             PrepareFault::Bind(fault) => fault.name(),
-            PrepareFault::NoRoom { .. } => "NoRoom",
-            PrepareFault::Pack { fault, .. } => fault.name(),
-            PrepareFault::Reloc { fault, .. } => fault.name(),
+            PrepareFault::Fragment(fault) => fault.name(),
             PrepareFault::OutOfMemory => "OutOfMemory",
         }
     }

@@ -1,5 +1,6 @@
 use cfm_closure::Store;
 use cfm_prepare::{Connection, Context, PrepareFault};
+use cfm_present::FragmentFault;
 use std::alloc::{AllocError, Global};
 use std::fmt::Write;
 use std::process::Abort;
@@ -94,9 +95,11 @@ fn tell_sections(
 fn tell_fault(text: &mut String, fault: PrepareFault<'_>) -> Result<(), AllocError> {
     write!(text, "{} {fault}", fault.number())?;
     match fault {
-        PrepareFault::NoRoom { fragment }
-        | PrepareFault::Pack { fragment, .. }
-        | PrepareFault::Reloc { fragment, .. } => tell_name(text, fragment),
+        PrepareFault::Fragment(
+            FragmentFault::NoRoom { fragment }
+            | FragmentFault::Pack { fragment, .. }
+            | FragmentFault::Reloc { fragment, .. },
+        ) => tell_name(text, fragment),
         PrepareFault::Bind(fault) => tell_names(text, fault),
         _ => Ok(()),
     }

@@ -3,6 +3,7 @@ use Rattle.std.proofs.Common.{◌≤◌, length, arith}
 use Rattle.cfm_libraries.specs.Faults as binds
 use Rattle.cfm_libraries.specs.declared.fault.BindFault.{BindFault}
 use Rattle.cfm_libraries.specs.declared.fault.BindFault.TheVariants as bind
+use Rattle.cfm_present.specs.declared.fault.FragmentFault.TheVariants as fragment
 use Rattle.cfm_prepare.specs.Faults as prepares
 use Rattle.cfm_prepare.specs.declared.fault.PrepareFault.{PrepareFault}
 use Rattle.cfm_prepare.specs.declared.fault.PrepareFault.TheVariants as prepare
@@ -86,9 +87,10 @@ pub short_prepare_name : (fault : PrepareFault) → length (prepares.fault_name 
 short_prepare_name prepare.TooManyConnections = omega arith
 short_prepare_name prepare.RootMissing = omega arith
 short_prepare_name (prepare.Bind f) = short_bind_name f
-short_prepare_name (prepare.NoRoom f) = omega arith
-short_prepare_name (prepare.Pack f k) = omega (arith, pack_name k)
-short_prepare_name (prepare.Reloc f k) = omega (arith, reloc_name k)
+short_prepare_name (prepare.Fragment (fragment.NoRoom f)) = omega arith
+short_prepare_name (prepare.Fragment (fragment.Pack f k)) = omega (arith, pack_name k)
+short_prepare_name (prepare.Fragment (fragment.Reloc f k)) = omega (arith, reloc_name k)
+short_prepare_name (prepare.Fragment fragment.OutOfMemory) = omega arith
 short_prepare_name prepare.OutOfMemory = omega arith
 
 pub short_name : (refusal : Refusal) → length (name_of refusal) ≤ 16

@@ -4,6 +4,7 @@ use Rattle.std.specs.Prelude.{ℕ, List, [], ◌∷◌, ◌++◌, Option, None, 
 use Rattle.cfm_libraries.specs.Faults as bind
 use Rattle.cfm_libraries.specs.declared.fault.BindFault.{BindFault}
 use Rattle.cfm_libraries.specs.declared.fault.BindFault.TheVariants as bind_fault
+use Rattle.cfm_present.specs.declared.fault.FragmentFault.TheVariants as fragment_fault
 use Rattle.cfm_prepare.specs.Faults as prepare
 use Rattle.cfm_prepare.specs.declared.fault.PrepareFault.{PrepareFault}
 use Rattle.cfm_prepare.specs.declared.fault.PrepareFault.TheVariants as prepare_fault
@@ -97,9 +98,9 @@ bind_refusal_text fault =
 
 -- the name of the fragment that isn't prepared, where its closure isn't the reason
 abbrev pub told_unprepared : PrepareFault → Option (List ℕ)
-told_unprepared (prepare_fault.NoRoom f) = Some f.now
-told_unprepared (prepare_fault.Pack f k) = Some f.now
-told_unprepared (prepare_fault.Reloc f k) = Some f.now
+told_unprepared (prepare_fault.Fragment (fragment_fault.NoRoom f)) = Some f.now
+told_unprepared (prepare_fault.Fragment (fragment_fault.Pack f k)) = Some f.now
+told_unprepared (prepare_fault.Fragment (fragment_fault.Reloc f k)) = Some f.now
 told_unprepared _ = None
 
 -- the line of a fragment that isn't prepared, where its closure isn't the reason

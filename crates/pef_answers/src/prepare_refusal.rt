@@ -8,6 +8,7 @@ use crate::bind_refusal::print_told;
 use crate::refusal::refused_line;
 use crate::reply::{REFUSED, Reply};
 use cfm_prepare::PrepareFault;
+use cfm_present::FragmentFault;
 use pef_ports::{Line, Page, Sink, StreamFault, send};
 
 impl<'a> Reply for PrepareFault<'a> {
@@ -22,9 +23,7 @@ impl<'a> Reply for PrepareFault<'a> {
             PrepareFault::Bind(fault) => fault.print(out, page),
             PrepareFault::TooManyConnections
             | PrepareFault::RootMissing
-            | PrepareFault::NoRoom { .. }
-            | PrepareFault::Pack { .. }
-            | PrepareFault::Reloc { .. }
+            | PrepareFault::Fragment(_)
             | PrepareFault::OutOfMemory => print_unprepared(out, page, self),
         }
     }
@@ -56,10 +55,13 @@ fn told_unprepared<'a>(fault: &PrepareFault<'a>) -> Option<&'a [u8]>
     ensures { option_map (λ name. name.now) result ≡ told_unprepared fault.now }
 {
     match fault {
-        PrepareFault::NoRoom { fragment }
-        | PrepareFault::Pack { fragment, .. }
-        | PrepareFault::Reloc { fragment, .. } => Some(fragment),
-        PrepareFault::TooManyConnections
+        PrepareFault::Fragment(
+            FragmentFault::NoRoom { fragment }
+            | FragmentFault::Pack { fragment, .. }
+            | FragmentFault::Reloc { fragment, .. },
+        ) => Some(fragment),
+        PrepareFault::Fragment(FragmentFault::OutOfMemory)
+        | PrepareFault::TooManyConnections
         | PrepareFault::RootMissing
         | PrepareFault::Bind(_)
         | PrepareFault::OutOfMemory => None,

@@ -10,10 +10,10 @@ use Rattle.cfm_closure.proofs.Laws.{closed-complete, closed-root}
 use Rattle.cfm_memory.specs.Extents.{given_back}
 use Rattle.cfm_memory.specs.Instances.{Layout}
 use Rattle.cfm_memory.specs.declared.place.Place.{Place}
+use Rattle.cfm_present.specs.Fragments.{Present, places_of, positions}
+use Rattle.cfm_present.specs.Placing.{ArePrepared}
 use Rattle.cfm_prepare.specs.Contexts.{Open, State, fresh_state, open_of}
-use Rattle.cfm_prepare.specs.Fragments.{Present, places_of, positions}
 use Rattle.cfm_prepare.specs.Now.{IsPreparedNow}
-use Rattle.cfm_prepare.specs.Placing.{ArePrepared}
 use Rattle.cfm_prepare.specs.Steps.{HasClosure, Prepares, new_of}
 use Rattle.pef_words.specs.Refusals.{unless}
 

@@ -5,8 +5,8 @@ use Rattle.cfm_libraries.specs.Stores.{Pair}
 use Rattle.cfm_memory.specs.Extents.{given_back}
 use Rattle.cfm_memory.specs.Instances.{Layout, with_instances, without}
 use Rattle.cfm_memory.specs.declared.place.Place.{Place}
+use Rattle.cfm_present.specs.Fragments.{Present, all_given_back}
 use Rattle.cfm_prepare.specs.Contexts.{State, fresh_state}
-use Rattle.cfm_prepare.specs.Fragments.{Present, all_given_back}
 use Rattle.cfm_prepare.specs.Steps.{Prepares}
 use Rattle.pef_ports.specs.Ports.{FilesPort, Reads}
 use Rattle.pef_ports.specs.declared.ports.FileFault.TheVariants as file_fault

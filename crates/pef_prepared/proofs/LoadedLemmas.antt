@@ -4,8 +4,8 @@ use Rattle.std.specs.Option.{option_and_then}
 use Rattle.std.proofs.lemmas.List.{append-nil, at_drop_more, drop_all, take_all, take_more}
 use Rattle.cfm_memory.specs.Instances.{Layout, bytes_at}
 use Rattle.cfm_memory.specs.declared.place.Place.{Place}
+use Rattle.cfm_present.specs.Sections.{held_at}
 use Rattle.cfm_prepare.specs.Contexts.{State}
-use Rattle.cfm_prepare.specs.Readers.{held_at}
 use Rattle.pef_ports.specs.Text.{word_text}
 use Rattle.pef_prepared.specs.Fragment.{PlacedSection, entry_text, section_at}
 use Rattle.pef_prepared.specs.Kept.Routines.{place_of, routine_text, routines_text}

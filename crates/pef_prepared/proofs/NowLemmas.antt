@@ -10,9 +10,9 @@ use Rattle.cfm_memory.specs.Extents.{ArePlaced}
 use Rattle.cfm_memory.specs.Instances.{Layout}
 use Rattle.cfm_memory.specs.declared.place.Place.{Place}
 use Rattle.cfm_memory.proofs.Laws.{length-placed}
-use Rattle.cfm_prepare.specs.Addresses.{addresses_of, imports_from}
+use Rattle.cfm_present.specs.Addresses.{addresses_of, imports_from}
+use Rattle.cfm_present.specs.Fragments.{Present, extents_in, image_refusal_in, is_present, places_of, prepared_in, reloc_refusal_in}
 use Rattle.cfm_prepare.specs.Contexts.{State, fresh_state}
-use Rattle.cfm_prepare.specs.Fragments.{Present, extents_in, image_refusal_in, is_present, places_of, prepared_in, reloc_refusal_in}
 use Rattle.cfm_prepare.specs.Now.{IsPreparedNow}
 use Rattle.cfm_prepare.specs.Runs.{Runs, Step}
 use Rattle.cfm_prepare.specs.Steps.{Prepares}

@@ -11,12 +11,14 @@ use Rattle.cfm_closure.specs.Closures.{Closed, closed_of}
 use Rattle.cfm_closure.specs.Promises.{IsOfUnread}
 use Rattle.cfm_closure.proofs.Laws.{closed-no_container, closed-no_loader}
 use Rattle.cfm_memory.specs.Instances.{Layout}
-use Rattle.cfm_prepare.specs.Addresses.{addresses_of, first_bad_program}
-use Rattle.cfm_prepare.specs.Fragments.{Present, first_bad_image, image_refusal_in, named, positions, reloc_refusal_in}
+use Rattle.cfm_present.specs.Addresses.{addresses_of, first_bad_program}
+use Rattle.cfm_present.specs.Fragments.{Present, first_bad_image, image_refusal_in, named, positions, reloc_refusal_in}
+use Rattle.cfm_present.specs.Placing.{AllPlaced, LacksRoom}
+use Rattle.cfm_present.specs.Refusals.{HasBadImage, HasBadProgram}
+use Rattle.cfm_present.specs.declared.fault.FragmentFault.TheVariants as fragment
 use Rattle.cfm_prepare.specs.Contexts.{State}
 use Rattle.cfm_prepare.specs.Faults.{fault_number}
-use Rattle.cfm_prepare.specs.Placing.{AllPlaced, LacksRoom}
-use Rattle.cfm_prepare.specs.Steps.{HasBadImage, HasBadProgram, HasClosure, HasRoot, MayNotPrepare, new_of}
+use Rattle.cfm_prepare.specs.Steps.{HasClosure, HasRoot, MayNotPrepare, new_of}
 use Rattle.cfm_prepare.specs.declared.fault.PrepareFault.{PrepareFault}
 use Rattle.cfm_prepare.specs.declared.fault.PrepareFault.TheVariants as fault
 use Rattle.pef_loader.specs.declared.fault.LoaderFault.{LoaderFault}
@@ -111,11 +113,12 @@ pub refused-bound : (s : State) (name : List ℕ) (closure : HasClosure s name) 
 refused-bound s name closure fault.TooManyConnections rooms why = absurd (omega (arith, why, closure.has.left))
 refused-bound s name closure fault.RootMissing rooms why = let there : place_of s.pairs name ≡ Some closure.has.root = closure.has.is in let none : place_of s.pairs name ≡ None = why.1 in absurd (cc)
 refused-bound s name closure (fault.Bind f) rooms why = inl (bound s name closure f why.0 why.1)
-refused-bound s name closure (fault.NoRoom f) rooms why = absurd (rooms f.now (subst (λ (c : Closed). LacksRoom s.pairs s.memory (new_of s c) f.now) (same-closed s name why.closure closure) why.why))
-refused-bound s name closure (fault.Pack f k) rooms why =
+refused-bound s name closure (fault.Fragment (fragment.NoRoom f)) rooms why = absurd (rooms f.now (subst (λ (c : Closed). LacksRoom s.pairs s.memory (new_of s c) f.now) (same-closed s name why.closure closure) why.why))
+refused-bound s name closure (fault.Fragment (fragment.Pack f k)) rooms why =
     inr (f.now, subst (λ (c : Closed). HasUnlinked s.pairs (new_of s c) f.now) (same-closed s name why.closure closure) (refused-image s.pairs s.memory (new_of s why.closure.closed) f.now k why.why))
-refused-bound s name closure (fault.Reloc f k) rooms why =
+refused-bound s name closure (fault.Fragment (fragment.Reloc f k)) rooms why =
     inr (f.now, subst (λ (c : Closed). HasUnlinked s.pairs (new_of s c) f.now) (same-closed s name why.closure closure) (refused-program s.pairs s.present s.memory (new_of s why.closure.closed) f.now k why.why))
+refused-bound s name closure (fault.Fragment fragment.OutOfMemory) rooms why = inl refl
 refused-bound s name closure fault.OutOfMemory rooms why = inl refl
 
 -- a fragment that isn't read isn't linked, and it is the one that its name stands for

@@ -16,9 +16,10 @@ use Rattle.cfm_fragment.specs.Prepared.{entry_address}
 use Rattle.cfm_memory.specs.Extents.{LackRoom, no_instances}
 use Rattle.cfm_memory.specs.Placement.{step_of}
 use Rattle.cfm_memory.proofs.Laws.{all_find_room, most_taken}
+use Rattle.cfm_present.specs.Fragments.{extents_in, places_of}
+use Rattle.cfm_present.specs.Placing.{LacksRoom}
+use Rattle.cfm_present.specs.declared.fault.FragmentFault.TheVariants as fragment_fault
 use Rattle.cfm_prepare.specs.Contexts.{Open, State, fresh_state}
-use Rattle.cfm_prepare.specs.Fragments.{extents_in, places_of}
-use Rattle.cfm_prepare.specs.Placing.{LacksRoom}
 use Rattle.cfm_prepare.specs.Readers.{entries_of, main_address}
 use Rattle.cfm_prepare.specs.Steps.{MayNotPrepare, Prepares}
 use Rattle.cfm_prepare.specs.declared.fault.PrepareFault.{PrepareFault}
@@ -148,7 +149,8 @@ module _ (script : DescribedScript) (k : LinkedContainer) (linked : IsLinked scr
     ends = record { container = k; linked = linked; fails = lacks_closure why.0.root f (root-is k.bytes why.0.root why.0.is) why.1 };
     said = refl;
   }
-  unprepared (prepare_fault.NoRoom f) why = absurd (room _ f.now (new-is k.bytes memory_limit why.closure) why.why)
-  unprepared (prepare_fault.Pack f e) why = absurd (all_linked _ f.now (new-is k.bytes memory_limit why.closure) (refused-image alone (no_instances memory_limit) _ f.now e why.why))
-  unprepared (prepare_fault.Reloc f e) why = absurd (all_linked _ f.now (new-is k.bytes memory_limit why.closure) (refused-program alone [] (no_instances memory_limit) _ f.now e why.why))
+  unprepared (prepare_fault.Fragment (fragment_fault.NoRoom f)) why = absurd (room _ f.now (new-is k.bytes memory_limit why.closure) why.why)
+  unprepared (prepare_fault.Fragment (fragment_fault.Pack f e)) why = absurd (all_linked _ f.now (new-is k.bytes memory_limit why.closure) (refused-image alone (no_instances memory_limit) _ f.now e why.why))
+  unprepared (prepare_fault.Fragment (fragment_fault.Reloc f e)) why = absurd (all_linked _ f.now (new-is k.bytes memory_limit why.closure) (refused-program alone [] (no_instances memory_limit) _ f.now e why.why))
+  unprepared (prepare_fault.Fragment fragment_fault.OutOfMemory) why = record { outcome = refuses OutOfMemory; ends = refl; said = refl }
   unprepared prepare_fault.OutOfMemory why = record { outcome = refuses OutOfMemory; ends = refl; said = refl }

@@ -5,9 +5,9 @@ use Rattle.cfm_libraries.specs.Stores.{Pair, pair_of, place_of}
 use Rattle.cfm_fragment.specs.Prepared.{addresses_at}
 use Rattle.cfm_memory.specs.Extents.{ArePlaced, Extent, Stand}
 use Rattle.cfm_memory.specs.Instances.{Layout}
-use Rattle.cfm_prepare.specs.Addresses.{imports_from}
+use Rattle.cfm_present.specs.Addresses.{imports_from}
+use Rattle.cfm_present.specs.Fragments.{places_of}
 use Rattle.cfm_prepare.specs.Contexts.{State}
-use Rattle.cfm_prepare.specs.Fragments.{places_of}
 use Rattle.pef_reloc.specs.Applied.{address_of}
 use Rattle.pef_script.specs.Described.{described_at}
 use Rattle.pef_script.specs.Script.{DescribedScript, DescribedSection}

@@ -10,8 +10,8 @@ use Rattle.cfm_fragment.specs.Prepared.{entry_address}
 use Rattle.cfm_fragment.specs.declared.entries.Entries.{Entries}
 use Rattle.cfm_memory.specs.Extents.{given_back, no_instances}
 use Rattle.cfm_memory.specs.declared.place.Place.{Place}
+use Rattle.cfm_present.specs.Fragments.{places_of}
 use Rattle.cfm_prepare.specs.Contexts.{State, fresh_state}
-use Rattle.cfm_prepare.specs.Fragments.{places_of}
 use Rattle.cfm_prepare.specs.Steps.{Prepares}
 use Rattle.pef_answers.specs.Answers.{Answer, answer_done, answer_refused}
 use Rattle.pef_answers.specs.Refusals.{bind_refusal_text, refusal_text}

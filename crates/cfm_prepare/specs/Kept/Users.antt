@@ -1,12 +1,8 @@
 -- How many open connections have a fragment in their closures.
 use Rattle.std.specs.Prelude.{◌≡◌, ℕ, ◌+◌, Bool, false, true, List, [], ◌∷◌, filter, if◌then◌else◌, nat_lt, not, slice_index_or}
-use Rattle.cfm_prepare.specs.Contexts.{Open, has}
-use Rattle.cfm_prepare.specs.Fragments.{Present, is_present}
-
--- a list has no number twice
-abbrev pub IsOnce : List ℕ → Type 0
-IsOnce [] = Unit {0}
-IsOnce (q ∷ qs) = (has qs q ≡ false) × IsOnce qs
+use Rattle.cfm_present.specs.Fragments.{Present, is_present}
+use Rattle.cfm_present.specs.Lists.{has}
+use Rattle.cfm_prepare.specs.Contexts.{Open}
 
 -- 1 for a number of a list, 0 for any other
 abbrev pub counted : List ℕ → ℕ → ℕ

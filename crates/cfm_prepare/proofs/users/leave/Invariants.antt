@@ -1,7 +1,7 @@
 -- What is left of the order stands to be counted.
 use Rattle.std.proofs.Common.{◌≡◌, ◌<◌, ℕ, List, true, drop}
-use Rattle.cfm_prepare.specs.Contexts.{has}
-use Rattle.cfm_prepare.specs.Kept.Users.{CountsMore, IsOnce, count_at}
+use Rattle.cfm_present.specs.Lists.{IsOnce, has}
+use Rattle.cfm_prepare.specs.Kept.Users.{CountsMore, count_at}
 use Rattle.cfm_prepare.proofs.users.leave.Given as goal
 
 abbrev pub invariant-loop-position : goal.invariant-loop-position

@@ -1,8 +1,9 @@
 -- The connection is taken out by its number; what only it needed is given back.
 use Rattle.std.proofs.Common.{◌≡◌, ◌≤◌, ℕ, List, true, Some, length, sym, ap, subst, ◌∙◌, refl, arith}
 use Rattle.cfm_closure.specs.Closures.{Closed}
-use Rattle.cfm_prepare.specs.Contexts.{Open, has, open_of, open_without}
-use Rattle.cfm_prepare.specs.Fragments.{all_given_back, is_present}
+use Rattle.cfm_present.specs.Lists.{has}
+use Rattle.cfm_present.specs.Fragments.{all_given_back, is_present}
+use Rattle.cfm_prepare.specs.Contexts.{Open, open_of, open_without}
 use Rattle.cfm_prepare.specs.Kept.Connections.{AllBelow}
 use Rattle.cfm_prepare.specs.Kept.Users.{AreUsedBut, CountsMore, CountUsers, used_of}
 use Rattle.cfm_prepare.proofs.ConnectionLemmas.{below-without, fewer-without}
@@ -20,10 +21,10 @@ counts-left os now number o order before after taken order_is now_is counts more
     let P : List ℕ → Type 0 = λ ps. CountsMore ps after before in
     subst (CountUsers after) (sym now_is) (left-count os number o before after (sym taken) counts (subst P order_is more))
 
-pub release-requires-clause-used : goal.release-requires-clause-used
-release-requires-clause-used c =
-    let P : List ℕ → Type 0 = λ users. AreUsedBut users c.self.inside.present.items c.order-order.result.now in
-    subst P (sym c.deref.ensures.value) (used-but c.self.inside.users.items c.leave.new.users.items c.self.inside.present.items c.order-order.result.now c.leave.ensures c.self.invariant.used)
+pub release-requires : goal.release-requires
+release-requires c =
+    let P : List ℕ → Type 0 = λ users. AreUsedBut users c.self.inside.fragments.present c.order-order.result.now in
+    subst P (sym c.deref.ensures.value) (used-but c.self.inside.users.items c.leave.new.users.items c.self.inside.fragments.present c.order-order.result.now c.leave.ensures c.self.invariant.used)
 
 pub returns-clause-closed : goal.returns-clause-closed
 returns-clause-closed c =
@@ -39,8 +40,8 @@ returns-clause-closed c =
       pairs = refl;
       given = refl;
       connections = c.in-Some.ensures.left;
-      present = c.release.ensures.present ∙ used-needed c.deref.result.now c.remove.new.self c.self.inside.present.items counts;
-      memory = c.release.ensures.memory ∙ ap (all_given_back c.self.inside.memory) (unused-unneeded c.deref.result.now c.remove.new.self c.self.inside.present.items counts);
+      present = c.release.ensures.present ∙ used-needed c.deref.result.now c.remove.new.self c.self.inside.fragments.present counts;
+      memory = c.release.ensures.memory ∙ ap (all_given_back c.self.inside.fragments.memory) (unused-unneeded c.deref.result.now c.remove.new.self c.self.inside.fragments.present counts);
     })
 
 pub invariant_of-self-2 : goal.invariant_of-self-2
@@ -51,15 +52,14 @@ invariant_of-self-2 c =
     let order : c.order-order.result.now ≡ c.in-Some.closed.closed.order = c.order-order.ensures.order ∙ ap (λ (k : Closed). k.order) c.closure.ensures.closure in
     let P : List Open → Type 0 = λ xs. AllBelow given xs in
     let Q : List Open → Type 0 = λ xs. length xs ≤ given in
-    let stays : (p : ℕ) → is_present c.release.new.present.items p ≡ true → is_present (used_of c.leave.new.users.items c.self.inside.present.items) p ≡ true =
-    λ p there. ap (λ fs. is_present fs p) (sym (c.release.ensures.present ∙ ap (λ users. used_of users c.self.inside.present.items) c.deref.ensures.value)) ∙ there in
+    let stays : (p : ℕ) → is_present c.release.new.fragments.present p ≡ true → is_present (used_of c.leave.new.users.items c.self.inside.fragments.present) p ≡ true =
+    λ p there. ap (λ fs. is_present fs p) (sym (c.release.ensures.present ∙ ap (λ users. used_of users c.self.inside.fragments.present) c.deref.ensures.value)) ∙ there in
     let fewer = fewer-without os number in
     let many : length (open_without os number) ≤ given = omega (arith, fewer, c.self.invariant.many) in
     record {
-      ready = c.release.ensures.ready;
       few = c.self.invariant.few;
       numbered = subst P (sym c.in-Some.ensures.left) (below-without os given number c.self.invariant.numbered);
       many = subst Q (sym c.in-Some.ensures.left) many;
       counted = counts-left os c.remove.new.self number c.in-Some.closed c.order-order.result.now c.self.inside.users.items c.leave.new.users.items c.in-Some.ensures.taken order c.in-Some.ensures.left c.self.invariant.counted c.leave.ensures;
-      used = λ p there. still-used c.leave.new.users.items c.self.inside.present.items p (stays p there);
+      used = λ p there. still-used c.leave.new.users.items c.self.inside.fragments.present p (stays p there);
     }

@@ -1,25 +1,25 @@
 -- The closure is that of the store; its new fragments are prepared, or the first refusal is that of all.
-use Rattle.std.proofs.Common.{true, arith, ◌≡◌, ◌<◌, ◌≤◌, ◌+◌, ◌++◌, ◌∷◌, ℕ, List, [], length, Ok, Some, All, Contains, refl, sym, ap, subst, ◌∙◌}
+use Rattle.std.proofs.Common.{true, arith, Option, ◌≡◌, ◌<◌, ◌≤◌, ◌+◌, ◌++◌, ◌∷◌, ℕ, List, [], length, Some, refl, sym, ap, subst, ◌∙◌}
+use Rattle.std.specs.Borrow.{Bor}
+use Rattle.std.specs.Option.{option_copied}
 use Rattle.std.proofs.lemmas.List.{length-append}
 use Rattle.std.proofs.lemmas.Result.{err_from_is_err_and}
-use Rattle.cfm_memory.specs.Instances.{Layout}
 use Rattle.cfm_closure.specs.Closures.{Closed, closed_of}
 use Rattle.cfm_libraries.specs.Faults.{Fails}
 use Rattle.cfm_libraries.specs.Stores.{place_of}
 use Rattle.cfm_closure.proofs.Laws.{closed-complete, closed-root, closed-store}
-use Rattle.cfm_prepare.specs.Contexts.{Open, State, has, most_connections, open_without}
-use Rattle.cfm_prepare.specs.Fragments.{Present, is_present, new_among}
+use Rattle.cfm_present.specs.Lists.{has}
+use Rattle.cfm_present.specs.Fragments.{Presence, is_present, new_among}
+use Rattle.cfm_present.specs.Placing.{ArePrepared}
+use Rattle.cfm_present.specs.Refusals.{MayNotPrepareNew}
+use Rattle.cfm_present.proofs.Laws.{has-contains, new-has, once-from-pairs, present-has}
+use Rattle.cfm_prepare.specs.Contexts.{Open, State, most_connections, open_of, open_without}
 use Rattle.cfm_prepare.specs.Kept.Connections.{AllBelow}
-use Rattle.cfm_prepare.specs.Kept.Ready.{AreAbsent}
 use Rattle.cfm_prepare.specs.Kept.Users.{CountsMore, CountUsers}
-use Rattle.cfm_prepare.specs.Placing.{ArePrepared}
-use Rattle.cfm_prepare.specs.Steps.{HasClosure, HasRoot, MayNotPrepareNew}
-use Rattle.cfm_prepare.proofs.BegunLemmas.{new-members}
+use Rattle.cfm_prepare.specs.Steps.{HasRoot}
 use Rattle.cfm_prepare.proofs.ConnectionLemmas.{below-push, closed-got, got-last, last-without, some-got}
-use Rattle.cfm_prepare.proofs.FoundLemmas.{absent-new, new-has, present-has}
-use Rattle.cfm_prepare.proofs.OpenLemmas.{ends-contains, refused-late}
-use Rattle.cfm_prepare.proofs.ReaderLemmas.{has-contains}
-use Rattle.cfm_prepare.proofs.UsersLemmas.{entered-count, entered-used, once-from-pairs, same_users, users-few}
+use Rattle.cfm_prepare.proofs.OpenLemmas.{ends-contains}
+use Rattle.cfm_prepare.proofs.UsersLemmas.{entered-count, entered-used, same_users, users-few}
 use Rattle.cfm_prepare.proofs.context.Context.open_root.Goals as goal
 
 pub returns-in_err-closure-clause-refused : goal.returns-in_err-closure-clause-refused
@@ -45,36 +45,14 @@ unwrap-requires c =
     let o : Open = record { number = c.self.inside.given; root = c.args.root; closed = c.in_ok-closure.closure } in
     some-got c.get.result o (got-last os c.push.new.self o c.new.result c.get.result c.self.invariant.numbered c.in_ok-push.ensures.pushed c.new.ensures c.get.ensures)
 
-pub prepare_new-requires-clause-store : goal.prepare_new-requires-clause-store
-prepare_new-requires-clause-store c =
+pub prepare-requires-clause-store : goal.prepare-requires-clause-store
+prepare-requires-clause-store c =
     let os = c.self.inside.connections in
     let closed = c.in_ok-closure.closure in
     let o : Open = record { number = c.self.inside.given; root = c.args.root; closed = closed } in
     let got = got-last os c.push.new.self o c.new.result c.get.result c.self.invariant.numbered c.in_ok-push.ensures.pushed c.new.ensures c.get.ensures in
     let is = closed-got c.get.result o c.unwrap.result c.closure-closure.result.now got c.unwrap.ensures c.closure-closure.ensures.closure in
     sym (closed-store c.self.inside.store c.args.root closed c.in_ok-closure.ensures) ∙ ap (λ (k : Closed). k.pairs) (sym is)
-
-pub prepare_new-requires-clause-members : goal.prepare_new-requires-clause-members
-prepare_new-requires-clause-members c =
-    let os = c.self.inside.connections in
-    let closed = c.in_ok-closure.closure in
-    let o : Open = record { number = c.self.inside.given; root = c.args.root; closed = closed } in
-    let got = got-last os c.push.new.self o c.new.result c.get.result c.self.invariant.numbered c.in_ok-push.ensures.pushed c.new.ensures c.get.ensures in
-    let is = closed-got c.get.result o c.unwrap.result c.closure-closure.result.now got c.unwrap.ensures c.closure-closure.ensures.closure in
-    let there = c.self.inside.present.items in
-    let new : c.deref.result.now ≡ new_among there closed.order = c.deref.ensures.value ∙ c.in_ok-new.ensures ∙ ap (new_among there) c.order.ensures.order in
-    let P : List ℕ → Type 0 = λ ps. All (λ p. Contains closed.order p) ps in
-    let Q : Closed → Type 0 = λ k. All (λ p. Contains k.order p) c.deref.result.now in
-    subst Q (sym is) (subst P (sym new) (new-members there closed.order))
-
-pub prepare_new-requires-clause-new : goal.prepare_new-requires-clause-new
-prepare_new-requires-clause-new c =
-    let closed = c.in_ok-closure.closure in
-    let there = c.self.inside.present.items in
-    let new : c.deref.result.now ≡ new_among there closed.order = c.deref.ensures.value ∙ c.in_ok-new.ensures ∙ ap (new_among there) c.order.ensures.order in
-    let once = once-from-pairs closed.order (closed-complete c.self.inside.store c.args.root closed c.in_ok-closure.ensures).once in
-    let P : List ℕ → Type 0 = λ ps. AreAbsent there ps in
-    subst P (sym new) (absent-new there closed.order once)
 
 -- the order that is counted is that of the closure
 pub enter-requires-clause-inside : goal.enter-requires-clause-inside
@@ -84,7 +62,7 @@ enter-requires-clause-inside c = λ p there.
     let o : Open = record { number = c.self.inside.given; root = c.args.root; closed = closed } in
     let got = got-last os c.push.new.self o c.new.result c.get.result c.self.invariant.numbered c.in_ok-push.ensures.pushed c.new.ensures c.get.ensures in
     let is = closed-got c.get.result o c.unwrap.result c.closure-closure.result.now got c.unwrap.ensures c.closure-closure.ensures.closure in
-    let order : c.order-in-Ok.result.now ≡ closed.order = c.order-in-Ok.ensures.order ∙ ap (λ (k : Closed). k.order) is in
+    let order : c.order.result.now ≡ closed.order = c.order.ensures.order ∙ ap (λ (k : Closed). k.order) is in
     let here : has closed.order p ≡ true = ap (λ ps. has ps p) (sym order) ∙ there in
     let member = (closed-complete c.self.inside.store c.args.root closed c.in_ok-closure.ensures).members p (has-contains closed.order p here) in
     omega (arith, member.place, c.in_ok-make_room.ensures.room, c.len.ensures)
@@ -94,23 +72,29 @@ enter-requires-clause-few c = λ p.
     let os = c.self.inside.connections in
     omega (arith, c.in_ok-make_room.ensures.same p, c.self.invariant.counted p, users-few os p, c.self.invariant.many, c.self.invariant.few)
 
+-- the closure that was put is that of the root
+put-is : (os put : List Open) (o made : Open) (got : Option (Bor Open)) (one : Bor Open) (closed : Closed) → AllBelow o.number os → put ≡ os ++ made ∷ [] → made ≡ o → option_copied got ≡ open_of put o.number → got ≡ Some one → closed ≡ one.now.closed → closed ≡ o.closed
+put-is os put o made got one closed below put_is made_is got_is one_is closed_is = closed-got got o one closed (got-last os put o made got below put_is made_is got_is) one_is closed_is
+
 pub returns-in-Ok-clause-prepared : goal.returns-in-Ok-clause-prepared
 returns-in-Ok-clause-prepared c = λ name is.
+    let os = c.self.inside.connections in
     let closed = c.in_ok-closure.closure in
+    let o : Open = record { number = c.self.inside.given; root = c.args.root; closed = closed } in
+    let put = put-is os c.push.new.self o c.new.result c.get.result c.unwrap.result c.closure-closure.result.now c.self.invariant.numbered c.in_ok-push.ensures.pushed c.new.ensures c.get.ensures c.unwrap.ensures c.closure-closure.ensures.closure in
     let done = c.in-Ok.ensures.prepared in
-    let there = c.self.inside.present.items in
-    let new : c.deref.result.now ≡ new_among there closed.order = c.deref.ensures.value ∙ c.in_ok-new.ensures ∙ ap (new_among there) c.order.ensures.order in
-    let P : List ℕ → Type 0 = λ ps. ArePrepared c.self.inside.store there c.self.inside.memory ps done.0 c.prepare_new.new.memory in
+    let there = c.self.inside.fragments.present in
+    let P : Closed → Type 0 = λ k. ArePrepared c.self.inside.store there c.self.inside.fragments.memory (new_among there k.order) done.0 c.prepare.new.self.memory in
     let Q : State → Type 0 = λ s. place_of s.pairs name ≡ Some c.args.root in
     let R : State → Type 0 = λ s. s.given < most_connections in
     rw (← c.self.view_is) (record {
       closure = record { has = record { left = subst R (sym c.self.view_is) c.requires.left; root = c.args.root; is = subst Q (sym c.self.view_is) is }; closed = closed; is = c.in_ok-closure.ensures };
       fresh = done.0;
-      prepared = subst P new done.2;
+      prepared = subst P put done.2;
       number = refl;
       pairs = refl;
       given = refl;
-      connections = c.in_ok-push.ensures.pushed ∙ ap (λ (x : Open). c.self.inside.connections ++ x ∷ []) c.new.ensures;
+      connections = c.in_ok-push.ensures.pushed ∙ ap (λ (x : Open). os ++ x ∷ []) c.new.ensures;
       present = done.1;
     })
 
@@ -122,25 +106,23 @@ invariant_of-self-in-Ok c =
     let o : Open = record { number = given; root = c.args.root; closed = closed } in
     let got = got-last os c.push.new.self o c.new.result c.get.result c.self.invariant.numbered c.in_ok-push.ensures.pushed c.new.ensures c.get.ensures in
     let is = closed-got c.get.result o c.unwrap.result c.closure-closure.result.now got c.unwrap.ensures c.closure-closure.ensures.closure in
-    let order : c.order-in-Ok.result.now ≡ closed.order = c.order-in-Ok.ensures.order ∙ ap (λ (k : Closed). k.order) is in
+    let order : c.order.result.now ≡ closed.order = c.order.ensures.order ∙ ap (λ (k : Closed). k.order) is in
     let pushed : c.push.new.self ≡ os ++ o ∷ [] = c.in_ok-push.ensures.pushed ∙ ap (λ (x : Open). os ++ x ∷ []) c.new.ensures in
     let done = c.in-Ok.ensures.prepared in
-    let there = c.self.inside.present.items in
-    let new : c.deref.result.now ≡ new_among there closed.order = c.deref.ensures.value ∙ c.in_ok-new.ensures ∙ ap (new_among there) c.order.ensures.order in
+    let there = c.self.inside.fragments.present in
     let R : State → Type 0 = λ s. s.given < most_connections in
     let left : given < most_connections = subst R (sym c.self.view_is) c.requires.left in
     let P : List ℕ → Type 0 = λ ps. CountsMore ps c.make_room.new.users.items c.enter.new.users.items in
     let Q : List Open → Type 0 = λ xs. CountUsers c.enter.new.users.items xs in
     let N : List Open → Type 0 = λ xs. AllBelow (given + 1) xs in
     record {
-      ready = c.in-Ok.ensures.ready;
       few = omega (arith, left);
       numbered = subst N (sym pushed) (below-push os o c.self.invariant.numbered);
       many = omega (arith, ap length pushed, length-append os (o ∷ []), c.self.invariant.many);
       counted = subst Q (sym pushed) (entered-count os o c.make_room.new.users.items c.enter.new.users.items (same_users c.self.inside.users.items c.make_room.new.users.items os c.in_ok-make_room.ensures.same c.self.invariant.counted) (subst P order c.enter.ensures));
-      used = entered-used c.make_room.new.users.items c.enter.new.users.items there c.prepare_new.new.present.items done.0 closed.order (subst P order c.enter.ensures)
+      used = entered-used c.make_room.new.users.items c.enter.new.users.items there c.prepare.new.self.present done.0 closed.order (subst P order c.enter.ensures)
           (λ p here. (let used = c.self.invariant.used p here in let same = c.in_ok-make_room.ensures.same p in omega (arith, used, same))) done.1
-          (λ p here. new-has there closed.order p (ap (λ ps. has ps p) (sym (done.2.are.are ∙ new)) ∙ (sym (present-has done.0 p) ∙ here)));
+          (λ p here. new-has there closed.order p (ap (λ ps. has ps p) (sym (done.2.are.are ∙ ap (λ (k : Closed). new_among there k.order) is)) ∙ (sym (present-has done.0 p) ∙ here)));
     }
 
 -- a connection that was put last goes again
@@ -157,33 +139,31 @@ invariant_of-self-in-Err c =
     let M : List Open → Type 0 = λ xs. length xs ≤ given in
     let C : List Open → Type 0 = λ xs. CountUsers c.make_room.new.users.items xs in
     record {
-      ready = c.in-Err.ensures.ready;
       few = c.self.invariant.few;
       numbered = subst N (sym gone) c.self.invariant.numbered;
       many = subst M (sym gone) c.self.invariant.many;
       counted = subst C (sym gone) (same_users c.self.inside.users.items c.make_room.new.users.items os c.in_ok-make_room.ensures.same c.self.invariant.counted);
-      used = λ p here. (let used = c.self.invariant.used p (ap (λ fs. is_present fs p) (sym c.in-Err.ensures.unchanged.1) ∙ here) in let same = c.in_ok-make_room.ensures.same p in omega (arith, used, same));
+      used = λ p here. (let used = c.self.invariant.used p (ap (λ (f : Presence). is_present f.present p) (sym c.in-Err.ensures.unchanged) ∙ here) in let same = c.in_ok-make_room.ensures.same p in omega (arith, used, same));
     }
 
-pub returns-clause-refused : goal.returns-clause-refused
-returns-clause-refused c = λ name is.
-    let s : State = c.args.self.now in
+pub returns-in-Err-clause-refused : goal.returns-in-Err-clause-refused
+returns-in-Err-clause-refused c = λ name is.
+    let os = c.self.inside.connections in
     let closed = c.in_ok-closure.closure in
-    let there = c.self.inside.present.items in
-    let e = c.in-Err.fault in
-    let closes : closed_of s.pairs c.args.root ≡ Ok closed = rw (← c.self.view_is) c.in_ok-closure.ensures in
-    let closure : HasClosure s name = record { has = record { left = c.requires.left; root = c.args.root; is = is }; closed = closed; is = closes } in
-    let new : c.deref.result.now ≡ new_among there closed.order = c.deref.ensures.value ∙ c.in_ok-new.ensures ∙ ap (new_among there) c.order.ensures.order in
-    let P : List ℕ → Type 0 = λ ps. MayNotPrepareNew c.self.inside.store there c.self.inside.memory ps e in
-    let why : MayNotPrepareNew s.pairs s.present s.memory (new_among s.present closed.order) e = rw (← c.self.view_is) (subst P new c.in-Err.ensures.refused) in
-    refused-late e s name closure why
+    let o : Open = record { number = c.self.inside.given; root = c.args.root; closed = closed } in
+    let put = put-is os c.push.new.self o c.new.result c.get.result c.unwrap.result c.closure-closure.result.now c.self.invariant.numbered c.in_ok-push.ensures.pushed c.new.ensures c.get.ensures c.unwrap.ensures c.closure-closure.ensures.closure in
+    let P : Closed → Type 0 = λ k. MayNotPrepareNew c.self.inside.store c.self.inside.fragments.present c.self.inside.fragments.memory (new_among c.self.inside.fragments.present k.order) c.in-Err.fault in
+    let Q : State → Type 0 = λ s. place_of s.pairs name ≡ Some c.args.root in
+    let R : State → Type 0 = λ s. s.given < most_connections in
+    rw (← c.self.view_is) (record {
+      closure = record { has = record { left = subst R (sym c.self.view_is) c.requires.left; root = c.args.root; is = subst Q (sym c.self.view_is) is }; closed = closed; is = c.in_ok-closure.ensures };
+      why = subst P put c.in-Err.ensures.refused;
+    })
 
-pub returns-clause-unchanged : goal.returns-clause-unchanged
-returns-clause-unchanged c =
+pub returns-in-Err-clause-unchanged : goal.returns-in-Err-clause-unchanged
+returns-in-Err-clause-unchanged c =
     let os = c.self.inside.connections in
     let o : Open = record { number = c.self.inside.given; root = c.args.root; closed = c.in_ok-closure.closure } in
     let gone = gone-again os c.push.new.self c.remove.new.self o c.new.result c.self.invariant.numbered c.in_ok-push.ensures.pushed c.new.ensures c.remove.ensures.left in
-    let S : Layout → List Open → List Present → State = λ m xs fs. record { pairs = c.self.inside.store; memory = m; given = c.self.inside.given; connections = xs; present = fs } in
-    rw (← c.self.view_is) (ap (λ m. S m c.remove.new.self c.prepare_new.new.present.items) c.in-Err.ensures.unchanged.0
-    ∙ ap (λ xs. S c.self.inside.memory xs c.prepare_new.new.present.items) gone
-    ∙ ap (λ fs. S c.self.inside.memory os fs) c.in-Err.ensures.unchanged.1)
+    let S : Presence → List Open → State = λ f xs. record { pairs = c.self.inside.store; memory = f.memory; given = c.self.inside.given; connections = xs; present = f.present } in
+    rw (← c.self.view_is) (ap (λ f. S f c.remove.new.self) c.in-Err.ensures.unchanged ∙ ap (S c.self.inside.fragments) gone)

@@ -1,8 +1,0 @@
--- What is left of the positions goes.
-use Rattle.std.proofs.Common.{drop, not}
-use Rattle.cfm_prepare.specs.Contexts.{has}
-use Rattle.cfm_prepare.proofs.ReleaseLemmas.{AreGiven}
-use Rattle.cfm_prepare.proofs.releasing.give_back_all.Given as goal
-
-abbrev pub invariant-loop-position : goal.invariant-loop-position
-invariant-loop-position l = AreGiven (λ p. not (has l.positions p)) l.fn.present.items l.fn.memory l.present.items l.memory (drop l.position-index l.positions)

@@ -1,0 +1,3 @@
+-- What the code keeps. Private contracts and proofs speak of it, public ones don't.
+pub mod Ready
+pub mod Slots
