@@ -81,22 +81,16 @@ pub fn read_words<'a>(alloc: Global, words: &'a [String]) -> Result<Request<'a>,
 fn command<'a>(alloc: Global) -> Result<Command<'a>, AllocError>
     ensures app { IfOk result (λ c. app_of c ≡ pef) }
 {
-    let show = Command::new(alloc, "show");
-    let link = link_command(alloc)?;
-    let list = list_command(alloc)?;
-    let check = check_command(alloc)?;
-    let load = load_command(alloc)?;
-    let distances = distances_command(alloc)?;
-    let top = Command::new(alloc, "pef")
+    Command::new(alloc, "pef")
         .subcommand_required(true)
         .disable_help_flag(true)
-        .disable_help_subcommand(true);
-    top.subcommand(show)?
-        .subcommand(link)?
-        .subcommand(list)?
-        .subcommand(check)?
-        .subcommand(load)?
-        .subcommand(distances)
+        .disable_help_subcommand(true)
+        .subcommand(Command::new(alloc, "show"))?
+        .subcommand(link_command(alloc)?)?
+        .subcommand(list_command(alloc)?)?
+        .subcommand(check_command(alloc)?)?
+        .subcommand(load_command(alloc)?)?
+        .subcommand(distances_command(alloc)?)
 }
 
 /// The command `link SCRIPT OUT`.
