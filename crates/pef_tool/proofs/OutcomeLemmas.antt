@@ -1,13 +1,9 @@
 -- How a command ends, from what it did before.
-use Rattle.std.proofs.Common.{◌≡◌, List, [], ℕ, Option, None, Some, Ok, refl, sym, ap, ◌∙◌, inl, inr, arith}
+use Rattle.std.proofs.Common.{◌≡◌, List, [], ℕ, Option, None, Some, Ok, Err, refl, sym, ap, ◌∙◌, inl, inr, arith}
 use Rattle.pef_ports.specs.Ports.{Begins, FilesPort, Reads, Stream}
 use Rattle.pef_request.specs.Requests.{Asked, check, distances, link, list, load, show}
 use Rattle.pef_script_text.specs.Grammar.{script_of}
-use Rattle.pef_script_text.specs.Reads.{Fails}
-use Rattle.pef_script_text.specs.declared.fault.ScriptFault.{ScriptFault}
-use Rattle.pef_script_text.specs.declared.fault.ScriptFault.TheVariants as script_fault
 use Rattle.pef_answers.specs.Answers.{answer_refused}
-use Rattle.pef_answers.specs.Told.{script_refusal}
 use Rattle.pef_answers.specs.Refusals.{refusal_text}
 use Rattle.pef_answers.specs.declared.refusal.Refusal.{Refusal}
 use Rattle.pef_answers.specs.declared.refusal.Refusal.TheVariants as refusal
@@ -16,22 +12,31 @@ use Rattle.pef_prepared.specs.Show as show
 use Rattle.pef_verdicts.specs.Check as check
 use Rattle.pef_tool.specs.Distances as distances
 use Rattle.pef_tool.specs.Link as link
+use Rattle.pef_tool.specs.Kept.Linking.{LinksText}
 use Rattle.pef_tool.specs.List as list
 use Rattle.pef_tool.specs.Run.{RunAnswers}
 
--- a file that is no script ends `link`
-pub no_script_linked : {F : Type 0} (port : FilesPort F) (before after : F) (script out read text : List ℕ) (fault : ScriptFault) (why : Refusal)
-    → why ≡ script_refusal fault → Reads port before after script (Ok read) → text ≡ read → Fails fault (script_of text) → link.LinkEnds port before after script out (link.refuses why)
-no_script_linked port before after script out read text (script_fault.Refused fault line) why is reads same fails =
-    rw is (record { text = read; read = reads; refused = ap script_of (sym same) ∙ fails })
-no_script_linked port before after script out read text script_fault.OutOfMemory why is reads same fails = rw is (inr (inr (inl (read, reads))))
+-- a file whose text isn't linked ends `link`
+pub unlinked : {F : Type 0} (port : FilesPort F) (before after : F) (script out read text : List ℕ) (why : Refusal)
+    → Reads port before after script (Ok read) → text ≡ read → LinksText text (Err why) → link.LinkEnds port before after script out (link.refuses why)
+unlinked port before after script out read text (refusal.Script fault line) reads same fails = record { text = read; read = reads; refused = ap script_of (sym same) ∙ fails }
+unlinked port before after script out read text refusal.OutOfMemory reads same fails = inr (inr (inl (read, reads)))
+unlinked port before after script out read text (refusal.Listing fault) reads same fails = absurd fails
+unlinked port before after script out read text (refusal.BadCertificate line) reads same fails = absurd fails
+unlinked port before after script out read text refusal.SectionsDiffer reads same fails = absurd fails
+unlinked port before after script out read text refusal.InputUnreadable reads same fails = absurd fails
+unlinked port before after script out read text refusal.InputTooLong reads same fails = absurd fails
 
 -- and `distances`
-pub no_script_certified : {F : Type 0} (port : FilesPort F) (before after : F) (script read text : List ℕ) (fault : ScriptFault) (why : Refusal)
-    → why ≡ script_refusal fault → Reads port before after script (Ok read) → text ≡ read → Fails fault (script_of text) → distances.DistancesEnd port before after script (distances.refuses why)
-no_script_certified port before after script read text (script_fault.Refused fault line) why is reads same fails =
-    rw is (record { text = read; read = reads; refused = ap script_of (sym same) ∙ fails })
-no_script_certified port before after script read text script_fault.OutOfMemory why is reads same fails = rw is (inr (inr (read, reads)))
+pub uncertified : {F : Type 0} (port : FilesPort F) (before after : F) (script read text : List ℕ) (why : Refusal)
+    → Reads port before after script (Ok read) → text ≡ read → LinksText text (Err why) → distances.DistancesEnd port before after script (distances.refuses why)
+uncertified port before after script read text (refusal.Script fault line) reads same fails = record { text = read; read = reads; refused = ap script_of (sym same) ∙ fails }
+uncertified port before after script read text refusal.OutOfMemory reads same fails = inr (inr (read, reads))
+uncertified port before after script read text (refusal.Listing fault) reads same fails = absurd fails
+uncertified port before after script read text (refusal.BadCertificate line) reads same fails = absurd fails
+uncertified port before after script read text refusal.SectionsDiffer reads same fails = absurd fails
+uncertified port before after script read text refusal.InputUnreadable reads same fails = absurd fails
+uncertified port before after script read text refusal.InputTooLong reads same fails = absurd fails
 
 -- nothing of an input was read
 nothing_read : (told : Option (List ℕ)) → Begins told told []

@@ -1,4 +1,5 @@
 pub mod Distances
+pub mod Kept
 pub mod Link
 pub mod List
 pub mod Run

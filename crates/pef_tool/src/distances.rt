@@ -1,17 +1,16 @@
 ghost use Rattle.pef_answers.specs.Answers.{Answer, Delivers, answer_done};
 ghost use Rattle.pef_tool.specs.Distances.{DistancesAnswers};
 
-use pef_answers::{DONE, FileRefusal, Refusal, Reply, deliver, script_refusal};
+use crate::linking::link_text;
+use pef_answers::{DONE, FileRefusal, Refusal, Reply, deliver};
 use pef_cert_text::print;
 use pef_ports::{FileFault, Files, Page, Sink, StreamFault, send};
-use pef_write::link;
 use std::alloc::Global;
 
 /// Prints the certificates of the script at a path: for each section that no program is shorter than the
 /// one that `link` writes.
 ///
 /// The whole text is made before the first line is printed.
-#[tactic(auto, using(crate::proofs::DistancesLemmas::linked_prints))]
 pub fn print_distances<F: Files, W: Sink>(
     alloc: Global,
     files: &mut F,
@@ -27,12 +26,9 @@ pub fn print_distances<F: Files, W: Sink>(
         Err(FileFault::Failed) => return deliver(out, &FileRefusal::Unreadable(script)),
         Err(FileFault::OutOfMemory) => return deliver(out, &Refusal::OutOfMemory),
     };
-    let read = match pef_script_text::read(alloc, text.as_slice()) {
-        Ok(read) => read,
-        Err(fault) => return deliver(out, &script_refusal(fault)),
-    };
-    let Ok(linked) = link(alloc, &read) else {
-        return deliver(out, &Refusal::OutOfMemory);
+    let linked = match link_text(alloc, text.as_slice()) {
+        Ok(linked) => linked,
+        Err(refusal) => return deliver(out, &refusal),
     };
     match print(alloc, linked.certificates()) {
         Ok(text) => deliver(out, &Distances { text }),

@@ -8,6 +8,7 @@
 mod commands;
 mod distances;
 mod link;
+mod linking;
 mod list;
 pub mod theorems;
 

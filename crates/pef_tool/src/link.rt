@@ -3,9 +3,10 @@ ghost use Rattle.pef_ports.specs.Sent.{Sends};
 ghost use Rattle.pef_answers.specs.Answers.{Answer, Delivers, answer_done};
 ghost use Rattle.pef_tool.specs.Link.{LinkAnswers, length_text, lengths_text, linked_text, size_text};
 
-use pef_answers::{DONE, FileRefusal, Refusal, Reply, deliver, script_refusal};
+use crate::linking::link_text;
+use pef_answers::{DONE, FileRefusal, Refusal, Reply, deliver};
 use pef_ports::{FileFault, Files, Line, Page, Sink, StreamFault, push_number, push_text, send};
-use pef_write::{Linked, link};
+use pef_write::Linked;
 use std::alloc::Global;
 
 /// Links the script at a path, and writes the container to the path `target`.
@@ -27,12 +28,9 @@ pub fn link_files<F: Files, W: Sink>(
         Err(FileFault::Failed) => return deliver(out, &FileRefusal::Unreadable(script)),
         Err(FileFault::OutOfMemory) => return deliver(out, &Refusal::OutOfMemory),
     };
-    let read = match pef_script_text::read(alloc, text.as_slice()) {
-        Ok(read) => read,
-        Err(fault) => return deliver(out, &script_refusal(fault)),
-    };
-    let Ok(linked) = link(alloc, &read) else {
-        return deliver(out, &Refusal::OutOfMemory);
+    let linked = match link_text(alloc, text.as_slice()) {
+        Ok(linked) => linked,
+        Err(refusal) => return deliver(out, &refusal),
     };
     match files.write(target, linked.bytes()) {
         Ok(()) => deliver(out, &LinkedReply { linked: &linked }),

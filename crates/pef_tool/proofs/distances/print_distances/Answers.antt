@@ -5,8 +5,8 @@ use Rattle.pef_answers.specs.Answers.{answer_done, answer_refused}
 use Rattle.pef_tool.specs.Distances.{certifies, refuses}
 use Rattle.pef_answers.specs.Refusals.{refusal_text}
 use Rattle.pef_answers.specs.declared.refusal.Refusal.TheVariants.{OutOfMemory}
-use Rattle.pef_tool.proofs.DistancesLemmas.{files_linked}
-use Rattle.pef_tool.proofs.OutcomeLemmas.{no_script_certified}
+use Rattle.pef_tool.proofs.DistancesLemmas.{files_linked, linked_prints}
+use Rattle.pef_tool.proofs.OutcomeLemmas.{uncertified}
 use Rattle.pef_tool.proofs.distances.print_distances.Goals as goal
 
 pub returns-in-Err-OutOfMemory : goal.returns-in-Err-OutOfMemory
@@ -17,21 +17,20 @@ returns-in-Err-OutOfMemory g c =
 
 pub returns-in-Err : goal.returns-in-Err
 returns-in-Err g c =
-    let why = c.script_refusal.result in
-    let ends = no_script_certified _ c.args.files.now c.read.new.self c.args.script.now c.in-Ok.text.items c.as_slice.result.now c.in-Err.fault why c.script_refusal.ensures (record { call = c.in-Ok.ensures.call; told = c.in-Ok.ensures.told }) c.as_slice.ensures.value c.in-Err.ensures in
+    let why = c.in-Err.refusal in
+    let ends = uncertified _ c.args.files.now c.read.new.self c.args.script.now c.in-Ok.text.items c.as_slice.result.now why (record { call = c.in-Ok.ensures.call; told = c.in-Ok.ensures.told }) c.as_slice.ensures.value c.in-Err.ensures in
     (answer_refused (refusal_text why), (refuses why, ends, refl), c.deliver-in-Err.ensures)
-
-pub returns-in_default : goal.returns-in_default
-returns-in_default g c =
-    (answer_refused (refusal_text OutOfMemory), (refuses OutOfMemory, inr (inr (c.in-Ok.text.items, record { call = c.in-Ok.ensures.call; told = c.in-Ok.ensures.told })), refl), c.deliver-in_default.ensures)
 
 pub returns-in-Ok-print : goal.returns-in-Ok-print
 returns-in-Ok-print g c =
-    let l = c.in-Ok-link.linked in
-    let ends = files_linked c.as_slice.result.now c.in-Ok-read.read (record { call = c.in-Ok.ensures.call; told = c.in-Ok.ensures.told }) c.as_slice.ensures.value c.in-Ok-read.ensures c.in-Ok-link.ensures in
+    let l = c.in-Ok-link_text.linked in
+    let ends = files_linked c.as_slice.result.now c.in-Ok-link_text.ensures.0 (record { call = c.in-Ok.ensures.call; told = c.in-Ok.ensures.told }) c.as_slice.ensures.value c.in-Ok-link_text.ensures.1 c.in-Ok-link_text.ensures.2 in
     let text = c.in-Ok-print.ensures.text ∙ ap certificates_text c.certificates.ensures in
     (answer_done c.in-Ok-print.text.items, (certifies l, ends, ap answer_done text), c.deliver-in-Ok-print.ensures)
 
 pub returns : goal.returns
 returns g c =
     (answer_refused (refusal_text OutOfMemory), (refuses OutOfMemory, inr (inr (c.in-Ok.text.items, record { call = c.in-Ok.ensures.call; told = c.in-Ok.ensures.told })), refl), c.deliver-in-Err-print.ensures)
+
+pub print-requires : goal.print-requires
+print-requires g c = linked_prints c.in-Ok-link_text.ensures.0 c.in-Ok-link_text.linked c.certificates.result.now c.in-Ok-link_text.ensures.2 c.certificates.ensures

@@ -5,13 +5,13 @@ use Rattle.pef_tool.specs.Link.{links, unwritable, refuses, linked_text}
 use Rattle.pef_answers.specs.Refusals.{refusal_text, unwritable_text}
 use Rattle.pef_answers.specs.declared.refusal.Refusal.TheVariants.{OutOfMemory}
 use Rattle.pef_tool.proofs.LinkLemmas.{written}
-use Rattle.pef_tool.proofs.OutcomeLemmas.{no_script_linked}
+use Rattle.pef_tool.proofs.OutcomeLemmas.{unlinked}
 use Rattle.pef_tool.proofs.link.link_files.Goals as goal
 
 pub returns-in-Ok-write : goal.returns-in-Ok-write
 returns-in-Ok-write g c =
-    let l = c.in-Ok-link.linked in
-    let writes = written c.as_slice.result.now c.in-Ok-read.read (record { call = c.in-Ok.ensures.call; told = c.in-Ok.ensures.told }) c.as_slice.ensures.value c.in-Ok-read.ensures c.in-Ok-link.ensures c.bytes.ensures
+    let l = c.in-Ok-link_text.linked in
+    let writes = written c.as_slice.result.now c.in-Ok-link_text.ensures.0 (record { call = c.in-Ok.ensures.call; told = c.in-Ok.ensures.told }) c.as_slice.ensures.value c.in-Ok-link_text.ensures.1 c.in-Ok-link_text.ensures.2 c.bytes.ensures
     (record { call = c.in-Ok-write.ensures.call; told = c.in-Ok-write.ensures.told }) in
     (answer_done (linked_text l), (links l, writes, refl), c.deliver-in-Ok-write.ensures)
 
@@ -19,17 +19,17 @@ pub returns-in-Err-Failed-write : goal.returns-in-Err-Failed-write
 returns-in-Err-Failed-write g c =
     let call = rw c.in-Err-Failed-write.field-0-is at c.in-Err-Failed-write.ensures.call in
     let told = rw c.in-Err-Failed-write.field-0-is at c.in-Err-Failed-write.ensures.told in
-    let writes = written c.as_slice.result.now c.in-Ok-read.read (record { call = c.in-Ok.ensures.call; told = c.in-Ok.ensures.told }) c.as_slice.ensures.value c.in-Ok-read.ensures c.in-Ok-link.ensures c.bytes.ensures
+    let writes = written c.as_slice.result.now c.in-Ok-link_text.ensures.0 (record { call = c.in-Ok.ensures.call; told = c.in-Ok.ensures.told }) c.as_slice.ensures.value c.in-Ok-link_text.ensures.1 c.in-Ok-link_text.ensures.2 c.bytes.ensures
     (record { call = call; told = told }) in
-    (answer_refused (unwritable_text c.args.target.now), (unwritable, (c.in-Ok-link.linked, writes), refl), c.deliver-in-Err-Failed-write.ensures)
+    (answer_refused (unwritable_text c.args.target.now), (unwritable, (c.in-Ok-link_text.linked, writes), refl), c.deliver-in-Err-Failed-write.ensures)
 
 pub returns : goal.returns
 returns g c =
     let call = rw c.in-Err-OutOfMemory-write.field-0-is at c.in-Err-OutOfMemory-write.ensures.call in
     let told = rw c.in-Err-OutOfMemory-write.field-0-is at c.in-Err-OutOfMemory-write.ensures.told in
-    let writes = written c.as_slice.result.now c.in-Ok-read.read (record { call = c.in-Ok.ensures.call; told = c.in-Ok.ensures.told }) c.as_slice.ensures.value c.in-Ok-read.ensures c.in-Ok-link.ensures c.bytes.ensures
+    let writes = written c.as_slice.result.now c.in-Ok-link_text.ensures.0 (record { call = c.in-Ok.ensures.call; told = c.in-Ok.ensures.told }) c.as_slice.ensures.value c.in-Ok-link_text.ensures.1 c.in-Ok-link_text.ensures.2 c.bytes.ensures
     (record { call = call; told = told }) in
-    (answer_refused (refusal_text OutOfMemory), (refuses OutOfMemory, inr (inr (inr (c.in-Ok-link.linked, writes))), refl), c.deliver-in-Err-OutOfMemory-write.ensures)
+    (answer_refused (refusal_text OutOfMemory), (refuses OutOfMemory, inr (inr (inr (c.in-Ok-link_text.linked, writes))), refl), c.deliver-in-Err-OutOfMemory-write.ensures)
 
 pub returns-in-Err-OutOfMemory : goal.returns-in-Err-OutOfMemory
 returns-in-Err-OutOfMemory g c =
@@ -39,10 +39,6 @@ returns-in-Err-OutOfMemory g c =
 
 pub returns-in-Err : goal.returns-in-Err
 returns-in-Err g c =
-    let why = c.script_refusal.result in
-    let ends = no_script_linked _ c.args.files.now c.read.new.self c.args.script.now c.args.target.now c.in-Ok.text.items c.as_slice.result.now c.in-Err.fault why c.script_refusal.ensures (record { call = c.in-Ok.ensures.call; told = c.in-Ok.ensures.told }) c.as_slice.ensures.value c.in-Err.ensures in
+    let why = c.in-Err.refusal in
+    let ends = unlinked _ c.args.files.now c.read.new.self c.args.script.now c.args.target.now c.in-Ok.text.items c.as_slice.result.now why (record { call = c.in-Ok.ensures.call; told = c.in-Ok.ensures.told }) c.as_slice.ensures.value c.in-Err.ensures in
     (answer_refused (refusal_text why), (refuses why, ends, refl), c.deliver-in-Err.ensures)
-
-pub returns-in_default : goal.returns-in_default
-returns-in_default g c =
-    (answer_refused (refusal_text OutOfMemory), (refuses OutOfMemory, inr (inr (inl (c.in-Ok.text.items, record { call = c.in-Ok.ensures.call; told = c.in-Ok.ensures.told }))), refl), c.deliver-in_default.ensures)

@@ -1,0 +1,14 @@
+-- How the text of a script is linked, for the two commands that link.
+use Rattle.std.specs.Prelude.{◌≡◌, ℕ, List, Result, Ok, Err}
+use Rattle.pef_script_text.specs.Grammar.{script_of}
+use Rattle.pef_script.specs.Script.{DescribedScript}
+use Rattle.pef_answers.specs.declared.refusal.Refusal.{Refusal}
+use Rattle.pef_answers.specs.declared.refusal.Refusal.TheVariants.{Script, OutOfMemory}
+use Rattle.pef_write.specs.Linked.{IsLinked, LinkedContainer}
+
+-- what a text is linked to: the container of its script; or the script's first refusal, or that memory was refused
+abbrev pub LinksText : List ℕ → Result LinkedContainer Refusal → Type 0
+LinksText text (Ok l) = (script : DescribedScript) × (script_of text ≡ Ok script) × IsLinked script l
+LinksText text (Err (Script fault line)) = script_of text ≡ Err (record { fault = fault; line = line })
+LinksText text (Err OutOfMemory) = Unit {0}
+LinksText text (Err _) = ⊥

@@ -1,0 +1,20 @@
+ghost use Rattle.pef_tool.specs.Kept.Linking.{LinksText};
+
+use pef_answers::{Refusal, script_refusal};
+use pef_script_text::read;
+use pef_write::{Linked, link};
+use std::alloc::Global;
+
+/// Links the script of a text, or says why not.
+pub(crate) fn link_text(alloc: Global, text: &[u8]) -> Result<Linked, Refusal>
+    ensures { LinksText text.now result }
+{
+    let script = match read(alloc, text) {
+        Ok(script) => script,
+        Err(fault) => return Err(script_refusal(fault)),
+    };
+    match link(alloc, &script) {
+        Ok(linked) => Ok(linked),
+        Err(_) => Err(Refusal::OutOfMemory),
+    }
+}
