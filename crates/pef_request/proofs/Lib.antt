@@ -1,3 +1,4 @@
+mod CommandLemmas
 mod FileLemmas
 mod LineLemmas
 mod LoadLemmas

@@ -2,6 +2,7 @@ ghost use Rattle.std.specs.Prelude.{◌≡◌, IfOk, false, map, string_bytes};
 ghost use Rattle.clap.specs.Words.{app_of, found_of, rows_of};
 ghost use Rattle.clap.specs.declared.builder.command.Command.TheViews.{out-Command};
 ghost use Rattle.pef_request.specs.CommandLine.{asked_by, check_asked, check_command, command_asked, distances_asked, distances_command, link_asked, link_command, list_asked, list_command, load_asked, load_command, pef};
+ghost use Rattle.pef_request.specs.Kept.Commands.{HasOneMore};
 ghost use Rattle.pef_request.specs.Kept.Kinds.{fault_of_kind};
 ghost use Rattle.pef_request.specs.Requests.{AnswersWords};
 
@@ -81,16 +82,26 @@ pub fn read_words<'a>(alloc: Global, words: &'a [String]) -> Result<Request<'a>,
 fn command<'a>(alloc: Global) -> Result<Command<'a>, AllocError>
     ensures app { IfOk result (λ c. app_of c ≡ pef) }
 {
-    Command::new(alloc, "pef")
+    let with_show = Command::new(alloc, "pef")
         .subcommand_required(true)
         .disable_help_flag(true)
         .disable_help_subcommand(true)
-        .subcommand(Command::new(alloc, "show"))?
-        .subcommand(link_command(alloc)?)?
-        .subcommand(list_command(alloc)?)?
-        .subcommand(check_command(alloc)?)?
-        .subcommand(load_command(alloc)?)?
-        .subcommand(distances_command(alloc)?)
+        .subcommand(Command::new(alloc, "show"))?;
+    let with_link = with_command(with_show, link_command(alloc))?;
+    let with_list = with_command(with_link, list_command(alloc))?;
+    let with_check = with_command(with_list, check_command(alloc))?;
+    let with_load = with_command(with_check, load_command(alloc))?;
+    with_command(with_load, distances_command(alloc))
+}
+
+/// A command with one more below it, where memory was found for that one.
+fn with_command<'a>(
+    top: Command<'a>,
+    more: Result<Command<'a>, AllocError>,
+) -> Result<Command<'a>, AllocError>
+    ensures { IfOk result (HasOneMore (app_of top.entry) more.entry) }
+{
+    top.subcommand(more?)
 }
 
 /// The command `link SCRIPT OUT`.

@@ -2,7 +2,8 @@
 use Rattle.std.proofs.Common.{ap, ap₂, ◌∙◌, true}
 use Rattle.std.proofs.lemmas.Result.{IfOk-weaker}
 use Rattle.clap.specs.Simple.{app_of_fields, on_top, with_subcommand}
-use Rattle.pef_request.specs.CommandLine.{pef}
+use Rattle.pef_request.specs.CommandLine.{check_command, distances_command, link_command, list_command, load_command, pef}
+use Rattle.pef_request.proofs.CommandLemmas.{one_more}
 use Rattle.pef_request.proofs.command_line.command.Goals as goal
 
 pub returns : goal.returns
@@ -11,9 +12,9 @@ returns c =
     let required = ap app_of_fields c.subcommand_required.ensures ∙ ap (on_top (λ s. record s { subcommand_required = true })) c.new.ensures.app in
     let no_flag = ap app_of_fields c.disable_help_flag.ensures ∙ ap (on_top (λ s. record s { disable_help_flag = true })) required in
     let top = ap app_of_fields c.disable_help_subcommand.ensures ∙ ap (on_top (λ s. record s { disable_help_subcommand = true })) no_flag in
-    let with_show = c.in_ok-subcommand.ensures.shape c.new-2.ensures.local ∙ ap₂ with_subcommand top (ap (λ a. a.top) c.new-2.ensures.app) in
-    let with_link = c.in_ok-subcommand-2.ensures.shape c.in_ok-link_command.ensures.local ∙ ap₂ with_subcommand with_show (ap (λ a. a.top) c.in_ok-link_command.ensures.app) in
-    let with_list = c.in_ok-subcommand-3.ensures.shape c.in_ok-list_command.ensures.local ∙ ap₂ with_subcommand with_link (ap (λ a. a.top) c.in_ok-list_command.ensures.app) in
-    let with_check = c.in_ok-subcommand-4.ensures.shape c.in_ok-check_command.ensures.local ∙ ap₂ with_subcommand with_list (ap (λ a. a.top) c.in_ok-check_command.ensures.app) in
-    let with_load = c.in_ok-subcommand-5.ensures.shape c.in_ok-load_command.ensures.local ∙ ap₂ with_subcommand with_check (ap (λ a. a.top) c.in_ok-load_command.ensures.app) in
-    record { app = IfOk-weaker c.subcommand-6.result _ _ (λ r added. added.shape c.in_ok-distances_command.ensures.local ∙ ap₂ with_subcommand with_load (ap (λ a. a.top) c.in_ok-distances_command.ensures.app)) c.subcommand-6.ensures }
+    let with_show = c.in_ok-with_show.ensures.shape c.new-2.ensures.local ∙ ap₂ with_subcommand top (ap (λ a. a.top) c.new-2.ensures.app) in
+    let with_link = one_more c.link_command.result link_command c.in_ok-with_link.with_link with_show c.link_command.ensures.app c.link_command.ensures.local c.in_ok-with_link.ensures in
+    let with_list = one_more c.list_command.result list_command c.in_ok-with_list.with_list with_link c.list_command.ensures.app c.list_command.ensures.local c.in_ok-with_list.ensures in
+    let with_check = one_more c.check_command.result check_command c.in_ok-with_check.with_check with_list c.check_command.ensures.app c.check_command.ensures.local c.in_ok-with_check.ensures in
+    let with_load = one_more c.load_command.result load_command c.in_ok-with_load.with_load with_check c.load_command.ensures.app c.load_command.ensures.local c.in_ok-with_load.ensures in
+    record { app = IfOk-weaker c.with_command-5.result _ _ (λ r. one_more c.distances_command.result distances_command r with_load c.distances_command.ensures.app c.distances_command.ensures.local) c.with_command-5.ensures }
