@@ -1,21 +1,12 @@
 -- Verdicts that are said one after the other.
-use Rattle.std.proofs.Common.{◌≡◌, ◌<◌, ◌≤◌, ℕ, Bool, true, false, zero, suc, ◌+◌, List, [], ◌∷◌, ◌++◌, Some, Result, Ok, Err, drop, get_or, length, option_map, slice_get, refl, sym, ap, subst, ◌∙◌, append_assoc, arith}
+use Rattle.std.proofs.Common.{◌≡◌, ◌<◌, ◌≤◌, ℕ, zero, suc, ◌+◌, List, [], ◌∷◌, ◌++◌, Some, Result, Ok, drop, get_or, length, option_map, slice_get, refl, sym, ap, subst, ◌∙◌, append_assoc, arith}
 use Rattle.std.proofs.lemmas.List.{append-nil, at_drop_more, drop_all}
 use Rattle.pef_cert.specs.Valid.{Certified}
 use Rattle.pef_reloc.specs.declared.fixup.Fixup.{Fixup}
-use Rattle.pef_script.specs.Script.{DescribedScript, DescribedSection}
-use Rattle.pef_cert_text.specs.Grammar.{certificates_of}
-use Rattle.pef_cert_text.specs.Views as cert
-use Rattle.pef_cert_text.specs.declared.fault.CertFault.{CertFault}
-use Rattle.pef_cert_text.specs.declared.fault.CertFault.TheVariants as cert_fault
+use Rattle.pef_script.specs.Script.{DescribedSection}
 use Rattle.pef_ports.specs.Ports.{FilesPort, Reads}
 use Rattle.pef_ports.specs.declared.ports.FileFault.{FileFault}
-use Rattle.pef_script_text.specs.Grammar.{script_of}
-use Rattle.pef_script_text.specs.Reads.{Fails}
-use Rattle.pef_script_text.specs.declared.fault.ScriptFault.{ScriptFault}
-use Rattle.pef_script_text.specs.declared.fault.ScriptFault.TheVariants as script_fault
-use Rattle.pef_verdicts.specs.Check.{AreVerdicts, DiffersInSections, HasVerdicts, IsVerdict, Judges, JudgesFiles, ReadsSecond, Texts, match_sections}
-use Rattle.pef_answers.specs.Told.{certificate_refusal, script_refusal}
+use Rattle.pef_verdicts.specs.Check.{AreVerdicts, IsVerdict, Judges, JudgesFiles, ReadsSecond}
 use Rattle.pef_answers.specs.declared.refusal.Refusal.{Refusal}
 use Rattle.pef_verdicts.specs.declared.check.Verdict.{Verdict}
 
@@ -65,17 +56,6 @@ all_said sections certificates k verdicts said same end =
     let two = subst (λ (cs : List Certified). AreVerdicts (drop k sections) cs []) (sym no_certificate) one in
     subst (λ (vs : List Verdict). AreVerdicts sections certificates vs) (append-nil verdicts) (said [] two)
 
--- texts whose first is no script
-pub no_script_judged : (texts : Texts) (fault : ScriptFault) (why : Refusal) → why ≡ script_refusal fault → Fails fault (script_of texts.script) → Judges texts (Err why)
-no_script_judged texts (script_fault.Refused fault line) why is fails = rw is fails
-no_script_judged texts script_fault.OutOfMemory why is fails = rw is tt
-
--- texts whose second has no certificates
-pub no_certificates_judged : (texts : Texts) (script : DescribedScript) (fault : CertFault) (why : Refusal)
-    → why ≡ certificate_refusal fault → script_of texts.script ≡ Ok script → cert.Fails fault (certificates_of texts.certificates) → Judges texts (Err why)
-no_certificates_judged texts script (cert_fault.BadCertificate line) why is has fails = rw is (record { script = script; is_script = has; refused = fails })
-no_certificates_judged texts script cert_fault.OutOfMemory why is has fails = rw is tt
-
 -- the texts of files that were read
 pub files_judged : {F : Type 0} {port : FilesPort F} {before between after : F} {script cert text certificates : List ℕ} {judged : Result (List Verdict) Refusal} (given given' : List ℕ)
     → Reads port before between script (Ok text) → Reads port between after cert (Ok certificates) → given ≡ text → given' ≡ certificates → Judges (record { script = given; certificates = given' }) judged
@@ -87,26 +67,6 @@ files_judged {F} {port} {before} {between} {after} {script} {cert} {text} {certi
       read = record { between = between; first = first; second = second };
       are = subst (λ (t : List ℕ). Judges (record { script = text; certificates = t }) judged) same' one;
     }
-
--- good texts whose sections differ
-pub sections_differ : (texts : Texts) (script : DescribedScript) (certificates given : List Certified) (b : Bool)
-    → script_of texts.script ≡ Ok script → certificates_of texts.certificates ≡ Ok certificates → given ≡ certificates → b ≡ match_sections script given → b ≡ false → DiffersInSections texts
-sections_differ texts script certificates given b is_script are same is differ = record {
-  checked = record { script = script; certificates = certificates };
-  has = record { script = is_script; certificates = are };
-  differ = ap (match_sections script) (sym same) ∙ sym is ∙ differ;
-}
-
--- good texts for the same sections
-pub verdicts_judged : (texts : Texts) (script : DescribedScript) (certificates given given' : List Certified) (b : Bool) (verdicts : List Verdict)
-    → script_of texts.script ≡ Ok script → certificates_of texts.certificates ≡ Ok certificates → given ≡ certificates → given' ≡ certificates → b ≡ match_sections script given → b ≡ true
-    → AreVerdicts script.sections given' verdicts → HasVerdicts texts verdicts
-verdicts_judged texts script certificates given given' b verdicts is_script are same same' is matches judged = record {
-  checked = record { script = script; certificates = certificates };
-  has = record { script = is_script; certificates = are };
-  matches = ap (match_sections script) (sym same) ∙ sym is ∙ matches;
-  verdicts_are = subst (λ (cs : List Certified). AreVerdicts script.sections cs verdicts) same' judged;
-}
 
 -- a file that was read, and then the other
 pub second_read : {F : Type 0} {port : FilesPort F} {before between after : F} {script cert text : List ℕ} {answer : Result (List ℕ) FileFault}

@@ -3,6 +3,7 @@ ghost use Rattle.pef_ports.specs.Sent.{Sends};
 ghost use Rattle.pef_reloc.specs.Fixups.{fixups_fit};
 ghost use Rattle.pef_answers.specs.Answers.{Answer, Delivers};
 ghost use Rattle.pef_verdicts.specs.Check.{AreVerdicts, CheckAnswers, IsVerdict, Judges, are_numbered, judged_answer, match_sections, verdict_text, verdicts_status, verdicts_text};
+ghost use Rattle.pef_verdicts.specs.Kept.Judged.{JudgesRead, JudgesScript};
 ghost use Rattle.pef_words.specs.Refusals.{result_map};
 
 use pef_answers::{
@@ -64,18 +65,38 @@ pub fn check_files<F: Files, W: Sink>(
 fn check_texts(alloc: Global, script: &[u8], certificates: &[u8]) -> Result<Verdicts, Refusal>
     ensures { Judges (record { script = script.now; certificates = certificates.now }) (result_map (λ v. v.verdicts.items) result) }
 {
-    let script = match pef_script_text::read(alloc, script) {
-        Ok(script) => script,
-        Err(fault) => return Err(script_refusal(fault)),
-    };
-    let certificates = match read(alloc, certificates) {
-        Ok(certificates) => certificates,
-        Err(fault) => return Err(certificate_refusal(fault)),
-    };
-    if !match_sections(&script, certificates.as_slice()) {
+    match pef_script_text::read(alloc, script) {
+        Ok(script) => check_certificates(alloc, &script, certificates),
+        Err(fault) => Err(script_refusal(fault)),
+    }
+}
+
+/// Checks the certificates of a text for the sections of a script.
+fn check_certificates(
+    alloc: Global,
+    script: &Script<'_>,
+    certificates: &[u8],
+) -> Result<Verdicts, Refusal>
+    ensures { JudgesScript script.now certificates.now (result_map (λ v. v.verdicts.items) result) }
+{
+    match read(alloc, certificates) {
+        Ok(certificates) => judge(alloc, script, certificates.as_slice()),
+        Err(fault) => Err(certificate_refusal(fault)),
+    }
+}
+
+/// Judges certificates for the sections of a script.
+fn judge(
+    alloc: Global,
+    script: &Script<'_>,
+    certificates: &[Certificate],
+) -> Result<Verdicts, Refusal>
+    ensures { JudgesRead script.now certificates.now (result_map (λ v. v.verdicts.items) result) }
+{
+    if !match_sections(script, certificates) {
         return Err(Refusal::SectionsDiffer);
     }
-    match check_sections(alloc, &script, certificates.as_slice()) {
+    match check_sections(alloc, script, certificates) {
         Ok(verdicts) => Ok(Verdicts { verdicts }),
         Err(_) => Err(Refusal::OutOfMemory),
     }
