@@ -100,9 +100,9 @@ impl<'a> Context<'a> {
         ensures refused { (name : List ℕ) → place_of self.old.pairs name ≡ Some root → IfErr result (λ fault. MayNotPrepare self.old name fault) }
         ensures unchanged { OnErr result (self.new ≡ self.old) }
     {
-        let closure = closure(self.alloc, &self.store, root)?;
         make_room(&mut self.users, self.store.len())?;
         let number = self.given;
+        let closure = closure(self.alloc, &self.store, root)?;
         self.connections
             .push(Connected::new(number, root, closure))?;
         let closure = self.connections.get(number).unwrap().closure();

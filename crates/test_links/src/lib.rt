@@ -5,6 +5,7 @@
 pub mod fragments;
 
 use cfm_closure::BindFault;
+use pef_script::Script;
 use pef_write::{Linked, link};
 use std::alloc::{AllocError, Global};
 use std::test::Fail;
@@ -12,7 +13,12 @@ use std::test::Fail;
 /// Links a script.
 pub fn link_text(alloc: Global, text: &[u8]) -> Result<Linked, Fail> {
     let script = pef_script_text::read(alloc, text)?;
-    Ok(link(alloc, &script)?)
+    link_script(alloc, &script)
+}
+
+/// Links a script that was read.
+fn link_script(alloc: Global, script: &Script<'_>) -> Result<Linked, Fail> {
+    Ok(link(alloc, script)?)
 }
 
 /// Tells the names that a refusal has, behind a space each: the fragment, its library and the symbol.

@@ -24,7 +24,7 @@ use Rattle.cfm_prepare.proofs.context.Context.open_root.Goals as goal
 
 pub returns-in_err-closure-clause-refused : goal.returns-in_err-closure-clause-refused
 returns-in_err-closure-clause-refused c = λ name is.
-    let p = err_from_is_err_and c.from_residual.result c.from_residual.ensures.1 in
+    let p = err_from_is_err_and c.from_residual-in_err-closure.result c.from_residual-in_err-closure.ensures.1 in
     let has : HasRoot c.args.self.now name = record { left = c.requires.left; root = c.args.root; is = is } in
     let fails : Fails c.in_err-closure.field-0.0 (closed_of c.args.self.now.pairs c.args.root) = rw (← c.self.view_is) c.in_err-closure.ensures in
     rw (p.1, p.2) (has, fails)
