@@ -12,7 +12,7 @@ use pef_loader::layout::{ABSOLUTE_EXPORT, REEXPORTED_IMPORT};
 use pef_loader::{ExportView, ImportView, Loader};
 
 /// Where an import leads at once.
-#[derive(Clone, Copy, Debug)]
+#[derive(Clone, Copy)]
 pub(crate) enum Hop {
     /// It has this target, or none.
     Ends(Option<Target>),

@@ -16,7 +16,7 @@ pub(crate) const WINDOW: usize = 1024;
 pub(crate) const MAX_CLASSES: usize = MAX_SECTIONS as usize + 1;
 
 /// Labels that are claimed for fixups.
-#[derive(Clone, Copy, Debug)]
+#[derive(Clone, Copy)]
 pub(crate) struct Claim<'a> {
     pub(crate) fixups: &'a [Fixup],
     pub(crate) registers: &'a [u32],
@@ -24,7 +24,7 @@ pub(crate) struct Claim<'a> {
 }
 
 /// A claim, and what was found behind the fixup under test.
-#[derive(Clone, Copy, Debug)]
+#[derive(Clone, Copy)]
 pub(crate) struct Behind<'a> {
     pub(crate) claim: Claim<'a>,
     /// For each index, which kept row is its own; at the index modulo 1,024.

@@ -11,7 +11,7 @@ use crate::sets::sets_hold;
 use pef_reloc::Fixup;
 
 /// A fixup under test: its index, and which kept row has its labels.
-#[derive(Clone, Copy, Debug)]
+#[derive(Clone, Copy)]
 pub(crate) struct Under {
     pub(crate) at: usize,
     pub(crate) fixup: Fixup,

@@ -27,7 +27,7 @@ impl Model for LabelRows {
 }
 
 /// Rows as they are kept.
-#[derive(Clone, Copy, Debug)]
+#[derive(Clone, Copy)]
 pub(crate) struct Kept<'a> {
     pub(crate) width: usize,
     pub(crate) ends: &'a [usize],

@@ -11,7 +11,7 @@ use pef_reloc::{Base, Fixup};
 const MAX_RUN: u32 = 512;
 
 /// A state at a fixup's offset: the fixup and its index, the classes of the registers, and the label.
-#[derive(Clone, Copy, Debug)]
+#[derive(Clone, Copy)]
 pub(crate) struct Tested {
     pub(crate) at: usize,
     pub(crate) fixup: Fixup,

@@ -8,7 +8,7 @@ use pef_lines::decimal_number;
 const MAX_FIXUPS: u32 = 65_536;
 
 /// What begins a certificate, or ends a text.
-#[derive(Clone, Copy, Debug, PartialEq, Eq)]
+#[derive(Clone, Copy)]
 pub enum Head {
     /// The certificate of a section begins.
     Section(u32),

@@ -4,7 +4,7 @@ use crate::CertFault;
 use pef_lines::{LINE_FEED, cut_at};
 
 /// A line of a text, without its line feed.
-#[derive(Clone, Copy, Debug)]
+#[derive(Clone, Copy)]
 pub struct Line<'a> {
     /// Its number, from 1.
     pub number: usize,
@@ -34,7 +34,7 @@ impl<'a> Line<'a> {
 }
 
 /// The lines that are left of a text.
-#[derive(Clone, Copy, Debug)]
+#[derive(Clone, Copy)]
 pub struct Lines<'a> {
     /// The number of the first of them.
     number: usize,

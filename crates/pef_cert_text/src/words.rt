@@ -5,7 +5,7 @@ ghost use Rattle.pef_cert_text.specs.Words.{behind, first_of, none_left, words_o
 use pef_lines::cut_at;
 
 /// The words that are left of a line.
-#[derive(Clone, Copy, Debug)]
+#[derive(Clone, Copy)]
 pub struct Words<'a> {
     /// What stands behind the last word that was taken, where there is more.
     rest: Option<&'a [u8]>,

@@ -11,7 +11,7 @@ use crate::additions::{WORD, behind_first, behind_import};
 use pef_reloc::{Base, Fixup, Instr};
 
 /// A program's way along fixups: the registers, and the fixups that are left to make.
-#[derive(Clone, Copy, Debug)]
+#[derive(Clone, Copy)]
 struct Walk<'a> {
     left: &'a [Fixup],
     position: u64,

@@ -74,7 +74,7 @@ pub fn print_header<W: Sink>(
 }
 
 /// The sections of a container, instantiated or not.
-#[derive(Clone, Copy, Debug)]
+#[derive(Clone, Copy)]
 pub struct Sections<'a> {
     pub container: Container<'a>,
 }
@@ -135,7 +135,7 @@ fn name_piece<'a>(name: Option<&'a [u8]>) -> Piece<'a>
 }
 
 /// The imported libraries of a loader section.
-#[derive(Clone, Copy, Debug)]
+#[derive(Clone, Copy)]
 pub struct Libraries<'a> {
     pub loader: Loader<'a>,
 }
@@ -223,7 +223,7 @@ fn print_import<'a, W: Sink>(
 }
 
 /// The exported symbols of a loader section.
-#[derive(Clone, Copy, Debug)]
+#[derive(Clone, Copy)]
 pub struct Exported<'a> {
     pub loader: Loader<'a>,
 }
@@ -262,7 +262,7 @@ impl<'a> Lines for Exported<'a> {
 }
 
 /// The relocation headers of a loader section, of which each program is readable.
-#[derive(Clone, Copy, Debug)]
+#[derive(Clone, Copy)]
 pub struct Relocations<'a> {
     pub loader: Loader<'a>,
     pub ghost readable: { programs_fault (loaded loader) ≡ None },

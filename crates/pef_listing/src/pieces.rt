@@ -5,7 +5,7 @@ use itoa::Buffer;
 use pef_ports::{Line, Page, Sink, StreamFault, print_name, push_hex, push_word, send};
 
 /// A piece of a line.
-#[derive(Clone, Copy, Debug)]
+#[derive(Clone, Copy)]
 pub enum Piece<'a> {
     /// A number in decimal.
     Number(u64),

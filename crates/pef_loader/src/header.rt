@@ -12,7 +12,7 @@ use pef_words::Cut;
 
 /// The loader header, field by field (PEFLoaderInfoHeader). Offsets count from the first byte of the
 /// loader section.
-#[derive(Clone, Copy, Debug, PartialEq, Eq)]
+#[derive(Clone, Copy, Debug)]
 pub(crate) struct LoaderHeader {
     /// The section of the main entry, or -1 for none.
     pub main_section: i32,

@@ -9,7 +9,7 @@ use crate::layout::{CLASS_COUNT, CLASS_SHIFT, IMPORT_SIZE, WEAK_IMPORT};
 use pef_words::Cut;
 
 /// An imported symbol, field by field (PEFImportedSymbol).
-#[derive(Clone, Copy, Debug, PartialEq, Eq)]
+#[derive(Clone, Copy)]
 pub(crate) struct ImportEntry {
     pub class: u8,
     pub weak: bool,

@@ -12,7 +12,7 @@ use crate::layout::{
 use pef_words::Cut;
 
 /// An imported library, field by field (PEFImportedLibrary).
-#[derive(Clone, Copy, Debug, PartialEq, Eq)]
+#[derive(Clone, Copy)]
 pub(crate) struct LibraryEntry {
     pub name_offset: u32,
     pub old_imp: u32,

@@ -11,7 +11,7 @@ use crate::layout::{
 use pef_words::Cut;
 
 /// A relocation header, field by field (PEFLoaderRelocationHeader).
-#[derive(Clone, Copy, Debug, PartialEq, Eq)]
+#[derive(Clone, Copy)]
 pub(crate) struct RelocEntry {
     pub section: u16,
     /// How many halfwords of instructions there are.

@@ -12,7 +12,7 @@ use pef_squares::{Line, Looks, MAX_CLASSES, Squares};
 use std::alloc::{AllocError, Global};
 
 /// Labels and least skips, by how many fixups are left.
-#[derive(Debug, Drop)]
+#[derive(Drop)]
 pub(crate) struct Tables {
     /// Equal neighbours are kept once.
     pub(crate) labels: Squares,

@@ -59,7 +59,7 @@ impl<'a> Reply for Loaded<'a> {
 }
 
 /// A routine that a fragment may have: libraries initialize themselves first and terminate last.
-#[derive(Clone, Copy, Debug)]
+#[derive(Clone, Copy)]
 enum Routine {
     Init,
     Term,

@@ -16,7 +16,7 @@ use crate::instr::Instr;
 use crate::words::{NEXT, add_pairs, add_row, add_word};
 
 /// The addresses that a program adds: of the fragment's sections, and of its imports' targets.
-#[derive(Clone, Copy, Debug)]
+#[derive(Clone, Copy)]
 pub(crate) struct Targets<'a> {
     sections: &'a [u32],
     imports: &'a [u32],
@@ -65,7 +65,7 @@ impl<'a> Targets<'a> {
 ///
 /// The position is in bytes. Neither number can wrap: a program executes at most `MAX_STEPS`
 /// instructions, each of which moves on by less than 2^39, its passes counted in.
-#[derive(Clone, Copy, Debug)]
+#[derive(Clone, Copy)]
 pub(crate) struct Machine {
     position: u64,
     import_index: u64,

@@ -24,7 +24,7 @@ const WINDOW: usize = MAX_BLOCKS as usize;
 /// Halfword h of the program stands at h % `WINDOW`. The instructions themselves aren't kept: where a
 /// repeat reaches them, they are decoded again, each once at most, since a reach with a repeat in it ends
 /// the reading.
-#[derive(Clone, Copy, Debug)]
+#[derive(Clone, Copy)]
 pub(crate) struct Reader {
     begins: [bool; WINDOW],
     steps: u32,

@@ -1,13 +1,18 @@
 -- Where reading lines stops.
-use Rattle.std.proofs.Common.{ℕ, List, ◌∷◌, refl}
+use Rattle.std.proofs.Common.{ℕ, List, [], ◌∷◌, Result, Ok, Err, refl}
 use Rattle.pef_script_text.specs.declared.fault.ScriptFault.{ScriptFault}
 use Rattle.pef_script_text.specs.declared.fault.ScriptFault.TheVariants as fault
 use Rattle.pef_script_text.specs.Grammar.{line_of, read_lines}
 use Rattle.pef_script_text.specs.Reads.{Fails}
 use Rattle.pef_script_text.specs.SoFar.{ScriptSoFar}
-use Rattle.pef_script_text.specs.Kept.Steps.{FailsAt}
+use Rattle.pef_script_text.specs.Kept.Steps.{FailsAt, NumberedSteps, ReadsLines}
 
 -- a line that fails ends the reading
 pub read_lines-fails : (failed : ScriptFault) (s : ScriptSoFar) (number : ℕ) (line : List ℕ) (lines : List (List ℕ)) → FailsAt failed number (line_of s line) → Fails failed (read_lines s number (line ∷ lines))
 read_lines-fails (fault.Refused what at) s number line lines fails = rw (fails.0, fails.1) refl
 read_lines-fails fault.OutOfMemory s number line lines fails = tt
+
+-- the last line
+pub last_line : (answer : Result (Unit {0}) ScriptFault) (s now : ScriptSoFar) (number : ℕ) (line : List ℕ) → NumberedSteps answer now number (line_of s line) → ReadsLines answer now (read_lines s number (line ∷ []))
+last_line (Ok done) s now number line is = rw is refl
+last_line (Err failed) s now number line fails = read_lines-fails failed s number line [] fails

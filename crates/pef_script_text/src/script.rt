@@ -1,5 +1,8 @@
+ghost use Rattle.pef_lines.specs.Lines.{lines_of};
 ghost use Rattle.pef_script.specs.Parts.{script_in};
-ghost use Rattle.pef_script_text.specs.Grammar.{script_of};
+ghost use Rattle.pef_script_text.specs.Grammar.{read_lines, script_of};
+ghost use Rattle.pef_script_text.specs.Kept.Reader.{so_far};
+ghost use Rattle.pef_script_text.specs.Kept.Steps.{ReadsLines};
 ghost use Rattle.pef_script_text.specs.Reads.{Reads};
 ghost use Rattle.pef_words.specs.Refusals.{result_map};
 
@@ -25,6 +28,14 @@ fn read_parts<'a>(alloc: Global, text: &'a [u8]) -> Result<Parts<'a>, ScriptFaul
     ensures { Reads (result_map script_in result) (script_of text.entry.now) }
 {
     let mut reader = Reader::new(alloc);
+    read_lines(&mut reader, text)?;
+    Ok(reader.into_parts())
+}
+
+/// Reads the lines of a script, numbered from 1.
+fn read_lines<'a>(reader: &mut Reader<'a>, text: &'a [u8]) -> Result<(), ScriptFault>
+    ensures { ReadsLines result (so_far reader.new) (read_lines (so_far reader.old) 1 (lines_of text.entry.now)) }
+{
     let mut rest = text;
     let mut number: usize = 1;
     'lines: while let Some((line, behind)) = cut_at(LINE_FEED, rest) {
@@ -32,6 +43,5 @@ fn read_parts<'a>(alloc: Global, text: &'a [u8]) -> Result<Parts<'a>, ScriptFaul
         rest = behind;
         number += 1;
     }
-    reader.read_numbered(rest, number)?;
-    Ok(reader.into_parts())
+    reader.read_numbered(rest, number)
 }

@@ -37,7 +37,7 @@ pub fn print_distances<F: Files, W: Sink>(
 }
 
 /// The certificates of a script's sections, as they are printed.
-#[derive(Debug, Drop)]
+#[derive(Drop)]
 struct Distances {
     text: Vec<u8>,
 }

@@ -26,7 +26,7 @@ pub enum Verdict {
 }
 
 /// What is said of the certificate of each section, in order.
-#[derive(Debug, Drop)]
+#[derive(Drop)]
 struct Verdicts {
     verdicts: Vec<Verdict>,
 }

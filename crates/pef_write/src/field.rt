@@ -5,7 +5,7 @@ use byteorder::{BigEndian, ByteOrder};
 use std::alloc::AllocError;
 
 /// A number as a container has it: big-endian, in one, two or four bytes.
-#[derive(Clone, Copy, Debug, PartialEq, Eq)]
+#[derive(Clone, Copy)]
 pub(crate) enum Field {
     Byte(u8),
     Half(u16),

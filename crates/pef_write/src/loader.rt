@@ -21,7 +21,7 @@ use std::alloc::{AllocError, Global};
 const EXPORT_TABLE_ALIGNMENT: usize = 4;
 
 /// What stands behind the loader header.
-#[derive(Clone, Copy, Debug)]
+#[derive(Clone, Copy)]
 struct Pieces<'a> {
     /// The libraries, the imports and the relocation headers.
     entries: &'a [u8],
@@ -84,7 +84,7 @@ fn join(alloc: Global, script: &Script<'_>, pieces: Pieces<'_>) -> Result<Vec<u8
 }
 
 /// Where the pieces of a loader section begin, counted from its first byte.
-#[derive(Clone, Copy, Debug)]
+#[derive(Clone, Copy)]
 struct Places {
     programs: usize,
     strings: usize,

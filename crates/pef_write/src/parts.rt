@@ -6,7 +6,7 @@ use pef_script::Script;
 use std::alloc::{AllocError, Global};
 
 /// An instantiated section without a name.
-#[derive(Clone, Copy, Debug)]
+#[derive(Clone, Copy)]
 pub(crate) struct Part<'a> {
     /// The section's kind in the container.
     pub kind: u8,

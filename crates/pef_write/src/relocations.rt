@@ -9,7 +9,7 @@ use pef_loader::layout::HALFWORD_SIZE;
 use std::alloc::{AllocError, Global};
 
 /// The relocation program of a section.
-#[derive(Clone, Copy, Debug)]
+#[derive(Clone, Copy)]
 pub(crate) struct SectionProgram<'a> {
     /// The section's number.
     pub section: u16,

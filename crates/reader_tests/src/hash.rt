@@ -313,11 +313,13 @@ fn test_greatest_slots(rt: &impl Abort, slots: &[u32]) {
 }
 
 fn test_greatest_keys(rt: &impl Abort, keys: &[u32], order: &[u32]) {
-    assert_eq!(rt; keys.len(), 16_383);
-    assert_eq!(rt; order.len(), 16_383);
+    assert_eq!(rt; (keys.len(), order.len()), (16_383, 16_383));
     for (i, key, name) in GREATEST_KEYS {
-        assert_eq!(rt; keys.get(*i).copied(), Some(*key), "key {i}");
-        assert_eq!(rt; order.get(*i).copied(), Some(*name), "key {i}");
+        assert_eq!(rt;
+            (keys.get(*i), order.get(*i)),
+            (Some(key), Some(name)),
+            "key {i}"
+        );
     }
 }
 

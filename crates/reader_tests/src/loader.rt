@@ -357,8 +357,8 @@ fn test_owned(rt: &impl Abort, alloc: Global, loader: Loader<'_>) -> Result<(), 
     let mut reader = ImportReader::new(loader);
     let table = ImportTable::read(alloc, loader)?;
     for (j, library) in OWNED {
-        assert_eq!(rt; library_of(reader.import(*j)), *library, "import {j}");
-        assert_eq!(rt; library_of(table.get(*j)), *library, "import {j}");
+        let found = (library_of(reader.import(*j)), library_of(table.get(*j)));
+        assert_eq!(rt; found, (*library, *library), "import {j}");
     }
     Ok(())
 }

@@ -179,12 +179,16 @@ const RAW_BYTES: &[(&[(usize, u32)], &[u8])] = &[
     (&[(32, 0x0004_0002), (148, 0x0400_0000)], RAW),
 ];
 
-/// Tests the raw bytes of section 0, and those of the loader section.
+/// The raw bytes of sections 0, 2 and 4.
+fn raw_parts<'a>(container: &Container<'a>) -> [Option<&'a [u8]>; 3] {
+    [container.raw(0), container.raw(2), container.raw(4)]
+}
+
+/// Tests the raw bytes of section 0, and those of the loader section, which is section 2.
 fn test_raw(rt: &impl Abort, row: usize, container: &Container<'_>, raw: &[u8], loader: &[u8]) {
-    assert_eq!(rt; container.raw(0), Some(raw), "row {row}");
+    let wanted = [Some(raw), Some(loader), None];
+    assert_eq!(rt; raw_parts(container), wanted, "row {row}");
     assert_eq!(rt; container.loader(), loader, "row {row}");
-    assert_eq!(rt; container.raw(2), Some(loader), "row {row}");
-    assert_eq!(rt; container.raw(4), None, "row {row}");
 }
 
 #[test]
@@ -217,8 +221,8 @@ fn test_section_name(
     want: Option<&[u8]>,
 ) -> Result<(), Fail> {
     let container = Container::read(bytes)?;
-    assert_eq!(rt; container.section_name(0), want, "at {offset}");
-    assert_eq!(rt; container.section_name(3), None);
+    let names = (container.section_name(0), container.section_name(3));
+    assert_eq!(rt; names, (want, None), "at {offset}");
     Ok(())
 }
 

@@ -86,8 +86,7 @@ const PARTS: &[(&[u8], usize, usize, Option<&[u8]>)] = &[
 
 /// Tests that a part ends where it ends, and not where its source does.
 fn test_end(rt: &impl Abort, part: Cut<'_>, len: usize) {
-    assert_eq!(rt; part.len(), len);
-    assert_eq!(rt; part.u8_at(len), None, "{len} bytes");
+    assert_eq!(rt; (part.len(), part.u8_at(len)), (len, None));
 }
 
 fn test_part(rt: &impl Abort, cut: Cut<'_>, from: usize, len: usize, want: Option<&[u8]>) {
@@ -100,8 +99,7 @@ fn test_part(rt: &impl Abort, cut: Cut<'_>, from: usize, len: usize, want: Optio
 }
 
 fn test_bytes(rt: &impl Abort, cut: Cut<'_>, bytes: &[u8]) {
-    assert_eq!(rt; cut.bytes(), bytes);
-    assert_eq!(rt; cut.is_empty(), bytes.is_empty());
+    assert_eq!(rt; (cut.bytes(), cut.is_empty()), (bytes, bytes.is_empty()));
 }
 
 #[test]
