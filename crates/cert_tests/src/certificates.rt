@@ -10,31 +10,44 @@ use test_data::labels::{
 };
 use test_data::lists::{Listed, S0, S1, S2, fixups, spelled};
 
+/// Programs, by their bytes, each with the labels it is checked against.
+type Programs = &'static [(Labelled, &'static [u8])];
+
+/// Whether a certificate is a yes for fixups, which fit.
+fn is_yes(rt: &impl Abort, fixups: &[Fixup], certificate: &Certificate) -> bool {
+    assert!(rt; fixups_fit(fixups));
+    check(fixups, certificate)
+}
+
 /// Whether a certificate with these labels and this program is a yes.
 fn holds(
     rt: &impl Abort,
     alloc: Global,
     labelled: Labelled,
-    program: Vec<Instr>,
+    program: &[Instr],
 ) -> Result<bool, Fail> {
     let (listed, registers, labels) = labelled;
-    let fixups = fixups(alloc, listed)?;
     let certificate = certificate(rt, alloc, program, registers, labels)?;
-    assert!(rt; fixups_fit(&fixups));
-    Ok(check(&fixups, &certificate))
+    let fixups = fixups(alloc, listed)?;
+    Ok(is_yes(rt, &fixups, &certificate))
 }
 
-/// Checks programs, by their bytes, against labels.
-fn check_all(
+/// Whether the program that bytes spell is a yes.
+fn spells_yes(
     rt: &impl Abort,
     alloc: Global,
-    rows: &[(Labelled, &[u8])],
-    want: bool,
-) -> Result<(), Fail> {
+    labelled: Labelled,
+    bytes: &[u8],
+) -> Result<bool, Fail> {
+    let program = spelled(alloc, bytes)?;
+    holds(rt, alloc, labelled, &program)
+}
+
+/// Checks programs against labels.
+fn check_all(rt: &impl Abort, alloc: Global, rows: Programs, want: bool) -> Result<(), Fail> {
     for row in rows {
         let (labelled, bytes) = *row;
-        let program = spelled(alloc, bytes)?;
-        assert_eq!(rt; holds(rt, alloc, labelled, program)?, want, "{bytes:?}");
+        assert_eq!(rt; spells_yes(rt, alloc, labelled, bytes)?, want, "{bytes:?}");
     }
     Ok(())
 }
@@ -73,6 +86,8 @@ const IMPORTS_LARGE: Labelled = (
     &[4, 3, 2, 0],
 );
 
+const ONE: Listed = &[(0, S1)];
+
 const THREE: Listed = &[(0, S2), (4, S2), (8, S2)];
 
 const WORDS: Labelled = (
@@ -81,260 +96,301 @@ const WORDS: Labelled = (
     &[1, 1, 1, 2, 1, 1, 1, 2, 1, 1, 1, 1, 0, 0, 0, 0],
 );
 
-/// One fixup, which one halfword makes where the position is its own.
-const fn alone(listed: Listed, registers: &'static [u32]) -> Labelled {
-    (listed, registers, &[1, 1, 1, 1, 0, 0, 0, 0])
-}
+/// The labels of one fixup, which one halfword makes where the position is its own.
+const ALONE: &[u32] = &[1, 1, 1, 1, 0, 0, 0, 0];
+
+/// Labels that are lower than the least lengths.
+const LOW: Labelled = (&[(0, S1)], &[1], &[0, 0, 1, 1, 0, 0, 0, 0]);
+
+const LOWER: Labelled = (
+    THREE,
+    &[2],
+    &[1, 1, 1, 2, 0, 0, 0, 1, 1, 1, 1, 1, 0, 0, 0, 0],
+);
+
+const LOW_FAR: Labelled = (&[(5116, S1)], &[1], &[0, 0, 1, 1, 0, 0, 0, 0]);
+
+/// Programs that are as long as their labels say.
+const LEAST_PROGRAMS: Programs = &[
+    (NOTHING, &[]),
+    (TRANSITION, &[0x46, 0x01]),
+    // A skip that could add the first vector's two words would be shorter.
+    (TRANSITION_LATER, &[0x80, 0x03, 0x46, 0x01]),
+    (VTABLE, &[0x48, 0x00, 0x3F, 0xC1]),
+    (VTABLE_SHORT, &[0x42, 0x00, 0x84, 0x03, 0x42, 0x00]),
+    (VTABLE_FAR, &[0x48, 0x00, 0x8F, 0xFF, 0x3F, 0xC1]),
+    (SPACED, &[0x64, 0x02, 0x48, 0x02]),
+    (SKIPPED, &[0x64, 0x02, 0x00, 0x43]),
+    (SHORTER, &[0x48, 0x00, 0x42, 0x00, 0x40, 0x00]),
+    (PAIR_THEN_FAR, &[0x44, 0x00, 0x3F, 0xC1]),
+    (PAIR_THEN_NEAR, &[0x44, 0x00, 0x42, 0x00]),
+    (PAIR_THEN_NEAR, &[0x40, 0x00, 0x48, 0x01]),
+    (CROSSED, &[0x42, 0x00, 0x46, 0x00, 0x40, 0x00]),
+    (IMPORTS_TWICE, &[0x4A, 0x01, 0x60, 0x00, 0x4A, 0x00]),
+    (IMPORTS_APART, &[0x60, 0x01, 0x40, 0x00, 0x4A, 0x00]),
+    (
+        IMPORTS_LARGE,
+        &[0x61, 0xFF, 0x4A, 0x00, 0xA4, 0x00, 0x02, 0x58],
+    ),
+    (WORDS, &[0x64, 0x02, 0x42, 0x02]),
+    (LOW, &[0x66, 0x01]),
+    (LOW, &[0x42, 0x00]),
+    (LOWER, &[0x64, 0x02, 0x42, 0x02]),
+    (LOW_FAR, &[0x8F, 0xFF, 0x3F, 0xC1]),
+    ((&[(1020, S1)], &[1], ALONE), &[0x3F, 0xC1]),
+    ((&[(1020, S2)], &[2], ALONE), &[0x83, 0xFB, 0x66, 0x02]),
+    ((&[(1024, S1)], &[1], ALONE), &[0x83, 0xFF, 0x42, 0x00]),
+    ((&[(5, S1)], &[1], ALONE), &[0x80, 0x04, 0x42, 0x00]),
+    ((&[(4096, S0)], &[0], ALONE), &[0x8F, 0xFF, 0x40, 0x00]),
+    (
+        (&[(4097, S0)], &[0], ALONE),
+        &[0xA0, 0x00, 0x10, 0x01, 0x40, 0x00],
+    ),
+    ((&[(4097, S1)], &[1], ALONE), &[0x8C, 0x04, 0x3F, 0xC1]),
+    (
+        (&[(5116, S0)], &[0], ALONE),
+        &[0xA0, 0x00, 0x13, 0xFC, 0x40, 0x00],
+    ),
+    (
+        (&[(5120, S1)], &[1], ALONE),
+        &[0xA0, 0x00, 0x14, 0x00, 0x42, 0x00],
+    ),
+    ((&[(0, S0)], &[0], ALONE), &[0x40, 0x00]),
+    ((&[(0, S0)], &[0], ALONE), &[0x66, 0x00]),
+    ((&[(0, S1)], &[1], ALONE), &[0x42, 0x00]),
+    ((&[(0, S2)], &[2], ALONE), &[0x66, 0x02]),
+    (
+        (&[(0, Base::Import(65535))], &[], &[2, 0]),
+        &[0xA4, 0x00, 0xFF, 0xFF],
+    ),
+];
 
 #[test]
 fn least_programs(rt: HostRuntime) -> Result<(), Fail> {
-    let low: Labelled = (&[(0, S1)], &[1], &[0, 0, 1, 1, 0, 0, 0, 0]);
-    let lower: Labelled = (
-        THREE,
-        &[2],
-        &[1, 1, 1, 2, 0, 0, 0, 1, 1, 1, 1, 1, 0, 0, 0, 0],
-    );
-    let far: Labelled = (&[(5116, S1)], &[1], &[0, 0, 1, 1, 0, 0, 0, 0]);
-    let rows: [(Labelled, &[u8]); 35] = [
-        (NOTHING, &[]),
-        (TRANSITION, &[0x46, 0x01]),
-        // A skip that could add the first vector's two words would be shorter.
-        (TRANSITION_LATER, &[0x80, 0x03, 0x46, 0x01]),
-        (VTABLE, &[0x48, 0x00, 0x3F, 0xC1]),
-        (VTABLE_SHORT, &[0x42, 0x00, 0x84, 0x03, 0x42, 0x00]),
-        (VTABLE_FAR, &[0x48, 0x00, 0x8F, 0xFF, 0x3F, 0xC1]),
-        (SPACED, &[0x64, 0x02, 0x48, 0x02]),
-        (SKIPPED, &[0x64, 0x02, 0x00, 0x43]),
-        (SHORTER, &[0x48, 0x00, 0x42, 0x00, 0x40, 0x00]),
-        (PAIR_THEN_FAR, &[0x44, 0x00, 0x3F, 0xC1]),
-        (PAIR_THEN_NEAR, &[0x44, 0x00, 0x42, 0x00]),
-        (PAIR_THEN_NEAR, &[0x40, 0x00, 0x48, 0x01]),
-        (CROSSED, &[0x42, 0x00, 0x46, 0x00, 0x40, 0x00]),
-        (IMPORTS_TWICE, &[0x4A, 0x01, 0x60, 0x00, 0x4A, 0x00]),
-        (IMPORTS_APART, &[0x60, 0x01, 0x40, 0x00, 0x4A, 0x00]),
-        (
-            IMPORTS_LARGE,
-            &[0x61, 0xFF, 0x4A, 0x00, 0xA4, 0x00, 0x02, 0x58],
-        ),
-        (WORDS, &[0x64, 0x02, 0x42, 0x02]),
-        (low, &[0x66, 0x01]),
-        (low, &[0x42, 0x00]),
-        (lower, &[0x64, 0x02, 0x42, 0x02]),
-        (far, &[0x8F, 0xFF, 0x3F, 0xC1]),
-        (alone(&[(1020, S1)], &[1]), &[0x3F, 0xC1]),
-        (alone(&[(1020, S2)], &[2]), &[0x83, 0xFB, 0x66, 0x02]),
-        (alone(&[(1024, S1)], &[1]), &[0x83, 0xFF, 0x42, 0x00]),
-        (alone(&[(5, S1)], &[1]), &[0x80, 0x04, 0x42, 0x00]),
-        (alone(&[(4096, S0)], &[0]), &[0x8F, 0xFF, 0x40, 0x00]),
-        (
-            alone(&[(4097, S0)], &[0]),
-            &[0xA0, 0x00, 0x10, 0x01, 0x40, 0x00],
-        ),
-        (alone(&[(4097, S1)], &[1]), &[0x8C, 0x04, 0x3F, 0xC1]),
-        (
-            alone(&[(5116, S0)], &[0]),
-            &[0xA0, 0x00, 0x13, 0xFC, 0x40, 0x00],
-        ),
-        (
-            alone(&[(5120, S1)], &[1]),
-            &[0xA0, 0x00, 0x14, 0x00, 0x42, 0x00],
-        ),
-        (alone(&[(0, S0)], &[0]), &[0x40, 0x00]),
-        (alone(&[(0, S0)], &[0]), &[0x66, 0x00]),
-        (alone(&[(0, S1)], &[1]), &[0x42, 0x00]),
-        (alone(&[(0, S2)], &[2]), &[0x66, 0x02]),
-        (
-            (&[(0, Base::Import(65535))], &[], &[2, 0]),
-            &[0xA4, 0x00, 0xFF, 0xFF],
-        ),
-    ];
-    check_all(&rt, rt.alloc(), &rows, true)
+    check_all(&rt, rt.alloc(), LEAST_PROGRAMS, true)
 }
 
 /// Programs that make the fixups, but are longer than feasible labels say.
+const LONGER_PROGRAMS: Programs = &[
+    ((&[(0, S1)], &[1], ALONE), &[0x00, 0x00, 0x42, 0x00]),
+    // The set that a skip needs counts once.
+    (SKIPPED, &[0x64, 0x02, 0x80, 0x03, 0x42, 0x02]),
+    (TRANSITION_LATER, &[0xA0, 0x00, 0x00, 0x04, 0x46, 0x01]),
+    ((&[(0, S1)], &[1], ALONE), &[0x62, 0x01, 0x40, 0x00]),
+    ((&[(1020, S1)], &[1], ALONE), &[0x83, 0xFB, 0x42, 0x00]),
+    (
+        (&[(4096, S0)], &[0], ALONE),
+        &[0xA0, 0x00, 0x10, 0x00, 0x40, 0x00],
+    ),
+    (
+        (&[(5116, S1)], &[1], ALONE),
+        &[0xA0, 0x00, 0x13, 0xFC, 0x42, 0x00],
+    ),
+    (VTABLE, &[0x42, 0x00, 0x83, 0xFF, 0x42, 0x00]),
+    (PAIR_THEN_FAR, &[0x46, 0x00, 0x83, 0xFF, 0x42, 0x00]),
+    (WORDS, &[0x64, 0x03, 0x64, 0x02, 0x42, 0x02]),
+    (WORDS, &[0x66, 0x02, 0x66, 0x02, 0x66, 0x02]),
+    (TRANSITION, &[0x40, 0x00, 0x42, 0x00, 0x46, 0x00]),
+];
+
 #[test]
 fn longer_programs(rt: HostRuntime) -> Result<(), Fail> {
-    let rows: [(Labelled, &[u8]); 12] = [
-        (alone(&[(0, S1)], &[1]), &[0x00, 0x00, 0x42, 0x00]),
-        // The set that a skip needs counts once.
-        (SKIPPED, &[0x64, 0x02, 0x80, 0x03, 0x42, 0x02]),
-        (TRANSITION_LATER, &[0xA0, 0x00, 0x00, 0x04, 0x46, 0x01]),
-        (alone(&[(0, S1)], &[1]), &[0x62, 0x01, 0x40, 0x00]),
-        (alone(&[(1020, S1)], &[1]), &[0x83, 0xFB, 0x42, 0x00]),
-        (
-            alone(&[(4096, S0)], &[0]),
-            &[0xA0, 0x00, 0x10, 0x00, 0x40, 0x00],
-        ),
-        (
-            alone(&[(5116, S1)], &[1]),
-            &[0xA0, 0x00, 0x13, 0xFC, 0x42, 0x00],
-        ),
-        (VTABLE, &[0x42, 0x00, 0x83, 0xFF, 0x42, 0x00]),
-        (PAIR_THEN_FAR, &[0x46, 0x00, 0x83, 0xFF, 0x42, 0x00]),
-        (WORDS, &[0x64, 0x03, 0x64, 0x02, 0x42, 0x02]),
-        (WORDS, &[0x66, 0x02, 0x66, 0x02, 0x66, 0x02]),
-        (TRANSITION, &[0x40, 0x00, 0x42, 0x00, 0x46, 0x00]),
-    ];
-    check_all(&rt, rt.alloc(), &rows, false)
+    check_all(&rt, rt.alloc(), LONGER_PROGRAMS, false)
 }
+
+const NOTHING_HIGH: Labelled = (&[], &[], &[1]);
+
+const LAST_HIGH: Labelled = (ONE, &[1], &[1, 1, 1, 1, 0, 1, 0, 0]);
+
+const HUGE: Labelled = (ONE, &[1], &[MOST; 8]);
+
+/// 2 more than the first labels is 1 in 32 bits.
+const WRAPPED: Labelled = (&[(5, S1)], &[1], &[MOST, MOST, MOST, MOST, 0, 0, 0, 0]);
+
+const SET_FIRST: Labelled = (ONE, &[1], &[1, 1, 2, 2, 0, 0, 0, 0]);
+
+const VTABLE_HIGH: Labelled = (
+    &[(0, S1), (1028, S1)],
+    &[1],
+    &[3, 3, 3, 3, 1, 1, 1, 1, 0, 0, 0, 0],
+);
+
+const PAIR_HIGH: Labelled = (
+    &[(0, S0), (4, S1), (1032, S1)],
+    &[0, 1],
+    &[
+        3, 3, 3, 4, 3, 4, 4, 3, 4, 3, 2, 3, 3, 2, 3, 3, 2, 3, 1, 1, 1, 1, 1, 1, 1, 1, 1, 0, 0, 0,
+        0, 0, 0, 0, 0, 0,
+    ],
+);
+
+const OTHER_HIGH: Labelled = (
+    THREE,
+    &[2],
+    &[1, 1, 1, 3, 1, 1, 1, 2, 1, 1, 1, 1, 0, 0, 0, 0],
+);
+
+const SETS_HIGH: Labelled = (
+    THREE,
+    &[2],
+    &[0, 0, 0, 2, 1, 1, 1, 2, 1, 1, 1, 1, 0, 0, 0, 0],
+);
+
+const SECOND_HIGH: Labelled = (
+    THREE,
+    &[2],
+    &[1, 1, 1, 2, 2, 1, 1, 2, 1, 1, 1, 1, 0, 0, 0, 0],
+);
+
+const IMPORTS_HIGH: Labelled = (
+    &[(0, Base::Import(0)), (4, Base::Import(1))],
+    &[],
+    &[2, 1, 0],
+);
+
+const IMPORT_HIGH: Labelled = (&[(0, Base::Import(0))], &[], &[2, 0]);
+
+const LARGE_HIGH: Labelled = (
+    &[
+        (0, Base::Import(511)),
+        (4, Base::Import(512)),
+        (8, Base::Import(600)),
+    ],
+    &[],
+    &[5, 3, 2, 0],
+);
+
+/// The second word lies 8 bytes behind the first one's end, so a skip reaches it, though neither offset is
+/// a multiple of 4.
+const UNALIGNED_HIGH: Labelled = (
+    &[(1, S1), (13, S1)],
+    &[1],
+    &[3, 3, 3, 3, 1, 1, 1, 1, 0, 0, 0, 0],
+);
+
+const SHORTER_HIGH: Labelled = (
+    &[(0, S1), (8, S1), (12, S0)],
+    &[0, 1],
+    &[
+        4, 4, 4, 4, 4, 4, 4, 4, 4, 2, 2, 2, 1, 2, 2, 2, 2, 2, 1, 1, 1, 1, 1, 1, 1, 1, 1, 0, 0, 0,
+        0, 0, 0, 0, 0, 0,
+    ],
+);
 
 /// Labels that are not feasible, with programs that are as long as they say, or are least.
+const LABELS_TOO_HIGH: Programs = &[
+    (NOTHING_HIGH, &[]),
+    (LAST_HIGH, &[0x42, 0x00]),
+    (HUGE, &[0x42, 0x00]),
+    (WRAPPED, &[0x80, 0x04, 0x42, 0x00]),
+    (SET_FIRST, &[0x62, 0x01, 0x40, 0x00]),
+    (VTABLE_HIGH, &[0x42, 0x00, 0x83, 0xFF, 0x42, 0x00]),
+    (PAIR_HIGH, &[0x46, 0x00, 0x83, 0xFF, 0x42, 0x00]),
+    (OTHER_HIGH, &[0x66, 0x02, 0x66, 0x02, 0x66, 0x02]),
+    (SETS_HIGH, &[0x64, 0x02, 0x42, 0x02]),
+    (SECOND_HIGH, &[0x64, 0x02, 0x42, 0x02]),
+    (IMPORTS_HIGH, &[0x60, 0x00, 0x60, 0x01]),
+    (IMPORT_HIGH, &[0x80, 0x00, 0x60, 0x00]),
+    (
+        LARGE_HIGH,
+        &[0xA4, 0x00, 0x01, 0xFF, 0x4A, 0x00, 0xA4, 0x00, 0x02, 0x58],
+    ),
+    (
+        UNALIGNED_HIGH,
+        &[0x80, 0x00, 0x42, 0x00, 0x80, 0x07, 0x42, 0x00],
+    ),
+    (
+        SHORTER_HIGH,
+        &[0x66, 0x01, 0x80, 0x03, 0x42, 0x00, 0x40, 0x00],
+    ),
+    (
+        (
+            VECTORS,
+            &[0, 1],
+            &[
+                2, 0, 2, 3, 2, 3, 3, 2, 3, 3, 2, 3, 2, 3, 3, 3, 3, 3, 2, 1, 2, 2, 2, 2, 2, 2, 2, 1,
+                1, 1, 1, 1, 1, 1, 1, 1, 0, 0, 0, 0, 0, 0, 0, 0, 0,
+            ],
+        ),
+        &[0x46, 0x01],
+    ),
+    (
+        (
+            VECTORS,
+            &[0, 1],
+            &[
+                9, 1, 2, 3, 2, 3, 3, 2, 3, 3, 2, 3, 2, 3, 3, 3, 3, 3, 2, 1, 2, 2, 2, 2, 2, 2, 2, 1,
+                1, 1, 1, 1, 1, 1, 1, 1, 0, 0, 0, 0, 0, 0, 0, 0, 0,
+            ],
+        ),
+        &[0x46, 0x01],
+    ),
+];
+
 #[test]
 fn labels_too_high(rt: HostRuntime) -> Result<(), Fail> {
-    let one: Listed = &[(0, S1)];
-    let nothing: Labelled = (&[], &[], &[1]);
-    let last: Labelled = (one, &[1], &[1, 1, 1, 1, 0, 1, 0, 0]);
-    let huge: Labelled = (one, &[1], &[MOST; 8]);
-    // 2 more than the first labels is 1 in 32 bits.
-    let wrapped: Labelled = (&[(5, S1)], &[1], &[MOST, MOST, MOST, MOST, 0, 0, 0, 0]);
-    let set_first: Labelled = (one, &[1], &[1, 1, 2, 2, 0, 0, 0, 0]);
-    let vtable: Labelled = (
-        &[(0, S1), (1028, S1)],
-        &[1],
-        &[3, 3, 3, 3, 1, 1, 1, 1, 0, 0, 0, 0],
-    );
-    let pair: Labelled = (
-        &[(0, S0), (4, S1), (1032, S1)],
-        &[0, 1],
-        &[
-            3, 3, 3, 4, 3, 4, 4, 3, 4, 3, 2, 3, 3, 2, 3, 3, 2, 3, 1, 1, 1, 1, 1, 1, 1, 1, 1, 0, 0,
-            0, 0, 0, 0, 0, 0, 0,
-        ],
-    );
-    let other: Labelled = (
-        THREE,
-        &[2],
-        &[1, 1, 1, 3, 1, 1, 1, 2, 1, 1, 1, 1, 0, 0, 0, 0],
-    );
-    let sets: Labelled = (
-        THREE,
-        &[2],
-        &[0, 0, 0, 2, 1, 1, 1, 2, 1, 1, 1, 1, 0, 0, 0, 0],
-    );
-    let second: Labelled = (
-        THREE,
-        &[2],
-        &[1, 1, 1, 2, 2, 1, 1, 2, 1, 1, 1, 1, 0, 0, 0, 0],
-    );
-    let imports: Labelled = (
-        &[(0, Base::Import(0)), (4, Base::Import(1))],
-        &[],
-        &[2, 1, 0],
-    );
-    let import: Labelled = (&[(0, Base::Import(0))], &[], &[2, 0]);
-    let large: Labelled = (
-        &[
-            (0, Base::Import(511)),
-            (4, Base::Import(512)),
-            (8, Base::Import(600)),
-        ],
-        &[],
-        &[5, 3, 2, 0],
-    );
-    // The second word lies 8 bytes behind the first one's end, so a skip reaches it, though neither offset is
-    // a multiple of 4.
-    let unaligned: Labelled = (
-        &[(1, S1), (13, S1)],
-        &[1],
-        &[3, 3, 3, 3, 1, 1, 1, 1, 0, 0, 0, 0],
-    );
-    let shorter: Labelled = (
-        &[(0, S1), (8, S1), (12, S0)],
-        &[0, 1],
-        &[
-            4, 4, 4, 4, 4, 4, 4, 4, 4, 2, 2, 2, 1, 2, 2, 2, 2, 2, 1, 1, 1, 1, 1, 1, 1, 1, 1, 0, 0,
-            0, 0, 0, 0, 0, 0, 0,
-        ],
-    );
-    let rows: [(Labelled, &[u8]); 17] = [
-        (nothing, &[]),
-        (last, &[0x42, 0x00]),
-        (huge, &[0x42, 0x00]),
-        (wrapped, &[0x80, 0x04, 0x42, 0x00]),
-        (set_first, &[0x62, 0x01, 0x40, 0x00]),
-        (vtable, &[0x42, 0x00, 0x83, 0xFF, 0x42, 0x00]),
-        (pair, &[0x46, 0x00, 0x83, 0xFF, 0x42, 0x00]),
-        (other, &[0x66, 0x02, 0x66, 0x02, 0x66, 0x02]),
-        (sets, &[0x64, 0x02, 0x42, 0x02]),
-        (second, &[0x64, 0x02, 0x42, 0x02]),
-        (imports, &[0x60, 0x00, 0x60, 0x01]),
-        (import, &[0x80, 0x00, 0x60, 0x00]),
-        (
-            large,
-            &[0xA4, 0x00, 0x01, 0xFF, 0x4A, 0x00, 0xA4, 0x00, 0x02, 0x58],
-        ),
-        (unaligned, &[0x80, 0x00, 0x42, 0x00, 0x80, 0x07, 0x42, 0x00]),
-        (shorter, &[0x66, 0x01, 0x80, 0x03, 0x42, 0x00, 0x40, 0x00]),
-        (
-            (
-                VECTORS,
-                &[0, 1],
-                &[
-                    2, 0, 2, 3, 2, 3, 3, 2, 3, 3, 2, 3, 2, 3, 3, 3, 3, 3, 2, 1, 2, 2, 2, 2, 2, 2,
-                    2, 1, 1, 1, 1, 1, 1, 1, 1, 1, 0, 0, 0, 0, 0, 0, 0, 0, 0,
-                ],
-            ),
-            &[0x46, 0x01],
-        ),
-        (
-            (
-                VECTORS,
-                &[0, 1],
-                &[
-                    9, 1, 2, 3, 2, 3, 3, 2, 3, 3, 2, 3, 2, 3, 3, 3, 3, 3, 2, 1, 2, 2, 2, 2, 2, 2,
-                    2, 1, 1, 1, 1, 1, 1, 1, 1, 1, 0, 0, 0, 0, 0, 0, 0, 0, 0,
-                ],
-            ),
-            &[0x46, 0x01],
-        ),
-    ];
-    check_all(&rt, rt.alloc(), &rows, false)
+    check_all(&rt, rt.alloc(), LABELS_TOO_HIGH, false)
 }
 
+const ONES: &[u32] = &[1, 1, 1, 1, 1, 1, 1, 1, 1, 0, 0, 0, 0, 0, 0, 0, 0, 0];
+
 /// Programs that don't make the fixups, and registers and rows of another shape.
+const OTHER_PROGRAMS_AND_SHAPES: Programs = &[
+    (NOTHING, &[0x42, 0x00]),
+    (TRANSITION, &[]),
+    (TRANSITION, &[0x46, 0x00]),
+    (TRANSITION, &[0x46, 0x02]),
+    (TRANSITION, &[0x44, 0x01]),
+    (WORDS, &[0x64, 0x02, 0x42, 0x03]),
+    (WORDS, &[0x64, 0x02, 0x90, 0x00]),
+    (SKIPPED, &[0x64, 0x02, 0x00, 0x03]),
+    ((ONE, &[1], ALONE), &[0x00, 0x41]),
+    ((ONE, &[], &[1, 0]), &[0x42, 0x00]),
+    ((ONE, &[0, 1], ONES), &[0x42, 0x00]),
+    ((ONE, &[1, 1], ONES), &[0x42, 0x00]),
+    ((&[(0, S0), (4, S1)], &[1, 0], &[1; 27]), &[0x46, 0x00]),
+    ((ONE, &[1], &[1, 1, 1, 1]), &[0x42, 0x00]),
+    (
+        (ONE, &[1], &[1, 1, 1, 1, 0, 0, 0, 0, 0, 0, 0, 0]),
+        &[0x42, 0x00],
+    ),
+];
+
 #[test]
 fn other_programs_and_shapes(rt: HostRuntime) -> Result<(), Fail> {
-    let one: Listed = &[(0, S1)];
-    let ones: &[u32] = &[1, 1, 1, 1, 1, 1, 1, 1, 1, 0, 0, 0, 0, 0, 0, 0, 0, 0];
-    let rows: [(Labelled, &[u8]); 15] = [
-        (NOTHING, &[0x42, 0x00]),
-        (TRANSITION, &[]),
-        (TRANSITION, &[0x46, 0x00]),
-        (TRANSITION, &[0x46, 0x02]),
-        (TRANSITION, &[0x44, 0x01]),
-        (WORDS, &[0x64, 0x02, 0x42, 0x03]),
-        (WORDS, &[0x64, 0x02, 0x90, 0x00]),
-        (SKIPPED, &[0x64, 0x02, 0x00, 0x03]),
-        (alone(one, &[1]), &[0x00, 0x41]),
-        ((one, &[], &[1, 0]), &[0x42, 0x00]),
-        ((one, &[0, 1], ones), &[0x42, 0x00]),
-        ((one, &[1, 1], ones), &[0x42, 0x00]),
-        ((&[(0, S0), (4, S1)], &[1, 0], &[1; 27]), &[0x46, 0x00]),
-        ((one, &[1], &[1, 1, 1, 1]), &[0x42, 0x00]),
-        (
-            (one, &[1], &[1, 1, 1, 1, 0, 0, 0, 0, 0, 0, 0, 0]),
-            &[0x42, 0x00],
-        ),
-    ];
-    check_all(&rt, rt.alloc(), &rows, false)
+    check_all(&rt, rt.alloc(), OTHER_PROGRAMS_AND_SHAPES, false)
 }
+
+const TWO: Labelled = (
+    &[(0, S2), (4, S2)],
+    &[2],
+    &[1, 1, 1, 2, 1, 1, 1, 1, 0, 0, 0, 0],
+);
+
+/// Instructions that bytes can't spell, or that need others before them, each with labels.
+const DO_NOT_FIT: &[(Labelled, &[Instr])] = &[
+    (
+        (&[(0, S1)], &[1], ALONE),
+        &[Instr::IncrPosition(0), Instr::BySectD(1)],
+    ),
+    (
+        TWO,
+        &[
+            Instr::SmBySection(2),
+            Instr::SmRepeat {
+                blocks: 1,
+                count: 1,
+            },
+        ],
+    ),
+];
 
 #[test]
 fn instructions_that_do_not_fit(rt: HostRuntime) -> Result<(), Fail> {
-    let alloc = rt.alloc();
-    let still = Vec::from_slice(alloc, &[Instr::IncrPosition(0), Instr::BySectD(1)])?;
-    assert!(rt; !holds(&rt, alloc, alone(&[(0, S1)], &[1]), still)?);
-    let repeat = Instr::SmRepeat {
-        blocks: 1,
-        count: 1,
-    };
-    let twice = Vec::from_slice(alloc, &[Instr::SmBySection(2), repeat])?;
-    let two: Labelled = (
-        &[(0, S2), (4, S2)],
-        &[2],
-        &[1, 1, 1, 2, 1, 1, 1, 1, 0, 0, 0, 0],
-    );
-    assert!(rt; !holds(&rt, alloc, two, twice)?);
+    for row in DO_NOT_FIT {
+        let (labelled, program) = *row;
+        assert!(rt; !holds(&rt, rt.alloc(), labelled, program)?);
+    }
     Ok(())
 }
 
@@ -352,58 +408,77 @@ fn words(rt: &impl Abort, alloc: Global, from: u32, count: u32) -> Result<Vec<Fi
     Ok(fixups)
 }
 
-/// A certificate for such words. Its labels are the least lengths, but those of the first word are at least
-/// `first`.
-fn words_certificate(
+/// Labels for so many words. They are the least lengths, but those of the first word are at least `first`.
+fn words_labels(rt: &impl Abort, alloc: Global, count: u32, first: u32) -> Result<LabelRows, Fail> {
+    let mut rows = LabelRows::new(alloc, 4);
+    push_words(rt, &mut rows, count, first)?;
+    Ok(rows)
+}
+
+fn push_words(rt: &impl Abort, rows: &mut LabelRows, count: u32, first: u32) -> Result<(), Fail> {
+    let first = first.max(1);
+    push(rt, rows, &[first, first, first, 2])?;
+    for _ in 2..count {
+        push(rt, rows, &[1, 1, 1, 2])?;
+    }
+    push(rt, rows, &[1, 1, 1, 1])?;
+    push(rt, rows, &[0, 0, 0, 0])
+}
+
+/// Whether such words are made by a program, with these labels.
+fn makes_words(
     rt: &impl Abort,
     alloc: Global,
+    fixups: &[Fixup],
     program: &[Instr],
-    count: u32,
-    first: u32,
-) -> Result<Certificate, Fail> {
-    let mut rows = LabelRows::new(alloc, 4);
-    let least = [first.max(1), first.max(1), first.max(1), 2];
-    push(rt, &mut rows, &least)?;
-    for _ in 2..count {
-        push(rt, &mut rows, &[1, 1, 1, 2])?;
-    }
-    push(rt, &mut rows, &[1, 1, 1, 1])?;
-    push(rt, &mut rows, &[0, 0, 0, 0])?;
+    labels: LabelRows,
+) -> Result<bool, Fail> {
     let registers = Vec::from_slice(alloc, &[1])?;
     let program = Vec::from_slice(alloc, program)?;
-    Ok(Certificate::new(1, program, registers, rows))
+    Ok(is_yes(rt, fixups, &Certificate::new(1, program, registers, labels)))
 }
+
+const TWO_RUNS: &[Instr] = &[Instr::BySectD(1), Instr::BySectD(511)];
+
+const NO_SKIP: &[Instr] = &[Instr::IncrPosition(4), Instr::BySectD(63)];
+
+/// The offset of the first word, how many words there are, a program, its first labels at least, and whether it
+/// is a yes.
+const LONG_RUNS: &[(u32, u32, &[Instr], u32, bool)] = &[
+    (0, 512, &[Instr::BySectD(512)], 1, true),
+    (0, 512, TWO_RUNS, 1, false),
+    (0, 512, TWO_RUNS, 2, false),
+    (0, 513, &[Instr::BySectD(512), Instr::BySectD(1)], 2, true),
+    (
+        4,
+        63,
+        &[Instr::BySectDWithSkip { skip: 1, count: 63 }],
+        1,
+        true,
+    ),
+    (
+        4,
+        64,
+        &[
+            Instr::BySectDWithSkip { skip: 1, count: 63 },
+            Instr::BySectD(1),
+        ],
+        1,
+        true,
+    ),
+    (4, 63, NO_SKIP, 1, false),
+    (4, 63, NO_SKIP, 2, false),
+];
 
 /// A run has up to 512 words, and a skip up to 63.
 #[test]
 fn long_runs(rt: HostRuntime) -> Result<(), Fail> {
-    let alloc = rt.alloc();
-    let run = [Instr::BySectD(512)];
-    let two_runs = [Instr::BySectD(1), Instr::BySectD(511)];
-    let skip = [Instr::BySectDWithSkip { skip: 1, count: 63 }];
-    let no_skip = [Instr::IncrPosition(4), Instr::BySectD(63)];
-    let run_and_one = [Instr::BySectD(512), Instr::BySectD(1)];
-    let skip_and_one = [
-        Instr::BySectDWithSkip { skip: 1, count: 63 },
-        Instr::BySectD(1),
-    ];
-    let rows: [(u32, u32, &[Instr], u32, bool); 8] = [
-        (0, 512, &run, 1, true),
-        (0, 512, &two_runs, 1, false),
-        (0, 512, &two_runs, 2, false),
-        (0, 513, &run_and_one, 2, true),
-        (4, 63, &skip, 1, true),
-        (4, 64, &skip_and_one, 1, true),
-        (4, 63, &no_skip, 1, false),
-        (4, 63, &no_skip, 2, false),
-    ];
-    for row in rows {
-        let (from, count, program, first, want) = row;
-        let fixups = words(&rt, alloc, from, count)?;
-        let certificate = words_certificate(&rt, alloc, program, count, first)?;
-        assert!(rt; fixups_fit(&fixups));
+    for row in LONG_RUNS {
+        let (from, count, program, first, want) = *row;
+        let fixups = words(&rt, rt.alloc(), from, count)?;
+        let labels = words_labels(&rt, rt.alloc(), count, first)?;
         assert_eq!(rt;
-            check(&fixups, &certificate),
+            makes_words(&rt, rt.alloc(), &fixups, program, labels)?,
             want,
             "{from} {count} {first}"
         );
@@ -411,37 +486,60 @@ fn long_runs(rt: HostRuntime) -> Result<(), Fail> {
     Ok(())
 }
 
-/// Checks that the rows are two of 1 2, one of 0 0 and one of 1 2, and that equal neighbours are kept once.
-fn assert_runs(rt: &impl Abort, rows: &LabelRows) -> Result<(), Fail> {
+/// Rows, and labels that are the same rows one behind the other.
+const ROWS: &[&[u32]] = &[&[1, 2], &[1, 2], &[0, 0], &[1, 2]];
+
+const ROWS_IN_LINE: &[u32] = &[1, 2, 1, 2, 0, 0, 1, 2];
+
+/// The runs of these rows: two of 1 2, one of 0 0 and one of 1 2.
+const RUNS: &[(usize, &[u32])] = &[(2, &[1, 2]), (1, &[0, 0]), (1, &[1, 2])];
+
+/// Checks that the rows are these, and that equal neighbours are kept once.
+fn assert_runs(rt: &impl Abort, rows: &LabelRows) {
     assert_eq!(rt; rows.rows(), 4);
     let mut runs = rows.runs();
-    for want in [(2, [1, 2]), (1, [0, 0]), (1, [1, 2])] {
+    for want in RUNS {
         match runs.next_run() {
-            Some(run) => {
-                assert_eq!(rt; run.rows, want.0);
-                assert_eq!(rt; run.labels, want.1.as_slice());
-            }
+            Some(run) => assert_eq!(rt; (run.rows, run.labels), *want),
             None => panic!(rt; "a run too few"),
         }
     }
     assert!(rt; runs.next_run().is_none());
+}
+
+fn push_rows(rt: &impl Abort, rows: &mut LabelRows) -> Result<(), Fail> {
+    for row in ROWS {
+        push(rt, rows, *row)?;
+    }
     Ok(())
 }
 
 #[test]
 fn rows_are_kept(rt: HostRuntime) -> Result<(), Fail> {
-    let alloc = rt.alloc();
-    let mut rows = LabelRows::new(alloc, 2);
-    for row in [[1, 2], [1, 2], [0, 0], [1, 2]] {
-        push(&rt, &mut rows, &row)?;
-    }
-    assert_runs(&rt, &rows)?;
-    let same = LabelRows::from_labels(alloc, 4, 2, &[1, 2, 1, 2, 0, 0, 1, 2])?;
-    assert_runs(&rt, &same)?;
-    let certificate = Certificate::new(3, Vec::new(alloc), Vec::from_slice(alloc, &[1, 2])?, rows);
+    let mut rows = LabelRows::new(rt.alloc(), 2);
+    push_rows(&rt, &mut rows)?;
+    assert_runs(&rt, &rows);
+    assert_parts_are_kept(&rt, rt.alloc(), rows)
+}
+
+#[test]
+fn rows_of_labels(rt: HostRuntime) -> Result<(), Fail> {
+    assert_runs(
+        &rt,
+        &LabelRows::from_labels(rt.alloc(), 4, 2, ROWS_IN_LINE)?,
+    );
+    Ok(())
+}
+
+fn assert_parts_are_kept(rt: &impl Abort, alloc: Global, rows: LabelRows) -> Result<(), Fail> {
+    let registers = Vec::from_slice(alloc, &[1, 2])?;
+    assert_parts(rt, &Certificate::new(3, Vec::new(alloc), registers, rows));
+    Ok(())
+}
+
+fn assert_parts(rt: &impl Abort, certificate: &Certificate) {
     assert_eq!(rt; certificate.section(), 3);
     assert!(rt; certificate.program().is_empty());
     assert_eq!(rt; certificate.registers(), [1, 2].as_slice());
     assert_eq!(rt; certificate.labels().width(), 2);
-    Ok(())
 }

@@ -16,20 +16,33 @@ pub fn push(rt: &impl Abort, rows: &mut LabelRows, row: &[u32]) -> Result<(), Fa
 pub fn certificate(
     rt: &impl Abort,
     alloc: Global,
-    program: Vec<Instr>,
+    program: &[Instr],
     registers: &[u32],
     labels: &[u32],
 ) -> Result<Certificate, Fail> {
-    let classes = registers.len() + 1;
+    let rows = rows(rt, alloc, registers.len() + 1, labels)?;
+    let registers = Vec::from_slice(alloc, registers)?;
+    let program = Vec::from_slice(alloc, program)?;
+    Ok(Certificate::new(0, program, registers, rows))
+}
+
+/// The rows of these labels, for so many classes.
+fn rows(rt: &impl Abort, alloc: Global, classes: usize, labels: &[u32]) -> Result<LabelRows, Fail> {
     let width = match classes.checked_mul(classes) {
         Some(width) => width,
         None => panic!(rt; "{classes} classes"),
     };
     assert!(rt; width > 0);
     let mut rows = LabelRows::new(alloc, width);
-    for row in labels.chunks(width) {
-        push(rt, &mut rows, row)?;
+    push_all(rt, &mut rows, labels)?;
+    Ok(rows)
+}
+
+/// Puts labels behind others, row by row.
+fn push_all(rt: &impl Abort, rows: &mut LabelRows, labels: &[u32]) -> Result<(), Fail> {
+    assert!(rt; rows.width() > 0);
+    for row in labels.chunks(rows.width()) {
+        push(rt, rows, row)?;
     }
-    let registers = Vec::from_slice(alloc, registers)?;
-    Ok(Certificate::new(0, program, registers, rows))
+    Ok(())
 }
