@@ -2,6 +2,7 @@ use crate::plans::planned;
 use crate::search::least_length;
 use pef_reloc::{Base, Fixup};
 use std::alloc::Global;
+use std::process::Abort;
 use std::test::Fail;
 use test_data::lists::{S0, S1};
 
@@ -38,17 +39,22 @@ fn list_of(alloc: Global, number: u32) -> Result<Option<Vec<Fixup>>, Fail> {
     Ok(Some(fixups))
 }
 
+/// Compares a plan with the search.
+fn assert_least(rt: &impl Abort, alloc: Global, fixups: &[Fixup], number: u32) -> Result<(), Fail> {
+    let certificate = planned(rt, alloc, fixups)?;
+    let least = u64::from(least_length(alloc, fixups)?);
+    assert_eq!(rt; certificate.program_length(), least, "{number}");
+    Ok(())
+}
+
 /// Each list of up to four fixups within 16 bytes, of two sections and one import, against a search of the
 /// machine.
 #[test]
 fn least_of_all_short_lists(rt: HostRuntime) -> Result<(), Fail> {
-    let alloc = rt.alloc();
     let mut lists = 0u32;
     for number in 0..CHOICES * CHOICES * CHOICES * CHOICES {
-        if let Some(fixups) = list_of(alloc, number)? {
-            let certificate = planned(&rt, alloc, &fixups)?;
-            let least = u64::from(least_length(alloc, &fixups)?);
-            assert_eq!(rt; certificate.program_length(), least, "{number}");
+        if let Some(fixups) = list_of(rt.alloc(), number)? {
+            assert_least(&rt, rt.alloc(), &fixups, number)?;
             lists = lists.wrapping_add(1);
         }
     }

@@ -1,10 +1,13 @@
 use crate::plans::planned;
+use pef_cert::Certificate;
+use std::alloc::Global;
+use std::process::Abort;
 use std::test::Fail;
 use test_data::labels::{
     CROSSED, IMPORTS_TWICE, Labelled, PAIR_THEN_FAR, PAIR_THEN_NEAR, SHORTER, SKIPPED, SPACED,
     TRANSITION, VTABLE, VTABLE_FAR, labels,
 };
-use test_data::lists::fixups;
+use test_data::lists::{Listed, fixups};
 
 const LABELS: &[Labelled] = &[
     TRANSITION,
@@ -19,16 +22,26 @@ const LABELS: &[Labelled] = &[
     IMPORTS_TWICE,
 ];
 
+/// Plans a list and compares the registers and the labels.
+fn assert_labels(rt: &impl Abort, alloc: Global, labelled: Labelled) -> Result<(), Fail> {
+    let (listed, registers, wanted) = labelled;
+    let certificate = planned_of(rt, alloc, listed)?;
+    assert!(rt; certificate.registers() == registers, "{listed:?}");
+    let found = labels(alloc, &certificate)?;
+    assert!(rt; found.as_slice() == wanted, "{listed:?}");
+    Ok(())
+}
+
+/// The plan of a list.
+fn planned_of(rt: &impl Abort, alloc: Global, listed: Listed) -> Result<Certificate, Fail> {
+    let fixups = fixups(alloc, listed)?;
+    planned(rt, alloc, &fixups)
+}
+
 #[test]
 fn labels_are_least(rt: HostRuntime) -> Result<(), Fail> {
-    let alloc = rt.alloc();
     for row in LABELS {
-        let (listed, registers, wanted) = *row;
-        let fixups = fixups(alloc, listed)?;
-        let certificate = planned(&rt, alloc, &fixups)?;
-        assert!(rt; certificate.registers() == registers, "{listed:?}");
-        let found = labels(alloc, &certificate)?;
-        assert!(rt; found.as_slice() == wanted, "{listed:?}");
+        assert_labels(&rt, rt.alloc(), *row)?;
     }
     Ok(())
 }

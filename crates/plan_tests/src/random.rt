@@ -2,7 +2,7 @@ ghost use Rattle.std.specs.Prelude.{◌<◌};
 
 use crate::plans::planned;
 use crate::reference::{counted_labels, number_at, plain_labels};
-use pef_cert::check;
+use pef_cert::{LabelRows, check};
 use pef_reloc::{Base, Fixup};
 use std::alloc::Global;
 use std::cell::Cell;
@@ -59,49 +59,73 @@ fn random_list(alloc: Global, random: &mut Random) -> Result<Vec<Fixup>, Fail> {
         if fixups.len() >= ENOUGH {
             return Ok(fixups);
         }
-        let kind = random.below(6);
-        let first = random.below(sections);
-        let second = random.below(sections);
-        for i in 0..random.one_of(&LENGTHS) {
-            let base = match kind {
-                0 | 1 => Base::Section(first),
-                2 => Base::Import(first.wrapping_add(i)),
-                5 => Base::Section(if i / 3 % 2 == 0 { first } else { second }),
-                _ => Base::Section(if i % 2 == 0 { first } else { second }),
-            };
-            fixups.push(Fixup { offset, base })?;
-            let step = match kind {
-                1 => 8,
-                4 => 4 + 4 * (i % 2),
-                _ => 4,
-            };
-            offset = offset.wrapping_add(step);
-        }
+        offset = push_run(&mut fixups, random, sections, offset)?;
         offset = offset.wrapping_add(random.one_of(&GAPS).saturating_sub(4));
     }
     Ok(fixups)
+}
+
+/// Puts a run of one kind behind others, from an offset on. Hands out the offset behind it.
+fn push_run(
+    fixups: &mut Vec<Fixup>,
+    random: &mut Random,
+    sections: u32,
+    from: u32,
+) -> Result<u32, Fail>
+    requires { 0 < sections }
+{
+    let mut offset = from;
+    let kind = random.below(6);
+    let first = random.below(sections);
+    let second = random.below(sections);
+    for i in 0..random.one_of(&LENGTHS) {
+        let base = match kind {
+            0 | 1 => Base::Section(first),
+            2 => Base::Import(first.wrapping_add(i)),
+            5 => Base::Section(if i / 3 % 2 == 0 { first } else { second }),
+            _ => Base::Section(if i % 2 == 0 { first } else { second }),
+        };
+        fixups.push(Fixup { offset, base })?;
+        let step = match kind {
+            1 => 8,
+            4 => 4 + 4 * (i % 2),
+            _ => 4,
+        };
+        offset = offset.wrapping_add(step);
+    }
+    Ok(offset)
 }
 
 /// Compares all labels of a plan with the plain method's.
 fn compare(rt: &impl Abort, alloc: Global, fixups: &[Fixup]) -> Result<(), Fail> {
     let certificate = planned(rt, alloc, fixups)?;
     let labels = plain_labels(alloc, fixups, certificate.registers())?;
-    let mut left = fixups.len();
-    let mut runs = certificate.labels().runs();
-    for _ in 0..certificate.labels().rows() {
+    assert_same(rt, certificate.labels(), &labels, fixups.len());
+    Ok(())
+}
+
+/// Asserts that rows have these labels, of which the last row is the one where no fixup is left.
+fn assert_same(rt: &impl Abort, rows: &LabelRows, labels: &[u32], fixups: usize) {
+    let mut left = fixups;
+    let mut runs = rows.runs();
+    for _ in 0..rows.rows() {
         if let Some(run) = runs.next_run() {
             for _ in 0..run.rows {
-                let from = left.wrapping_mul(run.labels.len());
-                for place in 0..run.labels.len() {
-                    let label = number_at(&labels, from.wrapping_add(place));
-                    assert_eq!(rt; number_at(run.labels, place), label, "{left} {place}");
-                }
+                assert_same_row(rt, run.labels, labels, left);
                 left = left.wrapping_sub(1);
             }
         }
     }
     assert!(rt; left == usize::MAX);
-    Ok(())
+}
+
+/// Asserts that a row has the labels where so many fixups are left.
+fn assert_same_row(rt: &impl Abort, row: &[u32], labels: &[u32], left: usize) {
+    let from = left.wrapping_mul(row.len());
+    for place in 0..row.len() {
+        let label = number_at(labels, from.wrapping_add(place));
+        assert_eq!(rt; number_at(row, place), label, "{left} {place}");
+    }
 }
 
 #[test]
@@ -139,21 +163,33 @@ fn plain_method_looks_more_often(rt: HostRuntime) -> Result<(), Fail> {
     Ok(())
 }
 
+/// How many fixups, how many bytes apart, the base of each second one, and the least length.
+const LONG_RUNS: &[(u32, u32, Base, u64)] = &[
+    (16_384, 4, S1, 17),
+    (2_048, 4, Base::Section(0), 2),
+    (1_024, 8, S1, 2),
+];
+
+/// Compares the length of a plan's program. The certificate is a yes.
+fn assert_length(
+    rt: &impl Abort,
+    alloc: Global,
+    fixups: &[Fixup],
+    length: u64,
+) -> Result<(), Fail> {
+    let certificate = planned(rt, alloc, fixups)?;
+    assert_eq!(rt; certificate.program_length(), length);
+    assert!(rt; check(fixups, &certificate));
+    Ok(())
+}
+
 #[test]
 fn labels_of_long_runs(rt: HostRuntime) -> Result<(), Fail> {
-    let alloc = rt.alloc();
-    let rows = [
-        (16_384, 4, S1, 17),
-        (2_048, 4, Base::Section(0), 2),
-        (1_024, 8, S1, 2),
-    ];
-    for row in rows {
-        let (count, step, other, length) = row;
-        let fixups = in_a_row(alloc, count, step, other)?;
-        let certificate = planned(&rt, alloc, &fixups)?;
-        assert_eq!(rt; certificate.program_length(), length);
-        assert!(rt; check(&fixups, &certificate));
-        compare(&rt, alloc, &fixups)?;
+    for row in LONG_RUNS {
+        let (count, step, other, length) = *row;
+        let fixups = in_a_row(rt.alloc(), count, step, other)?;
+        assert_length(&rt, rt.alloc(), &fixups, length)?;
+        compare(&rt, rt.alloc(), &fixups)?;
     }
     Ok(())
 }

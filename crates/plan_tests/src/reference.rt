@@ -18,30 +18,26 @@ pub fn counted_labels(
     looks: &Cell<u64>,
 ) -> Result<Vec<u32>, Fail> {
     let classes = registers.len().wrapping_add(1);
-    let mut labels = Vec::new(alloc);
-    let mut skips = Vec::new(alloc);
-    for _ in 0..classes.wrapping_mul(classes) {
-        labels.push(0)?;
-    }
-    for _ in 0..classes {
-        skips.push(0)?;
-    }
-    for left in 0..fixups.len() {
-        let plain = Plain {
-            fixups,
-            registers,
-            classes,
-            labels: &labels,
-            skips: &skips,
-            looks,
-        };
-        let at = fixups.len() - left - 1;
-        let row = plain.row(alloc, at)?;
-        let line = plain.skip_line(alloc, at)?;
-        labels.extend_from_slice(&row)?;
-        skips.extend_from_slice(&line)?;
-    }
+    let mut labels = zeros(alloc, classes.wrapping_mul(classes))?;
+    let mut skips = zeros(alloc, classes)?;
+    let plain = Plain {
+        fixups,
+        registers,
+        classes,
+        labels: &[],
+        skips: &[],
+        looks,
+    };
+    plain.add_rows(alloc, &mut labels, &mut skips)?;
     Ok(labels)
+}
+
+fn zeros(alloc: Global, count: usize) -> Result<Vec<u32>, Fail> {
+    let mut zeros = Vec::new(alloc);
+    for _ in 0..count {
+        zeros.push(0)?;
+    }
+    Ok(zeros)
 }
 
 /// A number of a list, 0 past its end.
@@ -92,17 +88,60 @@ struct Run {
 }
 
 impl<'a> Plain<'a> {
+    /// Puts the rows of all fixups behind others, the last fixup's first.
+    fn add_rows(
+        self,
+        alloc: Global,
+        labels: &mut Vec<u32>,
+        skips: &mut Vec<u32>,
+    ) -> Result<(), Fail> {
+        for left in 0..self.fixups.len() {
+            let at = self.fixups.len() - left - 1;
+            self.add_row(alloc, at, labels, skips)?;
+        }
+        Ok(())
+    }
+
+    /// Puts a fixup's labels and least skips behind those so far.
+    fn add_row(
+        self,
+        alloc: Global,
+        at: usize,
+        labels: &mut Vec<u32>,
+        skips: &mut Vec<u32>,
+    ) -> Result<(), Fail> {
+        let plain = Plain {
+            labels: labels.as_slice(),
+            skips: skips.as_slice(),
+            ..self
+        };
+        let row = plain.row(alloc, at)?;
+        let line = plain.skip_line(alloc, at)?;
+        labels.extend_from_slice(&row)?;
+        skips.extend_from_slice(&line)?;
+        Ok(())
+    }
+
     fn row(self, alloc: Global, at: usize) -> Result<Vec<u32>, Fail> {
+        let direct = self.direct_row(alloc, at)?;
+        self.closed_row(alloc, &direct)
+    }
+
+    fn direct_row(self, alloc: Global, at: usize) -> Result<Vec<u32>, Fail> {
         let mut direct = Vec::new(alloc);
-        let mut row = Vec::new(alloc);
         for c in 0..self.classes {
             for d in 0..self.classes {
                 direct.push(self.direct(at, c, d))?;
             }
         }
+        Ok(direct)
+    }
+
+    fn closed_row(self, alloc: Global, direct: &[u32]) -> Result<Vec<u32>, Fail> {
+        let mut row = Vec::new(alloc);
         for c in 0..self.classes {
             for d in 0..self.classes {
-                row.push(self.closed(&direct, c, d))?;
+                row.push(self.closed(direct, c, d))?;
             }
         }
         Ok(row)
