@@ -133,10 +133,18 @@ const LEAST_PROGRAMS: Programs = &[
         &[0x61, 0xFF, 0x4A, 0x00, 0xA4, 0x00, 0x02, 0x58],
     ),
     (WORDS, &[0x64, 0x02, 0x42, 0x02]),
+];
+
+/// Programs with labels that are lower than the least lengths.
+const LEAST_OF_LOW_LABELS: Programs = &[
     (LOW, &[0x66, 0x01]),
     (LOW, &[0x42, 0x00]),
     (LOWER, &[0x64, 0x02, 0x42, 0x02]),
     (LOW_FAR, &[0x8F, 0xFF, 0x3F, 0xC1]),
+];
+
+/// Programs that make one fixup.
+const LEAST_OF_ONE_FIXUP: Programs = &[
     ((&[(1020, S1)], &[1], ALONE), &[0x3F, 0xC1]),
     ((&[(1020, S2)], &[2], ALONE), &[0x83, 0xFB, 0x66, 0x02]),
     ((&[(1024, S1)], &[1], ALONE), &[0x83, 0xFF, 0x42, 0x00]),
@@ -168,6 +176,16 @@ const LEAST_PROGRAMS: Programs = &[
 #[test]
 fn least_programs(rt: HostRuntime) -> Result<(), Fail> {
     check_all(&rt, rt.alloc(), LEAST_PROGRAMS, true)
+}
+
+#[test]
+fn least_programs_of_low_labels(rt: HostRuntime) -> Result<(), Fail> {
+    check_all(&rt, rt.alloc(), LEAST_OF_LOW_LABELS, true)
+}
+
+#[test]
+fn least_programs_of_one_fixup(rt: HostRuntime) -> Result<(), Fail> {
+    check_all(&rt, rt.alloc(), LEAST_OF_ONE_FIXUP, true)
 }
 
 /// Programs that make the fixups, but are longer than feasible labels say.
@@ -425,26 +443,26 @@ fn push_words(rt: &impl Abort, rows: &mut LabelRows, count: u32, first: u32) -> 
     push(rt, rows, &[0, 0, 0, 0])
 }
 
-/// Whether such words are made by a program, with these labels.
-fn makes_words(
-    rt: &impl Abort,
+/// A certificate for such words.
+fn words_certificate(
     alloc: Global,
-    fixups: &[Fixup],
     program: &[Instr],
     labels: LabelRows,
-) -> Result<bool, Fail> {
+) -> Result<Certificate, Fail> {
     let registers = Vec::from_slice(alloc, &[1])?;
     let program = Vec::from_slice(alloc, program)?;
-    Ok(is_yes(rt, fixups, &Certificate::new(1, program, registers, labels)))
+    Ok(Certificate::new(1, program, registers, labels))
 }
 
 const TWO_RUNS: &[Instr] = &[Instr::BySectD(1), Instr::BySectD(511)];
 
 const NO_SKIP: &[Instr] = &[Instr::IncrPosition(4), Instr::BySectD(63)];
 
-/// The offset of the first word, how many words there are, a program, its first labels at least, and whether it
-/// is a yes.
-const LONG_RUNS: &[(u32, u32, &[Instr], u32, bool)] = &[
+/// The offset of the first word, how many words there are, a program, what its first labels are at least, and
+/// whether it is a yes.
+type LongRun = (u32, u32, &'static [Instr], u32, bool);
+
+const LONG_RUNS: &[LongRun] = &[
     (0, 512, &[Instr::BySectD(512)], 1, true),
     (0, 512, TWO_RUNS, 1, false),
     (0, 512, TWO_RUNS, 2, false),
@@ -470,18 +488,24 @@ const LONG_RUNS: &[(u32, u32, &[Instr], u32, bool)] = &[
     (4, 63, NO_SKIP, 2, false),
 ];
 
+fn assert_long_run(rt: &impl Abort, alloc: Global, row: LongRun) -> Result<(), Fail> {
+    let (from, count, program, first, want) = row;
+    let labels = words_labels(rt, alloc, count, first)?;
+    let certificate = words_certificate(alloc, program, labels)?;
+    let fixups = words(rt, alloc, from, count)?;
+    assert_eq!(rt;
+        is_yes(rt, &fixups, &certificate),
+        want,
+        "{from} {count} {first}"
+    );
+    Ok(())
+}
+
 /// A run has up to 512 words, and a skip up to 63.
 #[test]
 fn long_runs(rt: HostRuntime) -> Result<(), Fail> {
     for row in LONG_RUNS {
-        let (from, count, program, first, want) = *row;
-        let fixups = words(&rt, rt.alloc(), from, count)?;
-        let labels = words_labels(&rt, rt.alloc(), count, first)?;
-        assert_eq!(rt;
-            makes_words(&rt, rt.alloc(), &fixups, program, labels)?,
-            want,
-            "{from} {count} {first}"
-        );
+        assert_long_run(&rt, rt.alloc(), *row)?;
     }
     Ok(())
 }

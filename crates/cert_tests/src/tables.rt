@@ -28,14 +28,17 @@ pub fn certificate(
 
 /// The rows of these labels, for so many classes.
 fn rows(rt: &impl Abort, alloc: Global, classes: usize, labels: &[u32]) -> Result<LabelRows, Fail> {
-    let width = match classes.checked_mul(classes) {
-        Some(width) => width,
-        None => panic!(rt; "{classes} classes"),
-    };
-    assert!(rt; width > 0);
-    let mut rows = LabelRows::new(alloc, width);
+    let mut rows = LabelRows::new(alloc, width(rt, classes));
     push_all(rt, &mut rows, labels)?;
     Ok(rows)
+}
+
+/// How many labels a row has, for so many classes.
+fn width(rt: &impl Abort, classes: usize) -> usize {
+    match classes.checked_mul(classes) {
+        Some(width) => width,
+        None => panic!(rt; "{classes} classes"),
+    }
 }
 
 /// Puts labels behind others, row by row.
