@@ -3,6 +3,7 @@ use pef_cert::Certificate;
 use pef_cert_text::read;
 use pef_reloc::Instr;
 use std::alloc::Global;
+use std::process::Abort;
 use std::test::Fail;
 use test_data::labels::{VECTORS_LABELS, labels};
 
@@ -28,19 +29,19 @@ fn has(
         && certificate.labels().rows() == rows
 }
 
-#[test]
-fn sections(rt: HostRuntime) -> Result<(), Fail> {
-    let certificates = read(rt.alloc(), TWO_SECTIONS.as_bytes())?;
+fn assert_sections(rt: &impl Abort, certificates: &[Certificate]) {
     assert_eq!(rt; certificates.len(), 2);
     assert!(rt; has(&certificates[0], 0, &[], &[], 1));
     assert!(rt; has(&certificates[1], 1, &[Instr::TVector8(2)], &[0, 1], 5));
-    Ok(())
 }
 
 #[test]
-fn labels_in_rows(rt: HostRuntime) -> Result<(), Fail> {
-    let alloc = rt.alloc();
-    let certificates = read(alloc, TWO_SECTIONS.as_bytes())?;
+fn sections(rt: HostRuntime) -> Result<(), Fail> {
+    assert_sections(&rt, &read(rt.alloc(), TWO_SECTIONS.as_bytes())?);
+    Ok(())
+}
+
+fn assert_labels(rt: &impl Abort, alloc: Global, certificates: &[Certificate]) -> Result<(), Fail> {
     assert_eq!(rt; certificates.len(), 2);
     let labels = labels(alloc, &certificates[1])?;
     assert!(rt; labels.as_slice() == VECTORS_LABELS);
@@ -48,8 +49,14 @@ fn labels_in_rows(rt: HostRuntime) -> Result<(), Fail> {
     Ok(())
 }
 
+#[test]
+fn labels_in_rows(rt: HostRuntime) -> Result<(), Fail> {
+    let certificates = read(rt.alloc(), TWO_SECTIONS.as_bytes())?;
+    assert_labels(&rt, rt.alloc(), &certificates)
+}
+
 /// Texts behind `pefcert 1`, and the number of the line that is refused, or `None` where the text is read.
-const TEXTS: [(&str, Option<usize>); 46] = [
+const TEXTS: &[(&str, Option<usize>)] = &[
     ("end\n", None),
     ("", Some(2)),
     ("end", Some(2)),
@@ -143,19 +150,24 @@ const TEXTS: [(&str, Option<usize>); 46] = [
     ),
 ];
 
+/// The line of a refusal of these lines behind `pefcert 1`.
+fn refused_line_behind(alloc: Global, lines: &str) -> Result<Option<usize>, Fail> {
+    let mut text = String::from_str(alloc, "pefcert 1\n")?;
+    text.push_str(lines)?;
+    refused_line(alloc, &text)
+}
+
 #[test]
 fn lines(rt: HostRuntime) -> Result<(), Fail> {
-    let alloc = rt.alloc();
-    for (lines, line) in &TEXTS {
-        let mut text = String::from_str(alloc, "pefcert 1\n")?;
-        text.push_str(lines)?;
-        assert_eq!(rt; refused_line(alloc, &text)?, *line, "{lines}");
+    for row in TEXTS {
+        let (lines, line) = *row;
+        assert_eq!(rt; refused_line_behind(rt.alloc(), lines)?, line, "{lines}");
     }
     Ok(())
 }
 
 /// Whole texts, and the number of the line that is refused, or `None` where the text is read.
-const WHOLE_TEXTS: [(&str, Option<usize>); 7] = [
+const WHOLE_TEXTS: &[(&str, Option<usize>)] = &[
     ("", Some(1)),
     ("pefcert 1", Some(1)),
     ("pefcert 3\nend\n", Some(1)),
@@ -167,8 +179,9 @@ const WHOLE_TEXTS: [(&str, Option<usize>); 7] = [
 
 #[test]
 fn versions(rt: HostRuntime) -> Result<(), Fail> {
-    for (text, line) in &WHOLE_TEXTS {
-        assert_eq!(rt; refused_line(rt.alloc(), text)?, *line, "{text}");
+    for row in WHOLE_TEXTS {
+        let (text, line) = *row;
+        assert_eq!(rt; refused_line(rt.alloc(), text)?, line, "{text}");
     }
     Ok(())
 }
