@@ -1,5 +1,6 @@
 use std::alloc::{AllocError, Global};
 use std::fmt::Write;
+use std::process::Abort;
 use std::test::Fail;
 use test_bench::runs::{Handed, assert_cut_output, assert_prints, assert_unreadable, run_tool};
 use test_bench::scripts::{VECTORS, VECTORS_CERTIFIED};
@@ -7,35 +8,48 @@ use test_bench::scripts::{VECTORS, VECTORS_CERTIFIED};
 const WORDS: [&str; 2] = ["distances", "a"];
 
 /// Scripts, what is printed of them, and the status.
+const PRINTED: &[(&[u8], &[u8], u8)] = &[
+    (VECTORS, VECTORS_CERTIFIED, 0),
+    (b"", b"pefcert 1\nend\n", 0),
+    // sections without fixups, of which one has no byte
+    (
+        b"section c code global 4 8\nsection d data process 4 0\n",
+        b"pefcert 1\nsection 0\nfixups 0\nlength 0\nprogram -\nregisters *\nat 0 0\nsection 1\nfixups 0\nlength 0\nprogram -\nregisters *\nat 0 0\nend\n",
+        0,
+    ),
+    (b"section d\n", b"refused 41 BadLine line 1\n", 1),
+    (
+        b"section d data process 4 8\nfix d 0 section d\nfix d 2 section d\n",
+        b"refused 46 Overlap line 3\n",
+        1,
+    ),
+];
+
 #[test]
 fn distances(rt: HostRuntime) -> Result<(), Fail> {
-    let rows: [(&[u8], &[u8], u8); 5] = [
-        (VECTORS, VECTORS_CERTIFIED, 0),
-        (b"", b"pefcert 1\nend\n", 0),
-        // sections without fixups, of which one has no byte
-        (
-            b"section c code global 4 8\nsection d data process 4 0\n",
-            b"pefcert 1\nsection 0\nfixups 0\nlength 0\nprogram -\nregisters *\nat 0 0\nsection 1\nfixups 0\nlength 0\nprogram -\nregisters *\nat 0 0\nend\n",
-            0,
-        ),
-        (b"section d\n", b"refused 41 BadLine line 1\n", 1),
-        (
-            b"section d data process 4 8\nfix d 0 section d\nfix d 2 section d\n",
-            b"refused 46 Overlap line 3\n",
-            1,
-        ),
-    ];
-    for (script, printed, status) in rows {
-        let handed = Handed::file(&WORDS, script);
-        let outcome = assert_prints(rt.alloc(), handed, printed, status)?;
-        outcome.assert_calls((1, 0))?;
-        assert!(rt; outcome.has(b"a", script));
+    for row in PRINTED {
+        let (script, printed, status) = *row;
+        assert_printed(&rt, rt.alloc(), script, printed, status)?;
     }
     Ok(())
 }
 
+/// Asserts what is printed of a script, which stays as it is.
+fn assert_printed(
+    rt: &impl Abort,
+    alloc: Global,
+    script: &[u8],
+    printed: &[u8],
+    status: u8,
+) -> Result<(), Fail> {
+    let outcome = assert_prints(alloc, Handed::file(&WORDS, script), printed, status)?;
+    outcome.assert_calls((1, 0))?;
+    assert!(rt; outcome.has(b"a", script));
+    Ok(())
+}
+
 /// Scripts, and what `check` prints of them with the certificates that `distances` prints.
-const CHECKED: [(&str, &str); 16] = [
+const CHECKED: &[(&str, &str)] = &[
     ("", ""),
     // an import behind two sections; four words of two sections in turn
     (
@@ -108,9 +122,9 @@ const CHECKED: [(&str, &str); 16] = [
 /// What `distances` prints is accepted by `check`, with these lengths.
 #[test]
 fn distances_checked(rt: HostRuntime) -> Result<(), Fail> {
-    let alloc = rt.alloc();
-    for (script, printed) in CHECKED {
-        assert_checked(alloc, script.as_bytes(), printed.as_bytes())?;
+    for row in CHECKED {
+        let (script, printed) = *row;
+        assert_checked(rt.alloc(), script.as_bytes(), printed.as_bytes())?;
     }
     Ok(())
 }
@@ -138,19 +152,21 @@ fn words_of_second(alloc: Global, from: u32, count: u32) -> Result<String, Alloc
     Ok(text)
 }
 
+/// The offset of the first word, how many words there are, and what `check` prints.
+const RUNS: &[(u32, u32, &[u8])] = &[
+    (0, 512, b"section 0 yes 1\nsection 1 yes 0\n"),
+    (0, 513, b"section 0 yes 2\nsection 1 yes 0\n"),
+    (4, 63, b"section 0 yes 1\nsection 1 yes 0\n"),
+    (4, 64, b"section 0 yes 2\nsection 1 yes 0\n"),
+];
+
 /// The longest runs of one section, and those behind a skip, which adds 63 at most.
 #[test]
 fn distances_of_runs(rt: HostRuntime) -> Result<(), Fail> {
-    let alloc = rt.alloc();
-    let rows: [(u32, u32, &[u8]); 4] = [
-        (0, 512, b"section 0 yes 1\nsection 1 yes 0\n"),
-        (0, 513, b"section 0 yes 2\nsection 1 yes 0\n"),
-        (4, 63, b"section 0 yes 1\nsection 1 yes 0\n"),
-        (4, 64, b"section 0 yes 2\nsection 1 yes 0\n"),
-    ];
-    for (from, count, printed) in rows {
-        let script = words_of_second(alloc, from, count)?;
-        assert_checked(alloc, script.as_bytes(), printed)?;
+    for row in RUNS {
+        let (from, count, printed) = *row;
+        let script = words_of_second(rt.alloc(), from, count)?;
+        assert_checked(rt.alloc(), script.as_bytes(), printed)?;
     }
     Ok(())
 }
@@ -176,25 +192,31 @@ fn imports(alloc: Global) -> Result<String, AllocError> {
     Ok(text)
 }
 
+/// Lines that stand behind the imports and the section, and what `check` prints.
+const IMPORTED: &[(&str, &[u8])] = &[
+    (
+        "fix a 0 import i511\nfix a 4 import i512\n",
+        b"section 0 yes 2\n",
+    ),
+    (
+        "fix a 0 import i511\nfix a 8 import i512\n",
+        b"section 0 yes 3\n",
+    ),
+    ("fix a 0 import i600\n", b"section 0 yes 2\n"),
+];
+
+fn assert_imported(alloc: Global, fixups: &str, printed: &[u8]) -> Result<(), Fail> {
+    let mut script = imports(alloc)?;
+    script.push_str(fixups)?;
+    assert_checked(alloc, script.as_bytes(), printed)
+}
+
 /// The last import that one halfword names with the next one, and one that takes two.
 #[test]
 fn distances_of_imports(rt: HostRuntime) -> Result<(), Fail> {
-    let alloc = rt.alloc();
-    let rows: [(&str, &[u8]); 3] = [
-        (
-            "fix a 0 import i511\nfix a 4 import i512\n",
-            b"section 0 yes 2\n",
-        ),
-        (
-            "fix a 0 import i511\nfix a 8 import i512\n",
-            b"section 0 yes 3\n",
-        ),
-        ("fix a 0 import i600\n", b"section 0 yes 2\n"),
-    ];
-    for (fixups, printed) in rows {
-        let mut script = imports(alloc)?;
-        script.push_str(fixups)?;
-        assert_checked(alloc, script.as_bytes(), printed)?;
+    for row in IMPORTED {
+        let (fixups, printed) = *row;
+        assert_imported(rt.alloc(), fixups, printed)?;
     }
     Ok(())
 }

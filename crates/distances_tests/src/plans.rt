@@ -26,15 +26,19 @@ const SCRIPTS: &[(&[u8], usize)] = &[
 
 #[test]
 fn distances_are_plans(rt: HostRuntime) -> Result<(), Fail> {
-    let alloc = rt.alloc();
     for row in SCRIPTS {
         let (text, sections) = *row;
-        let printed = run_tool(alloc, Handed::file(&["distances", "a"], text))?.printed;
-        let certificates = read(alloc, printed.as_slice())?;
+        let certificates = printed_certificates(rt.alloc(), text)?;
         assert_eq!(rt; certificates.len(), sections);
-        test_plans(&rt, alloc, text, certificates.as_slice())?;
+        test_plans(&rt, rt.alloc(), text, &certificates)?;
     }
     Ok(())
+}
+
+/// The certificates that `distances` prints of a script.
+fn printed_certificates(alloc: Global, text: &[u8]) -> Result<Vec<Certificate>, Fail> {
+    let printed = run_tool(alloc, Handed::file(&["distances", "a"], text))?.printed;
+    Ok(read(alloc, printed.as_slice())?)
 }
 
 /// Tests that certificates are the plans of a script's sections.
@@ -47,9 +51,21 @@ fn test_plans(
     let script = pef_script_text::read(alloc, text)?;
     for (k, certificate) in certificates.iter().enumerate() {
         assert_eq!(rt; certificate.section() as usize, k);
-        let planned = planned(rt, alloc, &script, certificate.section())?;
-        assert!(rt; is_same(alloc, certificate, &planned)?, "section {k}");
+        test_plan(rt, alloc, &script, certificate)?;
     }
+    Ok(())
+}
+
+/// Tests that a certificate is the plan of its section in a script.
+fn test_plan(
+    rt: &impl Abort,
+    alloc: Global,
+    script: &Script,
+    certificate: &Certificate,
+) -> Result<(), Fail> {
+    let section = certificate.section();
+    let planned = planned(rt, alloc, script, section)?;
+    assert!(rt; is_same(alloc, certificate, &planned)?, "section {section}");
     Ok(())
 }
 
