@@ -1,4 +1,3 @@
-use cfm_closure::Store;
 use cfm_prepare::{Connection, Context, PrepareFault};
 use cfm_present::FragmentFault;
 use std::alloc::{AllocError, Global};
@@ -27,32 +26,69 @@ pub(crate) fn take_steps(
     limit: u32,
     steps: &[(Step, &str)],
 ) -> Result<(), Fail> {
+    let names = names_of(alloc, fragments)?;
     let containers = containers(alloc, fragments)?;
+    let mut context = context_of(alloc, fragments, &containers, limit)?;
+    take_steps_in(rt, alloc, &mut context, &names, steps)
+}
+
+/// A context over some fragments, which have these containers.
+pub(crate) fn context_of<'a>(
+    alloc: Global,
+    fragments: &[Fragment],
+    containers: &'a [Vec<u8>],
+    limit: u32,
+) -> Result<Context<'a>, Fail> {
+    let store = store_of(alloc, fragments, containers)?;
+    Ok(Context::new(alloc, store, limit))
+}
+
+fn names_of(alloc: Global, fragments: &[Fragment]) -> Result<Vec<&'static str>, AllocError> {
     let mut names = Vec::new(alloc);
     for fragment in fragments {
         names.push(fragment.0)?;
     }
-    let store = store_of(alloc, fragments, &containers)?;
-    take_steps_in(rt, alloc, store, &names, limit, steps)
+    Ok(names)
 }
 
-/// The same in a context over a store, whose fragments have some names.
+/// The same in a context whose fragments have some names.
 pub(crate) fn take_steps_in(
     rt: &impl Abort,
     alloc: Global,
-    store: Store<'_>,
+    context: &mut Context<'_>,
     names: &[&str],
-    limit: u32,
     steps: &[(Step, &str)],
 ) -> Result<(), Fail> {
-    let mut context = Context::new(alloc, store, limit);
     for (step, wanted) in steps {
-        let mut text = String::new(alloc);
-        take_step(&mut text, &mut context, *step)?;
-        for (p, name) in names.iter().enumerate() {
-            tell_sections(&mut text, &context, p, name)?;
-        }
-        assert_eq!(rt; text.as_str(), *wanted);
+        test_step(rt, alloc, context, names, *step, wanted)?;
+    }
+    Ok(())
+}
+
+fn test_step(
+    rt: &impl Abort,
+    alloc: Global,
+    context: &mut Context<'_>,
+    names: &[&str],
+    step: Step,
+    wanted: &str,
+) -> Result<(), AllocError> {
+    let mut text = String::new(alloc);
+    tell_step(&mut text, context, names, step)?;
+    assert_eq!(rt; text.as_str(), wanted);
+    Ok(())
+}
+
+/// What a step is answered, and which sections are present behind it.
+fn tell_step(
+    text: &mut String,
+    context: &mut Context<'_>,
+    names: &[&str],
+    step: Step,
+) -> Result<(), AllocError> {
+    take_step(text, context, step)?;
+    for (p, name) in names.iter().enumerate() {
+        tell_sections(text, context, p, name)?;
     }
     Ok(())
 }

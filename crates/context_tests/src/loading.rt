@@ -1,8 +1,10 @@
-//! What `docs/LOADING.md` shows to the author of an emulator: its lines stand in `load` as they stand there.
+//! What `docs/LOADING.md` shows to the author of an emulator: its lines stand in `store_of`, `load` and
+//! `prepare_app` as they stand there.
 
 use cfm_closure::Store;
 use cfm_prepare::Context;
 use std::alloc::Global;
+use std::process::Abort;
 use std::test::Fail;
 use test_links::link_text;
 
@@ -22,17 +24,8 @@ impl Machine {
     }
 }
 
-/// Loads an application and its library into a machine.
-fn load(
-    alloc: Global,
-    tools_bytes: &[u8],
-    app_bytes: &[u8],
-    machine: &mut Machine,
-) -> Result<(), Fail> {
-    let mut store = Store::new(alloc);
-    store.add(b"Tools", tools_bytes)?;
-    store.add(b"App", app_bytes)?;
-    let mut context = Context::new(alloc, store, 0x1000_0000);
+/// Prepares an application, and copies its sections into a machine.
+fn prepare_app(context: &mut Context<'_>, machine: &mut Machine) -> Result<(), Fail> {
     let app = context.prepare(b"App")?;
     for position in context.fragments(app).unwrap_or(&[]) {
         // copy each section to where the machine has it
@@ -47,23 +40,50 @@ fn load(
     Ok(())
 }
 
+/// A store of an application and its library.
+fn store_of<'a>(
+    alloc: Global,
+    tools_bytes: &'a [u8],
+    app_bytes: &'a [u8],
+) -> Result<Store<'a>, Fail> {
+    let mut store = Store::new(alloc);
+    store.add(b"Tools", tools_bytes)?;
+    store.add(b"App", app_bytes)?;
+    Ok(store)
+}
+
+/// Loads an application and its library into a machine.
+fn load(
+    alloc: Global,
+    tools_bytes: &[u8],
+    app_bytes: &[u8],
+    machine: &mut Machine,
+) -> Result<(), Fail> {
+    let store = store_of(alloc, tools_bytes, app_bytes)?;
+    let mut context = Context::new(alloc, store, 0x1000_0000);
+    prepare_app(&mut context, machine)
+}
+
 const TOOLS: &[u8] =
     b"versions 1 0 0\nsection data data process 4 4\nbytes data 0000002A\nexport answer data data 0\n";
 
 const APP: &[u8] =
     b"library Tools 1 0 -\nimport answer data strong\nsection data data process 4 8\nbytes data 0000000000000004\nfix data 0 import answer\nfix data 4 section data\nmain data 0\n";
 
-/// The library lies at 00010000, and the application behind it, at 00010010.
-#[test]
-fn loading(rt: HostRuntime) -> Result<(), Fail> {
-    let alloc = rt.alloc();
-    let tools = link_text(alloc, TOOLS)?;
-    let app = link_text(alloc, APP)?;
-    let mut machine = Machine { memory: [0xEE; 24] };
-    load(alloc, tools.bytes(), app.bytes(), &mut machine)?;
+/// Tests the memory of a machine: the library lies at 00010000, and the application behind it, at 00010010.
+fn test_loaded(rt: &impl Abort, machine: &Machine) {
     let mut wanted = [0xEE; 24];
     wanted[..4].copy_from_slice(&[0, 0, 0, 0x2A]);
     wanted[16..].copy_from_slice(&[0, 1, 0, 0, 0, 1, 0, 0x14]);
     assert_eq!(rt; machine.memory, wanted);
+}
+
+#[test]
+fn loading(rt: HostRuntime) -> Result<(), Fail> {
+    let tools = link_text(rt.alloc(), TOOLS)?;
+    let app = link_text(rt.alloc(), APP)?;
+    let mut machine = Machine { memory: [0xEE; 24] };
+    load(rt.alloc(), tools.bytes(), app.bytes(), &mut machine)?;
+    test_loaded(&rt, &machine);
     Ok(())
 }

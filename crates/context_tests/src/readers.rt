@@ -1,11 +1,11 @@
-use crate::fixture::LIMIT;
+use crate::fixture::{LIMIT, context_of};
 use cfm_prepare::{Connection, Context};
 use std::alloc::{AllocError, Global};
 use std::fmt::Write;
 use std::process::Abort;
 use std::test::Fail;
 use test_data::scripts::LIBRARY;
-use test_links::fragments::{Fragment, containers, store_of};
+use test_links::fragments::{Fragment, containers};
 
 /// A fragment with a main entry, an export of its own, and one of a library that is initialized before it.
 const A: Fragment = (
@@ -14,7 +14,7 @@ const A: Fragment = (
     &[],
 );
 
-const L: Fragment = ("L", LIBRARY, &[]);
+const FRAGMENTS: &[Fragment] = &[A, ("L", LIBRARY, &[])];
 
 /// What is told of a connection.
 pub(crate) fn told(
@@ -23,6 +23,29 @@ pub(crate) fn told(
     connection: Connection,
 ) -> Result<String, AllocError> {
     let mut text = String::new(alloc);
+    tell_connection(&mut text, context, connection)?;
+    Ok(text)
+}
+
+fn tell_connection(
+    text: &mut String,
+    context: &Context<'_>,
+    connection: Connection,
+) -> Result<(), AllocError> {
+    tell_addresses(text, context, connection)?;
+    for i in 0..2 {
+        tell_section(text, i, context.section(connection, i))?;
+    }
+    tell_order(text, context.init_order(connection))?;
+    tell_order(text, context.fragments(connection))
+}
+
+/// The addresses of two symbols and of the main routine.
+fn tell_addresses(
+    text: &mut String,
+    context: &Context<'_>,
+    connection: Connection,
+) -> Result<(), AllocError> {
     match context.symbol(connection, b"own") {
         Some(address) => write!(text, "own {address:08X}")?,
         None => text.push_str("no own")?,
@@ -32,23 +55,26 @@ pub(crate) fn told(
         None => text.push_str(", no v")?,
     }
     match context.main(connection) {
-        Some(address) => write!(text, ", main {address:08X}")?,
-        None => text.push_str(", no main")?,
+        Some(address) => write!(text, ", main {address:08X}"),
+        None => text.push_str(", no main"),
     }
-    for i in 0..2 {
-        match context.section(connection, i) {
-            Some((address, bytes)) => {
-                write!(text, ", {i} at {address:08X} ")?;
-                for byte in bytes {
-                    write!(text, "{byte:02X}")?;
-                }
+}
+
+fn tell_section(
+    text: &mut String,
+    i: usize,
+    section: Option<(u32, &[u8])>,
+) -> Result<(), AllocError> {
+    match section {
+        Some((address, bytes)) => {
+            write!(text, ", {i} at {address:08X} ")?;
+            for byte in bytes {
+                write!(text, "{byte:02X}")?;
             }
-            None => write!(text, ", no {i}")?,
         }
+        None => write!(text, ", no {i}")?,
     }
-    tell_order(&mut text, context.init_order(connection))?;
-    tell_order(&mut text, context.fragments(connection))?;
-    Ok(text)
+    Ok(())
 }
 
 fn tell_order(text: &mut String, order: Option<&[usize]>) -> Result<(), AllocError> {
@@ -64,43 +90,48 @@ fn tell_order(text: &mut String, order: Option<&[usize]>) -> Result<(), AllocErr
     Ok(())
 }
 
-/// What is told of a connection to the first of some fragments, and when it is closed.
-fn tell_connection(
+/// Tests what is told of a connection.
+pub(crate) fn test_told(
     rt: &impl Abort,
     alloc: Global,
-    fragments: &[Fragment],
-) -> Result<(String, String), Fail> {
-    let containers = containers(alloc, fragments)?;
-    let store = store_of(alloc, fragments, &containers)?;
-    let mut context = Context::new(alloc, store, LIMIT);
-    Ok(tell_open_and_closed(rt, alloc, &mut context)?)
+    context: &Context<'_>,
+    connection: u32,
+    wanted: &str,
+) -> Result<(), Fail> {
+    let told = told(alloc, context, Connection(connection))?;
+    assert_eq!(rt; told.as_str(), wanted);
+    Ok(())
 }
 
-/// What is told of the first connection in a context.
-fn tell_open_and_closed(
+/// Tests what is told of the first connection in a context, and when it is closed.
+fn test_open_and_closed(
     rt: &impl Abort,
     alloc: Global,
     context: &mut Context<'_>,
-) -> Result<(String, String), AllocError> {
+) -> Result<(), Fail> {
     assert!(rt; context.prepare(b"A").is_ok());
-    let open = told(alloc, context, Connection(0))?;
+    test_told(
+        rt,
+        alloc,
+        context,
+        0,
+        "own 00010014, no v, main 00010014, 0 at 00010010 0001000000000000, no 1, order 1 0, order 1 0",
+    )?;
     assert!(rt; context.close(Connection(0)).is_ok());
-    let closed = told(alloc, context, Connection(0))?;
-    Ok((open, closed))
+    test_told(
+        rt,
+        alloc,
+        context,
+        0,
+        "no own, no v, no main, no 0, no 1, no order, no order",
+    )
 }
 
 #[test]
 fn readers(rt: HostRuntime) -> Result<(), Fail> {
-    let (open, closed) = tell_connection(&rt, rt.alloc(), &[A, L])?;
-    assert_eq!(rt;
-        open.as_str(),
-        "own 00010014, no v, main 00010014, 0 at 00010010 0001000000000000, no 1, order 1 0, order 1 0"
-    );
-    assert_eq!(rt;
-        closed.as_str(),
-        "no own, no v, no main, no 0, no 1, no order, no order"
-    );
-    Ok(())
+    let containers = containers(rt.alloc(), FRAGMENTS)?;
+    let mut context = context_of(rt.alloc(), FRAGMENTS, &containers, LIMIT)?;
+    test_open_and_closed(&rt, rt.alloc(), &mut context)
 }
 
 /// The number of a connection to a fragment, or that of its refusal.
@@ -111,18 +142,21 @@ pub(crate) fn prepared(context: &mut Context<'_>, name: &[u8]) -> Result<u32, u3
     }
 }
 
-/// No number comes twice, so they come to an end.
-#[test]
-fn all_numbers(rt: HostRuntime) -> Result<(), Fail> {
-    let alloc = rt.alloc();
-    let fragments: [Fragment; 1] = [("E", "", &[])];
-    let containers = containers(alloc, &fragments)?;
-    let store = store_of(alloc, &fragments, &containers)?;
-    let mut context = Context::new(alloc, store, LIMIT);
+const EMPTY: &[Fragment] = &[("E", "", &[])];
+
+/// Prepares and closes a fragment until the numbers come to an end, since none comes twice.
+fn use_all_numbers(rt: &impl Abort, context: &mut Context<'_>) {
     for number in 0..65_536 {
-        assert_eq!(rt; prepared(&mut context, b"E"), Ok(number));
+        assert_eq!(rt; prepared(context, b"E"), Ok(number));
         assert!(rt; context.close(Connection(number)).is_ok());
     }
-    assert_eq!(rt; prepared(&mut context, b"E"), Err(69));
+    assert_eq!(rt; prepared(context, b"E"), Err(69));
+}
+
+#[test]
+fn all_numbers(rt: HostRuntime) -> Result<(), Fail> {
+    let containers = containers(rt.alloc(), EMPTY)?;
+    let mut context = context_of(rt.alloc(), EMPTY, &containers, LIMIT)?;
+    use_all_numbers(&rt, &mut context);
     Ok(())
 }

@@ -1,16 +1,16 @@
 //! Calls to which memory is refused. That shows where these tests are run with one growth refused after another, as by
 //! `tools/refuse-memory`.
 
-use crate::fixture::LIMIT;
-use crate::readers::{prepared, told};
+use crate::fixture::{LIMIT, context_of};
+use crate::readers::{prepared, test_told, told};
 use cfm_memory::{Memory, MemoryFault, Place};
 use cfm_prepare::{Connection, Context};
-use std::alloc::{AllocError, Global};
+use std::alloc::Global;
 use std::process::Abort;
 use std::test::Fail;
 use test_data::refusals::{say_answered, say_begins};
 use test_data::scripts::LIBRARY;
-use test_links::fragments::{Fragment, containers, store_of};
+use test_links::fragments::{Fragment, containers};
 
 /// A library with one export, and two fragments that import it.
 const FRAGMENTS: &[Fragment] = &[("A", A, &[]), ("B", A, &[]), ("L", LIBRARY, &[])];
@@ -26,49 +26,43 @@ fn prepare_again(
 ) -> Result<(), Fail> {
     assert_eq!(rt; prepared(context, b"A"), Ok(0));
     let before = told(alloc, context, Connection(0))?;
+    prepare_second(rt, alloc, context, &before)
+}
+
+/// Prepares the second fragment, behind which the same is told of the first as before.
+fn prepare_second(
+    rt: &(impl Abort + Print),
+    alloc: Global,
+    context: &mut Context<'_>,
+    before: &str,
+) -> Result<(), Fail> {
     say_begins(rt)?;
     let mut answer = prepared(context, b"B");
     let refused = answer == Err(99);
     if refused {
-        test_told(rt, alloc, context, 0, &before)?;
+        test_told(rt, alloc, context, 0, before)?;
         assert!(rt; context.fragment_section(1, 0).is_none());
         answer = prepared(context, b"B");
     }
     assert_eq!(rt; answer, Ok(1));
     say_answered(rt, refused)?;
-    test_told(rt, alloc, context, 0, &before)?;
+    test_told(rt, alloc, context, 0, before)?;
     test_told(
         rt,
         alloc,
         context,
         1,
         "own 00010020, no v, no main, 0 at 00010020 00010000, no 1, order 2 1, order 2 1",
-    )?;
-    Ok(())
-}
-
-/// Tests what is told of a connection.
-fn test_told(
-    rt: &impl Abort,
-    alloc: Global,
-    context: &Context<'_>,
-    connection: u32,
-    wanted: &str,
-) -> Result<(), AllocError> {
-    let told = told(alloc, context, Connection(connection))?;
-    assert_eq!(rt; told.as_str(), wanted);
-    Ok(())
+    )
 }
 
 /// Where memory is refused to `prepare`, the readers answer as before, and the next `prepare` answers as this one
 /// would have.
 #[test]
 fn prepared_again(rt: HostRuntime) -> Result<(), Fail> {
-    let alloc = rt.alloc();
-    let containers = containers(alloc, FRAGMENTS)?;
-    let store = store_of(alloc, FRAGMENTS, &containers)?;
-    let mut context = Context::new(alloc, store, LIMIT);
-    prepare_again(&rt, alloc, &mut context)
+    let containers = containers(rt.alloc(), FRAGMENTS)?;
+    let mut context = context_of(rt.alloc(), FRAGMENTS, &containers, LIMIT)?;
+    prepare_again(&rt, rt.alloc(), &mut context)
 }
 
 /// Places four bytes, which come right behind those at an address, and once more where memory is refused.
