@@ -10,22 +10,30 @@ fn placed(rt: &impl Abort, memory: &mut Memory, size: u32, alignment: u8) -> Pla
     }
 }
 
-/// Places instances in turn: size, alignment and address. An address of 0 stands for the refusal `NoRoom`.
-fn place_all(rt: &impl Abort, memory: &mut Memory, rows: &[(u32, u8, u32)]) {
-    for (size, alignment, address) in rows {
-        assert!(rt; *alignment <= 31);
-        let (size, address) = (*size, *address);
-        match memory.place(size, *alignment) {
-            Ok(place) => {
-                let want = Place { address, size };
-                assert_eq!(rt; place, want, "size {size}, alignment {alignment}");
-                assert!(rt; memory.holds(place));
-            }
-            Err(fault) => {
-                assert_eq!(rt; fault, MemoryFault::NoRoom);
-                assert_eq!(rt; address, 0, "size {size}, alignment {alignment}");
-            }
+/// Size, alignment and address of an instance. An address of 0 stands for the refusal `NoRoom`.
+type Row = (u32, u8, u32);
+
+/// Places an instance.
+fn test_place(rt: &impl Abort, memory: &mut Memory, row: Row) {
+    let (size, alignment, address) = row;
+    assert!(rt; alignment <= 31);
+    match memory.place(size, alignment) {
+        Ok(place) => {
+            let want = Place { address, size };
+            assert_eq!(rt; place, want, "size {size}, alignment {alignment}");
+            assert!(rt; memory.holds(place));
         }
+        Err(fault) => {
+            assert_eq!(rt; fault, MemoryFault::NoRoom);
+            assert_eq!(rt; address, 0, "size {size}, alignment {alignment}");
+        }
+    }
+}
+
+/// Places instances in turn.
+fn place_all(rt: &impl Abort, memory: &mut Memory, rows: &[Row]) {
+    for row in rows {
+        test_place(rt, memory, *row);
     }
 }
 
@@ -36,146 +44,193 @@ fn give_back(rt: &impl Abort, memory: &mut Memory, address: u32, size: u32) {
     assert!(rt; !memory.holds(place));
 }
 
-#[test]
-fn place_and_give_back(rt: HostRuntime) {
-    let alloc = rt.alloc();
-    let mut memory = Memory::new(alloc, 0x0100_0000);
-    place_all(
-        &rt,
-        &mut memory,
-        &[(8, 4, 0x1_0000), (0, 17, 0x2_0000), (20, 4, 0x1_0010)],
-    );
-    give_back(&rt, &mut memory, 0x1_0000, 8);
-    place_all(
-        &rt,
-        &mut memory,
-        &[
-            (16, 0, 0x1_0000),
-            (1, 5, 0x1_0040),
-            (1, 0, 0x1_0030),
-            (1, 0, 0x1_0050),
-        ],
-    );
-    // A gap that is too small is passed over, also by what would fit but for its alignment.
-    give_back(&rt, &mut memory, 0x1_0030, 1);
-    place_all(
-        &rt,
-        &mut memory,
-        &[(17, 0, 0x1_0060), (16, 5, 0x1_0080), (16, 4, 0x1_0030)],
-    );
-    // What ends at the limit, or fills a gap, has just room.
-    place_all(
-        &rt,
-        &mut memory,
-        &[
-            (0x00FE_0001, 0, 0),
-            (0x00FD_FFF0, 0, 0x2_0010),
-            (0x0000_FF00, 0, 0x1_0090),
-            (0, 31, 0),
-        ],
-    );
+const FIRST: &[Row] = &[(8, 4, 0x1_0000), (0, 17, 0x2_0000), (20, 4, 0x1_0010)];
+
+const FIRST_AGAIN: &[Row] = &[
+    (16, 0, 0x1_0000),
+    (1, 5, 0x1_0040),
+    (1, 0, 0x1_0030),
+    (1, 0, 0x1_0050),
+];
+
+/// A gap that is too small is passed over, also by what would fit but for its alignment.
+const ROUND_A_GAP: &[Row] = &[(17, 0, 0x1_0060), (16, 5, 0x1_0080), (16, 4, 0x1_0030)];
+
+/// What ends at the limit, or fills a gap, has just room.
+const JUST_ROOM: &[Row] = &[
+    (0x00FE_0001, 0, 0),
+    (0x00FD_FFF0, 0, 0x2_0010),
+    (0x0000_FF00, 0, 0x1_0090),
+    (0, 31, 0),
+];
+
+fn test_place_and_give_back(rt: &impl Abort, memory: &mut Memory) {
+    place_all(rt, memory, FIRST);
+    give_back(rt, memory, 0x1_0000, 8);
+    place_all(rt, memory, FIRST_AGAIN);
+    give_back(rt, memory, 0x1_0030, 1);
+    place_all(rt, memory, ROUND_A_GAP);
+    place_all(rt, memory, JUST_ROOM);
 }
 
 #[test]
+fn place_and_give_back(rt: HostRuntime) {
+    test_place_and_give_back(&rt, &mut Memory::new(rt.alloc(), 0x0100_0000));
+}
+
+/// A limit, and what is placed below it.
+const LIMITS: &[(u32, &[Row])] = &[
+    (0, &[(0, 0, 0)]),
+    (0x1_000F, &[(0, 0, 0), (15, 0, 0)]),
+    (0x1_0010, &[(0, 17, 0), (16, 16, 0x1_0000), (0, 0, 0)]),
+    (0x1_0020, &[(17, 4, 0x1_0000), (0, 4, 0)]),
+    (
+        0xFFFF_FFFF,
+        &[(4, 31, 0x8000_0000), (4, 31, 0), (0xFFFF_FFFF, 0, 0)],
+    ),
+];
+
+#[test]
 fn place_below_a_limit(rt: HostRuntime) {
-    let alloc = rt.alloc();
-    let rows: [(u32, &[(u32, u8, u32)]); 5] = [
-        (0, &[(0, 0, 0)]),
-        (0x1_000F, &[(0, 0, 0), (15, 0, 0)]),
-        (0x1_0010, &[(0, 17, 0), (16, 16, 0x1_0000), (0, 0, 0)]),
-        (0x1_0020, &[(17, 4, 0x1_0000), (0, 4, 0)]),
-        (
-            0xFFFF_FFFF,
-            &[(4, 31, 0x8000_0000), (4, 31, 0), (0xFFFF_FFFF, 0, 0)],
-        ),
-    ];
-    for (limit, places) in rows {
-        place_all(&rt, &mut Memory::new(alloc, limit), places);
+    for (limit, places) in LIMITS {
+        place_all(&rt, &mut Memory::new(rt.alloc(), *limit), places);
+    }
+}
+
+/// How many instances, the size and the alignment of each, and the distance of their addresses: 64 MiB
+/// and more in one piece and in many, and all that the sections of a script may have.
+const MUCH: &[(u32, u32, u8, u32)] = &[
+    (1, 0x0400_0001, 31, 0),
+    (8, 0x0100_0000, 12, 0x0100_0000),
+    (1_025, 0x0001_0000, 4, 0x0001_0000),
+];
+
+/// Tests that an instance is there, and begins and ends with zeros.
+fn test_zeros(rt: &impl Abort, memory: &Memory, place: Place) {
+    assert!(rt; memory.holds(place));
+    let part = memory.part(place);
+    assert_eq!(rt; part.len(), place.size as usize);
+    assert_eq!(rt; (part.first(), part.last()), (Some(&0), Some(&0)));
+}
+
+/// Places instances alike.
+fn place_alike(
+    rt: &impl Abort,
+    memory: &mut Memory,
+    count: u32,
+    size: u32,
+    alignment: u8,
+    distance: u32,
+) {
+    let first = placed(rt, memory, size, alignment).address;
+    let mut address = first;
+    for _ in 1..count {
+        address = address.wrapping_add(distance);
+        let place = placed(rt, memory, size, alignment);
+        assert_eq!(rt; place, Place { address, size }, "{count} of {size}");
+    }
+    for address in [first, address] {
+        test_zeros(rt, memory, Place { address, size });
     }
 }
 
 /// Want of memory isn't told where there is memory.
 #[test]
 fn place_much(rt: HostRuntime) {
-    let alloc = rt.alloc();
-    // How many instances, the size and the alignment of each, and the distance of their addresses: 64 MiB
-    // and more in one piece and in many, and all that the sections of a script may have.
-    let rows = [
-        (1, 0x0400_0001, 31, 0),
-        (8, 0x0100_0000, 12, 0x0100_0000),
-        (1_025, 0x0001_0000, 4, 0x0001_0000),
-    ];
-    for (count, size, alignment, distance) in rows {
-        let mut memory = Memory::new(alloc, 0xFFFF_FFFF);
-        let first = placed(&rt, &mut memory, size, alignment).address;
-        let mut address = first;
-        for _ in 1..count {
-            address = address.wrapping_add(distance);
-            let place = placed(&rt, &mut memory, size, alignment);
-            assert_eq!(rt; place, Place { address, size }, "{count} of {size}");
-        }
-        for address in [first, address] {
-            let place = Place { address, size };
-            assert!(rt; memory.holds(place));
-            let part = memory.part(place);
-            assert_eq!(rt; part.len(), size as usize);
-            assert_eq!(rt; (part.first(), part.last()), (Some(&0), Some(&0)));
-        }
+    for row in MUCH {
+        let (count, size, alignment, distance) = *row;
+        let mut memory = Memory::new(rt.alloc(), 0xFFFF_FFFF);
+        place_alike(&rt, &mut memory, count, size, alignment, distance);
     }
+}
+
+/// Places instances of 16, 20 and 0 bytes, and writes to the second.
+fn write_second(rt: &impl Abort, memory: &mut Memory) {
+    placed(rt, memory, 16, 4);
+    let middle = placed(rt, memory, 20, 4);
+    placed(rt, memory, 0, 4);
+    assert!(rt; memory.holds(middle));
+    let part = memory.part_mut(middle);
+    assert_eq!(rt; part.len(), 20);
+    part.fill(7);
 }
 
 /// A memory with instances of 16, 20 and 0 bytes, of which the second is written to.
 fn written(rt: &impl Abort, alloc: Global) -> Memory {
     let mut memory = Memory::new(alloc, 0x2_0000);
-    placed(rt, &mut memory, 16, 4);
-    let middle = placed(rt, &mut memory, 20, 4);
-    placed(rt, &mut memory, 0, 4);
-    assert!(rt; memory.holds(middle));
-    let part = memory.part_mut(middle);
-    assert_eq!(rt; part.len(), 20);
-    part.fill(7);
+    write_second(rt, &mut memory);
     memory
 }
 
-#[test]
-fn holds_and_part(rt: HostRuntime) {
-    let memory = written(&rt, rt.alloc());
-    for (address, size, byte) in [(0x1_0000, 16, 0), (0x1_0010, 20, 7), (0x1_0030, 0, 0)] {
-        let place = Place { address, size };
-        assert!(rt; memory.holds(place));
-        let part = memory.part(place);
-        assert_eq!(rt; part.len(), size as usize);
-        assert!(rt; part.iter().all(|b| *b == byte), "at {address}");
+/// Address and size of each instance, and its bytes.
+const HELD: &[(u32, u32, u8)] = &[(0x1_0000, 16, 0), (0x1_0010, 20, 7), (0x1_0030, 0, 0)];
+
+/// Address and size of what is no instance.
+const NOT_HELD: &[(u32, u32)] = &[(0x1_0000, 20), (0x1_0010, 16), (0x1_0020, 4), (0x1_0040, 0)];
+
+/// Tests that an instance is there, with one byte throughout.
+fn test_part(rt: &impl Abort, memory: &Memory, address: u32, size: u32, byte: u8) {
+    let place = Place { address, size };
+    assert!(rt; memory.holds(place));
+    let part = memory.part(place);
+    assert_eq!(rt; part.len(), size as usize);
+    assert!(rt; part.iter().all(|b| *b == byte), "at {address}");
+}
+
+fn test_held(rt: &impl Abort, memory: &Memory) {
+    for (address, size, byte) in HELD {
+        test_part(rt, memory, *address, *size, *byte);
     }
-    for (address, size) in [(0x1_0000, 20), (0x1_0010, 16), (0x1_0020, 4), (0x1_0040, 0)] {
+    for row in NOT_HELD {
+        let (address, size) = *row;
         assert!(rt; !memory.holds(Place { address, size }));
     }
 }
 
 #[test]
-fn at(rt: HostRuntime) {
-    let memory = written(&rt, rt.alloc());
-    // Address, length, and the sum of the bytes there, where they lie inside one instance.
-    let rows = [
-        (0x1_0000, 16, Some(0)),
-        (0x1_0008, 9, None),
-        (0x1_0010, 20, Some(140)),
-        (0x1_0010, 0, Some(0)),
-        (0x1_0023, 1, Some(7)),
-        (0x1_0024, 0, Some(0)),
-        (0x1_0024, 1, None),
-        (0x1_0025, 0, None),
-        (0x1_0030, 0, Some(0)),
-        (0x1_0030, 1, None),
-        (0x0_FFFF, 1, None),
-        (0xFFFF_FFFF, 0xFFFF_FFFF, None),
-    ];
-    for (address, len, sum) in rows {
-        let found = memory.at(address, len).map(|range| range
+fn holds_and_part(rt: HostRuntime) {
+    test_held(&rt, &written(&rt, rt.alloc()));
+}
+
+/// Address, length, and the sum of the bytes there, where they lie inside one instance.
+const SUMS: &[(u32, u32, Option<u64>)] = &[
+    (0x1_0000, 16, Some(0)),
+    (0x1_0008, 9, None),
+    (0x1_0010, 20, Some(140)),
+    (0x1_0010, 0, Some(0)),
+    (0x1_0023, 1, Some(7)),
+    (0x1_0024, 0, Some(0)),
+    (0x1_0024, 1, None),
+    (0x1_0025, 0, None),
+    (0x1_0030, 0, Some(0)),
+    (0x1_0030, 1, None),
+    (0x0_FFFF, 1, None),
+    (0xFFFF_FFFF, 0xFFFF_FFFF, None),
+];
+
+/// The sum of some bytes, where they lie inside one instance.
+fn sum_at(memory: &Memory, address: u32, len: u32) -> Option<u64> {
+    let range = memory.at(address, len)?;
+    Some(
+        range
             .iter()
-            .fold(0u64, |s, b| s.saturating_add(u64::from(*b))));
-        assert_eq!(rt; found, sum, "{len} bytes at {address}");
+            .fold(0u64, |s, b| s.saturating_add(u64::from(*b))),
+    )
+}
+
+fn test_sums(rt: &impl Abort, memory: &Memory) {
+    for (address, len, sum) in SUMS {
+        assert_eq!(rt;
+            sum_at(memory, *address, *len),
+            *sum,
+            "{len} bytes at {address}"
+        );
     }
+}
+
+#[test]
+fn at(rt: HostRuntime) {
+    test_sums(&rt, &written(&rt, rt.alloc()));
 }
 
 /// How many bytes an instance takes.
@@ -208,38 +263,68 @@ fn lowest(instances: &[Place], size: u32, alignment: u32) -> Option<u32> {
     None
 }
 
-/// Instances of many sizes and alignments come and go, and each comes where a scan of all places it.
-#[test]
-fn place_against_a_scan(rt: HostRuntime) -> Result<(), AllocError> {
-    let alloc = rt.alloc();
-    let mut memory = Memory::new(alloc, 0x2_0000);
-    let mut instances: Vec<Place> = Vec::new(alloc);
+/// Places an instance where a scan of all places it.
+fn place_as_scanned(
+    rt: &impl Abort,
+    memory: &mut Memory,
+    instances: &mut Vec<Place>,
+    call: u32,
+    state: u32,
+) -> Result<(), AllocError> {
+    let (size, alignment) = ((state >> 8) % 101, (state >> 12) % 9);
+    let want = lowest(instances, size, alignment);
+    match memory.place(size, alignment as u8) {
+        Ok(place) => {
+            assert_eq!(rt;
+                (Some(place.address), place.size),
+                (want, size),
+                "call {call}"
+            );
+            instances.push(place)?;
+        }
+        Err(fault) => {
+            assert_eq!(rt; (fault, want), (MemoryFault::NoRoom, None), "call {call}");
+        }
+    }
+    Ok(())
+}
+
+/// Gives an instance back, or places one.
+fn come_or_go(
+    rt: &impl Abort,
+    memory: &mut Memory,
+    instances: &mut Vec<Place>,
+    call: u32,
+    state: u32,
+) -> Result<(), AllocError> {
+    let index = (state >> 20) as usize % 160;
+    if index < instances.len() {
+        let place = instances.remove(index);
+        give_back(rt, memory, place.address, place.size);
+        return Ok(());
+    }
+    place_as_scanned(rt, memory, instances, call, state)
+}
+
+fn test_against_a_scan(
+    rt: &impl Abort,
+    memory: &mut Memory,
+    instances: &mut Vec<Place>,
+) -> Result<(), AllocError> {
     let mut state = 1u32;
     for call in 0..2_000 {
         state = state.wrapping_mul(1_664_525).wrapping_add(1_013_904_223);
-        let index = (state >> 20) as usize % 160;
-        if index < instances.len() {
-            let place = instances.remove(index);
-            give_back(&rt, &mut memory, place.address, place.size);
-            continue;
-        }
-        let (size, alignment) = ((state >> 8) % 101, (state >> 12) % 9);
-        let want = lowest(&instances, size, alignment);
-        match memory.place(size, alignment as u8) {
-            Ok(place) => {
-                assert_eq!(rt;
-                    (Some(place.address), place.size),
-                    (want, size),
-                    "call {call}"
-                );
-                instances.push(place)?;
-            }
-            Err(fault) => {
-                assert_eq!(rt; (fault, want), (MemoryFault::NoRoom, None), "call {call}");
-            }
-        }
+        come_or_go(rt, memory, instances, call, state)?;
     }
     // The walk leaves some tens of instances, with gaps between them.
     assert!(rt; instances.len() > 40 && instances.len() < 160);
     Ok(())
+}
+
+/// Instances of many sizes and alignments come and go, and each comes where a scan of all places it.
+#[test]
+fn place_against_a_scan(rt: HostRuntime) -> Result<(), AllocError> {
+    let mut memory = Memory::new(rt.alloc(), 0x2_0000);
+    let mut instances = Vec::new(rt.alloc());
+    test_against_a_scan(&rt, &mut memory, &mut instances)
 }

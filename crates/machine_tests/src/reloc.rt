@@ -25,43 +25,45 @@ fn apply_number(bytes: &[u8], memory: &mut [u8], sections: &[u32], imports: &[u3
     }
 }
 
+/// The bytes of a program, and the number of its refusal, 0 for none.
+const READ: &[(&[u8], u32)] = &[
+    (&[], 0),
+    (&[0x42, 0x00], 0),
+    (&[0x42, 0x00, 0x90, 0x01], 0),
+    (&[0x42, 0x00, 0xB0, 0x00, 0x00, 0x00], 0),
+    (&[0x4C, 0x00], 31),
+    (&[0xB4, 0xC0, 0x00, 0x00], 31),
+    (&[0xB4, 0xC0], 31),
+    (&[0xC0, 0x00], 31),
+    (&[0x4C], 32),
+    (&[0x42, 0x00, 0x42], 32),
+    (&[0xA0, 0x00], 32),
+    (&[0xA0, 0x00, 0x00], 32),
+    (&[0x90, 0x00], 33),
+    (&[0x42, 0x00, 0x91, 0x00], 33),
+    (&[0xA0, 0x00, 0x00, 0x00, 0x90, 0x00], 34),
+    (&[0x42, 0x00, 0xA0, 0x00, 0x00, 0x00, 0x92, 0x00], 0),
+    (&[0x42, 0x00, 0x90, 0x01, 0x90, 0x01], 35),
+    (&[0x42, 0x00, 0x90, 0x01, 0x42, 0x00, 0x90, 0x01], 0),
+    // Four instructions, 4,194,303 times four more, and the repeat itself: 16,777,217 steps.
+    (
+        &[
+            0x80, 0x00, 0x80, 0x00, 0x80, 0x00, 0x80, 0x00, 0xB0, 0xFF, 0xFF, 0xFF,
+        ],
+        36,
+    ),
+    (
+        &[
+            0x80, 0x00, 0x80, 0x00, 0x80, 0x00, 0x80, 0x00, 0xB0, 0xFF, 0xFF, 0xFE,
+        ],
+        0,
+    ),
+];
+
 #[test]
 fn programs_read(rt: HostRuntime) {
-    let rows: [(&[u8], u32); 20] = [
-        (&[], 0),
-        (&[0x42, 0x00], 0),
-        (&[0x42, 0x00, 0x90, 0x01], 0),
-        (&[0x42, 0x00, 0xB0, 0x00, 0x00, 0x00], 0),
-        (&[0x4C, 0x00], 31),
-        (&[0xB4, 0xC0, 0x00, 0x00], 31),
-        (&[0xB4, 0xC0], 31),
-        (&[0xC0, 0x00], 31),
-        (&[0x4C], 32),
-        (&[0x42, 0x00, 0x42], 32),
-        (&[0xA0, 0x00], 32),
-        (&[0xA0, 0x00, 0x00], 32),
-        (&[0x90, 0x00], 33),
-        (&[0x42, 0x00, 0x91, 0x00], 33),
-        (&[0xA0, 0x00, 0x00, 0x00, 0x90, 0x00], 34),
-        (&[0x42, 0x00, 0xA0, 0x00, 0x00, 0x00, 0x92, 0x00], 0),
-        (&[0x42, 0x00, 0x90, 0x01, 0x90, 0x01], 35),
-        (&[0x42, 0x00, 0x90, 0x01, 0x42, 0x00, 0x90, 0x01], 0),
-        // Four instructions, 4,194,303 times four more, and the repeat itself: 16,777,217 steps.
-        (
-            &[
-                0x80, 0x00, 0x80, 0x00, 0x80, 0x00, 0x80, 0x00, 0xB0, 0xFF, 0xFF, 0xFF,
-            ],
-            36,
-        ),
-        (
-            &[
-                0x80, 0x00, 0x80, 0x00, 0x80, 0x00, 0x80, 0x00, 0xB0, 0xFF, 0xFF, 0xFE,
-            ],
-            0,
-        ),
-    ];
-    for (bytes, want) in rows {
-        assert_eq!(rt; read_number(bytes), want, "{bytes:?}");
+    for (bytes, want) in READ {
+        assert_eq!(rt; read_number(bytes), *want, "{bytes:?}");
     }
 }
 
@@ -146,25 +148,37 @@ const KINDS: &[(&[u8], u8, Instr, &[u32])] = &[
     ),
 ];
 
-/// Tests that an instruction starts at a halfword of a program, and that it is spelled so.
-fn test_spelled(
+/// Tests that an instruction starts at a halfword of a program.
+fn test_starts(
     rt: &impl Abort,
-    alloc: Global,
     bytes: &[u8],
     halfword: u8,
     instr: Instr,
-) -> Result<(), Fail> {
-    let at = usize::from(halfword);
+) -> Result<(), RelocFault> {
+    let program = Program::read(bytes)?;
     assert!(rt;
-        Program::read(bytes)?.instr_at(at) == Some(instr),
+        program.instr_at(usize::from(halfword)) == Some(instr),
         "{bytes:?}"
     );
-    assert!(rt; instr.fits(), "{bytes:?}");
-    let spelled = encode(alloc, &[instr])?;
-    assert!(rt; spelled.len() / 2 == instr.length(), "{bytes:?}");
-    let rest = bytes.get(2 * at..).unwrap_or_default();
-    assert!(rt; rest.starts_with(spelled.as_slice()), "{bytes:?}");
     Ok(())
+}
+
+/// Tests that an instruction is spelled as from a halfword of a program on.
+fn test_spelled(rt: &impl Abort, spelled: &[u8], bytes: &[u8], halfword: u8, instr: Instr) {
+    assert!(rt; spelled.len() / 2 == instr.length(), "{bytes:?}");
+    let rest = bytes.get(2 * usize::from(halfword)..).unwrap_or_default();
+    assert!(rt; rest.starts_with(spelled), "{bytes:?}");
+}
+
+/// Spells an instruction that fits.
+fn spell(
+    rt: &impl Abort,
+    alloc: Global,
+    bytes: &[u8],
+    instr: Instr,
+) -> Result<Vec<u8>, RelocFault> {
+    assert!(rt; instr.fits(), "{bytes:?}");
+    encode(alloc, &[instr])
 }
 
 /// Tests the words that a program makes of zeros.
@@ -181,50 +195,71 @@ fn test_words(rt: &impl Abort, bytes: &[u8], words: &[u32]) {
 fn kinds_applied(rt: HostRuntime) -> Result<(), Fail> {
     for row in KINDS {
         let (bytes, halfword, instr, words) = *row;
-        test_spelled(&rt, rt.alloc(), bytes, halfword, instr)?;
+        test_starts(&rt, bytes, halfword, instr)?;
+        let spelled = spell(&rt, rt.alloc(), bytes, instr)?;
+        test_spelled(&rt, &spelled, bytes, halfword, instr);
         test_words(&rt, bytes, words);
+    }
+    Ok(())
+}
+
+/// A program of three instructions.
+const WALKED: &[u8] = &[0x42, 0x00, 0xB0, 0x00, 0x00, 0x00, 0x40, 0x01];
+
+const REPEAT: Instr = Instr::LgRepeat {
+    blocks: 1,
+    count: 0,
+};
+
+/// What starts at each of its halfwords.
+const STARTS: &[Option<Instr>] = &[
+    Some(Instr::BySectD(1)),
+    Some(REPEAT),
+    None,
+    Some(Instr::BySectC(2)),
+    None,
+];
+
+/// What a walk over it comes to.
+const WALK: &[Option<Instr>] = &[
+    Some(Instr::BySectD(1)),
+    Some(REPEAT),
+    Some(Instr::BySectC(2)),
+    None,
+    None,
+];
+
+fn test_walked(rt: &impl Abort, program: &Program<'_>) {
+    assert_eq!(rt; program.bytes(), WALKED);
+    for (halfword, instr) in STARTS.iter().enumerate() {
+        assert_eq!(rt; program.instr_at(halfword), *instr, "halfword {halfword}");
+    }
+    let mut walk = program.instrs();
+    for instr in WALK {
+        assert_eq!(rt; walk.next_instr(), *instr);
+    }
+}
+
+/// Programs, and whether they are flat.
+const FLAT: &[(&[u8], bool)] = &[
+    (&[], true),
+    (&[0x42, 0x00, 0x40, 0x00], true),
+    (&[0x42, 0x00, 0x90, 0x00], false),
+    (WALKED, false),
+];
+
+fn test_flat(rt: &impl Abort) -> Result<(), RelocFault> {
+    for (bytes, want) in FLAT {
+        assert_eq!(rt; Program::read(bytes)?.flat(), *want, "{bytes:?}");
     }
     Ok(())
 }
 
 #[test]
 fn instructions_walked(rt: HostRuntime) -> Result<(), Fail> {
-    let bytes = [0x42, 0x00, 0xB0, 0x00, 0x00, 0x00, 0x40, 0x01];
-    let repeat = Instr::LgRepeat {
-        blocks: 1,
-        count: 0,
-    };
-    let program = Program::read(&bytes)?;
-    assert_eq!(rt; program.bytes(), bytes.as_slice());
-    let starts = [
-        Some(Instr::BySectD(1)),
-        Some(repeat),
-        None,
-        Some(Instr::BySectC(2)),
-        None,
-    ];
-    for (halfword, instr) in starts.iter().enumerate() {
-        assert_eq!(rt; program.instr_at(halfword), *instr, "halfword {halfword}");
-    }
-    let mut walk = program.instrs();
-    for instr in [
-        Some(Instr::BySectD(1)),
-        Some(repeat),
-        Some(Instr::BySectC(2)),
-        None,
-        None,
-    ] {
-        assert_eq!(rt; walk.next_instr(), instr);
-    }
-    let flat: [(&[u8], bool); 4] = [
-        (&[], true),
-        (&[0x42, 0x00, 0x40, 0x00], true),
-        (&[0x42, 0x00, 0x90, 0x00], false),
-        (&bytes, false),
-    ];
-    for (bytes, want) in flat {
-        assert_eq!(rt; Program::read(bytes)?.flat(), want, "{bytes:?}");
-    }
+    let program = Program::read(WALKED)?;
+    test_walked(&rt, &program);
+    test_flat(&rt)?;
     Ok(())
 }
 
@@ -314,74 +349,108 @@ const APPLIED: &[(&[u8], &[u8], &[u32], &[u32], u32, &[u8])] = &[
     ),
 ];
 
+/// Tests what a program makes of memory, and the number of its refusal.
+fn test_applied(
+    rt: &impl Abort,
+    bytes: &[u8],
+    memory: &mut [u8],
+    sections: &[u32],
+    imports: &[u32],
+    want: u32,
+    after: &[u8],
+) {
+    let number = apply_number(bytes, memory, sections, imports);
+    assert!(rt; number == want, "{bytes:?}");
+    assert!(rt; *memory == *after, "{bytes:?}");
+}
+
 #[test]
 fn programs_applied(rt: HostRuntime) -> Result<(), AllocError> {
     for row in APPLIED {
         let (bytes, before, sections, imports, want, after) = *row;
         let mut memory = Vec::from_slice(rt.alloc(), before)?;
-        let number = apply_number(bytes, memory.as_mut_slice(), sections, imports);
-        assert!(rt; number == want, "{bytes:?}");
-        assert!(rt; memory.as_slice() == after, "{bytes:?}");
+        test_applied(&rt, bytes, &mut memory, sections, imports, want, after);
     }
     Ok(())
 }
 
+/// Four instructions, 4,194,302 times four more, and the repeat itself: 16,777,213 steps.
+const MOST_STEPS: &[u8] = &[
+    0x80, 0x00, 0x80, 0x00, 0x80, 0x00, 0x80, 0x00, 0xB0, 0xFF, 0xFF, 0xFE,
+];
+
 #[test]
 fn shortest_and_longest_applied(rt: HostRuntime) {
     assert_eq!(rt; apply_number(&[0x40, 0x00], &mut [0; 3], &[0x100], &[]), 37);
-    // Four instructions, 4,194,302 times four more, and the repeat itself: 16,777,213 steps.
-    let most = [
-        0x80, 0x00, 0x80, 0x00, 0x80, 0x00, 0x80, 0x00, 0xB0, 0xFF, 0xFF, 0xFE,
-    ];
-    assert_eq!(rt; apply_number(&most, &mut [], &[], &[]), 0);
+    assert_eq!(rt; apply_number(MOST_STEPS, &mut [], &[], &[]), 0);
+}
+
+const SECTION: Base = Base::Section(7);
+
+const IMPORT: Base = Base::Import(65_535);
+
+/// The offsets and bases of fixups, and whether they fit.
+const FITTING: &[(&[(u32, Base)], bool)] = &[
+    (&[], true),
+    (&[(0, SECTION)], true),
+    (&[(4, SECTION), (0xFF_FFFC, IMPORT)], true),
+    (&[(0xFF_FFFC, IMPORT), (4, SECTION)], false),
+    (&[(4, SECTION), (8, SECTION)], true),
+    (&[(4, SECTION), (7, SECTION)], false),
+    (&[(4, SECTION), (4, SECTION)], false),
+    (&[(0xFF_FFFD, SECTION)], false),
+    (&[(0, Base::Section(8))], false),
+    (&[(0, Base::Import(65_536))], false),
+];
+
+fn test_fitting(rt: &impl Abort, fixups: &[(u32, Base)], want: bool) {
+    let mut list = [Fixup {
+        offset: 0,
+        base: SECTION,
+    }; 2];
+    for (slot, (offset, base)) in list.iter_mut().zip(fixups) {
+        *slot = Fixup {
+            offset: *offset,
+            base: *base,
+        };
+    }
+    assert!(rt; fixups.len() <= list.len());
+    assert_eq!(rt; fixups_fit(&list[..fixups.len()]), want, "{fixups:?}");
 }
 
 #[test]
 fn fixups_that_fit(rt: HostRuntime) {
-    let section = Base::Section(7);
-    let import = Base::Import(65_535);
-    let rows: [(&[(u32, Base)], bool); 10] = [
-        (&[], true),
-        (&[(0, section)], true),
-        (&[(4, section), (0xFF_FFFC, import)], true),
-        (&[(0xFF_FFFC, import), (4, section)], false),
-        (&[(4, section), (8, section)], true),
-        (&[(4, section), (7, section)], false),
-        (&[(4, section), (4, section)], false),
-        (&[(0xFF_FFFD, section)], false),
-        (&[(0, Base::Section(8))], false),
-        (&[(0, Base::Import(65_536))], false),
-    ];
-    for (fixups, want) in rows {
-        let mut list = [Fixup {
-            offset: 0,
-            base: section,
-        }; 2];
-        for (slot, (offset, base)) in list.iter_mut().zip(fixups) {
-            *slot = Fixup {
-                offset: *offset,
-                base: *base,
-            };
-        }
-        assert_eq!(rt; fixups_fit(&list[..fixups.len()]), want, "{fixups:?}");
+    for (fixups, want) in FITTING {
+        test_fitting(&rt, fixups, *want);
     }
 }
 
-#[test]
-fn most_fixups(rt: HostRuntime) -> Result<(), Fail> {
-    let mut fixups = Vec::with_capacity(rt.alloc(), MAX_FIXUPS + 1)?;
+/// As many fixups as there may be, one for each of as many imports.
+fn push_most_fixups(fixups: &mut Vec<Fixup>) -> Result<(), AllocError> {
     for i in 0..MAX_FIXUPS as u32 {
         fixups.push(Fixup {
             offset: 8 * i,
             base: Base::Import(i),
         })?;
     }
-    assert!(rt; fixups_fit(&fixups));
+    Ok(())
+}
+
+fn test_most_fixups(rt: &impl Abort, fixups: &mut Vec<Fixup>) -> Result<(), AllocError> {
+    push_most_fixups(fixups)?;
+    assert!(rt; fixups_fit(fixups));
     fixups.push(Fixup {
         offset: 0xFF_FFFC,
         base: Base::Import(0),
     })?;
-    assert!(rt; !fixups_fit(&fixups));
+    assert!(rt; !fixups_fit(fixups));
+    Ok(())
+}
+
+#[test]
+fn most_fixups(rt: HostRuntime) -> Result<(), Fail> {
+    let mut fixups = Vec::with_capacity(rt.alloc(), MAX_FIXUPS + 1)?;
+    test_most_fixups(&rt, &mut fixups)?;
     Ok(())
 }
 
@@ -394,21 +463,39 @@ fn alike(alloc: Global, instr: Instr, count: usize) -> Result<Vec<Instr>, AllocE
     Ok(instrs)
 }
 
-/// A million instructions are encoded, read, and applied to sixteen million bytes.
-#[test]
-fn a_million_instructions(rt: HostRuntime) -> Result<(), Fail> {
-    let instrs = alike(rt.alloc(), Instr::TVector8(2), 1_000_000)?;
-    let bytes = encode(rt.alloc(), &instrs)?;
+/// The bytes of a million instructions.
+fn million(alloc: Global) -> Result<Vec<u8>, Fail> {
+    let instrs = alike(alloc, Instr::TVector8(2), 1_000_000)?;
+    Ok(encode(alloc, &instrs)?)
+}
+
+fn test_million(rt: &impl Abort, bytes: &[u8], program: &Program<'_>) {
     assert_eq!(rt; bytes.len(), 2_000_000);
-    let program = Program::read(&bytes)?;
     assert!(rt; program.flat());
     assert_eq!(rt; program.instr_at(999_999), Some(Instr::TVector8(2)));
     assert_eq!(rt; program.instr_at(1_000_000), None);
-    let mut memory = vec![in rt.alloc(); 1; 16_000_004]?;
-    apply(&program, &mut memory, &[0x0100_0000, 0x0200_0000], &[])?;
+}
+
+/// Tests sixteen million bytes of ones, to which they are applied.
+fn test_million_applied(rt: &impl Abort, memory: &[u8]) {
     for words in memory.chunks_exact(8) {
         assert!(rt; words == [2, 1, 1, 1, 3, 1, 1, 1].as_slice());
     }
     assert!(rt; memory.ends_with(&[1; 4]));
+}
+
+fn apply_million(rt: &impl Abort, alloc: Global, program: &Program<'_>) -> Result<(), Fail> {
+    let mut memory = vec![in alloc; 1; 16_000_004]?;
+    apply(program, &mut memory, &[0x0100_0000, 0x0200_0000], &[])?;
+    test_million_applied(rt, &memory);
     Ok(())
+}
+
+/// A million instructions are encoded, read, and applied to sixteen million bytes.
+#[test]
+fn a_million_instructions(rt: HostRuntime) -> Result<(), Fail> {
+    let bytes = million(rt.alloc())?;
+    let program = Program::read(&bytes)?;
+    test_million(&rt, &bytes, &program);
+    apply_million(&rt, rt.alloc(), &program)
 }
