@@ -47,27 +47,45 @@ const OWN: usize = 1;
 /// How many imports are declared.
 const IMPORTS: u32 = 601;
 
-/// A script of three sections, of which the second has these fixups.
-fn script_of(alloc: Global, listed: &[(u32, Base)]) -> Result<String, AllocError> {
-    let mut text = String::new(alloc);
+/// The lines of the library and its imports.
+fn push_imports(text: &mut String) -> Result<(), AllocError> {
     text.push_str("library Tools 1 0 -\n")?;
     for number in 0..IMPORTS {
         write!(text, "import i{number} data strong\n")?;
     }
+    Ok(())
+}
+
+/// The lines of three sections.
+fn push_sections(text: &mut String) -> Result<(), AllocError> {
     for number in 0..3 {
         write!(text, "section s{number} data process 4 8192\n")?;
     }
-    for fixup in listed {
-        let (offset, base) = *fixup;
-        match base {
-            Base::Section(number) => {
-                write!(text, "fix s{OWN} {offset} section s{number}\n")?;
-            }
-            Base::Import(number) => {
-                write!(text, "fix s{OWN} {offset} import i{number}\n")?;
-            }
-        }
+    Ok(())
+}
+
+/// The lines of the fixups of the second section.
+fn push_listed(text: &mut String, listed: &[(u32, Base)]) -> Result<(), AllocError> {
+    for (offset, base) in listed {
+        push_fixup(text, *offset, *base)?;
     }
+    Ok(())
+}
+
+/// The line of a fixup of the second section.
+fn push_fixup(text: &mut String, offset: u32, base: Base) -> Result<(), AllocError> {
+    match base {
+        Base::Section(number) => write!(text, "fix s{OWN} {offset} section s{number}\n"),
+        Base::Import(number) => write!(text, "fix s{OWN} {offset} import i{number}\n"),
+    }
+}
+
+/// A script of three sections, of which the second has these fixups.
+fn script_of(alloc: Global, listed: &[(u32, Base)]) -> Result<String, AllocError> {
+    let mut text = String::new(alloc);
+    push_imports(&mut text)?;
+    push_sections(&mut text)?;
+    push_listed(&mut text, listed)?;
     Ok(text)
 }
 
@@ -88,8 +106,18 @@ fn test_written(
     written: &[u8],
 ) -> Result<(), Fail> {
     let certificate = certificate_of(rt, linked, section)?;
-    let program = spelled(alloc, written)?;
     assert_eq!(rt; section, OWN as u32);
+    test_spelled(rt, alloc, certificate, written)
+}
+
+/// Tests that a certificate has the program that these bytes spell.
+fn test_spelled(
+    rt: &impl Abort,
+    alloc: Global,
+    certificate: &Certificate,
+    written: &[u8],
+) -> Result<(), Fail> {
+    let program = spelled(alloc, written)?;
     assert!(rt; certificate.program() == program.as_slice());
     Ok(())
 }
@@ -98,6 +126,32 @@ fn test_written(
 fn link_listed(alloc: Global, listed: &[(u32, Base)]) -> Result<Linked, Fail> {
     let text = script_of(alloc, listed)?;
     link_text(alloc, text.as_bytes())
+}
+
+/// Tests the length of the section's program, and its bytes where some are given.
+fn test_bytes(rt: &impl Abort, linked: &Linked, written: &[u8], halfwords: u32, bytes: &[u8]) {
+    let lengths = (linked.length(OWN), written.len());
+    assert_eq!(rt; lengths, (Some(halfwords), 2 * halfwords as usize));
+    assert!(rt; bytes.is_empty() || written == bytes);
+}
+
+/// Tests a container whose second section has so many fixups: the section's program, and that it is the
+/// one of the certificate.
+fn test_linked(
+    rt: &impl Abort,
+    alloc: Global,
+    linked: &Linked,
+    fixups: usize,
+    halfwords: u32,
+    bytes: &[u8],
+) -> Result<(), Fail> {
+    let (headers, section, written) = first_header(linked.bytes())?;
+    assert_eq!(rt; headers, u32::from(fixups > 0));
+    test_bytes(rt, linked, written, halfwords, bytes);
+    if headers > 0 {
+        test_written(rt, alloc, linked, section, written)?;
+    }
+    Ok(())
 }
 
 /// Tests the program of the section with these fixups: its length, that it is the one of the certificate,
@@ -110,15 +164,7 @@ fn test_program(
     bytes: &[u8],
 ) -> Result<(), Fail> {
     let linked = link_listed(alloc, listed)?;
-    let (headers, section, written) = first_header(linked.bytes())?;
-    assert_eq!(rt; linked.length(OWN), Some(halfwords));
-    assert_eq!(rt; headers, u32::from(!listed.is_empty()));
-    assert_eq!(rt; written.len(), 2 * halfwords as usize);
-    assert!(rt; bytes.is_empty() || written == bytes);
-    if headers > 0 {
-        test_written(rt, alloc, &linked, section, written)?;
-    }
-    Ok(())
+    test_linked(rt, alloc, &linked, listed.len(), halfwords, bytes)
 }
 
 /// Tests the program of each of some lists.
@@ -148,12 +194,22 @@ fn words(alloc: Global, count: u32, from: u32) -> Result<Vec<(u32, Base)>, Alloc
     Ok(listed)
 }
 
+/// How many words in a row, the offset of the first, how many halfwords their program has, and its bytes
+/// where some are given.
+const IN_A_ROW: &[(u32, u32, u32, &[u8])] = &[
+    (512, 0, 1, &[0x43, 0xFF]),
+    (513, 0, 2, &[]),
+    (64, 4, 2, &[]),
+];
+
 #[test]
 fn words_in_a_row(rt: HostRuntime) -> Result<(), Fail> {
-    let alloc = rt.alloc();
-    test_program(&rt, alloc, &words(alloc, 512, 0)?, 1, &[0x43, 0xFF])?;
-    test_program(&rt, alloc, &words(alloc, 513, 0)?, 2, &[])?;
-    test_program(&rt, alloc, &words(alloc, 64, 4)?, 2, &[])
+    for row in IN_A_ROW {
+        let (count, from, halfwords, bytes) = *row;
+        let listed = words(rt.alloc(), count, from)?;
+        test_program(&rt, rt.alloc(), &listed, halfwords, bytes)?;
+    }
+    Ok(())
 }
 
 /// Two transition vectors, side by side, of which each has the code's address and the data's.
@@ -163,18 +219,35 @@ tvector data 0 code data
 tvector data 8 code data
 ";
 
-/// Tests the certificate of a section: its program, its registers and its labels.
-fn test_certificate(
+/// The certificate of a section: the section, the program, the registers and the labels.
+type Certified = (u32, &'static [Instr], &'static [u32], &'static [u32]);
+
+/// The certificates of the vectors.
+const CERTIFIED: &[Certified] = &[
+    (0, &[], &[], &[0]),
+    (1, &[Instr::TVector8(2)], &[0, 1], VECTORS_LABELS),
+];
+
+/// Tests the program and the registers of a certificate.
+fn test_program_and_registers(
     rt: &impl Abort,
-    alloc: Global,
     certificate: &Certificate,
     program: &[Instr],
     registers: &[u32],
-    wanted: &[u32],
-) -> Result<(), Fail> {
+) {
     let section = certificate.section();
     assert!(rt; certificate.program() == program, "section {section}");
     assert!(rt; certificate.registers() == registers, "section {section}");
+}
+
+/// Tests the labels of a certificate.
+fn test_labels(
+    rt: &impl Abort,
+    alloc: Global,
+    certificate: &Certificate,
+    wanted: &[u32],
+) -> Result<(), Fail> {
+    let section = certificate.section();
     let labels = labels(alloc, certificate)?;
     assert!(rt; labels.as_slice() == wanted, "section {section}");
     Ok(())
@@ -193,24 +266,39 @@ fn certificate_of<'a>(
     Ok(certificate)
 }
 
-/// Tests the certificates of the vectors.
-fn test_certificates(rt: &impl Abort, alloc: Global, linked: &Linked) -> Result<(), Fail> {
-    let code = certificate_of(rt, linked, 0)?;
-    test_certificate(rt, alloc, code, &[], &[], &[0])?;
-    let data = certificate_of(rt, linked, 1)?;
-    test_certificate(
-        rt,
-        alloc,
-        data,
-        &[Instr::TVector8(2)],
-        &[0, 1],
-        VECTORS_LABELS,
-    )?;
-    assert!(rt; linked.certificate(2).is_none());
-    assert_eq!(rt; linked.certificates().len(), 2);
-    for (k, certificate) in linked.certificates().iter().enumerate() {
+/// Tests the certificate of a section.
+fn test_certificate(
+    rt: &impl Abort,
+    alloc: Global,
+    linked: &Linked,
+    certified: &Certified,
+) -> Result<(), Fail> {
+    let (section, program, registers, labels) = *certified;
+    let certificate = certificate_of(rt, linked, section)?;
+    test_program_and_registers(rt, certificate, program, registers);
+    test_labels(rt, alloc, certificate, labels)
+}
+
+/// Tests that the certificates are in the order of the sections.
+fn test_order(rt: &impl Abort, certificates: &[Certificate]) {
+    for (k, certificate) in certificates.iter().enumerate() {
         assert_eq!(rt; certificate.section() as usize, k);
     }
+}
+
+/// Tests that the vectors have two certificates.
+fn test_two_certificates(rt: &impl Abort, linked: &Linked) {
+    assert!(rt; linked.certificate(2).is_none());
+    assert_eq!(rt; linked.certificates().len(), 2);
+    test_order(rt, linked.certificates());
+}
+
+/// Tests the certificates of the vectors.
+fn test_certificates(rt: &impl Abort, alloc: Global, linked: &Linked) -> Result<(), Fail> {
+    for certified in CERTIFIED {
+        test_certificate(rt, alloc, linked, certified)?;
+    }
+    test_two_certificates(rt, linked);
     Ok(())
 }
 

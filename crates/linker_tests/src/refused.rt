@@ -2,7 +2,7 @@
 //! `tools/refuse-memory`.
 
 use pef_script::Script;
-use pef_write::{LinkFault, link};
+use pef_write::{LinkFault, Linked, link};
 use std::alloc::Global;
 use std::process::Abort;
 use std::test::Fail;
@@ -10,7 +10,15 @@ use test_data::containers::VECTORS_LEAST;
 use test_data::refusals::{say_answered, say_begins};
 use test_data::scripts::VECTORS;
 
-/// Links a script, and once more where memory is refused.
+/// Links a script, and once more where memory is refused, and says whether that was so.
+fn link_refused(alloc: Global, script: &Script<'_>) -> Result<(Linked, bool), LinkFault> {
+    match link(alloc, script) {
+        Ok(linked) => Ok((linked, false)),
+        Err(LinkFault::OutOfMemory) => Ok((link(alloc, script)?, true)),
+    }
+}
+
+/// Tests that a script is linked to a container, also where memory is refused at first.
 fn link_again(
     rt: &(impl Abort + Print),
     alloc: Global,
@@ -18,12 +26,7 @@ fn link_again(
     container: &[u8],
 ) -> Result<(), Fail> {
     say_begins(rt)?;
-    let mut answer = link(alloc, script);
-    let refused = matches!(&answer, Err(LinkFault::OutOfMemory));
-    if refused {
-        answer = link(alloc, script);
-    }
-    let linked = answer?;
+    let (linked, refused) = link_refused(alloc, script)?;
     assert!(rt;
         linked.bytes() == container,
         "{} bytes",

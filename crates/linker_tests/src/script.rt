@@ -2,11 +2,15 @@ use pef_reloc::{Base, Fixup};
 use pef_script::Script;
 use std::alloc::{AllocError, Global};
 use std::fmt::Write;
+use std::process::Abort;
 use std::test::Fail;
 use test_data::limits::{Spaced, at_all_limits, push_fixups};
 
 /// The number and the line of a refusal, or `None` where the text is read.
-fn refusal(alloc: Global, text: &str) -> Option<(u32, usize)> {
+type Refusal = Option<(u32, usize)>;
+
+/// The refusal of a text.
+fn refusal(alloc: Global, text: &str) -> Refusal {
     match pef_script_text::read(alloc, text.as_bytes()) {
         Ok(_) => None,
         Err(fault) => Some((fault.number(), fault.line().unwrap_or(0))),
@@ -16,7 +20,7 @@ fn refusal(alloc: Global, text: &str) -> Option<(u32, usize)> {
 const TWO_LINES: &str = "section d data process 4 8\nfix d 0 section d\n";
 
 /// Third lines, behind the two above, and the refusal's number: 0 where the text is read.
-const THIRD_LINES: [(&str, u32); 32] = [
+const THIRD_LINES: &[(&str, u32)] = &[
     ("", 0),
     ("# any \u{7F} bytes ", 0),
     (" ", 41),
@@ -52,7 +56,7 @@ const THIRD_LINES: [(&str, u32); 32] = [
 ];
 
 /// Texts, and the number and the line of their refusal.
-const FIRST_FAULTS: [(&str, (u32, usize)); 33] = [
+const FIRST_FAULTS: &[(&str, (u32, usize))] = &[
     ("section d odd process 4 8", (49, 1)),
     ("section d data odd 13 8", (49, 1)),
     ("section d data process 13 8", (42, 1)),
@@ -121,20 +125,26 @@ const FIRST_FAULTS: [(&str, (u32, usize)); 33] = [
     ("section a data process 4 4\nterm a 5", (47, 2)),
 ];
 
+/// The refusal of the two lines above with a third.
+fn refusal_of_third(alloc: Global, line: &str) -> Result<Refusal, AllocError> {
+    let text = format!(in alloc; "{TWO_LINES}{line}")?;
+    Ok(refusal(alloc, &text))
+}
+
 #[test]
 fn read_third_lines(rt: HostRuntime) -> Result<(), Fail> {
-    let alloc = rt.alloc();
-    for (line, number) in THIRD_LINES {
-        let text = format!(in alloc; "{TWO_LINES}{line}")?;
+    for row in THIRD_LINES {
+        let (line, number) = *row;
         let wanted = if number == 0 { None } else { Some((number, 3)) };
-        assert_eq!(rt; refusal(alloc, &text), wanted, "{line}");
+        assert_eq!(rt; refusal_of_third(rt.alloc(), line)?, wanted, "{line}");
     }
     Ok(())
 }
 
 #[test]
 fn read_first_faults(rt: HostRuntime) {
-    for (text, wanted) in FIRST_FAULTS {
+    for row in FIRST_FAULTS {
+        let (text, wanted) = *row;
         assert_eq!(rt; refusal(rt.alloc(), text), Some(wanted), "{text}");
     }
 }
@@ -239,12 +249,17 @@ fn has_entries(script: &Script) -> bool {
     script.main() == Some((1, 0)) && script.init().is_none() && script.term() == Some((0, 4))
 }
 
+/// Tests the script of every line.
+fn test_parts(rt: &impl Abort, script: &Script) {
+    assert!(rt; has_tables(script));
+    assert!(rt; has_sections(script));
+    assert!(rt; has_entries(script));
+}
+
 #[test]
 fn parts(rt: HostRuntime) -> Result<(), Fail> {
     let script = pef_script_text::read(rt.alloc(), EVERY_LINE.as_bytes())?;
-    assert!(rt; has_tables(&script));
-    assert!(rt; has_sections(&script));
-    assert!(rt; has_entries(&script));
+    test_parts(&rt, &script);
     Ok(())
 }
 
@@ -265,7 +280,7 @@ fn names(
 }
 
 /// A first line, what the lines behind it begin and end with, and how many of them are read.
-const COUNTS: [(&str, &str, &str, u32); 4] = [
+const COUNTS: &[(&str, &str, &str, u32)] = &[
     ("", "section s", " data process 0 0", 8),
     ("", "library l", " 1 0 -", 4096),
     ("library l 1 0 -", "import i", " data weak", 65_536),
@@ -277,41 +292,80 @@ const COUNTS: [(&str, &str, &str, u32); 4] = [
     ),
 ];
 
+/// The refusal of so many lines that declare names, behind a first line.
+fn refusal_of_names(
+    alloc: Global,
+    first: &str,
+    front: &str,
+    count: u32,
+    end: &str,
+) -> Result<Refusal, AllocError> {
+    let text = names(alloc, first, front, count, end)?;
+    Ok(refusal(alloc, &text))
+}
+
+/// Tests that so many names are read, and no more.
+fn test_most_names(
+    rt: &impl Abort,
+    alloc: Global,
+    row: &(&str, &str, &str, u32),
+) -> Result<(), Fail> {
+    let (first, front, end, most) = *row;
+    let read = refusal_of_names(alloc, first, front, most, end)?;
+    let refused = refusal_of_names(alloc, first, front, most.wrapping_add(1), end)?;
+    let wanted = (None, Some((48, most as usize + 2)));
+    assert_eq!(rt; (read, refused), wanted, "{front}");
+    Ok(())
+}
+
 #[test]
 fn read_most_names(rt: HostRuntime) -> Result<(), Fail> {
-    let alloc = rt.alloc();
-    for (first, front, end, most) in COUNTS {
-        let text = names(alloc, first, front, most, end)?;
-        assert_eq!(rt; refusal(alloc, &text), None, "{front}");
-        let text = names(alloc, first, front, most + 1, end)?;
-        assert_eq!(rt;
-            refusal(alloc, &text),
-            Some((48, most as usize + 2)),
-            "{front}"
-        );
+    for row in COUNTS {
+        test_most_names(&rt, rt.alloc(), row)?;
     }
     Ok(())
 }
 
-/// Names of 255 bytes, with one more for each, that have all the bytes that names may have.
-#[test]
-fn read_longest_names(rt: HostRuntime) -> Result<(), Fail> {
-    let alloc = rt.alloc();
+/// A library and imports, whose names of 255 bytes have all the bytes that names may have.
+fn longest_names(alloc: Global) -> Result<String, AllocError> {
     let mut text = String::new(alloc);
     write!(text, "library {:0255} 1 0 -", 0)?;
     for number in 0..32_767 {
         write!(text, "\nimport {number:0255} data strong")?;
     }
-    assert_eq!(rt; refusal(alloc, &text), None);
+    Ok(text)
+}
+
+/// The refusal of a text with one more import.
+fn refusal_of_one_more(alloc: Global, text: &str) -> Result<Refusal, AllocError> {
     let more = format!(in alloc; "{text}\nimport x data strong")?;
-    assert_eq!(rt; refusal(alloc, &more), Some((48, 32_769)));
+    Ok(refusal(alloc, &more))
+}
+
+/// The refusals of the longest names, and of these with one more.
+fn refusals_of_longest(alloc: Global) -> Result<(Refusal, Refusal), AllocError> {
+    let text = longest_names(alloc)?;
+    let more = refusal_of_one_more(alloc, &text)?;
+    Ok((refusal(alloc, &text), more))
+}
+
+/// The refusal of a name of 256 bytes.
+fn refusal_of_longer(alloc: Global) -> Result<Refusal, AllocError> {
     let longer = format!(in alloc; "library {:0256} 1 0 -", 0)?;
-    assert_eq!(rt; refusal(alloc, &longer), Some((41, 1)));
+    Ok(refusal(alloc, &longer))
+}
+
+/// Names of 255 bytes, with one more for each, that have all the bytes that names may have.
+#[test]
+fn read_longest_names(rt: HostRuntime) -> Result<(), Fail> {
+    let longest = refusals_of_longest(rt.alloc())?;
+    assert_eq!(rt; longest, (None, Some((48, 32_769))));
+    assert_eq!(rt; refusal_of_longer(rt.alloc())?, Some((41, 1)));
     Ok(())
 }
 
 /// How many fixups side by side, a last line, and the refusal.
-const FIXUPS: [(u32, &str, Option<(u32, usize)>); 6] = [
+const FIXUPS: &[(u32, &str, Refusal)] = &[
     (16_384, "", None),
     (16_384, "fix s 65536 section s", Some((48, 16_386))),
     (16_384, "fix s 0 section s", Some((48, 16_386))),
@@ -320,28 +374,44 @@ const FIXUPS: [(u32, &str, Option<(u32, usize)>); 6] = [
     (16_383, "tvector s 0 s s", Some((48, 16_385))),
 ];
 
+/// The refusal of a section with so many fixups side by side, and a last line.
+fn refusal_of_fixups(alloc: Global, count: u32, last: &str) -> Result<Refusal, AllocError> {
+    let mut text = format!(in alloc; "section s data process 0 65544\n")?;
+    let fixups = Spaced {
+        first: 0,
+        step: 4,
+        count,
+    };
+    push_fixups(&mut text, "s", fixups, "section s")?;
+    text.push_str(last)?;
+    Ok(refusal(alloc, &text))
+}
+
 #[test]
 fn read_most_fixups(rt: HostRuntime) -> Result<(), Fail> {
-    let alloc = rt.alloc();
-    for (count, last, wanted) in FIXUPS {
-        let mut text = format!(in alloc; "section s data process 0 65544\n")?;
-        let fixups = Spaced {
-            first: 0,
-            step: 4,
-            count,
-        };
-        push_fixups(&mut text, "s", fixups, "section s")?;
-        text.push_str(last)?;
-        assert_eq!(rt; refusal(alloc, &text), wanted, "{count} and {last}");
+    for row in FIXUPS {
+        let (count, last, wanted) = *row;
+        let found = refusal_of_fixups(rt.alloc(), count, last)?;
+        assert_eq!(rt; found, wanted, "{count} and {last}");
     }
+    Ok(())
+}
+
+/// Tests how many there are of each in the script at all limits.
+fn test_most_of_all(rt: &impl Abort, script: &Script) {
+    assert_eq!(rt; counts(script), (4096, 65_536, 8, 16_383));
+    assert_eq!(rt; script.fixups(7).unwrap_or(&[]).len(), 16_384);
+}
+
+/// Tests the script at all limits, which is read from this text.
+fn test_most_of_text(rt: &impl Abort, alloc: Global, text: &str) -> Result<(), Fail> {
+    let script = pef_script_text::read(alloc, text.as_bytes())?;
+    test_most_of_all(rt, &script);
     Ok(())
 }
 
 #[test]
 fn read_most_of_all(rt: HostRuntime) -> Result<(), Fail> {
     let text = at_all_limits(rt.alloc())?;
-    let script = pef_script_text::read(rt.alloc(), text.as_bytes())?;
-    assert_eq!(rt; counts(&script), (4096, 65_536, 8, 16_383));
-    assert_eq!(rt; script.fixups(7).map_or(0, |fixups| fixups.len()), 16_384);
-    Ok(())
+    test_most_of_text(&rt, rt.alloc(), &text)
 }

@@ -117,29 +117,42 @@ const WHOLE: [u8; 524] = [
 ];
 
 /// A script, its container, and how many halfwords the program of each section has.
-const LINKED: &[(&[u8], &[u8], &[u32])] = &[
+type Row = (&'static [u8], &'static [u8], &'static [u32]);
+
+const LINKED: &[Row] = &[
     (b"", EMPTY_CONTAINER, &[]),
     (ONE_SECTION_SCRIPT, &ONE_SECTION, &[1]),
     (VECTORS, VECTORS_LEAST, &[0, 1]),
     (WHOLE_SCRIPT, &WHOLE, &[0, 3]),
 ];
 
-/// Tests a container, and how many halfwords the programs have.
-fn test_linked(rt: &impl Abort, linked: &Linked, bytes: &[u8], lengths: &[u32]) {
-    assert!(rt; linked.bytes() == bytes, "{} bytes", bytes.len());
-    assert!(rt; linked.lengths() == lengths, "{} bytes", bytes.len());
+/// Tests how many halfwords the program of each section has.
+fn test_lengths(rt: &impl Abort, linked: &Linked, lengths: &[u32]) {
     for (k, length) in lengths.iter().enumerate() {
         assert!(rt; linked.length(k) == Some(*length), "section {k}");
     }
     assert!(rt; linked.length(lengths.len()).is_none());
 }
 
+/// Tests a container, and how many halfwords the programs have.
+fn test_linked(rt: &impl Abort, linked: &Linked, bytes: &[u8], lengths: &[u32]) {
+    let found = (linked.bytes(), linked.lengths());
+    assert!(rt; found == (bytes, lengths), "{} bytes", bytes.len());
+    test_lengths(rt, linked, lengths);
+}
+
+/// Links a script, and tests what comes of it.
+fn test_link(rt: &impl Abort, alloc: Global, row: &Row) -> Result<(), Fail> {
+    let (text, bytes, lengths) = *row;
+    let linked = link_text(alloc, text)?;
+    test_linked(rt, &linked, bytes, lengths);
+    Ok(())
+}
+
 #[test]
 fn linked(rt: HostRuntime) -> Result<(), Fail> {
     for row in LINKED {
-        let (text, bytes, lengths) = *row;
-        let linked = link_text(rt.alloc(), text)?;
-        test_linked(&rt, &linked, bytes, lengths);
+        test_link(&rt, rt.alloc(), row)?;
     }
     Ok(())
 }
@@ -155,22 +168,50 @@ const LINE_BYTES: u32 = 16_384;
 /// and two for an import with a great number.
 fn greatest_script(alloc: Global) -> Result<String, AllocError> {
     let mut text = String::new(alloc);
+    push_greatest(alloc, &mut text)?;
+    Ok(text)
+}
+
+/// The lines of the greatest script.
+fn push_greatest(alloc: Global, text: &mut String) -> Result<(), AllocError> {
+    push_libraries(text)?;
+    push_sections(text, 12, TOTAL)?;
+    push_full_section(alloc, text)?;
+    push_far_fixups(alloc, text)?;
+    push_exports(text)
+}
+
+/// The lines for all libraries with their imports.
+fn push_libraries(text: &mut String) -> Result<(), AllocError> {
     write!(text, "library {:0223} 1 0 -\n", 0)?;
-    push_imports(&mut text, 0)?;
+    push_imports(text, 0)?;
     for library in 1..LIBRARIES {
         write!(text, "library {library:0127} 1 0 weak\n")?;
-        push_imports(&mut text, library)?;
+        push_imports(text, library)?;
     }
-    push_sections(&mut text, 12, TOTAL)?;
+    Ok(())
+}
+
+/// The lines for the contents of the first section.
+fn push_full_section(alloc: Global, text: &mut String) -> Result<(), AllocError> {
     let zeros = format!(in alloc; "bytes s0 {:032768}\n", 0)?;
-    for _ in 0..TOTAL / LINE_BYTES {
-        text.push_str(&zeros)?;
+    push_times(text, &zeros, TOTAL / LINE_BYTES)
+}
+
+/// A line, so many times.
+fn push_times(text: &mut String, line: &str, times: u32) -> Result<(), AllocError> {
+    for _ in 0..times {
+        text.push_str(line)?;
     }
-    push_far_fixups(alloc, &mut text)?;
+    Ok(())
+}
+
+/// The lines for the exports.
+fn push_exports(text: &mut String) -> Result<(), AllocError> {
     for export in 0..EXPORTS {
         write!(text, "export {export:095} tvector s7 {export}\n")?;
     }
-    Ok(text)
+    Ok(())
 }
 
 /// The lines for the imports of a library.
@@ -182,43 +223,83 @@ fn push_imports(text: &mut String, library: u32) -> Result<(), AllocError> {
     Ok(())
 }
 
+/// The fixups of a section: 1,024 bytes apart.
+const FAR: Spaced = Spaced {
+    first: 4,
+    step: 1024,
+    count: FIXUPS,
+};
+
 /// The lines for the fixups of all sections: the address of the last import, 1,024 bytes apart.
 fn push_far_fixups(alloc: Global, text: &mut String) -> Result<(), AllocError> {
     let base = format!(in alloc; "import {:095}", IMPORTS - 1)?;
-    let fixups = Spaced {
-        first: 4,
-        step: 1024,
-        count: FIXUPS,
-    };
-    for section in SECTIONS {
-        push_fixups(text, section, fixups, &base)?;
+    push_far(text, &base)
+}
+
+/// The lines for the fixups of all sections by a base that is spelled.
+fn push_far(text: &mut String, base: &str) -> Result<(), AllocError> {
+    for section in &SECTIONS {
+        push_fixups(text, section, FAR, base)?;
     }
     Ok(())
 }
 
-/// Tests the loader section of the greatest script: how many there are of each, and the last of some.
-fn test_greatest_loader(rt: &impl Abort, loader: &Loader<'_>) {
-    assert!(rt; (loader.libraries(), loader.imports()) == (4096, 65_536));
-    assert!(rt; (loader.relocs(), loader.exports()) == (8, 16_383));
-    let (first, count) = loader
-        .library(4095)
-        .map_or((0, 0), |library| (library.first, library.count));
-    assert_eq!(rt; first, 65_520);
-    assert_eq!(rt; count, 16);
-    let library = loader.import(65_535).map_or(0, |import| import.library);
-    assert_eq!(rt; library, 4095);
-    let (section, program) = loader.reloc(7).unwrap_or((0, &[]));
-    assert_eq!(rt; section, 7);
-    assert_eq!(rt; program.len(), 98_304);
+/// The first import of a library, and how many it has.
+fn imports_of(loader: &Loader<'_>, l: usize) -> Option<(u32, u32)> {
+    let library = loader.library(l)?;
+    Some((library.first, library.count))
 }
 
-/// Tests the container of the greatest script.
+/// The library of an import.
+fn library_of(loader: &Loader<'_>, j: usize) -> Option<usize> {
+    Some(loader.import(j)?.library)
+}
+
+/// The section of a relocation header, and how many bytes its program has.
+fn program_of(loader: &Loader<'_>, h: usize) -> Option<(u32, usize)> {
+    let (section, program) = loader.reloc(h)?;
+    Some((section, program.len()))
+}
+
+/// Tests how many there are of each in the loader section of the greatest script.
+fn test_greatest_counts(rt: &impl Abort, loader: &Loader<'_>) {
+    assert!(rt; (loader.libraries(), loader.imports()) == (4096, 65_536));
+    assert!(rt; (loader.relocs(), loader.exports()) == (8, 16_383));
+}
+
+/// Tests the last library, the last import and the last program of the greatest script.
+fn test_greatest_last(rt: &impl Abort, loader: &Loader<'_>) {
+    let found = (imports_of(loader, 4095), library_of(loader, 65_535));
+    assert_eq!(rt; found, (Some((65_520, 16)), Some(4095)));
+    assert_eq!(rt; program_of(loader, 7), Some((7, 98_304)));
+}
+
+/// Tests the container of the greatest script: how many sections it has, and the length of the first.
+fn test_greatest_container(rt: &impl Abort, container: &Container<'_>) {
+    assert_eq!(rt; container.header().section_count, 9);
+    assert_eq!(rt; container.raw(0).unwrap_or(&[]).len(), 16_777_216);
+}
+
+/// Tests the loader section of the greatest script.
+fn test_greatest_loader(rt: &impl Abort, container: &Container<'_>) -> Result<(), Fail> {
+    let loader = Loader::read(container)?;
+    test_greatest_counts(rt, &loader);
+    test_greatest_last(rt, &loader);
+    Ok(())
+}
+
+/// Tests the container of the greatest script and its loader section.
 fn test_greatest(rt: &impl Abort, bytes: &[u8]) -> Result<(), Fail> {
     let container = Container::read(bytes)?;
-    assert_eq!(rt; container.header().section_count, 9);
-    assert_eq!(rt; container.raw(0).map_or(0, |raw| raw.len()), 16_777_216);
-    test_greatest_loader(rt, &Loader::read(&container)?);
-    Ok(())
+    test_greatest_container(rt, &container);
+    test_greatest_loader(rt, &container)
+}
+
+/// Tests how many halfwords the programs of the greatest script have, and its container.
+fn test_greatest_linked(rt: &impl Abort, linked: &Linked) -> Result<(), Fail> {
+    assert!(rt; linked.lengths() == [49_152; 8].as_slice());
+    assert_eq!(rt; linked.bytes().len(), 26_534_334);
+    test_greatest(rt, linked.bytes())
 }
 
 /// The greatest script is linked, and read back. Its container has 304 bytes of headers, the full section,
@@ -229,9 +310,7 @@ fn test_greatest(rt: &impl Abort, bytes: &[u8]) -> Result<(), Fail> {
 fn linked_greatest(rt: HostRuntime) -> Result<(), Fail> {
     let text = greatest_script(rt.alloc())?;
     let linked = link_text(rt.alloc(), text.as_bytes())?;
-    assert!(rt; linked.lengths() == [49_152; 8].as_slice());
-    assert_eq!(rt; linked.bytes().len(), 26_534_334);
-    test_greatest(&rt, linked.bytes())
+    test_greatest_linked(&rt, &linked)
 }
 
 #[test]
