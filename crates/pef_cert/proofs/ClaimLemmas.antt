@@ -14,14 +14,15 @@ use Rattle.pef_reloc.proofs.Laws.{used_section-below}
 use Rattle.pef_words.proofs.Laws.Tests.{met_both}
 use Rattle.pef_cert.specs.declared.claim.Behind.{Behind}
 use Rattle.pef_cert.specs.declared.claim.Claim.{Claim}
-use Rattle.pef_cert.specs.Valid.{above_all, is_among, rises}
+use Rattle.pef_labels.specs.Rising.{above_all}
+use Rattle.pef_cert.specs.Valid.{is_among, rises}
 use Rattle.pef_cert.proofs.ClassLemmas.{or_right}
 use Rattle.pef_cert.proofs.ExtensionLemmas.{extension-away, extension-end, extension-here}
 use Rattle.pef_cert.specs.Labels.{Labels, class_of}
 use Rattle.pef_cert.specs.Extension.{OfferIs, change, extension, moved_value, offer_at}
 use Rattle.pef_cert.specs.Kept.Claims.{IsRowOf, Knows, Sees, Shaped, rows_before}
-use Rattle.pef_cert.specs.Kept.RowsKept.{RowsFull, rows_from}
-use Rattle.pef_cert.proofs.RowLemmas.{end_before, end_before-suc, end_before-zero, rows-at}
+use Rattle.pef_labels.specs.Rows.{RowsFull, rows_from}
+use Rattle.pef_labels.proofs.Laws.{end_before, end_before-suc, end_before-zero, rows-at}
 
 -- the place of a label in a row
 pub place_under : (r c d : ℕ) → c < r → d < r → c * r + d < r * r

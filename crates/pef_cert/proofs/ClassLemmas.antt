@@ -12,7 +12,8 @@ use Rattle.pef_reloc.specs.Limits.{most_sections}
 use Rattle.pef_reloc.proofs.Laws.{used_section-below}
 use Rattle.pef_words.proofs.Laws.Tests.{met_both}
 use Rattle.pef_cert.specs.Labels.{Labels, class_of, classes}
-use Rattle.pef_cert.specs.Valid.{RegistersOf, above_all, is_among, rises}
+use Rattle.pef_labels.specs.Rising.{above_all}
+use Rattle.pef_cert.specs.Valid.{RegistersOf, is_among, rises}
 
 -- a class is at most the number of registers
 pub class_of-most : (rs : List ℕ) (k : ℕ) → class_of rs k ≤ length rs

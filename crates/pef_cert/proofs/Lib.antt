@@ -11,7 +11,6 @@ mod LabelFacts
 mod MinimaLemmas
 mod NeededTests
 mod RegisterLemmas
-mod RowLemmas
 mod RunLemmas
 mod SetLemmas
 mod SkipLemmas

@@ -20,9 +20,10 @@ use Rattle.pef_cert.specs.declared.claim.Claim.{Claim}
 use Rattle.pef_cert.specs.Extension.{OfferIs, change, offer_at, skips_at}
 use Rattle.pef_cert.specs.Feasible.{Feasible, FeasibleAt, FeasibleFrom}
 use Rattle.pef_cert.specs.Labels.{Labels, class_of, classes}
-use Rattle.pef_cert.specs.Valid.{above_all, labels_in}
+use Rattle.pef_labels.specs.Rising.{above_all}
+use Rattle.pef_cert.specs.Valid.{labels_in}
 use Rattle.pef_cert.specs.Kept.Claims.{IsRowOf, KnownAt, Shaped, SkipsAre, Swept, labels_claimed, rows_before}
-use Rattle.pef_cert.specs.Kept.RowsKept.{RowsFull, rows_from}
+use Rattle.pef_labels.specs.Rows.{RowsFull, rows_from}
 use Rattle.pef_cert.specs.Kept.Sets.{RowIsZero}
 use Rattle.pef_cert.proofs.AdditionLemmas.{index_behind}
 use Rattle.pef_cert.proofs.Bounds.{extension-small}
@@ -30,7 +31,7 @@ use Rattle.pef_cert.proofs.ClaimLemmas.{get-drop, get_under, place_under}
 use Rattle.pef_cert.proofs.ClassLemmas.{RegisteredBase, all_registered, class_of-below, numbers}
 use Rattle.pef_cert.proofs.FeasibleLemmas.{section-counts}
 use Rattle.pef_cert.proofs.Falling.{World}
-use Rattle.pef_cert.proofs.RowLemmas.{last_end-get, rows-count}
+use Rattle.pef_labels.proofs.Laws.{rows-some}
 use Rattle.pef_cert.proofs.SkipLemmas.{offer-import, offer-section, skip-low}
 
 -- ends rise
@@ -68,10 +69,9 @@ row-last w n ends values full count =
     elim (some_or_none ends) [
       | inl none ↦ absurd (let z : length (rows_from w 0 [] values) ≡ n + 1 = ap (λ es. length (rows_from w 0 es values)) (sym none) ∙ count in omega (arith, z))
       | inr some ↦
-          (let is = last_end-get 0 ends (slice_index ends (length ends - 1)) (last_get ends some) in
-          let sum = rows-count w 0 ends values full.rising in
+          (let is = rows-some w (slice_index ends (length ends - 1)) ends values full (last_get ends some) in
           let low = before_below ends (length ends - 1) full.rising (omega (arith, some)) in
-          record { kept = omega (arith, some); after = omega (arith, low, is, sum, count); before = omega (arith, is, sum, count) })
+          record { kept = omega (arith, some); after = omega (arith, low, is, count); before = omega (arith, is, count) })
     ]
   where
     some_or_none : (ends : List ℕ) → (ends ≡ []) ⊎ (0 < length ends)

@@ -1,6 +1,5 @@
 pub mod Claims
 pub mod Registers
-pub mod RowsKept
 pub mod Sets
 pub mod Tests
 pub mod Values

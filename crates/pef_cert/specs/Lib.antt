@@ -4,5 +4,4 @@ pub mod Kept
 pub mod LabelTests
 pub mod Labels
 pub mod Minima
-pub mod Rows
 pub mod Valid

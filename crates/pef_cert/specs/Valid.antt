@@ -1,12 +1,13 @@
 -- Valid certificates.
-use Rattle.std.specs.Prelude.{◌≡◌, ℕ, ◌+◌, ◌-◌, ◌*◌, ◌==◌, Bool, true, false, ◌&&◌, ◌||◌, nat_lt, List, [], ◌∷◌, ◌++◌, length, slice_index, slice_index_or}
+use Rattle.std.specs.Prelude.{◌≡◌, ℕ, ◌+◌, ◌-◌, ◌*◌, ◌==◌, Bool, true, false, ◌||◌, List, [], ◌∷◌, ◌++◌, length, slice_index, slice_index_or}
 use Rattle.std.specs.List.{AllByRecursion}
 use Rattle.pef_reloc.specs.declared.fixup.Fixup.{Fixup}
-use Rattle.pef_reloc.specs.declared.instr.Instr.{Instr}
 use Rattle.pef_reloc.specs.Deliveries.{uses_section}
 use Rattle.pef_reloc.specs.Fixups.{fixups_fit}
 use Rattle.pef_reloc.specs.Instrs.{program_length}
 use Rattle.pef_reloc.specs.Steps.{Makes, is_flat, start}
+use Rattle.pef_labels.specs.Certified.{Certified}
+use Rattle.pef_labels.specs.Rising.{above_all}
 use Rattle.pef_cert.specs.Labels.{Labels}
 use Rattle.pef_cert.specs.Extension.{extension_at}
 use Rattle.pef_cert.specs.Feasible.{Feasible}
@@ -17,10 +18,6 @@ is_among [] k = false
 is_among (r ∷ registers) k = r == k || is_among registers k
 
 -- each number is above the one before it
-abbrev pub above_all : ℕ → List ℕ → Bool
-above_all low [] = true
-above_all low (r ∷ registers) = nat_lt low r && above_all r registers
-
 abbrev pub rises : List ℕ → Bool
 rises [] = true
 rises (r ∷ registers) = above_all r registers
@@ -29,13 +26,6 @@ rises (r ∷ registers) = above_all r registers
 pub record RegistersOf (fixups : List Fixup) (registers : List ℕ) : Type 0 where
   pub rising : rises registers ≡ true
   pub used : (k : ℕ) → is_among registers k ≡ uses_section fixups k
-
--- a certificate: its section, a program, the registers that count, and its labels row by row
-pub record Certified : Type 0 where
-  pub section : ℕ
-  pub program : List Instr
-  pub registers : List ℕ
-  pub labels : List (List ℕ)
 
 -- labels that stand in rows, one for each of so many fixups and one for the end: row i has those of the
 -- states at fixup i, with the classes of C outside and those of D inside

@@ -5,12 +5,11 @@ ghost use Rattle.pef_cert.specs.Valid.{RegistersOf, Valid};
 ghost use Rattle.pef_reloc.specs.Fixups.{fixups_fit};
 ghost use Rattle.pef_reloc.specs.Steps.{Least};
 
-use crate::certificate::Certificate;
 use crate::claim::Claim;
 use crate::classes::class_of;
 use crate::registers::registers_hold;
-use crate::rows::LabelRows;
 use pef_fixups::{makes, program_length};
+use pef_labels::{Certificate, LabelRows};
 use pef_reloc::{Fixup, Instr};
 
 /// Whether a certificate is valid for the fixups of its section; then its program makes them, and no

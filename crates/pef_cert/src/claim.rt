@@ -1,12 +1,12 @@
 ghost use Rattle.std.specs.Prelude.{◌≡◌, ◌+◌, ◌-◌, ◌*◌, ◌%◌, ◌^◌, ◌<◌, ◌≤◌, ◌∷◌, ℕ, List, IfSome, Some, [], drop, length, slice_get, slice_index_or};
 ghost use Rattle.pef_cert.specs.Extension.{extension, offer_at};
 ghost use Rattle.pef_reloc.specs.declared.fixup.Fixup.{Fixup};
-ghost use Rattle.pef_cert.specs.Kept.RowsKept.{rows_from};
+ghost use Rattle.pef_labels.specs.Rows.{rows_from};
 ghost use Rattle.pef_cert.specs.Kept.Claims.{IsRowOf, Sees, Shaped, labels_claimed};
 
 use crate::classes::{change, class_of};
 use crate::extension::moved_value;
-use crate::rows::Kept;
+use pef_labels::KeptRows;
 use pef_reloc::{Base, Fixup, MAX_SECTIONS};
 
 /// How many indices behind the fixup under test can be asked for: no instruction makes more fixups.
@@ -20,7 +20,7 @@ pub(crate) const MAX_CLASSES: usize = MAX_SECTIONS as usize + 1;
 pub(crate) struct Claim<'a> {
     pub(crate) fixups: &'a [Fixup],
     pub(crate) registers: &'a [u32],
-    pub(crate) kept: Kept<'a>,
+    pub(crate) kept: KeptRows<'a>,
 }
 
 /// A claim, and what was found behind the fixup under test.

@@ -3,26 +3,22 @@
 #![tactic(auto)]
 
 mod additions;
-mod certificate;
 mod checking;
 mod claim;
 mod classes;
 mod extension;
 mod feasible;
 mod registers;
-mod rows;
 mod runs;
 mod sets;
 mod skips;
 mod sweep;
 mod theorems;
 
-pub use certificate::Certificate;
 pub use checking::check;
 pub use classes::{change, class_of};
 pub use extension::{REACH, SKIP_REACH, moved_value};
 pub use registers::{rise, uses_section};
-pub use rows::{LabelRows, LabelRun, LabelRuns};
 pub use theorems::{
     extension_of_labels, extensions_fall, labels_are_near, valid_programs_are_least,
 };

@@ -1,7 +1,7 @@
 -- What a line says is what is read from it.
 use Rattle.std.proofs.Common.{◌≡◌, ℕ, suc, ◌+◌, ◌-◌, ◌<◌, ◌≤◌, List, [], ◌∷◌, ◌++◌, Option, None, Some, Result, Ok, Err, length, refl, arith, ap, sym, subst, ◌∙◌}
 use Rattle.std.specs.Option.{ok_or}
-use Rattle.pef_cert.specs.Valid.{Certified}
+use Rattle.pef_labels.specs.Certified.{Certified}
 use Rattle.pef_cert_text.specs.declared.fault.CertFault.{CertFault}
 use Rattle.pef_cert_text.specs.declared.fault.CertFault.TheVariants.{BadCertificate, OutOfMemory}
 use Rattle.pef_cert_text.specs.declared.fields.Head.TheVariants.{Section}

@@ -4,7 +4,7 @@ use Rattle.std.specs.Prelude.{codes, decimal}
 use Rattle.std.specs.List.{AllByRecursion}
 use Rattle.std.proofs.lemmas.Bool.{le-leb}
 use Rattle.std.proofs.lemmas.List.{append-nil, length-append}
-use Rattle.pef_cert.specs.Valid.{Certified}
+use Rattle.pef_labels.specs.Certified.{Certified}
 use Rattle.pef_reloc.specs.Instrs.{program_length}
 use Rattle.pef_cert_text.specs.declared.fields.Head.TheVariants.{Section, End}
 use Rattle.pef_cert_text.specs.Grammar.{◌>>=◌, certificate_read, certificates_of, certificates_read, line_read, row_width}

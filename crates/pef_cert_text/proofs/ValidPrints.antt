@@ -11,7 +11,8 @@ use Rattle.pef_reloc.specs.Fixups.{fixup_fits, fixups_fit}
 use Rattle.pef_reloc.specs.Instrs.{instrs_fit, program_length, repeat_free}
 use Rattle.pef_reloc.proofs.Laws.{count-length, each_fits, fixups_fit-parts, program_fault-spelled, used_section-below}
 use Rattle.pef_cert.specs.Labels.{Labels, class_of, classes}
-use Rattle.pef_cert.specs.Valid.{Certified, Valid, is_among, labels_of}
+use Rattle.pef_labels.specs.Certified.{Certified}
+use Rattle.pef_cert.specs.Valid.{Valid, is_among, labels_of}
 use Rattle.pef_cert.proofs.Laws.{World, class_of-below, extension-small, few_rising, label-extension, whole_world, world-first, world-next}
 use Rattle.pef_cert_text.specs.Grammar.{row_width}
 use Rattle.pef_cert_text.specs.Printed.{IsNumber, IsRow, Printable}

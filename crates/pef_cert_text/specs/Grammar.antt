@@ -3,7 +3,7 @@
 -- missing, by that of the line after the last.
 use Rattle.std.specs.Prelude.{ℕ, zero, suc, ◌+◌, ◌*◌, ◌==◌, List, [], ◌∷◌, ◌++◌, Option, Result, Ok, Err, length, if◌then◌else◌}
 use Rattle.std.specs.Option.{ok_or}
-use Rattle.pef_cert.specs.Valid.{Certified}
+use Rattle.pef_labels.specs.Certified.{Certified}
 use Rattle.pef_lines.specs.Lines.{cut_at}
 use Rattle.pef_cert_text.specs.declared.fields.Head.{Head}
 use Rattle.pef_cert_text.specs.declared.fields.Head.TheVariants.{Section, End}

@@ -1,7 +1,8 @@
 -- How certificates are printed (docs/FORMATS.md, "Texts of certificates"), and which can be.
 use Rattle.std.specs.Prelude.{◌≡◌, ℕ, ◌+◌, ◌-◌, ◌^◌, ◌<◌, ◌≤◌, true, List, [], ◌∷◌, ◌++◌, None, codes, decimal, length}
 use Rattle.std.specs.List.{AllByRecursion}
-use Rattle.pef_cert.specs.Valid.{Certified, rises}
+use Rattle.pef_labels.specs.Certified.{Certified}
+use Rattle.pef_cert.specs.Valid.{rises}
 use Rattle.pef_ports.specs.Text.{hex_text}
 use Rattle.pef_reloc.specs.declared.instr.Instr.{Instr}
 use Rattle.pef_reloc.specs.Instrs.{instrs_fit, program_length, spelled}

@@ -9,7 +9,7 @@ ghost use Rattle.pef_cert_text.specs.Printed.{Printable, certificate_text, certi
 
 use crate::CertFault;
 use itoa::Buffer;
-use pef_cert::{Certificate, LabelRows, LabelRun};
+use pef_labels::{Certificate, LabelRows, LabelRun};
 use pef_ports::{Line, push_hex};
 use pef_reloc::{Instr, Spelling};
 use std::alloc::{AllocError, Global};

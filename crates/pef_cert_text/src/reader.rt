@@ -12,7 +12,7 @@ use crate::fields::{Head, fixups_line, head_line, length_line, version_line};
 use crate::lines::Lines;
 use crate::numbers::{registers_line, row_line};
 use crate::program::program_line;
-use pef_cert::{Certificate, LabelRows};
+use pef_labels::{Certificate, LabelRows};
 use pef_reloc::Instr;
 use std::alloc::Global;
 

@@ -1,7 +1,8 @@
 //! Laws of the definitions. The functions do nothing.
 ghost use Rattle.std.specs.Prelude.{◌≡◌, ◌^◌, ◌<◌, ℕ, List, Ok, true};
 ghost use Rattle.std.specs.List.{AllByRecursion};
-ghost use Rattle.pef_cert.specs.Valid.{Certified, Valid};
+ghost use Rattle.pef_labels.specs.Certified.{Certified};
+ghost use Rattle.pef_cert.specs.Valid.{Valid};
 ghost use Rattle.pef_cert_text.specs.Grammar.{certificates_of};
 ghost use Rattle.pef_cert_text.specs.Printed.{Printable, certificates_text};
 ghost use Rattle.pef_reloc.specs.Fixups.{fixups_fit};

@@ -6,7 +6,7 @@ use Rattle.std.proofs.Math.Nat.{suc-mul}
 use Rattle.std.proofs.Math.Seq.{get_or-append_seam}
 use Rattle.std.proofs.lemmas.Bool.Decides.{eqb_tells}
 use Rattle.std.proofs.lemmas.List.{get_or-append-add}
-use Rattle.pef_cert.specs.Rows.{LaidRows}
+use Rattle.pef_labels.specs.Rows.{LaidRows}
 use Rattle.pef_plan.specs.Kept.Laid.{LaidSquare, LinesLaid, RowsLaid}
 use Rattle.pef_squares.specs.Squares.{number_in}
 

@@ -8,7 +8,8 @@ use Rattle.pef_reloc.specs.Fixups.{fixups_fit}
 use Rattle.pef_reloc.specs.Limits.{most_sections}
 use Rattle.pef_reloc.proofs.Laws.{used_section-below}
 use Rattle.pef_words.proofs.Laws.Tests.{both_met, met_both}
-use Rattle.pef_cert.specs.Valid.{RegistersOf, above_all, is_among, rises}
+use Rattle.pef_labels.specs.Rising.{above_all}
+use Rattle.pef_cert.specs.Valid.{RegistersOf, is_among, rises}
 
 -- the sections below one that fixups use, rising
 pub record UsedBelow (fixups : List Fixup) (most : ℕ) (registers : List ℕ) : Type 0 where

@@ -10,7 +10,7 @@ use crate::fault::PlanFault;
 use crate::program::least_program;
 use crate::registers::registers_of;
 use crate::tables::fill;
-use pef_cert::{Certificate, LabelRows};
+use pef_labels::{Certificate, LabelRows};
 use pef_reloc::Fixup;
 use pef_runs::Known;
 use pef_squares::{Looks, Square, Squares};

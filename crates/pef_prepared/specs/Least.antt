@@ -1,7 +1,8 @@
 -- What is least about a container that was linked, as its bytes are read: for each section the relocation program, of
 -- which no repeat-free one that makes the same fixups has fewer halfwords. This is our own rule.
 use Rattle.std.specs.Prelude.{◌≡◌, ◌≢◌, ℕ, List, [], ◌∷◌, Some, slice_get}
-use Rattle.pef_cert.specs.Valid.{Certified, Valid}
+use Rattle.pef_labels.specs.Certified.{Certified}
+use Rattle.pef_cert.specs.Valid.{Valid}
 use Rattle.pef_loader.specs.Loader.{Loaded, reloc_of}
 use Rattle.pef_reloc.specs.Headers.{IsOther}
 use Rattle.pef_reloc.specs.Instrs.{spelled}

@@ -1,7 +1,7 @@
 -- The certificates of what was linked can be printed, and `check` says yes to each.
 use Rattle.std.proofs.Common.{◌≡◌, ℕ, ◌+◌, ◌^◌, ◌≤◌, ◌==◌, suc, true, false, List, [], ◌∷◌, Result, Ok, Err, length, map, refl, sym, ap, ap₂, subst, ◌∙◌, eq-eqb, arith}
 use Rattle.std.specs.List.{AllByRecursion}
-use Rattle.pef_cert.specs.Valid.{Certified}
+use Rattle.pef_labels.specs.Certified.{Certified}
 use Rattle.pef_cert_text.specs.Grammar.{certificates_of}
 use Rattle.pef_cert_text.specs.Printed.{Printable, certificates_text}
 use Rattle.pef_cert_text.proofs.Laws.{reads_back, valid_prints}

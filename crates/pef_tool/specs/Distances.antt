@@ -1,7 +1,7 @@
 -- What `distances SCRIPT` answers (README): it reads SCRIPT, links it, and prints the certificates of its sections. No
 -- other call is made on files: the container isn't written.
 use Rattle.std.specs.Prelude.{◌≡◌, ◌⊎◌, ℕ, List, Result, Ok, Err, map}
-use Rattle.pef_cert.specs.Valid.{Certified}
+use Rattle.pef_labels.specs.Certified.{Certified}
 use Rattle.pef_cert_text.specs.Printed.{certificates_text}
 use Rattle.pef_ports.specs.Ports.{FilesPort, Reads}
 use Rattle.pef_ports.specs.declared.ports.FileFault.TheVariants as file_fault

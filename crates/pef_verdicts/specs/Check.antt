@@ -1,7 +1,8 @@
 -- What `check SCRIPT CERT` answers (README): it reads SCRIPT and then CERT, before it looks at the text of either, and
 -- says of the certificate of each section whether it is valid for the section's fixups. No other call is made on files.
 use Rattle.std.specs.Prelude.{◌≡◌, ◌⊎◌, ℕ, ◌+◌, ◌==◌, ⊤, Bool, true, false, ◌&&◌, List, [], ◌∷◌, ◌++◌, Result, Ok, Err, codes, decimal, length}
-use Rattle.pef_cert.specs.Valid.{Certified, Valid}
+use Rattle.pef_labels.specs.Certified.{Certified}
+use Rattle.pef_cert.specs.Valid.{Valid}
 use Rattle.pef_cert_text.specs.Grammar.{certificates_of}
 use Rattle.pef_ports.specs.Ports.{FilesPort, Reads}
 use Rattle.pef_ports.specs.declared.ports.FileFault.{FileFault}

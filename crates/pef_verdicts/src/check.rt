@@ -9,7 +9,8 @@ ghost use Rattle.pef_words.specs.Refusals.{result_map};
 use pef_answers::{
     DONE, FileRefusal, REFUSED, Refusal, Reply, certificate_refusal, deliver, script_refusal,
 };
-use pef_cert::{Certificate, check};
+use pef_cert::check;
+use pef_labels::Certificate;
 use pef_cert_text::read;
 use pef_ports::{FileFault, Files, Line, Page, Sink, StreamFault, push_number, push_text, send};
 use pef_reloc::Fixup;

@@ -5,7 +5,7 @@ use Rattle.std.proofs.lemmas.Bool.{eqb-true, lt-ltb}
 use Rattle.std.proofs.lemmas.List.{length-append, length-take-le, take_all, take_more}
 use Rattle.std.proofs.lemmas.List.Elements.{All-cons}
 use Rattle.std.proofs.lemmas.Option.{get_or_from_slice_get, slice_get_within}
-use Rattle.pef_cert.specs.Valid.{Certified}
+use Rattle.pef_labels.specs.Certified.{Certified}
 use Rattle.pef_cert.proofs.Laws.{valid-least}
 use Rattle.pef_plan.proofs.Laws.{least-names, least-short}
 use Rattle.pef_reloc.specs.declared.fixup.Base.{Base}

@@ -9,7 +9,7 @@ use crate::loader::write_loader;
 use crate::parts::parts;
 use crate::program::{certificates, programs};
 use crate::relocations::section_programs;
-use pef_cert::Certificate;
+use pef_labels::Certificate;
 use pef_loader::layout::HALFWORD_SIZE;
 use pef_script::Script;
 use std::alloc::{AllocError, Global};

@@ -14,7 +14,7 @@ use Rattle.pef_cert.specs.declared.runs.Tested.{Tested}
 use Rattle.pef_cert.specs.Labels.{Labels, classes}
 use Rattle.pef_cert.specs.Extension.{OfferIs, extension_at}
 use Rattle.pef_cert.specs.Feasible.{Feasible}
-use Rattle.pef_cert.specs.Kept.RowsKept.{RowsFull, rows_from}
+use Rattle.pef_labels.specs.Rows.{RowsFull, rows_from}
 use Rattle.pef_cert.specs.Valid.{RegistersOf, labels_in}
 
 -- the labels that are claimed

@@ -1,7 +1,7 @@
 -- What the reader's types show, and what its steps say.
 use Rattle.std.specs.Prelude.{◌≡◌, ℕ, ◌+◌, ◌<◌, length, List, [], Option, None, Some, Result, Ok, Err}
 use Rattle.std.specs.Option.{ok_or, option_copied}
-use Rattle.pef_cert.specs.Valid.{Certified}
+use Rattle.pef_labels.specs.Certified.{Certified}
 use Rattle.pef_lines.specs.Lines.{cut_at}
 use Rattle.pef_cert_text.specs.declared.fault.CertFault.{CertFault}
 use Rattle.pef_cert_text.specs.declared.lines.Line.{Line}

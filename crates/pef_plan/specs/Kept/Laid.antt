@@ -1,6 +1,6 @@
 -- Labels laid in rows.
 use Rattle.std.specs.Prelude.{◌≡◌, ◌<◌, ℕ, ◌+◌, ◌-◌, ◌*◌, List, [], length, slice_index, slice_index_or}
-use Rattle.pef_cert.specs.Rows.{LaidRows}
+use Rattle.pef_labels.specs.Rows.{LaidRows}
 use Rattle.pef_squares.specs.Squares.{number_in}
 
 -- a row has the first lines of a square, one after the other

@@ -1,6 +1,6 @@
 -- What is said of a script and certificates, whatever texts they were read from.
 use Rattle.std.specs.Prelude.{◌≡◌, ℕ, List, Result, Ok}
-use Rattle.pef_cert.specs.Valid.{Certified}
+use Rattle.pef_labels.specs.Certified.{Certified}
 use Rattle.pef_script_text.specs.Grammar.{script_of}
 use Rattle.pef_script.specs.Script.{DescribedScript}
 use Rattle.pef_answers.specs.declared.refusal.Refusal.{Refusal}

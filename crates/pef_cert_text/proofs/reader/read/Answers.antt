@@ -1,7 +1,7 @@
 -- Each turn reads one certificate more.
 use Rattle.std.proofs.Common.{◌≡◌, Ok, length, List, subst, sym, ap, arith}
 use Rattle.std.proofs.lemmas.Result.{err_from_is_err_and}
-use Rattle.pef_cert.specs.Valid.{Certified}
+use Rattle.pef_labels.specs.Certified.{Certified}
 use Rattle.pef_cert_text.specs.declared.fields.Head.{Head}
 use Rattle.pef_cert_text.specs.Grammar.{Left, line_read}
 use Rattle.pef_cert_text.specs.Kept.Reading.{Going, left}

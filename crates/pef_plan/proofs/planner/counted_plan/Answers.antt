@@ -1,5 +1,5 @@
 use Rattle.std.proofs.Common.{◌≡◌, ◌+◌, List, ℕ, ap, arith, length, refl, subst, sym}
-use Rattle.pef_cert.specs.Valid.{Certified}
+use Rattle.pef_labels.specs.Certified.{Certified}
 use Rattle.pef_plan.specs.Kept.Laid.{LaidLabels}
 use Rattle.pef_plan.specs.Kept.Tables.{Tabled}
 use Rattle.pef_plan.proofs.PlanFacts.{PlanOf, few_classes, plan_exact, plan_valid}

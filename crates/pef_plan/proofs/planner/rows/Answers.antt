@@ -1,6 +1,6 @@
 use Rattle.std.proofs.Common.{◌-◌, List, ℕ, [], subst, sym}
 use Rattle.std.specs.Prelude.{slice_index_or}
-use Rattle.pef_cert.specs.Rows.{LaidRows}
+use Rattle.pef_labels.specs.Rows.{LaidRows}
 use Rattle.pef_plan.specs.Kept.Laid.{LaidSquare, RowsLaid}
 use Rattle.pef_plan.proofs.LaidLemmas.{laid_row}
 use Rattle.pef_plan.proofs.planner.rows.Goals as goal

@@ -1,7 +1,7 @@
 -- The programs and their lengths fit, and what is written is the container of the script.
 use Rattle.std.proofs.Common.{◌≡◌, ◌∙◌, ◌/◌, ◌<◌, ◌^◌, length, map, true, refl, ap, subst, sym, arith}
 use Rattle.std.specs.List.{All}
-use Rattle.pef_cert.specs.Valid.{Certified}
+use Rattle.pef_labels.specs.Certified.{Certified}
 use Rattle.pef_reloc.specs.Instrs.{instrs_fit}
 use Rattle.pef_write.specs.Containers.{written_container}
 use Rattle.pef_write.specs.Linked.{script_tables}

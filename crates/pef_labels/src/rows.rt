@@ -1,6 +1,5 @@
 ghost use Rattle.std.specs.Prelude.{◌≡◌, ◌-◌, ◌*◌, ◌<◌, ◌++◌, IfOk, MatchOption, OnErr, OnOk, [], ◌∷◌, length, replicate};
-ghost use Rattle.pef_cert.specs.Kept.RowsKept.{RowsFull, rows_from};
-ghost use Rattle.pef_cert.specs.Rows.{cut_rows};
+ghost use Rattle.pef_labels.specs.Rows.{RowsFull, cut_rows, rows_from};
 
 use std::alloc::{AllocError, Global};
 use std::marker::Model;
@@ -16,8 +15,7 @@ pub struct LabelRows {
 }
 
 impl Model for LabelRows {
-    ghost use Rattle.pef_cert.specs.Kept.RowsKept.{RowsFull, rows_from};
-    ghost use Rattle.pef_cert.specs.Rows.{LaidRows};
+    ghost use Rattle.pef_labels.specs.Rows.{LaidRows, RowsFull, rows_from};
 
     ghost Value = { LaidRows };
 
@@ -27,11 +25,14 @@ impl Model for LabelRows {
 }
 
 /// Rows as they are kept.
-#[derive(Clone, Copy)]
-pub(crate) struct Kept<'a> {
-    pub(crate) width: usize,
-    pub(crate) ends: &'a [usize],
-    pub(crate) values: &'a [u32],
+#[derive(Clone, Copy, Debug)]
+pub struct KeptRows<'a> {
+    /// How many labels a row has.
+    pub width: usize,
+    /// For each kept row, how many rows there are up to its last one.
+    pub ends: &'a [usize],
+    /// The kept rows, one after the other.
+    pub values: &'a [u32],
 }
 
 impl LabelRows {
@@ -136,12 +137,12 @@ impl LabelRows {
     }
 
     /// The rows as they are kept.
-    pub(crate) fn kept(&self) -> Kept<'_>
+    pub fn kept(&self) -> KeptRows<'_>
         ensures width { result.width ≡ self.now.width }
         ensures rows { self.now.rows ≡ rows_from result.width 0 result.ends.now result.values.now }
         ensures full { RowsFull result.width result.ends.now result.values.now }
     {
-        Kept {
+        KeptRows {
             width: self.width,
             ends: self.ends.as_slice(),
             values: self.values.as_slice(),
@@ -161,7 +162,8 @@ pub struct LabelRuns<'a> {
 
 impl<'a> Model for LabelRuns<'a> {
     ghost use Rattle.std.specs.Prelude.{List, ℕ};
-    ghost use Rattle.pef_cert.specs.Kept.RowsKept.{RunsFull, rows_from};
+    ghost use Rattle.pef_labels.specs.Kept.RowsKept.{RunsFull};
+    ghost use Rattle.pef_labels.specs.Rows.{rows_from};
 
     ghost Value = { List (List ℕ) };
 

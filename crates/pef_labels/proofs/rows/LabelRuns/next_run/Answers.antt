@@ -1,5 +1,5 @@
-use Rattle.pef_cert.proofs.RowLemmas.{runs-next}
-use Rattle.pef_cert.proofs.rows.LabelRuns.next_run.Goals as goal
+use Rattle.pef_labels.proofs.RowLemmas.{runs-next}
+use Rattle.pef_labels.proofs.rows.LabelRuns.next_run.Goals as goal
 
 pub invariant_of-self : goal.invariant_of-self
 invariant_of-self c =

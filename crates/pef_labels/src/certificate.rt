@@ -17,7 +17,7 @@ pub struct Certificate {
 }
 
 impl Model for Certificate {
-    ghost use Rattle.pef_cert.specs.Valid.{Certified};
+    ghost use Rattle.pef_labels.specs.Certified.{Certified};
 
     ghost Value = { Certified };
 

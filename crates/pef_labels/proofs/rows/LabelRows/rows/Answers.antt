@@ -1,6 +1,6 @@
 use Rattle.std.proofs.Common.{sym}
-use Rattle.pef_cert.proofs.RowLemmas.{rows-none, rows-some}
-use Rattle.pef_cert.proofs.rows.LabelRows.rows.Goals as goal
+use Rattle.pef_labels.proofs.RowLemmas.{rows-none, rows-some}
+use Rattle.pef_labels.proofs.rows.LabelRows.rows.Goals as goal
 
 pub returns-in-Some : goal.returns-in-Some
 returns-in-Some c =

@@ -5,8 +5,9 @@ use Rattle.std.proofs.lemmas.Bool.{ltb-true, lt-ltb}
 use Rattle.std.proofs.Math.Path.{ap₂}
 use Rattle.std.proofs.lemmas.List.{append-nil, length-set, drop-append-le, drop-drop, drop_at, length_push, length-take-le, get_or-append_right, get_or-replicate, get_or_append_left, length-drop, length-replicate, take-append-le, take_all}
 use Rattle.pef_words.proofs.Laws.Tests.{both_met, met_both}
-use Rattle.pef_cert.specs.Kept.RowsKept.{RowsFull, RunsFull, rows_from}
-use Rattle.pef_cert.specs.Valid.{above_all}
+use Rattle.pef_labels.specs.Kept.RowsKept.{RunsFull}
+use Rattle.pef_labels.specs.Rows.{RowsFull, rows_from}
+use Rattle.pef_labels.specs.Rising.{above_all}
 
 -- how many rows there are up to the last kept one
 pub last_end : ℕ → List ℕ → ℕ

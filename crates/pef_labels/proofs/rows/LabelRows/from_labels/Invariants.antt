@@ -1,6 +1,6 @@
 use Rattle.std.proofs.Common.{◌≡◌, ◌-◌, ◌*◌, ◌++◌, length}
-use Rattle.pef_cert.specs.Rows.{cut_rows}
-use Rattle.pef_cert.proofs.rows.LabelRows.from_labels.Given as goal
+use Rattle.pef_labels.specs.Rows.{cut_rows}
+use Rattle.pef_labels.proofs.rows.LabelRows.from_labels.Given as goal
 
 -- the rows so far and those of the labels that are left are all
 abbrev pub invariant-rows : goal.invariant-rows

@@ -1,7 +1,7 @@
 use Rattle.std.proofs.Common.{◌≡◌, ◌<◌, length, ap}
-use Rattle.pef_cert.specs.Kept.RowsKept.{rows_from}
-use Rattle.pef_cert.proofs.RowLemmas.{full-push, rows-pushed}
-use Rattle.pef_cert.proofs.rows.LabelRows.append.Goals as goal
+use Rattle.pef_labels.specs.Rows.{rows_from}
+use Rattle.pef_labels.proofs.RowLemmas.{full-push, rows-pushed}
+use Rattle.pef_labels.proofs.rows.LabelRows.append.Goals as goal
 
 pub invariant_of-self-2 : goal.invariant_of-self-2
 invariant_of-self-2 c =

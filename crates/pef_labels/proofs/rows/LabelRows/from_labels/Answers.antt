@@ -1,8 +1,8 @@
 -- A turn puts the next row behind the others.
 use Rattle.std.proofs.Common.{◌≡◌, ◌+◌, ◌-◌, ◌*◌, List, ℕ, [], ◌∷◌, ◌++◌, suc, take, drop, ap, sym, ◌∙◌, append_assoc, arith}
 use Rattle.std.proofs.lemmas.List.{length-drop}
-use Rattle.pef_cert.specs.Rows.{LaidRows, cut_rows}
-use Rattle.pef_cert.proofs.rows.LabelRows.from_labels.Goals as goal
+use Rattle.pef_labels.specs.Rows.{LaidRows, cut_rows}
+use Rattle.pef_labels.proofs.rows.LabelRows.from_labels.Goals as goal
 
 pub rows-preserved : goal.rows-preserved
 rows-preserved c =

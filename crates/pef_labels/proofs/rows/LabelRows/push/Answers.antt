@@ -1,9 +1,9 @@
 use Rattle.std.proofs.Common.{◌≡◌, ◌-◌, ◌+◌, suc, ◌++◌, length, take, ap, arith, true, refl}
 use Rattle.std.proofs.lemmas.Bool.Decides.{Decides-eqb}
 use Rattle.std.proofs.lemmas.Slice.Eq.{ends_is}
-use Rattle.pef_cert.specs.Kept.RowsKept.{rows_from}
-use Rattle.pef_cert.proofs.RowLemmas.{full-more, rows-one_more}
-use Rattle.pef_cert.proofs.rows.LabelRows.push.Goals as goal
+use Rattle.pef_labels.specs.Rows.{rows_from}
+use Rattle.pef_labels.proofs.RowLemmas.{full-more, rows-one_more}
+use Rattle.pef_labels.proofs.rows.LabelRows.push.Goals as goal
 
 pub invariant_of-self : goal.invariant_of-self
 invariant_of-self c =

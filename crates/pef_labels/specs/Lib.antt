@@ -1,0 +1,4 @@
+pub mod Certified
+pub mod Kept
+pub mod Rising
+pub mod Rows
