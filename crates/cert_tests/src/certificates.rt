@@ -1,5 +1,6 @@
 use crate::tables::{certificate, push};
-use pef_cert::{Certificate, LabelRows, check};
+use pef_cert::check;
+use pef_labels::{Certificate, LabelRows};
 use pef_reloc::{Base, Fixup, Instr, fixups_fit};
 use std::alloc::Global;
 use std::process::Abort;

@@ -1,6 +1,6 @@
 use crate::texts::TWO_SECTIONS;
-use pef_cert::Certificate;
 use pef_cert_text::read;
+use pef_labels::Certificate;
 use pef_reloc::Instr;
 use std::alloc::Global;
 use std::process::Abort;

@@ -1,7 +1,7 @@
 //! What `distances` prints is read as the plans of the sections' fixups.
 
-use pef_cert::Certificate;
 use pef_cert_text::read;
+use pef_labels::Certificate;
 use pef_plan::plan;
 use pef_reloc::fixups_fit;
 use pef_script::Script;

@@ -10,8 +10,8 @@ use pef_answers::{
     DONE, FileRefusal, REFUSED, Refusal, Reply, certificate_refusal, deliver, script_refusal,
 };
 use pef_cert::check;
-use pef_labels::Certificate;
 use pef_cert_text::read;
+use pef_labels::Certificate;
 use pef_ports::{FileFault, Files, Line, Page, Sink, StreamFault, push_number, push_text, send};
 use pef_reloc::Fixup;
 use pef_script::Script;

@@ -1,5 +1,5 @@
 use crate::plans::planned;
-use pef_cert::Certificate;
+use pef_labels::Certificate;
 use std::alloc::Global;
 use std::process::Abort;
 use std::test::Fail;

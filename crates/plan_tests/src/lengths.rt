@@ -1,5 +1,6 @@
 use crate::plans::planned;
-use pef_cert::{Certificate, check};
+use pef_cert::check;
+use pef_labels::Certificate;
 use pef_reloc::{Base, Fixup, fixups_fit};
 use std::alloc::{AllocError, Global};
 use std::process::Abort;

@@ -2,7 +2,7 @@
 ghost use Rattle.std.specs.Prelude.{◌≡◌, IfOk, true};
 ghost use Rattle.pef_reloc.specs.Fixups.{fixups_fit};
 
-use pef_cert::Certificate;
+use pef_labels::Certificate;
 use pef_plan::plan;
 use pef_reloc::{Fixup, fixups_fit};
 use std::alloc::Global;

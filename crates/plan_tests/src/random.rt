@@ -2,7 +2,8 @@ ghost use Rattle.std.specs.Prelude.{◌<◌};
 
 use crate::plans::planned;
 use crate::reference::{counted_labels, number_at, plain_labels};
-use pef_cert::{LabelRows, check};
+use pef_cert::check;
+use pef_labels::LabelRows;
 use pef_reloc::{Base, Fixup};
 use std::alloc::Global;
 use std::cell::Cell;
