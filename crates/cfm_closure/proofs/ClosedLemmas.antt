@@ -5,10 +5,10 @@ use Rattle.std.specs.Option.{option_map_or}
 use Rattle.std.specs.Result.{result_err}
 use Rattle.pef_words.specs.Refusals.{unless}
 use Rattle.pef_words.proofs.Laws.Refusals.{neither, none_among, unless_ok}
+use Rattle.cfm_store.specs.Stores.{Pair, pair_of}
 use Rattle.cfm_libraries.specs.Faults.{◌>>=◌, Refusal, reexport_loop}
 use Rattle.cfm_libraries.specs.Fragments.{import_count}
 use Rattle.cfm_libraries.specs.Orders.{EndsWith, IsComplete}
-use Rattle.cfm_libraries.specs.Stores.{Pair, pair_of}
 use Rattle.cfm_libraries.specs.Walk.{order_of}
 use Rattle.cfm_libraries.proofs.Laws.{came, order-complete, order-last, order-root, same_ok}
 use Rattle.cfm_closure.specs.declared.targets.Target.{Target}

@@ -5,9 +5,9 @@ use Rattle.std.specs.Option.{option_and_then, option_map_or}
 use Rattle.pef_loader.specs.Export.{Export}
 use Rattle.pef_loader.specs.Loader.{Loaded, export_of}
 use Rattle.pef_loader.proofs.Laws.{named_is}
+use Rattle.cfm_store.specs.Stores.{Pair}
 use Rattle.cfm_libraries.specs.Faults.{Refusal}
 use Rattle.cfm_libraries.specs.Fragments.{export_count, loader_at}
-use Rattle.cfm_libraries.specs.Stores.{Pair}
 use Rattle.cfm_closure.specs.Reexports.{MeetsAgain, hops, met, next_of}
 use Rattle.cfm_closure.specs.Targets.{Hop, ends, follow, followed, hop, through}
 use Rattle.cfm_closure.proofs.HopLemmas.{GoesOn, goes_on}

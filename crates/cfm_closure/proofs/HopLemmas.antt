@@ -5,10 +5,10 @@ use Rattle.std.specs.Option.{option_and_then}
 use Rattle.pef_loader.specs.Export.{Export}
 use Rattle.pef_loader.specs.Import.{Import}
 use Rattle.pef_loader.specs.Loader.{Loaded, export_of, named_of}
+use Rattle.cfm_store.specs.Stores.{Pair, pair_of}
 use Rattle.cfm_libraries.specs.Faults.{Refusal, symbol_missing}
 use Rattle.cfm_libraries.specs.Fragments.{import_at, loader_at}
 use Rattle.cfm_libraries.specs.Libraries.{library_at}
-use Rattle.cfm_libraries.specs.Stores.{Pair, pair_of}
 use Rattle.cfm_closure.specs.declared.targets.Target.TheVariants.{Absolute}
 use Rattle.cfm_closure.specs.Targets.{ends, exported, hop, hop_by, hop_from, hop_of, hop_to, through}
 

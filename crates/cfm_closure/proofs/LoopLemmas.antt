@@ -4,10 +4,10 @@ use Rattle.std.specs.Prelude.{Result, Err, unwrap_or}
 use Rattle.std.specs.List.{range_with_len}
 use Rattle.std.specs.Option.{option_and_then}
 use Rattle.std.proofs.lemmas.List.FromFn.{get_or-range_with_len, length-range_with_len}
+use Rattle.cfm_store.specs.Stores.{Pair}
 use Rattle.cfm_libraries.specs.Faults.{Refusal}
 use Rattle.cfm_libraries.specs.Libraries.{bound_to}
 use Rattle.cfm_libraries.specs.Orders.{IsComplete}
-use Rattle.cfm_libraries.specs.Stores.{Pair}
 use Rattle.cfm_libraries.proofs.Laws.{bound-inside, library_at-is, stands_for}
 use Rattle.cfm_closure.specs.declared.targets.Target.{Target}
 use Rattle.cfm_closure.specs.Reexports.{MeetsAgain, hops, met, next_of}

@@ -7,9 +7,9 @@ use Rattle.std.proofs.lemmas.List.{get_or-set_same, get_or-set_other, length-rep
 use Rattle.pef_loader.specs.Loader.{Loaded, import_of}
 use Rattle.pef_loader.specs.Views.{import_seen}
 use Rattle.pef_loader.specs.declared.import.ImportView.{ImportView}
+use Rattle.cfm_store.specs.Stores.{Pair}
 use Rattle.cfm_libraries.specs.Fragments.{import_at, library_count, loader_at}
 use Rattle.cfm_libraries.specs.Orders.{IsComplete}
-use Rattle.cfm_libraries.specs.Stores.{Pair}
 use Rattle.cfm_closure.specs.Kept.Symbols.{AreTables, table_at}
 use Rattle.cfm_closure.proofs.RowLemmas.{none-at}
 

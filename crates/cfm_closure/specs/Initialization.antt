@@ -5,10 +5,10 @@ use Rattle.std.specs.Option.{is_none, option_and_then}
 use Rattle.pef_words.specs.Refusals.{first_among}
 use Rattle.pef_loader.specs.Library.{Library}
 use Rattle.pef_loader.specs.Loader.{library_of}
+use Rattle.cfm_store.specs.Stores.{Pair, pair_of}
 use Rattle.cfm_libraries.specs.Faults.{Refusal, init_loop}
 use Rattle.cfm_libraries.specs.Fragments.{library_count, loader_at}
 use Rattle.cfm_libraries.specs.Libraries.{is_before, library_at}
-use Rattle.cfm_libraries.specs.Stores.{Pair, pair_of}
 use Rattle.cfm_libraries.specs.Walk.{Walked, is_marked, joining, marking, unwalked}
 
 -- the fragment that is to be initialized before the one in a place, by library entry l; none where the entry

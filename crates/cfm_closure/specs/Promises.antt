@@ -2,9 +2,9 @@
 use Rattle.std.specs.Prelude.{◌≡◌, ◌⊎◌, ⊤, ℕ, ◌<◌, List, length, Option, None, Some, Result, Ok, Err, Contains}
 use Rattle.std.specs.Option.{option_map_or}
 use Rattle.pef_loader.specs.Loader.{IsLoader, Loaded}
+use Rattle.cfm_store.specs.Stores.{Pair, pair_of, place_of}
 use Rattle.cfm_libraries.specs.Faults.{Refusal, implementation_too_new, implementation_too_old, init_loop, library_missing, no_container, no_loader, reexport_loop, symbol_missing}
 use Rattle.cfm_libraries.specs.Fragments.{Fragment, fragment_of, loader_at}
-use Rattle.cfm_libraries.specs.Stores.{Pair, pair_of, place_of}
 use Rattle.cfm_closure.specs.declared.targets.Target.{Target}
 use Rattle.cfm_closure.specs.declared.targets.Target.TheVariants.{Absolute, At}
 use Rattle.cfm_closure.specs.Targets.{exports_among, follow, symbol_of, target_of}

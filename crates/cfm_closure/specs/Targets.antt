@@ -6,10 +6,10 @@ use Rattle.std.specs.Option.{option_and_then, option_map_or}
 use Rattle.pef_loader.specs.Export.{Export}
 use Rattle.pef_loader.specs.Import.{Import}
 use Rattle.pef_loader.specs.Loader.{Loaded, export_of, named_of}
+use Rattle.cfm_store.specs.Stores.{Pair, pair_of}
 use Rattle.cfm_libraries.specs.Faults.{Refusal, reexport_loop, symbol_missing}
 use Rattle.cfm_libraries.specs.Fragments.{export_count, import_at, loader_at}
 use Rattle.cfm_libraries.specs.Libraries.{library_at}
-use Rattle.cfm_libraries.specs.Stores.{Pair, pair_of}
 use Rattle.cfm_closure.specs.declared.targets.Target.{Target}
 use Rattle.cfm_closure.specs.declared.targets.Target.TheVariants.{Absolute, At}
 

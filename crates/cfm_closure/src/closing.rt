@@ -5,7 +5,8 @@ ghost use Rattle.cfm_closure.specs.Closures.{closed_of};
 use crate::closed::Closure;
 use crate::init_order::initialized;
 use crate::resolve::targets_of;
-use cfm_libraries::{BindFault, Bindings, Store};
+use cfm_libraries::{BindFault, Bindings};
+use cfm_store::Store;
 use std::alloc::Global;
 
 /// The closure of the fragment in a place of a store, as [`Store::find`] gives it for a name.

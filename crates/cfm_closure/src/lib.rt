@@ -17,9 +17,8 @@ mod symbols;
 mod targets;
 pub mod theorems;
 
-pub use cfm_libraries::{
-    BindFault, Definition, Fit, Implementation, MAX_PAIRS, Store, StoreFault, versions_fit,
-};
+pub use cfm_libraries::BindFault;
+pub use cfm_store::{Definition, Fit, Implementation, MAX_PAIRS, Store, StoreFault, versions_fit};
 pub use closed::Closure;
 pub use closing::closure;
 pub use targets::Target;

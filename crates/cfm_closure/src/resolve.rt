@@ -1,8 +1,8 @@
 ghost use Rattle.std.specs.Prelude.{◌≡◌, ◌+◌, ◌<◌, ◌≤◌, ◌^◌, [], Ok, Err, Some, Option, Contains, IfOk, OnOk};
 ghost use Rattle.std.specs.List.{AllByRecursion};
+ghost use Rattle.cfm_store.specs.Stores.{pair_of};
 ghost use Rattle.cfm_libraries.specs.Faults.{Answers, Fails, reexport_loop};
 ghost use Rattle.cfm_libraries.specs.Fragments.{import_count};
-ghost use Rattle.cfm_libraries.specs.Stores.{pair_of};
 ghost use Rattle.cfm_closure.specs.Closures.{first_refused, imports_refusal};
 ghost use Rattle.cfm_closure.specs.Targets.{exports_among, symbol_of, target_of};
 ghost use Rattle.cfm_closure.specs.declared.targets.Target.{Target};

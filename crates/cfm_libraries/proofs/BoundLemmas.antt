@@ -6,13 +6,13 @@ use Rattle.std.specs.Result.{result_unwrap_or}
 use Rattle.std.proofs.lemmas.Bool.{ltb-true}
 use Rattle.pef_loader.specs.Library.{Library, library_in}
 use Rattle.pef_loader.specs.Loader.{Loaded, library_of}
-use Rattle.cfm_libraries.specs.declared.versions.Fit.{Fit}
-use Rattle.cfm_libraries.specs.declared.versions.Fit.TheVariants.{Fits, TooOld, TooNew}
+use Rattle.cfm_store.specs.declared.versions.Fit.{Fit}
+use Rattle.cfm_store.specs.declared.versions.Fit.TheVariants.{Fits, TooOld, TooNew}
+use Rattle.cfm_store.specs.Stores.{Pair, pair_of, place_of}
+use Rattle.cfm_store.proofs.Laws.{place_of-below, place_of-first}
 use Rattle.cfm_libraries.specs.Faults.{Refusal, library_missing, implementation_too_old, implementation_too_new}
 use Rattle.cfm_libraries.specs.Fragments.{Fragment, fragment_of}
 use Rattle.cfm_libraries.specs.Libraries.{absent_or, bound, bound_at, bound_by, bound_to, fit_with, is_weak, library_at}
-use Rattle.cfm_libraries.specs.Stores.{Pair, pair_of, place_of}
-use Rattle.cfm_libraries.proofs.PlaceLemmas.{place_of-below, place_of-first}
 use Rattle.cfm_libraries.proofs.WalkRules.{came}
 
 absent_or-none : (weak : Bool) (r : Refusal) (q : ℕ) → absent_or weak r ≡ Ok (Some q) → ⊥

@@ -4,12 +4,12 @@ use Rattle.std.specs.Prelude.{slice_get, IfSome}
 use Rattle.std.proofs.lemmas.List.{length_push}
 use Rattle.pef_loader.specs.Library.{Library}
 use Rattle.pef_loader.specs.Loader.{library_of}
+use Rattle.cfm_store.specs.Stores.{Pair}
 use Rattle.cfm_libraries.specs.declared.fault.BindFault.{BindFault}
 use Rattle.cfm_libraries.specs.declared.fragment.FragmentView.{FragmentView}
 use Rattle.cfm_libraries.specs.declared.walk.Frame.{Frame}
 use Rattle.cfm_libraries.specs.Faults.{◌>>=◌, Fails}
 use Rattle.cfm_libraries.specs.Libraries.{bound, bound_to}
-use Rattle.cfm_libraries.specs.Stores.{Pair}
 use Rattle.cfm_libraries.specs.Walk.{Walked, walk_to}
 use Rattle.cfm_libraries.specs.Kept.Paths.{AreBound, IsFrame, NextOf, count_of, frame_and_rest, rest_of, rest_of_frame, rest_of_path, visit, visit_and_rest}
 use Rattle.cfm_libraries.specs.Kept.Views.{AreKept, AreRead, fragment_at}

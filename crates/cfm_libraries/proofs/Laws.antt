@@ -1,8 +1,6 @@
--- What this crate offers to the proofs of others: facts of stores, of library entries and of closure orders,
+-- What this crate offers to the proofs of others: facts of library entries and of closure orders,
 -- as `specs/` defines them.
 
--- a name has the place of a pair of the store, which has that name and is the first with it
-pub use Rattle.cfm_libraries.proofs.PlaceLemmas.{place_of-below, place_of-first, place_of-named}
 -- a library entry that stands for a fragment is one of a fragment that is read
 pub use Rattle.cfm_libraries.proofs.BoundLemmas.{StandsFor, library_at-is, stands_for}
 -- a closure order has each fragment once, with all its libraries, and its root last

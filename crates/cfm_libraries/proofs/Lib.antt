@@ -4,7 +4,6 @@ mod FrameLemmas
 pub mod Laws
 mod OrderFacts
 mod PathLemmas
-mod PlaceLemmas
 mod TableLemmas
 mod WalkFacts
 mod WalkRules

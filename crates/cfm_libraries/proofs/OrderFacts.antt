@@ -5,11 +5,11 @@ use Rattle.std.specs.List.{AllByRecursion}
 use Rattle.std.proofs.lemmas.List.{get_or-replicate, length-replicate}
 use Rattle.std.proofs.lemmas.List.Sums.{count_by-le-length}
 use Rattle.pef_words.proofs.Laws.Lists.{all-at}
+use Rattle.cfm_store.specs.Stores.{Pair}
 use Rattle.cfm_libraries.specs.Faults.{◌>>=◌}
 use Rattle.cfm_libraries.specs.Fragments.{Fragment, fragment_of}
 use Rattle.cfm_libraries.specs.Libraries.{bound_to}
 use Rattle.cfm_libraries.specs.Orders.{EndsWith, HasLibrary, IsComplete, IsMember}
-use Rattle.cfm_libraries.specs.Stores.{Pair}
 use Rattle.cfm_libraries.specs.Walk.{Walked, is_marked, joining, left, marking, order_of, unwalked, walk, walk_at, walks_from}
 use Rattle.cfm_libraries.specs.Kept.Walks.{IsBound, IsTidy, Reaches}
 use Rattle.cfm_libraries.proofs.BoundLemmas.{stands_for}

@@ -5,13 +5,13 @@ use Rattle.std.specs.Option.{option_map_or}
 use Rattle.std.proofs.lemmas.List.Sums.{count_by-le-length}
 use Rattle.pef_loader.specs.Library.{Library}
 use Rattle.pef_loader.specs.Loader.{library_of}
+use Rattle.cfm_store.specs.Stores.{Pair}
 use Rattle.cfm_libraries.specs.declared.fault.BindFault.{BindFault}
 use Rattle.cfm_libraries.specs.declared.fault.BindFault.TheVariants as fault
 use Rattle.cfm_libraries.specs.declared.walk.Frame.{Frame}
 use Rattle.cfm_libraries.specs.Faults.{◌>>=◌, Fails, Refusal}
 use Rattle.cfm_libraries.specs.Fragments.{Fragment, fragment_of}
 use Rattle.cfm_libraries.specs.Libraries.{bound, bound_to}
-use Rattle.cfm_libraries.specs.Stores.{Pair}
 use Rattle.cfm_libraries.specs.Walk.{Walked, is_marked, joining, left, marking, order_of, unwalked, walk, walk_at, walk_to, walks_from}
 use Rattle.cfm_libraries.specs.Kept.Paths.{rest_of, rest_of_frame, rest_of_path, visit, visit_and_rest}
 use Rattle.cfm_libraries.specs.Kept.Walks.{unmet_of}

@@ -5,9 +5,9 @@ use Rattle.std.specs.List.{AllByRecursion}
 use Rattle.std.proofs.lemmas.Bool.Decides.{eqb_tells, leb_tells}
 use Rattle.std.proofs.lemmas.List.{get_or-replicate, get_or-set_same, get_or-set_other, get_or_past, length-replicate, length-set}
 use Rattle.pef_words.proofs.Laws.Lists.{all-append, all-weaker}
+use Rattle.cfm_store.specs.Stores.{Pair}
 use Rattle.cfm_libraries.specs.declared.fragment.FragmentView.{FragmentView}
 use Rattle.cfm_libraries.specs.declared.walk.Frame.{Frame}
-use Rattle.cfm_libraries.specs.Stores.{Pair}
 use Rattle.cfm_libraries.specs.Kept.Paths.{AreTables, IsFrame, IsWalked, count_of}
 use Rattle.cfm_libraries.specs.Kept.Views.{AreKept, AreRead, fragment_at}
 use Rattle.cfm_libraries.specs.Views.{fragment_seen}

@@ -4,10 +4,10 @@ use Rattle.std.specs.Prelude.{Result, AllPairs}
 use Rattle.std.proofs.lemmas.Bool.Decides.{eqb_tells}
 use Rattle.std.proofs.lemmas.List.{get_or-set_same, get_or-set_other, get_or_append_left, get_or_push, length-set, length_push}
 use Rattle.std.proofs.lemmas.List.Elements.{Contains-append_left, Contains-get_or, Contains-push, Contains-push_cases}
+use Rattle.cfm_store.specs.Stores.{Pair}
 use Rattle.cfm_libraries.specs.Faults.{◌>>=◌, Refusal}
 use Rattle.cfm_libraries.specs.Fragments.{fragment_of}
 use Rattle.cfm_libraries.specs.Libraries.{bound_to}
-use Rattle.cfm_libraries.specs.Stores.{Pair}
 use Rattle.cfm_libraries.specs.Walk.{Walked, is_marked, joining, left, marking, walk, walk_at, walk_to, walks_from}
 use Rattle.cfm_libraries.specs.Kept.Walks.{IsBound, IsDone, IsTidy, Reaches}
 use Rattle.cfm_libraries.proofs.WalkRules.{came, left-marking, none_left, unmarked_inside, walk-fewer, walk_to-fewer}

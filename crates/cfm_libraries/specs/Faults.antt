@@ -6,8 +6,6 @@ use Rattle.pef_loader.specs.declared.fault.LoaderFault.{LoaderFault}
 use Rattle.pef_loader.specs.Faults.{fault_name as loader_fault_name, fault_number as loader_fault_number}
 use Rattle.cfm_libraries.specs.declared.fault.BindFault.{BindFault}
 use Rattle.cfm_libraries.specs.declared.fault.BindFault.TheVariants as fault
-use Rattle.cfm_libraries.specs.declared.fault.StoreFault.{StoreFault}
-use Rattle.cfm_libraries.specs.declared.fault.StoreFault.TheVariants as store_fault
 
 -- why a fragment has no closure, with the names that are told: of the fragment, of its library, of its
 -- symbol
@@ -66,9 +64,3 @@ fault_name (fault.ImplementationTooNew f l) = codes "ImplementationTooNew"
 fault_name (fault.ReexportLoop f s) = codes "ReexportLoop"
 fault_name (fault.InitLoop f) = codes "InitLoop"
 fault_name fault.OutOfMemory = codes "OutOfMemory"
-
-abbrev pub store_fault_number : StoreFault → ℕ
-store_fault_number store_fault.OutOfMemory = 99
-
-abbrev pub store_fault_name : StoreFault → List ℕ
-store_fault_name store_fault.OutOfMemory = codes "OutOfMemory"

@@ -8,8 +8,8 @@ use Rattle.pef_views.specs.declared.fault.ViewFault.{ViewFault}
 use Rattle.pef_loader.specs.Import.{Import}
 use Rattle.pef_loader.specs.Loader.{Loaded, import_of, loaded_of}
 use Rattle.pef_loader.specs.declared.fault.LoaderFault.{LoaderFault}
+use Rattle.cfm_store.specs.Stores.{Pair, pair_of}
 use Rattle.cfm_libraries.specs.Faults.{Refusal, no_container, no_loader}
-use Rattle.cfm_libraries.specs.Stores.{Pair, pair_of}
 
 pub record Fragment : Type 0 where
   pub name : List ℕ

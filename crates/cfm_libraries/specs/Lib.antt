@@ -2,10 +2,6 @@ pub mod Faults
 pub mod Fragments
 pub mod Kept
 pub mod Libraries
-pub mod Limits
 pub mod Orders
-pub mod Seen
-pub mod Stores
-pub mod Versions
 pub mod Views
 pub mod Walk

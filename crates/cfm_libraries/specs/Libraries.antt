@@ -5,12 +5,12 @@ use Rattle.std.specs.Option.{option_map_or}
 use Rattle.std.specs.Result.{result_unwrap_or}
 use Rattle.pef_loader.specs.Library.{Library}
 use Rattle.pef_loader.specs.Loader.{library_of}
-use Rattle.cfm_libraries.specs.declared.versions.Fit.{Fit}
-use Rattle.cfm_libraries.specs.declared.versions.Fit.TheVariants.{Fits, TooOld, TooNew}
+use Rattle.cfm_store.specs.declared.versions.Fit.{Fit}
+use Rattle.cfm_store.specs.declared.versions.Fit.TheVariants.{Fits, TooOld, TooNew}
+use Rattle.cfm_store.specs.Stores.{Pair, place_of}
+use Rattle.cfm_store.specs.Versions.{fit_of}
 use Rattle.cfm_libraries.specs.Faults.{◌>>=◌, Refusal, library_missing, implementation_too_old, implementation_too_new}
 use Rattle.cfm_libraries.specs.Fragments.{Fragment, fragment_of}
-use Rattle.cfm_libraries.specs.Stores.{Pair, place_of}
-use Rattle.cfm_libraries.specs.Versions.{fit_of}
 
 -- the library may be missing: bit 40 (hex) of the options
 abbrev pub is_weak : Library → Bool

@@ -1,8 +1,8 @@
 -- Closure orders of a store, and what holds of them beside their definition.
 use Rattle.std.specs.Prelude.{◌≡◌, ◌≢◌, ℕ, ◌<◌, ◌≤◌, List, [], ◌∷◌, ◌++◌, length, Option, Some, Ok, Contains, AllPairs}
+use Rattle.cfm_store.specs.Stores.{Pair}
 use Rattle.cfm_libraries.specs.Fragments.{Fragment, fragment_of}
 use Rattle.cfm_libraries.specs.Libraries.{bound_to}
-use Rattle.cfm_libraries.specs.Stores.{Pair}
 
 -- a store, and the fragments of a closure by their places, in closure order
 pub record Ordered : Type 0 where

@@ -1,10 +1,10 @@
 -- The closure of a fragment: the fragment and all that it needs, libraries before those that need them
 -- (Mac OS Runtime Architectures, "Code Fragment Manager", "Preparing a Fragment").
 use Rattle.std.specs.Prelude.{ℕ, zero, suc, ◌+◌, Bool, true, false, not, List, [], ◌∷◌, ◌++◌, length, replicate, count_by, slice_index_or, slice_set, Option, None, Some, Result, Ok}
+use Rattle.cfm_store.specs.Stores.{Pair}
 use Rattle.cfm_libraries.specs.Faults.{◌>>=◌, Refusal}
 use Rattle.cfm_libraries.specs.Fragments.{fragment_of}
 use Rattle.cfm_libraries.specs.Libraries.{bound_to}
-use Rattle.cfm_libraries.specs.Stores.{Pair}
 
 -- which fragments of the store were met, and which of them are done, in order
 pub record Walked : Type 0 where

@@ -7,8 +7,7 @@ ghost use Rattle.cfm_libraries.specs.Libraries.{bound, fit_with, is_before, is_w
 
 use crate::fault::BindFault;
 use crate::fragment::{FragmentView, read_at};
-use crate::store::Store;
-use crate::versions::{Definition, Fit, Implementation, versions_fit};
+use cfm_store::{Definition, Fit, Implementation, Store, versions_fit};
 use cfm_tables::PlaceTable;
 use pef_loader::LibraryView;
 use pef_loader::layout::{INIT_BEFORE, WEAK_LIBRARY};

@@ -1,17 +1,17 @@
 ghost use Rattle.std.specs.Prelude.{◌≡◌, ◌<◌, ◌≤◌, length, replicate, Contains, None, Ok, IfOk, IfSome};
+ghost use Rattle.cfm_store.specs.Limits.{most_pairs};
 ghost use Rattle.cfm_libraries.specs.Faults.{Answers};
 ghost use Rattle.cfm_libraries.specs.Fragments.{fragment_of, import_count, library_count};
 ghost use Rattle.cfm_libraries.specs.Libraries.{bound_to};
 ghost use Rattle.cfm_libraries.specs.Orders.{IsComplete};
 ghost use Rattle.cfm_libraries.specs.Walk.{order_of};
 ghost use Rattle.cfm_libraries.specs.Views.{fragment_seen};
-ghost use Rattle.cfm_libraries.specs.Limits.{most_pairs};
 
 use crate::fault::BindFault;
 use crate::fragment::FragmentView;
 use crate::libraries::Libraries;
-use crate::store::Store;
 use crate::walk::Walk;
+use cfm_store::Store;
 use cfm_tables::PlaceTable;
 use std::alloc::{AllocError, Global};
 use std::marker::Model;
@@ -35,7 +35,7 @@ impl<'a> Model for Bindings<'a> {
     ghost Value = { Ordered };
 
     ghost use Rattle.std.specs.Prelude.{map};
-    ghost use Rattle.cfm_libraries.specs.Seen.{pair_seen};
+    ghost use Rattle.cfm_store.specs.Seen.{pair_seen};
     ghost use Rattle.cfm_libraries.specs.Kept.Bindings.{AreBindings};
 
     ghost view = { λ b. record { pairs = map pair_seen b.pairs.items; order = b.order.items } };

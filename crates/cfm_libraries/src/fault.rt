@@ -1,5 +1,5 @@
 ghost use Rattle.std.specs.Prelude.{◌≡◌};
-ghost use Rattle.cfm_libraries.specs.Faults.{fault_name, fault_number, store_fault_name, store_fault_number};
+ghost use Rattle.cfm_libraries.specs.Faults.{fault_name, fault_number};
 
 use pef_loader::LoaderFault;
 use pef_views::ViewFault;
@@ -133,55 +133,5 @@ impl<'a, T: Drop> From<AllocFailed<T>> for BindFault<'a> {
 
     fn from(_error: AllocFailed<T>) -> BindFault<'a> {
         BindFault::OutOfMemory
-    }
-}
-
-/// Why a pair isn't added to a store.
-#[derive(Clone, Copy, Debug, PartialEq, Eq, Error)]
-pub enum StoreFault {
-    /// The machine refused memory.
-    OutOfMemory,
-}
-
-impl StoreFault {
-    /// The refusal's number.
-    pub fn number(&self) -> u32
-        ensures { result ≡ store_fault_number self.now }
-    {
-        match self {
-            StoreFault::OutOfMemory => 99,
-        }
-    }
-
-    /// The refusal's name, which is its text.
-    pub fn name(&self) -> &'static str
-        ensures { result.now ≡ store_fault_name self.now }
-    {
-        match self {
-            StoreFault::OutOfMemory => "OutOfMemory",
-        }
-    }
-}
-
-impl fmt::Display for StoreFault {
-    ghost use Rattle.std.specs.Prelude.{Some};
-    ghost use Rattle.cfm_libraries.specs.Faults.{store_fault_name};
-
-    ghost output = { λ fault. Some (store_fault_name fault) };
-
-    fn fmt<W: fmt::Write>(&self, f: &mut fmt::Formatter<W>) -> fmt::Result {
-        f.write_str(self.name())
-    }
-}
-
-impl From<AllocError> for StoreFault {
-    fn from(_error: AllocError) -> StoreFault {
-        StoreFault::OutOfMemory
-    }
-}
-
-impl<T: Drop> From<AllocFailed<T>> for StoreFault {
-    fn from(_error: AllocFailed<T>) -> StoreFault {
-        StoreFault::OutOfMemory
     }
 }

@@ -5,7 +5,7 @@ ghost use Rattle.cfm_libraries.specs.Kept.Views.{AreKept, AreRead, fragment_at};
 ghost use Rattle.cfm_libraries.specs.Views.{fragment_seen};
 
 use crate::fault::BindFault;
-use crate::store::Store;
+use cfm_store::Store;
 use cfm_tables::PlaceTable;
 use pef_loader::Loader;
 use pef_views::Container;

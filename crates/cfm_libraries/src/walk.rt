@@ -10,7 +10,7 @@ use crate::binding::bind;
 use crate::fault::BindFault;
 use crate::fragment::{FragmentView, read_at};
 use crate::libraries::Libraries;
-use crate::store::Store;
+use cfm_store::Store;
 use cfm_tables::PlaceTable;
 use std::alloc::{AllocError, Global};
 

@@ -6,9 +6,9 @@ use Rattle.std.proofs.lemmas.Bool.Decides.{eqb_tells}
 use Rattle.cfm_memory.specs.Extents.{Stand, place_at}
 use Rattle.cfm_memory.specs.Instances.{Layout}
 use Rattle.cfm_memory.specs.declared.place.Place.{Place}
+use Rattle.cfm_store.specs.Stores.{Pair}
 use Rattle.cfm_libraries.specs.Faults.{Refusal}
 use Rattle.cfm_libraries.specs.Fragments.{import_count}
-use Rattle.cfm_libraries.specs.Stores.{Pair}
 use Rattle.cfm_closure.specs.Closures.{closed_of}
 use Rattle.cfm_closure.specs.Promises.{LiesInside}
 use Rattle.cfm_closure.specs.Targets.{target_of}

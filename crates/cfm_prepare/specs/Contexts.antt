@@ -5,7 +5,7 @@
 use Rattle.std.specs.Prelude.{◌==◌, ℕ, Bool, false, true, List, [], ◌∷◌, Option, None, Some, if◌then◌else◌}
 use Rattle.cfm_memory.specs.Extents.{no_instances}
 use Rattle.cfm_memory.specs.Instances.{Layout}
-use Rattle.cfm_libraries.specs.Stores.{Pair}
+use Rattle.cfm_store.specs.Stores.{Pair}
 use Rattle.cfm_closure.specs.Closures.{Closed}
 use Rattle.cfm_present.specs.Fragments.{Present}
 use Rattle.cfm_present.specs.Lists.{has}

@@ -1,8 +1,8 @@
 -- The steps of a context: a fragment is prepared, or a connection closed; and why a fragment isn't prepared.
 -- The order of the refusals is this project's own rule.
 use Rattle.std.specs.Prelude.{◌≡◌, ◌≤◌, ◌<◌, ℕ, ◌+◌, List, [], ◌∷◌, ◌++◌, None, Some, Ok}
+use Rattle.cfm_store.specs.Stores.{place_of}
 use Rattle.cfm_libraries.specs.Faults.{Fails}
-use Rattle.cfm_libraries.specs.Stores.{place_of}
 use Rattle.cfm_closure.specs.Closures.{Closed, closed_of}
 use Rattle.cfm_present.specs.Fragments.{Present, all_given_back, new_among}
 use Rattle.cfm_present.specs.Placing.{ArePrepared}

@@ -1,6 +1,6 @@
 ghost use Rattle.std.specs.Prelude.{◌≡◌, ◌<◌, ◌≤◌, ◌+◌, ℕ, List, IfErr, IfOk, MatchOption, None, OnErr, OnOk, Some, length, option_map, slice_get};
 ghost use Rattle.std.specs.Option.{option_and_then, option_copied};
-ghost use Rattle.cfm_libraries.specs.Stores.{place_of};
+ghost use Rattle.cfm_store.specs.Stores.{place_of};
 ghost use Rattle.cfm_present.specs.Fragments.{places_of};
 ghost use Rattle.cfm_present.specs.Sections.{section_in, section_seen};
 ghost use Rattle.cfm_prepare.specs.Contexts.{fresh_state, most_connections, open_of};
@@ -12,9 +12,10 @@ use crate::connections::Connections;
 use crate::fault::{CloseFault, PrepareFault};
 use crate::releasing::release;
 use crate::users::{enter, leave, make_room};
-use cfm_closure::{Store, closure};
+use cfm_closure::closure;
 use cfm_fragment::Entries;
 use cfm_present::Fragments;
+use cfm_store::Store;
 use std::alloc::Global;
 use std::marker::Model;
 

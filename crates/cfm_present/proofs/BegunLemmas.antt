@@ -1,7 +1,7 @@
 -- New fragments, from their placing to the end of their preparation or its first refusal.
 use Rattle.std.proofs.Common.{◌≡◌, ℕ, zero, suc, ◌<◌, Bool, true, false, List, [], ◌∷◌, ◌++◌, None, Some, Result, Ok, Err, All, Contains, OnOk, IfErr, length, get_or, cond, refl, sym, ap, subst, ◌∙◌, arith}
 use Rattle.cfm_memory.specs.Instances.{Layout}
-use Rattle.cfm_libraries.specs.Stores.{Pair}
+use Rattle.cfm_store.specs.Stores.{Pair}
 use Rattle.cfm_present.specs.Addresses.{first_bad_program, section_of}
 use Rattle.cfm_present.specs.Lists.{has}
 use Rattle.cfm_present.specs.Fragments.{Present, StandAll, all_given_back, first_bad_image, is_present, new_among}

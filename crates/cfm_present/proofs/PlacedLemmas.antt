@@ -4,7 +4,7 @@ use Rattle.std.proofs.lemmas.List.{length-replicate}
 use Rattle.cfm_memory.specs.Extents.{ArePlaced, given_back, place_at, zeros_at}
 use Rattle.cfm_memory.specs.Instances.{Layout, bytes_at}
 use Rattle.cfm_memory.proofs.Laws.{placed_apart, placed_given_back, placed_new, placed_stand, placed_stays, stand_held}
-use Rattle.cfm_libraries.specs.Stores.{Pair}
+use Rattle.cfm_store.specs.Stores.{Pair}
 use Rattle.cfm_present.specs.Fragments.{Present, StandAll, all_given_back, extents_in, present_at}
 use Rattle.cfm_present.specs.Placing.{AllPlaced, Fits}
 use Rattle.cfm_present.specs.Kept.Ready.{AllApart, AllHeld, OwnApart}

@@ -3,7 +3,7 @@ use Rattle.std.proofs.Common.{◌≡◌, ℕ, List, [], ◌∷◌, ◌++◌, ref
 use Rattle.cfm_memory.specs.Extents.{ArePlaced, LackRoom}
 use Rattle.cfm_memory.specs.Instances.{Layout}
 use Rattle.cfm_memory.specs.declared.place.Place.{Place}
-use Rattle.cfm_libraries.specs.Stores.{Pair, pair_of}
+use Rattle.cfm_store.specs.Stores.{Pair, pair_of}
 use Rattle.cfm_present.specs.Fragments.{Present, extents_in, positions}
 use Rattle.cfm_present.specs.Placing.{AllPlaced, LacksRoom}
 use Rattle.cfm_present.specs.Refusals.{MayNotPrepareNew}

@@ -8,7 +8,7 @@ use Rattle.cfm_memory.specs.Extents.{AreApart, AreHeld, given_back, place_at}
 use Rattle.cfm_memory.specs.Instances.{Layout, bytes_at, has_length}
 use Rattle.cfm_memory.specs.declared.place.Place.{Place}
 use Rattle.cfm_memory.proofs.Laws.{given_back_elsewhere}
-use Rattle.cfm_libraries.specs.Stores.{Pair}
+use Rattle.cfm_store.specs.Stores.{Pair}
 use Rattle.cfm_present.specs.Fragments.{Present, all_given_back, places_of, present_at}
 use Rattle.cfm_present.specs.Placing.{AllPlaced}
 use Rattle.cfm_present.specs.Kept.Ready.{AllApart, AllHeld, AreReady}

@@ -9,7 +9,7 @@ use Rattle.cfm_memory.specs.Extents.{AreHeld, Stand, given_back}
 use Rattle.cfm_memory.specs.Instances.{Layout}
 use Rattle.pef_pidata.specs.declared.fault.PackFault.{PackFault}
 use Rattle.pef_reloc.specs.declared.fault.RelocFault.{RelocFault}
-use Rattle.cfm_libraries.specs.Stores.{Pair}
+use Rattle.cfm_store.specs.Stores.{Pair}
 use Rattle.cfm_present.specs.Addresses.{addresses_of, first_bad_program}
 use Rattle.cfm_present.specs.Fragments.{Present, first_bad_image, image_refusal_in, named, positions, present_at, reloc_refusal_in}
 use Rattle.cfm_present.specs.Kept.Ready.{AllApart, AllHeld, AllIn, FillsUpTo, RelocatesUpTo}

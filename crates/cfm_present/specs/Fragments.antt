@@ -9,8 +9,8 @@ use Rattle.cfm_memory.specs.declared.place.Place.{Place}
 use Rattle.pef_pidata.specs.declared.fault.PackFault.{PackFault}
 use Rattle.pef_reloc.specs.Applied.{Addresses}
 use Rattle.pef_reloc.specs.declared.fault.RelocFault.{RelocFault}
+use Rattle.cfm_store.specs.Stores.{Pair, pair_of}
 use Rattle.cfm_libraries.specs.Fragments.{container_at, loader_at}
-use Rattle.cfm_libraries.specs.Stores.{Pair, pair_of}
 use Rattle.cfm_fragment.specs.Images.{extents_of, filled_at, first_image_refusal}
 use Rattle.cfm_fragment.specs.Prepared.{first_reloc_refusal, prepared_at}
 

@@ -5,7 +5,7 @@ use Rattle.std.specs.Prelude.{◌≡◌, ◌⊎◌, ℕ, List, [], ◌∷◌, �
 use Rattle.cfm_memory.specs.Extents.{ArePlaced, LackRoom}
 use Rattle.cfm_memory.specs.Instances.{Layout}
 use Rattle.cfm_memory.specs.declared.place.Place.{Place}
-use Rattle.cfm_libraries.specs.Stores.{Pair, pair_of}
+use Rattle.cfm_store.specs.Stores.{Pair, pair_of}
 use Rattle.cfm_present.specs.Addresses.{first_bad_program, section_of}
 use Rattle.cfm_present.specs.Fragments.{Present, StandAll, all_given_back, extents_in, first_bad_image, positions}
 

@@ -3,7 +3,7 @@ use Rattle.std.specs.Prelude.{◌≡◌, ℕ, List, ◌++◌, None, Some}
 use Rattle.cfm_memory.specs.Instances.{Layout}
 use Rattle.pef_pidata.specs.declared.fault.PackFault.{PackFault}
 use Rattle.pef_reloc.specs.declared.fault.RelocFault.{RelocFault}
-use Rattle.cfm_libraries.specs.Stores.{Pair}
+use Rattle.cfm_store.specs.Stores.{Pair}
 use Rattle.cfm_present.specs.Addresses.{first_bad_program}
 use Rattle.cfm_present.specs.Fragments.{Present, first_bad_image}
 use Rattle.cfm_present.specs.Placing.{AreNew, LacksRoom}

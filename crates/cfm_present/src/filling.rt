@@ -7,9 +7,10 @@ ghost use Rattle.cfm_present.specs.Placing.{Fits};
 use crate::fault::FragmentFault;
 use crate::placing::name_of;
 use crate::slots::Slots;
-use cfm_closure::{Closure, Store};
+use cfm_closure::Closure;
 use cfm_fragment::fill_sections;
 use cfm_memory::{Memory, Place};
+use cfm_store::Store;
 
 /// Fills the sections of new fragments, all zeros, with their images, up to the first that is refused.
 pub(crate) fn fill_fragments<'a>(

@@ -11,8 +11,9 @@ use crate::preparing::prepare_new;
 use crate::releasing::give_back_fragment;
 use crate::relocating::target_address;
 use crate::slots::{Slots, new_among};
-use cfm_closure::{Closure, Store, Target};
+use cfm_closure::{Closure, Target};
 use cfm_memory::{Memory, Place};
+use cfm_store::Store;
 use std::alloc::Global;
 use std::marker::Model;
 

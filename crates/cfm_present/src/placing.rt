@@ -1,16 +1,17 @@
 ghost use Rattle.std.specs.Prelude.{◌≡◌, ◌++◌, ℕ, List, [], ◌∷◌, All, Contains, IfErr, OnErr, OnOk, false, take};
 ghost use Rattle.cfm_memory.specs.Extents.{ArePlaced};
 ghost use Rattle.cfm_memory.specs.declared.place.Place.{Place};
-ghost use Rattle.cfm_libraries.specs.Stores.{pair_of};
+ghost use Rattle.cfm_store.specs.Stores.{pair_of};
 ghost use Rattle.cfm_present.specs.Fragments.{extents_in, is_present};
 ghost use Rattle.cfm_present.specs.Refusals.{MayNotPrepareNew};
 ghost use Rattle.cfm_present.specs.Kept.Ready.{AreAbsent, HavePlaced, IsNotPlaced};
 
 use crate::fault::FragmentFault;
 use crate::slots::Slots;
-use cfm_closure::{Closure, Store};
+use cfm_closure::Closure;
 use cfm_fragment::place_sections;
 use cfm_memory::{Memory, MemoryFault};
+use cfm_store::Store;
 use std::alloc::Global;
 
 /// The name of the fragment in a place of a store.

@@ -10,8 +10,9 @@ use crate::placing::place_fragments;
 use crate::releasing::give_back_all;
 use crate::relocating::relocate_fragments;
 use crate::slots::Slots;
-use cfm_closure::{Closure, Store};
+use cfm_closure::Closure;
 use cfm_memory::Memory;
+use cfm_store::Store;
 use std::alloc::Global;
 
 /// Prepares new fragments of a closure, and puts them behind those that are present. Where it is refused,

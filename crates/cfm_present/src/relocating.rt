@@ -10,9 +10,10 @@ ghost use Rattle.cfm_present.specs.Fragments.{present_of};
 use crate::fault::FragmentFault;
 use crate::placing::name_of;
 use crate::slots::Slots;
-use cfm_closure::{Closure, Store, Target};
+use cfm_closure::{Closure, Target};
 use cfm_fragment::{relocate_sections, section_address, section_addresses};
 use cfm_memory::Memory;
+use cfm_store::Store;
 use std::alloc::{AllocError, Global};
 
 /// Relocates new fragments, which were filled, up to the first that is refused. The fragments that are present

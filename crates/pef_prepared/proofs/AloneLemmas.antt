@@ -1,8 +1,8 @@
 -- A store of one fragment: its closure has that fragment and no other, and so has a context in which it is prepared.
 use Rattle.std.proofs.Common.{◌≡◌, ℕ, ◌≤◌, Bool, true, false, cond, List, [], ◌∷◌, ◌++◌, Option, None, Some, Result, Ok, Err, codes, length, refl, sym, ap, ap₂, subst, ◌∙◌, arith}
 use Rattle.std.proofs.lemmas.List.{length-append}
+use Rattle.cfm_store.specs.Stores.{Pair, place_of}
 use Rattle.cfm_libraries.specs.Faults.{◌>>=◌, Refusal}
-use Rattle.cfm_libraries.specs.Stores.{Pair, place_of}
 use Rattle.cfm_libraries.specs.Walk.{order_of, unwalked}
 use Rattle.cfm_closure.specs.Closures.{Closed, closed_of, first_refused}
 use Rattle.cfm_closure.specs.Initialization.{init_order_of, is_ready, take_next, take_ready}

@@ -1,9 +1,9 @@
 -- What is linked has a least program for each section, in its bytes as they are read.
 use Rattle.std.proofs.Common.{◌≡◌, ◌≢◌, ℕ, zero, suc, ◌==◌, Bool, true, false, List, [], ◌∷◌, Some, Result, Ok, option_map, slice_get, eq-eqb, refl, sym, ap, subst, ◌∙◌}
 use Rattle.std.specs.List.{filter}
+use Rattle.cfm_store.specs.Stores.{Pair, pair_of}
 use Rattle.cfm_libraries.specs.Faults.{Refusal}
 use Rattle.cfm_libraries.specs.Fragments.{Fragment, fragment_of}
-use Rattle.cfm_libraries.specs.Stores.{Pair, pair_of}
 use Rattle.pef_loader.specs.Loader.{Loaded}
 use Rattle.pef_reloc.specs.Headers.{IsOther}
 use Rattle.pef_reloc.specs.Instrs.{spelled}

@@ -2,8 +2,8 @@
 use Rattle.std.proofs.Common.{◌≡◌, ℕ, zero, suc, ◌+◌, true, List, [], None, Some, Ok, Contains, length, option_map, refl, ap, subst, ◌∙◌, arith}
 use Rattle.std.specs.Option.{option_and_then, option_map_or}
 use Rattle.std.specs.Result.{result_ok}
+use Rattle.cfm_store.specs.Stores.{Pair, pair_of}
 use Rattle.cfm_libraries.specs.Fragments.{Fragment, container_at, fragment_of, import_count, loader_at}
-use Rattle.cfm_libraries.specs.Stores.{Pair, pair_of}
 use Rattle.cfm_fragment.specs.Images.{extents_of, first_image_refusal}
 use Rattle.cfm_fragment.specs.Prepared.{addresses_at, first_reloc_refusal, prepared_at}
 use Rattle.cfm_memory.specs.Extents.{ArePlaced}

@@ -1,10 +1,10 @@
 -- Where new fragments are refused for an image or a relocation header, it is one with bytes that weren't linked.
 use Rattle.std.proofs.Common.{◌≡◌, ℕ, suc, List, [], ◌∷◌, ◌++◌, Option, None, Some, Ok, Err, ◌⊎◌, inl, inr, refl, sym, ap, subst, ◌∙◌, arith}
 use Rattle.std.specs.Option.{option_or}
+use Rattle.cfm_store.specs.Stores.{Pair, pair_of, place_of}
+use Rattle.cfm_store.proofs.Laws.{place_of-below, place_of-named}
 use Rattle.cfm_libraries.specs.Faults.{Fails, Refusal, no_container, no_loader}
 use Rattle.cfm_libraries.specs.Faults as binds
-use Rattle.cfm_libraries.specs.Stores.{Pair, pair_of, place_of}
-use Rattle.cfm_libraries.proofs.Laws.{place_of-below, place_of-named}
 use Rattle.cfm_libraries.specs.declared.fault.BindFault.{BindFault}
 use Rattle.cfm_libraries.specs.declared.fault.BindFault.TheVariants as bind
 use Rattle.cfm_closure.specs.Closures.{Closed, closed_of}

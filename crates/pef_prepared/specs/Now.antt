@@ -1,7 +1,7 @@
 -- When a fragment of a context has the memory that a script describes (docs/SCRIPTS.md, `section`, `bytes`, `fix`,
 -- `tvector`), with the addresses of now; and fragments that weren't linked of any script.
 use Rattle.std.specs.Prelude.{◌≡◌, ℕ, List, Contains, Some, length, map}
-use Rattle.cfm_libraries.specs.Stores.{Pair, pair_of, place_of}
+use Rattle.cfm_store.specs.Stores.{Pair, pair_of, place_of}
 use Rattle.cfm_fragment.specs.Prepared.{addresses_at}
 use Rattle.cfm_memory.specs.Extents.{ArePlaced, Extent, Stand}
 use Rattle.cfm_memory.specs.Instances.{Layout}

@@ -9,9 +9,9 @@ ghost use Rattle.pef_prepared.specs.Limits.{memory_limit};
 ghost use Rattle.pef_prepared.specs.Loaded.{entry_label, fragment_text, fragments_text, init_order_in, loaded_text, name_in, order_in, sections_in};
 
 use crate::fragment::{entry_line, print_bytes};
-use cfm_closure::Store;
 use cfm_fragment::Entries;
 use cfm_prepare::{Connection, Context, PrepareFault};
+use cfm_store::Store;
 use pef_answers::{DONE, Reply, print_behind, print_name_end};
 use pef_ports::{Page, Sink, StreamFault, send};
 use std::alloc::Global;

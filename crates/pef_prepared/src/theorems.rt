@@ -1,9 +1,9 @@
 //! The headline, and what stands beside it: laws of the definitions that the crates below promise by.
 //! The functions do nothing.
 ghost use Rattle.std.specs.Prelude.{◌≡◌, ◌⊎◌, ℕ, List, None, Some, Ok, Err, Contains, slice_get, true};
+ghost use Rattle.cfm_store.specs.Stores.{Pair, pair_of};
 ghost use Rattle.cfm_libraries.specs.Faults.{no_container, no_loader};
 ghost use Rattle.cfm_libraries.specs.Fragments.{Fragment, fragment_of};
-ghost use Rattle.cfm_libraries.specs.Stores.{Pair, pair_of};
 ghost use Rattle.cfm_closure.specs.Closures.{closed_of};
 ghost use Rattle.cfm_memory.specs.Extents.{ArePlaced};
 ghost use Rattle.cfm_memory.specs.Instances.{Layout};

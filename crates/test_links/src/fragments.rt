@@ -1,7 +1,7 @@
 //! Fragments from scripts, and stores of them.
 
 use crate::link_text;
-use cfm_closure::{MAX_PAIRS, Store};
+use cfm_store::{MAX_PAIRS, Store};
 use std::alloc::Global;
 use std::test::Fail;
 use test_data::changes::{Change, change};

@@ -2,10 +2,10 @@
 use Rattle.std.specs.Prelude.{◌≡◌, ℕ, ◌<◌, List, Some, Result, Ok, Err, Contains}
 use Rattle.pef_loader.specs.Export.{Export}
 use Rattle.pef_loader.specs.Loader.{Loaded, export_of}
+use Rattle.cfm_store.specs.Stores.{Pair}
 use Rattle.cfm_libraries.specs.declared.fault.BindFault.{BindFault}
 use Rattle.cfm_libraries.specs.Faults.{Fails, Refusal}
 use Rattle.cfm_libraries.specs.Fragments.{import_count}
-use Rattle.cfm_libraries.specs.Stores.{Pair}
 use Rattle.cfm_closure.specs.declared.hops.Hop.{Hop as CodeHop}
 use Rattle.cfm_closure.specs.declared.hops.Hop.TheVariants as code
 use Rattle.cfm_closure.specs.Targets.{Hop, ends, hop_by, through}

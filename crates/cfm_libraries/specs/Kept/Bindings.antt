@@ -1,12 +1,12 @@
 -- What is kept of a closure order: its fragments and what their library entries stand for.
 use Rattle.std.specs.Prelude.{◌≡◌, ℕ, ◌≤◌, List, length, Option}
 use Rattle.std.specs.List.{AllByRecursion}
+use Rattle.cfm_store.specs.Stores.{Pair}
+use Rattle.cfm_store.specs.Limits.{most_pairs}
 use Rattle.cfm_libraries.specs.declared.fragment.FragmentView.{FragmentView}
 use Rattle.cfm_libraries.specs.Orders.{IsComplete}
-use Rattle.cfm_libraries.specs.Stores.{Pair}
 use Rattle.cfm_libraries.specs.Kept.Paths.{IsWalked}
 use Rattle.cfm_libraries.specs.Kept.Views.{AreRead}
-use Rattle.cfm_libraries.specs.Limits.{most_pairs}
 
 -- the tables of a closure order
 pub record AreBindings (pairs : List Pair) (fragments : List (Option FragmentView)) (libraries : List (Option (List (Option ℕ)))) (order : List ℕ) : Type 0 where

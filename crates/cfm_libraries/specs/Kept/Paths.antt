@@ -2,6 +2,7 @@
 -- library entries that are.
 use Rattle.std.specs.Prelude.{◌≡◌, ℕ, ◌+◌, ◌-◌, ◌*◌, ◌<◌, ◌≤◌, Bool, false, List, [], ◌∷◌, length, slice_get, slice_index_or, Option, None, Some, Result, Ok, Err}
 use Rattle.std.specs.List.{AllByRecursion}
+use Rattle.cfm_store.specs.Stores.{Pair}
 use Rattle.cfm_libraries.specs.declared.fault.BindFault.{BindFault}
 use Rattle.cfm_libraries.specs.declared.fragment.FragmentView.{FragmentView}
 use Rattle.cfm_libraries.specs.declared.walk.Frame.{Frame}
@@ -9,7 +10,6 @@ use Rattle.cfm_libraries.specs.declared.walk.Walk.{Walk}
 use Rattle.cfm_libraries.specs.Faults.{◌>>=◌, Fails, Refusal}
 use Rattle.cfm_libraries.specs.Fragments.{Fragment}
 use Rattle.cfm_libraries.specs.Libraries.{bound_to}
-use Rattle.cfm_libraries.specs.Stores.{Pair}
 use Rattle.cfm_libraries.specs.Walk.{Walked, is_marked, joining, left, walk, walks_from}
 use Rattle.cfm_libraries.specs.Kept.Views.{AreRead, fragment_at}
 use Rattle.cfm_libraries.specs.Views.{fragment_seen}

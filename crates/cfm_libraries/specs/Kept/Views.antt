@@ -1,8 +1,8 @@
 -- The fragments of a store that were read.
 use Rattle.std.specs.Prelude.{◌≡◌, ℕ, List, slice_index_or, Option, Some, None, option_map, Ok}
+use Rattle.cfm_store.specs.Stores.{Pair}
 use Rattle.cfm_libraries.specs.declared.fragment.FragmentView.{FragmentView}
 use Rattle.cfm_libraries.specs.Fragments.{Fragment, fragment_of}
-use Rattle.cfm_libraries.specs.Stores.{Pair}
 use Rattle.cfm_libraries.specs.Views.{fragment_seen}
 
 -- the fragment that a table has in a place

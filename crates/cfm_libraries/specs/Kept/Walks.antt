@@ -1,9 +1,9 @@
 -- What a walk has done.
 use Rattle.std.specs.Prelude.{◌≡◌, ◌≢◌, ℕ, ◌+◌, ◌<◌, ◌≤◌, Bool, true, false, List, length, slice_index_or, Option, None, Some, Ok, Contains, AllPairs, ◌⊎◌, if◌then◌else◌}
 use Rattle.std.specs.Option.{option_and_then}
+use Rattle.cfm_store.specs.Stores.{Pair}
 use Rattle.cfm_libraries.specs.Fragments.{Fragment, fragment_of}
 use Rattle.cfm_libraries.specs.Libraries.{bound_to}
-use Rattle.cfm_libraries.specs.Stores.{Pair}
 use Rattle.cfm_libraries.specs.Walk.{Walked, is_marked, left}
 
 -- a library entry wasn't refused, and its fragment, where it is there, was met

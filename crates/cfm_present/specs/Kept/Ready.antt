@@ -4,7 +4,7 @@ use Rattle.cfm_memory.specs.Extents.{AreApart, AreHeld, LackRoom, place_at}
 use Rattle.cfm_memory.specs.Instances.{Layout}
 use Rattle.pef_pidata.specs.declared.fault.PackFault.{PackFault}
 use Rattle.pef_reloc.specs.declared.fault.RelocFault.{RelocFault}
-use Rattle.cfm_libraries.specs.Stores.{Pair, pair_of}
+use Rattle.cfm_store.specs.Stores.{Pair, pair_of}
 use Rattle.cfm_present.specs.Fragments.{Present, all_given_back, extents_in, is_present, positions, present_at, present_of}
 use Rattle.cfm_present.specs.Lists.{IsOnce, has}
 use Rattle.cfm_present.specs.Placing.{AllPlaced, Fits}

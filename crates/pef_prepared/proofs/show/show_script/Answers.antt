@@ -1,6 +1,6 @@
 -- What was prepared is shown, else why not.
 use Rattle.std.proofs.Common.{◌≡◌, List, codes, refl, sym, subst, ap, ◌∙◌}
-use Rattle.cfm_libraries.specs.Stores.{Pair}
+use Rattle.cfm_store.specs.Stores.{Pair}
 use Rattle.cfm_prepare.specs.Contexts.{fresh_state}
 use Rattle.cfm_prepare.specs.Steps.{MayNotPrepare, Prepares}
 use Rattle.pef_answers.specs.Answers.{Answer, Delivers}

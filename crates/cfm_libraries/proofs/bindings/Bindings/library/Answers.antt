@@ -1,8 +1,8 @@
 -- With a fragment the order has its libraries.
 use Rattle.std.proofs.Common.{◌≡◌, ◌∙◌, ℕ, List, Option, Some, map, ap, sym}
 use Rattle.std.specs.Prelude.{slice_get}
+use Rattle.cfm_store.specs.Seen.{pair_seen}
 use Rattle.cfm_libraries.specs.Kept.Paths.{IsWalked}
-use Rattle.cfm_libraries.specs.Seen.{pair_seen}
 use Rattle.cfm_libraries.proofs.OrderFacts.{all-contains, bound-inside}
 use Rattle.cfm_libraries.proofs.bindings.Bindings.library.Goals as goal
 

@@ -1,7 +1,7 @@
 -- The tables of the walk are those of its order.
 use Rattle.std.proofs.Common.{map, ap, sym, subst, ◌∙◌}
+use Rattle.cfm_store.specs.Seen.{pair_seen}
 use Rattle.cfm_libraries.specs.Kept.Bindings.{AreBindings}
-use Rattle.cfm_libraries.specs.Seen.{pair_seen}
 use Rattle.cfm_libraries.proofs.OrderFacts.{order-complete}
 use Rattle.cfm_libraries.proofs.bindings.Bindings.of.Goals as goal
 

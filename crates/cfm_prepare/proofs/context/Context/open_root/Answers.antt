@@ -5,8 +5,8 @@ use Rattle.std.specs.Option.{option_copied}
 use Rattle.std.proofs.lemmas.List.{length-append}
 use Rattle.std.proofs.lemmas.Result.{err_from_is_err_and}
 use Rattle.cfm_closure.specs.Closures.{Closed, closed_of}
+use Rattle.cfm_store.specs.Stores.{place_of}
 use Rattle.cfm_libraries.specs.Faults.{Fails}
-use Rattle.cfm_libraries.specs.Stores.{place_of}
 use Rattle.cfm_closure.proofs.Laws.{closed-complete, closed-root, closed-store}
 use Rattle.cfm_present.specs.Lists.{has}
 use Rattle.cfm_present.specs.Fragments.{Presence, is_present, new_among}

@@ -3,8 +3,8 @@ use Rattle.std.specs.Prelude.{◌≡◌, ℕ, ◌≤◌, List, [], ◌∷◌, �
 use Rattle.std.specs.Borrow.{Bor}
 use Rattle.std.specs.Map.{lookup}
 use Rattle.std.specs.Str.{bytes_eq}
-use Rattle.cfm_libraries.specs.Stores.{Pair, place_of}
-use Rattle.cfm_libraries.specs.Limits.{most_pairs}
+use Rattle.cfm_store.specs.Stores.{Pair, place_of}
+use Rattle.cfm_store.specs.Limits.{most_pairs}
 
 -- a table of names has for each name the place of its first pair
 abbrev pub ArePlaces : List Pair → List (Bor (List ℕ) × ℕ) → Type 0

@@ -1,7 +1,7 @@
 -- The place that the table has is that of a pair.
 use Rattle.std.proofs.Common.{◌∙◌, sym}
-use Rattle.cfm_libraries.proofs.PlaceLemmas.{place_below}
-use Rattle.cfm_libraries.proofs.store.Store.find.Goals as goal
+use Rattle.cfm_store.proofs.PlaceLemmas.{place_below}
+use Rattle.cfm_store.proofs.store.Store.find.Goals as goal
 
 pub returns-clause-below : goal.returns-clause-below
 returns-clause-below c =

@@ -1,8 +1,8 @@
 -- A name that has no place gets this one, behind the others; a name that has one keeps it.
 use Rattle.std.proofs.Common.{◌∙◌, refl, sym}
 use Rattle.indexmap.proofs.CallerLemmas.{insert_entry-new}
-use Rattle.cfm_libraries.proofs.PlaceLemmas.{NotesPlace-new, NotesPlace-known, none_if}
-use Rattle.cfm_libraries.proofs.store.note_place.Goals as goal
+use Rattle.cfm_store.proofs.PlaceLemmas.{NotesPlace-new, NotesPlace-known, none_if}
+use Rattle.cfm_store.proofs.store.note_place.Goals as goal
 
 pub returns-clause-ok : goal.returns-clause-ok
 returns-clause-ok c =

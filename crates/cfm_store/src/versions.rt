@@ -1,5 +1,5 @@
 ghost use Rattle.std.specs.Prelude.{◌≡◌};
-ghost use Rattle.cfm_libraries.specs.Versions.{fit_of};
+ghost use Rattle.cfm_store.specs.Versions.{fit_of};
 
 /// The versions of the library that a fragment was linked with: what the fragment's entry of that
 /// library says (PEFImportedLibrary).

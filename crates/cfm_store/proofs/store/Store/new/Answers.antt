@@ -1,8 +1,8 @@
 -- Without pairs no name has a place.
 use Rattle.std.proofs.Common.{map, ap, arith}
-use Rattle.cfm_libraries.specs.Seen.{pair_seen}
-use Rattle.cfm_libraries.proofs.PlaceLemmas.{ArePlaces-nil}
-use Rattle.cfm_libraries.proofs.store.Store.new.Goals as goal
+use Rattle.cfm_store.specs.Seen.{pair_seen}
+use Rattle.cfm_store.proofs.PlaceLemmas.{ArePlaces-nil}
+use Rattle.cfm_store.proofs.store.Store.new.Goals as goal
 
 pub invariant_of-result : goal.invariant_of-result
 invariant_of-result c =

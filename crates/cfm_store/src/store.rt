@@ -1,8 +1,8 @@
 ghost use Rattle.std.specs.Prelude.{◌≡◌, ◌==◌, ◌<◌, ◌≤◌, ◌++◌, [], ◌∷◌, length, map, slice_get, option_map, IfSome, OnOk, OnErr};
-ghost use Rattle.cfm_libraries.specs.Kept.Places.{NotesPlace};
-ghost use Rattle.cfm_libraries.specs.Seen.{pair_seen};
-ghost use Rattle.cfm_libraries.specs.Stores.{pair_of, place_of};
-ghost use Rattle.cfm_libraries.specs.Limits.{most_pairs};
+ghost use Rattle.cfm_store.specs.Kept.Places.{NotesPlace};
+ghost use Rattle.cfm_store.specs.Seen.{pair_seen};
+ghost use Rattle.cfm_store.specs.Stores.{pair_of, place_of};
+ghost use Rattle.cfm_store.specs.Limits.{most_pairs};
 
 use crate::fault::StoreFault;
 use indexmap::IndexMap;
@@ -23,13 +23,13 @@ pub struct Store<'a> {
 
 impl<'a> Model for Store<'a> {
     ghost use Rattle.std.specs.Prelude.{List};
-    ghost use Rattle.cfm_libraries.specs.Stores.{Pair};
+    ghost use Rattle.cfm_store.specs.Stores.{Pair};
 
     ghost Value = { List Pair };
 
     ghost use Rattle.std.specs.Prelude.{map};
-    ghost use Rattle.cfm_libraries.specs.Seen.{pair_seen};
-    ghost use Rattle.cfm_libraries.specs.Kept.Places.{IsStore};
+    ghost use Rattle.cfm_store.specs.Seen.{pair_seen};
+    ghost use Rattle.cfm_store.specs.Kept.Places.{IsStore};
 
     ghost view = { λ s. map pair_seen s.pairs.items };
 
@@ -87,7 +87,7 @@ impl<'a> Store<'a> {
     }
 
     /// All pairs.
-    pub(crate) fn pairs(&self) -> &[(&'a [u8], &'a [u8])]
+    pub fn pairs(&self) -> &[(&'a [u8], &'a [u8])]
         ensures pairs { map pair_seen result.now ≡ self.now }
         ensures few { length self.now ≤ most_pairs }
     {
@@ -95,7 +95,7 @@ impl<'a> Store<'a> {
     }
 
     /// Pair `p`, which is there.
-    pub(crate) fn at(&self, p: usize) -> (&'a [u8], &'a [u8])
+    pub fn at(&self, p: usize) -> (&'a [u8], &'a [u8])
         requires { p < length self.now }
         ensures { pair_seen result ≡ pair_of self.now p }
     {

@@ -1,11 +1,11 @@
 -- The table of places keeps step with the pairs.
 use Rattle.std.proofs.Common.{◌≡◌, ℕ, ◌+◌, ◌<◌, ◌≤◌, length, map, ap, refl, sym, subst, ◌∙◌, arith}
 use Rattle.std.proofs.lemmas.List.{length_push}
-use Rattle.cfm_libraries.specs.Kept.Places.{ArePlaces}
-use Rattle.cfm_libraries.specs.Seen.{pair_seen}
-use Rattle.cfm_libraries.proofs.PlaceLemmas.{length-seen, seen-push}
-use Rattle.cfm_libraries.proofs.store.Store.add.Goals as goal
-use Rattle.cfm_libraries.specs.Limits.{most_pairs}
+use Rattle.cfm_store.specs.Kept.Places.{ArePlaces}
+use Rattle.cfm_store.specs.Seen.{pair_seen}
+use Rattle.cfm_store.proofs.PlaceLemmas.{length-seen, seen-push}
+use Rattle.cfm_store.proofs.store.Store.add.Goals as goal
+use Rattle.cfm_store.specs.Limits.{most_pairs}
 
 one_more : (n : ℕ) {m : ℕ} → m ≡ n + 1 → n < most_pairs → m ≤ most_pairs
 one_more n more few = omega arith

@@ -5,8 +5,8 @@ use Rattle.std.specs.Option.{option_or}
 use Rattle.std.specs.Str.{bytes_eq}
 use Rattle.std.specs.Prelude.{IfSome, is_some}
 use Rattle.std.proofs.lemmas.Slice.Eq.{bytes_eq-Decides}
-use Rattle.cfm_libraries.specs.Stores.{Pair, pair_of, place_from, place_of}
-use Rattle.cfm_libraries.specs.Kept.Places.{ArePlaces, NotesPlace}
+use Rattle.cfm_store.specs.Stores.{Pair, pair_of, place_from, place_of}
+use Rattle.cfm_store.specs.Kept.Places.{ArePlaces, NotesPlace}
 
 -- where a test is met, a value
 abbrev if_met : Bool → ℕ → Option ℕ

@@ -1,0 +1,2 @@
+-- What the code keeps. Private contracts and proofs speak of it, public ones don't.
+pub mod Places
