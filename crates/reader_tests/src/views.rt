@@ -185,7 +185,13 @@ fn raw_parts<'a>(container: &Container<'a>) -> [Option<&'a [u8]>; 3] {
 }
 
 /// Tests the raw bytes of section 0, and those of the loader section, which is section 2.
-fn test_raw(rt: &impl Abort, row: usize, container: &Container<'_>, raw: &[u8], loader: &[u8]) {
+fn test_raw<'a>(
+    rt: &impl Abort,
+    row: usize,
+    container: &Container<'a>,
+    raw: &'a [u8],
+    loader: &'a [u8],
+) {
     let wanted = [Some(raw), Some(loader), None];
     assert_eq!(rt; raw_parts(container), wanted, "row {row}");
     assert_eq!(rt; container.loader(), loader, "row {row}");
