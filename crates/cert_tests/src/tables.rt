@@ -20,10 +20,15 @@ pub fn certificate(
     registers: &[u32],
     labels: &[u32],
 ) -> Result<Certificate, Fail> {
-    let rows = rows(rt, alloc, registers.len() + 1, labels)?;
+    let labels = rows(rt, alloc, registers.len() + 1, labels)?;
     let registers = Vec::from_slice(alloc, registers)?;
     let program = Vec::from_slice(alloc, program)?;
-    Ok(Certificate::new(0, program, registers, rows))
+    Ok(Certificate {
+        section: 0,
+        program,
+        registers,
+        labels,
+    })
 }
 
 /// The rows of these labels, for so many classes.

@@ -38,7 +38,7 @@ pub fn relocate_sections(
     ensures others { given_back memory.new places.now ≡ given_back memory.old places.now }
     ensures held { AreHeld memory.new places.now }
 {
-    for i in 0..loader.relocs() {
+    for i in 0..loader.header().reloc_count {
         let Some((section, program)) = loader.reloc(i as usize) else {
             unreachable!()
         };

@@ -90,7 +90,7 @@ fn import_addresses(
     ensures { IfOk result (λ addresses. addresses.items ≡ imports_from closure.now.pairs present.now.items position 0 (import_count closure.now.pairs position)) }
 {
     let mut addresses = Vec::new(alloc);
-    let count = closure.loader(position).imports();
+    let count = closure.loader(position).header().import_count;
     for import in 0..count {
         let target = closure.target(position, import as usize);
         addresses.push(target_address(present, target))?;

@@ -50,7 +50,7 @@ fn test_plans(
 ) -> Result<(), Fail> {
     let script = pef_script_text::read(alloc, text)?;
     for (k, certificate) in certificates.iter().enumerate() {
-        assert_eq!(rt; certificate.section() as usize, k);
+        assert_eq!(rt; certificate.section as usize, k);
         test_plan(rt, alloc, &script, certificate)?;
     }
     Ok(())
@@ -63,7 +63,7 @@ fn test_plan(
     script: &Script,
     certificate: &Certificate,
 ) -> Result<(), Fail> {
-    let section = certificate.section();
+    let section = certificate.section;
     let planned = planned(rt, alloc, script, section)?;
     assert!(rt; is_same(alloc, certificate, &planned)?, "section {section}");
     Ok(())
@@ -84,9 +84,9 @@ fn planned(
 /// Whether two certificates have the same parts.
 fn is_same(alloc: Global, one: &Certificate, other: &Certificate) -> Result<bool, AllocError> {
     Ok(
-        one.section() == other.section()
-            && one.program() == other.program()
-            && one.registers() == other.registers()
+        one.section == other.section
+            && one.program == other.program
+            && one.registers == other.registers
             && labels(alloc, one)? == labels(alloc, other)?,
     )
 }

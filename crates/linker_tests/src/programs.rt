@@ -94,7 +94,7 @@ fn first_header(bytes: &[u8]) -> Result<(u32, u32, &[u8]), Fail> {
     let container = Container::read(bytes)?;
     let loader = Loader::read(&container)?;
     let (section, program) = loader.reloc(0).unwrap_or((0, &[]));
-    Ok((loader.relocs(), section, program))
+    Ok((loader.header().reloc_count, section, program))
 }
 
 /// Tests that a section's certificate has the program that is written.
@@ -118,7 +118,7 @@ fn test_spelled(
     written: &[u8],
 ) -> Result<(), Fail> {
     let program = spelled(alloc, written)?;
-    assert!(rt; certificate.program() == program.as_slice());
+    assert!(rt; certificate.program == program);
     Ok(())
 }
 
@@ -130,7 +130,7 @@ fn link_listed(alloc: Global, listed: &[(u32, Base)]) -> Result<Linked, Fail> {
 
 /// Tests the length of the section's program, and its bytes where some are given.
 fn test_bytes(rt: &impl Abort, linked: &Linked, written: &[u8], halfwords: u32, bytes: &[u8]) {
-    let lengths = (linked.length(OWN), written.len());
+    let lengths = (linked.lengths.get(OWN).copied(), written.len());
     assert_eq!(rt; lengths, (Some(halfwords), 2 * halfwords as usize));
     assert!(rt; bytes.is_empty() || written == bytes);
 }
@@ -145,7 +145,7 @@ fn test_linked(
     halfwords: u32,
     bytes: &[u8],
 ) -> Result<(), Fail> {
-    let (headers, section, written) = first_header(linked.bytes())?;
+    let (headers, section, written) = first_header(&linked.bytes)?;
     assert_eq!(rt; headers, u32::from(fixups > 0));
     test_bytes(rt, linked, written, halfwords, bytes);
     if headers > 0 {
@@ -235,9 +235,12 @@ fn test_program_and_registers(
     program: &[Instr],
     registers: &[u32],
 ) {
-    let section = certificate.section();
-    assert!(rt; certificate.program() == program, "section {section}");
-    assert!(rt; certificate.registers() == registers, "section {section}");
+    let section = certificate.section;
+    let found = (
+        certificate.program.as_slice(),
+        certificate.registers.as_slice(),
+    );
+    assert!(rt; found == (program, registers), "section {section}");
 }
 
 /// Tests the labels of a certificate.
@@ -247,7 +250,7 @@ fn test_labels(
     certificate: &Certificate,
     wanted: &[u32],
 ) -> Result<(), Fail> {
-    let section = certificate.section();
+    let section = certificate.section;
     let labels = labels(alloc, certificate)?;
     assert!(rt; labels.as_slice() == wanted, "section {section}");
     Ok(())
@@ -260,9 +263,10 @@ fn certificate_of<'a>(
     section: u32,
 ) -> Result<&'a Certificate, Fail> {
     let certificate = linked
-        .certificate(section as usize)
+        .certificates
+        .get(section as usize)
         .ok_or("no certificate")?;
-    assert_eq!(rt; certificate.section(), section);
+    assert_eq!(rt; certificate.section, section);
     Ok(certificate)
 }
 
@@ -282,15 +286,14 @@ fn test_certificate(
 /// Tests that the certificates are in the order of the sections.
 fn test_order(rt: &impl Abort, certificates: &[Certificate]) {
     for (k, certificate) in certificates.iter().enumerate() {
-        assert_eq!(rt; certificate.section() as usize, k);
+        assert_eq!(rt; certificate.section as usize, k);
     }
 }
 
 /// Tests that the vectors have two certificates.
 fn test_two_certificates(rt: &impl Abort, linked: &Linked) {
-    assert!(rt; linked.certificate(2).is_none());
-    assert_eq!(rt; linked.certificates().len(), 2);
-    test_order(rt, linked.certificates());
+    assert_eq!(rt; linked.certificates.len(), 2);
+    test_order(rt, &linked.certificates);
 }
 
 /// Tests the certificates of the vectors.

@@ -28,9 +28,9 @@ fn link_again(
     say_begins(rt)?;
     let (linked, refused) = link_refused(alloc, script)?;
     assert!(rt;
-        linked.bytes() == container,
+        linked.bytes.as_slice() == container,
         "{} bytes",
-        linked.bytes().len()
+        linked.bytes.len()
     );
     say_answered(rt, refused)
 }

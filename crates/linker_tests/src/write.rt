@@ -126,19 +126,10 @@ const LINKED: &[Row] = &[
     (WHOLE_SCRIPT, &WHOLE, &[0, 3]),
 ];
 
-/// Tests how many halfwords the program of each section has.
-fn test_lengths(rt: &impl Abort, linked: &Linked, lengths: &[u32]) {
-    for (k, length) in lengths.iter().enumerate() {
-        assert!(rt; linked.length(k) == Some(*length), "section {k}");
-    }
-    assert!(rt; linked.length(lengths.len()).is_none());
-}
-
 /// Tests a container, and how many halfwords the programs have.
 fn test_linked(rt: &impl Abort, linked: &Linked, bytes: &[u8], lengths: &[u32]) {
-    let found = (linked.bytes(), linked.lengths());
+    let found = (linked.bytes.as_slice(), linked.lengths.as_slice());
     assert!(rt; found == (bytes, lengths), "{} bytes", bytes.len());
-    test_lengths(rt, linked, lengths);
 }
 
 /// Links a script, and tests what comes of it.
@@ -263,8 +254,9 @@ fn program_of(loader: &Loader<'_>, h: usize) -> Option<(u32, usize)> {
 
 /// Tests how many there are of each in the loader section of the greatest script.
 fn test_greatest_counts(rt: &impl Abort, loader: &Loader<'_>) {
-    assert!(rt; (loader.libraries(), loader.imports()) == (4096, 65_536));
-    assert!(rt; (loader.relocs(), loader.exports()) == (8, 16_383));
+    let header = loader.header();
+    assert_eq!(rt; (header.library_count, header.import_count), (4096, 65_536));
+    assert_eq!(rt; (header.reloc_count, header.export_count), (8, 16_383));
 }
 
 /// Tests the last library, the last import and the last program of the greatest script.
@@ -297,9 +289,9 @@ fn test_greatest(rt: &impl Abort, bytes: &[u8]) -> Result<(), Fail> {
 
 /// Tests how many halfwords the programs of the greatest script have, and its container.
 fn test_greatest_linked(rt: &impl Abort, linked: &Linked) -> Result<(), Fail> {
-    assert!(rt; linked.lengths() == [49_152; 8].as_slice());
-    assert_eq!(rt; linked.bytes().len(), 26_534_334);
-    test_greatest(rt, linked.bytes())
+    assert!(rt; linked.lengths.as_slice() == [49_152; 8].as_slice());
+    assert_eq!(rt; linked.bytes.len(), 26_534_334);
+    test_greatest(rt, &linked.bytes)
 }
 
 /// The greatest script is linked, and read back. Its container has 304 bytes of headers, the full section,

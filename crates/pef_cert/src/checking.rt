@@ -22,12 +22,12 @@ pub fn check(fixups: &[Fixup], certificate: &Certificate) -> bool
     ensures valid { IsTrue result ↔ Valid fixups.now certificate.now }
     ensures least { IsTrue result → Least fixups.now certificate.now.program }
 {
-    let registers = certificate.registers();
+    let registers = certificate.registers.as_slice();
     if !registers_hold(fixups, registers) {
         return false;
     }
-    match claim_of(fixups, registers, certificate.labels()) {
-        Some(claim) => claim.holds(certificate.program()),
+    match claim_of(fixups, registers, &certificate.labels) {
+        Some(claim) => claim.holds(&certificate.program),
         None => false,
     }
 }

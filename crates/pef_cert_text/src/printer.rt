@@ -150,12 +150,12 @@ fn append_certificate(text: &mut Vec<u8>, certificate: &Certificate) -> Result<(
     requires { Printable certificate.now }
     ensures { OnOk result (text.new.items ≡ text.old.items ++ certificate_text certificate.now) }
 {
-    let labels = certificate.labels();
-    append_field(text, b"section", certificate.section() as usize)?;
+    let labels = &certificate.labels;
+    append_field(text, b"section", certificate.section as usize)?;
     append_field(text, b"fixups", labels.rows() - 1)?;
     append_field(text, b"length", certificate.program_length() as usize)?;
-    append_program(text, certificate.program())?;
-    append_registers(text, certificate.registers())?;
+    append_program(text, &certificate.program)?;
+    append_registers(text, &certificate.registers)?;
     append_rows(text, labels)
 }
 

@@ -84,7 +84,12 @@ fn read_certificate(
     let program = read_program(alloc, lines, halfwords)?;
     let registers = read_registers(alloc, lines)?;
     let labels = read_rows(alloc, lines, registers.len() + 1, fixups + 1)?;
-    Ok(Certificate::new(section, program, registers, labels))
+    Ok(Certificate {
+        section,
+        program,
+        registers,
+        labels,
+    })
 }
 
 /// Reads the line of the number of fixups.

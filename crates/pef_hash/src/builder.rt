@@ -13,47 +13,21 @@ use std::marker::Model;
 /// The hash table of some names.
 #[derive(Debug, Drop)]
 pub struct Table {
-    power: u32,
-    slots: Vec<u32>,
-    keys: Vec<u32>,
-    order: Vec<u32>,
+    /// The table has `2^power` slots.
+    pub power: u32,
+    /// The slot words, each with the number of its keys in the high 14 bits and the index of the
+    /// first of them in the low 18.
+    pub slots: Vec<u32>,
+    /// The hash words in order of slot, and within a slot in the order of the names.
+    pub keys: Vec<u32>,
+    /// For each key, which of the names it is of.
+    pub order: Vec<u32>,
 }
 
 impl Model for Table {
     ghost Value = { BuiltTable };
 
     ghost view = { λ t. record { power = t.power; slots = t.slots.items; keys = t.keys.items; order = t.order.items } };
-}
-
-impl Table {
-    /// The table has `2^power` slots.
-    pub fn power(&self) -> u32
-        ensures { result ≡ self.now.power }
-    {
-        self.power
-    }
-
-    /// The slot words, each with the number of its keys in the high 14 bits and the index of the
-    /// first of them in the low 18.
-    pub fn slots(&self) -> &[u32]
-        ensures { result.now ≡ self.now.slots }
-    {
-        &self.slots
-    }
-
-    /// The hash words in order of slot, and within a slot in the order of the names.
-    pub fn keys(&self) -> &[u32]
-        ensures { result.now ≡ self.now.keys }
-    {
-        &self.keys
-    }
-
-    /// For each key, which of the names it is of.
-    pub fn order(&self) -> &[u32]
-        ensures { result.now ≡ self.now.order }
-    {
-        &self.order
-    }
 }
 
 /// The table of the names that stand one after the other in `names`, with these lengths. A length

@@ -13,7 +13,7 @@ use pef_words::Cut;
 /// The loader header, field by field (PEFLoaderInfoHeader). Offsets count from the first byte of the
 /// loader section.
 #[derive(Clone, Copy, Debug)]
-pub(crate) struct LoaderHeader {
+pub struct LoaderHeader {
     /// The section of the main entry, or -1 for none.
     pub main_section: i32,
     pub main_offset: u32,

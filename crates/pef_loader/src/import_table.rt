@@ -38,7 +38,7 @@ impl<'a> ImportTable<'a> {
     pub fn read(alloc: Global, loader: Loader<'a>) -> Result<ImportTable<'a>, AllocError>
         ensures { IfOk result (λ table. table ≡ loaded loader.entry) }
     {
-        let count = loader.imports() as usize;
+        let count = loader.header.import_count as usize;
         let mut owners = vec![in alloc; NO_LIBRARY; count]?;
         let mut steps = vec![in alloc; 1; count]?;
         paint_owners(
@@ -56,7 +56,7 @@ impl<'a> ImportTable<'a> {
         ensures value { option_map import_seen result ≡ import_of self.now j }
         ensures library { IfSome result (λ v. v.library < self.now.header.library_count) }
     {
-        if j >= self.loader.imports() as usize {
+        if j >= self.loader.header.import_count as usize {
             return None;
         }
         let library = library_in(self.owners[j])?;

@@ -23,6 +23,7 @@ mod tables;
 
 pub use export::ExportView;
 pub use fault::LoaderFault;
+pub use header::LoaderHeader;
 pub use import::ImportView;
 pub use import_reader::ImportReader;
 pub use import_table::ImportTable;

@@ -98,32 +98,11 @@ impl<'a> Loader<'a> {
         })
     }
 
-    /// How many imported libraries there are.
-    pub fn libraries(&self) -> u32
-        ensures { result ≡ (loaded self.now).header.library_count }
+    /// The loader header.
+    pub fn header(&self) -> LoaderHeader
+        ensures { result ≡ (loaded self.now).header }
     {
-        self.header.library_count
-    }
-
-    /// How many imported symbols there are.
-    pub fn imports(&self) -> u32
-        ensures { result ≡ (loaded self.now).header.import_count }
-    {
-        self.header.import_count
-    }
-
-    /// How many relocation headers there are.
-    pub fn relocs(&self) -> u32
-        ensures { result ≡ (loaded self.now).header.reloc_count }
-    {
-        self.header.reloc_count
-    }
-
-    /// How many exported symbols there are.
-    pub fn exports(&self) -> u32
-        ensures { result ≡ (loaded self.now).header.export_count }
-    {
-        self.header.export_count
+        self.header
     }
 
     /// Library `i`, or `None` past the last one.
@@ -133,7 +112,7 @@ impl<'a> Loader<'a> {
         ensures there { IsSome result ↔ (i < (loaded self.now).header.library_count) }
         ensures range { IfSome result (λ v. v.first + v.count ≤ (loaded self.now).header.import_count) }
     {
-        if i >= self.libraries() as usize {
+        if i >= self.header.library_count as usize {
             return None;
         }
         let library = read_library(self.cut, i)?;
@@ -154,7 +133,7 @@ impl<'a> Loader<'a> {
         ensures there { IsSome result ↔ (j < (loaded self.now).header.import_count) }
         ensures library { IfSome result (λ v. v.library < (loaded self.now).header.library_count) }
     {
-        if j >= self.imports() as usize {
+        if j >= self.header.import_count as usize {
             return None;
         }
         let library = owner(self.cut, self.header, self.in_order, j)?;
@@ -188,7 +167,7 @@ impl<'a> Loader<'a> {
         ensures there { IsSome result ↔ (k < (loaded self.now).header.reloc_count) }
         ensures section { IfSome result (λ r. r.0 < (loaded self.now).sections) }
     {
-        if k >= self.relocs() as usize {
+        if k >= self.header.reloc_count as usize {
             return None;
         }
         let reloc = read_reloc(self.cut, self.header, k)?;
@@ -203,7 +182,7 @@ impl<'a> Loader<'a> {
         ensures there { IsSome result ↔ (i < (loaded self.now).header.export_count) }
         ensures section { IfSome result (λ v. IsTrue (has_section (loaded self.now).header (loaded self.now).sections v.value v.section)) }
     {
-        if i >= self.exports() as usize {
+        if i >= self.header.export_count as usize {
             return None;
         }
         let export = self.exports.entry(i)?;

@@ -28,7 +28,7 @@ fn looks_and_labels(alloc: Global, fixups: &[Fixup]) -> Result<(u64, usize), Fai
 {
     let count = Cell::new(0);
     let certificate = counted_plan(alloc, 1, fixups, Looks::new(&count))?;
-    let labels = certificate.labels();
+    let labels = &certificate.labels;
     Ok((count.get(), labels.rows().wrapping_mul(labels.width())))
 }
 

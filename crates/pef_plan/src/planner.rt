@@ -56,7 +56,12 @@ pub(crate) fn counted_plan(
     };
     let program = least_program(known, alloc, fixups)?;
     let labels = rows(alloc, &tables.labels, registers.len() + 1)?;
-    Ok(Certificate::new(section, program, registers, labels))
+    Ok(Certificate {
+        section,
+        program,
+        registers,
+        labels,
+    })
 }
 
 /// Labels in rows, those of the most fixups left first.

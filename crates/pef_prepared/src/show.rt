@@ -1,5 +1,7 @@
 ghost use Rattle.std.specs.Prelude.{◌≡◌, IfOk};
 ghost use Rattle.pef_answers.specs.Answers.{Answer, Delivers};
+ghost use Rattle.pef_script.specs.Script.{DescribedScript};
+ghost use Rattle.pef_write.specs.Linked.{IsLinked};
 ghost use Rattle.pef_prepared.specs.Kept.Showing.{ScriptEnds};
 ghost use Rattle.pef_prepared.specs.Show.{ShowAnswers, ShowOutcome, it_alone, show_answer};
 
@@ -8,7 +10,7 @@ use cfm_store::{Store, StoreFault};
 use pef_answers::{Refusal, deliver, input_refusal, script_refusal};
 use pef_ports::{Sink, Source, read_input};
 use pef_script::Script;
-use pef_write::link;
+use pef_write::{Linked, link};
 use std::alloc::Global;
 
 /// How many bytes of an input are read.
@@ -30,18 +32,27 @@ pub fn show_input<R: Source, W: Sink>(alloc: Global, input: &mut R, out: &mut W)
     }
 }
 
-/// Links a script, prepares its container alone under the name `it`, and shows it. It may have no closure. Of
-/// the other faults of preparation only want of memory can come: what is linked isn't packed, finds room, and
-/// its relocation programs are sound.
+/// Links a script, and shows its container.
 fn show_script<W: Sink>(alloc: Global, script: &Script<'_>, out: &mut W) -> u8
     ensures { (outcome : ShowOutcome)
         × ScriptEnds script.now outcome
         × Delivers (W.stream out.old) (W.stream out.new) (show_answer outcome) result }
 {
-    let Ok(linked) = link(alloc, script) else {
-        return deliver(out, &Refusal::OutOfMemory);
-    };
-    let Ok(store) = it_alone(alloc, linked.bytes()) else {
+    match link(alloc, script) {
+        Ok(linked) => show_linked(alloc, &linked, out),
+        Err(_) => deliver(out, &Refusal::OutOfMemory),
+    }
+}
+
+/// Prepares a linked container alone under the name `it`, and shows it. It may have no closure. Of the other
+/// faults of preparation only want of memory can come: what is linked isn't packed, finds room, and its
+/// relocation programs are sound.
+fn show_linked<W: Sink>(alloc: Global, linked: &Linked, out: &mut W) -> u8
+    ensures { (script : DescribedScript) → IsLinked script linked.now → (outcome : ShowOutcome)
+        × ScriptEnds script outcome
+        × Delivers (W.stream out.old) (W.stream out.new) (show_answer outcome) result }
+{
+    let Ok(store) = it_alone(alloc, &linked.bytes) else {
         return deliver(out, &Refusal::OutOfMemory);
     };
     match prepare_root(alloc, store, b"it") {

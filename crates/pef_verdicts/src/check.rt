@@ -115,7 +115,7 @@ fn are_numbered(certificates: &[Certificate]) -> bool
     ensures { result ≡ are_numbered 0 certificates.now }
 {
     for (k, certificate) in certificates.iter().enumerate() {
-        if certificate.section() as usize != k {
+        if certificate.section as usize != k {
             return false;
         }
     }

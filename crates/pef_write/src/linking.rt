@@ -1,6 +1,5 @@
-ghost use Rattle.std.specs.Prelude.{◌≡◌, ◌/◌, ◌<◌, ◌^◌, IfOk, length, map, slice_get};
+ghost use Rattle.std.specs.Prelude.{◌≡◌, ◌/◌, ◌<◌, ◌^◌, IfOk, length, map};
 ghost use Rattle.std.specs.List.{All};
-ghost use Rattle.std.specs.Option.{option_copied};
 ghost use Rattle.pef_write.specs.Linked.{IsLinked};
 
 use crate::container::write_container;
@@ -18,9 +17,12 @@ use std::marker::Model;
 /// A container that was linked of a script, with the certificates of its relocation programs.
 #[derive(Debug, Drop)]
 pub struct Linked {
-    bytes: Vec<u8>,
-    lengths: Vec<u32>,
-    certificates: Vec<Certificate>,
+    /// The container.
+    pub bytes: Vec<u8>,
+    /// How many halfwords the relocation program of each section has: 0 for one without fixups.
+    pub lengths: Vec<u32>,
+    /// The certificates, one for each section, that no program of it has fewer halfwords.
+    pub certificates: Vec<Certificate>,
 }
 
 impl Model for Linked {
@@ -29,43 +31,6 @@ impl Model for Linked {
     ghost Value = { LinkedContainer };
 
     ghost view = { λ l. record { bytes = l.bytes.items; lengths = l.lengths.items; certificates = l.certificates.items } };
-}
-
-impl Linked {
-    /// The container.
-    pub fn bytes(&self) -> &[u8]
-        ensures { result.now ≡ self.now.bytes }
-    {
-        &self.bytes
-    }
-
-    /// How many halfwords the relocation program of section `k` has: 0 for one without fixups.
-    pub fn length(&self, k: usize) -> Option<u32>
-        ensures { result ≡ slice_get self.now.lengths k }
-    {
-        self.lengths.get(k).copied()
-    }
-
-    /// The same of all sections, in their order.
-    pub fn lengths(&self) -> &[u32]
-        ensures { result.now ≡ self.now.lengths }
-    {
-        &self.lengths
-    }
-
-    /// The certificate that no program of section `k` has fewer halfwords.
-    pub fn certificate(&self, k: usize) -> Option<&Certificate>
-        ensures { option_copied result ≡ slice_get self.now.certificates k }
-    {
-        self.certificates.get(k)
-    }
-
-    /// The certificates of all sections, in their order.
-    pub fn certificates(&self) -> &[Certificate]
-        ensures { result.now ≡ self.now.certificates }
-    {
-        &self.certificates
-    }
 }
 
 /// Links a script: its container, with a shortest relocation program for each section that has fixups.

@@ -53,14 +53,14 @@ pub(crate) fn write_loader(
     put_relocations(&mut entries, programs)?;
     let hash = export_table(alloc, script)?;
     let mut table = Vec::new(alloc);
-    put_words(&mut table, hash.slots())?;
-    put_words(&mut table, hash.keys())?;
-    put_exports(&mut table, &mut strings, script, hash.order())?;
+    put_words(&mut table, &hash.slots)?;
+    put_words(&mut table, &hash.keys)?;
+    put_exports(&mut table, &mut strings, script, &hash.order)?;
     let pieces = Pieces {
         entries: &entries,
         programs,
         strings: &strings,
-        power: hash.power(),
+        power: hash.power,
         table: &table,
     };
     Ok(join(alloc, script, pieces)?)

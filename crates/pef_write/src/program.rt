@@ -36,7 +36,7 @@ pub(crate) fn programs(
 {
     let mut programs = Vec::with_capacity(alloc, certificates.len())?;
     for certificate in certificates {
-        programs.push(program_bytes(alloc, certificate.program())?)?;
+        programs.push(program_bytes(alloc, &certificate.program)?)?;
     }
     Ok(programs)
 }

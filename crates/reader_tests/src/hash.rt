@@ -253,9 +253,9 @@ fn has_table(rt: HostRuntime) {
 }
 
 fn test_table(rt: &impl Abort, table: &Table, power: u32, slots: &[u32], keys: &[u32]) {
-    assert_eq!(rt; table.power(), power);
-    assert!(rt; table.slots() == slots);
-    assert!(rt; table.keys() == keys);
+    assert_eq!(rt; table.power, power);
+    assert!(rt; table.slots.as_slice() == slots);
+    assert!(rt; table.keys.as_slice() == keys);
 }
 
 #[test]
@@ -274,7 +274,7 @@ fn builds(rt: HostRuntime) -> Result<(), HashFault> {
         0x0001_006A,
     ];
     test_table(&rt, &table, 1, &[0x0010_0000, 0x0018_0004], &keys);
-    assert!(rt; table.order() == [2, 3, 6, 7, 0, 1, 4, 5, 8, 9].as_slice());
+    assert!(rt; table.order.as_slice() == [2, 3, 6, 7, 0, 1, 4, 5, 8, 9].as_slice());
     Ok(())
 }
 
@@ -337,8 +337,8 @@ fn builds_of_as_many_names_as_may_be(rt: HostRuntime) -> Result<(), HashFault> {
     let mut names = [0; 32_766];
     fill_numbers(&mut names);
     let table = build(rt.alloc(), &names, &[2; 16_383])?;
-    assert_eq!(rt; table.power(), 11);
-    test_greatest_slots(&rt, table.slots());
-    test_greatest_keys(&rt, table.keys(), table.order());
+    assert_eq!(rt; table.power, 11);
+    test_greatest_slots(&rt, &table.slots);
+    test_greatest_keys(&rt, &table.keys, &table.order);
     Ok(())
 }

@@ -3,7 +3,7 @@ use pef_loader::layout::{
     ABSOLUTE_EXPORT, CODE_SYMBOL, DATA_SYMBOL, GLUE_SYMBOL, INIT_BEFORE, REEXPORTED_IMPORT,
     TOC_SYMBOL, TRANSITION_VECTOR_SYMBOL, WEAK_LIBRARY,
 };
-use pef_loader::{ImportReader, ImportTable, ImportView, Loader};
+use pef_loader::{ImportReader, ImportTable, ImportView, Loader, LoaderHeader};
 use pef_views::Container;
 use std::alloc::{AllocError, Global};
 use std::process::Abort;
@@ -137,9 +137,34 @@ fn read(rt: HostRuntime) -> Result<(), Fail> {
     test_refused(&rt, rt.alloc(), &LIBRARIES, LIBRARY_WORDS)
 }
 
+/// How many libraries, imports, relocation headers and exports there are.
+fn counts(header: LoaderHeader) -> [u32; 4] {
+    [
+        header.library_count,
+        header.import_count,
+        header.reloc_count,
+        header.export_count,
+    ]
+}
+
+/// Where the instructions, the names and the slots begin, and to which power of two there are slots.
+fn places(header: LoaderHeader) -> [u32; 4] {
+    [
+        header.reloc_instr_offset,
+        header.strings_offset,
+        header.export_hash_offset,
+        header.export_power,
+    ]
+}
+
+fn test_header(rt: &impl Abort, header: LoaderHeader) {
+    assert_eq!(rt; counts(header), [0, 0, 1, 1]);
+    assert_eq!(rt; places(header), [68, 70, 72, 0]);
+    assert_eq!(rt; (header.main_section, header.main_offset), (1, 0));
+    assert_eq!(rt; (header.init_section, header.term_section), (-1, -1));
+}
+
 fn test_relocs(rt: &impl Abort, loader: &Loader<'_>) {
-    assert_eq!(rt; (loader.libraries(), loader.imports()), (0, 0));
-    assert_eq!(rt; (loader.relocs(), loader.exports()), (1, 1));
     assert_eq!(rt; loader.reloc(0), Some((1, &GO[228..230])));
     assert_eq!(rt; loader.reloc(1), None);
 }
@@ -163,6 +188,7 @@ fn entries(loader: &Loader<'_>) -> Entries {
 fn relocs_exports_and_entries(rt: HostRuntime) -> Result<(), Fail> {
     let container = Container::read(&GO)?;
     let loader = Loader::read(&container)?;
+    test_header(&rt, loader.header());
     test_relocs(&rt, &loader);
     let export = (&GO[230..232], TRANSITION_VECTOR_SYMBOL, 1, 0);
     assert_eq!(rt; exported(&loader, 0), Some(export));
@@ -241,7 +267,7 @@ fn needed<'a>(loader: &Loader<'a>, i: usize) -> Option<Needed<'a>> {
 }
 
 fn test_libraries(rt: &impl Abort, loader: &Loader<'_>) {
-    assert_eq!(rt; (loader.libraries(), loader.imports()), (2, 3));
+    assert_eq!(rt; counts(loader.header()), [2, 3, 0, 0]);
     for (i, wanted) in NEEDED.iter().enumerate() {
         assert!(rt; needed(loader, i) == Some(*wanted), "library {i}");
     }
@@ -280,12 +306,11 @@ fn test_imports(rt: &impl Abort, alloc: Global, loader: &Loader<'_>) -> Result<(
     Ok(())
 }
 
-/// Tests that there are no entries, programs and exports.
+/// Tests that there are no entries, and no export of a name.
 fn test_nothing_else(rt: &impl Abort, loader: &Loader<'_>) {
     assert!(rt; loader.main().is_none());
     assert!(rt; loader.init().is_none());
     assert!(rt; loader.term().is_none());
-    assert_eq!(rt; (loader.relocs(), loader.exports()), (0, 0));
     assert!(rt; loader.export_named(b"").is_none());
 }
 

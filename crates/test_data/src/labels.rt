@@ -115,8 +115,8 @@ pub const IMPORTS_TWICE: Labelled = (
 /// All labels of a certificate, row after row.
 pub fn labels(alloc: Global, certificate: &Certificate) -> Result<Vec<u32>, AllocError> {
     let mut found = Vec::new(alloc);
-    let mut runs = certificate.labels().runs();
-    for _ in 0..certificate.labels().rows() {
+    let mut runs = certificate.labels.runs();
+    for _ in 0..certificate.labels.rows() {
         if let Some(run) = runs.next_run() {
             for _ in 0..run.rows {
                 found.extend_from_slice(run.labels)?;

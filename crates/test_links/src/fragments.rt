@@ -14,7 +14,7 @@ pub type Fragment = (&'static str, &'static str, &'static [Change]);
 /// The container of a script, with some changes.
 pub fn container(alloc: Global, script: &str, changes: &[Change]) -> Result<Vec<u8>, Fail> {
     let linked = link_text(alloc, script.as_bytes())?;
-    let mut bytes = Vec::from_slice(alloc, linked.bytes())?;
+    let mut bytes = Vec::from_slice(alloc, &linked.bytes)?;
     for (at, other) in changes {
         change(&mut bytes, *at, other)?;
     }

@@ -1,4 +1,4 @@
-use Rattle.std.proofs.Common.{◌≡◌, ◌+◌, List, ℕ, ap, arith, length, refl, subst, sym}
+use Rattle.std.proofs.Common.{◌≡◌, ◌+◌, List, ℕ, ap, arith, length, refl, subst}
 use Rattle.pef_labels.specs.Certified.{Certified}
 use Rattle.pef_plan.specs.Kept.Laid.{LaidLabels}
 use Rattle.pef_plan.specs.Kept.Tables.{Tabled}
@@ -13,25 +13,27 @@ rows-requires c =
     let same = ap length c.deref.ensures.value in
     omega (arith, few, is, len, same)
 
-made : (c : goal.After-drop-tables-4) → PlanOf c.args.fixups.now c.in_ok-tables.tables.labels c.in_ok-tables.tables.skips.items c.in_ok-labels.labels c.new.result
+abbrev whole : (c : goal.After-drop-tables-4) → Certified
+whole c = record { section = c.args.section; program = c.in_ok-program.program.items; registers = c.in_ok-registers.registers.items; labels = c.in_ok-labels.labels.rows }
+
+made : (c : goal.After-drop-tables-4) → PlanOf c.args.fixups.now c.in_ok-tables.tables.labels c.in_ok-tables.tables.skips.items c.in_ok-labels.labels (whole c)
 made c =
     let classes : c.len.result + 1 ≡ length c.in_ok-registers.registers.items + 1 =
     (let is = c.len.ensures in
     let len = c.deref.ensures.len in
     let same = ap length c.deref.ensures.value in
     omega (arith, is, len, same)) in
-    let whole : Certified = record { section = c.args.section; program = c.in_ok-program.program.items; registers = c.in_ok-registers.registers.items; labels = c.in_ok-labels.labels.rows } in
-    subst (λ (x : Certified). PlanOf c.args.fixups.now c.in_ok-tables.tables.labels c.in_ok-tables.tables.skips.items c.in_ok-labels.labels x) {x = whole} (sym c.new.ensures) (record {
+    record {
       fit = c.requires.fit;
       registers = c.in_ok-registers.ensures;
       tabled = subst (λ (xs : List ℕ). Tabled xs c.in_ok-tables.tables.labels c.in_ok-tables.tables.skips.items 0 c.args.fixups.now) c.deref.ensures.value c.in_ok-tables.ensures;
       least = c.in_ok-program.ensures;
       laid = subst (λ (n : ℕ). LaidLabels n c.in_ok-tables.tables.labels c.in_ok-labels.labels) classes c.in_ok-labels.ensures;
       rows_are = refl;
-    })
+    }
 
 pub returns-clause-valid : goal.returns-clause-valid
-returns-clause-valid c = plan_valid c.args.fixups.now c.in_ok-tables.tables.labels c.in_ok-tables.tables.skips.items c.in_ok-labels.labels c.new.result (made c)
+returns-clause-valid c = plan_valid c.args.fixups.now c.in_ok-tables.tables.labels c.in_ok-tables.tables.skips.items c.in_ok-labels.labels (whole c) (made c)
 
 pub returns-clause-exact : goal.returns-clause-exact
-returns-clause-exact c = plan_exact c.args.fixups.now c.in_ok-tables.tables.labels c.in_ok-tables.tables.skips.items c.in_ok-labels.labels c.new.result (made c)
+returns-clause-exact c = plan_exact c.args.fixups.now c.in_ok-tables.tables.labels c.in_ok-tables.tables.skips.items c.in_ok-labels.labels (whole c) (made c)

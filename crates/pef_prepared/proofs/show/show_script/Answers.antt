@@ -1,35 +1,11 @@
--- What was prepared is shown, else why not.
-use Rattle.std.proofs.Common.{◌≡◌, List, codes, refl, sym, subst, ap, ◌∙◌}
-use Rattle.cfm_store.specs.Stores.{Pair}
-use Rattle.cfm_prepare.specs.Contexts.{fresh_state}
-use Rattle.cfm_prepare.specs.Steps.{MayNotPrepare, Prepares}
-use Rattle.pef_answers.specs.Answers.{Answer, Delivers}
+-- What was linked is shown, else memory was refused.
+use Rattle.std.proofs.Common.{refl}
 use Rattle.pef_answers.specs.declared.refusal.Refusal.TheVariants.{OutOfMemory}
-use Rattle.pef_prepared.specs.Limits.{memory_limit}
-use Rattle.pef_prepared.specs.Show.{it_alone, refuses, shows}
-use Rattle.pef_prepared.proofs.ShowLemmas.{shown_of, unprepared}
+use Rattle.pef_prepared.specs.Show.{refuses}
 use Rattle.pef_prepared.proofs.show.show_script.Goals as goal
 
-pub returns-in_default : goal.returns-in_default
-returns-in_default g c = (refuses OutOfMemory, refl, c.deliver.ensures)
+pub returns-in-Ok : goal.returns-in-Ok
+returns-in-Ok g c = c.show_linked.ensures c.args.script.now c.in-Ok.ensures
 
-pub returns-in_default-it_alone : goal.returns-in_default-it_alone
-returns-in_default-it_alone g c = (refuses OutOfMemory, refl, c.deliver-in_default-it_alone.ensures)
-
-pub returns-in-Ok-prepare_root : goal.returns-in-Ok-prepare_root
-returns-in-Ok-prepare_root g c =
-    let s = c.in-Ok-prepare_root.loaded.context in
-    let number = c.in-Ok-prepare_root.loaded.connection.0 in
-    let store : c.in-Ok-it_alone.store ≡ it_alone c.in-Ok.linked.bytes = c.in-Ok-it_alone.ensures ∙ ap it_alone c.bytes.ensures in
-    let P : List Pair → Type 0 = λ pairs. Prepares (fresh_state pairs memory_limit) (codes "it") number s in
-    (shows s number, shown_of c.args.script.now c.in-Ok.linked c.in-Ok.ensures s number (subst P store c.in-Ok-prepare_root.ensures.prepared), c.deliver-in-Ok-prepare_root.ensures)
-
-pub returns : goal.returns
-returns g c =
-    let stream = g.W.Sink.stream in
-    let fault = c.in-Err.fault in
-    let store : c.in-Ok-it_alone.store ≡ it_alone c.in-Ok.linked.bytes = c.in-Ok-it_alone.ensures ∙ ap it_alone c.bytes.ensures in
-    let P : List Pair → Type 0 = λ pairs. MayNotPrepare (fresh_state pairs memory_limit) (codes "it") fault in
-    let ends = unprepared c.args.script.now c.in-Ok.linked c.in-Ok.ensures fault (subst P store c.in-Err.ensures.refused) in
-    let Q : Answer → Type 0 = λ answer. Delivers (stream c.args.out.now) (stream c.deliver-in-Err.new.out) answer c.deliver-in-Err.result in
-    (ends.outcome, ends.ends, subst Q (sym ends.said) c.deliver-in-Err.ensures)
+pub returns-in-Err : goal.returns-in-Err
+returns-in-Err g c = (refuses OutOfMemory, refl, c.deliver.ensures)

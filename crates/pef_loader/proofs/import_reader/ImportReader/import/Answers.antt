@@ -1,11 +1,13 @@
 -- Each import below their count has a library.
-use Rattle.std.proofs.Common.{◌∙◌, arith}
+use Rattle.std.proofs.Common.{◌∙◌, ap, arith}
+use Rattle.pef_loader.specs.declared.header.LoaderHeader.{LoaderHeader}
 use Rattle.pef_loader.specs.Views.{loaded}
 use Rattle.pef_loader.proofs.Loaders.{import_owned}
 use Rattle.pef_loader.proofs.import_reader.ImportReader.import.Goals as goal
 
 pub returns-in_err-library-clause-there : goal.returns-in_err-library-clause-there
 returns-in_err-library-clause-there c =
-    let is = import_owned (loaded c.args.self.now.loader) c.args.j c.args.self.now.loader.accepted (omega arith) in
+    let count = ap (λ (h : LoaderHeader). h.import_count) c.header.ensures in
+    let is = import_owned (loaded c.args.self.now.loader) c.args.j c.args.self.now.loader.accepted (omega (arith, count)) in
     let nowhere = c.in_err-library.ensures.value ∙ is.1 in
     absurd (cc)

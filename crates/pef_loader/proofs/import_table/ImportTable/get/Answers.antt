@@ -9,9 +9,9 @@ use Rattle.pef_loader.specs.Views.{loaded}
 use Rattle.pef_loader.proofs.Loaders.{import_owned}
 use Rattle.pef_loader.proofs.import_table.ImportTable.get.Goals as goal
 
-pub returns-then-j-imports-clause-value : goal.returns-then-j-imports-clause-value
+pub returns-then-j-self-clause-value : goal.returns-then-j-self-clause-value
 unfolding import_of import_in
-returns-then-j-imports-clause-value c =
+returns-then-j-self-clause-value c =
     let l = c.self.inside.loader in
     rw (← c.self.view_is, le-ltb c.args.j l.header.import_count (omega arith)) refl
 

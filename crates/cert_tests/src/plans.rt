@@ -2,6 +2,7 @@
 ghost use Rattle.std.specs.Prelude.{◌≡◌, IfOk, true};
 ghost use Rattle.pef_reloc.specs.Fixups.{fixups_fit};
 
+use pef_cert::check;
 use pef_labels::Certificate;
 use pef_plan::plan;
 use pef_reloc::{Fixup, fixups_fit};
@@ -18,4 +19,19 @@ pub fn planned(rt: &impl Abort, alloc: Global, fixups: &[Fixup]) -> Result<Certi
         Ok(certificate) => Ok(certificate),
         Err(fault) => panic!(rt; "{fault}"),
     }
+}
+
+/// Plans fixups and compares the length of the program. The certificate is a yes.
+pub fn assert_length(
+    rt: &impl Abort,
+    alloc: Global,
+    fixups: &[Fixup],
+    length: u64,
+) -> Result<(), Fail> {
+    let certificate = planned(rt, alloc, fixups)?;
+    let first = fixups.get(..8).unwrap_or(fixups);
+    assert_eq!(rt; certificate.program_length(), length, "{first:?} ..");
+    assert_eq!(rt; certificate.section, 3);
+    assert!(rt; check(fixups, &certificate), "{first:?} ..");
+    Ok(())
 }

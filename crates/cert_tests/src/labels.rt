@@ -26,7 +26,7 @@ const LABELS: &[Labelled] = &[
 fn assert_labels(rt: &impl Abort, alloc: Global, labelled: Labelled) -> Result<(), Fail> {
     let (listed, registers, wanted) = labelled;
     let certificate = planned_of(rt, alloc, listed)?;
-    assert!(rt; certificate.registers() == registers, "{listed:?}");
+    assert!(rt; certificate.registers.as_slice() == registers, "{listed:?}");
     let found = labels(alloc, &certificate)?;
     assert!(rt; found.as_slice() == wanted, "{listed:?}");
     Ok(())

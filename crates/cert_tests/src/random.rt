@@ -1,8 +1,7 @@
 ghost use Rattle.std.specs.Prelude.{◌<◌};
 
-use crate::plans::planned;
+use crate::plans::{assert_length, planned};
 use crate::reference::{counted_labels, number_at, plain_labels};
-use pef_cert::check;
 use pef_labels::LabelRows;
 use pef_reloc::{Base, Fixup};
 use std::alloc::Global;
@@ -100,8 +99,8 @@ fn push_run(
 /// Compares all labels of a plan with the plain method's.
 fn compare(rt: &impl Abort, alloc: Global, fixups: &[Fixup]) -> Result<(), Fail> {
     let certificate = planned(rt, alloc, fixups)?;
-    let labels = plain_labels(alloc, fixups, certificate.registers())?;
-    assert_same(rt, certificate.labels(), &labels, fixups.len());
+    let labels = plain_labels(alloc, fixups, &certificate.registers)?;
+    assert_same(rt, &certificate.labels, &labels, fixups.len());
     Ok(())
 }
 
@@ -170,19 +169,6 @@ const LONG_RUNS: &[(u32, u32, Base, u64)] = &[
     (2_048, 4, Base::Section(0), 2),
     (1_024, 8, S1, 2),
 ];
-
-/// Compares the length of a plan's program. The certificate is a yes.
-fn assert_length(
-    rt: &impl Abort,
-    alloc: Global,
-    fixups: &[Fixup],
-    length: u64,
-) -> Result<(), Fail> {
-    let certificate = planned(rt, alloc, fixups)?;
-    assert_eq!(rt; certificate.program_length(), length);
-    assert!(rt; check(fixups, &certificate));
-    Ok(())
-}
 
 #[test]
 fn labels_of_long_runs(rt: HostRuntime) -> Result<(), Fail> {

@@ -23,10 +23,10 @@ fn has(
     registers: &[u32],
     rows: usize,
 ) -> bool {
-    certificate.section() == section
-        && certificate.program() == program
-        && certificate.registers() == registers
-        && certificate.labels().rows() == rows
+    certificate.section == section
+        && certificate.program.as_slice() == program
+        && certificate.registers.as_slice() == registers
+        && certificate.labels.rows() == rows
 }
 
 fn assert_sections(rt: &impl Abort, certificates: &[Certificate]) {
@@ -43,9 +43,10 @@ fn sections(rt: HostRuntime) -> Result<(), Fail> {
 
 fn assert_labels(rt: &impl Abort, alloc: Global, certificates: &[Certificate]) -> Result<(), Fail> {
     assert_eq!(rt; certificates.len(), 2);
-    let labels = labels(alloc, &certificates[1])?;
+    let second = &certificates[1];
+    let labels = labels(alloc, second)?;
     assert!(rt; labels.as_slice() == VECTORS_LABELS);
-    assert_eq!(rt; certificates[1].labels().rows(), 5);
+    assert_eq!(rt; second.labels.rows(), 5);
     Ok(())
 }
 

@@ -1,9 +1,6 @@
-use crate::plans::planned;
-use pef_cert::check;
-use pef_labels::Certificate;
-use pef_reloc::{Base, Fixup, fixups_fit};
+use crate::plans::assert_length;
+use pef_reloc::Base;
 use std::alloc::{AllocError, Global};
-use std::process::Abort;
 use std::test::Fail;
 use test_data::lists::{Listed, S0, S1, S2, S3, fixups};
 
@@ -72,38 +69,11 @@ const LEAST_LENGTHS: &[(Listed, u64)] = &[
     (&[(0, Base::Import(65535))], 2),
 ];
 
-/// Compares the length of a plan's program. The certificate is a yes.
-fn assert_planned(
-    rt: &impl Abort,
-    listed: &[(u32, Base)],
-    fixups: &[Fixup],
-    certificate: &Certificate,
-    length: u64,
-) {
-    assert!(rt; fixups_fit(fixups));
-    assert_eq!(rt; certificate.program_length(), length, "{listed:?}");
-    assert_eq!(rt; certificate.section(), 3);
-    assert!(rt; check(fixups, certificate), "{listed:?}");
-}
-
-/// Plans a list and compares the length of the program.
-fn assert_length(
-    rt: &impl Abort,
-    alloc: Global,
-    listed: &[(u32, Base)],
-    length: u64,
-) -> Result<(), Fail> {
-    let fixups = fixups(alloc, listed)?;
-    let certificate = planned(rt, alloc, &fixups)?;
-    assert_planned(rt, listed, &fixups, &certificate, length);
-    Ok(())
-}
-
 #[test]
 fn least_lengths(rt: HostRuntime) -> Result<(), Fail> {
     for row in LEAST_LENGTHS {
         let (listed, length) = *row;
-        assert_length(&rt, rt.alloc(), listed, length)?;
+        assert_length(&rt, rt.alloc(), &fixups(rt.alloc(), listed)?, length)?;
     }
     Ok(())
 }
@@ -127,7 +97,7 @@ fn long_runs(rt: HostRuntime) -> Result<(), Fail> {
     for row in LONG_RUNS {
         let (even, length) = *row;
         let words = words_in_turn(rt.alloc(), even)?;
-        assert_length(&rt, rt.alloc(), &words, length)?;
+        assert_length(&rt, rt.alloc(), &fixups(rt.alloc(), &words)?, length)?;
     }
     Ok(())
 }
