@@ -52,7 +52,7 @@ fn tell(text: &mut String, closure: &Closure<'_>) -> Result<(), AllocError> {
         write!(text, " {p}")?;
     }
     for p in closure.order() {
-        for j in 0..closure.loader(*p).imports() as usize {
+        for j in 0..closure.loader(*p).header().import_count as usize {
             write!(text, ", {p}.{j}")?;
             tell_target(text, closure.target(*p, j))?;
         }

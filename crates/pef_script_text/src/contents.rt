@@ -1,7 +1,8 @@
-ghost use Rattle.std.specs.Prelude.{◌≡◌, true, ◌+◌, ◌*◌, ◌^◌, ◌<◌, [], ◌∷◌, vec_len, IfOk, OnOk};
+ghost use Rattle.std.specs.Prelude.{◌≡◌, true, ◌+◌, ◌*◌, ◌^◌, ◌<◌, [], ◌∷◌, Ok, vec_len, IfOk, OnOk};
 ghost use Rattle.std.specs.Result.{result_err};
 ghost use Rattle.pef_words.specs.Refusals.{first_met};
-ghost use Rattle.pef_script_text.specs.Contents.{base_named, bytes_line, bytes_tests, fix_line, fixup_of, fixup_tests, import_named, tvector_line};
+ghost use Rattle.pef_script_text.specs.Contents.{base_named, bytes_line, bytes_tests, fix_line, fixup_of, fixup_tests, import_named, tvector_line, with_contents, with_fixups};
+ghost use Rattle.pef_script_text.specs.SoFar.{section_at};
 ghost use Rattle.pef_script_text.specs.Kept.Reader.{so_far};
 ghost use Rattle.pef_script_text.specs.Kept.Steps.{Steps};
 
@@ -49,11 +50,7 @@ impl<'a> Reader<'a> {
         let k = self.section_named(name)?;
         let base = self.base_named(is_section, target)?;
         self.test_fixups(k, offset, 1)?;
-        let parts = &mut self.parts;
-        add_fixups(&mut parts.sections[k], &[Fixup { offset, base }])?;
-        self.reached = CONTENT_GROUP;
-        self.section = k;
-        Ok(())
+        self.put_fixups(k, &[Fixup { offset, base }])
     }
 
     /// `tvector SECTION OFFSET CODE DATA`, behind its first word.
@@ -71,9 +68,16 @@ impl<'a> Reader<'a> {
         let code = self.section_base(code)?;
         let data = self.section_base(data)?;
         self.test_fixups(k, offset, 2)?;
-        let fixups = vector_fixups(offset, code, data);
+        self.put_fixups(k, &vector_fixups(offset, code, data))
+    }
+
+    /// Appends fixups to those of section `k`, which the line is for.
+    fn put_fixups(&mut self, k: usize, fixups: &[Fixup]) -> Result<(), Stop>
+        requires { k < vec_len self.old.parts.sections }
+        ensures { Steps result (so_far self.new) (Ok (with_contents (so_far self.old) k (with_fixups (section_at (so_far self.old) k) fixups.now))) }
+    {
         let parts = &mut self.parts;
-        add_fixups(&mut parts.sections[k], &fixups)?;
+        add_fixups(&mut parts.sections[k], fixups)?;
         self.reached = CONTENT_GROUP;
         self.section = k;
         Ok(())
