@@ -22,7 +22,7 @@ use std::mem;
 
 /// What lies behind the ends of the runs that begin at a fixup: for each kind of run a window, which
 /// follows as the tables are filled from the last fixup back.
-#[derive(Debug, Drop)]
+#[derive(Drop)]
 pub struct RunEnds {
     /// Words of a section, or imports.
     words: Window,
@@ -41,7 +41,7 @@ pub struct RunEnds {
 }
 
 /// Two windows of runs that go on at each second fixup.
-#[derive(Debug, Drop)]
+#[derive(Drop)]
 struct InTurn {
     /// The one of the fixup.
     here: Window,

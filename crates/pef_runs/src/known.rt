@@ -11,7 +11,7 @@ use pef_squares::{Line, Looks, Square, Squares};
 
 /// What is known of the states at some fixups: tables that are filled from the last fixup back. Numbers
 /// of a table are in halfwords.
-#[derive(Clone, Copy, Debug)]
+#[derive(Clone, Copy)]
 pub struct Known<'a> {
     /// The sections that the fixups use, rising. A section's class is its place among them; all others are
     /// of the class behind.

@@ -1,7 +1,7 @@
 use pef_reloc::{Fixup, Instr};
 
 /// A state, and the fixups that are left to make from there.
-#[derive(Clone, Copy, Debug)]
+#[derive(Clone, Copy)]
 pub struct Place<'a> {
     pub left: &'a [Fixup],
     /// In bytes.
@@ -15,7 +15,7 @@ pub struct Place<'a> {
 }
 
 /// A state where fixups are left: the first of them, and those behind it.
-#[derive(Clone, Copy, Debug)]
+#[derive(Clone, Copy)]
 pub struct Here<'a> {
     pub place: Place<'a>,
     pub first: Fixup,
@@ -23,7 +23,7 @@ pub struct Here<'a> {
 }
 
 /// A state at a fixup, but for the registers.
-#[derive(Clone, Copy, Debug)]
+#[derive(Clone, Copy)]
 pub struct At<'a> {
     pub left: &'a [Fixup],
     pub first: Fixup,
@@ -33,14 +33,14 @@ pub struct At<'a> {
 }
 
 /// An instruction, and where it leads to.
-#[derive(Clone, Copy, Debug)]
+#[derive(Clone, Copy)]
 pub struct Step<'a> {
     pub instr: Instr,
     pub next: Place<'a>,
 }
 
 /// A step, and how many halfwords there are from before it to the end.
-#[derive(Clone, Copy, Debug)]
+#[derive(Clone, Copy)]
 pub struct Choice<'a> {
     pub step: Step<'a>,
     pub value: u64,

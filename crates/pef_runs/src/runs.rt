@@ -22,7 +22,7 @@ pub(crate) const MAX_RUN: u32 = 512;
 pub(crate) const MAX_SKIP_RUN: u32 = 63;
 
 /// A run of additions that one instruction makes.
-#[derive(Clone, Copy, Debug)]
+#[derive(Clone, Copy)]
 pub enum Run {
     /// Words of a section that register C holds.
     WordsOfC(u32),
