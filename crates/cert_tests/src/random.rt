@@ -1,9 +1,11 @@
-ghost use Rattle.std.specs.Prelude.{◌<◌};
+ghost use Rattle.std.specs.Prelude.{◌≡◌, ◌<◌, true};
+ghost use Rattle.pef_reloc.specs.Fixups.{fixups_fit};
 
 use crate::plans::{assert_length, planned};
 use crate::reference::{counted_labels, number_at, plain_labels};
 use pef_labels::LabelRows;
-use pef_reloc::{Base, Fixup};
+use pef_plan::{Looks, counted_plan};
+use pef_reloc::{Base, Fixup, fixups_fit};
 use std::alloc::Global;
 use std::cell::Cell;
 use std::process::Abort;
@@ -124,7 +126,7 @@ fn assert_same_row(rt: &impl Abort, row: &[u32], labels: &[u32], left: usize) {
     let from = left.wrapping_mul(row.len());
     for place in 0..row.len() {
         let label = number_at(labels, from.wrapping_add(place));
-        assert_eq!(rt; number_at(row, place), label, "{left} {place}");
+        assert!(rt; number_at(row, place) == label, "{left} {place}");
     }
 }
 
@@ -152,13 +154,33 @@ fn in_a_row(alloc: Global, count: u32, step: u32, other: Base) -> Result<Vec<Fix
     Ok(fixups)
 }
 
+/// How many looks the plan of some fixups takes, and how many labels it has.
+fn looks_and_labels(alloc: Global, fixups: &[Fixup]) -> Result<(u64, usize), Fail>
+    requires { fixups_fit fixups.now ≡ true }
+{
+    let looks = Cell::new(0);
+    let certificate = counted_plan(alloc, 1, fixups, Looks::new(&looks))?;
+    let labels = &certificate.labels;
+    Ok((looks.get(), labels.rows().wrapping_mul(labels.width())))
+}
+
+#[test]
+fn plan_looks_seldom(rt: HostRuntime) -> Result<(), Fail> {
+    let fixups = in_a_row(rt.alloc(), 16_384, 4, S1)?;
+    assert!(rt; fixups_fit(&fixups));
+    let (looks, labels) = looks_and_labels(rt.alloc(), &fixups)?;
+    assert!(rt; labels == 65_540);
+    assert!(rt; 65_540 < looks && looks <= 16 * 65_540, "{looks}");
+    Ok(())
+}
+
 #[test]
 fn plain_method_looks_more_often(rt: HostRuntime) -> Result<(), Fail> {
     let alloc = rt.alloc();
     let fixups = in_a_row(alloc, 16_384, 4, S1)?;
     let looks = Cell::new(0);
     let labels = counted_labels(alloc, &fixups, &[1], &looks)?;
-    assert_eq!(rt; labels.len(), 65_540);
+    assert!(rt; labels.len() == 65_540);
     assert!(rt; looks.get() > 128 * 65_540);
     Ok(())
 }

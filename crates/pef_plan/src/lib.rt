@@ -3,8 +3,6 @@
 
 mod direct;
 mod fault;
-#[cfg(test)]
-mod looks;
 mod lows;
 mod moves;
 mod planner;
@@ -17,7 +15,8 @@ mod tables;
 mod theorems;
 
 pub use fault::PlanFault;
-pub use planner::plan;
+pub use pef_squares::Looks;
+pub use planner::{counted_plan, plan};
 pub use theorems::{
     least_programs_are_short, least_programs_name_what_is_used, reached_labels_are_least,
 };

@@ -31,20 +31,25 @@ pub fn plan(alloc: Global, section: u32, fixups: &[Fixup]) -> Result<Certificate
     ensures fault { IfErr result (λ fault. fault ≡ OutOfMemory) }
 {
     let count = Cell::new(0);
-    Ok(counted_plan(alloc, section, fixups, Looks::new(&count))?)
+    counted_plan(alloc, section, fixups, Looks::new(&count))
 }
 
-/// A plan, of which the looks are counted.
-pub(crate) fn counted_plan(
+/// The same, of which the looks are counted.
+///
+/// # Errors
+///
+/// `OutOfMemory`, where a growth of memory was refused.
+pub fn counted_plan(
     alloc: Global,
     section: u32,
     fixups: &[Fixup],
     looks: Looks<'_>,
-) -> Result<Certificate, AllocError>
+) -> Result<Certificate, PlanFault>
     requires fit { fixups_fit fixups.now ≡ true }
     ensures section { IfOk result (λ certificate. certificate.section ≡ section) }
     ensures valid { IfOk result (λ certificate. Valid fixups.now certificate) }
     ensures exact { IfOk result (λ certificate. Exact (labels_of certificate (length fixups.now)) fixups.now) }
+    ensures fault { IfErr result (λ fault. fault ≡ OutOfMemory) }
 {
     let registers = registers_of(alloc, fixups)?;
     let tables = fill(alloc, fixups, &registers, looks)?;
