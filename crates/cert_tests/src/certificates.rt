@@ -48,7 +48,10 @@ fn spells_yes(
 fn check_all(rt: &impl Abort, alloc: Global, rows: Programs, want: bool) -> Result<(), Fail> {
     for row in rows {
         let (labelled, bytes) = *row;
-        assert_eq!(rt; spells_yes(rt, alloc, labelled, bytes)?, want, "{bytes:?}");
+        assert!(rt;
+            spells_yes(rt, alloc, labelled, bytes)? == want,
+            "{bytes:?}"
+        );
     }
     Ok(())
 }
@@ -499,9 +502,8 @@ fn assert_long_run(rt: &impl Abort, alloc: Global, row: LongRun) -> Result<(), F
     let labels = words_labels(rt, alloc, count, first)?;
     let certificate = words_certificate(alloc, program, labels)?;
     let fixups = words(rt, alloc, from, count)?;
-    assert_eq!(rt;
-        is_yes(rt, &fixups, &certificate),
-        want,
+    assert!(rt;
+        is_yes(rt, &fixups, &certificate) == want,
         "{from} {count} {first}"
     );
     Ok(())
@@ -526,11 +528,11 @@ const RUNS: &[(usize, &[u32])] = &[(2, &[1, 2]), (1, &[0, 0]), (1, &[1, 2])];
 
 /// Checks that the rows are these, and that equal neighbours are kept once.
 fn assert_runs(rt: &impl Abort, rows: &LabelRows) {
-    assert_eq!(rt; rows.rows(), 4);
+    assert!(rt; rows.rows() == 4);
     let mut runs = rows.runs();
     for want in RUNS {
         match runs.next_run() {
-            Some(run) => assert_eq!(rt; (run.rows, run.labels), *want),
+            Some(run) => assert!(rt; (run.rows, run.labels) == *want),
             None => panic!(rt; "a run too few"),
         }
     }
@@ -548,7 +550,7 @@ fn push_rows(rt: &impl Abort, rows: &mut LabelRows) -> Result<(), Fail> {
 fn rows_are_kept(rt: HostRuntime) -> Result<(), Fail> {
     let mut rows = LabelRows::new(rt.alloc(), 2);
     push_rows(&rt, &mut rows)?;
-    assert_eq!(rt; rows.width(), 2);
+    assert!(rt; rows.width() == 2);
     assert_runs(&rt, &rows);
     Ok(())
 }

@@ -43,7 +43,7 @@ fn list_of(alloc: Global, number: u32) -> Result<Option<Vec<Fixup>>, Fail> {
 fn assert_least(rt: &impl Abort, alloc: Global, fixups: &[Fixup], number: u32) -> Result<(), Fail> {
     let certificate = planned(rt, alloc, fixups)?;
     let least = u64::from(least_length(alloc, fixups)?);
-    assert_eq!(rt; certificate.program_length(), least, "{number}");
+    assert!(rt; certificate.program_length() == least, "{number}");
     Ok(())
 }
 
@@ -58,6 +58,6 @@ fn least_of_all_short_lists(rt: HostRuntime) -> Result<(), Fail> {
             lists = lists.wrapping_add(1);
         }
     }
-    assert_eq!(rt; lists, 1471);
+    assert!(rt; lists == 1471);
     Ok(())
 }

@@ -30,8 +30,8 @@ pub fn assert_length(
 ) -> Result<(), Fail> {
     let certificate = planned(rt, alloc, fixups)?;
     let first = fixups.get(..8).unwrap_or(fixups);
-    assert_eq!(rt; certificate.program_length(), length, "{first:?} ..");
-    assert_eq!(rt; certificate.section, 3);
+    assert!(rt; certificate.program_length() == length, "{first:?} ..");
+    assert!(rt; certificate.section == 3);
     assert!(rt; check(fixups, &certificate), "{first:?} ..");
     Ok(())
 }

@@ -16,7 +16,7 @@ fn read_and_printed(alloc: Global, text: &str) -> Result<Vec<u8>, Fail> {
 fn printed_again(rt: HostRuntime) -> Result<(), Fail> {
     for text in TEXTS {
         let printed = read_and_printed(rt.alloc(), *text)?;
-        assert_eq!(rt; printed.as_slice(), text.as_bytes(), "{text}");
+        assert!(rt; printed.as_slice() == text.as_bytes(), "{text}");
     }
     Ok(())
 }

@@ -30,7 +30,7 @@ fn has(
 }
 
 fn assert_sections(rt: &impl Abort, certificates: &[Certificate]) {
-    assert_eq!(rt; certificates.len(), 2);
+    assert!(rt; certificates.len() == 2);
     assert!(rt; has(&certificates[0], 0, &[], &[], 1));
     assert!(rt; has(&certificates[1], 1, &[Instr::TVector8(2)], &[0, 1], 5));
 }
@@ -42,11 +42,11 @@ fn sections(rt: HostRuntime) -> Result<(), Fail> {
 }
 
 fn assert_labels(rt: &impl Abort, alloc: Global, certificates: &[Certificate]) -> Result<(), Fail> {
-    assert_eq!(rt; certificates.len(), 2);
+    assert!(rt; certificates.len() == 2);
     let second = &certificates[1];
     let labels = labels(alloc, second)?;
     assert!(rt; labels.as_slice() == VECTORS_LABELS);
-    assert_eq!(rt; second.labels.rows(), 5);
+    assert!(rt; second.labels.rows() == 5);
     Ok(())
 }
 
@@ -162,7 +162,7 @@ fn refused_line_behind(alloc: Global, lines: &str) -> Result<Option<usize>, Fail
 fn lines(rt: HostRuntime) -> Result<(), Fail> {
     for row in TEXTS {
         let (lines, line) = *row;
-        assert_eq!(rt; refused_line_behind(rt.alloc(), lines)?, line, "{lines}");
+        assert!(rt; refused_line_behind(rt.alloc(), lines)? == line, "{lines}");
     }
     Ok(())
 }
@@ -182,7 +182,7 @@ const WHOLE_TEXTS: &[(&str, Option<usize>)] = &[
 fn versions(rt: HostRuntime) -> Result<(), Fail> {
     for row in WHOLE_TEXTS {
         let (text, line) = *row;
-        assert_eq!(rt; refused_line(rt.alloc(), text)?, line, "{text}");
+        assert!(rt; refused_line(rt.alloc(), text)? == line, "{text}");
     }
     Ok(())
 }
@@ -193,8 +193,8 @@ fn faults(rt: HostRuntime) -> Result<(), Fail> {
     let fault = read(alloc, b"pefcert 3\nend\n")
         .err()
         .expect(&rt, "refused");
-    assert_eq!(rt; fault.number(), 51);
+    assert!(rt; fault.number() == 51);
     let text = format!(in alloc; "{fault}")?;
-    assert_eq!(rt; text.as_str(), "BadCertificate line 1");
+    assert!(rt; text.as_str() == "BadCertificate line 1");
     Ok(())
 }

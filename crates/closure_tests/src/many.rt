@@ -28,7 +28,7 @@ fn reversed(
     for (name, bytes) in names.iter().zip(containers) {
         add(&mut store, name, bytes)?;
     }
-    assert_eq!(rt; store.len(), FRAGMENTS);
+    assert!(rt; store.len() == FRAGMENTS);
     match closure(alloc, &store, 0) {
         Ok(closure) => test_reversed(rt, &closure),
         Err(fault) => panic!(rt; "{fault}"),
@@ -37,9 +37,9 @@ fn reversed(
 }
 
 fn test_reversed(rt: &impl Abort, closure: &Closure<'_>) {
-    assert_eq!(rt; closure.order().len(), FRAGMENTS);
+    assert!(rt; closure.order().len() == FRAGMENTS);
     for (i, p) in closure.order().iter().enumerate() {
-        assert_eq!(rt; p.wrapping_add(i), 255);
+        assert!(rt; p.wrapping_add(i) == 255);
     }
     assert!(rt; closure.init_order() == closure.order());
 }

@@ -25,9 +25,8 @@ fn versions(rt: HostRuntime) {
             current: found,
             old_def,
         };
-        assert_eq!(rt;
-            versions_fit(definition, implementation),
-            wanted,
+        assert!(rt;
+            versions_fit(definition, implementation) == wanted,
             "{current} and {found}"
         );
     }
@@ -46,11 +45,11 @@ fn store(rt: HostRuntime) -> Result<(), Fail> {
 
 /// Tests what is found in the store.
 fn test_store(rt: &impl Abort, store: &Store<'_>) {
-    assert_eq!(rt; store.len(), 3);
+    assert!(rt; store.len() == 3);
     assert!(rt; store.pair(1) == Some((b"", b"2")));
     assert!(rt; store.pair(2) == Some((b"one", b"3")));
     assert!(rt; store.pair(3).is_none());
-    assert_eq!(rt; store.find(b"one"), Some(0));
-    assert_eq!(rt; store.find(b""), Some(1));
-    assert_eq!(rt; store.find(b"on"), None);
+    assert!(rt; store.find(b"one") == Some(0));
+    assert!(rt; store.find(b"") == Some(1));
+    assert!(rt; store.find(b"on").is_none());
 }

@@ -29,7 +29,7 @@ fn show_at_the_limits(rt: HostRuntime) -> Result<(), Fail> {
         }
     }
     assert!(rt; outcome.printed.as_slice() == shown.as_bytes());
-    assert_eq!(rt; outcome.status, 0);
+    assert!(rt; outcome.status == 0);
     Ok(())
 }
 
@@ -47,7 +47,7 @@ fn link_at_the_limits(rt: HostRuntime) -> Result<(), Fail> {
     let script = at_all_limits(rt.alloc())?;
     let words = ["link", "a", "out"];
     let outcome = run_tool(rt.alloc(), Handed::file(&words, script.as_bytes()))?;
-    assert_eq!(rt; outcome.printed.as_slice(), LINKED);
-    assert_eq!(rt; outcome.status, 0);
+    assert!(rt; outcome.printed.as_slice() == LINKED);
+    assert!(rt; outcome.status == 0);
     Ok(())
 }

@@ -40,7 +40,7 @@ fn link_example(rt: HostRuntime) -> Result<(), Fail> {
     let mut outcome = assert_prints(alloc, Handed::file(&words, EXAMPLE), EXAMPLE_LINKED, 0)?;
     let written = outcome.papers.bytes(b"out").ok_or("no container")?;
     let same = changed(alloc, written, At::Front(180), EXAMPLE_PROGRAM)?;
-    assert_eq!(rt; same.as_slice(), EXAMPLE_CONTAINER);
+    assert!(rt; same.as_slice() == EXAMPLE_CONTAINER);
     let words = ["load", "it=out"];
     assert_prints_over(alloc, &mut outcome.papers, &words, EXAMPLE_SHOWN, 0)
 }

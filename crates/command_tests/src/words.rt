@@ -37,7 +37,7 @@ fn usage(rt: HostRuntime) -> Result<(), Fail> {
             ..Handed::input(words, EXAMPLE)
         };
         let outcome = assert_prints(rt.alloc(), handed, b"usage\n", 2)?;
-        assert_eq!(rt; outcome.left, EXAMPLE.len());
+        assert!(rt; outcome.left == EXAMPLE.len());
         outcome.assert_calls((0, 0))?;
     }
     Ok(())

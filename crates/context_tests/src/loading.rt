@@ -75,7 +75,7 @@ fn test_loaded(rt: &impl Abort, machine: &Machine) {
     let mut wanted = [0xEE; 24];
     wanted[..4].copy_from_slice(&[0, 0, 0, 0x2A]);
     wanted[16..].copy_from_slice(&[0, 1, 0, 0, 0, 1, 0, 0x14]);
-    assert_eq!(rt; machine.memory, wanted);
+    assert!(rt; machine.memory == wanted);
 }
 
 #[test]

@@ -99,7 +99,7 @@ pub(crate) fn test_told(
     wanted: &str,
 ) -> Result<(), Fail> {
     let told = told(alloc, context, Connection(connection))?;
-    assert_eq!(rt; told.as_str(), wanted);
+    assert!(rt; told.as_str() == wanted);
     Ok(())
 }
 
@@ -147,10 +147,10 @@ const EMPTY: &[Fragment] = &[("E", "", &[])];
 /// Prepares and closes a fragment until the numbers come to an end, since none comes twice.
 fn use_all_numbers(rt: &impl Abort, context: &mut Context<'_>) {
     for number in 0..65_536 {
-        assert_eq!(rt; prepared(context, b"E"), Ok(number));
+        assert!(rt; prepared(context, b"E") == Ok(number));
         assert!(rt; context.close(Connection(number)).is_ok());
     }
-    assert_eq!(rt; prepared(context, b"E"), Err(69));
+    assert!(rt; prepared(context, b"E") == Err(69));
 }
 
 #[test]

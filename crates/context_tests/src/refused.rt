@@ -24,7 +24,7 @@ fn prepare_again(
     alloc: Global,
     context: &mut Context<'_>,
 ) -> Result<(), Fail> {
-    assert_eq!(rt; prepared(context, b"A"), Ok(0));
+    assert!(rt; prepared(context, b"A") == Ok(0));
     let before = told(alloc, context, Connection(0))?;
     prepare_second(rt, alloc, context, &before)
 }
@@ -44,7 +44,7 @@ fn prepare_second(
         assert!(rt; context.fragment_section(1, 0).is_none());
         answer = prepared(context, b"B");
     }
-    assert_eq!(rt; answer, Ok(1));
+    assert!(rt; answer == Ok(1));
     say_answered(rt, refused)?;
     test_told(rt, alloc, context, 0, before)?;
     test_told(
@@ -75,10 +75,7 @@ fn place_again(rt: &(impl Abort + Print), memory: &mut Memory, first: Place) -> 
         assert!(rt; memory.at(0x0001_0010, 1).is_none());
         answer = memory.place(4, 4);
     }
-    assert_eq!(rt;
-        answer.map(|place| (place.address, place.size)),
-        Ok((0x0001_0010, 4))
-    );
+    assert!(rt; answer.map(|place| (place.address, place.size)) == Ok((0x0001_0010, 4)));
     say_answered(rt, refused)?;
     assert!(rt; memory.holds(first));
     Ok(())
@@ -89,6 +86,6 @@ fn place_again(rt: &(impl Abort + Print), memory: &mut Memory, first: Place) -> 
 fn placed_again(rt: HostRuntime) -> Result<(), Fail> {
     let mut memory = Memory::new(rt.alloc(), LIMIT);
     let first = memory.place(4, 4)?;
-    assert_eq!(rt; first.address, 0x0001_0000);
+    assert!(rt; first.address == 0x0001_0000);
     place_again(&rt, &mut memory, first)
 }

@@ -190,7 +190,7 @@ fn load_files_fail(rt: HostRuntime) -> Result<(), Fail> {
         }
         let words = ["load", "A=a", "B=b", "C=c"];
         assert_prints_over(rt.alloc(), &mut papers, &words, printed, 1)?;
-        assert_eq!(rt; papers.calls(), (reads, 0));
+        assert!(rt; papers.calls() == (reads, 0));
     }
     Ok(())
 }
@@ -207,8 +207,8 @@ fn load_many(rt: HostRuntime) -> Result<(), Fail> {
         words.push("x=x")?;
     }
     let (_, status) = run_over(alloc, &mut papers, words.as_slice())?;
-    assert_eq!(rt; status, 0);
-    assert_eq!(rt; papers.calls(), (256, 0));
+    assert!(rt; status == 0);
+    assert!(rt; papers.calls() == (256, 0));
     words.push("x=x")?;
     assert_prints_over(alloc, &mut papers, words.as_slice(), b"usage\n", 2)
 }

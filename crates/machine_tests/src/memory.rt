@@ -20,12 +20,12 @@ fn test_place(rt: &impl Abort, memory: &mut Memory, row: Row) {
     match memory.place(size, alignment) {
         Ok(place) => {
             let want = Place { address, size };
-            assert_eq!(rt; place, want, "size {size}, alignment {alignment}");
+            assert!(rt; place == want, "size {size}, alignment {alignment}");
             assert!(rt; memory.holds(place));
         }
         Err(fault) => {
-            assert_eq!(rt; fault, MemoryFault::NoRoom);
-            assert_eq!(rt; address, 0, "size {size}, alignment {alignment}");
+            assert!(rt; fault == MemoryFault::NoRoom);
+            assert!(rt; address == 0, "size {size}, alignment {alignment}");
         }
     }
 }
@@ -109,8 +109,8 @@ const MUCH: &[(u32, u32, u8, u32)] = &[
 fn test_zeros(rt: &impl Abort, memory: &Memory, place: Place) {
     assert!(rt; memory.holds(place));
     let part = memory.part(place);
-    assert_eq!(rt; part.len(), place.size as usize);
-    assert_eq!(rt; (part.first(), part.last()), (Some(&0), Some(&0)));
+    assert!(rt; part.len() == place.size as usize);
+    assert!(rt; (part.first(), part.last()) == (Some(&0), Some(&0)));
 }
 
 /// Places instances alike.
@@ -127,7 +127,7 @@ fn place_alike(
     for _ in 1..count {
         address = address.wrapping_add(distance);
         let place = placed(rt, memory, size, alignment);
-        assert_eq!(rt; place, Place { address, size }, "{count} of {size}");
+        assert!(rt; place == (Place { address, size }), "{count} of {size}");
     }
     for address in [first, address] {
         test_zeros(rt, memory, Place { address, size });
@@ -151,7 +151,7 @@ fn write_second(rt: &impl Abort, memory: &mut Memory) {
     placed(rt, memory, 0, 4);
     assert!(rt; memory.holds(middle));
     let part = memory.part_mut(middle);
-    assert_eq!(rt; part.len(), 20);
+    assert!(rt; part.len() == 20);
     part.fill(7);
 }
 
@@ -173,7 +173,7 @@ fn test_part(rt: &impl Abort, memory: &Memory, address: u32, size: u32, byte: u8
     let place = Place { address, size };
     assert!(rt; memory.holds(place));
     let part = memory.part(place);
-    assert_eq!(rt; part.len(), size as usize);
+    assert!(rt; part.len() == size as usize);
     assert!(rt; part.iter().all(|b| *b == byte), "at {address}");
 }
 
@@ -220,9 +220,8 @@ fn sum_at(memory: &Memory, address: u32, len: u32) -> Option<u64> {
 
 fn test_sums(rt: &impl Abort, memory: &Memory) {
     for (address, len, sum) in SUMS {
-        assert_eq!(rt;
-            sum_at(memory, *address, *len),
-            *sum,
+        assert!(rt;
+            sum_at(memory, *address, *len) == *sum,
             "{len} bytes at {address}"
         );
     }
@@ -275,15 +274,14 @@ fn place_as_scanned(
     let want = lowest(instances, size, alignment);
     match memory.place(size, alignment as u8) {
         Ok(place) => {
-            assert_eq!(rt;
-                (Some(place.address), place.size),
-                (want, size),
+            assert!(rt;
+                (Some(place.address), place.size) == (want, size),
                 "call {call}"
             );
             instances.push(place)?;
         }
         Err(fault) => {
-            assert_eq!(rt; (fault, want), (MemoryFault::NoRoom, None), "call {call}");
+            assert!(rt; (fault, want) == (MemoryFault::NoRoom, None), "call {call}");
         }
     }
     Ok(())

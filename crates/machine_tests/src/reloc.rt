@@ -63,7 +63,7 @@ const READ: &[(&[u8], u32)] = &[
 #[test]
 fn programs_read(rt: HostRuntime) {
     for (bytes, want) in READ {
-        assert_eq!(rt; read_number(bytes), *want, "{bytes:?}");
+        assert!(rt; read_number(bytes) == *want, "{bytes:?}");
     }
 }
 
@@ -230,13 +230,13 @@ const WALK: &[Option<Instr>] = &[
 ];
 
 fn test_walked(rt: &impl Abort, program: &Program<'_>) {
-    assert_eq!(rt; program.bytes(), WALKED);
+    assert!(rt; program.bytes() == WALKED);
     for (halfword, instr) in STARTS.iter().enumerate() {
-        assert_eq!(rt; program.instr_at(halfword), *instr, "halfword {halfword}");
+        assert!(rt; program.instr_at(halfword) == *instr, "halfword {halfword}");
     }
     let mut walk = program.instrs();
     for instr in WALK {
-        assert_eq!(rt; walk.next_instr(), *instr);
+        assert!(rt; walk.next_instr() == *instr);
     }
 }
 
@@ -250,7 +250,7 @@ const FLAT: &[(&[u8], bool)] = &[
 
 fn test_flat(rt: &impl Abort) -> Result<(), RelocFault> {
     for (bytes, want) in FLAT {
-        assert_eq!(rt; Program::read(bytes)?.flat(), *want, "{bytes:?}");
+        assert!(rt; Program::read(bytes)?.flat() == *want, "{bytes:?}");
     }
     Ok(())
 }
@@ -381,8 +381,8 @@ const MOST_STEPS: &[u8] = &[
 
 #[test]
 fn shortest_and_longest_applied(rt: HostRuntime) {
-    assert_eq!(rt; apply_number(&[0x40, 0x00], &mut [0; 3], &[0x100], &[]), 37);
-    assert_eq!(rt; apply_number(MOST_STEPS, &mut [], &[], &[]), 0);
+    assert!(rt; apply_number(&[0x40, 0x00], &mut [0; 3], &[0x100], &[]) == 37);
+    assert!(rt; apply_number(MOST_STEPS, &mut [], &[], &[]) == 0);
 }
 
 const SECTION: Base = Base::Section(7);
@@ -415,7 +415,7 @@ fn test_fitting(rt: &impl Abort, fixups: &[(u32, Base)], want: bool) {
         };
     }
     assert!(rt; fixups.len() <= list.len());
-    assert_eq!(rt; fixups_fit(&list[..fixups.len()]), want, "{fixups:?}");
+    assert!(rt; fixups_fit(&list[..fixups.len()]) == want, "{fixups:?}");
 }
 
 #[test]
@@ -470,10 +470,10 @@ fn million(alloc: Global) -> Result<Vec<u8>, Fail> {
 }
 
 fn test_million(rt: &impl Abort, bytes: &[u8], program: &Program<'_>) {
-    assert_eq!(rt; bytes.len(), 2_000_000);
+    assert!(rt; bytes.len() == 2_000_000);
     assert!(rt; program.flat());
-    assert_eq!(rt; program.instr_at(999_999), Some(Instr::TVector8(2)));
-    assert_eq!(rt; program.instr_at(1_000_000), None);
+    assert!(rt; program.instr_at(999_999) == Some(Instr::TVector8(2)));
+    assert!(rt; program.instr_at(1_000_000).is_none());
 }
 
 /// Tests sixteen million bytes of ones, to which they are applied.

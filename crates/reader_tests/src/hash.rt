@@ -18,7 +18,7 @@ const HASH_WORDS: &[(&[u8], u32)] = &[
 
 fn test_hash_word(rt: &impl Abort, name: &[u8], word: u32) {
     assert!(rt; name.len() < 65_536);
-    assert_eq!(rt; hash_word(name), word, "name {name:?}");
+    assert!(rt; hash_word(name) == word, "name {name:?}");
 }
 
 #[test]
@@ -52,7 +52,7 @@ const SLOTS: &[(u32, u32, u32)] = &[
 #[test]
 fn slots(rt: HostRuntime) {
     for (word, power, place) in SLOTS {
-        assert_eq!(rt; slot(*word, *power), *place, "power {power}");
+        assert!(rt; slot(*word, *power) == *place, "power {power}");
     }
 }
 
@@ -71,7 +71,7 @@ const POWERS: &[(u32, u32)] = &[
 #[test]
 fn powers(rt: HostRuntime) {
     for (count, power) in POWERS {
-        assert_eq!(rt; power_for(*count), *power, "count {count}");
+        assert!(rt; power_for(*count) == *power, "count {count}");
     }
 }
 
@@ -104,10 +104,10 @@ fn find(rt: HostRuntime) {
         let (slot, key, name, place) = *row;
         let table = table_of_go(slot, key);
         let found = Exports::new(0, 1, &table, b"go").find(name);
-        assert_eq!(rt; found, place, "slot {slot} key {key} name {name:?}");
+        assert!(rt; found == place, "slot {slot} key {key} name {name:?}");
     }
     let none = Exports::new(30, 0, b"", b"go");
-    assert_eq!(rt; none.find(b"go"), None);
+    assert!(rt; none.find(b"go").is_none());
 }
 
 /// The table of `a`, `b` and `c` in two slots, with other slot words or another last key.
@@ -180,7 +180,10 @@ const FOUND_AMONG_THREE: &[(&[u8], Option<usize>)] = &[
 
 fn test_three(rt: &impl Abort, exports: Exports<'_>, words: &[u32]) {
     for (name, place) in FOUND_AMONG_THREE {
-        assert_eq!(rt; exports.find(name), *place, "words {words:?} name {name:?}");
+        assert!(rt;
+            exports.find(name) == *place,
+            "words {words:?} name {name:?}"
+        );
     }
 }
 
@@ -215,7 +218,7 @@ const ENTRIES: &[Entry] = &[
 
 fn test_entries(rt: &impl Abort, exports: Exports<'_>) {
     for (i, entry) in ENTRIES.iter().enumerate() {
-        assert_eq!(rt; exports.entry(i), Some(*entry));
+        assert!(rt; exports.entry(i) == Some(*entry));
         assert!(rt; exports.name(i) == Some(b"g".as_slice()), "export {i}");
     }
 }
@@ -224,9 +227,9 @@ fn test_entries(rt: &impl Abort, exports: Exports<'_>) {
 fn names_and_entries(rt: HostRuntime) {
     let exports = Exports::new(0, 2, TWO, b"gg");
     test_entries(&rt, exports);
-    assert_eq!(rt; exports.entry(2), None);
+    assert!(rt; exports.entry(2).is_none());
     assert!(rt; exports.name(2).is_none());
-    assert_eq!(rt; exports.find(b"g"), Some(0));
+    assert!(rt; exports.find(b"g") == Some(0));
 }
 
 /// A power, how many exports, how many bytes, and whether they have the whole table.
@@ -248,12 +251,15 @@ fn has_table(rt: HostRuntime) {
         let bytes = [0; 32];
         assert!(rt; length <= bytes.len());
         let found = Exports::has_table(power, count, &bytes[..length]);
-        assert_eq!(rt; found, whole, "power {power} count {count} length {length}");
+        assert!(rt;
+            found == whole,
+            "power {power} count {count} length {length}"
+        );
     }
 }
 
 fn test_table(rt: &impl Abort, table: &Table, power: u32, slots: &[u32], keys: &[u32]) {
-    assert_eq!(rt; table.power, power);
+    assert!(rt; table.power == power);
     assert!(rt; table.slots.as_slice() == slots);
     assert!(rt; table.keys.as_slice() == keys);
 }
@@ -306,18 +312,17 @@ const GREATEST_SLOTS: &[(usize, u32)] = &[
 const GREATEST_KEYS: &[(usize, u32, u32)] = &[(0, 0x0002_0040, 64), (16_382, 0x0002_00BF, 16_321)];
 
 fn test_greatest_slots(rt: &impl Abort, slots: &[u32]) {
-    assert_eq!(rt; slots.len(), 2048);
+    assert!(rt; slots.len() == 2048);
     for (i, word) in GREATEST_SLOTS {
-        assert_eq!(rt; slots.get(*i).copied(), Some(*word), "slot {i}");
+        assert!(rt; slots.get(*i).copied() == Some(*word), "slot {i}");
     }
 }
 
 fn test_greatest_keys(rt: &impl Abort, keys: &[u32], order: &[u32]) {
-    assert_eq!(rt; (keys.len(), order.len()), (16_383, 16_383));
+    assert!(rt; (keys.len(), order.len()) == (16_383, 16_383));
     for (i, key, name) in GREATEST_KEYS {
-        assert_eq!(rt;
-            (keys.get(*i), order.get(*i)),
-            (Some(key), Some(name)),
+        assert!(rt;
+            (keys.get(*i), order.get(*i)) == (Some(key), Some(name)),
             "key {i}"
         );
     }
@@ -337,7 +342,7 @@ fn builds_of_as_many_names_as_may_be(rt: HostRuntime) -> Result<(), HashFault> {
     let mut names = [0; 32_766];
     fill_numbers(&mut names);
     let table = build(rt.alloc(), &names, &[2; 16_383])?;
-    assert_eq!(rt; table.power, 11);
+    assert!(rt; table.power == 11);
     test_greatest_slots(&rt, &table.slots);
     test_greatest_keys(&rt, &table.keys, &table.order);
     Ok(())

@@ -38,9 +38,9 @@ fn values_of_fields(rt: HostRuntime) {
         TOC_SYMBOL,
         GLUE_SYMBOL,
     ];
-    assert_eq!(rt; classes, [0, 1, 2, 3, 4]);
-    assert_eq!(rt; (INIT_BEFORE, WEAK_LIBRARY), (0x80, 0x40));
-    assert_eq!(rt; (ABSOLUTE_EXPORT, REEXPORTED_IMPORT), (-2, -3));
+    assert!(rt; classes == [0, 1, 2, 3, 4]);
+    assert!(rt; (INIT_BEFORE, WEAK_LIBRARY) == (0x80, 0x40));
+    assert!(rt; (ABSOLUTE_EXPORT, REEXPORTED_IMPORT) == (-2, -3));
 }
 
 /// Words at some places, and the number of the refusal.
@@ -126,7 +126,10 @@ fn test_refused(
     let length = container.len();
     for (i, (words, want)) in rows.iter().enumerate() {
         let bytes = with_words(alloc, container, words)?;
-        assert_eq!(rt; refused_loader(&bytes), *want, "row {i} of {length} bytes");
+        assert!(rt;
+            refused_loader(&bytes) == *want,
+            "row {i} of {length} bytes"
+        );
     }
     Ok(())
 }
@@ -158,15 +161,15 @@ fn places(header: LoaderHeader) -> [u32; 4] {
 }
 
 fn test_header(rt: &impl Abort, header: LoaderHeader) {
-    assert_eq!(rt; counts(header), [0, 0, 1, 1]);
-    assert_eq!(rt; places(header), [68, 70, 72, 0]);
-    assert_eq!(rt; (header.main_section, header.main_offset), (1, 0));
-    assert_eq!(rt; (header.init_section, header.term_section), (-1, -1));
+    assert!(rt; counts(header) == [0, 0, 1, 1]);
+    assert!(rt; places(header) == [68, 70, 72, 0]);
+    assert!(rt; (header.main_section, header.main_offset) == (1, 0));
+    assert!(rt; (header.init_section, header.term_section) == (-1, -1));
 }
 
 fn test_relocs(rt: &impl Abort, loader: &Loader<'_>) {
-    assert_eq!(rt; loader.reloc(0), Some((1, &GO[228..230])));
-    assert_eq!(rt; loader.reloc(1), None);
+    assert!(rt; loader.reloc(0) == Some((1, &GO[228..230])));
+    assert!(rt; loader.reloc(1).is_none());
 }
 
 /// An export: its name, its class, its section and its value.
@@ -191,9 +194,9 @@ fn relocs_exports_and_entries(rt: HostRuntime) -> Result<(), Fail> {
     test_header(&rt, loader.header());
     test_relocs(&rt, &loader);
     let export = (&GO[230..232], TRANSITION_VECTOR_SYMBOL, 1, 0);
-    assert_eq!(rt; exported(&loader, 0), Some(export));
-    assert_eq!(rt; exported(&loader, 1), None);
-    assert_eq!(rt; entries(&loader), (Some((1, 0)), None, None));
+    assert!(rt; exported(&loader, 0) == Some(export));
+    assert!(rt; exported(&loader, 1).is_none());
+    assert!(rt; entries(&loader) == (Some((1, 0)), None, None));
     Ok(())
 }
 
@@ -212,9 +215,9 @@ fn other_entries(rt: HostRuntime) -> Result<(), Fail> {
     let bytes = with_words(rt.alloc(), &GO, OTHER_ENTRIES)?;
     let container = Container::read(&bytes)?;
     let loader = Loader::read(&container)?;
-    assert_eq!(rt; entries(&loader), (None, Some((0, 4)), Some((1, 12))));
+    assert!(rt; entries(&loader) == (None, Some((0, 4)), Some((1, 12))));
     let (_, _, section, value) = exported(&loader, 0).ok_or("no export")?;
-    assert_eq!(rt; (section, value), (ABSOLUTE_EXPORT, 0));
+    assert!(rt; (section, value) == (ABSOLUTE_EXPORT, 0));
     Ok(())
 }
 
@@ -240,7 +243,7 @@ fn exports_named(rt: HostRuntime) -> Result<(), Fail> {
     for (i, (words, name, want)) in EXPORTS_NAMED.iter().enumerate() {
         let bytes = with_words(rt.alloc(), &GO, words)?;
         let found = export_named(&bytes, name)?;
-        assert_eq!(rt; found, *want, "row {i}");
+        assert!(rt; found == *want, "row {i}");
     }
     Ok(())
 }
@@ -267,7 +270,7 @@ fn needed<'a>(loader: &Loader<'a>, i: usize) -> Option<Needed<'a>> {
 }
 
 fn test_libraries(rt: &impl Abort, loader: &Loader<'_>) {
-    assert_eq!(rt; counts(loader.header()), [2, 3, 0, 0]);
+    assert!(rt; counts(loader.header()) == [2, 3, 0, 0]);
     for (i, wanted) in NEEDED.iter().enumerate() {
         assert!(rt; needed(loader, i) == Some(*wanted), "library {i}");
     }
@@ -383,7 +386,7 @@ fn test_owned(rt: &impl Abort, alloc: Global, loader: Loader<'_>) -> Result<(), 
     let table = ImportTable::read(alloc, loader)?;
     for (j, library) in OWNED {
         let found = (library_of(reader.import(*j)), library_of(table.get(*j)));
-        assert_eq!(rt; found, (*library, *library), "import {j}");
+        assert!(rt; found == (*library, *library), "import {j}");
     }
     Ok(())
 }

@@ -67,8 +67,8 @@ const IMAGES: &[Image<'static>] = &[
 ];
 
 fn test_image(rt: &impl Abort, packed: &[u8], out: &mut [u8], want: &[u8]) {
-    assert_eq!(rt; expand(packed, out), Ok(()), "{packed:?}");
-    assert_eq!(rt; &*out, want, "{packed:?}");
+    assert!(rt; expand(packed, out) == Ok(()), "{packed:?}");
+    assert!(rt; &*out == want, "{packed:?}");
 }
 
 #[test]
@@ -157,6 +157,6 @@ fn expand_refused(rt: HostRuntime) {
         let mut buffer = [0xEE; 8];
         assert!(rt; len <= 8);
         let found = refusal(packed, &mut buffer[..len]);
-        assert_eq!(rt; found, Some(want), "{packed:?}");
+        assert!(rt; found == Some(want), "{packed:?}");
     }
 }

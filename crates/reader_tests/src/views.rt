@@ -13,9 +13,8 @@ fn read_beginnings(rt: HostRuntime) {
             124..250 => Some(6),
             _ => None,
         };
-        assert_eq!(rt;
-            refused_container(&BYTES[..len]),
-            want,
+        assert!(rt;
+            refused_container(&BYTES[..len]) == want,
             "the first {len} bytes"
         );
     }
@@ -72,7 +71,7 @@ const WORDS: &[(&[(usize, u32)], Option<u32>)] = &[
 fn read(rt: HostRuntime) -> Result<(), Fail> {
     for (i, (words, want)) in WORDS.iter().enumerate() {
         let bytes = with_words(rt.alloc(), &BYTES, words)?;
-        assert_eq!(rt; refused_container(&bytes), *want, "row {i}");
+        assert!(rt; refused_container(&bytes) == *want, "row {i}");
     }
     Ok(())
 }
@@ -104,7 +103,7 @@ const HEADER: Header = Header {
 fn header(rt: HostRuntime) -> Result<(), Fail> {
     let bytes = with_words(rt.alloc(), &BYTES, HEADER_WORDS)?;
     let header = Container::read(&bytes)?.header();
-    assert_eq!(rt; header, HEADER);
+    assert!(rt; header == HEADER);
     Ok(())
 }
 
@@ -150,8 +149,8 @@ fn fields(section: &SectionView<'_>) -> Fields {
 fn test_sections(rt: &impl Abort, container: &Container<'_>) {
     for (i, wanted) in SECTIONS.iter().enumerate() {
         let section = container.section(i).expect(rt, "a section");
-        assert_eq!(rt; fields(&section), *wanted, "section {i}");
-        assert_eq!(rt; Some(section.raw), container.raw(i), "section {i}");
+        assert!(rt; fields(&section) == *wanted, "section {i}");
+        assert!(rt; Some(section.raw) == container.raw(i), "section {i}");
     }
     assert!(rt; container.section(3).is_none());
 }
@@ -193,13 +192,13 @@ fn test_raw<'a>(
     loader: &'a [u8],
 ) {
     let wanted = [Some(raw), Some(loader), None];
-    assert_eq!(rt; raw_parts(container), wanted, "row {row}");
-    assert_eq!(rt; container.loader(), loader, "row {row}");
+    assert!(rt; raw_parts(container) == wanted, "row {row}");
+    assert!(rt; container.loader() == loader, "row {row}");
 }
 
 #[test]
 fn raw_and_loader(rt: HostRuntime) -> Result<(), Fail> {
-    assert_eq!(rt; RAW, &BYTES[0x80..0x88]);
+    assert!(rt; RAW == &BYTES[0x80..0x88]);
     for (i, (words, raw)) in RAW_BYTES.iter().enumerate() {
         let bytes = with_words(rt.alloc(), &BYTES, words)?;
         let container = Container::read(&bytes)?;
@@ -228,7 +227,7 @@ fn test_section_name(
 ) -> Result<(), Fail> {
     let container = Container::read(bytes)?;
     let names = (container.section_name(0), container.section_name(3));
-    assert_eq!(rt; names, (want, None), "at {offset}");
+    assert!(rt; names == (want, None), "at {offset}");
     Ok(())
 }
 
