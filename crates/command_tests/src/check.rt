@@ -36,44 +36,46 @@ const TURNED: &[u8] = b"\
 const PLAIN: &[u8] = b"section d data process 4 4\n";
 
 /// Scripts and certificates, what is printed of them, and the status.
+const CHECKS: &[(&[u8], &[u8], &[u8], u8)] = &[
+    (VECTORS, VECTORS_CERTIFIED, CHECKED, 0),
+    (VECTORS, LABELS_BELOW, b"section 0 yes 0\nsection 1 no\n", 1),
+    (VECTORS, LABELS_ABOVE, b"section 0 yes 0\nsection 1 no\n", 1),
+    (PLAIN, FIRST, b"section 0 yes 0\n", 0),
+    (b"", b"pefcert 1\nend\n", b"", 0),
+    (
+        VECTORS,
+        b"pefcert 1\nend\n",
+        b"refused 52 SectionsDiffer\n",
+        1,
+    ),
+    (VECTORS, FIRST, b"refused 52 SectionsDiffer\n", 1),
+    (PLAIN, SECOND, b"refused 52 SectionsDiffer\n", 1),
+    (VECTORS, TURNED, b"refused 52 SectionsDiffer\n", 1),
+    (
+        VECTORS,
+        b"pefcert 3\n",
+        b"refused 51 BadCertificate line 1\n",
+        1,
+    ),
+    (VECTORS, b"", b"refused 51 BadCertificate line 1\n", 1),
+    (
+        b"section d\n",
+        b"pefcert 3\n",
+        b"refused 41 BadLine line 1\n",
+        1,
+    ),
+    (
+        b"section d data process 4 8\nsection d\n",
+        VECTORS_CERTIFIED,
+        b"refused 41 BadLine line 2\n",
+        1,
+    ),
+];
+
 #[test]
 fn check(rt: HostRuntime) -> Result<(), Fail> {
-    let rows: [(&[u8], &[u8], &[u8], u8); 13] = [
-        (VECTORS, VECTORS_CERTIFIED, CHECKED, 0),
-        (VECTORS, LABELS_BELOW, b"section 0 yes 0\nsection 1 no\n", 1),
-        (VECTORS, LABELS_ABOVE, b"section 0 yes 0\nsection 1 no\n", 1),
-        (PLAIN, FIRST, b"section 0 yes 0\n", 0),
-        (b"", b"pefcert 1\nend\n", b"", 0),
-        (
-            VECTORS,
-            b"pefcert 1\nend\n",
-            b"refused 52 SectionsDiffer\n",
-            1,
-        ),
-        (VECTORS, FIRST, b"refused 52 SectionsDiffer\n", 1),
-        (PLAIN, SECOND, b"refused 52 SectionsDiffer\n", 1),
-        (VECTORS, TURNED, b"refused 52 SectionsDiffer\n", 1),
-        (
-            VECTORS,
-            b"pefcert 3\n",
-            b"refused 51 BadCertificate line 1\n",
-            1,
-        ),
-        (VECTORS, b"", b"refused 51 BadCertificate line 1\n", 1),
-        (
-            b"section d\n",
-            b"pefcert 3\n",
-            b"refused 41 BadLine line 1\n",
-            1,
-        ),
-        (
-            b"section d data process 4 8\nsection d\n",
-            VECTORS_CERTIFIED,
-            b"refused 41 BadLine line 2\n",
-            1,
-        ),
-    ];
-    for (script, certificates, printed, status) in rows {
+    for row in CHECKS {
+        let (script, certificates, printed, status) = *row;
         let handed = Handed::files(&WORDS, script, certificates);
         let outcome = assert_prints(rt.alloc(), handed, printed, status)?;
         outcome.assert_calls((2, 0))?;

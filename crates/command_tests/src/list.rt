@@ -47,58 +47,60 @@ fn list_reexport(rt: HostRuntime) -> Result<(), Fail> {
 }
 
 /// Damaged copies: from which place which bytes are others, and the only line that is printed then.
+const DAMAGED: &[(&[u8], usize, &[u8], &[u8])] = &[
+    (VECTORS_LEAST, 32, b"\xFF", b"refused 1 TooShort\n"),
+    (VECTORS_LEAST, 0, b"j", b"refused 2 BadTag\n"),
+    (VECTORS_LEAST, 8, b"m68k", b"refused 3 BadArchitecture\n"),
+    (VECTORS_LEAST, 15, b"\x02", b"refused 4 BadFormatVersion\n"),
+    (VECTORS_LEAST, 35, b"\x04", b"refused 5 BadSectionCounts\n"),
+    (VECTORS_LEAST, 115, b"\x5B", b"refused 6 SectionOutside\n"),
+    (VECTORS_LEAST, 64, b"\x04", b"refused 7 BadSectionKind\n"),
+    (VECTORS_LEAST, 55, b"\x09", b"refused 8 BadSizes\n"),
+    (VECTORS_LEAST, 66, b"\x20", b"refused 9 BadAlignment\n"),
+    (VECTORS_LEAST, 120, b"\x05", b"refused 10 NoLoader\n"),
+    (VECTORS_LEAST, 115, b"\x37", b"refused 11 LoaderShort\n"),
+    (VECTORS_LEAST, 187, b"\xFF", b"refused 12 BadTableOffset\n"),
+    (VECTORS_LEAST, 236, b"\xFF", b"refused 13 BadName\n"),
+    (RICH, 332, b"\x02", b"refused 14 BadLibraryRange\n"),
+    (RICH, 332, b"\x00", b"refused 15 OrphanImport\n"),
+    (VECTORS_LEAST, 163, b"\x02", b"refused 16 BadEntry\n"),
+    (VECTORS_LEAST, 217, b"\x02", b"refused 17 BadRelocSection\n"),
+    (VECTORS_LEAST, 220, b"\xFF", b"refused 18 RelocOutside\n"),
+    (VECTORS_LEAST, 215, b"\x02", b"refused 19 BadExportTable\n"),
+    (
+        VECTORS_LEAST,
+        248,
+        b"\xFF\xFF",
+        b"refused 20 BadExportSection\n",
+    ),
+    (VECTORS_LEAST, 228, b"\x4C\x00", b"refused 31 BadOpcode\n"),
+    (
+        VECTORS_LEAST,
+        228,
+        b"\xA0\x00",
+        b"refused 32 CutInstruction\n",
+    ),
+    (
+        VECTORS_LEAST,
+        228,
+        b"\x90\x00",
+        b"refused 33 RepeatTooFar\n",
+    ),
+    (RICH, 407, b"\x90\x00", b"refused 34 RepeatCuts\n"),
+    (RICH, 403, b"\x90\x01", b"refused 35 NestedRepeat\n"),
+    (
+        RICH,
+        377,
+        b"\x80\x00\x80\x00\x80\x00\x80\x00\xB0\xFF\xFF\xFF",
+        b"refused 36 TooManySteps\n",
+    ),
+    (b"", 0, b"", b"refused 1 TooShort\n"),
+];
+
 #[test]
 fn list_damaged(rt: HostRuntime) -> Result<(), Fail> {
-    let rows: [(&[u8], usize, &[u8], &[u8]); 27] = [
-        (VECTORS_LEAST, 32, b"\xFF", b"refused 1 TooShort\n"),
-        (VECTORS_LEAST, 0, b"j", b"refused 2 BadTag\n"),
-        (VECTORS_LEAST, 8, b"m68k", b"refused 3 BadArchitecture\n"),
-        (VECTORS_LEAST, 15, b"\x02", b"refused 4 BadFormatVersion\n"),
-        (VECTORS_LEAST, 35, b"\x04", b"refused 5 BadSectionCounts\n"),
-        (VECTORS_LEAST, 115, b"\x5B", b"refused 6 SectionOutside\n"),
-        (VECTORS_LEAST, 64, b"\x04", b"refused 7 BadSectionKind\n"),
-        (VECTORS_LEAST, 55, b"\x09", b"refused 8 BadSizes\n"),
-        (VECTORS_LEAST, 66, b"\x20", b"refused 9 BadAlignment\n"),
-        (VECTORS_LEAST, 120, b"\x05", b"refused 10 NoLoader\n"),
-        (VECTORS_LEAST, 115, b"\x37", b"refused 11 LoaderShort\n"),
-        (VECTORS_LEAST, 187, b"\xFF", b"refused 12 BadTableOffset\n"),
-        (VECTORS_LEAST, 236, b"\xFF", b"refused 13 BadName\n"),
-        (RICH, 332, b"\x02", b"refused 14 BadLibraryRange\n"),
-        (RICH, 332, b"\x00", b"refused 15 OrphanImport\n"),
-        (VECTORS_LEAST, 163, b"\x02", b"refused 16 BadEntry\n"),
-        (VECTORS_LEAST, 217, b"\x02", b"refused 17 BadRelocSection\n"),
-        (VECTORS_LEAST, 220, b"\xFF", b"refused 18 RelocOutside\n"),
-        (VECTORS_LEAST, 215, b"\x02", b"refused 19 BadExportTable\n"),
-        (
-            VECTORS_LEAST,
-            248,
-            b"\xFF\xFF",
-            b"refused 20 BadExportSection\n",
-        ),
-        (VECTORS_LEAST, 228, b"\x4C\x00", b"refused 31 BadOpcode\n"),
-        (
-            VECTORS_LEAST,
-            228,
-            b"\xA0\x00",
-            b"refused 32 CutInstruction\n",
-        ),
-        (
-            VECTORS_LEAST,
-            228,
-            b"\x90\x00",
-            b"refused 33 RepeatTooFar\n",
-        ),
-        (RICH, 407, b"\x90\x00", b"refused 34 RepeatCuts\n"),
-        (RICH, 403, b"\x90\x01", b"refused 35 NestedRepeat\n"),
-        (
-            RICH,
-            377,
-            b"\x80\x00\x80\x00\x80\x00\x80\x00\xB0\xFF\xFF\xFF",
-            b"refused 36 TooManySteps\n",
-        ),
-        (b"", 0, b"", b"refused 1 TooShort\n"),
-    ];
-    for (container, at, other, printed) in rows {
+    for row in DAMAGED {
+        let (container, at, other, printed) = *row;
         let bytes = changed(rt.alloc(), container, At::Front(at), other)?;
         let handed = Handed::file(&["list", "a"], bytes.as_slice());
         assert_prints(rt.alloc(), handed, printed, 1)?;

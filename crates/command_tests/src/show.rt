@@ -3,79 +3,81 @@ use test_bench::runs::assert_shows;
 use test_bench::scripts::{EXAMPLE, EXAMPLE_SHOWN, VECTORS};
 
 /// Scripts on the input, what `show` prints of them, and its status.
+const SHOWN: &[(&[u8], &[u8], u8)] = &[
+    (EXAMPLE, EXAMPLE_SHOWN, 0),
+    (b"", b"fragment it\n", 0),
+    (
+        b"# no line\n\nsection d data process 4 3\nbytes d aAfF",
+        b"fragment it\nsection 0 at 00010000 size 3\n00010000 AAFF00\n",
+        0,
+    ),
+    (
+        VECTORS,
+        b"fragment it\nsection 0 at 00010000 size 8\n00010000 00112233 44556677\nsection 1 at 00010010 size 16\n00010010 00010000 00010010 00010004 00010010\nmain 00010010\n",
+        0,
+    ),
+    (
+        b"section c code global 4 17\nsection d data process 8 0\nsection e const protected 0 2\nbytes e BEEF\nmain c 16\ninit d 0\nterm e 2",
+        b"fragment it\nsection 0 at 00010000 size 17\n00010000 00000000 00000000 00000000 00000000\n00010010 00\nsection 1 at 00010100 size 0\nsection 2 at 00010020 size 2\n00010020 BEEF\ninit it 00010100\nmain 00010010\nterm it 00010022\n",
+        0,
+    ),
+    (
+        b"section a data process 4 8\nsection b data process 4 4\nbytes a FFFFFFFF00000001\nfix a 0 section a\nfix a 4 section b\nbytes b 00000002\nfix b 0 section a\n",
+        b"fragment it\nsection 0 at 00010000 size 8\n00010000 0000FFFF 00010011\nsection 1 at 00010010 size 4\n00010010 00010002\n",
+        0,
+    ),
+    (b"section d\n", b"refused 41 BadLine line 1\n", 1),
+    (
+        b"section d data process 4 16777217\n",
+        b"refused 42 BadNumber line 1\n",
+        1,
+    ),
+    (
+        b"fix d 0 section d\n",
+        b"refused 43 UnknownName line 1\n",
+        1,
+    ),
+    (
+        b"section d data process 4 8\nfix d 0 import x\n",
+        b"refused 43 UnknownName line 2\n",
+        1,
+    ),
+    (
+        b"section d data process 4 8\nsection d data process 4 8\n",
+        b"refused 44 RepeatedName line 2\n",
+        1,
+    ),
+    (
+        b"section d data process 4 8\nfix d 4 section d\nfix d 0 section d\n",
+        b"refused 45 OutOfOrder line 3\n",
+        1,
+    ),
+    (
+        b"section d data process 4 8\nfix d 0 section d\nfix d 2 section d\n",
+        b"refused 46 Overlap line 3\n",
+        1,
+    ),
+    (
+        b"section d data process 4 8\nfix d 0 section d\nfix d 5 section d\n",
+        b"refused 47 OutsideSection line 3\n",
+        1,
+    ),
+    (
+        b"section a data process 4 1\nsection b data process 4 1\nsection c data process 4 1\nsection d data process 4 1\nsection e data process 4 1\nsection f data process 4 1\nsection g data process 4 1\nsection h data process 4 1\nsection i data process 4 1\n",
+        b"refused 48 TooMany line 9\n",
+        1,
+    ),
+    (
+        b"section d odd process 4 8\n",
+        b"refused 49 BadKind line 1\n",
+        1,
+    ),
+];
+
 #[test]
 fn show(rt: HostRuntime) -> Result<(), Fail> {
-    let rows: [(&[u8], &[u8], u8); 16] = [
-        (EXAMPLE, EXAMPLE_SHOWN, 0),
-        (b"", b"fragment it\n", 0),
-        (
-            b"# no line\n\nsection d data process 4 3\nbytes d aAfF",
-            b"fragment it\nsection 0 at 00010000 size 3\n00010000 AAFF00\n",
-            0,
-        ),
-        (
-            VECTORS,
-            b"fragment it\nsection 0 at 00010000 size 8\n00010000 00112233 44556677\nsection 1 at 00010010 size 16\n00010010 00010000 00010010 00010004 00010010\nmain 00010010\n",
-            0,
-        ),
-        (
-            b"section c code global 4 17\nsection d data process 8 0\nsection e const protected 0 2\nbytes e BEEF\nmain c 16\ninit d 0\nterm e 2",
-            b"fragment it\nsection 0 at 00010000 size 17\n00010000 00000000 00000000 00000000 00000000\n00010010 00\nsection 1 at 00010100 size 0\nsection 2 at 00010020 size 2\n00010020 BEEF\ninit it 00010100\nmain 00010010\nterm it 00010022\n",
-            0,
-        ),
-        (
-            b"section a data process 4 8\nsection b data process 4 4\nbytes a FFFFFFFF00000001\nfix a 0 section a\nfix a 4 section b\nbytes b 00000002\nfix b 0 section a\n",
-            b"fragment it\nsection 0 at 00010000 size 8\n00010000 0000FFFF 00010011\nsection 1 at 00010010 size 4\n00010010 00010002\n",
-            0,
-        ),
-        (b"section d\n", b"refused 41 BadLine line 1\n", 1),
-        (
-            b"section d data process 4 16777217\n",
-            b"refused 42 BadNumber line 1\n",
-            1,
-        ),
-        (
-            b"fix d 0 section d\n",
-            b"refused 43 UnknownName line 1\n",
-            1,
-        ),
-        (
-            b"section d data process 4 8\nfix d 0 import x\n",
-            b"refused 43 UnknownName line 2\n",
-            1,
-        ),
-        (
-            b"section d data process 4 8\nsection d data process 4 8\n",
-            b"refused 44 RepeatedName line 2\n",
-            1,
-        ),
-        (
-            b"section d data process 4 8\nfix d 4 section d\nfix d 0 section d\n",
-            b"refused 45 OutOfOrder line 3\n",
-            1,
-        ),
-        (
-            b"section d data process 4 8\nfix d 0 section d\nfix d 2 section d\n",
-            b"refused 46 Overlap line 3\n",
-            1,
-        ),
-        (
-            b"section d data process 4 8\nfix d 0 section d\nfix d 5 section d\n",
-            b"refused 47 OutsideSection line 3\n",
-            1,
-        ),
-        (
-            b"section a data process 4 1\nsection b data process 4 1\nsection c data process 4 1\nsection d data process 4 1\nsection e data process 4 1\nsection f data process 4 1\nsection g data process 4 1\nsection h data process 4 1\nsection i data process 4 1\n",
-            b"refused 48 TooMany line 9\n",
-            1,
-        ),
-        (
-            b"section d odd process 4 8\n",
-            b"refused 49 BadKind line 1\n",
-            1,
-        ),
-    ];
-    for (script, printed, status) in rows {
+    for row in SHOWN {
+        let (script, printed, status) = *row;
         assert_shows(rt.alloc(), script, printed, status)?;
     }
     Ok(())

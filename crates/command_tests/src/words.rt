@@ -3,35 +3,36 @@ use test_bench::runs::{Handed, assert_prints};
 use test_bench::scripts::EXAMPLE;
 
 /// Words that are no command, a request for help among them: the usage, and nothing is read or written.
+const NO_COMMANDS: &[&[&str]] = &[
+    &[],
+    &["load"],
+    &["load", "a"],
+    &["load", "=a"],
+    &["load", "it=a", "a"],
+    &["load", "--help"],
+    &["Show"],
+    &[""],
+    &["show", "it"],
+    &["show", ""],
+    &["link"],
+    &["link", "a"],
+    &["link", "a", "out", "b"],
+    &["list"],
+    &["list", "a", "b"],
+    &["list", "--help"],
+    &["check"],
+    &["check", "a"],
+    &["check", "a", "b", "c"],
+    &["--help"],
+    &["-h"],
+    &["help"],
+    &["--version"],
+    &["link", "--help"],
+];
+
 #[test]
 fn usage(rt: HostRuntime) -> Result<(), Fail> {
-    let rows: [&[&str]; 24] = [
-        &[],
-        &["load"],
-        &["load", "a"],
-        &["load", "=a"],
-        &["load", "it=a", "a"],
-        &["load", "--help"],
-        &["Show"],
-        &[""],
-        &["show", "it"],
-        &["show", ""],
-        &["link"],
-        &["link", "a"],
-        &["link", "a", "out", "b"],
-        &["list"],
-        &["list", "a", "b"],
-        &["list", "--help"],
-        &["check"],
-        &["check", "a"],
-        &["check", "a", "b", "c"],
-        &["--help"],
-        &["-h"],
-        &["help"],
-        &["--version"],
-        &["link", "--help"],
-    ];
-    for words in rows {
+    for words in NO_COMMANDS {
         let handed = Handed {
             file: EXAMPLE,
             ..Handed::input(words, EXAMPLE)

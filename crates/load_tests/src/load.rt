@@ -44,120 +44,121 @@ const SCRIPTS: [(&str, &str); 14] = [
 ];
 
 /// Containers of libraries and of fragments that need them: what `load` prints of them, and its status.
+const LOADS: &[(&[&str], &[u8], u8)] = &[
+    (
+        &["load", "x=vectors"],
+        b"fragment x\nsection 0 at 00010000 size 8\n00010000 00112233 44556677\nsection 1 at 00010010 size 16\n00010010 00010000 00010010 00010004 00010010\nmain 00010010\n",
+        0,
+    ),
+    // a fragment that none needs isn't prepared; a file that is no container may be one
+    (
+        &["load", "A=user", "B=user", "C=text", "L=library"],
+        b"fragment L\nsection 0 at 00010000 size 4\n00010000 0000002A\nfragment A\nsection 0 at 00010010 size 4\n00010010 00010000\n",
+        0,
+    ),
+    (
+        &["load", "A=user", "L=fixed"],
+        b"fragment L\nsection 0 at 00010000 size 4\n00010000 0001002A\nfragment A\nsection 0 at 00010010 size 4\n00010010 00010000\n",
+        0,
+    ),
+    (
+        &["load", "L=fixed", "A=user"],
+        b"fragment L\nsection 0 at 00010000 size 4\n00010000 0001002A\n",
+        0,
+    ),
+    (
+        &["load", "A=weak-symbol", "L=library"],
+        b"fragment L\nsection 0 at 00010000 size 4\n00010000 0000002A\nfragment A\nsection 0 at 00010010 size 4\n00010010 00000007\n",
+        0,
+    ),
+    (
+        &["load", "A=weak-library"],
+        b"fragment A\nsection 0 at 00010000 size 4\n00010000 00000007\n",
+        0,
+    ),
+    (
+        &["load", "A=strong-symbol", "L=library"],
+        b"refused 62 SymbolMissing in A library L symbol w\n",
+        1,
+    ),
+    (
+        &["load", "A=user"],
+        b"refused 61 LibraryMissing in A library L\n",
+        1,
+    ),
+    (
+        &["load", "A=old", "L=library"],
+        b"refused 63 ImplementationTooOld in A library L\n",
+        1,
+    ),
+    (
+        &["load", "A=new", "L=grown"],
+        b"refused 64 ImplementationTooNew in A library L\n",
+        1,
+    ),
+    (
+        &["load", "A=before-b", "B=before-a"],
+        b"refused 66 InitLoop in B\n",
+        1,
+    ),
+    (
+        &["load", "A=first", "L=second"],
+        b"fragment L\nsection 0 at 00010000 size 16\n00010000 00000000 00000000 00000000 00000000\nfragment A\nsection 0 at 00010010 size 16\n00010010 00000000 00000000 00000000 00000000\ninit A 00010010\ninit L 00010004\nmain 00010014\nterm L 0001000C\nterm A 00010018\n",
+        0,
+    ),
+    // the same fragments, of which the other is the root
+    (
+        &["load", "L=second", "A=first"],
+        b"fragment A\nsection 0 at 00010000 size 16\n00010000 00000000 00000000 00000000 00000000\nfragment L\nsection 0 at 00010010 size 16\n00010010 00000000 00000000 00000000 00000000\ninit A 00010000\ninit L 00010014\nmain 00010010\nterm L 0001001C\nterm A 00010008\n",
+        0,
+    ),
+    // names are escaped; a path may have a `=`
+    (
+        &["load", "a b=odd-name", "a%b=x=y"],
+        b"fragment a%25b\nfragment a%20b\n",
+        0,
+    ),
+    (
+        &["load", "a b=odd-name"],
+        b"refused 61 LibraryMissing in a%20b library a%25b\n",
+        1,
+    ),
+    // of pairs with one name the first counts, and all files are read
+    (
+        &["load", "A=user", "L=library", "L=fixed", "A=old"],
+        b"fragment L\nsection 0 at 00010000 size 4\n00010000 0000002A\nfragment A\nsection 0 at 00010010 size 4\n00010010 00010000\n",
+        0,
+    ),
+    (
+        &["load", "A=text", "B=user", "A=missing"],
+        b"refused 71 FileUnreadable missing\n",
+        1,
+    ),
+    (
+        &["load", "x=missing"],
+        b"refused 71 FileUnreadable missing\n",
+        1,
+    ),
+    (&["load", "x="], b"refused 71 FileUnreadable \n", 1),
+    (&["load", "x=a b"], b"refused 71 FileUnreadable a%20b\n", 1),
+    (&["load", "x=text"], b"refused 1 TooShort in x\n", 1),
+    // also a weak library that can't be read is refused
+    (
+        &["load", "A=weak-library", "L=text"],
+        b"refused 1 TooShort in L\n",
+        1,
+    ),
+    // a relocation header of more halfwords than the program has: the second names section 367
+    (
+        &["load", "x=longer"],
+        b"refused 39 SectionOutside in x\n",
+        1,
+    ),
+    (&["load", "x=vectors", "y"], b"usage\n", 2),
+];
+
 #[test]
 fn load(rt: HostRuntime) -> Result<(), Fail> {
-    let rows: [(&[&str], &[u8], u8); 24] = [
-        (
-            &["load", "x=vectors"],
-            b"fragment x\nsection 0 at 00010000 size 8\n00010000 00112233 44556677\nsection 1 at 00010010 size 16\n00010010 00010000 00010010 00010004 00010010\nmain 00010010\n",
-            0,
-        ),
-        // a fragment that none needs isn't prepared; a file that is no container may be one
-        (
-            &["load", "A=user", "B=user", "C=text", "L=library"],
-            b"fragment L\nsection 0 at 00010000 size 4\n00010000 0000002A\nfragment A\nsection 0 at 00010010 size 4\n00010010 00010000\n",
-            0,
-        ),
-        (
-            &["load", "A=user", "L=fixed"],
-            b"fragment L\nsection 0 at 00010000 size 4\n00010000 0001002A\nfragment A\nsection 0 at 00010010 size 4\n00010010 00010000\n",
-            0,
-        ),
-        (
-            &["load", "L=fixed", "A=user"],
-            b"fragment L\nsection 0 at 00010000 size 4\n00010000 0001002A\n",
-            0,
-        ),
-        (
-            &["load", "A=weak-symbol", "L=library"],
-            b"fragment L\nsection 0 at 00010000 size 4\n00010000 0000002A\nfragment A\nsection 0 at 00010010 size 4\n00010010 00000007\n",
-            0,
-        ),
-        (
-            &["load", "A=weak-library"],
-            b"fragment A\nsection 0 at 00010000 size 4\n00010000 00000007\n",
-            0,
-        ),
-        (
-            &["load", "A=strong-symbol", "L=library"],
-            b"refused 62 SymbolMissing in A library L symbol w\n",
-            1,
-        ),
-        (
-            &["load", "A=user"],
-            b"refused 61 LibraryMissing in A library L\n",
-            1,
-        ),
-        (
-            &["load", "A=old", "L=library"],
-            b"refused 63 ImplementationTooOld in A library L\n",
-            1,
-        ),
-        (
-            &["load", "A=new", "L=grown"],
-            b"refused 64 ImplementationTooNew in A library L\n",
-            1,
-        ),
-        (
-            &["load", "A=before-b", "B=before-a"],
-            b"refused 66 InitLoop in B\n",
-            1,
-        ),
-        (
-            &["load", "A=first", "L=second"],
-            b"fragment L\nsection 0 at 00010000 size 16\n00010000 00000000 00000000 00000000 00000000\nfragment A\nsection 0 at 00010010 size 16\n00010010 00000000 00000000 00000000 00000000\ninit A 00010010\ninit L 00010004\nmain 00010014\nterm L 0001000C\nterm A 00010018\n",
-            0,
-        ),
-        // the same fragments, of which the other is the root
-        (
-            &["load", "L=second", "A=first"],
-            b"fragment A\nsection 0 at 00010000 size 16\n00010000 00000000 00000000 00000000 00000000\nfragment L\nsection 0 at 00010010 size 16\n00010010 00000000 00000000 00000000 00000000\ninit A 00010000\ninit L 00010014\nmain 00010010\nterm L 0001001C\nterm A 00010008\n",
-            0,
-        ),
-        // names are escaped; a path may have a `=`
-        (
-            &["load", "a b=odd-name", "a%b=x=y"],
-            b"fragment a%25b\nfragment a%20b\n",
-            0,
-        ),
-        (
-            &["load", "a b=odd-name"],
-            b"refused 61 LibraryMissing in a%20b library a%25b\n",
-            1,
-        ),
-        // of pairs with one name the first counts, and all files are read
-        (
-            &["load", "A=user", "L=library", "L=fixed", "A=old"],
-            b"fragment L\nsection 0 at 00010000 size 4\n00010000 0000002A\nfragment A\nsection 0 at 00010010 size 4\n00010010 00010000\n",
-            0,
-        ),
-        (
-            &["load", "A=text", "B=user", "A=missing"],
-            b"refused 71 FileUnreadable missing\n",
-            1,
-        ),
-        (
-            &["load", "x=missing"],
-            b"refused 71 FileUnreadable missing\n",
-            1,
-        ),
-        (&["load", "x="], b"refused 71 FileUnreadable \n", 1),
-        (&["load", "x=a b"], b"refused 71 FileUnreadable a%20b\n", 1),
-        (&["load", "x=text"], b"refused 1 TooShort in x\n", 1),
-        // also a weak library that can't be read is refused
-        (
-            &["load", "A=weak-library", "L=text"],
-            b"refused 1 TooShort in L\n",
-            1,
-        ),
-        // a relocation header of more halfwords than the program has: the second names section 367
-        (
-            &["load", "x=longer"],
-            b"refused 39 SectionOutside in x\n",
-            1,
-        ),
-        (&["load", "x=vectors", "y"], b"usage\n", 2),
-    ];
     let alloc = rt.alloc();
     let mut papers = Papers::new(alloc, 0, FileFault::Failed);
     for (path, script) in SCRIPTS {
@@ -168,7 +169,8 @@ fn load(rt: HostRuntime) -> Result<(), Fail> {
     let longer = changed(alloc, VECTORS_LEAST, At::Front(223), b"\x02")?;
     put_file(&mut papers, "longer", longer.as_slice())?;
     put_file(&mut papers, "text", b"versions 1 0 0\n")?;
-    for (words, printed, status) in rows {
+    for row in LOADS {
+        let (words, printed, status) = *row;
         assert_prints_over(alloc, &mut papers, words, printed, status)?;
     }
     Ok(())
