@@ -1,4 +1,4 @@
-use cfm_closure::{Closure, Store, Target, closure};
+use cfm_closure::{BindFault, Closure, Store, Target, closure};
 use std::alloc::{AllocError, Global};
 use std::fmt::Write;
 use std::process::Abort;
@@ -20,42 +20,60 @@ pub(crate) fn told_of_pairs(
     alloc: Global,
     pairs: &[(&str, &[u8])],
 ) -> Result<String, Fail> {
+    let store = store_of_pairs(alloc, pairs)?;
+    told_of(rt, alloc, &store)
+}
+
+/// A store of fragments with these names and bytes.
+fn store_of_pairs<'a>(alloc: Global, pairs: &[(&'a str, &'a [u8])]) -> Result<Store<'a>, Fail> {
     let mut store = Store::new(alloc);
     for pair in pairs {
         let (name, bytes) = *pair;
         add(&mut store, name, bytes)?;
     }
-    told_of(rt, alloc, &store)
+    Ok(store)
 }
 
 /// The same of a store.
 fn told_of(rt: &impl Abort, alloc: Global, store: &Store<'_>) -> Result<String, Fail> {
     assert!(rt; !store.is_empty());
+    let text = match closure(alloc, store, 0) {
+        Ok(closure) => told_closure(alloc, closure)?,
+        Err(fault) => told_fault(alloc, fault)?,
+    };
+    Ok(text)
+}
+
+/// A refusal by its number and its name, with the names that it tells.
+fn told_fault(alloc: Global, fault: BindFault<'_>) -> Result<String, AllocError> {
+    let mut text = format!(in alloc; "{} {fault}", fault.number())?;
+    tell_names(&mut text, fault)?;
+    Ok(text)
+}
+
+fn told_closure(alloc: Global, closure: Closure<'_>) -> Result<String, AllocError> {
     let mut text = String::new(alloc);
-    match closure(alloc, store, 0) {
-        Ok(closure) => tell(&mut text, &closure)?,
-        Err(fault) => {
-            write!(text, "{} {fault}", fault.number())?;
-            tell_names(&mut text, fault)?;
-        }
-    }
+    tell(&mut text, &closure)?;
     Ok(text)
 }
 
 fn tell(text: &mut String, closure: &Closure<'_>) -> Result<(), AllocError> {
     text.push_str("order")?;
-    for p in closure.order() {
-        write!(text, " {p}")?;
-    }
+    tell_places(text, closure.order())?;
     text.push_str(", init")?;
-    for p in closure.init_order() {
-        write!(text, " {p}")?;
-    }
+    tell_places(text, closure.init_order())?;
     for p in closure.order() {
         for j in 0..closure.loader(*p).header().import_count as usize {
             write!(text, ", {p}.{j}")?;
             tell_target(text, closure.target(*p, j))?;
         }
+    }
+    Ok(())
+}
+
+fn tell_places(text: &mut String, places: &[usize]) -> Result<(), AllocError> {
+    for p in places {
+        write!(text, " {p}")?;
     }
     Ok(())
 }

@@ -17,26 +17,60 @@ fn script(alloc: Global, from: usize, to: usize) -> Result<String, AllocError> {
     Ok(text)
 }
 
-/// The closure of the first of 256 fragments has the last one first, also in the order of initialization.
-fn reversed(
-    rt: &impl Abort,
+/// A container that needs the fragments of a range.
+fn needing(alloc: Global, from: usize, to: usize) -> Result<Vec<u8>, Fail> {
+    let text = script(alloc, from, to)?;
+    container(alloc, text.as_str(), &[])
+}
+
+/// The containers of all fragments, of which each needs all, or just the next one.
+fn containers(alloc: Global, is_complete: bool) -> Result<Vec<Vec<u8>>, Fail> {
+    let mut containers = Vec::new(alloc);
+    for p in 0..FRAGMENTS {
+        let next = p.wrapping_add(1);
+        let (from, to) = if is_complete {
+            (0, FRAGMENTS)
+        } else {
+            (next, next.wrapping_add(1))
+        };
+        containers.push(needing(alloc, from, to)?)?;
+    }
+    Ok(containers)
+}
+
+/// The names of all fragments.
+fn names(alloc: Global) -> Result<Vec<String>, AllocError> {
+    let mut names = Vec::new(alloc);
+    for p in 0..FRAGMENTS {
+        names.push(format!(in alloc; "f{p}")?)?;
+    }
+    Ok(names)
+}
+
+/// The store of these fragments.
+fn store_of_all<'a>(
     alloc: Global,
-    names: &[String],
-    containers: &[Vec<u8>],
-) -> Result<(), Fail> {
+    names: &'a [String],
+    containers: &'a [Vec<u8>],
+) -> Result<Store<'a>, Fail> {
     let mut store = Store::new(alloc);
     for (name, bytes) in names.iter().zip(containers) {
         add(&mut store, name, bytes)?;
     }
-    assert!(rt; store.len() == FRAGMENTS);
-    match closure(alloc, &store, 0) {
-        Ok(closure) => test_reversed(rt, &closure),
-        Err(fault) => panic!(rt; "{fault}"),
-    }
-    Ok(())
+    Ok(store)
 }
 
-fn test_reversed(rt: &impl Abort, closure: &Closure<'_>) {
+/// Tests the closure of the first of 256 fragments.
+fn test_first(rt: &impl Abort, alloc: Global, store: &Store<'_>) {
+    assert!(rt; store.len() == FRAGMENTS);
+    match closure(alloc, store, 0) {
+        Ok(closure) => test_reversed(rt, closure),
+        Err(fault) => panic!(rt; "{fault}"),
+    }
+}
+
+/// The last fragment comes first, also in the order of initialization.
+fn test_reversed(rt: &impl Abort, closure: Closure<'_>) {
     assert!(rt; closure.order().len() == FRAGMENTS);
     for (i, p) in closure.order().iter().enumerate() {
         assert!(rt; p.wrapping_add(i) == 255);
@@ -47,21 +81,11 @@ fn test_reversed(rt: &impl Abort, closure: &Closure<'_>) {
 /// Each fragment needs the next one, and each needs all.
 #[test]
 fn chain_and_complete_graph(rt: HostRuntime) -> Result<(), Fail> {
-    let alloc = rt.alloc();
-    let mut names = Vec::new(alloc);
-    let mut chain = Vec::new(alloc);
-    let mut complete = Vec::new(alloc);
-    for p in 0..FRAGMENTS {
-        let next = p.wrapping_add(1);
-        names.push(format!(in alloc; "f{p}")?)?;
-        chain.push(container(
-            alloc,
-            script(alloc, next, next.wrapping_add(1))?.as_str(),
-            &[],
-        )?)?;
-        complete.push(container(alloc, script(alloc, 0, FRAGMENTS)?.as_str(), &[])?)?;
+    let names = names(rt.alloc())?;
+    for is_complete in [false, true] {
+        let containers = containers(rt.alloc(), is_complete)?;
+        let store = store_of_all(rt.alloc(), &names, &containers)?;
+        test_first(&rt, rt.alloc(), &store);
     }
-    reversed(&rt, alloc, &names, &chain)?;
-    reversed(&rt, alloc, &names, &complete)?;
     Ok(())
 }
