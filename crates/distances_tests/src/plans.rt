@@ -76,9 +76,10 @@ fn planned(
     script: &Script,
     section: u32,
 ) -> Result<Certificate, Fail> {
-    let fixups = script.fixups(section as usize).ok_or("no such section")?;
-    assert!(rt; fixups_fit(fixups));
-    Ok(plan(alloc, section, fixups)?)
+    let sections = &script.parts().sections;
+    let described = sections.get(section as usize).ok_or("no such section")?;
+    assert!(rt; fixups_fit(&described.fixups));
+    Ok(plan(alloc, section, &described.fixups)?)
 }
 
 /// Whether two certificates have the same parts.

@@ -167,16 +167,17 @@ term code 4
 
 /// How many libraries, imports, sections and exports there are.
 fn counts(script: &Script) -> (usize, usize, usize, usize) {
+    let parts = script.parts();
     (
-        script.libraries(),
-        script.imports(),
-        script.sections(),
-        script.exports(),
+        parts.libraries.len(),
+        parts.imports.len(),
+        parts.sections.len(),
+        parts.exports.len(),
     )
 }
 
 fn versions(script: &Script) -> (u32, u32, u32) {
-    let versions = script.versions();
+    let versions = script.parts().versions;
     (versions.current, versions.old_def, versions.old_imp)
 }
 
@@ -196,14 +197,26 @@ fn import<'a>(script: &Script<'a>, j: usize) -> Option<(&'a [u8], u8, bool, u32)
 }
 
 fn section<'a>(script: &Script<'a>, k: usize) -> Option<(&'a [u8], u8, u8, u8, u32)> {
-    let section = script.section(k)?;
+    let section = script.parts().sections.get(k)?;
+    let header = section.header;
     Some((
-        section.name,
-        section.kind,
-        section.share,
-        section.align,
-        section.total,
+        header.name,
+        header.kind,
+        header.share,
+        header.align,
+        header.total,
     ))
+}
+
+/// The bytes that section `k` begins with.
+fn image<'s>(script: &'s Script<'_>, k: usize) -> Option<&'s [u8]> {
+    let section = script.parts().sections.get(k)?;
+    Some(&section.image)
+}
+
+fn fixups<'s>(script: &'s Script<'_>, k: usize) -> Option<&'s [Fixup]> {
+    let section = script.parts().sections.get(k)?;
+    Some(&section.fixups)
 }
 
 fn export<'a>(script: &Script<'a>, e: usize) -> Option<(&'a [u8], u8, i32, u32)> {
@@ -223,7 +236,7 @@ fn has_tables(script: &Script) -> bool {
 }
 
 fn has_sections(script: &Script) -> bool {
-    let fixups = [
+    let data_fixups = [
         Fixup {
             offset: 0,
             base: Base::Section(0),
@@ -239,14 +252,13 @@ fn has_sections(script: &Script) -> bool {
     ];
     section(script, 1) == Some((b"data", 1, 1, 12, 16))
         && section(script, 2).is_none()
-        && script.image(0) == Some(&[0, 0x11])
-        && script.image(2).is_none()
-        && script.fixups(1) == Some(&fixups)
-        && script.fixups(2).is_none()
+        && image(script, 0) == Some(&[0, 0x11])
+        && fixups(script, 1) == Some(&data_fixups)
 }
 
 fn has_entries(script: &Script) -> bool {
-    script.main() == Some((1, 0)) && script.init().is_none() && script.term() == Some((0, 4))
+    let parts = script.parts();
+    parts.main == Some((1, 0)) && parts.init.is_none() && parts.term == Some((0, 4))
 }
 
 /// Tests the script of every line.
@@ -400,7 +412,7 @@ fn read_most_fixups(rt: HostRuntime) -> Result<(), Fail> {
 /// Tests how many there are of each in the script at all limits.
 fn test_most_of_all(rt: &impl Abort, script: &Script) {
     assert_eq!(rt; counts(script), (4096, 65_536, 8, 16_383));
-    assert_eq!(rt; script.fixups(7).unwrap_or(&[]).len(), 16_384);
+    assert_eq!(rt; fixups(script, 7).unwrap_or(&[]).len(), 16_384);
 }
 
 /// Tests the script at all limits, which is read from this text.

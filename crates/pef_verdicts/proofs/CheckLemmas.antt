@@ -1,8 +1,7 @@
 -- Verdicts that are said one after the other.
-use Rattle.std.proofs.Common.{◌≡◌, ◌<◌, ◌≤◌, ℕ, zero, suc, ◌+◌, List, [], ◌∷◌, ◌++◌, Some, Result, Ok, drop, get_or, length, option_map, slice_get, refl, sym, ap, subst, ◌∙◌, append_assoc, arith}
+use Rattle.std.proofs.Common.{◌≡◌, ◌<◌, ◌≤◌, ℕ, ◌+◌, List, [], ◌∷◌, ◌++◌, Result, Ok, drop, get_or, length, sym, ap, subst, ◌∙◌, append_assoc, arith}
 use Rattle.std.proofs.lemmas.List.{append-nil, at_drop_more, drop_all}
 use Rattle.pef_labels.specs.Certified.{Certified}
-use Rattle.pef_reloc.specs.declared.fixup.Fixup.{Fixup}
 use Rattle.pef_script.specs.Script.{DescribedSection}
 use Rattle.pef_ports.specs.Ports.{FilesPort, Reads}
 use Rattle.pef_ports.specs.declared.ports.FileFault.{FileFault}
@@ -17,32 +16,14 @@ AreSoFar sections certificates k verdicts = (rest : List Verdict) → AreVerdict
 pub none_said : (sections : List DescribedSection) (certificates : List Certified) (verdicts : List Verdict) → verdicts ≡ [] → AreSoFar sections certificates 0 verdicts
 none_said sections certificates verdicts none rest are = subst (λ (vs : List Verdict). AreVerdicts sections certificates (vs ++ rest)) (sym none) are
 
--- the section whose fixups were found is the next one
-record IsNext (sections : List DescribedSection) (k : ℕ) (fixups : List Fixup) : Type 0 where
-  section : DescribedSection
-  has : fixups ≡ section.fixups
-  next : drop k sections ≡ section ∷ drop (k + 1) sections
-
-some_is : (a b : List Fixup) → Some a ≡ Some b → a ≡ b
-some_is a b same = cc
-
-next_section : (sections : List DescribedSection) (k : ℕ) (fixups : List Fixup) → Some fixups ≡ option_map (λ (s : DescribedSection). s.fixups) (slice_get sections k) → IsNext sections k fixups
-next_section [] k fixups found = absurd (cc)
-next_section (s ∷ sections) zero fixups found = record { section = s; has = some_is fixups s.fixups found; next = refl }
-next_section (s ∷ sections) (suc k) fixups found =
-    let behind = next_section sections k fixups found in
-    let more : suc k + 1 ≡ suc (k + 1) = omega arith in
-    record { section = behind.section; has = behind.has; next = behind.next ∙ ap (λ n. behind.section ∷ drop n (s ∷ sections)) (sym more) }
-
-pub one_said : (sections : List DescribedSection) (certificates : List Certified) (k : ℕ) (verdicts : List Verdict) (fixups : List Fixup) (c d : Certified) (v : Verdict)
-    → AreSoFar sections certificates k verdicts → Some fixups ≡ option_map (λ (s : DescribedSection). s.fixups) (slice_get sections k) → k < length certificates → c ≡ get_or certificates k d → IsVerdict fixups c v
+pub one_said : (sections : List DescribedSection) (certificates : List Certified) (k : ℕ) (verdicts : List Verdict) (s e : DescribedSection) (c d : Certified) (v : Verdict)
+    → AreSoFar sections certificates k verdicts → length certificates ≡ length sections → k < length certificates → s ≡ get_or sections k e → c ≡ get_or certificates k d → IsVerdict s.fixups c v
     → AreSoFar sections certificates (k + 1) (verdicts ++ v ∷ [])
-one_said sections certificates k verdicts fixups c d v before found under element is rest are =
+one_said sections certificates k verdicts s e c d v before same under section element is rest are =
     let next = at_drop_more (λ (cs : List Certified). cs) certificates k d under ∙ ap (λ (x : Certified). x ∷ drop (k + 1) certificates) (sym element) in
-    let at = next_section sections k fixups found in
-    let here = subst (λ (f : List Fixup). IsVerdict f c v) at.has is in
-    let both : AreVerdicts (at.section ∷ drop (k + 1) sections) (c ∷ drop (k + 1) certificates) (v ∷ rest) = (here, are) in
-    let one = subst (λ (ss : List DescribedSection). AreVerdicts ss (c ∷ drop (k + 1) certificates) (v ∷ rest)) (sym at.next) both in
+    let here = at_drop_more (λ (ss : List DescribedSection). ss) sections k e (omega (arith, same, under)) ∙ ap (λ (x : DescribedSection). x ∷ drop (k + 1) sections) (sym section) in
+    let both : AreVerdicts (s ∷ drop (k + 1) sections) (c ∷ drop (k + 1) certificates) (v ∷ rest) = (is, are) in
+    let one = subst (λ (ss : List DescribedSection). AreVerdicts ss (c ∷ drop (k + 1) certificates) (v ∷ rest)) (sym here) both in
     let two = subst (λ (cs : List Certified). AreVerdicts (drop k sections) cs (v ∷ rest)) (sym next) one in
     subst (λ (vs : List Verdict). AreVerdicts sections certificates vs) (sym (append_assoc verdicts (v ∷ []) rest)) (before (v ∷ rest) two)
 

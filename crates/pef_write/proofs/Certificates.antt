@@ -1,10 +1,9 @@
 -- Certificates for the sections of a script: their programs are programs for the sections, and least ones.
-use Rattle.std.proofs.Common.{◌≡◌, ◌∙◌, ℕ, zero, suc, ◌+◌, ◌<◌, Bool, true, false, ◌&&◌, ◌||◌, List, [], ◌∷◌, ◌++◌, None, Some, option_map, slice_get, length, take, map, refl, sym, ap, subst, arith}
+use Rattle.std.proofs.Common.{◌≡◌, ◌∙◌, ℕ, suc, ◌+◌, ◌<◌, Bool, true, false, ◌&&◌, ◌||◌, List, [], ◌∷◌, ◌++◌, get_or, length, take, map, refl, sym, ap, subst, arith}
 use Rattle.std.specs.List.{All, AllByRecursion}
 use Rattle.std.proofs.lemmas.Bool.{eqb-true, lt-ltb}
-use Rattle.std.proofs.lemmas.List.{length-append, length-take-le, take_all, take_more}
+use Rattle.std.proofs.lemmas.List.{length-take-le, take_more}
 use Rattle.std.proofs.lemmas.List.Elements.{All-cons}
-use Rattle.std.proofs.lemmas.Option.{get_or_from_slice_get, slice_get_within}
 use Rattle.pef_labels.specs.Certified.{Certified}
 use Rattle.pef_cert.proofs.Laws.{valid-least}
 use Rattle.pef_plan.proofs.Laws.{least-names, least-short}
@@ -19,7 +18,6 @@ use Rattle.pef_script.specs.Script.{DescribedSection}
 use Rattle.pef_script.specs.WellFormed.{BaseThere, SectionHolds}
 use Rattle.pef_words.proofs.Laws.Tests.{both_met, met_both}
 use Rattle.pef_write.specs.Linked.{AreCertified, AreProgramsFor, IsCertified, IsProgramFor}
-use Rattle.pef_write.proofs.Listing.{none_past}
 
 -- a section that fixups use is there
 base_there : (n j k : ℕ) (b : Base) → BaseThere n j b → is_section k b ≡ true → k < n
@@ -87,34 +85,12 @@ certified_behind k (t ∷ sections) (d ∷ certificates) s c are is =
     let at : k + suc (length sections) ≡ k + 1 + length sections = omega arith in
     (are.0, certified_behind (k + 1) sections certificates s c are.1 (subst (λ n. IsCertified n s.fixups c) at is))
 
--- the section that fixups are of
-pub section_with : (sections : List DescribedSection) (n : ℕ) (fixups : List Fixup) → Some fixups ≡ option_map (λ section. section.fixups) (slice_get sections n) → (s : DescribedSection) × (slice_get sections n ≡ Some s) × (s.fixups ≡ fixups)
-section_with [] n fixups found = absurd (cc)
-section_with (s ∷ sections) zero fixups found = (s, refl, cc)
-section_with (s ∷ sections) (suc n) fixups found = section_with sections n fixups found
-
-pub section_under : (sections : List DescribedSection) (n : ℕ) (fixups : List Fixup) → Some fixups ≡ option_map (λ section. section.fixups) (slice_get sections n) → n < length sections
-section_under sections n fixups found = (let s = section_with sections n fixups found in slice_get_within sections n s.0 s.1)
-
-pub no_section : (sections : List DescribedSection) (n : ℕ) → None ≡ option_map (λ section. section.fixups) (slice_get sections n) → slice_get sections n ≡ None
-no_section [] n none = refl
-no_section (s ∷ sections) zero none = absurd (cc)
-no_section (s ∷ sections) (suc n) none = no_section sections n none
-
 -- certificates so far, and one more
-pub certified_more : (sections : List DescribedSection) (done now : List Certified) (fixups : List Fixup) (c : Certified) → now ≡ done ++ c ∷ [] → Some fixups ≡ option_map (λ section. section.fixups) (slice_get sections (length done)) → IsCertified (length done) fixups c
-    → AreCertified 0 (take (length done) sections) done → AreCertified 0 (take (length now) sections) now
-certified_more sections done now fixups c pushed found is are =
-    let s = section_with sections (length done) fixups found in
-    let under = slice_get_within sections (length done) s.0 s.1 in
-    let size : length now ≡ length done + 1 = ap length pushed ∙ length-append done (c ∷ []) in
-    let taken : take (length now) sections ≡ take (length done) sections ++ s.0 ∷ [] =
-    ap (λ n. take n sections) size ∙ take_more sections (length done) s.0 under ∙ ap (λ x. take (length done) sections ++ x ∷ []) (get_or_from_slice_get sections (length done) s.0 s.0 s.1) in
-    let at : length done ≡ 0 + length (take (length done) sections) = omega (arith, length-take-le (length done) sections (omega (arith, under))) in
-    let own : IsCertified (0 + length (take (length done) sections)) s.0.fixups c = subst (λ n. IsCertified n s.0.fixups c) at (subst (λ fs. IsCertified (length done) fs c) (sym s.2) is) in
-    subst (λ cs. AreCertified 0 (take (length now) sections) cs) (sym pushed)
-    (subst (λ ss. AreCertified 0 ss (done ++ c ∷ [])) (sym taken) (certified_behind 0 (take (length done) sections) done s.0 c are own))
-
-pub certified_all : (sections : List DescribedSection) (done : List Certified) → None ≡ option_map (λ section. section.fixups) (slice_get sections (length done)) → AreCertified 0 (take (length done) sections) done → AreCertified 0 sections done
-certified_all sections done none are =
-    subst (λ (ss : List DescribedSection). AreCertified 0 ss done) (take_all (length done) sections (none_past sections (length done) (no_section sections (length done) none))) are
+pub certified_more : (sections : List DescribedSection) (k : ℕ) (s d : DescribedSection) (done now : List Certified) (c : Certified) → k < length sections → s ≡ get_or sections k d → IsCertified k s.fixups c → now ≡ done ++ c ∷ []
+    → AreCertified 0 (take k sections) done → AreCertified 0 (take (k + 1) sections) now
+certified_more sections k s d done now c under found is pushed are =
+    let taken : take (k + 1) sections ≡ take k sections ++ s ∷ [] = take_more sections k d under ∙ ap (λ x. take k sections ++ x ∷ []) (sym found) in
+    let at : k ≡ 0 + length (take k sections) = omega (arith, length-take-le k sections (omega (arith, under))) in
+    let own : IsCertified (0 + length (take k sections)) s.fixups c = subst (λ n. IsCertified n s.fixups c) at is in
+    subst (λ cs. AreCertified 0 (take (k + 1) sections) cs) (sym pushed)
+    (subst (λ ss. AreCertified 0 ss (done ++ c ∷ [])) (sym taken) (certified_behind 0 (take k sections) done s c are own))

@@ -14,27 +14,9 @@ none_past [] n none = omega arith
 none_past (x ∷ xs) zero none = absurd (cc)
 none_past (x ∷ xs) (suc n) none = (let later = none_past xs n none in omega arith)
 
--- what is listed and what is left make the whole, also when one more is listed
-pub listed-more : {A B : Type 0} (f : A → B) (xs : List B) (done now : List A) (x : A) → now ≡ done ++ x ∷ [] → slice_get xs (length done) ≡ Some (f x)
-    → map f done ++ drop (length done) xs ≡ xs → map f now ++ drop (length now) xs ≡ xs
-listed-more f xs done now x pushed found all =
-    let here = drop-here xs (length done) (f x) found in
-    let size : length now ≡ length done + 1 = ap length pushed ∙ length-append done (x ∷ []) in
-    let seen : map f now ≡ map f done ++ f x ∷ [] = ap (map f) pushed ∙ map-append f done (x ∷ []) in
-    rw (size, seen) (append_assoc (map f done) (f x ∷ []) (drop (length done + 1) xs) ∙ ap (λ z. map f done ++ z) (sym here) ∙ all)
-
--- .. and where nothing is left the whole is listed
-pub listed-all : {A B : Type 0} (f : A → B) (xs : List B) (done : List A) → slice_get xs (length done) ≡ None → map f done ++ drop (length done) xs ≡ xs → map f done ≡ xs
-listed-all f xs done none all =
-    sym (append-nil (map f done)) ∙ ap (λ z. map f done ++ z) (sym (drop_all (length done) xs (none_past xs (length done) none))) ∙ all
-
 -- what is found of a list that is seen otherwise
 pub found-as : {A B : Type 0} (g : A → B) (xs : List A) (n m : ℕ) (y : Option B) → n ≡ m → y ≡ option_map g (slice_get xs n) → slice_get (map g xs) m ≡ y
 found-as g xs n m y same seen = ap (slice_get (map g xs)) (sym same) ∙ slice_get-map g xs n ∙ sym seen
-
-pub option_map-twice : {A B C : Type 0} (f : B → C) (g : A → B) (o : Option A) → option_map f (option_map g o) ≡ option_map (λ x. f (g x)) o
-option_map-twice f g None = refl
-option_map-twice f g (Some x) = refl
 
 -- one element more is listed of those that are mapped, and at the end all are
 pub mapped-more : {A B : Type 0} (g : A → B) (xs : List A) (i : ℕ) (d : A) (done now whole : List B) → i < length xs → now ≡ done ++ g (get_or xs i d) ∷ [] → done ++ map g (drop i xs) ≡ whole → now ++ map g (drop (i + 1) xs) ≡ whole

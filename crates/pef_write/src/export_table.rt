@@ -12,7 +12,7 @@ pub(crate) fn export_table(alloc: Global, script: &Script<'_>) -> Result<Table, 
     ensures { IfOk result (λ table. table ≡ built (export_names script.now)) }
 {
     let mut names = Vec::new(alloc);
-    let mut lengths = Vec::with_capacity(alloc, script.exports())?;
+    let mut lengths = Vec::with_capacity(alloc, script.parts().exports.len())?;
     'exports: while let Some(export) = script.export(lengths.len()) {
         names.extend_from_slice(export.name)?;
         lengths.push(export.name.len() as u8)?;

@@ -47,7 +47,7 @@ pub fn link(alloc: Global, script: &Script<'_>) -> Result<Linked, LinkFault>
     let own = section_programs(alloc, &programs)?;
     let loader = write_loader(alloc, script, &own)?;
     let parts = parts(alloc, script)?;
-    let bytes = write_container(alloc, script.versions(), &parts, &loader)?;
+    let bytes = write_container(alloc, script.parts().versions, &parts, &loader)?;
     Ok(Linked {
         bytes,
         lengths,

@@ -1,8 +1,8 @@
-ghost use Rattle.std.specs.Prelude.{◌≡◌, IfOk, map, option_map, slice_get};
+ghost use Rattle.std.specs.Prelude.{◌≡◌, IfOk, map};
 ghost use Rattle.pef_write.specs.Kept.Views.{described};
 ghost use Rattle.pef_write.specs.Linked.{linked_parts, part_of};
 
-use pef_script::Script;
+use pef_script::{Script, Section};
 use std::alloc::{AllocError, Global};
 
 /// An instantiated section without a name.
@@ -23,24 +23,24 @@ pub(crate) struct Part<'a> {
 pub(crate) fn parts<'s>(alloc: Global, script: &'s Script<'_>) -> Result<Vec<Part<'s>>, AllocError>
     ensures { IfOk result (λ parts. map described parts.items ≡ linked_parts script.entry.now) }
 {
-    let mut parts = Vec::with_capacity(alloc, script.sections())?;
-    'sections: while let Some(part) = part_at(script, parts.len()) {
-        parts.push(part)?;
+    let sections = &script.parts().sections;
+    let mut parts = Vec::with_capacity(alloc, sections.len())?;
+    for section in sections {
+        parts.push(part_of(section))?;
     }
     Ok(parts)
 }
 
-/// The part that section `k` becomes.
-fn part_at<'s>(script: &'s Script<'_>, k: usize) -> Option<Part<'s>>
-    ensures { option_map described result ≡ option_map part_of (slice_get script.entry.now.sections k) }
+/// The part that a section becomes.
+fn part_of<'s>(section: &'s Section<'_>) -> Part<'s>
+    ensures { described result ≡ part_of section.entry.now }
 {
-    let header = script.section(k)?;
-    let image = script.image(k)?;
-    Some(Part {
+    let header = section.header;
+    Part {
         kind: header.kind,
         share: header.share,
         align: header.align,
         total: header.total,
-        image,
-    })
+        image: &section.image,
+    }
 }

@@ -18,10 +18,10 @@ pub(crate) fn certificates(
 ) -> Result<Vec<Certificate>, LinkFault>
     ensures { IfOk result (λ certificates. HasCertificates script.now certificates.items) }
 {
-    let mut certificates = Vec::with_capacity(alloc, script.sections())?;
-    'sections: while let Some(fixups) = script.fixups(certificates.len()) {
-        let section = certificates.len() as u32;
-        certificates.push(plan(alloc, section, fixups)?)?;
+    let sections = &script.parts().sections;
+    let mut certificates = Vec::with_capacity(alloc, sections.len())?;
+    for (k, section) in sections.iter().enumerate() {
+        certificates.push(plan(alloc, k as u32, &section.fixups)?)?;
     }
     Ok(certificates)
 }

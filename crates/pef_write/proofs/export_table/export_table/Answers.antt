@@ -14,8 +14,8 @@ exports-preserved c =
     let names = export_names c.args.script.now in
     let n = length c.exports.lengths.items in
     let name = c.in-Some.export.name.now in
-    let at : c.len.result ≡ length c.exports.lengths.items = omega arith in
-    let found = found-as (λ (symbol : DescribedExport). symbol.name) c.args.script.now.exports c.len.result n _ at (ap (option_map (λ (symbol : DescribedExport). symbol.name)) c.in-Some.ensures) in
+    let at : c.len-in-exports.result ≡ length c.exports.lengths.items = omega arith in
+    let found = found-as (λ (symbol : DescribedExport). symbol.name) c.args.script.now.exports c.len-in-exports.result n _ at (ap (option_map (λ (symbol : DescribedExport). symbol.name)) c.in-Some.ensures) in
     let here = drop-here names n name found in
     let size : length c.push.new.self.items ≡ n + 1 = ap length c.in_ok-push.ensures.items ∙ length-append c.exports.lengths.items (length name ∷ []) in
     record {
@@ -26,15 +26,15 @@ exports-preserved c =
 pub build-requires-clause-whole : goal.build-requires-clause-whole
 build-requires-clause-whole c =
     let names = export_names c.args.script.now in
-    let at : c.len.result ≡ length c.exports.lengths.items = omega arith in
-    let none = found-as (λ (symbol : DescribedExport). symbol.name) c.args.script.now.exports c.len.result (length c.exports.lengths.items) _ at (ap (option_map (λ (symbol : DescribedExport). symbol.name)) c.in_default.ensures) in
+    let at : c.len-in-exports.result ≡ length c.exports.lengths.items = omega arith in
+    let none = found-as (λ (symbol : DescribedExport). symbol.name) c.args.script.now.exports c.len-in-exports.result (length c.exports.lengths.items) _ at (ap (option_map (λ (symbol : DescribedExport). symbol.name)) c.in_default.ensures) in
     let all = all_joined names c.exports.names.items c.exports.lengths.items none c.exports.invariant.names c.exports.invariant.lengths in
     ap sum (c.deref-2.ensures.value ∙ all.1) ∙ sum-joined names ∙ ap length (sym (c.deref.ensures.value ∙ all.0))
 
 pub returns : goal.returns
 returns c =
     let names = export_names c.args.script.now in
-    let at : c.len.result ≡ length c.exports.lengths.items = omega arith in
-    let none = found-as (λ (symbol : DescribedExport). symbol.name) c.args.script.now.exports c.len.result (length c.exports.lengths.items) _ at (ap (option_map (λ (symbol : DescribedExport). symbol.name)) c.in_default.ensures) in
+    let at : c.len-in-exports.result ≡ length c.exports.lengths.items = omega arith in
+    let none = found-as (λ (symbol : DescribedExport). symbol.name) c.args.script.now.exports c.len-in-exports.result (length c.exports.lengths.items) _ at (ap (option_map (λ (symbol : DescribedExport). symbol.name)) c.in_default.ensures) in
     let all = all_joined names c.exports.names.items c.exports.lengths.items none c.exports.invariant.names c.exports.invariant.lengths in
     c.in_ok-build.ensures ∙ ap₂ (λ bytes lengths. built (names_in bytes lengths)) (c.deref.ensures.value ∙ all.0) (c.deref-2.ensures.value ∙ all.1) ∙ ap built (names_in-joined names)

@@ -3,6 +3,7 @@ use Rattle.std.proofs.Common.{◌≡◌, ◌∙◌, ◌/◌, ◌<◌, ◌^◌, l
 use Rattle.std.specs.List.{All}
 use Rattle.pef_labels.specs.Certified.{Certified}
 use Rattle.pef_reloc.specs.Instrs.{instrs_fit}
+use Rattle.pef_script.specs.Script.{DescribedScript}
 use Rattle.pef_write.specs.Containers.{written_container}
 use Rattle.pef_write.specs.Linked.{script_tables}
 use Rattle.pef_write.specs.Loaders.{strings_of, written_loader}
@@ -47,7 +48,7 @@ write_container-requires-clause-fits c =
     let all = encoded s c.in_ok-certificates.certificates.items c.deref.result.now _ c.in_ok-certificates.ensures c.deref.ensures.value c.in_ok-programs.ensures in
     let own = ap (map program_entry) c.deref-4.ensures.value ∙ c.in_ok-own.ensures ∙ ap (λ programs. nonempty_from 0 (map (λ p. p.items) programs)) c.deref-3.ensures.value in
     let loader = c.deref-6.ensures.value ∙ c.in_ok-loader.ensures ∙ ap (λ programs. written_loader (script_tables s programs)) own in
-    let whole = ap (λ v. written_container v (map described c.deref-5.result.now) c.deref-6.result.now) c.versions.ensures ∙ container_is s _ _ all (map described c.deref-5.result.now) c.deref-6.result.now (ap (map described) c.deref-5.ensures.value ∙ c.in_ok-parts.ensures) loader in
+    let whole = ap (λ (s : DescribedScript). written_container s.versions (map described c.deref-5.result.now) c.deref-6.result.now) c.parts-2.ensures.parts ∙ container_is s _ _ all (map described c.deref-5.result.now) c.deref-6.result.now (ap (map described) c.deref-5.ensures.value ∙ c.in_ok-parts.ensures) loader in
     omega (arith, ap length whole, container_fits s _ _ all)
 
 pub returns : goal.returns
@@ -58,7 +59,7 @@ returns c =
     let all = encoded s certificates c.deref.result.now _ c.in_ok-certificates.ensures c.deref.ensures.value c.in_ok-programs.ensures in
     let own = ap (map program_entry) c.deref-4.ensures.value ∙ c.in_ok-own.ensures ∙ ap (λ programs. nonempty_from 0 (map (λ p. p.items) programs)) c.deref-3.ensures.value in
     let loader = c.deref-6.ensures.value ∙ c.in_ok-loader.ensures ∙ ap (λ programs. written_loader (script_tables s programs)) own in
-    let whole = ap (λ v. written_container v (map described c.deref-5.result.now) c.deref-6.result.now) c.versions.ensures ∙ container_is s _ _ all (map described c.deref-5.result.now) c.deref-6.result.now (ap (map described) c.deref-5.ensures.value ∙ c.in_ok-parts.ensures) loader in
+    let whole = ap (λ (s : DescribedScript). written_container s.versions (map described c.deref-5.result.now) c.deref-6.result.now) c.parts-2.ensures.parts ∙ container_is s _ _ all (map described c.deref-5.result.now) c.deref-6.result.now (ap (map described) c.deref-5.ensures.value ∙ c.in_ok-parts.ensures) loader in
     record {
       holds = has.holds;
       programs = programs_of certificates;

@@ -1,11 +1,8 @@
 -- What is listed and what is left make the whole.
-use Rattle.std.proofs.Common.{◌≡◌, ◌++◌, ◌-◌, drop, length, map}
+use Rattle.std.proofs.Common.{◌≡◌, ◌++◌, drop, map}
 use Rattle.pef_write.specs.Kept.Views.{described}
-use Rattle.pef_write.specs.Linked.{linked_parts}
+use Rattle.pef_write.specs.Linked.{part_of}
 use Rattle.pef_write.proofs.parts.parts.Given as goal
 
-abbrev pub invariant-sections : goal.invariant-sections
-invariant-sections l = map described l.parts.items ++ drop (length l.parts.items) (linked_parts l.script) ≡ linked_parts l.script
-
-abbrev pub decreases-sections : goal.decreases-sections
-decreases-sections l = length l.script.sections - length l.parts.items
+abbrev pub invariant-loop-section : goal.invariant-loop-section
+invariant-loop-section l = map described l.parts.items ++ map part_of (drop l.section-index l.section-items) ≡ map part_of l.section-items

@@ -1,26 +1,27 @@
 -- One section more is certified, and at the end all are.
-use Rattle.std.proofs.Common.{◌≡◌, None, Some, length, option_map, slice_get, subst, arith}
-use Rattle.pef_write.specs.Linked.{IsCertified}
-use Rattle.pef_write.proofs.Certificates.{certified_all, certified_more, section_under}
+use Rattle.std.proofs.Common.{◌≡◌, ◌∙◌, List, length, ap, subst, arith}
+use Rattle.std.proofs.lemmas.List.{take_all}
+use Rattle.pef_reloc.specs.declared.fixup.Fixup.{Fixup}
+use Rattle.pef_script.specs.Script.{DescribedScript, DescribedSection}
+use Rattle.pef_write.specs.Linked.{AreCertified, IsCertified}
+use Rattle.pef_write.proofs.Certificates.{certified_more}
 use Rattle.pef_write.proofs.program.certificates.Goals as goal
 
-pub sections-preserved : goal.sections-preserved
-sections-preserved c =
-    let sections = c.args.script.now.sections in
-    let done = c.sections.certificates.items in
-    let fixups = c.in-Some.fixups.now in
+pub loop-k-preserved : goal.loop-k-preserved
+loop-k-preserved c =
+    let at = c.loop-k in
+    let sections = c.deref-section-items.result.now in
+    let section = c.section-item.result in
     let certificate = c.in_ok-plan.field-0 in
-    let at : c.len.result ≡ length done = omega arith in
-    let found = subst (λ n. Some fixups ≡ option_map (λ section. section.fixups) (slice_get sections n)) at c.in-Some.ensures.fixups in
-    let under = section_under sections (length done) fixups found in
-    let few = c.sections-2.ensures.holds.sections.count in
-    let is : IsCertified (length done) fixups certificate = record { section = omega (arith, c.in_ok-plan.ensures.section, under, few); valid = c.in_ok-plan.ensures.valid; exact = c.in_ok-plan.ensures.exact } in
-    certified_more sections done c.push.new.self.items fixups certificate c.in_ok-push.ensures.items found is c.sections.invariant
+    let few = c.parts.ensures.holds.sections.count in
+    let are : sections ≡ c.args.script.now.sections = c.deref-section-items.ensures.value ∙ ap (λ (s : DescribedScript). s.sections) c.parts.ensures.parts in
+    let fixups : c.deref.result.now ≡ section.fixups = c.deref.ensures.value ∙ ap (λ (s : DescribedSection). s.fixups) c.section.view_is in
+    let is : IsCertified at.k c.deref.result.now certificate = record { section = omega (arith, c.in_ok-plan.ensures.section, c.loop-k-test.true, ap length are, few); valid = c.in_ok-plan.ensures.valid; exact = c.in_ok-plan.ensures.exact } in
+    certified_more sections at.k section _ at.certificates.items c.push.new.self.items certificate c.loop-k-test.true c.section-item.is (subst (λ (fs : List Fixup). IsCertified at.k fs certificate) fixups is) c.in_ok-push.ensures.items at.invariant
 
 pub returns : goal.returns
 returns c =
-    let sections = c.args.script.now.sections in
-    let done = c.sections.certificates.items in
-    let at : c.len.result ≡ length done = omega arith in
-    let none = subst (λ n. None ≡ option_map (λ section. section.fixups) (slice_get sections n)) at c.in_default.ensures.fixups in
-    record { holds = c.sections-2.ensures.holds; certified = certified_all sections done none c.sections.invariant }
+    let sections = c.deref-section-items.result.now in
+    let are : sections ≡ c.args.script.now.sections = c.deref-section-items.ensures.value ∙ ap (λ (s : DescribedScript). s.sections) c.parts.ensures.parts in
+    let all = take_all c.loop-k.k sections c.loop-k-test.false in
+    record { holds = c.parts.ensures.holds; certified = subst (λ (ss : List DescribedSection). AreCertified 0 ss c.loop-k.certificates.items) (all ∙ are) c.loop-k.invariant }
