@@ -182,18 +182,13 @@ fn versions(script: &Script) -> (u32, u32, u32) {
 }
 
 fn library<'a>(script: &Script<'a>, l: usize) -> Option<(&'a [u8], u32, u32, u8)> {
-    let library = script.library(l)?;
-    Some((
-        library.name,
-        library.current,
-        library.old_imp,
-        library.options,
-    ))
+    let (name, library) = script.parts().libraries.get_index(l)?;
+    Some((*name, library.current, library.old_imp, library.options))
 }
 
 fn import<'a>(script: &Script<'a>, j: usize) -> Option<(&'a [u8], u8, bool, u32)> {
-    let import = script.import(j)?;
-    Some((import.name, import.class, import.weak, import.library))
+    let (name, import) = script.parts().imports.get_index(j)?;
+    Some((*name, import.class, import.weak, import.library))
 }
 
 fn section<'a>(script: &Script<'a>, k: usize) -> Option<(&'a [u8], u8, u8, u8, u32)> {
@@ -220,8 +215,8 @@ fn fixups<'s>(script: &'s Script<'_>, k: usize) -> Option<&'s [Fixup]> {
 }
 
 fn export<'a>(script: &Script<'a>, e: usize) -> Option<(&'a [u8], u8, i32, u32)> {
-    let export = script.export(e)?;
-    Some((export.name, export.class, export.section, export.value))
+    let (name, export) = script.parts().exports.get_index(e)?;
+    Some((*name, export.class, export.section, export.value))
 }
 
 fn has_tables(script: &Script) -> bool {

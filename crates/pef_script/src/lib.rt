@@ -7,9 +7,6 @@ mod parts;
 mod script;
 mod theorems;
 
-pub use parts::{
-    Export, ExportData, Import, ImportData, Library, LibraryData, Parts, Section, SectionHeader,
-    Versions,
-};
+pub use parts::{ExportData, ImportData, LibraryData, Parts, Section, SectionHeader, Versions};
 pub use script::Script;
 pub use theorems::described_bytes;

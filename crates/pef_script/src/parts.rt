@@ -15,27 +15,6 @@ pub struct Versions {
     pub old_imp: u32,
 }
 
-/// A library that a container imports from.
-#[derive(Clone, Copy, Debug, PartialEq, Eq)]
-pub struct Library<'a> {
-    pub name: &'a [u8],
-    pub current: u32,
-    pub old_imp: u32,
-    /// 80 (hex) where it initializes before, 40 where it is weak.
-    pub options: u8,
-}
-
-/// A symbol that a container imports.
-#[derive(Clone, Copy, Debug, PartialEq, Eq)]
-pub struct Import<'a> {
-    pub name: &'a [u8],
-    /// The symbol's class: 0 code, 1 data, 2 transition vector, 3 TOC, 4 glue.
-    pub class: u8,
-    pub weak: bool,
-    /// The number of its library.
-    pub library: u32,
-}
-
 /// A section, without its image and its fixups.
 #[derive(Clone, Copy, Debug, PartialEq, Eq)]
 pub struct SectionHeader<'a> {
@@ -50,39 +29,33 @@ pub struct SectionHeader<'a> {
     pub total: u32,
 }
 
-/// A symbol that a container exports.
-#[derive(Clone, Copy, Debug, PartialEq, Eq)]
-pub struct Export<'a> {
-    pub name: &'a [u8],
-    /// The symbol's class: 0 code, 1 data, 2 transition vector, 3 TOC, 4 glue.
-    pub class: u8,
-    /// The number of its section.
-    pub section: i32,
-    /// Its offset in the section.
-    pub value: u32,
-}
-
 /// What a script says of a library beside its name.
 #[derive(Clone, Copy)]
 pub struct LibraryData {
     pub current: u32,
     pub old_imp: u32,
+    /// 80 (hex) where it initializes before, 40 where it is weak.
     pub options: u8,
 }
 
 /// What a script says of an import beside its name.
 #[derive(Clone, Copy)]
 pub struct ImportData {
+    /// The symbol's class: 0 code, 1 data, 2 transition vector, 3 TOC, 4 glue.
     pub class: u8,
     pub weak: bool,
+    /// The number of its library.
     pub library: u32,
 }
 
 /// What a script says of an export beside its name.
 #[derive(Clone, Copy)]
 pub struct ExportData {
+    /// The symbol's class: 0 code, 1 data, 2 transition vector, 3 TOC, 4 glue.
     pub class: u8,
+    /// The number of its section.
     pub section: i32,
+    /// Its offset in the section.
     pub value: u32,
 }
 

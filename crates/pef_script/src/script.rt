@@ -1,9 +1,8 @@
-ghost use Rattle.std.specs.Prelude.{◌≡◌, option_map, slice_get};
+ghost use Rattle.std.specs.Prelude.{◌≡◌};
 ghost use Rattle.pef_script.specs.Parts.{script_in};
-ghost use Rattle.pef_script.specs.Views.{export_in, import_in, library_in};
 ghost use Rattle.pef_script.specs.WellFormed.{ScriptHolds};
 
-use crate::{Export, Import, Library, Parts};
+use crate::Parts;
 use std::marker::Model;
 
 /// A link script: what a container is made of. Names are borrowed.
@@ -39,44 +38,5 @@ impl<'a> Script<'a> {
         ensures holds { ScriptHolds self.now }
     {
         &self.parts
-    }
-
-    /// Library `l`.
-    pub fn library(&self, l: usize) -> Option<Library<'a>>
-        ensures { option_map library_in result ≡ slice_get self.now.libraries l }
-    {
-        let (name, library) = self.parts.libraries.get_index(l)?;
-        Some(Library {
-            name,
-            current: library.current,
-            old_imp: library.old_imp,
-            options: library.options,
-        })
-    }
-
-    /// Import `j`.
-    pub fn import(&self, j: usize) -> Option<Import<'a>>
-        ensures { option_map import_in result ≡ slice_get self.now.imports j }
-    {
-        let (name, import) = self.parts.imports.get_index(j)?;
-        Some(Import {
-            name,
-            class: import.class,
-            weak: import.weak,
-            library: import.library,
-        })
-    }
-
-    /// Export `e`.
-    pub fn export(&self, e: usize) -> Option<Export<'a>>
-        ensures { option_map export_in result ≡ slice_get self.now.exports e }
-    {
-        let (name, export) = self.parts.exports.get_index(e)?;
-        Some(Export {
-            name,
-            class: export.class,
-            section: export.section,
-            value: export.value,
-        })
     }
 }

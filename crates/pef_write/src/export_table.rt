@@ -11,11 +11,12 @@ use std::alloc::Global;
 pub(crate) fn export_table(alloc: Global, script: &Script<'_>) -> Result<Table, LinkFault>
     ensures { IfOk result (λ table. table ≡ built (export_names script.now)) }
 {
+    let exports = &script.parts().exports;
     let mut names = Vec::new(alloc);
-    let mut lengths = Vec::with_capacity(alloc, script.parts().exports.len())?;
-    'exports: while let Some(export) = script.export(lengths.len()) {
-        names.extend_from_slice(export.name)?;
-        lengths.push(export.name.len() as u8)?;
+    let mut lengths = Vec::with_capacity(alloc, exports.len())?;
+    'exports: while let Some((name, _)) = exports.get_index(lengths.len()) {
+        names.extend_from_slice(name)?;
+        lengths.push(name.len() as u8)?;
     }
     Ok(build(alloc, &names, &lengths)?)
 }
