@@ -1,5 +1,5 @@
 -- What unmet tests say of a line, and what stays true of a script that gets one thing more.
-use Rattle.std.proofs.Common.{◌≡◌, ℕ, ℤ, pos, negsuc, ◌+◌, ◌*◌, ◌<◌, ◌≤◌, ◌==◌, ◌||◌, not, Bool, true, false, cond, List, [], ◌∷◌, ◌++◌, Option, None, Some, Ok, Err, length, map, is_some, refl, subst, arith, length-append}
+use Rattle.std.proofs.Common.{◌≡◌, ℕ, ℤ, pos, negsuc, ◌+◌, ◌-◌, ◌*◌, ◌<◌, ◌≤◌, ◌==◌, ◌||◌, not, Bool, true, false, cond, List, [], ◌∷◌, ◌++◌, Option, None, Some, Ok, Err, length, map, is_some, refl, subst, arith, length-append}
 use Rattle.std.specs.Prelude.{slice_set, nat_lt}
 use Rattle.std.specs.List.{AllByRecursion}
 use Rattle.std.proofs.lemmas.Bool.{ltb-false, ltb-true, lt-ltb}
@@ -22,6 +22,7 @@ use Rattle.pef_script_text.specs.Declarations.{entered_import}
 use Rattle.pef_script_text.specs.Contents.{bytes_tests, fixup_of, fixup_tests, with_contents, with_fixups}
 use Rattle.pef_script.specs.WellFormed.{BaseThere, EntryHolds, ExportHolds, ExportsHold, ImportHolds, ImportsHold, PlaceHolds, ScriptHolds, SectionHolds, SectionsHold, SignedPlaceHolds, totals_of}
 use Rattle.pef_words.proofs.Laws.Lists.{all-append, all-at, all-set, all-weaker}
+use Rattle.pef_script_text.proofs.Leads.{Leads, led}
 use Rattle.pef_script_text.proofs.ListLemmas.{map-set}
 
 -- what is true while a script is read
@@ -156,14 +157,21 @@ imports-more n imports holds = record {
   grouped = holds.grouped;
 }
 
--- an import stands behind a library
-pub entered_import-some : (s : ScriptSoFar) (group : ℕ) → entered_import s ≡ Ok group → 1 ≤ length s.script.libraries
-entered_import-some s group is = by (nat_lt library_group s.reached) s.script.libraries is
+-- an import is of the last library
+pub entered_import-is : (s : ScriptSoFar) (library : ℕ) → entered_import s ≡ Ok library → library + 1 ≡ length s.script.libraries
+entered_import-is s library is =
+    let late = nat_lt library_group s.reached in
+    let n = length s.script.libraries in
+    led (λ m. m + 1 ≡ n) (entered_import s) library is (last (late || (n == 0)) n (some late s.script.libraries is))
   where
-    by : (late : Bool) (libraries : List DescribedLibrary) → cond (late || (length libraries == 0)) (Err OutOfOrder) (Ok library_group) ≡ Ok group → 1 ≤ length libraries
-    by true libraries is = absurd (cc)
-    by false [] is = absurd (cc)
-    by false (l ∷ libraries) is = omega arith
+    some : (late : Bool) (libraries : List DescribedLibrary) → cond (late || (length libraries == 0)) (Err OutOfOrder) (Ok (length libraries - 1)) ≡ Ok library → 1 ≤ length libraries
+    some true libraries is = absurd (cc)
+    some false [] is = absurd (cc)
+    some false (l ∷ libraries) is = omega arith
+
+    last : (refused : Bool) (n : ℕ) → 1 ≤ n → Leads (λ m. m + 1 ≡ n) (cond refused (Err OutOfOrder) (Ok (n - 1)))
+    last true n some = tt
+    last false n some = omega (arith, some)
 
 -- a place in section k
 pub place_at : (s : ScriptSoFar) (k offset : ℕ) → k < length s.script.sections → offset ≤ (section_at s k).header.total → PlaceHolds (totals_of s.script.sections) k offset

@@ -28,7 +28,7 @@ use Rattle.pef_script_text.proofs.Leads.{Leads, leads_if, leads_then, leads_unle
 use Rattle.pef_words.proofs.Laws.Lists.{all-append, all-map, all-weaker}
 use Rattle.pef_script_text.proofs.ListLemmas.{distinct-more, no_names_apart, rises-more}
 use Rattle.pef_script_text.proofs.WordLemmas.{base_named-is, class_of-is, kind_of-is, next_name-is, number_up_to-is, options_of-is, section_named-is, share_of-is}
-use Rattle.pef_script_text.proofs.Growing.{StateHolds, name_tests-unmet, counted_tests-unmet, bytes_tests-unmet, fixup_tests-unmet, entry-more, exports-more, section-more, sections-more, imports-more, entered_import-some, place_at, names-more, changed, at_section, fixup-more}
+use Rattle.pef_script_text.proofs.Growing.{StateHolds, name_tests-unmet, counted_tests-unmet, bytes_tests-unmet, fixup_tests-unmet, entry-more, exports-more, section-more, sections-more, imports-more, entered_import-is, place_at, names-more, changed, at_section, fixup-more}
 
 module _ (s : ScriptSoFar) (holds : StateHolds s) (line : List ℕ) where
   versions_line-holds : Leads StateHolds (versions_line s line)
@@ -105,18 +105,18 @@ module _ (s : ScriptSoFar) (holds : StateHolds s) (line : List ℕ) where
       leads_then StateHolds (next_name line) _ (λ name name_is.
       leads_then StateHolds (next_word name.1) _ (λ class_word class_word_is.
       leads_then StateHolds (last_word class_word.1) _ (λ strength strength_is.
-      leads_then StateHolds (entered_import s) _ (λ group group_is.
+      leads_then StateHolds (entered_import s) _ (λ library library_is.
       leads_then StateHolds (class_of class_word.0) _ (λ class class_is.
       leads_then StateHolds (is_weak_word strength) _ (λ weak weak_is.
       leads_unless StateHolds (first_met (counted_name_tests s (import_names s.script) most_imports name.0)) _ (λ unmet.
       let room = (counted_tests-unmet s (import_names s.script) most_imports name.0 [] unmet).0 in
-      let some = entered_import-some s group group_is in
+      let last = entered_import-is s library library_is in
       let imports = s.script.imports in
       let n = length s.script.libraries in
-      let symbol : DescribedImport = record { name = name.0; class = class; weak = weak; library = n - 1 } in
+      let symbol : DescribedImport = record { name = name.0; class = class; weak = weak; library = library } in
       let count : length (imports ++ symbol ∷ []) ≡ length imports + 1 = length-append imports (symbol ∷ []) in
       let names : map (λ (i : DescribedImport). i.name) (imports ++ symbol ∷ []) ≡ import_names s.script ++ name.0 ∷ [] = map-append (λ (i : DescribedImport). i.name) imports (symbol ∷ []) in
-      let libraries : map (λ (i : DescribedImport). i.library) (imports ++ symbol ∷ []) ≡ map (λ (i : DescribedImport). i.library) imports ++ (n - 1) ∷ [] = map-append (λ (i : DescribedImport). i.library) imports (symbol ∷ []) in
+      let libraries : map (λ (i : DescribedImport). i.library) (imports ++ symbol ∷ []) ≡ map (λ (i : DescribedImport). i.library) imports ++ library ∷ [] = map-append (λ (i : DescribedImport). i.library) imports (symbol ∷ []) in
       let bytes = ap bytes_of_names names ∙ names-more (import_names s.script) name.0 in
       record {
         versions = holds.versions;
@@ -127,13 +127,13 @@ module _ (s : ScriptSoFar) (holds : StateHolds s) (line : List ℕ) where
             record {
               name = next_name-is line name name_is;
               class = class_of-is class_word.0 class class_is;
-              library = omega (arith, some);
+              library = omega (arith, last);
             },
             tt,
           );
           apart = rw names (distinct-more (import_names s.script) name.0 holds.imports.apart room.new);
-          grouped = rw libraries (rises-more (map (λ (i : DescribedImport). i.library) imports) (n - 1) holds.imports.grouped
-              (all-map (λ (i : DescribedImport). i.library) (ImportHolds n) (λ x. x ≤ n - 1) imports (λ i fits. omega (arith, fits.library)) holds.imports.each));
+          grouped = rw libraries (rises-more (map (λ (i : DescribedImport). i.library) imports) library holds.imports.grouped
+              (all-map (λ (i : DescribedImport). i.library) (ImportHolds n) (λ x. x ≤ library) imports (λ i fits. omega (arith, fits.library, last)) holds.imports.each));
         };
         sections = rw count (sections-more (length imports) 1 s.script.sections holds.sections);
         exports = holds.exports;

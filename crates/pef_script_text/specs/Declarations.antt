@@ -60,8 +60,9 @@ class_of = word_of ((codes "code", 0) ∷ (codes "data", 1) ∷ (codes "tvector"
 abbrev pub is_weak_word : List ℕ → Result Bool LineFault
 is_weak_word word = if bytes_eq word (codes "strong") then Ok false else if bytes_eq word (codes "weak") then Ok true else Err BadKind
 
+-- the number of the last library, where an import may stand
 abbrev pub entered_import : ScriptSoFar → Result ℕ LineFault
-entered_import s = if nat_lt library_group s.reached || length s.script.libraries == 0 then Err OutOfOrder else Ok library_group
+entered_import s = if nat_lt library_group s.reached || length s.script.libraries == 0 then Err OutOfOrder else Ok (length s.script.libraries - 1)
 
 -- an import with a name that is new and has room
 abbrev pub with_import : ScriptSoFar → DescribedImport → Result ScriptSoFar LineFault
@@ -73,10 +74,10 @@ import_line s line = do
   name ← next_name line
   class ← next_word name.1
   strength ← last_word class.1
-  group ← entered_import s
+  library ← entered_import s
   class ← class_of class.0
   weak ← is_weak_word strength
-  with_import s (record { name = name.0; class = class; weak = weak; library = length s.script.libraries - 1 })
+  with_import s (record { name = name.0; class = class; weak = weak; library = library })
 
 -- `section NAME KIND SHARE ALIGN TOTAL`
 

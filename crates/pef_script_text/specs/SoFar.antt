@@ -43,12 +43,12 @@ abbrev pub term_group : ℕ
 term_group = 8
 
 -- a line of a group does not stand behind one of a later group
-abbrev pub entered : ScriptSoFar → ℕ → Result ℕ LineFault
-entered s group = if nat_lt group s.reached then Err OutOfOrder else Ok group
+abbrev pub entered : ScriptSoFar → ℕ → Result (Unit {0}) LineFault
+entered s group = if nat_lt group s.reached then Err OutOfOrder else Ok tt
 
 -- and one that may stand once not behind one of its own
-abbrev pub entered_once : ScriptSoFar → ℕ → Result ℕ LineFault
-entered_once s group = if nat_le group s.reached then Err OutOfOrder else Ok group
+abbrev pub entered_once : ScriptSoFar → ℕ → Result (Unit {0}) LineFault
+entered_once s group = if nat_le group s.reached then Err OutOfOrder else Ok tt
 
 -- the number that a table has for a word
 abbrev pub word_in : List (List ℕ × ℕ) → List ℕ → Option ℕ

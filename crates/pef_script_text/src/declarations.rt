@@ -1,6 +1,4 @@
-ghost use Rattle.std.specs.Prelude.{◌≡◌, ◌+◌, IfOk};
-ghost use Rattle.std.specs.Result.{result_err};
-ghost use Rattle.indexmap.specs.IndexMap.{index_map_len};
+ghost use Rattle.std.specs.Prelude.{◌≡◌};
 ghost use Rattle.pef_script_text.specs.Declarations.{entered_import, import_line, library_line, section_line, versions_line, with_import, with_library, with_section};
 ghost use Rattle.pef_script_text.specs.Kept.Reader.{so_far};
 ghost use Rattle.pef_script_text.specs.Kept.Steps.{Steps};
@@ -155,9 +153,9 @@ impl<'a> Reader<'a> {
     }
 
     /// The number of the last library, to which an import belongs.
+    #[tactic(auto, using(crate::proofs::TableLemmas::libraries_seen))]
     fn enter_import(&self) -> Result<u32, LineFault>
-        ensures order { result_err result ≡ result_err (entered_import (so_far self.now)) }
-        ensures last { IfOk result (λ library. library + 1 ≡ index_map_len self.now.parts.libraries) }
+        ensures { result ≡ entered_import (so_far self.now) }
     {
         self.enter(LIBRARY_GROUP)?;
         match self.parts.libraries.len().checked_sub(1) {

@@ -134,7 +134,7 @@ impl<'a> Reader<'a> {
 
     /// Refuses a line of a group behind one of a later group.
     pub fn enter(&self, group: u8) -> Result<(), LineFault>
-        ensures { result_err result ≡ result_err (entered (so_far self.now) group) }
+        ensures { result ≡ entered (so_far self.now) group }
     {
         if group < self.reached {
             return Err(LineFault::OutOfOrder);
@@ -144,7 +144,7 @@ impl<'a> Reader<'a> {
 
     /// Refuses a line that may stand once behind one of its own or a later group.
     pub fn enter_once(&self, group: u8) -> Result<(), LineFault>
-        ensures { result_err result ≡ result_err (entered_once (so_far self.now) group) }
+        ensures { result ≡ entered_once (so_far self.now) group }
     {
         if group <= self.reached {
             return Err(LineFault::OutOfOrder);
