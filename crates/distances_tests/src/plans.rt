@@ -29,7 +29,7 @@ fn distances_are_plans(rt: HostRuntime) -> Result<(), Fail> {
     for row in SCRIPTS {
         let (text, sections) = *row;
         let certificates = printed_certificates(rt.alloc(), text)?;
-        assert_eq!(rt; certificates.len(), sections);
+        assert!(rt; certificates.len() == sections);
         test_plans(&rt, rt.alloc(), text, &certificates)?;
     }
     Ok(())
@@ -50,7 +50,7 @@ fn test_plans(
 ) -> Result<(), Fail> {
     let script = pef_script_text::read(alloc, text)?;
     for (k, certificate) in certificates.iter().enumerate() {
-        assert_eq!(rt; certificate.section as usize, k);
+        assert!(rt; certificate.section as usize == k);
         test_plan(rt, alloc, &script, certificate)?;
     }
     Ok(())

@@ -106,7 +106,7 @@ fn test_written(
     written: &[u8],
 ) -> Result<(), Fail> {
     let certificate = certificate_of(rt, linked, section)?;
-    assert_eq!(rt; section, OWN as u32);
+    assert!(rt; section == OWN as u32);
     test_spelled(rt, alloc, certificate, written)
 }
 
@@ -131,7 +131,7 @@ fn link_listed(alloc: Global, listed: &[(u32, Base)]) -> Result<Linked, Fail> {
 /// Tests the length of the section's program, and its bytes where some are given.
 fn test_bytes(rt: &impl Abort, linked: &Linked, written: &[u8], halfwords: u32, bytes: &[u8]) {
     let lengths = (linked.lengths.get(OWN).copied(), written.len());
-    assert_eq!(rt; lengths, (Some(halfwords), 2 * halfwords as usize));
+    assert!(rt; lengths == (Some(halfwords), 2 * halfwords as usize));
     assert!(rt; bytes.is_empty() || written == bytes);
 }
 
@@ -146,7 +146,7 @@ fn test_linked(
     bytes: &[u8],
 ) -> Result<(), Fail> {
     let (headers, section, written) = first_header(&linked.bytes)?;
-    assert_eq!(rt; headers, u32::from(fixups > 0));
+    assert!(rt; headers == u32::from(fixups > 0));
     test_bytes(rt, linked, written, halfwords, bytes);
     if headers > 0 {
         test_written(rt, alloc, linked, section, written)?;
@@ -266,7 +266,7 @@ fn certificate_of<'a>(
         .certificates
         .get(section as usize)
         .ok_or("no certificate")?;
-    assert_eq!(rt; certificate.section, section);
+    assert!(rt; certificate.section == section);
     Ok(certificate)
 }
 
@@ -286,13 +286,13 @@ fn test_certificate(
 /// Tests that the certificates are in the order of the sections.
 fn test_order(rt: &impl Abort, certificates: &[Certificate]) {
     for (k, certificate) in certificates.iter().enumerate() {
-        assert_eq!(rt; certificate.section as usize, k);
+        assert!(rt; certificate.section as usize == k);
     }
 }
 
 /// Tests that the vectors have two certificates.
 fn test_two_certificates(rt: &impl Abort, linked: &Linked) {
-    assert_eq!(rt; linked.certificates.len(), 2);
+    assert!(rt; linked.certificates.len() == 2);
     test_order(rt, &linked.certificates);
 }
 
