@@ -1,0 +1,5 @@
+use Rattle.std.proofs.Common.{rules}
+use Rattle.pef_words.proofs.cut.Cut.is_empty.Goals as goal
+
+pub returns : goal.returns
+returns c = search rules
