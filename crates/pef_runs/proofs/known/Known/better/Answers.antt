@@ -1,4 +1,4 @@
-use Rattle.std.proofs.Common.{◌+◌, ap, ap₂, arith, inr, sym}
+use Rattle.std.proofs.Common.{◌+◌, ap, ap₂, arith, inr, sym, rules}
 use Rattle.pef_runs.proofs.known.Known.better.Goals as goal
 
 pub returns-then-value-best-clause-chosen : goal.returns-then-value-best-clause-chosen
@@ -18,3 +18,6 @@ returns-else-value-best-clause-low c = λ l agrees.
 
 pub returns-then-value-best-clause-either : goal.returns-then-value-best-clause-either
 returns-then-value-best-clause-either c = λ l agrees. inr (ap (λ n. 1 + n) (c.value-value.ensures.is l (c.requires.agrees l agrees)))
+
+pub returns-then-value-best-clause-better : goal.returns-then-value-best-clause-better
+returns-then-value-best-clause-better c = search rules
