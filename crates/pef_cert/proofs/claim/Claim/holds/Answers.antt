@@ -1,4 +1,4 @@
-use Rattle.std.proofs.Common.{arith}
+use Rattle.std.proofs.Common.{arith, rules}
 use Rattle.pef_reloc.proofs.Laws.{count-length}
 use Rattle.pef_cert.specs.Kept.Claims.{labels_claimed}
 use Rattle.pef_cert.proofs.CheckLemmas.{too-long}
@@ -27,3 +27,6 @@ pub makes-requires : goal.makes-requires
 makes-requires c =
     let low = count-length c.args.program.now in
     omega (arith, low, c.program_length-length.ensures, c.if-length-from.false, c.from.ensures)
+
+pub returns-in-Some : goal.returns-in-Some
+returns-in-Some c = search rules
