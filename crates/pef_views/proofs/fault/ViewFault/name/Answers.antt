@@ -1,0 +1,5 @@
+use Rattle.std.proofs.Common.{rules}
+use Rattle.pef_views.proofs.fault.ViewFault.name.Goals as goal
+
+pub returns-in-SectionOutside : goal.returns-in-SectionOutside
+returns-in-SectionOutside c = search rules
