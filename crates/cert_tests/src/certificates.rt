@@ -518,10 +518,8 @@ fn long_runs(rt: HostRuntime) -> Result<(), Fail> {
     Ok(())
 }
 
-/// Rows, and labels that are the same rows one behind the other.
+/// Rows, of which two neighbours are equal.
 const ROWS: &[&[u32]] = &[&[1, 2], &[1, 2], &[0, 0], &[1, 2]];
-
-const ROWS_IN_LINE: &[u32] = &[1, 2, 1, 2, 0, 0, 1, 2];
 
 /// The runs of these rows: two of 1 2, one of 0 0 and one of 1 2.
 const RUNS: &[(usize, &[u32])] = &[(2, &[1, 2]), (1, &[0, 0]), (1, &[1, 2])];
@@ -552,14 +550,5 @@ fn rows_are_kept(rt: HostRuntime) -> Result<(), Fail> {
     push_rows(&rt, &mut rows)?;
     assert!(rt; rows.width() == 2);
     assert_runs(&rt, &rows);
-    Ok(())
-}
-
-#[test]
-fn rows_of_labels(rt: HostRuntime) -> Result<(), Fail> {
-    assert_runs(
-        &rt,
-        &LabelRows::from_labels(rt.alloc(), 4, 2, ROWS_IN_LINE)?,
-    );
     Ok(())
 }

@@ -1,5 +1,5 @@
-//! Tests of the commands through `run`, over files, an input and an output in memory. Those of `load`
-//! and of `distances` stand in crates of their own, but for the memory that is refused to them.
+//! Tests of the commands through `run`, over files, an input and an output in memory. Those of `distances` stand in a
+//! crate of their own, but for the memory that is refused to it.
 //!
 //! Expected values come from the documents and from worked examples, never from the program.
 #![tactic(auto)]
@@ -9,6 +9,8 @@ mod check;
 #[cfg(test)]
 mod failures;
 #[cfg(test)]
+mod libraries;
+#[cfg(test)]
 mod limits;
 #[cfg(test)]
 mod link;
@@ -17,8 +19,12 @@ mod list;
 #[cfg(test)]
 mod listings;
 #[cfg(test)]
+mod load;
+#[cfg(test)]
 mod refused;
 #[cfg(test)]
 mod show;
+#[cfg(test)]
+mod spelled;
 #[cfg(test)]
 mod words;

@@ -6,13 +6,27 @@ use std::test::Fail;
 use test_bench::limits::{EVERY_OTHER, SECTIONS, at_all_limits, push_every_other, push_sections};
 use test_bench::runs::{Handed, run_tool};
 
-/// The line of memory at an address where every other word has the address 00010000.
-fn push_row(text: &mut String, address: u32) -> Result<(), Fail> {
-    writeln!(text, "{address:08X} 00010000 00000000 00010000 00000000")?;
+/// The address of a section.
+fn address_of(k: u32) -> u32 {
+    k.wrapping_mul(EVERY_OTHER).wrapping_add(0x0001_0000)
+}
+
+/// A line of memory of a section, in which every other word has an address: that of the first section, or behind the
+/// fourth section those of all sections in turn.
+fn push_row(text: &mut String, k: u32, row: u32) -> Result<(), Fail> {
+    let first = if k < 4 { 0 } else { row % 4 * 2 };
+    let second = if k < 4 { 0 } else { row % 4 * 2 + 1 };
+    let address = address_of(k).wrapping_add(row.wrapping_mul(16));
+    let (first, second) = (address_of(first), address_of(second));
+    writeln!(
+        text,
+        "{address:08X} {first:08X} 00000000 {second:08X} 00000000"
+    )?;
     Ok(())
 }
 
-/// The fixups are by an export of the fragment's own, at the first byte of its first section.
+/// The fixups are by an export of the fragment's own, at the first byte of its first section, and by all sections in
+/// turn.
 #[test]
 fn show_at_the_limits(rt: HostRuntime) -> Result<(), Fail> {
     let mut script = String::from_str(rt.alloc(), "library it 0 0 -\nimport u data strong\n")?;
@@ -22,10 +36,13 @@ fn show_at_the_limits(rt: HostRuntime) -> Result<(), Fail> {
     let outcome = run_tool(rt.alloc(), Handed::input(&["show"], script.as_bytes()))?;
     let mut shown = String::from_str(rt.alloc(), "fragment it\n")?;
     for k in 0..SECTIONS.len() as u32 {
-        let address = 0x0001_0000 + k * EVERY_OTHER;
-        writeln!(shown, "section {k} at {address:08X} size {EVERY_OTHER}")?;
+        writeln!(
+            shown,
+            "section {k} at {:08X} size {EVERY_OTHER}",
+            address_of(k)
+        )?;
         for row in 0..EVERY_OTHER / 16 {
-            push_row(&mut shown, address + 16 * row)?;
+            push_row(&mut shown, k, row)?;
         }
     }
     assert!(rt; outcome.printed.as_slice() == shown.as_bytes());
@@ -34,13 +51,13 @@ fn show_at_the_limits(rt: HostRuntime) -> Result<(), Fail> {
 }
 
 /// What `link` prints: a program has two halfwords for each fixup by a far import, and one for each move, of
-/// which the first isn't needed.
+/// which the first isn't needed; or as many as fixups by all sections in turn take.
 ///
 /// The container has 304 bytes of headers, and of the loader section 56 of header, 24 for each library,
-/// 4 for each import, 12 for each relocation header, 98,302 for each program, 558,296 of strings, 8,192
-/// of slots, 4 for each key and 10 for each export.
+/// 4 for each import, 12 for each relocation header, 98,302 for each of the first four programs and 61,438 for each
+/// of the others, 558,296 of strings, 8,192 of slots, 4 for each key and 10 for each export.
 const LINKED: &[u8] =
-    b"linked 1943170 bytes\nsection 0 length 49151\nsection 1 length 49151\nsection 2 length 49151\nsection 3 length 49151\nsection 4 length 49151\nsection 5 length 49151\nsection 6 length 49151\nsection 7 length 49151\n";
+    b"linked 1795714 bytes\nsection 0 length 49151\nsection 1 length 49151\nsection 2 length 49151\nsection 3 length 49151\nsection 4 length 30719\nsection 5 length 30719\nsection 6 length 30719\nsection 7 length 30719\n";
 
 #[test]
 fn link_at_the_limits(rt: HostRuntime) -> Result<(), Fail> {

@@ -32,6 +32,19 @@ fn link(rt: HostRuntime) -> Result<(), Fail> {
     Ok(())
 }
 
+/// Nothing is taken from the input.
+#[test]
+fn link_leaves_the_input(rt: HostRuntime) -> Result<(), Fail> {
+    let words = ["link", "a", "out"];
+    let handed = Handed {
+        input: VECTORS,
+        ..Handed::file(&words, EXAMPLE)
+    };
+    let outcome = assert_prints(rt.alloc(), handed, EXAMPLE_LINKED, 0)?;
+    assert!(rt; outcome.left == VECTORS.len());
+    Ok(())
+}
+
 /// A container but for its program, which is one of several of the same length; and what `load` prints of it.
 #[test]
 fn link_example(rt: HostRuntime) -> Result<(), Fail> {

@@ -1,13 +1,23 @@
-//! Tests of contexts, through public calls: the containers are linked from scripts. The expected values come from the
-//! rules of preparation and their worked examples, never from the program.
+//! Tests of closures and of contexts, through public calls: the containers are linked from scripts. The expected values
+//! come from the rules of binding and of preparation and their worked examples, never from the program.
 #![tactic(auto)]
 
+#[cfg(test)]
+mod bound;
+#[cfg(test)]
+mod closures;
 #[cfg(test)]
 mod fixture;
 #[cfg(test)]
 mod foreign;
 #[cfg(test)]
+mod limits;
+#[cfg(test)]
 mod loading;
+#[cfg(test)]
+mod many;
+#[cfg(test)]
+mod pairs;
 #[cfg(test)]
 mod readers;
 #[cfg(test)]

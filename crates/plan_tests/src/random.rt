@@ -5,11 +5,12 @@ use crate::plans::{assert_length, planned};
 use crate::reference::{counted_labels, number_at, plain_labels};
 use pef_labels::LabelRows;
 use pef_plan::{Looks, counted_plan};
-use pef_reloc::{Base, Fixup, fixups_fit};
+use pef_reloc::{Base, Fixup, MAX_SECTIONS, fixups_fit};
 use std::alloc::Global;
 use std::cell::Cell;
 use std::process::Abort;
 use std::test::Fail;
+use test_data::limits::{FIXUPS, IN_TURN_LENGTH};
 use test_data::lists::S1;
 
 /// How many fixups a random list gets at least.
@@ -56,7 +57,7 @@ impl Random {
 fn random_list(alloc: Global, random: &mut Random) -> Result<Vec<Fixup>, Fail> {
     let mut fixups = Vec::new(alloc);
     let mut offset = random.one_of(&GAPS);
-    let sections = 1 + random.below(4);
+    let sections = 1 + random.below(MAX_SECTIONS);
     for _ in 0..20 {
         if fixups.len() >= ENOUGH {
             return Ok(fixups);
@@ -201,4 +202,24 @@ fn labels_of_long_runs(rt: HostRuntime) -> Result<(), Fail> {
         compare(&rt, rt.alloc(), &fixups)?;
     }
     Ok(())
+}
+
+/// As many fixups as a section may have, at every other word, by all sections in turn.
+fn all_in_turn(alloc: Global) -> Result<Vec<Fixup>, Fail> {
+    let mut fixups = Vec::new(alloc);
+    for i in 0..FIXUPS {
+        let base = Base::Section(i % MAX_SECTIONS);
+        fixups.push(Fixup {
+            offset: 8 * i,
+            base,
+        })?;
+    }
+    Ok(fixups)
+}
+
+#[test]
+fn labels_of_all_sections_in_turn(rt: HostRuntime) -> Result<(), Fail> {
+    let fixups = all_in_turn(rt.alloc())?;
+    assert_length(&rt, rt.alloc(), &fixups, u64::from(IN_TURN_LENGTH))?;
+    compare(&rt, rt.alloc(), &fixups)
 }

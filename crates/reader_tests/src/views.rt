@@ -1,4 +1,5 @@
 use crate::fixture::refused_container;
+use pef_views::layout::{DEBUG_SECTION, EXCEPTION_SECTION, TRACEBACK_SECTION};
 use pef_views::{Container, Header, SectionView};
 use std::process::Abort;
 use std::test::Fail;
@@ -160,6 +161,34 @@ fn section(rt: HostRuntime) -> Result<(), Fail> {
     let bytes = with_words(rt.alloc(), &BYTES, SECTION_WORDS)?;
     let container = Container::read(&bytes)?;
     test_sections(&rt, &container);
+    Ok(())
+}
+
+/// Kinds of sections that aren't instantiated, and a word of a section header with each.
+const OTHER_KINDS: &[(u8, u32)] = &[
+    (DEBUG_SECTION, 0x0504_0400),
+    (EXCEPTION_SECTION, 0x0704_0400),
+    (TRACEBACK_SECTION, 0x0804_0400),
+];
+
+/// Tests the kind of section 3, which is behind those that are instantiated.
+fn test_kind(rt: &impl Abort, bytes: &[u8], kind: u8) -> Result<(), Fail> {
+    let container = Container::read(bytes)?;
+    assert!(rt; container.header().instantiated_section_count == 2);
+    let section = container.section(3).ok_or("no section")?;
+    assert!(rt; section.section_kind == kind);
+    Ok(())
+}
+
+#[test]
+fn not_instantiated(rt: HostRuntime) -> Result<(), Fail> {
+    for row in OTHER_KINDS {
+        let (kind, word) = *row;
+        let bytes = with_words(rt.alloc(), &BYTES, &[(32, 0x0004_0002), (148, word)])?;
+        test_kind(&rt, &bytes, kind)?;
+        let bytes = with_words(rt.alloc(), &BYTES, &[(64, word)])?;
+        assert!(rt; refused_container(&bytes) == Some(7), "kind {kind}");
+    }
     Ok(())
 }
 

@@ -51,15 +51,33 @@ pub fn push_sections(text: &mut String, align: u32, total: u32) -> Result<(), Al
     Ok(())
 }
 
-/// Lines for the fixups of all sections by a base that is spelled, at every other word.
+/// Lines for the fixups of a section by all sections in turn, at every other word.
+pub fn push_in_turn(text: &mut String, section: &str) -> Result<(), AllocError> {
+    for i in 0..FIXUPS {
+        writeln!(text, "fix {section} {} section s{}", 8 * i, i % 8)?;
+    }
+    Ok(())
+}
+
+/// How many halfwords the shortest program for these has: one for each fixup, and one for each of the 16,383 words
+/// between two, less 2,048. So many fixups are by section 1, which is section D at the start, and so are made by an
+/// instruction that passes a word besides. To set section D anew takes a halfword and saves no more, since the next
+/// fixup by the same section is eight fixups ahead.
+pub const IN_TURN_LENGTH: u32 = 30_719;
+
+/// Lines for the fixups of all sections at every other word: of the first four sections by a base that is spelled, of
+/// the others by all sections in turn.
 pub fn push_every_other(text: &mut String, base: &str) -> Result<(), AllocError> {
     let fixups = Spaced {
         first: 0,
         step: 8,
         count: FIXUPS,
     };
-    for section in SECTIONS {
+    for section in &SECTIONS[..4] {
         push_fixups(text, section, fixups, base)?;
+    }
+    for section in &SECTIONS[4..] {
+        push_in_turn(text, section)?;
     }
     Ok(())
 }
@@ -75,8 +93,8 @@ fn push_imports(text: &mut String) -> Result<(), AllocError> {
     Ok(())
 }
 
-/// A script at all limits at once: libraries, imports, sections, exports, and fixups by the last import that
-/// don't adjoin.
+/// A script at all limits at once: libraries, imports, sections, exports, and fixups that don't adjoin, by the last
+/// import and by all sections in turn.
 pub fn at_all_limits(alloc: Global) -> Result<String, AllocError> {
     let mut text = String::new(alloc);
     push_imports(&mut text)?;

@@ -1,4 +1,4 @@
-use crate::fixture::{told, told_of_pairs};
+use crate::closures::{told, told_of_pairs};
 use std::alloc::Global;
 use std::process::Abort;
 use std::test::Fail;

@@ -1,3 +1,5 @@
+//! What is told of closures.
+
 use cfm_closure::{BindFault, Closure, Store, Target, closure};
 use std::alloc::{AllocError, Global};
 use std::fmt::Write;

@@ -1,3 +1,5 @@
+//! Closures of as many fragments as a store may have.
+
 use cfm_closure::{Closure, Store, closure};
 use std::alloc::{AllocError, Global};
 use std::fmt::Write;
@@ -6,40 +8,51 @@ use std::test::Fail;
 use test_links::fragments::{add, container};
 
 /// As many fragments as a store may have.
-const FRAGMENTS: usize = 256;
+pub(crate) const FRAGMENTS: usize = 256;
 
-/// A script that needs the fragments of a range.
-fn script(alloc: Global, from: usize, to: usize) -> Result<String, AllocError> {
+/// The script of a fragment that needs all.
+fn needing_all(alloc: Global) -> Result<String, AllocError> {
     let mut text = String::new(alloc);
-    for q in from..to.min(FRAGMENTS) {
+    for q in 0..FRAGMENTS {
         write!(text, "library f{q} 0 0 -\n")?;
     }
     Ok(text)
 }
 
-/// A container that needs the fragments of a range.
-fn needing(alloc: Global, from: usize, to: usize) -> Result<Vec<u8>, Fail> {
-    let text = script(alloc, from, to)?;
-    container(alloc, text.as_str(), &[])
+/// The script of a fragment that needs the next one, and whose word is the address of that one's. Behind the last one
+/// there is none, so its word is 0.
+fn needing_next(alloc: Global, p: usize) -> Result<String, AllocError> {
+    let mut text = String::new(alloc);
+    write!(
+        text,
+        "library f{} 0 0 weak\nimport v data strong\n",
+        p.wrapping_add(1)
+    )?;
+    text.push_str("section s data process 4 4\nfix s 0 import v\nexport v data s 0\n")?;
+    Ok(text)
+}
+
+/// The script of a fragment.
+fn script(alloc: Global, p: usize, is_complete: bool) -> Result<String, AllocError> {
+    if is_complete {
+        needing_all(alloc)
+    } else {
+        needing_next(alloc, p)
+    }
 }
 
 /// The containers of all fragments, of which each needs all, or just the next one.
-fn containers(alloc: Global, is_complete: bool) -> Result<Vec<Vec<u8>>, Fail> {
+pub(crate) fn containers(alloc: Global, is_complete: bool) -> Result<Vec<Vec<u8>>, Fail> {
     let mut containers = Vec::new(alloc);
     for p in 0..FRAGMENTS {
-        let next = p.wrapping_add(1);
-        let (from, to) = if is_complete {
-            (0, FRAGMENTS)
-        } else {
-            (next, next.wrapping_add(1))
-        };
-        containers.push(needing(alloc, from, to)?)?;
+        let text = script(alloc, p, is_complete)?;
+        containers.push(container(alloc, text.as_str(), &[])?)?;
     }
     Ok(containers)
 }
 
 /// The names of all fragments.
-fn names(alloc: Global) -> Result<Vec<String>, AllocError> {
+pub(crate) fn names(alloc: Global) -> Result<Vec<String>, AllocError> {
     let mut names = Vec::new(alloc);
     for p in 0..FRAGMENTS {
         names.push(format!(in alloc; "f{p}")?)?;
@@ -48,7 +61,7 @@ fn names(alloc: Global) -> Result<Vec<String>, AllocError> {
 }
 
 /// The store of these fragments.
-fn store_of_all<'a>(
+pub(crate) fn store_of_all<'a>(
     alloc: Global,
     names: &'a [String],
     containers: &'a [Vec<u8>],
