@@ -6,11 +6,12 @@ use Rattle.std.specs.Result.{result_err}
 use Rattle.pef_words.specs.Refusals.{unless}
 use Rattle.pef_words.proofs.Laws.Refusals.{neither, none_among, unless_ok}
 use Rattle.cfm_store.specs.Stores.{Pair, pair_of}
-use Rattle.cfm_libraries.specs.Faults.{◌>>=◌, Refusal, reexport_loop}
+use Rattle.cfm_libraries.specs.Faults.{BindRefusal, reexport_loop}
 use Rattle.cfm_libraries.specs.Fragments.{import_count}
 use Rattle.cfm_libraries.specs.Orders.{EndsWith, IsComplete}
 use Rattle.cfm_libraries.specs.Walk.{order_of}
-use Rattle.cfm_libraries.proofs.Laws.{came, order-complete, order-last, order-root, same_ok}
+use Rattle.cfm_libraries.proofs.Laws.{came, order-complete, order-last, same_ok}
+use Rattle.pef_words.specs.Results.{◌>>=◌}
 use Rattle.cfm_closure.specs.declared.targets.Target.{Target}
 use Rattle.cfm_closure.specs.Closures.{Closed, closed_of, first_refused, import_refusal, imports_refusal}
 use Rattle.cfm_closure.specs.Initialization.{init_order_of}
@@ -45,9 +46,6 @@ closed-complete pairs root c is = order-complete pairs root c.order (is_closed p
 pub closed-root : (pairs : List Pair) (root : ℕ) (c : Closed) → root < length pairs → closed_of pairs root ≡ Ok c → EndsWith c.order root
 closed-root pairs root c inside is = order-last pairs root c.order (is_closed pairs root c is).order inside
 
-pub closed-member : (pairs : List Pair) (root : ℕ) (c : Closed) → root < length pairs → closed_of pairs root ≡ Ok c → Contains c.order root
-closed-member pairs root c inside is = order-root pairs root c.order (is_closed pairs root c is).order inside
-
 -- where no import is refused, none of a fragment's is
 passes-of : (pairs : List Pair) (order : List ℕ) (p : ℕ) → first_refused pairs order ≡ None → Contains order p → imports_refusal pairs p ≡ None
 passes-of pairs [] p none there = absurd (let h = there.1 in omega arith)
@@ -58,7 +56,7 @@ passes-of pairs (q ∷ order) p none there =
       | inr later ↦ passes-of pairs order p both.1 later
     ]
 
-not_refused : {A : Type 0} (r : Result A Refusal) → result_err r ≡ None → (x : A) × (r ≡ Ok x)
+not_refused : {A : Type 0} (r : Result A BindRefusal) → result_err r ≡ None → (x : A) × (r ≡ Ok x)
 not_refused (Ok x) none = (x, refl)
 not_refused (Err e) none = absurd (cc)
 
@@ -72,7 +70,7 @@ closed-target pairs root c p j is there under =
 pub own-target : (pairs : List Pair) (root : ℕ) (c : Closed) (p j : ℕ) → closed_of pairs root ≡ Ok c → Contains c.order p → target_within pairs c.order p j ≡ target_of pairs p j
 unfolding target_of
 own-target pairs root c p j is there =
-    ap (λ o. option_map_or (λ (answer : Result (Option Target) Refusal). answer) o (Err (reexport_loop (pair_of pairs p).name (symbol_of pairs p j))))
+    ap (λ o. option_map_or (λ (answer : Result (Option Target) BindRefusal). answer) o (Err (reexport_loop (pair_of pairs p).name (symbol_of pairs p j))))
     (follow-order pairs c.order (closed-complete pairs root c is) p j there)
 
 pub same-targets : (pairs : List Pair) (root root' : ℕ) (c c' : Closed) (p j : ℕ) → closed_of pairs root ≡ Ok c → closed_of pairs root' ≡ Ok c' → Contains c.order p → Contains c'.order p → target_within pairs c.order p j ≡ target_within pairs c'.order p j

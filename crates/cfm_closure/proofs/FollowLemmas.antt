@@ -6,7 +6,7 @@ use Rattle.pef_loader.specs.Export.{Export}
 use Rattle.pef_loader.specs.Loader.{Loaded, export_of}
 use Rattle.pef_loader.proofs.Laws.{named_is}
 use Rattle.cfm_store.specs.Stores.{Pair}
-use Rattle.cfm_libraries.specs.Faults.{Refusal}
+use Rattle.cfm_libraries.specs.Faults.{BindRefusal}
 use Rattle.cfm_libraries.specs.Fragments.{export_count, loader_at}
 use Rattle.cfm_closure.specs.Reexports.{MeetsAgain, hops, met, next_of}
 use Rattle.cfm_closure.specs.Targets.{Hop, ends, follow, followed, hop, through}
@@ -37,7 +37,7 @@ onward_from pairs p j q e k is =
 pub onward : (pairs : List Pair) (v : ℕ × ℕ) (next : (ℕ × ℕ) × (ℕ × ℕ)) → next_of (hop pairs v.0 v.1) ≡ Some next → Onward pairs v next.0 next.1
 onward pairs v next is = by (hop pairs v.0 v.1) refl is
   where
-    by : (r : Result Hop Refusal) → hop pairs v.0 v.1 ≡ r → next_of r ≡ Some next → Onward pairs v next.0 next.1
+    by : (r : Result Hop BindRefusal) → hop pairs v.0 v.1 ≡ r → next_of r ≡ Some next → Onward pairs v next.0 next.1
     by (Ok (ends target)) was is = absurd (cc)
     by (Ok (through q e k)) was is =
         let same : ((q, e), (q, k)) ≡ next = cc in
@@ -83,13 +83,13 @@ module _ (pairs : List Pair) where
   unfolding follow hops
   follow-none zero v none = by (hop pairs v.0 v.1) refl none
     where
-      by : (r : Result Hop Refusal) → hop pairs v.0 v.1 ≡ r → followed (λ q k. None) r ≡ None → Goes 1 v
+      by : (r : Result Hop BindRefusal) → hop pairs v.0 v.1 ≡ r → followed (λ q k. None) r ≡ None → Goes 1 v
       by (Ok (ends target)) was none = absurd (cc)
       by (Ok (through q e k)) was none = record { to = (q, k); is = ap (λ r. option_and_then (λ next. hops pairs 0 next.1) (next_of r)) was }
       by (Err r) was none = absurd (cc)
   follow-none (suc n) v none = by (hop pairs v.0 v.1) refl none (λ u. follow-none n u)
     where
-      by : (r : Result Hop Refusal) → hop pairs v.0 v.1 ≡ r → followed (follow n pairs) r ≡ None → ((u : ℕ × ℕ) → follow n pairs u.0 u.1 ≡ None → Goes (suc n) u) → Goes (suc (suc n)) v
+      by : (r : Result Hop BindRefusal) → hop pairs v.0 v.1 ≡ r → followed (follow n pairs) r ≡ None → ((u : ℕ × ℕ) → follow n pairs u.0 u.1 ≡ None → Goes (suc n) u) → Goes (suc (suc n)) v
       by (Ok (ends target)) was none deeper = absurd (cc)
       by (Ok (through q e k)) was none deeper =
           let g = deeper (q, k) none in
@@ -100,13 +100,13 @@ module _ (pairs : List Pair) where
   unfolding follow hops
   follow-on zero v g = by (hop pairs v.0 v.1) g.is
     where
-      by : (r : Result Hop Refusal) → option_and_then (λ next. hops pairs 0 next.1) (next_of r) ≡ Some g.to → followed (λ q k. None) r ≡ None
+      by : (r : Result Hop BindRefusal) → option_and_then (λ next. hops pairs 0 next.1) (next_of r) ≡ Some g.to → followed (λ q k. None) r ≡ None
       by (Ok (ends target)) is = absurd (cc)
       by (Ok (through q e k)) is = refl
       by (Err r) is = absurd (cc)
   follow-on (suc n) v g = by (hop pairs v.0 v.1) g.is (λ u. follow-on n u)
     where
-      by : (r : Result Hop Refusal) → option_and_then (λ next. hops pairs (suc n) next.1) (next_of r) ≡ Some g.to → ((u : ℕ × ℕ) → Goes (suc n) u → follow n pairs u.0 u.1 ≡ None) → followed (follow n pairs) r ≡ None
+      by : (r : Result Hop BindRefusal) → option_and_then (λ next. hops pairs (suc n) next.1) (next_of r) ≡ Some g.to → ((u : ℕ × ℕ) → Goes (suc n) u → follow n pairs u.0 u.1 ≡ None) → followed (follow n pairs) r ≡ None
       by (Ok (ends target)) is deeper = absurd (cc)
       by (Ok (through q e k)) is deeper = deeper (q, k) (record { to = g.to; is = is })
       by (Err r) is deeper = absurd (cc)

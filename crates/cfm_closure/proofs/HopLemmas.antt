@@ -6,7 +6,7 @@ use Rattle.pef_loader.specs.Export.{Export}
 use Rattle.pef_loader.specs.Import.{Import}
 use Rattle.pef_loader.specs.Loader.{Loaded, export_of, named_of}
 use Rattle.cfm_store.specs.Stores.{Pair, pair_of}
-use Rattle.cfm_libraries.specs.Faults.{Refusal, symbol_missing}
+use Rattle.cfm_libraries.specs.Faults.{BindRefusal, symbol_missing}
 use Rattle.cfm_libraries.specs.Fragments.{import_at, loader_at}
 use Rattle.cfm_libraries.specs.Libraries.{library_at}
 use Rattle.cfm_closure.specs.declared.targets.Target.TheVariants.{Absolute}
@@ -33,7 +33,7 @@ through_by q' e' value (negsuc n) q e k is = by (n == 1) is
     by true is = absurd (cc)
     by false is = (cc, cc, cc)
 
-through_weak : (weak : Bool) (r : Refusal) (q e k : ℕ) → cond weak (Ok (ends None)) (Err r) ≡ Ok (through q e k) → ⊥
+through_weak : (weak : Bool) (r : BindRefusal) (q e k : ℕ) → cond weak (Ok (ends None)) (Err r) ≡ Ok (through q e k) → ⊥
 through_weak true r q e k is = cc
 through_weak false r q e k is = cc
 

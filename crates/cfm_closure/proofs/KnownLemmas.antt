@@ -8,7 +8,7 @@ use Rattle.std.proofs.lemmas.Bool.Decides.{eqb_tells}
 use Rattle.std.proofs.lemmas.List.{at_drop_more, get_or-set_same, get_or-set_other, get_or-replicate, get_or_default, get_or_past, length-replicate, length-set}
 use Rattle.pef_words.specs.Refusals.{unless}
 use Rattle.cfm_store.specs.Stores.{Pair}
-use Rattle.cfm_libraries.specs.Faults.{Refusal}
+use Rattle.cfm_libraries.specs.Faults.{BindRefusal}
 use Rattle.cfm_libraries.specs.Fragments.{import_count}
 use Rattle.cfm_libraries.specs.Orders.{IsComplete}
 use Rattle.cfm_closure.specs.declared.targets.Target.{Target}
@@ -182,7 +182,7 @@ unless-err None x r is = absurd (cc)
 unless-err (Some f) x r is = cc
 
 -- the next fragment decides where one of its imports is refused, and is passed over where none is
-pub first_refused-here : (pairs : List Pair) (order : List ℕ) (i : ℕ) (r : Refusal) → i < length order → imports_refusal pairs (get_or order i 0) ≡ Some r → first_refused pairs (drop i order) ≡ Some r
+pub first_refused-here : (pairs : List Pair) (order : List ℕ) (i : ℕ) (r : BindRefusal) → i < length order → imports_refusal pairs (get_or order i 0) ≡ Some r → first_refused pairs (drop i order) ≡ Some r
 first_refused-here pairs order i r under is = at_drop_more (first_refused pairs) order i 0 under ∙ ap (λ o. option_or o (first_refused pairs (drop (i + 1) order))) is
 
 pub first_refused-next : (pairs : List Pair) (order : List ℕ) (i : ℕ) → i < length order → imports_refusal pairs (get_or order i 0) ≡ None → first_refused pairs (drop (i + 1) order) ≡ first_refused pairs (drop i order)

@@ -3,7 +3,7 @@ use Rattle.std.proofs.Common.{◌≡◌, ℕ, zero, suc, ◌+◌, ◌<◌, List,
 use Rattle.std.specs.Prelude.{Result}
 use Rattle.std.specs.Option.{option_and_then, option_map_or}
 use Rattle.cfm_store.specs.Stores.{Pair, pair_of}
-use Rattle.cfm_libraries.specs.Faults.{Refusal, reexport_loop}
+use Rattle.cfm_libraries.specs.Faults.{BindRefusal, reexport_loop}
 use Rattle.cfm_libraries.specs.Fragments.{import_count}
 use Rattle.cfm_libraries.specs.Orders.{IsComplete}
 use Rattle.cfm_closure.specs.declared.targets.Target.{Target}
@@ -15,25 +15,25 @@ use Rattle.cfm_closure.proofs.LoopLemmas.{follow-next, follow-order}
 
 module _ (pairs : List Pair) where
   -- what an import leads to is its target, or its refusal
-  pub target-led : (p j : ℕ) (a : Result (Option Target) Refusal) → led_to pairs (p, j) ≡ Some a → target_of pairs p j ≡ a
+  pub target-led : (p j : ℕ) (a : Result (Option Target) BindRefusal) → led_to pairs (p, j) ≡ Some a → target_of pairs p j ≡ a
   unfolding target_of
-  target-led p j a is = ap (λ o. option_map_or (λ (answer : Result (Option Target) Refusal). answer) o (Err (reexport_loop (pair_of pairs p).name (symbol_of pairs p j)))) is
+  target-led p j a is = ap (λ o. option_map_or (λ (answer : Result (Option Target) BindRefusal). answer) o (Err (reexport_loop (pair_of pairs p).name (symbol_of pairs p j)))) is
 
   -- an import that leads to nothing goes on for ever
   pub target-endless : (p j : ℕ) → led_to pairs (p, j) ≡ None → target_of pairs p j ≡ Err (reexport_loop (pair_of pairs p).name (symbol_of pairs p j))
   unfolding target_of
-  target-endless p j is = ap (λ o. option_map_or (λ (answer : Result (Option Target) Refusal). answer) o (Err (reexport_loop (pair_of pairs p).name (symbol_of pairs p j)))) is
+  target-endless p j is = ap (λ o. option_map_or (λ (answer : Result (Option Target) BindRefusal). answer) o (Err (reexport_loop (pair_of pairs p).name (symbol_of pairs p j)))) is
 
   -- what has a target is led to it
   pub led-target : (p j : ℕ) (t : Option Target) → target_of pairs p j ≡ Ok t → led_to pairs (p, j) ≡ Some (Ok t)
   unfolding target_of
   led-target p j t is = by (led_to pairs (p, j)) refl is
     where
-      by : (o : Option (Result (Option Target) Refusal)) → led_to pairs (p, j) ≡ o → option_map_or (λ answer. answer) o (Err (reexport_loop (pair_of pairs p).name (symbol_of pairs p j))) ≡ Ok t → o ≡ Some (Ok t)
+      by : (o : Option (Result (Option Target) BindRefusal)) → led_to pairs (p, j) ≡ o → option_map_or (λ answer. answer) o (Err (reexport_loop (pair_of pairs p).name (symbol_of pairs p j))) ≡ Ok t → o ≡ Some (Ok t)
       by None was is = absurd (cc)
       by (Some a) was is = ap Some is
 
-  follow-at : (n : ℕ) (p j : ℕ) (r : Result Hop Refusal) (a : Result (Option Target) Refusal) → hop pairs p j ≡ r → ((on : ℕ → ℕ → Option (Result (Option Target) Refusal)) → followed on r ≡ Some a) → follow n pairs p j ≡ Some a
+  follow-at : (n : ℕ) (p j : ℕ) (r : Result Hop BindRefusal) (a : Result (Option Target) BindRefusal) → hop pairs p j ≡ r → ((on : ℕ → ℕ → Option (Result (Option Target) BindRefusal)) → followed on r ≡ Some a) → follow n pairs p j ≡ Some a
   unfolding follow
   follow-at zero p j r a is there = ap (followed (λ q k. None)) is ∙ there (λ q k. None)
   follow-at (suc n) p j r a is there = ap (followed (follow n pairs)) is ∙ there (follow n pairs)
@@ -42,7 +42,7 @@ module _ (pairs : List Pair) where
   pub led-ends : (p j : ℕ) (t : Option Target) → hop pairs p j ≡ Ok (ends t) → led_to pairs (p, j) ≡ Some (Ok t)
   led-ends p j t is = follow-at (exports_in pairs) p j (Ok (ends t)) (Ok t) is (λ on. refl)
 
-  pub led-refused : (p j : ℕ) (r : Refusal) → hop pairs p j ≡ Err r → led_to pairs (p, j) ≡ Some (Err r)
+  pub led-refused : (p j : ℕ) (r : BindRefusal) → hop pairs p j ≡ Err r → led_to pairs (p, j) ≡ Some (Err r)
   led-refused p j r is = follow-at (exports_in pairs) p j (Err r) (Err r) is (λ on. refl)
 
   pub led-through : (p j q e k : ℕ) → hop pairs p j ≡ Ok (through q e k) → led_to pairs (q, k) ≡ led_to pairs (p, j)

@@ -5,7 +5,7 @@ use Rattle.std.specs.List.{range_with_len}
 use Rattle.std.specs.Option.{option_and_then}
 use Rattle.std.proofs.lemmas.List.FromFn.{get_or-range_with_len, length-range_with_len}
 use Rattle.cfm_store.specs.Stores.{Pair}
-use Rattle.cfm_libraries.specs.Faults.{Refusal}
+use Rattle.cfm_libraries.specs.Faults.{BindRefusal}
 use Rattle.cfm_libraries.specs.Libraries.{bound_to}
 use Rattle.cfm_libraries.specs.Orders.{IsComplete}
 use Rattle.cfm_libraries.proofs.Laws.{bound-inside, library_at-is, stands_for}
@@ -105,29 +105,29 @@ module _ (pairs : List Pair) where
   for_ever v n m = follow-on pairs n v (meets_again-for_ever pairs v m (suc n))
 
   -- an answer stays with more hops
-  follow-more : (n : ℕ) (v : ℕ × ℕ) (a : Result (Option Target) Refusal) → follow n pairs v.0 v.1 ≡ Some a → follow (suc n) pairs v.0 v.1 ≡ Some a
+  follow-more : (n : ℕ) (v : ℕ × ℕ) (a : Result (Option Target) BindRefusal) → follow n pairs v.0 v.1 ≡ Some a → follow (suc n) pairs v.0 v.1 ≡ Some a
   unfolding follow
   follow-more zero v a is = by (hop pairs v.0 v.1) is
     where
-      by : (r : Result Hop Refusal) → followed (λ q k. None) r ≡ Some a → followed (follow 0 pairs) r ≡ Some a
+      by : (r : Result Hop BindRefusal) → followed (λ q k. None) r ≡ Some a → followed (follow 0 pairs) r ≡ Some a
       by (Ok (ends t)) is = is
       by (Ok (through q e k)) is = absurd (cc)
       by (Err r) is = is
   follow-more (suc n) v a is = by (hop pairs v.0 v.1) is (λ u. follow-more n u a)
     where
-      by : (r : Result Hop Refusal) → followed (follow n pairs) r ≡ Some a → ((u : ℕ × ℕ) → follow n pairs u.0 u.1 ≡ Some a → follow (suc n) pairs u.0 u.1 ≡ Some a) → followed (follow (suc n) pairs) r ≡ Some a
+      by : (r : Result Hop BindRefusal) → followed (follow n pairs) r ≡ Some a → ((u : ℕ × ℕ) → follow n pairs u.0 u.1 ≡ Some a → follow (suc n) pairs u.0 u.1 ≡ Some a) → followed (follow (suc n) pairs) r ≡ Some a
       by (Ok (ends t)) is deeper = is
       by (Ok (through q e k)) is deeper = deeper (q, k) is
       by (Err r) is deeper = is
 
-  follow-later : (m n : ℕ) (v : ℕ × ℕ) (a : Result (Option Target) Refusal) → follow n pairs v.0 v.1 ≡ Some a → follow (m + n) pairs v.0 v.1 ≡ Some a
+  follow-later : (m n : ℕ) (v : ℕ × ℕ) (a : Result (Option Target) BindRefusal) → follow n pairs v.0 v.1 ≡ Some a → follow (m + n) pairs v.0 v.1 ≡ Some a
   follow-later zero n v a is = let e : n ≡ 0 + n = omega arith in subst (λ n. follow n pairs v.0 v.1 ≡ Some a) e is
   follow-later (suc m) n v a is =
       let e : suc (m + n) ≡ suc m + n = omega arith in
       subst (λ n. follow n pairs v.0 v.1 ≡ Some a) e (follow-more (m + n) v a (follow-later m n v a is))
 
   -- two numbers of hops that answer answer the same
-  same_answer : (m n : ℕ) (v : ℕ × ℕ) (a b : Result (Option Target) Refusal) → follow m pairs v.0 v.1 ≡ Some a → follow n pairs v.0 v.1 ≡ Some b → a ≡ b
+  same_answer : (m n : ℕ) (v : ℕ × ℕ) (a b : Result (Option Target) BindRefusal) → follow m pairs v.0 v.1 ≡ Some a → follow n pairs v.0 v.1 ≡ Some b → a ≡ b
   same_answer m n v a b is is' =
       let e : n + m ≡ m + n = omega arith in
       let x = follow-later n m v a is in
@@ -139,7 +139,7 @@ module _ (pairs : List Pair) where
   pub enough : (n : ℕ) (v : ℕ × ℕ) → (follow n pairs v.0 v.1 ≡ None → MeetsAgain pairs v) → follow n pairs v.0 v.1 ≡ follow (exports_in pairs) pairs v.0 v.1
   enough n v meets = by (follow n pairs v.0 v.1) (follow (exports_in pairs) pairs v.0 v.1) refl refl
     where
-      by : (x y : Option (Result (Option Target) Refusal)) → follow n pairs v.0 v.1 ≡ x → follow (exports_in pairs) pairs v.0 v.1 ≡ y → x ≡ y
+      by : (x y : Option (Result (Option Target) BindRefusal)) → follow n pairs v.0 v.1 ≡ x → follow (exports_in pairs) pairs v.0 v.1 ≡ y → x ≡ y
       by None y is is' = sym (for_ever v (exports_in pairs) (meets is)) ∙ is'
       by (Some a) None is is' = sym is ∙ for_ever v n (again_in_store v is')
       by (Some a) (Some b) is is' = ap Some (same_answer n (exports_in pairs) v a b is is')
@@ -154,7 +154,7 @@ module _ (pairs : List Pair) where
       meets : follow (suc (exports_in pairs)) pairs p j ≡ None → MeetsAgain pairs (p, j)
       meets none = by (follow (exports_in pairs) pairs p j) refl
         where
-          by : (x : Option (Result (Option Target) Refusal)) → follow (exports_in pairs) pairs p j ≡ x → MeetsAgain pairs (p, j)
+          by : (x : Option (Result (Option Target) BindRefusal)) → follow (exports_in pairs) pairs p j ≡ x → MeetsAgain pairs (p, j)
           by None none' = again_in_store (p, j) none'
           by (Some a) some = absurd (let e : None ≡ Some a = sym none ∙ follow-more (exports_in pairs) (p, j) a some in cc)
 

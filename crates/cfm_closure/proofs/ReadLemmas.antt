@@ -15,11 +15,12 @@ use Rattle.cfm_store.specs.declared.versions.Fit.{Fit}
 use Rattle.cfm_store.specs.declared.versions.Fit.TheVariants.{Fits, TooOld, TooNew}
 use Rattle.cfm_store.specs.Stores.{Pair, pair_of, place_of}
 use Rattle.cfm_store.proofs.Laws.{place_of-below, place_of-first}
-use Rattle.cfm_libraries.specs.Faults.{◌>>=◌, Refusal, implementation_too_new, implementation_too_old, init_loop, library_missing, no_container, no_loader, reexport_loop, symbol_missing}
+use Rattle.cfm_libraries.specs.Faults.{BindRefusal, implementation_too_new, implementation_too_old, init_loop, library_missing, no_container, no_loader, reexport_loop, symbol_missing}
 use Rattle.cfm_libraries.specs.Fragments.{Fragment, fragment_of, import_at, import_count, loader_at, with_container, with_loader}
 use Rattle.cfm_libraries.specs.Libraries.{absent_or, bound, bound_at, bound_by, bound_to, fit_with, is_weak, library_at}
 use Rattle.cfm_libraries.specs.Walk.{Walked, is_marked, joining, marking, order_of, unwalked, walk, walk_at, walk_to, walks_from}
 use Rattle.cfm_libraries.proofs.Laws.{stands_for}
+use Rattle.pef_words.specs.Results.{◌>>=◌}
 use Rattle.cfm_closure.specs.declared.targets.Target.{Target}
 use Rattle.cfm_closure.specs.Closures.{Closed, closed_of, first_refused, import_refusal, imports_refusal}
 use Rattle.cfm_closure.specs.Initialization.{first_left, init_order_of, next_ready, take_next, take_ready, taken_all}
@@ -27,7 +28,7 @@ use Rattle.cfm_closure.specs.Promises.{AllRead, IsOfBinding, IsOfUnread}
 use Rattle.cfm_closure.specs.Targets.{Hop, ends, exported, exports_in, follow, followed, hop, hop_from, hop_of, hop_to, symbol_of, target_of, through}
 
 -- a refusal of a fragment has its name
-abbrev IsNamed : List ℕ → Refusal → Type 0
+abbrev IsNamed : List ℕ → BindRefusal → Type 0
 IsNamed name (no_container f v) = name ≡ f
 IsNamed name (no_loader f v) = name ≡ f
 IsNamed name (library_missing f l) = ⊤
@@ -37,21 +38,21 @@ IsNamed name (implementation_too_new f l) = ⊤
 IsNamed name (reexport_loop f s) = ⊤
 IsNamed name (init_loop f) = ⊤
 
-loader-named : (name : List ℕ) (c : Contained) (l : Result Loaded LoaderFault) (r : Refusal) → with_loader name c l ≡ Err r → IsNamed name r
+loader-named : (name : List ℕ) (c : Contained) (l : Result Loaded LoaderFault) (r : BindRefusal) → with_loader name c l ≡ Err r → IsNamed name r
 loader-named name c (Ok l) r is = absurd (cc)
 loader-named name c (Err fault) r is = let same : no_loader name fault ≡ r = cc in subst (IsNamed name) same refl
 
-container-named : (name : List ℕ) (c : Result Contained ViewFault) (r : Refusal) → with_container name c ≡ Err r → IsNamed name r
+container-named : (name : List ℕ) (c : Result Contained ViewFault) (r : BindRefusal) → with_container name c ≡ Err r → IsNamed name r
 container-named name (Ok c) r is = loader-named name c (loaded_of c.header.instantiated_section_count c.loader) r is
 container-named name (Err fault) r is = let same : no_container name fault ≡ r = cc in subst (IsNamed name) same refl
 
-fragment-named : (pairs : List Pair) (p : ℕ) (r : Refusal) → fragment_of pairs p ≡ Err r → IsNamed (pair_of pairs p).name r
+fragment-named : (pairs : List Pair) (p : ℕ) (r : BindRefusal) → fragment_of pairs p ≡ Err r → IsNamed (pair_of pairs p).name r
 unfolding fragment_of
 fragment-named pairs p r is = container-named (pair_of pairs p).name (container_of (pair_of pairs p).bytes) r is
 
 module _ (pairs : List Pair) (root : ℕ) where
   -- a refusal of bytes is of a fragment that isn't read
-  abbrev Tells : Refusal → Type 0
+  abbrev Tells : BindRefusal → Type 0
   Tells (no_container f v) = IsOfUnread pairs root f (no_container f v)
   Tells (no_loader f v) = IsOfUnread pairs root f (no_loader f v)
   Tells (library_missing f l) = ⊤
@@ -62,16 +63,16 @@ module _ (pairs : List Pair) (root : ℕ) where
   Tells (init_loop f) = ⊤
 
   -- .. so is that of a result, where there is one
-  abbrev Binds : {A : Type 0} → Result A Refusal → Type 0
+  abbrev Binds : {A : Type 0} → Result A BindRefusal → Type 0
   Binds (Ok x) = ⊤
   Binds (Err r) = Tells r
 
   -- .. and so are those of what follows
-  binds-then : {A B : Type 0} (r : Result A Refusal) (f : A → Result B Refusal) → Binds r → ((x : A) → r ≡ Ok x → Binds (f x)) → Binds (r >>= f)
+  binds-then : {A B : Type 0} (r : Result A BindRefusal) (f : A → Result B BindRefusal) → Binds r → ((x : A) → r ≡ Ok x → Binds (f x)) → Binds (r >>= f)
   binds-then (Ok x) f first later = later x refl
   binds-then (Err e) f first later = first
 
-  absent-binds : (weak : Bool) (r : Refusal) → Tells r → Binds (absent_or weak r)
+  absent-binds : (weak : Bool) (r : BindRefusal) → Tells r → Binds (absent_or weak r)
   absent-binds true r of = tt
   absent-binds false r of = of
 
@@ -108,7 +109,7 @@ module _ (pairs : List Pair) (root : ℕ) where
   library-met : (p l q : ℕ) → bound_to pairs p l ≡ Ok (Some q) → IsMet q
   library-met p l q is = let s = stands_for pairs p l q is in record { inside = s.inside; found = inr s.first }
 
-  unread : (p : ℕ) (name : List ℕ) (r : Refusal) → IsMet p → fragment_of pairs p ≡ Err r → (pair_of pairs p).name ≡ name → IsOfUnread pairs root name r
+  unread : (p : ℕ) (name : List ℕ) (r : BindRefusal) → IsMet p → fragment_of pairs p ≡ Err r → (pair_of pairs p).name ≡ name → IsOfUnread pairs root name r
   unread p name r met is named = record {
     position = p;
     inside = met.inside;
@@ -120,7 +121,7 @@ module _ (pairs : List Pair) (root : ℕ) where
   fragment-binds : (p : ℕ) → IsMet p → Binds (fragment_of pairs p)
   fragment-binds p met = by (fragment_of pairs p) refl
     where
-      told : (r : Refusal) → fragment_of pairs p ≡ Err r → IsNamed (pair_of pairs p).name r → Tells r
+      told : (r : BindRefusal) → fragment_of pairs p ≡ Err r → IsNamed (pair_of pairs p).name r → Tells r
       told (no_container f v) is named = unread p f (no_container f v) met is named
       told (no_loader f v) is named = unread p f (no_loader f v) met is named
       told (library_missing f l) is named = tt
@@ -130,7 +131,7 @@ module _ (pairs : List Pair) (root : ℕ) where
       told (reexport_loop f s) is named = tt
       told (init_loop f) is named = tt
 
-      by : (r : Result Fragment Refusal) → fragment_of pairs p ≡ r → Binds r
+      by : (r : Result Fragment BindRefusal) → fragment_of pairs p ≡ r → Binds r
       by (Ok f) is = tt
       by (Err r) is = told r is (fragment-named pairs p r is)
 
@@ -153,7 +154,7 @@ module _ (pairs : List Pair) (root : ℕ) where
       by f None = tt
       by f (Some x) = library-binds f.name x
 
-  walks-bind : (v : ℕ → Walked → Result Walked Refusal) → ((q : ℕ) (s : Walked) → IsMet q → Binds (v q s)) → (p l n : ℕ) (s : Walked) → IsMet p → Binds (walks_from v pairs p l n s)
+  walks-bind : (v : ℕ → Walked → Result Walked BindRefusal) → ((q : ℕ) (s : Walked) → IsMet q → Binds (v q s)) → (p l n : ℕ) (s : Walked) → IsMet p → Binds (walks_from v pairs p l n s)
   walks-bind v each p l zero s met = tt
   walks-bind v each p l (suc n) s met =
       binds-then (bound_to pairs p l) (λ q. walk_to v q s >>= walks_from v pairs p (l + 1) n) (entry-binds p l met)
@@ -182,7 +183,7 @@ module _ (pairs : List Pair) (root : ℕ) where
   unfolding hop
   hop-binds p j = of (import_at pairs p j)
     where
-      weak : (b : Bool) (r : Refusal) → Tells r → Binds {A = Hop} (cond b (Ok (ends None)) (Err r))
+      weak : (b : Bool) (r : BindRefusal) → Tells r → Binds {A = Hop} (cond b (Ok (ends None)) (Err r))
       weak true r is = tt
       weak false r is = is
 
@@ -199,7 +200,7 @@ module _ (pairs : List Pair) (root : ℕ) where
       of (Some i) = from i (library_at pairs p i.library)
 
   -- an answer, where there is one
-  abbrev AnswerBinds : Option (Result (Option Target) Refusal) → Type 0
+  abbrev AnswerBinds : Option (Result (Option Target) BindRefusal) → Type 0
   AnswerBinds None = ⊤
   AnswerBinds (Some answer) = Binds answer
 
@@ -207,13 +208,13 @@ module _ (pairs : List Pair) (root : ℕ) where
   unfolding follow
   follow-binds zero p j = by (hop pairs p j) (hop-binds p j)
     where
-      by : (r : Result Hop Refusal) → Binds r → AnswerBinds (followed (λ q k. None) r)
+      by : (r : Result Hop BindRefusal) → Binds r → AnswerBinds (followed (λ q k. None) r)
       by (Ok (ends t)) binds = tt
       by (Ok (through q e k)) binds = tt
       by (Err r) binds = binds
   follow-binds (suc n) p j = by (hop pairs p j) (hop-binds p j) (λ q k. follow-binds n q k)
     where
-      by : (r : Result Hop Refusal) → Binds r → ((q k : ℕ) → AnswerBinds (follow n pairs q k)) → AnswerBinds (followed (follow n pairs) r)
+      by : (r : Result Hop BindRefusal) → Binds r → ((q k : ℕ) → AnswerBinds (follow n pairs q k)) → AnswerBinds (followed (follow n pairs) r)
       by (Ok (ends t)) binds deeper = tt
       by (Ok (through q e k)) binds deeper = deeper q k
       by (Err r) binds deeper = binds
@@ -222,23 +223,23 @@ module _ (pairs : List Pair) (root : ℕ) where
   unfolding target_of
   target-binds p j = by (follow (exports_in pairs) pairs p j) (follow-binds (exports_in pairs) p j)
     where
-      by : (o : Option (Result (Option Target) Refusal)) → AnswerBinds o → Binds (option_map_or (λ answer. answer) o (Err (reexport_loop (pair_of pairs p).name (symbol_of pairs p j))))
+      by : (o : Option (Result (Option Target) BindRefusal)) → AnswerBinds o → Binds (option_map_or (λ answer. answer) o (Err (reexport_loop (pair_of pairs p).name (symbol_of pairs p j))))
       by None binds = tt
       by (Some answer) binds = binds
 
   -- a refusal that is there
-  abbrev RefusalBinds : Option Refusal → Type 0
+  abbrev RefusalBinds : Option BindRefusal → Type 0
   RefusalBinds None = ⊤
   RefusalBinds (Some r) = Tells r
 
-  or-binds : (o rest : Option Refusal) → RefusalBinds o → RefusalBinds rest → RefusalBinds (option_or o rest)
+  or-binds : (o rest : Option BindRefusal) → RefusalBinds o → RefusalBinds rest → RefusalBinds (option_or o rest)
   or-binds None rest first later = later
   or-binds (Some r) rest first later = first
 
   import-binds : (p j : ℕ) → RefusalBinds (import_refusal pairs p j)
   import-binds p j = by (target_of pairs p j) (target-binds p j)
     where
-      by : (r : Result (Option Target) Refusal) → Binds r → RefusalBinds (result_err r)
+      by : (r : Result (Option Target) BindRefusal) → Binds r → RefusalBinds (result_err r)
       by (Ok t) binds = tt
       by (Err r) binds = binds
 
@@ -258,10 +259,10 @@ module _ (pairs : List Pair) (root : ℕ) where
   with_order order init_order = record { pairs = pairs; order = order; init_order = init_order }
 
   -- what follows a closure order
-  abbrev behind : List ℕ → Option Refusal → Result Closed Refusal
+  abbrev behind : List ℕ → Option BindRefusal → Result Closed BindRefusal
   behind order refusal = unless refusal (init_order_of pairs order >>= (λ init_order. Ok (with_order order init_order)))
 
-  behind-binds : (order : List ℕ) (refusal : Option Refusal) → RefusalBinds refusal → Binds (behind order refusal)
+  behind-binds : (order : List ℕ) (refusal : Option BindRefusal) → RefusalBinds refusal → Binds (behind order refusal)
   behind-binds order None binds = binds-then (init_order_of pairs order) (λ init_order. Ok (with_order order init_order)) (ordered-binds order) (λ init_order is. tt)
   behind-binds order (Some r) binds = binds
 
@@ -270,7 +271,7 @@ module _ (pairs : List Pair) (root : ℕ) where
   closed-binds inside = binds-then (order_of pairs root) (λ order. behind order (first_refused pairs order)) (order-binds inside) (λ order is. behind-binds order (first_refused pairs order) (imports-bind order))
 
   -- so a closure that is refused by the bytes of a fragment tells one that isn't read
-  closed-tells : (r : Refusal) → root < length pairs → closed_of pairs root ≡ Err r → Tells r
+  closed-tells : (r : BindRefusal) → root < length pairs → closed_of pairs root ≡ Err r → Tells r
   closed-tells r inside is = subst Binds is (closed-binds inside)
 
   pub closed-no_container : (name : List ℕ) (v : ViewFault) → root < length pairs → closed_of pairs root ≡ Err (no_container name v) → IsOfUnread pairs root name (no_container name v)
@@ -280,16 +281,16 @@ module _ (pairs : List Pair) (root : ℕ) where
   closed-no_loader name v inside is = closed-tells (no_loader name v) inside is
 
 -- .. and where all fragments are read, there is none
-none-unread : (pairs : List Pair) (root : ℕ) → AllRead pairs → (name : List ℕ) (r : Refusal) → IsOfUnread pairs root name r → ⊥
+none-unread : (pairs : List Pair) (root : ℕ) → AllRead pairs → (name : List ℕ) (r : BindRefusal) → IsOfUnread pairs root name r → ⊥
 none-unread pairs root read name r of =
     let f = read of.position of.inside in
     let both : Ok f.0 ≡ Err r = sym f.1 ∙ of.refused in
     cc
 
-pub closed-refused : (pairs : List Pair) → AllRead pairs → (root : ℕ) (r : Refusal) → root < length pairs → closed_of pairs root ≡ Err r → IsOfBinding r
+pub closed-refused : (pairs : List Pair) → AllRead pairs → (root : ℕ) (r : BindRefusal) → root < length pairs → closed_of pairs root ≡ Err r → IsOfBinding r
 closed-refused pairs read root r inside is = by r (closed-tells pairs root r inside is)
   where
-    by : (r : Refusal) → Tells pairs root r → IsOfBinding r
+    by : (r : BindRefusal) → Tells pairs root r → IsOfBinding r
     by (no_container f v) tells = none-unread pairs root read f (no_container f v) tells
     by (no_loader f v) tells = none-unread pairs root read f (no_loader f v) tells
     by (library_missing f l) tells = tt

@@ -1,27 +1,15 @@
 -- Imports that are read all together are those of their fragment.
-use Rattle.std.proofs.Common.{◌≡◌, ℕ, ◌<◌, List, length, replicate, Option, None, Some, sym, ap, ◌∙◌, subst, get_or, set, inl, inr, arith, Contains}
+use Rattle.std.proofs.Common.{◌≡◌, ℕ, ◌<◌, List, length, Option, None, Some, sym, ap, ◌∙◌, subst, get_or, set, inl, inr, arith, Contains}
 use Rattle.std.specs.Prelude.{IfSome, option_map}
 use Rattle.std.specs.Option.{option_and_then, option_map_or}
 use Rattle.std.proofs.lemmas.Bool.Decides.{eqb_tells}
-use Rattle.std.proofs.lemmas.List.{get_or-set_same, get_or-set_other, length-replicate, length-set}
+use Rattle.std.proofs.lemmas.List.{get_or-set_same, get_or-set_other, length-set}
 use Rattle.pef_loader.specs.Loader.{Loaded, import_of}
 use Rattle.pef_loader.specs.Views.{import_seen}
 use Rattle.pef_loader.specs.declared.import.ImportView.{ImportView}
 use Rattle.cfm_store.specs.Stores.{Pair}
 use Rattle.cfm_libraries.specs.Fragments.{import_at, library_count, loader_at}
-use Rattle.cfm_libraries.specs.Orders.{IsComplete}
 use Rattle.cfm_closure.specs.Kept.Symbols.{AreTables, table_at}
-use Rattle.cfm_closure.proofs.RowLemmas.{none-at}
-
--- nothing was asked for
-pub tables-none : (pairs : List Pair) (order : List ℕ) (tables : List (Option (Option Loaded))) → IsComplete pairs order → tables ≡ replicate (length pairs) None → AreTables pairs order tables
-tables-none pairs order tables complete is = record {
-  complete = complete;
-  size = ap length is ∙ length-replicate (length pairs) None;
-  read = λ p l there. absurd (
-      let none : table_at tables p ≡ None = ap (option_and_then (λ (table : Option Loaded). table)) (ap (λ (tables : List (Option (Option Loaded))). get_or tables p None) is ∙ none-at {T = Option Loaded} (length pairs) p) in
-      let e : None ≡ Some l = sym none ∙ there in cc);
-}
 
 module _ (pairs : List Pair) (order : List ℕ) (tables : List (Option (Option Loaded))) (are : AreTables pairs order tables) (p : ℕ) (there : Contains order p) where
   -- a fragment of the order has a place

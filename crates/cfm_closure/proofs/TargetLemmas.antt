@@ -11,7 +11,7 @@ use Rattle.pef_loader.specs.Loader.{Loaded, export_of, loaded_of, named_of}
 use Rattle.pef_loader.specs.declared.fault.LoaderFault.{LoaderFault}
 use Rattle.pef_loader.proofs.Laws.{loaded_of-ok, named_there}
 use Rattle.cfm_store.specs.Stores.{Pair, pair_of}
-use Rattle.cfm_libraries.specs.Faults.{Refusal, reexport_loop, symbol_missing}
+use Rattle.cfm_libraries.specs.Faults.{BindRefusal, reexport_loop, symbol_missing}
 use Rattle.cfm_libraries.specs.Fragments.{Fragment, fragment_of, import_at, with_container, with_loader}
 use Rattle.cfm_libraries.specs.Libraries.{library_at}
 use Rattle.cfm_libraries.specs.Orders.{IsComplete}
@@ -67,7 +67,7 @@ module _ (pairs : List Pair) (order : List ℕ) (complete : IsComplete pairs ord
       → hop_to (pair_of pairs p).name (pair_of pairs q).name i q (exported i.name f.loader) ≡ Ok (ends t) → LiesInside pairs order t
   in_exported p q f i t there read is = found (named_of f.loader i.name) refl is
     where
-      refusal : Refusal
+      refusal : BindRefusal
       refusal = symbol_missing (pair_of pairs p).name (pair_of pairs q).name i.name
 
       weak : (b : Bool) → cond b (Ok (ends None)) (Err refusal) ≡ Ok (ends t) → LiesInside pairs order t
@@ -79,15 +79,15 @@ module _ (pairs : List Pair) (order : List ℕ) (complete : IsComplete pairs ord
       found None was is = weak i.weak is
       found (Some e) was is =
           let named = named_there f.loader i.name e (fragment-sound pairs q f read).loader was in
-          let hops : Option Export → Result Hop Refusal = λ o. hop_to (pair_of pairs p).name (pair_of pairs q).name i q (option_map (λ x. (e, x)) o) in
-          let at : ◌≡◌ {A = Result Hop Refusal} (Ok (hop_by q e named.0.value named.0.section)) (Ok (ends t)) = ap hops (sym named.1) ∙ is in
+          let hops : Option Export → Result Hop BindRefusal = λ o. hop_to (pair_of pairs p).name (pair_of pairs q).name i q (option_map (λ x. (e, x)) o) in
+          let at : ◌≡◌ {A = Result Hop BindRefusal} (Ok (hop_by q e named.0.value named.0.section)) (Ok (ends t)) = ap hops (sym named.1) ∙ is in
           in_section q f e named.0 t there read named.3 (cc)
 
   hop-inside : (p j : ℕ) (t : Option Target) → Contains order p → hop pairs p j ≡ Ok (ends t) → LiesInside pairs order t
   unfolding hop
   hop-inside p j t there is = by (import_at pairs p j) is
     where
-      nothing : ◌≡◌ {A = Result Hop Refusal} (Ok (ends None)) (Ok (ends t)) → LiesInside pairs order t
+      nothing : ◌≡◌ {A = Result Hop BindRefusal} (Ok (ends None)) (Ok (ends t)) → LiesInside pairs order t
       nothing is = let same : None ≡ t = cc in subst (LiesInside pairs order) same tt
 
       from : (i : Import) (o : Option ℕ) → library_at pairs p i.library ≡ o → hop_from pairs p i o ≡ Ok (ends t) → LiesInside pairs order t
@@ -95,7 +95,7 @@ module _ (pairs : List Pair) (order : List ℕ) (complete : IsComplete pairs ord
       from i (Some q) was is =
           let here : Contains order q = bound-inside pairs order p i.library (Some q) complete there (library_at-is pairs p i.library q was) in
           let m = complete.members q here in
-          let hops : Option Loaded → Result Hop Refusal = λ o. hop_to (pair_of pairs p).name (pair_of pairs q).name i q (option_and_then (exported i.name) o) in
+          let hops : Option Loaded → Result Hop BindRefusal = λ o. hop_to (pair_of pairs p).name (pair_of pairs q).name i q (option_and_then (exported i.name) o) in
           in_exported p q m.fragment i t here m.read (ap hops (sym (loader_at-is pairs q m.fragment m.read)) ∙ is)
 
       by : (o : Option Import) → hop_of pairs p o ≡ Ok (ends t) → LiesInside pairs order t
@@ -106,13 +106,13 @@ module _ (pairs : List Pair) (order : List ℕ) (complete : IsComplete pairs ord
   unfolding follow
   follow-inside zero p j t there is = by (hop pairs p j) refl is
     where
-      by : (r : Result Hop Refusal) → hop pairs p j ≡ r → followed (λ q k. None) r ≡ Some (Ok t) → LiesInside pairs order t
+      by : (r : Result Hop BindRefusal) → hop pairs p j ≡ r → followed (λ q k. None) r ≡ Some (Ok t) → LiesInside pairs order t
       by (Ok (ends u)) was is = hop-inside p j t there (was ∙ (cc))
       by (Ok (through q e k)) was is = absurd (cc)
       by (Err r) was is = absurd (cc)
   follow-inside (suc n) p j t there is = by (hop pairs p j) refl is (λ q k. follow-inside n q k t)
     where
-      by : (r : Result Hop Refusal) → hop pairs p j ≡ r → followed (follow n pairs) r ≡ Some (Ok t) → ((q k : ℕ) → Contains order q → follow n pairs q k ≡ Some (Ok t) → LiesInside pairs order t) → LiesInside pairs order t
+      by : (r : Result Hop BindRefusal) → hop pairs p j ≡ r → followed (follow n pairs) r ≡ Some (Ok t) → ((q k : ℕ) → Contains order q → follow n pairs q k ≡ Some (Ok t) → LiesInside pairs order t) → LiesInside pairs order t
       by (Ok (ends u)) was is deeper = hop-inside p j t there (was ∙ (cc))
       by (Ok (through q e k)) was is deeper =
           let g = goes_on pairs p j q e k was in
@@ -124,7 +124,7 @@ module _ (pairs : List Pair) (order : List ℕ) (complete : IsComplete pairs ord
   unfolding target_of
   target-inside p j t there is = by (follow (exports_in pairs) pairs p j) refl is
     where
-      by : (o : Option (Result (Option Target) Refusal)) → follow (exports_in pairs) pairs p j ≡ o
+      by : (o : Option (Result (Option Target) BindRefusal)) → follow (exports_in pairs) pairs p j ≡ o
           → option_map_or (λ answer. answer) o (Err (reexport_loop (pair_of pairs p).name (symbol_of pairs p j))) ≡ Ok t → LiesInside pairs order t
       by None was is = absurd (cc)
       by (Some answer) was is = follow-inside (exports_in pairs) p j t there (was ∙ ap Some is)

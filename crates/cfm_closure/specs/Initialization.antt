@@ -6,7 +6,7 @@ use Rattle.pef_words.specs.Refusals.{first_among}
 use Rattle.pef_loader.specs.Library.{Library}
 use Rattle.pef_loader.specs.Loader.{library_of}
 use Rattle.cfm_store.specs.Stores.{Pair, pair_of}
-use Rattle.cfm_libraries.specs.Faults.{Refusal, init_loop}
+use Rattle.cfm_libraries.specs.Faults.{BindRefusal, init_loop}
 use Rattle.cfm_libraries.specs.Fragments.{library_count, loader_at}
 use Rattle.cfm_libraries.specs.Libraries.{is_before, library_at}
 use Rattle.cfm_libraries.specs.Walk.{Walked, is_marked, joining, marking, unwalked}
@@ -39,20 +39,20 @@ first_left s [] = None
 first_left s (p ∷ order) = if is_marked s p then first_left s order else Some p
 
 -- no fragment is ready: all are taken, or the first that is left is refused
-abbrev pub taken_all : List Pair → Walked → Option ℕ → Result (List ℕ) Refusal
+abbrev pub taken_all : List Pair → Walked → Option ℕ → Result (List ℕ) BindRefusal
 taken_all pairs s None = Ok s.order
 taken_all pairs s (Some p) = Err (init_loop (pair_of pairs p).name)
 
 -- the next fragment is taken, and others behind it
-abbrev pub take_next : (Walked → Result (List ℕ) Refusal) → List Pair → List ℕ → Walked → Option ℕ → Result (List ℕ) Refusal
+abbrev pub take_next : (Walked → Result (List ℕ) BindRefusal) → List Pair → List ℕ → Walked → Option ℕ → Result (List ℕ) BindRefusal
 take_next on pairs order s None = taken_all pairs s (first_left s order)
 take_next on pairs order s (Some p) = on (joining p (marking p s))
 
 -- again and again the first fragment that is ready is taken, n times at most
-unfoldable pub take_ready : ℕ → List Pair → List ℕ → Walked → Result (List ℕ) Refusal
+unfoldable pub take_ready : ℕ → List Pair → List ℕ → Walked → Result (List ℕ) BindRefusal
 take_ready zero pairs order s = taken_all pairs s (first_left s order)
 take_ready (suc n) pairs order s = take_next (take_ready n pairs order) pairs order s (next_ready pairs s order)
 
 -- the initialization order of a closure order, or the refusal: each fragment is taken once
-unfoldable pub init_order_of : List Pair → List ℕ → Result (List ℕ) Refusal
+unfoldable pub init_order_of : List Pair → List ℕ → Result (List ℕ) BindRefusal
 init_order_of pairs order = take_ready (length order) pairs order (unwalked pairs)

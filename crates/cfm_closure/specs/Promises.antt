@@ -3,7 +3,7 @@ use Rattle.std.specs.Prelude.{◌≡◌, ◌⊎◌, ⊤, ℕ, ◌<◌, List, len
 use Rattle.std.specs.Option.{option_map_or}
 use Rattle.pef_loader.specs.Loader.{IsLoader, Loaded}
 use Rattle.cfm_store.specs.Stores.{Pair, pair_of, place_of}
-use Rattle.cfm_libraries.specs.Faults.{Refusal, implementation_too_new, implementation_too_old, init_loop, library_missing, no_container, no_loader, reexport_loop, symbol_missing}
+use Rattle.cfm_libraries.specs.Faults.{BindRefusal, implementation_too_new, implementation_too_old, init_loop, library_missing, no_container, no_loader, reexport_loop, symbol_missing}
 use Rattle.cfm_libraries.specs.Fragments.{Fragment, fragment_of, loader_at}
 use Rattle.cfm_closure.specs.declared.targets.Target.{Target}
 use Rattle.cfm_closure.specs.declared.targets.Target.TheVariants.{Absolute, At}
@@ -19,7 +19,7 @@ abbrev pub AllRead : List Pair → Type 0
 AllRead pairs = (p : ℕ) → p < length pairs → (f : Fragment) × (fragment_of pairs p ≡ Ok f)
 
 -- a refusal is of libraries, of symbols or of the order of initialization, and of no fragment's bytes
-abbrev pub IsOfBinding : Refusal → Type 0
+abbrev pub IsOfBinding : BindRefusal → Type 0
 IsOfBinding (no_container f v) = ⊥
 IsOfBinding (no_loader f v) = ⊥
 IsOfBinding (library_missing f l) = ⊤
@@ -31,7 +31,7 @@ IsOfBinding (init_loop f) = ⊤
 
 -- a refusal is of the bytes of a fragment of the store, which is the root or the first with the name that is
 -- told: no fragment whose bytes are read
-pub record IsOfUnread (pairs : List Pair) (root : ℕ) (name : List ℕ) (refusal : Refusal) : Type 0 where
+pub record IsOfUnread (pairs : List Pair) (root : ℕ) (name : List ℕ) (refusal : BindRefusal) : Type 0 where
   pub position : ℕ
   pub inside : position < length pairs
   pub named : (pair_of pairs position).name ≡ name
@@ -57,6 +57,6 @@ abbrev pub HasTarget : List Pair → ℕ → ℕ → Type 0
 HasTarget pairs p j = (target : Option Target) × (target_of pairs p j ≡ Ok target)
 
 -- the target of an import, where only the exports of some fragments are counted
-abbrev pub target_within : List Pair → List ℕ → ℕ → ℕ → Result (Option Target) Refusal
+abbrev pub target_within : List Pair → List ℕ → ℕ → ℕ → Result (Option Target) BindRefusal
 target_within pairs order p j =
     option_map_or (λ answer. answer) (follow (exports_among pairs order) pairs p j) (Err (reexport_loop (pair_of pairs p).name (symbol_of pairs p j)))

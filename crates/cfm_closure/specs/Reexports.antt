@@ -2,7 +2,7 @@
 use Rattle.std.specs.Prelude.{◌≡◌, ℕ, zero, suc, ◌<◌, List, Option, None, Some, Result, Ok, Err}
 use Rattle.std.specs.Option.{option_and_then}
 use Rattle.cfm_store.specs.Stores.{Pair}
-use Rattle.cfm_libraries.specs.Faults.{Refusal}
+use Rattle.cfm_libraries.specs.Faults.{BindRefusal}
 use Rattle.cfm_closure.specs.Targets.{Hop, ends, hop, through}
 
 -- the export that a hop goes through and the import behind it; none where nothing follows
@@ -10,7 +10,7 @@ abbrev pub after : Hop → Option ((ℕ × ℕ) × (ℕ × ℕ))
 after (ends target) = None
 after (through q e k) = Some ((q, e), (q, k))
 
-abbrev pub next_of : Result Hop Refusal → Option ((ℕ × ℕ) × (ℕ × ℕ))
+abbrev pub next_of : Result Hop BindRefusal → Option ((ℕ × ℕ) × (ℕ × ℕ))
 next_of (Ok h) = after h
 next_of (Err refusal) = None
 

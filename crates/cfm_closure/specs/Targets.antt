@@ -7,7 +7,7 @@ use Rattle.pef_loader.specs.Export.{Export}
 use Rattle.pef_loader.specs.Import.{Import}
 use Rattle.pef_loader.specs.Loader.{Loaded, export_of, named_of}
 use Rattle.cfm_store.specs.Stores.{Pair, pair_of}
-use Rattle.cfm_libraries.specs.Faults.{Refusal, reexport_loop, symbol_missing}
+use Rattle.cfm_libraries.specs.Faults.{BindRefusal, reexport_loop, symbol_missing}
 use Rattle.cfm_libraries.specs.Fragments.{export_count, import_at, loader_at}
 use Rattle.cfm_libraries.specs.Libraries.{library_at}
 use Rattle.cfm_closure.specs.declared.targets.Target.{Target}
@@ -28,34 +28,34 @@ abbrev pub exported : List ℕ → Loaded → Option (ℕ × Export)
 exported name l = option_and_then (λ e. option_map (λ x. (e, x)) (export_of l e)) (named_of l name)
 
 -- a name that isn't exported is no target for a weak import, and a refusal for any other
-abbrev pub hop_to : List ℕ → List ℕ → Import → ℕ → Option (ℕ × Export) → Result Hop Refusal
+abbrev pub hop_to : List ℕ → List ℕ → Import → ℕ → Option (ℕ × Export) → Result Hop BindRefusal
 hop_to fragment library i q None = if i.weak then Ok (ends None) else Err (symbol_missing fragment library i.name)
 hop_to fragment library i q (Some x) = Ok (hop_by q x.0 x.1.value x.1.section)
 
 -- an import of an absent library has no target
-abbrev pub hop_from : List Pair → ℕ → Import → Option ℕ → Result Hop Refusal
+abbrev pub hop_from : List Pair → ℕ → Import → Option ℕ → Result Hop BindRefusal
 hop_from pairs p i None = Ok (ends None)
 hop_from pairs p i (Some q) = hop_to (pair_of pairs p).name (pair_of pairs q).name i q (option_and_then (exported i.name) (loader_at pairs q))
 
-abbrev pub hop_of : List Pair → ℕ → Option Import → Result Hop Refusal
+abbrev pub hop_of : List Pair → ℕ → Option Import → Result Hop BindRefusal
 hop_of pairs p None = Ok (ends None)
 hop_of pairs p (Some i) = hop_from pairs p i (library_at pairs p i.library)
 
 -- where import j of the fragment in a place leads at once
-unfoldable pub hop : List Pair → ℕ → ℕ → Result Hop Refusal
+unfoldable pub hop : List Pair → ℕ → ℕ → Result Hop BindRefusal
 hop pairs p j = hop_of pairs p (import_at pairs p j)
 
 -- what follows a hop, where it goes on
-abbrev pub after_hop : (ℕ → ℕ → Option (Result (Option Target) Refusal)) → Hop → Option (Result (Option Target) Refusal)
+abbrev pub after_hop : (ℕ → ℕ → Option (Result (Option Target) BindRefusal)) → Hop → Option (Result (Option Target) BindRefusal)
 after_hop on (ends target) = Some (Ok target)
 after_hop on (through q e k) = on q k
 
-abbrev pub followed : (ℕ → ℕ → Option (Result (Option Target) Refusal)) → Result Hop Refusal → Option (Result (Option Target) Refusal)
+abbrev pub followed : (ℕ → ℕ → Option (Result (Option Target) BindRefusal)) → Result Hop BindRefusal → Option (Result (Option Target) BindRefusal)
 followed on (Ok h) = after_hop on h
 followed on (Err refusal) = Some (Err refusal)
 
 -- what an import leads to through at most n exports; none where it goes on
-unfoldable pub follow : ℕ → List Pair → ℕ → ℕ → Option (Result (Option Target) Refusal)
+unfoldable pub follow : ℕ → List Pair → ℕ → ℕ → Option (Result (Option Target) BindRefusal)
 follow zero pairs p j = followed (λ q k. None) (hop pairs p j)
 follow (suc n) pairs p j = followed (follow n pairs) (hop pairs p j)
 
@@ -72,6 +72,6 @@ symbol_of pairs p j = option_map_or (λ i. i.name) (import_at pairs p j) []
 
 -- the target of an import, or the refusal. More hops than there are exports meet one of them again, and so
 -- they have no end
-unfoldable pub target_of : List Pair → ℕ → ℕ → Result (Option Target) Refusal
+unfoldable pub target_of : List Pair → ℕ → ℕ → Result (Option Target) BindRefusal
 target_of pairs p j =
     option_map_or (λ answer. answer) (follow (exports_in pairs) pairs p j) (Err (reexport_loop (pair_of pairs p).name (symbol_of pairs p j)))

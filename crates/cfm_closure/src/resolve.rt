@@ -1,7 +1,7 @@
 ghost use Rattle.std.specs.Prelude.{◌≡◌, ◌+◌, ◌<◌, ◌≤◌, ◌^◌, [], Ok, Err, Some, Option, Contains, IfOk, OnOk};
 ghost use Rattle.std.specs.List.{AllByRecursion};
 ghost use Rattle.cfm_store.specs.Stores.{pair_of};
-ghost use Rattle.cfm_libraries.specs.Faults.{Answers, Fails, reexport_loop};
+ghost use Rattle.cfm_libraries.specs.Faults.{Answers, FailsAs, reexport_loop};
 ghost use Rattle.cfm_libraries.specs.Fragments.{import_count};
 ghost use Rattle.cfm_closure.specs.Closures.{first_refused, imports_refusal};
 ghost use Rattle.cfm_closure.specs.Targets.{exports_among, symbol_of, target_of};
@@ -53,7 +53,7 @@ fn note_way(rows: &mut Rows, way: &[(usize, usize)], target: Option<Target>)
 fn endless<'a>(bindings: &Bindings<'a>, p: usize, j: usize) -> BindFault<'a>
     requires place { Contains bindings.now.order p }
     requires import { j < import_count bindings.now.pairs p }
-    ensures { Fails {A = Option Target} result (Err (reexport_loop (pair_of bindings.now.pairs p).name (symbol_of bindings.now.pairs p j))) }
+    ensures { FailsAs {A = Option Target} result (Err (reexport_loop (pair_of bindings.now.pairs p).name (symbol_of bindings.now.pairs p j))) }
 {
     let fragment = bindings.fragment(p);
     match fragment.loader.import(j) {

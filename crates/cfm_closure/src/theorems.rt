@@ -3,7 +3,7 @@ ghost use Rattle.std.specs.Prelude.{◌≡◌, ◌<◌, ◌↔◌, ℕ, List, No
 ghost use Rattle.pef_loader.specs.declared.fault.LoaderFault.{LoaderFault};
 ghost use Rattle.pef_views.specs.declared.fault.ViewFault.{ViewFault};
 ghost use Rattle.cfm_store.specs.Stores.{Pair};
-ghost use Rattle.cfm_libraries.specs.Faults.{Refusal, no_container, no_loader};
+ghost use Rattle.cfm_libraries.specs.Faults.{BindRefusal, no_container, no_loader};
 ghost use Rattle.cfm_libraries.specs.Fragments.{import_count};
 ghost use Rattle.cfm_libraries.specs.Orders.{EndsWith, IsComplete};
 ghost use Rattle.cfm_closure.specs.Closures.{Closed, closed_of};
@@ -46,5 +46,5 @@ pub fn unread_fragments()
 
 /// Where all fragments of a store are read, none of its closures is refused by the bytes of a fragment.
 pub fn readable_stores()
-    ensures { (pairs : List Pair) (root : ℕ) (r : Refusal) → AllRead pairs → root < length pairs → closed_of pairs root ≡ Err r → IsOfBinding r }
+    ensures { (pairs : List Pair) (root : ℕ) (r : BindRefusal) → AllRead pairs → root < length pairs → closed_of pairs root ≡ Err r → IsOfBinding r }
 {}

@@ -1,7 +1,6 @@
 -- The images of sections.
 use Rattle.std.proofs.Common.{◌≡◌, ℕ, ◌++◌, List, [], length, drop, replicate, refl, ap, ◌∙◌}
 use Rattle.std.specs.Prelude.{Result, Ok, Err, OnOk, Some}
-use Rattle.std.specs.Option.{option_map_or}
 use Rattle.std.specs.Result.{result_err, result_unwrap_or}
 use Rattle.std.proofs.lemmas.List.{drop-replicate}
 use Rattle.pef_pidata.specs.declared.fault.PackFault.{PackFault}
@@ -13,10 +12,6 @@ use Rattle.cfm_fragment.specs.Images.{filled_at, filled_in, image_of, image_refu
 -- zeros with an image at their front
 filled_zeros : (image : List ℕ) (size : ℕ) → image ++ drop (length image) (replicate size 0) ≡ filled image size
 filled_zeros image size = ap (λ (z : List ℕ). image ++ z) (drop-replicate (length image) size 0)
-
--- the same bytes
-pub some_same : (x y : List ℕ) → Some x ≡ Some y → x ≡ y
-some_same x y same = ap (λ o. option_map_or (λ z. z) o []) same
 
 -- a step that filled some memory, or was refused, by what it was to put at its front
 pub filling_refused : {A : Type 0} (r : Result A PackFault) (memory part : List ℕ) (image : Result (List ℕ) PackFault)

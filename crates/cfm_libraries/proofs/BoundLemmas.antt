@@ -10,12 +10,12 @@ use Rattle.cfm_store.specs.declared.versions.Fit.{Fit}
 use Rattle.cfm_store.specs.declared.versions.Fit.TheVariants.{Fits, TooOld, TooNew}
 use Rattle.cfm_store.specs.Stores.{Pair, pair_of, place_of}
 use Rattle.cfm_store.proofs.Laws.{place_of-below, place_of-first}
-use Rattle.cfm_libraries.specs.Faults.{Refusal, library_missing, implementation_too_old, implementation_too_new}
+use Rattle.cfm_libraries.specs.Faults.{BindRefusal, library_missing, implementation_too_old, implementation_too_new}
 use Rattle.cfm_libraries.specs.Fragments.{Fragment, fragment_of}
 use Rattle.cfm_libraries.specs.Libraries.{absent_or, bound, bound_at, bound_by, bound_to, fit_with, is_weak, library_at}
 use Rattle.cfm_libraries.proofs.WalkRules.{came}
 
-absent_or-none : (weak : Bool) (r : Refusal) (q : ℕ) → absent_or weak r ≡ Ok (Some q) → ⊥
+absent_or-none : (weak : Bool) (r : BindRefusal) (q : ℕ) → absent_or weak r ≡ Ok (Some q) → ⊥
 absent_or-none true r q is = cc
 absent_or-none false r q is = cc
 
@@ -71,6 +71,6 @@ stands_for pairs p l q is =
 pub library_at-is : (pairs : List Pair) (p l q : ℕ) → library_at pairs p l ≡ Some q → bound_to pairs p l ≡ Ok (Some q)
 library_at-is pairs p l q is = by (bound_to pairs p l) is
   where
-    by : (r : Result (Option ℕ) Refusal) → result_unwrap_or r None ≡ Some q → r ≡ Ok (Some q)
+    by : (r : Result (Option ℕ) BindRefusal) → result_unwrap_or r None ≡ Some q → r ≡ Ok (Some q)
     by (Ok o) is = ap Ok is
     by (Err e) is = absurd (cc)

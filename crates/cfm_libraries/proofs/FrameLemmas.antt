@@ -5,10 +5,11 @@ use Rattle.std.proofs.lemmas.List.{length_push}
 use Rattle.pef_loader.specs.Library.{Library}
 use Rattle.pef_loader.specs.Loader.{library_of}
 use Rattle.cfm_store.specs.Stores.{Pair}
+use Rattle.pef_words.specs.Results.{◌>>=◌}
 use Rattle.cfm_libraries.specs.declared.fault.BindFault.{BindFault}
 use Rattle.cfm_libraries.specs.declared.fragment.FragmentView.{FragmentView}
 use Rattle.cfm_libraries.specs.declared.walk.Frame.{Frame}
-use Rattle.cfm_libraries.specs.Faults.{◌>>=◌, Fails}
+use Rattle.cfm_libraries.specs.Faults.{FailsAs}
 use Rattle.cfm_libraries.specs.Libraries.{bound, bound_to}
 use Rattle.cfm_libraries.specs.Walk.{Walked, walk_to}
 use Rattle.cfm_libraries.specs.Kept.Paths.{AreBound, IsFrame, NextOf, count_of, frame_and_rest, rest_of, rest_of_frame, rest_of_path, visit, visit_and_rest}
@@ -59,7 +60,7 @@ module _ (pairs : List Pair) (table : List (Option FragmentView)) (f : Frame) (r
   next_bound = bound_to-is pairs f.p (length f.libraries) (fragment_seen f.fragment) library (read f.p (fragment_seen f.fragment) frame.read) is
 
   -- where it is refused, so is the rest
-  pub frame-refused : (e : BindFault) (s : Walked) → Fails e (bound pairs (fragment_seen f.fragment).name library) → Fails e (rest_of_frame pairs f s)
+  pub frame-refused : (e : BindFault) (s : Walked) → FailsAs e (bound pairs (fragment_seen f.fragment).name library) → FailsAs e (rest_of_frame pairs f s)
   frame-refused e s fails =
       Fails-also e (bound pairs (fragment_seen f.fragment).name library) (rest_of_frame pairs f s)
       (λ r refused. rest_of-refused pairs f.p (length f.libraries) (count_of f) s r under (next_bound ∙ refused)) fails

@@ -4,7 +4,7 @@
 -- a library entry that stands for a fragment is one of a fragment that is read
 pub use Rattle.cfm_libraries.proofs.BoundLemmas.{StandsFor, library_at-is, stands_for}
 -- a closure order has each fragment once, with all its libraries, and its root last
-pub use Rattle.cfm_libraries.proofs.OrderFacts.{bound-inside, order-complete, order-last, order-root}
+pub use Rattle.cfm_libraries.proofs.OrderFacts.{bound-inside, order-complete, order-last}
 -- a fragment that is marked isn't left
 pub use Rattle.cfm_libraries.proofs.WalkRules.{left-marking}
 -- what isn't refused came of what isn't refused

@@ -6,7 +6,7 @@ use Rattle.std.proofs.lemmas.List.{get_or-replicate, length-replicate}
 use Rattle.std.proofs.lemmas.List.Sums.{count_by-le-length}
 use Rattle.pef_words.proofs.Laws.Lists.{all-at}
 use Rattle.cfm_store.specs.Stores.{Pair}
-use Rattle.cfm_libraries.specs.Faults.{◌>>=◌}
+use Rattle.pef_words.specs.Results.{◌>>=◌}
 use Rattle.cfm_libraries.specs.Fragments.{Fragment, fragment_of}
 use Rattle.cfm_libraries.specs.Libraries.{bound_to}
 use Rattle.cfm_libraries.specs.Orders.{EndsWith, HasLibrary, IsComplete, IsMember}
@@ -86,14 +86,7 @@ module _ (pairs : List Pair) where
         count = let c = reaches.count in let f = few_left in omega arith;
       })
 
-  -- and has its root
-  pub order-root : (root : ℕ) (order : List ℕ) → order_of pairs root ≡ Ok order → root < length pairs → Contains order root
-  order-root root order is inside =
-      let r = from_root root order is in
-      let P : List ℕ → Type 0 = λ order. Contains order root in
-      subst P r.same (joined r.to r.walks.reaches root inside r.walks.met)
-
-  -- which is the last
+  -- and its root is the last
   pub order-last : (root : ℕ) (order : List ℕ) → order_of pairs root ≡ Ok order → root < length pairs → EndsWith order root
   unfolding order_of
   order-last root order is inside =

@@ -6,10 +6,11 @@ use Rattle.std.proofs.lemmas.List.Sums.{count_by-le-length}
 use Rattle.pef_loader.specs.Library.{Library}
 use Rattle.pef_loader.specs.Loader.{library_of}
 use Rattle.cfm_store.specs.Stores.{Pair}
+use Rattle.pef_words.specs.Results.{◌>>=◌}
 use Rattle.cfm_libraries.specs.declared.fault.BindFault.{BindFault}
 use Rattle.cfm_libraries.specs.declared.fault.BindFault.TheVariants as fault
 use Rattle.cfm_libraries.specs.declared.walk.Frame.{Frame}
-use Rattle.cfm_libraries.specs.Faults.{◌>>=◌, Fails, Refusal}
+use Rattle.cfm_libraries.specs.Faults.{BindRefusal, FailsAs}
 use Rattle.cfm_libraries.specs.Fragments.{Fragment, fragment_of}
 use Rattle.cfm_libraries.specs.Libraries.{bound, bound_to}
 use Rattle.cfm_libraries.specs.Walk.{Walked, is_marked, joining, left, marking, order_of, unwalked, walk, walk_at, walk_to, walks_from}
@@ -18,7 +19,7 @@ use Rattle.cfm_libraries.specs.Kept.Walks.{unmet_of}
 use Rattle.cfm_libraries.proofs.WalkRules.{walk-rule}
 
 -- what is refused at first is refused
-pub Fails-also : {A B : Type 0} (e : BindFault) (x : Result A Refusal) (y : Result B Refusal) → ((r : Refusal) → x ≡ Err r → y ≡ Err r) → Fails e x → Fails e y
+pub Fails-also : {A B : Type 0} (e : BindFault) (x : Result A BindRefusal) (y : Result B BindRefusal) → ((r : BindRefusal) → x ≡ Err r → y ≡ Err r) → FailsAs e x → FailsAs e y
 Fails-also (fault.Container f v) x y leads is = leads _ is
 Fails-also (fault.Loader f v) x y leads is = leads _ is
 Fails-also (fault.LibraryMissing f l) x y leads is = leads _ is
@@ -29,15 +30,15 @@ Fails-also (fault.ReexportLoop f s) x y leads is = leads _ is
 Fails-also (fault.InitLoop f) x y leads is = leads _ is
 Fails-also fault.OutOfMemory x y leads is = tt
 
-pub then_assoc : {A B C : Type 0} (r : Result A Refusal) (f : A → Result B Refusal) (g : B → Result C Refusal) → ((r >>= f) >>= g) ≡ (r >>= (λ x. f x >>= g))
+pub then_assoc : {A B C : Type 0} (r : Result A BindRefusal) (f : A → Result B BindRefusal) (g : B → Result C BindRefusal) → ((r >>= f) >>= g) ≡ (r >>= (λ x. f x >>= g))
 then_assoc (Ok x) f g = refl
 then_assoc (Err e) f g = refl
 
-then_ok : {A : Type 0} (r : Result A Refusal) → (r >>= (λ x. Ok x)) ≡ r
+then_ok : {A : Type 0} (r : Result A BindRefusal) → (r >>= (λ x. Ok x)) ≡ r
 then_ok (Ok x) = refl
 then_ok (Err e) = refl
 
-pub then_same : {A B : Type 0} (r : Result A Refusal) (f g : A → Result B Refusal) → ((x : A) → f x ≡ g x) → (r >>= f) ≡ (r >>= g)
+pub then_same : {A B : Type 0} (r : Result A BindRefusal) (f g : A → Result B BindRefusal) → ((x : A) → f x ≡ g x) → (r >>= f) ≡ (r >>= g)
 then_same (Ok x) f g same = same x
 then_same (Err e) f g same = refl
 
@@ -60,7 +61,7 @@ module _ (pairs : List Pair) (s : Walked) (size : length s.marked ≡ length pai
   visit-new p unmet = walk-rule (length pairs) pairs p s few ∙ ap (walk_at (walk (length pairs) pairs) pairs p s) unmet
 
   -- any other one is read
-  pub visit-refused : (p : ℕ) (r : Refusal) → is_marked s p ≡ false → fragment_of pairs p ≡ Err r → visit pairs p s ≡ Err r
+  pub visit-refused : (p : ℕ) (r : BindRefusal) → is_marked s p ≡ false → fragment_of pairs p ≡ Err r → visit pairs p s ≡ Err r
   visit-refused p r unmet is = visit-new p unmet ∙ ap (λ f. f >>= (λ f. walks_from (walk (length pairs) pairs) pairs p 0 f.loader.header.library_count (marking p s) >>= (λ s. Ok (joining p s)))) is
 
   -- .. and its libraries come next
@@ -87,17 +88,11 @@ rest_of-next pairs p l count s b under is =
     ∙ ap (λ r. (r >>= (λ q. walk_to (visit pairs) q s >>= walks_from (visit pairs) pairs p (l + 1) (count - (l + 1)))) >>= (λ s. Ok (joining p s))) is
     ∙ then_assoc (walk_to (visit pairs) b s) (walks_from (visit pairs) pairs p (l + 1) (count - (l + 1))) (λ s. Ok (joining p s))
 
-pub rest_of-refused : (pairs : List Pair) (p l count : ℕ) (s : Walked) (r : Refusal) → l < count → bound_to pairs p l ≡ Err r → rest_of pairs p l count s ≡ Err r
+pub rest_of-refused : (pairs : List Pair) (p l count : ℕ) (s : Walked) (r : BindRefusal) → l < count → bound_to pairs p l ≡ Err r → rest_of pairs p l count s ≡ Err r
 rest_of-refused pairs p l count s r under is =
     let more : count - l ≡ suc (count - (l + 1)) = omega arith in
     ap (λ n. walks_from (visit pairs) pairs p l n s >>= (λ s. Ok (joining p s))) more
     ∙ ap (λ r. (r >>= (λ q. walk_to (visit pairs) q s >>= walks_from (visit pairs) pairs p (l + 1) (count - (l + 1)))) >>= (λ s. Ok (joining p s))) is
-
--- behind its last library nothing is left but that it joins the order
-pub rest_of-done : (pairs : List Pair) (p l count : ℕ) (s : Walked) → count ≤ l → rest_of pairs p l count s ≡ Ok (joining p s)
-rest_of-done pairs p l count s past =
-    let none : count - l ≡ 0 = omega arith in
-    ap (λ n. walks_from (visit pairs) pairs p l n s >>= (λ s. Ok (joining p s))) none
 
 -- what an entry of a fragment that was read stands for
 pub bound_to-is : (pairs : List Pair) (p l : ℕ) (f : Fragment) (library : Library) → fragment_of pairs p ≡ Ok f → library_of f.loader l ≡ Some library → bound_to pairs p l ≡ bound pairs f.name library

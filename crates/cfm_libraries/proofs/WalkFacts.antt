@@ -5,7 +5,8 @@ use Rattle.std.proofs.lemmas.Bool.Decides.{eqb_tells}
 use Rattle.std.proofs.lemmas.List.{get_or-set_same, get_or-set_other, get_or_append_left, get_or_push, length-set, length_push}
 use Rattle.std.proofs.lemmas.List.Elements.{Contains-append_left, Contains-get_or, Contains-push, Contains-push_cases}
 use Rattle.cfm_store.specs.Stores.{Pair}
-use Rattle.cfm_libraries.specs.Faults.{◌>>=◌, Refusal}
+use Rattle.pef_words.specs.Results.{◌>>=◌}
+use Rattle.cfm_libraries.specs.Faults.{BindRefusal}
 use Rattle.cfm_libraries.specs.Fragments.{fragment_of}
 use Rattle.cfm_libraries.specs.Libraries.{bound_to}
 use Rattle.cfm_libraries.specs.Walk.{Walked, is_marked, joining, left, marking, walk, walk_at, walk_to, walks_from}
@@ -149,7 +150,7 @@ pub record Walks (pairs : List Pair) (p : ℕ) (s t : Walked) : Type 0 where
   pub reaches : Reaches pairs s t
   pub met : is_marked t p ≡ true
 
-module _ (k : ℕ) (v : ℕ → Walked → Result Walked Refusal) (pairs : List Pair) (p : ℕ)
+module _ (k : ℕ) (v : ℕ → Walked → Result Walked BindRefusal) (pairs : List Pair) (p : ℕ)
     (fewer : (q : ℕ) (s t : Walked) → v q s ≡ Ok t → left t ≤ left s)
     (walks : (q : ℕ) (s t : Walked) → left s ≤ k → v q s ≡ Ok t → Walks pairs q s t) where
   -- what the walks to some libraries have done

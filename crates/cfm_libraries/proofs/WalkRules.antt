@@ -4,23 +4,24 @@ use Rattle.std.proofs.Common.{◌≡◌, ℕ, zero, suc, ◌+◌, ◌<◌, ◌�
 use Rattle.std.specs.Prelude.{Result}
 use Rattle.std.proofs.lemmas.List.Sums.{sum_by-set}
 use Rattle.cfm_store.specs.Stores.{Pair}
-use Rattle.cfm_libraries.specs.Faults.{◌>>=◌, Refusal}
+use Rattle.pef_words.specs.Results.{◌>>=◌}
+use Rattle.cfm_libraries.specs.Faults.{BindRefusal}
 use Rattle.cfm_libraries.specs.Fragments.{Fragment, fragment_of}
 use Rattle.cfm_libraries.specs.Libraries.{bound_to}
 use Rattle.cfm_libraries.specs.Walk.{Walked, is_marked, joining, left, marking, walk, walk_at, walk_to, walks_from}
 
 -- what isn't refused came of what isn't refused
-pub record Came {A B : Type 0} (r : Result A Refusal) (f : A → Result B Refusal) (y : B) : Type 0 where
+pub record Came {A B : Type 0} (r : Result A BindRefusal) (f : A → Result B BindRefusal) (y : B) : Type 0 where
   pub value : A
   pub is : r ≡ Ok value
   pub leads : f value ≡ Ok y
 
-pub came : {A B : Type 0} (r : Result A Refusal) (f : A → Result B Refusal) (y : B) → (r >>= f) ≡ Ok y → Came r f y
+pub came : {A B : Type 0} (r : Result A BindRefusal) (f : A → Result B BindRefusal) (y : B) → (r >>= f) ≡ Ok y → Came r f y
 came (Ok x) f y is = record { value = x; is = refl; leads = is }
 came (Err e) f y is = absurd (cc)
 
 -- what is the one and the other is one
-pub same_ok : {A : Type 0} (r : Result A Refusal) (x y : A) → r ≡ Ok x → r ≡ Ok y → x ≡ y
+pub same_ok : {A : Type 0} (r : Result A BindRefusal) (x y : A) → r ≡ Ok x → r ≡ Ok y → x ≡ y
 same_ok r x y is is' = cc
 
 -- past the marks everything is marked
@@ -52,26 +53,26 @@ none_left s p none = by (is_marked s p) refl
     by false is = absurd (let one = left-marking s p is in omega arith)
 
 -- two walks that do the same from states with at most k left, and leave no more
-pub record SameWalks (k : ℕ) (v w : ℕ → Walked → Result Walked Refusal) : Type 0 where
+pub record SameWalks (k : ℕ) (v w : ℕ → Walked → Result Walked BindRefusal) : Type 0 where
   pub same : (p : ℕ) (s : Walked) → left s ≤ k → v p s ≡ w p s
   pub fewer : (p : ℕ) (s t : Walked) → v p s ≡ Ok t → left t ≤ left s
 
-module _ (k : ℕ) (v w : ℕ → Walked → Result Walked Refusal) (both : SameWalks k v w) (pairs : List Pair) (p : ℕ) where
+module _ (k : ℕ) (v w : ℕ → Walked → Result Walked BindRefusal) (both : SameWalks k v w) (pairs : List Pair) (p : ℕ) where
   walks_from-same : (l n : ℕ) (s : Walked) → left s ≤ k → walks_from v pairs p l n s ≡ walks_from w pairs p l n s
   walks_from-same l zero s few = refl
   walks_from-same l (suc n) s few = by (λ t low. walks_from-same (l + 1) n t low) (bound_to pairs p l)
     where
-      go : ((t : Walked) → left t ≤ k → walks_from v pairs p (l + 1) n t ≡ walks_from w pairs p (l + 1) n t) → (r : Result Walked Refusal) → ((t : Walked) → r ≡ Ok t → left t ≤ left s) → (r >>= walks_from v pairs p (l + 1) n) ≡ (r >>= walks_from w pairs p (l + 1) n)
+      go : ((t : Walked) → left t ≤ k → walks_from v pairs p (l + 1) n t ≡ walks_from w pairs p (l + 1) n t) → (r : Result Walked BindRefusal) → ((t : Walked) → r ≡ Ok t → left t ≤ left s) → (r >>= walks_from v pairs p (l + 1) n) ≡ (r >>= walks_from w pairs p (l + 1) n)
       go rest (Ok t) fewer = let h = fewer t refl in rest t (omega arith)
       go rest (Err e) fewer = refl
 
-      by : ((t : Walked) → left t ≤ k → walks_from v pairs p (l + 1) n t ≡ walks_from w pairs p (l + 1) n t) → (r : Result (Option ℕ) Refusal) → (r >>= (λ q. walk_to v q s >>= walks_from v pairs p (l + 1) n)) ≡ (r >>= (λ q. walk_to w q s >>= walks_from w pairs p (l + 1) n))
+      by : ((t : Walked) → left t ≤ k → walks_from v pairs p (l + 1) n t ≡ walks_from w pairs p (l + 1) n t) → (r : Result (Option ℕ) BindRefusal) → (r >>= (λ q. walk_to v q s >>= walks_from v pairs p (l + 1) n)) ≡ (r >>= (λ q. walk_to w q s >>= walks_from w pairs p (l + 1) n))
       by rest (Ok None) = go rest (Ok s) (λ t is. (let same : s ≡ t = cc in subst (λ t. left t ≤ left s) same (omega arith)))
       by rest (Ok (Some q)) = rw (← both.same q s few) (go rest (v q s) (λ t is. both.fewer q s t is))
       by rest (Err e) = refl
 
 -- a walk leaves no more than there were
-module _ (v : ℕ → Walked → Result Walked Refusal) (fewer : (p : ℕ) (s t : Walked) → v p s ≡ Ok t → left t ≤ left s) (pairs : List Pair) (p : ℕ) where
+module _ (v : ℕ → Walked → Result Walked BindRefusal) (fewer : (p : ℕ) (s t : Walked) → v p s ≡ Ok t → left t ≤ left s) (pairs : List Pair) (p : ℕ) where
   pub walk_to-fewer : (q : Option ℕ) (s t : Walked) → walk_to v q s ≡ Ok t → left t ≤ left s
   walk_to-fewer None s t is = let same : s ≡ t = cc in subst (λ t. left t ≤ left s) same (omega arith)
   walk_to-fewer (Some q) s t is = fewer q s t is
@@ -119,7 +120,7 @@ walk-any (suc m) (suc n) pairs p s few few' = by (is_marked s p) refl (λ k q t 
         } in
         read (fragment_of pairs p) (λ f. walks_from-same (left (marking p s)) (walk m pairs) (walk n pairs) both pairs p 0 f.loader.header.library_count (marking p s) (omega arith))
       where
-        read : (r : Result Fragment Refusal) → ((f : Fragment) → walks_from (walk m pairs) pairs p 0 f.loader.header.library_count (marking p s) ≡ walks_from (walk n pairs) pairs p 0 f.loader.header.library_count (marking p s))
+        read : (r : Result Fragment BindRefusal) → ((f : Fragment) → walks_from (walk m pairs) pairs p 0 f.loader.header.library_count (marking p s) ≡ walks_from (walk n pairs) pairs p 0 f.loader.header.library_count (marking p s))
             → (r >>= (λ f. walks_from (walk m pairs) pairs p 0 f.loader.header.library_count (marking p s) >>= (λ s. Ok (joining p s)))) ≡ (r >>= (λ f. walks_from (walk n pairs) pairs p 0 f.loader.header.library_count (marking p s) >>= (λ s. Ok (joining p s))))
         read (Ok f) same = ap (λ r. r >>= (λ s. Ok (joining p s))) (same f)
         read (Err e) same = refl

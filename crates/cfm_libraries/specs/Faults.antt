@@ -9,38 +9,32 @@ use Rattle.cfm_libraries.specs.declared.fault.BindFault.TheVariants as fault
 
 -- why a fragment has no closure, with the names that are told: of the fragment, of its library, of its
 -- symbol
-pub data Refusal : Type 0 where
-  no_container : List ℕ → ViewFault → Refusal
-  no_loader : List ℕ → LoaderFault → Refusal
-  library_missing : List ℕ → List ℕ → Refusal
-  symbol_missing : List ℕ → List ℕ → List ℕ → Refusal
-  implementation_too_old : List ℕ → List ℕ → Refusal
-  implementation_too_new : List ℕ → List ℕ → Refusal
-  reexport_loop : List ℕ → List ℕ → Refusal
-  init_loop : List ℕ → Refusal
-
--- what something leads to that wasn't refused
-infixl 10 ◌>>=◌
-abbrev pub ◌>>=◌ : {A B : Type 0} → Result A Refusal → (A → Result B Refusal) → Result B Refusal
-(Ok x) >>= f = f x
-(Err refusal) >>= f = Err refusal
+pub data BindRefusal : Type 0 where
+  no_container : List ℕ → ViewFault → BindRefusal
+  no_loader : List ℕ → LoaderFault → BindRefusal
+  library_missing : List ℕ → List ℕ → BindRefusal
+  symbol_missing : List ℕ → List ℕ → List ℕ → BindRefusal
+  implementation_too_old : List ℕ → List ℕ → BindRefusal
+  implementation_too_new : List ℕ → List ℕ → BindRefusal
+  reexport_loop : List ℕ → List ℕ → BindRefusal
+  init_loop : List ℕ → BindRefusal
 
 -- a fault is the refusal that was to come, where there was memory
-abbrev pub Fails : {A : Type 0} → BindFault → Result A Refusal → Type 0
-Fails (fault.Container f v) expected = expected ≡ Err (no_container f.now v)
-Fails (fault.Loader f v) expected = expected ≡ Err (no_loader f.now v)
-Fails (fault.LibraryMissing f l) expected = expected ≡ Err (library_missing f.now l.now)
-Fails (fault.SymbolMissing f l s) expected = expected ≡ Err (symbol_missing f.now l.now s.now)
-Fails (fault.ImplementationTooOld f l) expected = expected ≡ Err (implementation_too_old f.now l.now)
-Fails (fault.ImplementationTooNew f l) expected = expected ≡ Err (implementation_too_new f.now l.now)
-Fails (fault.ReexportLoop f s) expected = expected ≡ Err (reexport_loop f.now s.now)
-Fails (fault.InitLoop f) expected = expected ≡ Err (init_loop f.now)
-Fails fault.OutOfMemory expected = Unit {0}
+abbrev pub FailsAs : {A : Type 0} → BindFault → Result A BindRefusal → Type 0
+FailsAs (fault.Container f v) expected = expected ≡ Err (no_container f.now v)
+FailsAs (fault.Loader f v) expected = expected ≡ Err (no_loader f.now v)
+FailsAs (fault.LibraryMissing f l) expected = expected ≡ Err (library_missing f.now l.now)
+FailsAs (fault.SymbolMissing f l s) expected = expected ≡ Err (symbol_missing f.now l.now s.now)
+FailsAs (fault.ImplementationTooOld f l) expected = expected ≡ Err (implementation_too_old f.now l.now)
+FailsAs (fault.ImplementationTooNew f l) expected = expected ≡ Err (implementation_too_new f.now l.now)
+FailsAs (fault.ReexportLoop f s) expected = expected ≡ Err (reexport_loop f.now s.now)
+FailsAs (fault.InitLoop f) expected = expected ≡ Err (init_loop f.now)
+FailsAs fault.OutOfMemory expected = Unit {0}
 
 -- an answer is the one that was to come, seen in its own way, where there was memory
-abbrev pub Answers : {A B : Type 0} → (A → B) → Result A BindFault → Result B Refusal → Type 0
+abbrev pub Answers : {A B : Type 0} → (A → B) → Result A BindFault → Result B BindRefusal → Type 0
 Answers seen (Ok x) expected = expected ≡ Ok (seen x)
-Answers seen (Err e) expected = Fails e expected
+Answers seen (Err e) expected = FailsAs e expected
 
 abbrev pub fault_number : BindFault → ℕ
 fault_number (fault.Container f v) = view_fault_number v

@@ -9,23 +9,23 @@ use Rattle.pef_loader.specs.Import.{Import}
 use Rattle.pef_loader.specs.Loader.{Loaded, import_of, loaded_of}
 use Rattle.pef_loader.specs.declared.fault.LoaderFault.{LoaderFault}
 use Rattle.cfm_store.specs.Stores.{Pair, pair_of}
-use Rattle.cfm_libraries.specs.Faults.{Refusal, no_container, no_loader}
+use Rattle.cfm_libraries.specs.Faults.{BindRefusal, no_container, no_loader}
 
 pub record Fragment : Type 0 where
   pub name : List ℕ
   pub container : Contained
   pub loader : Loaded
 
-abbrev pub with_loader : List ℕ → Contained → Result Loaded LoaderFault → Result Fragment Refusal
+abbrev pub with_loader : List ℕ → Contained → Result Loaded LoaderFault → Result Fragment BindRefusal
 with_loader name c (Ok l) = Ok (record { name = name; container = c; loader = l })
 with_loader name c (Err fault) = Err (no_loader name fault)
 
-abbrev pub with_container : List ℕ → Result Contained ViewFault → Result Fragment Refusal
+abbrev pub with_container : List ℕ → Result Contained ViewFault → Result Fragment BindRefusal
 with_container name (Ok c) = with_loader name c (loaded_of c.header.instantiated_section_count c.loader)
 with_container name (Err fault) = Err (no_container name fault)
 
 -- the fragment in a place, or the first refusal of its container and its loader section
-unfoldable pub fragment_of : List Pair → ℕ → Result Fragment Refusal
+unfoldable pub fragment_of : List Pair → ℕ → Result Fragment BindRefusal
 fragment_of pairs p = with_container (pair_of pairs p).name (container_of (pair_of pairs p).bytes)
 
 -- the container of the fragment in a place, where it can be read

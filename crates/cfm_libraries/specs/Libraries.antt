@@ -9,7 +9,8 @@ use Rattle.cfm_store.specs.declared.versions.Fit.{Fit}
 use Rattle.cfm_store.specs.declared.versions.Fit.TheVariants.{Fits, TooOld, TooNew}
 use Rattle.cfm_store.specs.Stores.{Pair, place_of}
 use Rattle.cfm_store.specs.Versions.{fit_of}
-use Rattle.cfm_libraries.specs.Faults.{◌>>=◌, Refusal, library_missing, implementation_too_old, implementation_too_new}
+use Rattle.pef_words.specs.Results.{◌>>=◌}
+use Rattle.cfm_libraries.specs.Faults.{BindRefusal, library_missing, implementation_too_old, implementation_too_new}
 use Rattle.cfm_libraries.specs.Fragments.{Fragment, fragment_of}
 
 -- the library may be missing: bit 40 (hex) of the options
@@ -21,11 +22,11 @@ abbrev pub is_before : Library → Bool
 is_before l = not (bit_and l.options 0x80 == 0)
 
 -- a weak library is absent where any other is refused
-abbrev pub absent_or : Bool → Refusal → Result (Option ℕ) Refusal
+abbrev pub absent_or : Bool → BindRefusal → Result (Option ℕ) BindRefusal
 absent_or weak refusal = if weak then Ok None else Err refusal
 
 -- the versions of the fragment that was found serve the entry, or they don't
-abbrev pub bound_by : Fit → List ℕ → Library → ℕ → Result (Option ℕ) Refusal
+abbrev pub bound_by : Fit → List ℕ → Library → ℕ → Result (Option ℕ) BindRefusal
 bound_by Fits name l q = Ok (Some q)
 bound_by TooOld name l q = absent_or (is_weak l) (implementation_too_old name l.name)
 bound_by TooNew name l q = absent_or (is_weak l) (implementation_too_new name l.name)
@@ -37,16 +38,16 @@ fit_with l f = fit_of
     (record { current = f.container.header.current_version; old_def = f.container.header.old_def_version })
 
 -- the fragment that was found is read, also for a weak library, and then asked for its versions
-abbrev pub bound_at : List Pair → List ℕ → Library → Option ℕ → Result (Option ℕ) Refusal
+abbrev pub bound_at : List Pair → List ℕ → Library → Option ℕ → Result (Option ℕ) BindRefusal
 bound_at pairs name l None = absent_or (is_weak l) (library_missing name l.name)
 bound_at pairs name l (Some q) = fragment_of pairs q >>= (λ f. bound_by (fit_with l f) name l q)
 
 -- what a library entry of a fragment stands for: a fragment of the store, or nothing where it is absent
-unfoldable pub bound : List Pair → List ℕ → Library → Result (Option ℕ) Refusal
+unfoldable pub bound : List Pair → List ℕ → Library → Result (Option ℕ) BindRefusal
 bound pairs name l = bound_at pairs name l (place_of pairs l.name)
 
 -- the same of entry l of the fragment in a place; nothing past the last entry
-unfoldable pub bound_to : List Pair → ℕ → ℕ → Result (Option ℕ) Refusal
+unfoldable pub bound_to : List Pair → ℕ → ℕ → Result (Option ℕ) BindRefusal
 bound_to pairs p l = fragment_of pairs p >>= (λ f. option_map_or (bound pairs f.name) (library_of f.loader l) (Ok None))
 
 -- the fragment of entry l, where it is there

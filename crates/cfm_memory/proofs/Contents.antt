@@ -48,16 +48,6 @@ placed_other (x ∷ xs) y address apart =
       | inr above ↦ rw above.0 (elim (eqb_tells y.address address) [ inl same ↦ absurd (apart same.1) | inr other ↦ rw other.0 refl ])
     ]
 
--- an instance that was given back is no more
-pub given_back_here : (xs : List Instance) (address from limit : ℕ) → IsLaidOut from limit xs → bytes_at (without xs address) address ≡ None
-given_back_here [] address from limit laid = refl
-given_back_here (x ∷ xs) address from limit laid =
-    let some_x = some_taken (length x.bytes) in
-    elim (eqb_tells x.address address) [
-      | inl same ↦ rw same.0 (nothing_before xs address (end_of x) limit (omega (arith, same.1)) laid.2)
-      | inr other ↦ rw other.0 (rw other.0 (given_back_here xs address (end_of x) limit laid.2))
-    ]
-
 -- and all others keep their bytes
 pub given_back_other : (xs : List Instance) (gone address : ℕ) → gone ≢ address → bytes_at (without xs gone) address ≡ bytes_at xs address
 given_back_other [] gone address apart = refl

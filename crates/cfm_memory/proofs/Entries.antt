@@ -1,5 +1,5 @@
 -- The instances as the map has them, by their addresses.
-use Rattle.std.proofs.Common.{◌≡◌, ◌==◌, ◌&&◌, ◌+◌, ◌-◌, ◌≤◌, ◌<◌, ℕ, suc, not, true, false, List, [], ◌∷◌, ◌++◌, Option, Some, None, IsTrue, MutBor, leb, length, map, refl, sym, ap, subst, ◌∙◌, inl, inr, arith}
+use Rattle.std.proofs.Common.{◌≡◌, ◌&&◌, ◌+◌, ◌-◌, ◌≤◌, ◌<◌, ℕ, suc, not, true, false, List, [], ◌∷◌, ◌++◌, Option, Some, None, IsTrue, MutBor, leb, length, map, refl, sym, ap, subst, ◌∙◌, inl, inr, arith}
 use Rattle.std.specs.Global.{Vec}
 use Rattle.std.specs.Map.{lookup, remove_entry, set_value}
 use Rattle.std.specs.BTreeMap.{insert_entry}
@@ -7,9 +7,10 @@ use Rattle.std.specs.BTreeMap.Range.{entries_between}
 use Rattle.std.specs.declared.ops.Bound.TheVariants.{Unbounded, Included}
 use Rattle.std.specs.Option.{option_copied_mut, option_map, option_or, IsSome}
 use Rattle.std.specs.Ordering.{is_eq, is_le, is_lt, nat_cmp}
-use Rattle.std.specs.declared.cmp.Ordering.TheVariants.{Less, Greater}
+use Rattle.std.specs.declared.cmp.Ordering.TheVariants.{Less}
 use Rattle.std.proofs.lemmas.Bool.Decides.{Decides-eqb, eqb_tells, leb_tells, nat_tests}
 use Rattle.std.proofs.lemmas.Option.{same_Some}
+use Rattle.pef_words.proofs.Laws.Numbers.{cmp_equal, cmp_greater}
 use Rattle.cfm_memory.specs.declared.place.Place.{Place}
 use Rattle.cfm_memory.specs.Instances.{Instance, Layout, bytes_at, has_length, holds_place, fitted, with_bytes, with_instance, without, range_at, range_in}
 use Rattle.cfm_memory.specs.Kept.Searches.{part_of}
@@ -26,22 +27,15 @@ instances es = map instance_seen es
 abbrev pub found : List (ℕ × Vec ℕ) → ℕ → Option (Vec ℕ)
 found es address = lookup (λ k. is_eq (nat_cmp address k)) es
 
--- whether two numbers are one, as the map compares them
-equals : (a b : ℕ) → is_eq (nat_cmp a b) ≡ (b == a)
-equals a b = grind (arith, nat_tests)
-
 comes_before : (a b : ℕ) → a < b → nat_cmp a b ≡ Less
 comes_before a b less = grind (arith, nat_tests)
-
-comes_behind : (a b : ℕ) → b < a → nat_cmp a b ≡ Greater
-comes_behind a b more = grind (arith, nat_tests)
 
 found_is : (es : List (ℕ × Vec ℕ)) (address : ℕ) → option_map (λ (v : Vec ℕ). v.items) (found es address) ≡ bytes_at (instances es) address
 found_is [] address = refl
 found_is (e ∷ es) address =
     elim (eqb_tells e.0 address) [
-      | inl same ↦ rw (equals address e.0, same.0) refl
-      | inr other ↦ rw (equals address e.0, other.0) (found_is es address)
+      | inl same ↦ rw (cmp_equal address e.0, same.0) refl
+      | inr other ↦ rw (cmp_equal address e.0, other.0) (found_is es address)
     ]
 
 -- the bytes that the map has at an address are those of the instance there
@@ -90,8 +84,8 @@ pub removed_is : (es : List (ℕ × Vec ℕ)) (address : ℕ) → instances (rem
 removed_is [] address = refl
 removed_is (e ∷ es) address =
     elim (eqb_tells e.0 address) [
-      | inl same ↦ rw (equals address e.0, same.0) refl
-      | inr other ↦ rw (equals address e.0, other.0) (ap (λ ys. instance_seen e ∷ ys) (removed_is es address))
+      | inl same ↦ rw (cmp_equal address e.0, same.0) refl
+      | inr other ↦ rw (cmp_equal address e.0, other.0) (ap (λ ys. instance_seen e ∷ ys) (removed_is es address))
     ]
 
 -- with a new entry
@@ -101,7 +95,7 @@ inserted_is (e ∷ es) address v none =
     elim (eqb_tells e.0 address) [
       | inl same ↦ absurd (let some = rw same.0 at none in cc)
       | inr other ↦ elim (leb_tells (suc e.0) address) [
-        | inl below ↦ rw (comes_behind address e.0 (omega (arith, below.1)), below.0) (ap (λ ys. instance_seen e ∷ ys) (inserted_is es address v (rw other.0 at none)))
+        | inl below ↦ rw (cmp_greater address e.0 (omega (arith, below.1)), below.0) (ap (λ ys. instance_seen e ∷ ys) (inserted_is es address v (rw other.0 at none)))
         | inr above ↦ rw (comes_before address e.0 (omega (arith, above.1, other.1)), above.0) refl
       ]
     ]
@@ -113,9 +107,9 @@ written_is [] address v changed w is changed_is = refl
 written_is (e ∷ es) address v changed w is changed_is =
     elim (eqb_tells e.0 address) [
       | inl same ↦
-          (let there : v ≡ e.1 = same_Some v e.1 (rw (equals address e.0, same.0) at is) in
-          rw (equals address e.0, same.0) (ap (λ (ys : List ℕ). record { address = e.0; bytes = ys } ∷ instances es) (changed_is ∙ ap (λ (u : Vec ℕ). fitted u.items w) there)))
-      | inr other ↦ rw (equals address e.0, other.0) (ap (λ ys. instance_seen e ∷ ys) (written_is es address v changed w (rw (equals address e.0, other.0) at is) changed_is))
+          (let there : v ≡ e.1 = same_Some v e.1 (rw (cmp_equal address e.0, same.0) at is) in
+          rw (cmp_equal address e.0, same.0) (ap (λ (ys : List ℕ). record { address = e.0; bytes = ys } ∷ instances es) (changed_is ∙ ap (λ (u : Vec ℕ). fitted u.items w) there)))
+      | inr other ↦ rw (cmp_equal address e.0, other.0) (ap (λ ys. instance_seen e ∷ ys) (written_is es address v changed w (rw (cmp_equal address e.0, other.0) at is) changed_is))
     ]
 
 -- the entries from an address on

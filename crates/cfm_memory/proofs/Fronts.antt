@@ -11,9 +11,6 @@ use Rattle.std.proofs.lemmas.Option.{same_Some}
 use Rattle.cfm_memory.proofs.Placing.{some_taken, free_before}
 use Rattle.cfm_memory.proofs.Ranges.{begins_behind}
 
-pub no_front : IsFront [] first_address
-no_front = record { low = omega arith; between = tt; full = λ other low free. low }
-
 -- with a new instance less is free
 free_without_new : (address end : ℕ) (xs : List Instance) (y : Instance) → IsFree address end (with_instance xs y) → IsFree address end xs
 free_without_new address end [] y free = tt

@@ -1,5 +1,5 @@
 -- What is left of a memory when some instances are given back, whatever was written to them.
-use Rattle.std.proofs.Common.{◌≡◌, ◌≢◌, ℕ, zero, suc, ◌<◌, ◌==◌, List, [], ◌∷◌, length, refl, sym, ap, ◌∙◌, inl, inr, IsTrue, arith}
+use Rattle.std.proofs.Common.{◌<◌, ◌==◌, ◌∙◌, ◌∷◌, ◌≡◌, ◌≢◌, IsTrue, List, [], ap, arith, inl, inr, length, refl, suc, sym, zero, ℕ}
 use Rattle.std.proofs.lemmas.Bool.Decides.{eqb_tells, leb_tells}
 use Rattle.cfm_memory.specs.Extents.{ArePlaced, Extent, given_back, place_at}
 use Rattle.cfm_memory.specs.Instances.{Instance, Layout, bytes_at, has_length, holds_place, with_bytes, with_instance, with_instances, without}
@@ -39,7 +39,7 @@ without_both (x ∷ xs) a b =
       ]
     ]
 
-given_back_without : (m : Layout) (a : ℕ) (places : List Place) → given_back (with_instances m (without m.instances a)) places ≡ with_instances (given_back m places) (without (given_back m places).instances a)
+pub given_back_without : (m : Layout) (a : ℕ) (places : List Place) → given_back (with_instances m (without m.instances a)) places ≡ with_instances (given_back m places) (without (given_back m places).instances a)
 given_back_without m a [] = refl
 given_back_without m a (p ∷ places) =
     ap (λ ys. given_back (with_instances m ys) places) (without_both m.instances a p.address)

@@ -1,5 +1,5 @@
 -- How placements follow one another, and what they leave of each other.
-use Rattle.std.proofs.Common.{◌≡◌, ◌≢◌, ℕ, zero, suc, ◌+◌, ◌<◌, ◌≤◌, List, [], ◌∷◌, ◌++◌, Option, None, Some, length, get_or, replicate, refl, sym, ap, subst, ◌∙◌, inl, inr, IsTrue, arith, rules}
+use Rattle.std.proofs.Common.{◌≡◌, ◌≢◌, ℕ, zero, suc, ◌+◌, ◌<◌, List, [], ◌∷◌, ◌++◌, Option, None, Some, length, get_or, replicate, refl, sym, ap, subst, ◌∙◌, inl, inr, IsTrue, arith, rules}
 use Rattle.std.proofs.lemmas.Bool.{cases_lt}
 use Rattle.std.proofs.lemmas.List.{get_or_default, length-replicate}
 use Rattle.cfm_memory.specs.Extents.{AreApart, AreHeld, ArePlaced, Extent, IsPlaceFor, LackRoom, Stand, place_at, zeros_at}
@@ -7,7 +7,7 @@ use Rattle.cfm_memory.specs.Instances.{Layout, bytes_at, holds_place}
 use Rattle.cfm_memory.specs.Placement.{taken, with_new}
 use Rattle.cfm_memory.specs.declared.place.Place.{Place}
 use Rattle.cfm_memory.proofs.Contents.{nothing_at_free, placed_here, placed_other}
-use Rattle.cfm_memory.proofs.Placing.{some_taken, within_taken}
+use Rattle.cfm_memory.proofs.Placing.{some_taken}
 
 -- what stands for a place, and for an extent, past the last one
 abbrev nowhere : Place
@@ -77,16 +77,6 @@ placed_size m [] (p ∷ places) after placed k = absurd placed
 placed_size m (e ∷ extents) [] after placed k = absurd placed
 placed_size m (e ∷ extents) (p ∷ places) after placed zero = placed.0.size
 placed_size m (e ∷ extents) (p ∷ places) after placed (suc k) = placed_size (with_new m p) extents places after placed.1 k
-
--- and lies below the limit
-pub placed_below : (m : Layout) (extents : List Extent) (places : List Place) (after : Layout) → ArePlaced m extents places after → (k : ℕ) → k < length places → (place_at places k).address + (place_at places k).size ≤ m.limit
-placed_below m [] [] after placed k under = absurd (omega arith)
-placed_below m [] (p ∷ places) after placed k under = absurd placed
-placed_below m (e ∷ extents) [] after placed k under = absurd placed
-placed_below m (e ∷ extents) (p ∷ places) after placed zero under =
-    let room = placed.0.lowest.room.inside in
-    omega (arith, room, placed.0.size, within_taken e.size)
-placed_below m (e ∷ extents) (p ∷ places) after placed (suc k) under = placed_below (with_new m p) extents places after placed.1 k (omega arith)
 
 -- a place is none of an instance that was there before
 place_new : (m : Layout) (extents : List Extent) (places : List Place) (after : Layout) (k : ℕ) (d : Place) (address : ℕ) (bytes : List ℕ)

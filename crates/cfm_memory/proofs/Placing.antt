@@ -33,9 +33,6 @@ free_before address end from limit [] before laid = tt
 free_before address end from limit (x ∷ xs) before laid =
     (inl (omega arith), free_before address end (end_of x) limit xs (omega arith) laid.2)
 
-pub first_of_none : (n step at : ℕ) → at % step ≡ 0 → IsFirstFree n step at [] at
-first_of_none n step at aligned = record { low = omega arith; aligned = aligned; free = tt; first = λ b low _ _. low }
-
 -- before the next instance there is room at once
 pub first_before : (n step at from limit : ℕ) (x : Instance) (xs : List Instance) → at % step ≡ 0 → at + n ≤ x.address → IsLaidOut from limit (x ∷ xs) → IsFirstFree n step at (x ∷ xs) at
 first_before n step at from limit x xs aligned before laid = record {

@@ -5,22 +5,16 @@ use Rattle.std.specs.BTreeMap.{insert_entry}
 use Rattle.std.specs.Map.{lookup, remove_entry}
 use Rattle.std.specs.Option.{IsSome, option_copied}
 use Rattle.std.specs.Ordering.{is_eq, nat_cmp}
-use Rattle.std.specs.declared.cmp.Ordering.TheVariants.{Greater}
-use Rattle.std.proofs.lemmas.Bool.Decides.{eqb_tells, nat_tests}
+use Rattle.std.proofs.lemmas.Bool.Decides.{eqb_tells}
 use Rattle.cfm_closure.specs.Closures.{Closed}
+use Rattle.std.proofs.lemmas.Option.{same_Some}
+use Rattle.pef_words.proofs.Laws.Numbers.{cmp_equal, cmp_greater}
 use Rattle.cfm_prepare.specs.Contexts.{Open, open_of, open_without}
 use Rattle.cfm_prepare.specs.Kept.Connections.{AllBelow, AreAtNumbers, open_in}
 
--- whether two numbers are one, as the map compares them
-equals : (a b : ℕ) → is_eq (nat_cmp a b) ≡ (b == a)
-equals a b = grind (arith, nat_tests)
-
-comes-behind : (a b : ℕ) → b < a → nat_cmp a b ≡ Greater
-comes-behind a b more = grind (arith, nat_tests)
-
 -- an entry is found by the number of its connection
 key-is : (e : ℕ × Open) (number : ℕ) → e.1.number ≡ e.0 → is_eq (nat_cmp number e.0) ≡ (e.1.number == number)
-key-is e number at = equals number e.0 ∙ ap (λ k. k == number) (sym at)
+key-is e number at = cmp_equal number e.0 ∙ ap (λ k. k == number) (sym at)
 
 pub found-is : (es : List (ℕ × Open)) (number : ℕ) → AreAtNumbers es → lookup (λ k. is_eq (nat_cmp number k)) es ≡ open_of (open_in es) number
 found-is [] number at = refl
@@ -52,7 +46,7 @@ pub inserted-is : (es : List (ℕ × Open)) (o : Open) → AreAtNumbers es → A
 inserted-is [] o at below = refl
 inserted-is (e ∷ es) o at below =
     let less : e.0 < o.number = omega (arith, at.0, below.0) in
-    rw (comes-behind o.number e.0 less) (ap (λ ys. e ∷ ys) (inserted-is es o at.1 below.1))
+    rw (cmp_greater o.number e.0 less) (ap (λ ys. e ∷ ys) (inserted-is es o at.1 below.1))
 
 pub pushed-is : (es : List (ℕ × Open)) (e : ℕ × Open) → open_in (es ++ e ∷ []) ≡ open_in es ++ e.1 ∷ []
 pushed-is [] e = refl
@@ -61,14 +55,6 @@ pushed-is (x ∷ es) e = ap (λ ys. x.1 ∷ ys) (pushed-is es e)
 pub pushed-at : (es : List (ℕ × Open)) (e : ℕ × Open) → AreAtNumbers es → e.1.number ≡ e.0 → AreAtNumbers (es ++ e ∷ [])
 pushed-at [] e at is = (is, tt)
 pushed-at (x ∷ es) e at is = (at.0, pushed-at es e at.1 is)
-
--- where there is none of a number, none goes
-pub without-none : (os : List Open) (number : ℕ) → open_of os number ≡ None → open_without os number ≡ os
-without-none [] number is = refl
-without-none (o ∷ os) number is = elim (eqb_tells o.number number) [
-  | inl same ↦ (let wrong : Some o ≡ None = rw same.0 at is in absurd (cc))
-  | inr other ↦ (let more : open_of os number ≡ None = rw other.0 at is in rw other.0 (ap (λ ys. o ∷ ys) (without-none os number more)))
-]
 
 -- the last one is that of its number, and goes again
 pub last-found : (os : List Open) (o : Open) → AllBelow o.number os → open_of (os ++ o ∷ []) o.number ≡ Some o
@@ -112,8 +98,5 @@ pub some-got : (got : Option (Bor Open)) (o : Open) → option_copied got ≡ So
 some-got None o is = absurd (cc)
 some-got (Some x) o is = refl
 
-open-is : (x o : Open) → Some x ≡ Some o → x ≡ o
-open-is x o same = cc
-
 pub closed-got : (got : Option (Bor Open)) (o : Open) (one : Bor Open) (closed : Closed) → option_copied got ≡ Some o → got ≡ Some one → closed ≡ one.now.closed → closed ≡ o.closed
-closed-got got o one closed is one_is closed_is = closed_is ∙ ap (λ (x : Open). x.closed) (open-is one.now o (sym (ap option_copied one_is) ∙ is))
+closed-got got o one closed is one_is closed_is = closed_is ∙ ap (λ (x : Open). x.closed) (same_Some one.now o (sym (ap option_copied one_is) ∙ is))

@@ -8,7 +8,7 @@ use Rattle.cfm_store.specs.Stores.{Pair}
 use Rattle.cfm_present.specs.Addresses.{section_of}
 use Rattle.cfm_present.specs.Fragments.{Present, all_given_back, is_present, places_of, present_at}
 use Rattle.cfm_present.proofs.Laws.{ArePairApart, placed-pairs, placed-new, turned}
-use Rattle.cfm_prepare.specs.Contexts.{Open, State, fresh_state, is_needed, needed_of, unneeded_of}
+use Rattle.cfm_prepare.specs.Contexts.{ContextState, Open, fresh_state, is_needed, needed_of, unneeded_of}
 use Rattle.cfm_prepare.specs.Runs.{Keeps, Runs, Step, Takes, closed, prepared}
 use Rattle.cfm_prepare.specs.Steps.{Closes, Prepares}
 use Rattle.cfm_prepare.proofs.RunLemmas.{present-needed}
@@ -101,21 +101,21 @@ there-kept : (m after : Layout) (f : Present) → IsThere m f → Keeps m after 
 there-kept m after f there keeps k under = ((there k under).0, keeps k under ∙ (there k under).1)
 
 -- what holds of a state
-pub record IsLaid (s : State) : Type 0 where
+pub record IsLaid (s : ContextState) : Type 0 where
   pub there : AllBy (IsThere s.memory) s.present
   pub apart : AreApartAll s.present
 
-apart-new : (pairs : List Pair) (s t : State) (name : List ℕ) (number : ℕ) (step : Prepares s name number t) (f : Present) → IsThere s.memory f → AllBy (λ g. ArePairApart g f) step.fresh
+apart-new : (pairs : List Pair) (s t : ContextState) (name : List ℕ) (number : ℕ) (step : Prepares s name number t) (f : Present) → IsThere s.memory f → AllBy (λ g. ArePairApart g f) step.fresh
 apart-new pairs s t name number step f there =
     let are = step.prepared.are in
     all-index (λ g. ArePairApart g f) step.fresh (λ i under a b low less same.
     placed-new s.pairs s.memory step.fresh are.empty i a (place_at f.places b).address (there b less).0 are.placed under low (there b less).1 (sym same))
 
-pub kept-new : (pairs : List Pair) (s t : State) (name : List ℕ) (number : ℕ) (step : Prepares s name number t) (f : Present) → IsThere s.memory f → Keeps s.memory t.memory f.places
+pub kept-new : (pairs : List Pair) (s t : ContextState) (name : List ℕ) (number : ℕ) (step : Prepares s name number t) (f : Present) → IsThere s.memory f → Keeps s.memory t.memory f.places
 kept-new pairs s t name number step f there k under =
     sym (keeps-apart t.memory step.fresh f (apart-new pairs s t name number step f there) k under) ∙ ap (λ (m : Layout). bytes_at m.instances (place_at f.places k).address) step.prepared.others
 
-pub laid-prepare : (pairs : List Pair) (s t : State) (name : List ℕ) (number : ℕ) → IsLaid s → Prepares s name number t → IsLaid t
+pub laid-prepare : (pairs : List Pair) (s t : ContextState) (name : List ℕ) (number : ℕ) → IsLaid s → Prepares s name number t → IsLaid t
 laid-prepare pairs s t name number laid step =
     let are = step.prepared.are in
     let old = all-map (IsThere s.memory) (IsThere t.memory) s.present (λ f there. there-kept s.memory t.memory f there (kept-new pairs s t name number step f there)) laid.there in
@@ -128,13 +128,13 @@ laid-prepare pairs s t name number laid step =
     }
 
 -- those that are kept by a closing keep their bytes
-pub kept-close : (s t : State) (number : ℕ) → IsLaid s → Closes s number t → AllBy (λ f. Keeps s.memory t.memory f.places) (needed_of t.connections s.present)
+pub kept-close : (s t : ContextState) (number : ℕ) → IsLaid s → Closes s number t → AllBy (λ f. Keeps s.memory t.memory f.places) (needed_of t.connections s.present)
 kept-close s t number laid step =
     let us = unneeded_of t.connections s.present in
     all-map (λ f. AllBy (λ g. ArePairApart g f) us) (λ f. Keeps s.memory t.memory f.places) (needed_of t.connections s.present)
     (λ f apart. subst (λ (m : Layout). Keeps s.memory m f.places) (sym step.memory) (keeps-apart s.memory us f apart)) (parted t.connections s.present laid.apart)
 
-pub laid-close : (s t : State) (number : ℕ) → IsLaid s → Closes s number t → IsLaid t
+pub laid-close : (s t : ContextState) (number : ℕ) → IsLaid s → Closes s number t → IsLaid t
 laid-close s t number laid step =
     let kept = needed_of t.connections s.present in
     record {
@@ -143,7 +143,7 @@ laid-close s t number laid step =
       apart = subst AreApartAll (sym step.present) (apart-needed t.connections s.present laid.apart);
     }
 
-laid-all : (pairs : List Pair) (s t : State) (steps : List Step) → IsLaid s → Runs s steps t → IsLaid t
+laid-all : (pairs : List Pair) (s t : ContextState) (steps : List Step) → IsLaid s → Runs s steps t → IsLaid t
 laid-all pairs s t [] laid run = subst IsLaid (sym run) laid
 laid-all pairs s t (prepared name number ∷ steps) laid run = laid-all pairs run.0 t steps (laid-prepare pairs s run.0 name number laid run.1) run.2
 laid-all pairs s t (closed number ∷ steps) laid run = laid-all pairs run.0 t steps (laid-close s run.0 number laid run.1) run.2
@@ -178,7 +178,7 @@ both-true : (b c : Bool) → cond b c false ≡ true → b ≡ true
 both-true true c is = refl
 both-true false c is = is
 
-step-keeps : (pairs : List Pair) (s t : State) (x : Step) (p : ℕ) → IsLaid s → Takes s x t → is_present s.present p ≡ true → is_present t.present p ≡ true
+step-keeps : (pairs : List Pair) (s t : ContextState) (x : Step) (p : ℕ) → IsLaid s → Takes s x t → is_present s.present p ≡ true → is_present t.present p ≡ true
     → (places_of t.present p ≡ places_of s.present p) × Keeps s.memory t.memory (places_of s.present p)
 step-keeps pairs s t (prepared name number) p laid step was is = (
   ap (λ fs. places_of fs p) step.present ∙ places-before s.present step.fresh p was,
@@ -191,6 +191,6 @@ step-keeps pairs s t (closed number) p laid step was is =
       subst (Keeps s.memory t.memory) same (places-keep s.memory t.memory (needed_of t.connections s.present) p (kept-close s t number laid step)),
     )
 
-pub run-keeps : (pairs : List Pair) (limit : ℕ) (steps : List Step) (s t : State) (x : Step) (p : ℕ) → Runs (fresh_state pairs limit) steps s → Takes s x t → is_present s.present p ≡ true → is_present t.present p ≡ true
+pub run-keeps : (pairs : List Pair) (limit : ℕ) (steps : List Step) (s t : ContextState) (x : Step) (p : ℕ) → Runs (fresh_state pairs limit) steps s → Takes s x t → is_present s.present p ≡ true → is_present t.present p ≡ true
     → (places_of t.present p ≡ places_of s.present p) × Keeps s.memory t.memory (places_of s.present p)
 run-keeps pairs limit steps s t x p run step was is = step-keeps pairs s t x p (laid-all pairs (fresh_state pairs limit) s steps (record { there = tt; apart = tt }) run) step was is

@@ -7,7 +7,7 @@ use Rattle.cfm_memory.specs.Extents.{Stand, place_at}
 use Rattle.cfm_memory.specs.Instances.{Layout}
 use Rattle.cfm_memory.specs.declared.place.Place.{Place}
 use Rattle.cfm_store.specs.Stores.{Pair}
-use Rattle.cfm_libraries.specs.Faults.{Refusal}
+use Rattle.cfm_libraries.specs.Faults.{BindRefusal}
 use Rattle.cfm_libraries.specs.Fragments.{import_count}
 use Rattle.cfm_closure.specs.Closures.{closed_of}
 use Rattle.cfm_closure.specs.Promises.{LiesInside}
@@ -16,12 +16,13 @@ use Rattle.cfm_closure.specs.declared.targets.Target.{Target}
 use Rattle.cfm_closure.specs.declared.targets.Target.TheVariants.{Absolute, At}
 use Rattle.cfm_closure.proofs.Laws.{closed-complete, target-inside}
 use Rattle.cfm_fragment.specs.Prepared.{addresses_at}
-use Rattle.cfm_present.specs.Addresses.{import_address, imports_from, section_of, target_address}
+use Rattle.cfm_present.specs.Addresses.{addresses_from, import_address, section_of, target_address}
 use Rattle.cfm_present.specs.Lists.{has}
 use Rattle.cfm_present.specs.Fragments.{Present, is_present, places_of, prepared_in}
 use Rattle.cfm_present.specs.Placing.{Fits}
 use Rattle.cfm_present.proofs.Laws.{has-at, has-contains, placed-fit}
-use Rattle.cfm_prepare.specs.Contexts.{Open, State, fresh_state, is_needed, needed_of}
+use Rattle.pef_words.proofs.Laws.Tests.{cond-later}
+use Rattle.cfm_prepare.specs.Contexts.{ContextState, Open, fresh_state, is_needed, needed_of}
 use Rattle.cfm_prepare.specs.Now.{IsPreparedNow}
 use Rattle.cfm_prepare.specs.Runs.{AreClosed, Keeps, Runs, Step, closed, prepared}
 use Rattle.cfm_prepare.specs.Steps.{Closes, Prepares}
@@ -40,7 +41,7 @@ target-same pairs os all now order (Some (Absolute number)) agree needed inside 
 target-same pairs os all now order (Some (At q section offset)) agree needed inside =
     ap (λ (ps : List Place). ((place_at ps section).address + offset) % 2 ^ 32) (agree q (needed q (has-at order q inside.member)))
 
-result-same : (pairs : List Pair) (os : List Open) (all now : List Present) (order : List ℕ) (r : Result (Option Target) Refusal) → AgreeOn os all now → ((q : ℕ) → has order q ≡ true → is_needed os q ≡ true)
+result-same : (pairs : List Pair) (os : List Open) (all now : List Present) (order : List ℕ) (r : Result (Option Target) BindRefusal) → AgreeOn os all now → ((q : ℕ) → has order q ≡ true → is_needed os q ≡ true)
     → ((t : Option Target) → r ≡ Ok t → LiesInside pairs order t) → target_address now (result_unwrap_or r None) ≡ target_address all (result_unwrap_or r None)
 result-same pairs os all now order (Ok t) agree needed inside = target-same pairs os all now order t agree needed (inside t refl)
 result-same pairs os all now order (Err e) agree needed inside = refl
@@ -56,10 +57,6 @@ needed-first : (b c : Bool) → b ≡ true → cond b true c ≡ true
 needed-first true c is = refl
 needed-first false c is = absurd (cc)
 
-needed-later : (b c : Bool) → c ≡ true → cond b true c ≡ true
-needed-later true c is = refl
-needed-later false c is = is
-
 open-with : (pairs : List Pair) (os : List Open) (p : ℕ) → AreClosed pairs os → is_needed os p ≡ true → HasOpen pairs os p
 open-with pairs [] p are is = absurd (cc)
 open-with pairs (o ∷ os) p are is = by (has o.closed.order p) refl is (λ left. open-with pairs os p are.1 left)
@@ -68,7 +65,7 @@ open-with pairs (o ∷ os) p are is = by (has o.closed.order p) refl is (λ left
     by true was is later = record { link = o; closes = are.0; has_it = was; needed = λ q there. needed-first (has o.closed.order q) (is_needed os q) there }
     by false was is later =
         let rest = later is in
-        record { link = rest.link; closes = rest.closes; has_it = rest.has_it; needed = λ q there. needed-later (has o.closed.order q) (is_needed os q) (rest.needed q there) }
+        record { link = rest.link; closes = rest.closes; has_it = rest.has_it; needed = λ q there. cond-later (has o.closed.order q) (is_needed os q) (rest.needed q there) }
 
 module _ (pairs : List Pair) (os : List Open) (are : AreClosed pairs os) (all now : List Present) (agree : AgreeOn os all now) where
   import-same : (p j : ℕ) → is_needed os p ≡ true → import_address pairs now p j ≡ import_address pairs all p j
@@ -78,7 +75,7 @@ module _ (pairs : List Pair) (os : List Open) (are : AreClosed pairs os) (all no
       let complete = closed-complete pairs o.link.root o.link.closed o.closes in
       result-same pairs os all now order (target_of pairs p j) agree o.needed (λ t is. target-inside pairs order complete p j t (has-contains order p o.has_it) is)
 
-  imports-same : (p from n : ℕ) → is_needed os p ≡ true → imports_from pairs now p from n ≡ imports_from pairs all p from n
+  imports-same : (p from n : ℕ) → is_needed os p ≡ true → addresses_from pairs now p from n ≡ addresses_from pairs all p from n
   imports-same p from zero needed = refl
   imports-same p from (suc n) needed = ap₂ (λ (a : ℕ) (rest : List ℕ). a ∷ rest) (import-same p from needed) (imports-same p (from + 1) n needed)
 
@@ -90,34 +87,30 @@ module _ (pairs : List Pair) (os : List Open) (are : AreClosed pairs os) (all no
   stand-same : (m after : Layout) (f : Present) → is_needed os f.position ≡ true → Keeps m after f.places → Stand m f.places (section_of pairs all f) → Stand after f.places (section_of pairs now f)
   stand-same m after f needed keeps stand k under = keeps k under ∙ stand k under ∙ ap Some (sym (section-same f k needed))
 
--- each of some fragments is one of them
-own-more : (b c : Bool) → c ≡ true → cond b true c ≡ true
-own-more b c is = needed-later b c is
-
 own-present : (fs : List Present) → AllBy (λ f. is_present fs f.position ≡ true) fs
 own-present [] = tt
 own-present (f ∷ fs) = (
   first,
-  all-map (λ g. is_present fs g.position ≡ true) (λ g. is_present (f ∷ fs) g.position ≡ true) fs (λ g is. own-more (f.position == g.position) (is_present fs g.position) is) (own-present fs),
+  all-map (λ g. is_present fs g.position ≡ true) (λ g. is_present (f ∷ fs) g.position ≡ true) fs (λ g is. cond-later (f.position == g.position) (is_present fs g.position) is) (own-present fs),
 )
   where
     first : is_present (f ∷ fs) f.position ≡ true
     first = elim (eqb_tells f.position f.position) [ inl same ↦ rw same.0 refl | inr other ↦ absurd (other.1 refl) ]
 
-own-needed : (pairs : List Pair) (s : State) → IsSound pairs s → AllBy (λ f. is_needed s.connections f.position ≡ true) s.present
+own-needed : (pairs : List Pair) (s : ContextState) → IsSound pairs s → AllBy (λ f. is_needed s.connections f.position ≡ true) s.present
 own-needed pairs s sound = all-map (λ f. is_present s.present f.position ≡ true) (λ f. is_needed s.connections f.position ≡ true) s.present (λ f is. sym (sound.same f.position) ∙ is) (own-present s.present)
 
 -- what holds of a state
 abbrev StandsNow : List Pair → Layout → List Present → Present → Type 0
 StandsNow pairs m all f = Stand m f.places (section_of pairs all f)
 
-record IsNow (pairs : List Pair) (s : State) : Type 0 where
+record IsNow (pairs : List Pair) (s : ContextState) : Type 0 where
   sound : IsSound pairs s
   laid : IsLaid s
   fits : AllBy (Fits pairs) s.present
   stand : AllBy (StandsNow pairs s.memory s.present) s.present
 
-now-prepare : (pairs : List Pair) (s t : State) (name : List ℕ) (number : ℕ) → IsNow pairs s → Prepares s name number t → IsNow pairs t
+now-prepare : (pairs : List Pair) (s t : ContextState) (name : List ℕ) (number : ℕ) → IsNow pairs s → Prepares s name number t → IsNow pairs t
 now-prepare pairs s t name number now step =
     let sound = now.sound in
     let all : List Present = s.present ++ step.fresh in
@@ -140,7 +133,7 @@ now-prepare pairs s t name number now step =
       stand = subst (λ fs. AllBy (StandsNow pairs t.memory fs) fs) (sym step.present) (all-append (StandsNow pairs t.memory all) s.present step.fresh old new);
     }
 
-now-close : (pairs : List Pair) (s t : State) (number : ℕ) → IsNow pairs s → Closes s number t → IsNow pairs t
+now-close : (pairs : List Pair) (s t : ContextState) (number : ℕ) → IsNow pairs s → Closes s number t → IsNow pairs t
 now-close pairs s t number now step =
     let after = after-close pairs s t number now.sound step in
     let left : List Present = needed_of t.connections s.present in
@@ -160,7 +153,7 @@ now-close pairs s t number now step =
       stand = subst (λ fs. AllBy (StandsNow pairs t.memory fs) fs) (sym step.present) stand;
     }
 
-now-all : (pairs : List Pair) (s t : State) (steps : List Step) → IsNow pairs s → Runs s steps t → IsNow pairs t
+now-all : (pairs : List Pair) (s t : ContextState) (steps : List Step) → IsNow pairs s → Runs s steps t → IsNow pairs t
 now-all pairs s t [] now run = subst (IsNow pairs) (sym run) now
 now-all pairs s t (prepared name number ∷ steps) now run = now-all pairs run.0 t steps (now-prepare pairs s run.0 name number now run.1) run.2
 now-all pairs s t (closed number ∷ steps) now run = now-all pairs run.0 t steps (now-close pairs s run.0 number now run.1) run.2
@@ -176,7 +169,7 @@ at-position P (f ∷ fs) p all is = elim (eqb_tells f.position p) [
   | inr other ↦ (let left : is_present fs p ≡ true = rw other.0 at is in rw other.0 (at-position P fs p all.1 left))
 ]
 
-now-at : (pairs : List Pair) (s : State) (p : ℕ) → IsNow pairs s → is_present s.present p ≡ true → IsPreparedNow pairs s p
+now-at : (pairs : List Pair) (s : ContextState) (p : ℕ) → IsNow pairs s → is_present s.present p ≡ true → IsPreparedNow pairs s p
 now-at pairs s p now is =
     let fit = at-position (λ q places. Fits pairs (record { position = q; places = places })) s.present p now.fits is in
     record {
@@ -186,14 +179,14 @@ now-at pairs s p now is =
       stand = at-position (λ q places. StandsNow pairs s.memory s.present (record { position = q; places = places })) s.present p now.stand is;
     }
 
-pub run-now : (pairs : List Pair) (limit : ℕ) (steps : List Step) (s : State) (p : ℕ) → Runs (fresh_state pairs limit) steps s → is_present s.present p ≡ true → IsPreparedNow pairs s p
+pub run-now : (pairs : List Pair) (limit : ℕ) (steps : List Step) (s : ContextState) (p : ℕ) → Runs (fresh_state pairs limit) steps s → is_present s.present p ≡ true → IsPreparedNow pairs s p
 run-now pairs limit steps s p run is = now-at pairs s p (now-all pairs (fresh_state pairs limit) s steps (fresh-now pairs limit) run) is
 
 -- and a step that prepares leaves each fragment of its closure so
-pub run-prepares : (pairs : List Pair) (limit : ℕ) (steps : List Step) (s t : State) (name : List ℕ) (number p : ℕ) → Runs (fresh_state pairs limit) steps s → (step : Prepares s name number t) → Contains step.closure.closed.order p
+pub run-prepares : (pairs : List Pair) (limit : ℕ) (steps : List Step) (s t : ContextState) (name : List ℕ) (number p : ℕ) → Runs (fresh_state pairs limit) steps s → (step : Prepares s name number t) → Contains step.closure.closed.order p
     → (is_present t.present p ≡ true) × IsPreparedNow pairs t p
 run-prepares pairs limit steps s t name number p run step there =
     let now = now-prepare pairs s t name number (now-all pairs (fresh_state pairs limit) s steps (fresh-now pairs limit) run) step in
     let o : Open = record { number = s.given; root = step.closure.has.root; closed = step.closure.closed } in
     let is : is_present t.present p ≡ true =
-    now.sound.same p ∙ ap (λ os. is_needed os p) step.connections ∙ needed-either s.connections o p ∙ needed-later (is_needed s.connections p) (has o.closed.order p) (has-at o.closed.order p there) in (is, now-at pairs t p now is)
+    now.sound.same p ∙ ap (λ os. is_needed os p) step.connections ∙ needed-either s.connections o p ∙ cond-later (is_needed s.connections p) (has o.closed.order p) (has-at o.closed.order p there) in (is, now-at pairs t p now is)

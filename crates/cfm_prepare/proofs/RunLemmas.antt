@@ -5,23 +5,16 @@ use Rattle.std.proofs.lemmas.Bool.Decides.{eqb_tells}
 use Rattle.cfm_store.specs.Stores.{Pair}
 use Rattle.cfm_closure.specs.Closures.{closed_of}
 use Rattle.cfm_present.specs.Lists.{has}
-use Rattle.cfm_present.specs.Fragments.{Present, is_present, new_among, positions}
-use Rattle.cfm_prepare.specs.Contexts.{Open, State, fresh_state, is_needed, needed_of, open_without}
+use Rattle.cfm_present.specs.Fragments.{Present, is_present, new_among}
+use Rattle.pef_words.proofs.Laws.Tests.{cond-later}
+use Rattle.cfm_present.proofs.Laws.{present-append, present-has}
+use Rattle.cfm_prepare.specs.Contexts.{ContextState, Open, fresh_state, is_needed, needed_of, open_without}
 use Rattle.cfm_prepare.specs.Runs.{AreClosed, Runs, Step, closed, prepared}
 use Rattle.cfm_prepare.specs.Steps.{Closes, Prepares}
 
 never : (b : Bool) → false ≡ cond b false false
 never true = refl
 never false = refl
-
--- one of some fragments or of others
-present-either : (xs ys : List Present) (p : ℕ) → is_present (xs ++ ys) p ≡ cond (is_present xs p) true (is_present ys p)
-present-either [] ys p = refl
-present-either (f ∷ xs) ys p = elim (eqb_tells f.position p) [ inl same ↦ rw same.0 refl | inr other ↦ rw other.0 (present-either xs ys p) ]
-
-present-position : (fs : List Present) (p : ℕ) → is_present fs p ≡ has (positions fs) p
-present-position [] p = refl
-present-position (f ∷ fs) p = ap (λ b. cond (f.position == p) true b) (present-position fs p)
 
 -- a new one is of the order, and wasn't there
 new-at : (b c : Bool) (q p : ℕ) (news ps : List ℕ) → (q ≡ p → b ≡ c) → has news p ≡ cond c false (has ps p) → has (cond b news (q ∷ news)) p ≡ cond c false (has (q ∷ ps) p)
@@ -80,15 +73,11 @@ present-needed os (f ∷ fs) p =
     choice (is_needed os f.position) f (needed_of os fs) p
     ∙ kept-at (is_needed os f.position) (is_needed os p) f.position p (is_present (needed_of os fs) p) (is_present fs p) (λ is. ap (is_needed os) is) (present-needed os fs p)
 
-needed-more : (a b : Bool) → b ≡ true → cond a true b ≡ true
-needed-more true b is = refl
-needed-more false b is = is
-
 -- what is needed without a connection is needed with it
 needed-without : (os : List Open) (number p : ℕ) → is_needed (open_without os number) p ≡ true → is_needed os p ≡ true
 needed-without [] number p is = is
 needed-without (o ∷ os) number p is = elim (eqb_tells o.number number) [
-  | inl same ↦ (let left : is_needed os p ≡ true = rw same.0 at is in needed-more (has o.closed.order p) (is_needed os p) left)
+  | inl same ↦ (let left : is_needed os p ≡ true = rw same.0 at is in cond-later (has o.closed.order p) (is_needed os p) left)
   | inr other ↦ (let left : cond (has o.closed.order p) true (is_needed (open_without os number) p) ≡ true = rw other.0 at is in first (has o.closed.order p) (is_needed (open_without os number) p) (is_needed os p) left (needed-without os number p))
 ]
   where
@@ -110,12 +99,12 @@ closed-without pairs [] number are = are
 closed-without pairs (o ∷ os) number are = elim (eqb_tells o.number number) [ inl same ↦ rw same.0 are.1 | inr other ↦ rw other.0 (are.0, closed-without pairs os number are.1) ]
 
 -- what holds of a state
-pub record IsSound (pairs : List Pair) (s : State) : Type 0 where
+pub record IsSound (pairs : List Pair) (s : ContextState) : Type 0 where
   pub store : s.pairs ≡ pairs
   pub closures : AreClosed pairs s.connections
   pub same : (p : ℕ) → is_present s.present p ≡ is_needed s.connections p
 
-pub after-prepare : (pairs : List Pair) (s t : State) (name : List ℕ) (number : ℕ) → IsSound pairs s → Prepares s name number t → IsSound pairs t
+pub after-prepare : (pairs : List Pair) (s t : ContextState) (name : List ℕ) (number : ℕ) → IsSound pairs s → Prepares s name number t → IsSound pairs t
 after-prepare pairs s t name number sound step =
     let o : Open = record { number = s.given; root = step.closure.has.root; closed = step.closure.closed } in
     let closes : closed_of pairs o.root ≡ Ok o.closed = ap (λ ps. closed_of ps o.root) (sym sound.store) ∙ step.closure.is in
@@ -123,13 +112,13 @@ after-prepare pairs s t name number sound step =
       store = step.pairs ∙ sound.store;
       closures = subst (AreClosed pairs) (sym step.connections) (closed-push pairs s.connections o sound.closures closes);
       same = λ p.
-          ap (λ fs. is_present fs p) step.present ∙ present-either s.present step.fresh p
-          ∙ ap (λ b. cond (is_present s.present p) true b) (present-position step.fresh p ∙ ap (λ ps. has ps p) step.prepared.are.are ∙ has-new s.present o.closed.order p)
+          ap (λ fs. is_present fs p) step.present ∙ present-append s.present step.fresh p
+          ∙ ap (λ b. cond (is_present s.present p) true b) (present-has step.fresh p ∙ ap (λ ps. has ps p) step.prepared.are.are ∙ has-new s.present o.closed.order p)
           ∙ both (is_present s.present p) (has o.closed.order p) ∙ ap (λ b. cond b true (has o.closed.order p)) (sound.same p)
           ∙ sym (needed-either s.connections o p) ∙ ap (λ os. is_needed os p) (sym step.connections);
     }
 
-pub after-close : (pairs : List Pair) (s t : State) (number : ℕ) → IsSound pairs s → Closes s number t → IsSound pairs t
+pub after-close : (pairs : List Pair) (s t : ContextState) (number : ℕ) → IsSound pairs s → Closes s number t → IsSound pairs t
 after-close pairs s t number sound step =
     record {
       store = step.pairs ∙ sound.store;
@@ -139,7 +128,7 @@ after-close pairs s t number sound step =
           ∙ within (is_needed t.connections p) (is_needed s.connections p) (λ is. needed-without s.connections number p (ap (λ os. is_needed os p) (sym step.connections) ∙ is));
     }
 
-after-all : (pairs : List Pair) (s t : State) (steps : List Step) → IsSound pairs s → Runs s steps t → IsSound pairs t
+after-all : (pairs : List Pair) (s t : ContextState) (steps : List Step) → IsSound pairs s → Runs s steps t → IsSound pairs t
 after-all pairs s t [] sound run = subst (IsSound pairs) (sym run) sound
 after-all pairs s t (prepared name number ∷ steps) sound run = after-all pairs run.0 t steps (after-prepare pairs s run.0 name number sound run.1) run.2
 after-all pairs s t (closed number ∷ steps) sound run = after-all pairs run.0 t steps (after-close pairs s run.0 number sound run.1) run.2
@@ -147,8 +136,8 @@ after-all pairs s t (closed number ∷ steps) sound run = after-all pairs run.0 
 pub fresh-sound : (pairs : List Pair) (limit : ℕ) → IsSound pairs (fresh_state pairs limit)
 fresh-sound pairs limit = record { store = refl; closures = tt; same = λ p. refl }
 
-pub run-present : (pairs : List Pair) (limit : ℕ) (steps : List Step) (t : State) (p : ℕ) → Runs (fresh_state pairs limit) steps t → is_present t.present p ≡ is_needed t.connections p
+pub run-present : (pairs : List Pair) (limit : ℕ) (steps : List Step) (t : ContextState) (p : ℕ) → Runs (fresh_state pairs limit) steps t → is_present t.present p ≡ is_needed t.connections p
 run-present pairs limit steps t p run = (after-all pairs (fresh_state pairs limit) t steps (fresh-sound pairs limit) run).same p
 
-pub run-closed : (pairs : List Pair) (limit : ℕ) (steps : List Step) (t : State) → Runs (fresh_state pairs limit) steps t → AreClosed pairs t.connections
+pub run-closed : (pairs : List Pair) (limit : ℕ) (steps : List Step) (t : ContextState) → Runs (fresh_state pairs limit) steps t → AreClosed pairs t.connections
 run-closed pairs limit steps t run = (after-all pairs (fresh_state pairs limit) t steps (fresh-sound pairs limit) run).closures

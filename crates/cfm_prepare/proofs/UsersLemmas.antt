@@ -1,11 +1,12 @@
 -- The counts of the users of fragments.
-use Rattle.std.proofs.Common.{◌≡◌, ◌≢◌, ℕ, zero, suc, ◌+◌, ◌<◌, ◌≤◌, Bool, true, false, List, [], ◌∷◌, ◌++◌, Some, nat_lt, not, length, replicate, refl, sym, ap, ap₂, subst, ◌∙◌, inl, inr, cond, arith}
+use Rattle.std.proofs.Common.{◌≡◌, ◌≢◌, ℕ, zero, suc, ◌+◌, ◌<◌, ◌≤◌, Bool, true, false, List, [], ◌∷◌, ◌++◌, Some, nat_lt, not, length, refl, sym, ap, ap₂, subst, ◌∙◌, inl, inr, cond, arith}
 use Rattle.std.proofs.Math.ListN.{set}
 use Rattle.std.proofs.lemmas.Bool.Decides.{eqb_tells, nat_tests}
 use Rattle.std.proofs.lemmas.List.{get_or-set_other, get_or-set_same}
 use Rattle.cfm_present.specs.Lists.{has}
 use Rattle.cfm_present.specs.Fragments.{Present, is_present}
 use Rattle.cfm_present.proofs.Laws.{has-first, present-append}
+use Rattle.std.proofs.lemmas.Option.{same_Some}
 use Rattle.cfm_prepare.specs.Contexts.{Open, is_needed, needed_of, open_of, open_without, unneeded_of}
 use Rattle.cfm_prepare.specs.Kept.Users.{AreUsedBut, CountsMore, CountUsers, count_at, counted, is_used, unused_of, used_of, users_of}
 
@@ -49,16 +50,13 @@ pub users-push : (os : List Open) (o : Open) (p : ℕ) → users_of (os ++ o ∷
 users-push [] o p = omega arith
 users-push (x ∷ os) o p = let more = users-push os o p in omega (arith, more)
 
-one-open : (x o : Open) → Some x ≡ Some o → x ≡ o
-one-open x o same = cc
-
 -- without one of them
 pub users-without : (os : List Open) (number : ℕ) (o : Open) (p : ℕ) → open_of os number ≡ Some o → users_of os p ≡ counted o.closed.order p + users_of (open_without os number) p
 users-without [] number o p is = absurd (cc)
 users-without (x ∷ os) number o p is = elim (eqb_tells x.number number) [
   | inl same ↦ (
       let found : Some x ≡ Some o = rw same.0 at is in
-      let one : x ≡ o = one-open x o found in
+      let one : x ≡ o = same_Some x o found in
       rw (same.0, one) refl
       )
   | inr other ↦ (
@@ -73,17 +71,6 @@ pub under-length : (counts : List ℕ) (p : ℕ) → 0 < count_at counts p → p
 under-length [] p some = absurd (omega (arith, some))
 under-length (c ∷ counts) zero some = omega arith
 under-length (c ∷ counts) (suc p) some = let more = under-length counts p some in omega (arith, more)
-
-zeros-count : (k p : ℕ) → count_at (replicate k 0) p ≡ 0
-zeros-count zero p = refl
-zeros-count (suc k) zero = refl
-zeros-count (suc k) (suc p) = zeros-count k p
-
--- more room changes no count
-pub room-same : (counts : List ℕ) (k p : ℕ) → count_at (counts ++ replicate k 0) p ≡ count_at counts p
-room-same [] k p = zeros-count k p
-room-same (c ∷ counts) k zero = refl
-room-same (c ∷ counts) k (suc p) = room-same counts k p
 
 -- one count that is changed
 count-here : (counts : List ℕ) (q v : ℕ) → q < length counts → count_at (set counts q v) q ≡ v

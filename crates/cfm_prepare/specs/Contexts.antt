@@ -23,7 +23,7 @@ pub record Open : Type 0 where
 
 -- a context: the store and the memory that it is of, how many numbers were given, the open connections, and
 -- the fragments that are present
-pub record State : Type 0 where
+pub record ContextState : Type 0 where
   pub pairs : List Pair
   pub memory : Layout
   pub given : ℕ
@@ -31,7 +31,7 @@ pub record State : Type 0 where
   pub present : List Present
 
 -- nothing was prepared
-abbrev pub fresh_state : List Pair → ℕ → State
+abbrev pub fresh_state : List Pair → ℕ → ContextState
 fresh_state pairs limit = record { pairs = pairs; memory = no_instances limit; given = 0; connections = []; present = [] }
 
 -- the open connection of a number

@@ -6,12 +6,12 @@ use Rattle.cfm_memory.specs.Instances.{Layout}
 use Rattle.cfm_store.specs.Stores.{Pair}
 use Rattle.cfm_present.specs.Addresses.{section_of}
 use Rattle.cfm_present.specs.Fragments.{extents_in, places_of, present_of}
-use Rattle.cfm_prepare.specs.Contexts.{State}
+use Rattle.cfm_prepare.specs.Contexts.{ContextState}
 
 -- a fragment's sections were placed, as its container says, in some memory (in which one, says the preparation that
 -- placed them, `Prepares`; and that they stay, the law `kept_fragments`); and in the memory of now each has what it is
 -- prepared to, with the addresses that its sections and its imports' targets have now
-pub record IsPreparedNow (pairs : List Pair) (s : State) (p : ℕ) : Type 0 where
+pub record IsPreparedNow (pairs : List Pair) (s : ContextState) (p : ℕ) : Type 0 where
   pub before : Layout
   pub empty : Layout
   pub placed : ArePlaced before (extents_in pairs p) (places_of s.present p) empty

@@ -11,12 +11,12 @@ use Rattle.cfm_fragment.specs.declared.entries.Entries.{Entries}
 use Rattle.cfm_present.specs.Addresses.{import_address, target_address}
 use Rattle.cfm_present.specs.Fragments.{Present, places_of}
 use Rattle.cfm_present.specs.Lists.{has}
-use Rattle.cfm_present.specs.Sections.{section_in}
-use Rattle.cfm_prepare.specs.Contexts.{Open, State, open_of}
+use Rattle.cfm_present.specs.Sections.{section_present}
+use Rattle.cfm_prepare.specs.Contexts.{ContextState, Open, open_of}
 
 -- section i of a connection's root
-abbrev pub root_section : State → ℕ → ℕ → Option (ℕ × List ℕ)
-root_section s number i = option_and_then (λ o. section_in s.memory s.present o.root i) (open_of s.connections number)
+abbrev pub root_section : ContextState → ℕ → ℕ → Option (ℕ × List ℕ)
+root_section s number i = option_and_then (λ o. section_present s.memory s.present o.root i) (open_of s.connections number)
 
 -- the address of an export of a fragment, by its value and its section: in a section, an absolute number, or
 -- that of the import that it passes on

@@ -5,7 +5,7 @@ use Rattle.cfm_memory.specs.Instances.{Layout, bytes_at}
 use Rattle.cfm_memory.specs.declared.place.Place.{Place}
 use Rattle.cfm_store.specs.Stores.{Pair}
 use Rattle.cfm_closure.specs.Closures.{closed_of}
-use Rattle.cfm_prepare.specs.Contexts.{Open, State}
+use Rattle.cfm_prepare.specs.Contexts.{ContextState, Open}
 use Rattle.cfm_prepare.specs.Steps.{Closes, Prepares}
 
 -- a fragment was prepared by its name, which gave a number, or the connection of a number was closed
@@ -13,14 +13,14 @@ pub data Step : Type 0 where
   prepared : List ℕ → ℕ → Step
   closed : ℕ → Step
 
-abbrev pub Takes : State → Step → State → Type 0
+abbrev pub Takes : ContextState → Step → ContextState → Type 0
 Takes s (prepared name number) t = Prepares s name number t
 Takes s (closed number) t = Closes s number t
 
 -- steps lead from one state to another
-abbrev pub Runs : State → List Step → State → Type 0
+abbrev pub Runs : ContextState → List Step → ContextState → Type 0
 Runs s [] t = t ≡ s
-Runs s (x ∷ xs) t = (mid : State) × Takes s x mid × Runs mid xs t
+Runs s (x ∷ xs) t = (mid : ContextState) × Takes s x mid × Runs mid xs t
 
 -- the closures of open connections are those of their roots
 abbrev pub AreClosed : List Pair → List Open → Type 0

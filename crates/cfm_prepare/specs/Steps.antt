@@ -2,34 +2,34 @@
 -- The order of the refusals is this project's own rule.
 use Rattle.std.specs.Prelude.{◌≡◌, ◌≤◌, ◌<◌, ℕ, ◌+◌, List, [], ◌∷◌, ◌++◌, None, Some, Ok}
 use Rattle.cfm_store.specs.Stores.{place_of}
-use Rattle.cfm_libraries.specs.Faults.{Fails}
+use Rattle.cfm_libraries.specs.Faults.{FailsAs}
 use Rattle.cfm_closure.specs.Closures.{Closed, closed_of}
 use Rattle.cfm_present.specs.Fragments.{Present, all_given_back, new_among}
 use Rattle.cfm_present.specs.Placing.{ArePrepared}
 use Rattle.cfm_present.specs.Refusals.{MayNotPrepareNew}
 use Rattle.cfm_present.specs.declared.fault.FragmentFault.{FragmentFault}
-use Rattle.cfm_prepare.specs.Contexts.{Open, State, most_connections, needed_of, open_of, open_without, unneeded_of}
+use Rattle.cfm_prepare.specs.Contexts.{ContextState, Open, most_connections, needed_of, open_of, open_without, unneeded_of}
 use Rattle.cfm_prepare.specs.declared.fault.PrepareFault.{PrepareFault}
 use Rattle.cfm_prepare.specs.declared.fault.PrepareFault.TheVariants as fault
 
 -- a number is left, and a name has a fragment, in this place
-pub record HasRoot (s : State) (name : List ℕ) : Type 0 where
+pub record HasRoot (s : ContextState) (name : List ℕ) : Type 0 where
   pub left : s.given < most_connections
   pub root : ℕ
   pub is : place_of s.pairs name ≡ Some root
 
 -- and the fragment has a closure
-pub record HasClosure (s : State) (name : List ℕ) : Type 0 where
+pub record HasClosure (s : ContextState) (name : List ℕ) : Type 0 where
   pub has : HasRoot s name
   pub closed : Closed
   pub is : closed_of s.pairs has.root ≡ Ok closed
 
 -- the fragments of a closure that aren't present
-abbrev pub new_of : State → Closed → List ℕ
+abbrev pub new_of : ContextState → Closed → List ℕ
 new_of s c = new_among s.present c.order
 
 -- a connection with the next number is opened: the fragments of its closure that weren't present are prepared
-pub record Prepares (s : State) (name : List ℕ) (n : ℕ) (t : State) : Type 0 where
+pub record Prepares (s : ContextState) (name : List ℕ) (n : ℕ) (t : ContextState) : Type 0 where
   pub closure : HasClosure s name
   pub fresh : List Present
   pub prepared : ArePrepared s.pairs s.present s.memory (new_of s closure.closed) fresh t.memory
@@ -40,21 +40,21 @@ pub record Prepares (s : State) (name : List ℕ) (n : ℕ) (t : State) : Type 0
   pub present : t.present ≡ s.present ++ fresh
 
 -- the fragment has a closure, whose new fragments aren't prepared
-pub record IsRefusedLate (s : State) (name : List ℕ) (f : FragmentFault) : Type 0 where
+pub record IsRefusedLate (s : ContextState) (name : List ℕ) (f : FragmentFault) : Type 0 where
   pub closure : HasClosure s name
   pub why : MayNotPrepareNew s.pairs s.present s.memory (new_of s closure.closed) f
 
 -- why a fragment isn't prepared: all numbers were given; else the name isn't in the store; else it has no
 -- closure; else its new fragments aren't prepared. Memory may be refused behind the first two
-abbrev pub MayNotPrepare : State → List ℕ → PrepareFault → Type 0
+abbrev pub MayNotPrepare : ContextState → List ℕ → PrepareFault → Type 0
 MayNotPrepare s name fault.TooManyConnections = most_connections ≤ s.given
 MayNotPrepare s name fault.RootMissing = (s.given < most_connections) × (place_of s.pairs name ≡ None)
-MayNotPrepare s name (fault.Bind f) = (has : HasRoot s name) × Fails f (closed_of s.pairs has.root)
+MayNotPrepare s name (fault.Bind f) = (has : HasRoot s name) × FailsAs f (closed_of s.pairs has.root)
 MayNotPrepare s name (fault.Fragment f) = IsRefusedLate s name f
 MayNotPrepare s name fault.OutOfMemory = HasRoot s name
 
 -- an open connection is closed: the fragments that no other connection's closure has are given back
-pub record Closes (s : State) (number : ℕ) (t : State) : Type 0 where
+pub record Closes (s : ContextState) (number : ℕ) (t : ContextState) : Type 0 where
   pub closed : Open
   pub was : open_of s.connections number ≡ Some closed
   pub pairs : t.pairs ≡ s.pairs

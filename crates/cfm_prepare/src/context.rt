@@ -2,7 +2,7 @@ ghost use Rattle.std.specs.Prelude.{◌≡◌, ◌<◌, ◌≤◌, ◌+◌, ℕ,
 ghost use Rattle.std.specs.Option.{option_and_then, option_copied};
 ghost use Rattle.cfm_store.specs.Stores.{place_of};
 ghost use Rattle.cfm_present.specs.Fragments.{places_of};
-ghost use Rattle.cfm_present.specs.Sections.{section_in, section_seen};
+ghost use Rattle.cfm_present.specs.Sections.{section_present, section_seen};
 ghost use Rattle.cfm_prepare.specs.Contexts.{fresh_state, most_connections, open_of};
 ghost use Rattle.cfm_prepare.specs.Readers.{entries_of, main_address, root_section, symbol_address};
 ghost use Rattle.cfm_prepare.specs.Steps.{Closes, MayNotPrepare, Prepares};
@@ -43,9 +43,9 @@ pub struct Context<'a> {
 }
 
 impl<'a> Model for Context<'a> {
-    ghost use Rattle.cfm_prepare.specs.Contexts.{State};
+    ghost use Rattle.cfm_prepare.specs.Contexts.{ContextState};
 
-    ghost Value = { State };
+    ghost Value = { ContextState };
 
     ghost use Rattle.cfm_prepare.specs.Kept.Contexts.{IsKept};
 
@@ -184,7 +184,7 @@ impl<'a> Context<'a> {
     /// The address and the bytes of section `i` of the fragment in a place of the store. `None` where the
     /// fragment isn't present, or has no such section.
     pub fn fragment_section(&self, position: usize, i: usize) -> Option<(u32, &[u8])>
-        ensures section { option_map section_seen result ≡ section_in self.now.memory self.now.present position i }
+        ensures section { option_map section_seen result ≡ section_present self.now.memory self.now.present position i }
         ensures within { MatchOption result (length (places_of self.now.present position) ≤ i) (λ s. s.0 + length s.1.now ≤ self.now.memory.limit) }
     {
         self.fragments.section(position, i)

@@ -18,8 +18,8 @@ use Rattle.cfm_closure.specs.declared.targets.Target.{Target}
 use Rattle.cfm_fragment.specs.Images.{extents_of, filled_at, first_image_refusal}
 use Rattle.cfm_fragment.specs.Prepared.{first_reloc_refusal, prepared_at}
 use Rattle.cfm_fragment.proofs.Laws.{length-fragment}
-use Rattle.cfm_present.specs.Addresses.{import_address, imports_from, target_address}
-use Rattle.cfm_present.specs.Fragments.{Present, extents_in, filled_in, image_refusal_in, prepared_in, reloc_refusal_in}
+use Rattle.cfm_present.specs.Addresses.{addresses_from, import_address, target_address}
+use Rattle.cfm_present.specs.Fragments.{Present, extents_in, image_refusal_in, prepared_in, reloc_refusal_in, section_filled}
 use Rattle.cfm_present.proofs.PlacingLemmas.{append-assoc}
 
 of-loader : (name : List ℕ) (k : Contained) (r : Result Loaded LoaderFault) (l : Loaded) → loaded_of k.header.instantiated_section_count k.loader ≡ r
@@ -56,7 +56,7 @@ pub length-there : (pairs : List Pair) (p : ℕ) (c : Contained) (before after :
 length-there pairs p c before after places is placed = length-fragment c before after places (placed-there pairs p c before after places is placed)
 
 -- what is filled, and why it may not be
-filled-there : (pairs : List Pair) (p : ℕ) (c : Contained) (k : ℕ) → container_at pairs p ≡ Some c → filled_in pairs p k ≡ filled_at c k
+filled-there : (pairs : List Pair) (p : ℕ) (c : Contained) (k : ℕ) → container_at pairs p ≡ Some c → section_filled pairs p k ≡ filled_at c k
 filled-there pairs p c k is = ap (λ o. option_map_or (λ (d : Contained). filled_at d k) o []) is
 
 pub image-there : (pairs : List Pair) (p : ℕ) (c : Contained) (n : ℕ) → container_at pairs p ≡ Some c → n ≡ c.header.instantiated_section_count → image_refusal_in pairs p ≡ first_image_refusal c n
@@ -64,7 +64,7 @@ image-there pairs p c n is count =
     ap (λ o. option_and_then (λ (d : Contained). first_image_refusal d d.header.instantiated_section_count) o) is ∙ ap (first_image_refusal c) (sym count)
 
 -- the same of a fragment that is relocated
-pub stand-there : (pairs : List Pair) (p : ℕ) (c : Contained) (m : Layout) (places : List Place) → container_at pairs p ≡ Some c → Stand m places (filled_in pairs p) → Stand m places (filled_at c)
+pub stand-there : (pairs : List Pair) (p : ℕ) (c : Contained) (m : Layout) (places : List Place) → container_at pairs p ≡ Some c → Stand m places (section_filled pairs p) → Stand m places (filled_at c)
 stand-there pairs p c m places is stand = λ k under. stand k under ∙ ap Some (filled-there pairs p c k is)
 
 pub prepared-there : (pairs : List Pair) (p : ℕ) (c : Contained) (l : Loaded) (a : Addresses) (m : Layout) (places : List Place) → container_at pairs p ≡ Some c → loader_at pairs p ≡ Some l
@@ -80,11 +80,11 @@ program-there pairs p c l a is loader =
 
 -- the address of one import more
 pub imports-next : (pairs : List Pair) (all : List Present) (p : ℕ) (items next whole : List ℕ) (j n : ℕ) (target : Option Target) (address : ℕ) → j < n → target_of pairs p j ≡ Ok target → address ≡ target_address all target
-    → next ≡ items ++ address ∷ [] → items ++ imports_from pairs all p j (n - j) ≡ whole → next ++ imports_from pairs all p (j + 1) (n - (j + 1)) ≡ whole
+    → next ≡ items ++ address ∷ [] → items ++ addresses_from pairs all p j (n - j) ≡ whole → next ++ addresses_from pairs all p (j + 1) (n - (j + 1)) ≡ whole
 imports-next pairs all p items next whole j n target address under is address_is next_is left =
     let more : n - j ≡ suc (n - (j + 1)) = omega (arith, under) in
-    let rest = imports_from pairs all p (j + 1) (n - (j + 1)) in
+    let rest = addresses_from pairs all p (j + 1) (n - (j + 1)) in
     let here : address ≡ import_address pairs all p j = address_is ∙ ap (λ t. target_address all (result_unwrap_or t None)) (sym is) in
     let behind : next ++ rest ≡ items ++ address ∷ rest = ap (λ xs. xs ++ rest) next_is ∙ append-assoc items (address ∷ []) rest in
-    let first : items ++ address ∷ rest ≡ items ++ imports_from pairs all p j (suc (n - (j + 1))) = ap (λ x. items ++ x ∷ rest) here in
-    behind ∙ first ∙ ap (λ k. items ++ imports_from pairs all p j k) (sym more) ∙ left
+    let first : items ++ address ∷ rest ≡ items ++ addresses_from pairs all p j (suc (n - (j + 1))) = ap (λ x. items ++ x ∷ rest) here in
+    behind ∙ first ∙ ap (λ k. items ++ addresses_from pairs all p j k) (sym more) ∙ left

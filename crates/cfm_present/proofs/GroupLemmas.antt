@@ -1,11 +1,10 @@
 -- Fragments in memory: what is left when they are given back, and what a change of one leaves of the others.
-use Rattle.std.proofs.Common.{◌≡◌, ◌≢◌, ℕ, zero, suc, ◌<◌, List, [], ◌∷◌, length, refl, sym, ap, subst, ◌∙◌, inl, inr, IsTrue, arith}
-use Rattle.std.proofs.lemmas.Bool.Decides.{eqb_tells}
+use Rattle.std.proofs.Common.{◌≡◌, ◌≢◌, ℕ, zero, suc, ◌<◌, List, [], ◌∷◌, length, refl, sym, ap, subst, ◌∙◌, IsTrue, arith}
 use Rattle.std.proofs.lemmas.List.{get_or_default}
 use Rattle.cfm_memory.specs.Extents.{AreHeld, Stand, given_back, place_at}
-use Rattle.cfm_memory.specs.Instances.{Instance, Layout, bytes_at, holds_place, with_instances, without}
+use Rattle.cfm_memory.specs.Instances.{Layout, bytes_at, holds_place, with_instances, without}
 use Rattle.cfm_memory.specs.declared.place.Place.{Place}
-use Rattle.cfm_memory.proofs.Laws.{given_back_elsewhere}
+use Rattle.cfm_memory.proofs.Laws.{given_back_elsewhere, given_back_without}
 use Rattle.cfm_present.specs.Fragments.{Present, all_given_back, present_at}
 
 -- what stands for a place, and for a fragment, past the last one
@@ -15,31 +14,11 @@ nowhere = record { address = 0; size = 0 }
 abbrev pub no_fragment : Present
 no_fragment = record { position = 0; places = [] }
 
--- which of two instances is taken away first doesn't matter
-without-swap : (xs : List Instance) (a b : ℕ) → without (without xs a) b ≡ without (without xs b) a
-without-swap [] a b = refl
-without-swap (x ∷ xs) a b =
-    elim (eqb_tells x.address a) [
-      | inl here ↦ elim (eqb_tells x.address b) [
-        | inl there ↦ rw here.0 (rw there.0 (ap (without xs) (sym there.1 ∙ here.1)))
-        | inr other ↦ rw here.0 (rw other.0 (rw here.0 refl))
-      ]
-      | inr apart ↦ elim (eqb_tells x.address b) [
-        | inl there ↦ rw apart.0 (rw there.0 refl)
-        | inr other ↦ rw apart.0 (rw other.0 (rw apart.0 (ap (λ ys. x ∷ ys) (without-swap xs a b))))
-      ]
-    ]
-
-gone-first : (m : Layout) (a : ℕ) (ps : List Place) → given_back (with_instances m (without m.instances a)) ps ≡ with_instances (given_back m ps) (without (given_back m ps).instances a)
-gone-first m a [] = refl
-gone-first m a (p ∷ ps) =
-    ap (λ (xs : List Instance). given_back (with_instances m xs) ps) (without-swap m.instances a p.address) ∙ gone-first (with_instances m (without m.instances p.address)) a ps
-
 -- nor which of two fragments
 pub given-swap : (m : Layout) (ps qs : List Place) → given_back (given_back m ps) qs ≡ given_back (given_back m qs) ps
 given-swap m [] qs = refl
 given-swap m (p ∷ ps) qs =
-    given-swap (with_instances m (without m.instances p.address)) ps qs ∙ ap (λ (k : Layout). given_back k ps) (gone-first m p.address qs)
+    given-swap (with_instances m (without m.instances p.address)) ps qs ∙ ap (λ (k : Layout). given_back k ps) (given_back_without m p.address qs)
 
 pub all-swap : (m : Layout) (fs : List Present) (ps : List Place) → all_given_back (given_back m ps) fs ≡ given_back (all_given_back m fs) ps
 all-swap m [] ps = refl

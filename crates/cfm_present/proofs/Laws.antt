@@ -2,8 +2,8 @@
 
 -- what a list has, and that it has nothing twice
 pub use Rattle.cfm_present.proofs.ListLemmas.{has-at, has-contains, has-first, has-later, once-from-pairs}
--- fragments behind others: which are present, and where their sections lie
-pub use Rattle.cfm_present.proofs.SlotLemmas.{places-append, present-append}
+-- which fragments are present where some stand behind others
+pub use Rattle.cfm_present.proofs.SlotLemmas.{present-append}
 -- which fragments are present, and what is new of a list is of that
 pub use Rattle.cfm_present.proofs.FoundLemmas.{new-has, present-has}
 -- fragments that were placed: no section has the address of another, nor of what was there; and the places of a
@@ -11,4 +11,4 @@ pub use Rattle.cfm_present.proofs.FoundLemmas.{new-has, present-has}
 pub use Rattle.cfm_present.proofs.PlacedLemmas.{placed-fit, placed-new, placed-pairs}
 pub use Rattle.cfm_present.proofs.GroupLemmas.{ArePairApart, turned}
 -- fragments that are given back one by one, in any order
-pub use Rattle.cfm_present.proofs.ReleaseLemmas.{AreGiven, given-first, given-gone, given-kept, given-past, gone_by, kept_by}
+pub use Rattle.cfm_present.proofs.ReleaseLemmas.{AreGiven, given-first, given-gone, given-kept, given-past}

@@ -4,13 +4,11 @@ use Rattle.std.proofs.lemmas.Bool.Decides.{eqb_tells}
 use Rattle.cfm_memory.specs.Instances.{Instance, bytes_at}
 use Rattle.cfm_memory.specs.Placement.{IsLaidOut, end_of}
 use Rattle.cfm_memory.proofs.Laws.{within_taken}
-
-some-is : (a b : List ℕ) → Some a ≡ Some b → a ≡ b
-some-is a b same = cc
+use Rattle.std.proofs.lemmas.Option.{same_Some}
 
 ends-below : (x : Instance) (bytes : List ℕ) (limit : ℕ) → Some x.bytes ≡ Some bytes → end_of x ≤ limit → x.address + length bytes ≤ limit
 ends-below x bytes limit found below =
-    let len : length x.bytes ≡ length bytes = ap length (some-is x.bytes bytes found) in
+    let len : length x.bytes ≡ length bytes = ap length (same_Some x.bytes bytes found) in
     omega (arith, len, within_taken (length x.bytes), below)
 
 -- an instance ends below the limit of those that it is one of

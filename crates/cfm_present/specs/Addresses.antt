@@ -26,13 +26,13 @@ abbrev pub import_address : List Pair → List Present → ℕ → ℕ → ℕ
 import_address pairs all p j = target_address all (result_unwrap_or (target_of pairs p j) None)
 
 -- the same of n imports from a number on
-abbrev pub imports_from : List Pair → List Present → ℕ → ℕ → ℕ → List ℕ
-imports_from pairs all p j zero = []
-imports_from pairs all p j (suc n) = import_address pairs all p j ∷ imports_from pairs all p (j + 1) n
+abbrev pub addresses_from : List Pair → List Present → ℕ → ℕ → ℕ → List ℕ
+addresses_from pairs all p j zero = []
+addresses_from pairs all p j (suc n) = import_address pairs all p j ∷ addresses_from pairs all p (j + 1) n
 
 -- what a fragment is relocated with
 abbrev pub addresses_of : List Pair → List Present → Present → Addresses
-addresses_of pairs all f = addresses_at f.places (imports_from pairs all f.position 0 (import_count pairs f.position))
+addresses_of pairs all f = addresses_at f.places (addresses_from pairs all f.position 0 (import_count pairs f.position))
 
 -- section k of a fragment, when all is done
 abbrev pub section_of : List Pair → List Present → Present → ℕ → List ℕ

@@ -59,8 +59,8 @@ abbrev pub extents_in : List Pair → ℕ → List Extent
 extents_in pairs p = option_map_or extents_of (container_at pairs p) []
 
 -- section k of a fragment before it is relocated
-abbrev pub filled_in : List Pair → ℕ → ℕ → List ℕ
-filled_in pairs p k = option_map_or (λ c. filled_at c k) (container_at pairs p) []
+abbrev pub section_filled : List Pair → ℕ → ℕ → List ℕ
+section_filled pairs p k = option_map_or (λ c. filled_at c k) (container_at pairs p) []
 
 -- the first refusal among the images of a fragment
 abbrev pub image_refusal_in : List Pair → ℕ → Option PackFault

@@ -12,8 +12,8 @@ abbrev pub held_at : Layout → Place → Option (ℕ × List ℕ)
 held_at m p = option_map (λ bytes. (p.address, bytes)) (bytes_at m.instances p.address)
 
 -- section i of the fragment in a place of the store; none where the fragment isn't present
-abbrev pub section_in : Layout → List Present → ℕ → ℕ → Option (ℕ × List ℕ)
-section_in m all p i = option_and_then (held_at m) (slice_get (places_of all p) i)
+abbrev pub section_present : Layout → List Present → ℕ → ℕ → Option (ℕ × List ℕ)
+section_present m all p i = option_and_then (held_at m) (slice_get (places_of all p) i)
 
 -- what is seen of borrowed bytes, without places in memory
 abbrev pub section_seen : ℕ × Bor (List ℕ) → ℕ × List ℕ

@@ -1,6 +1,6 @@
 ghost use Rattle.std.specs.Prelude.{◌≡◌, Contains, OnOk};
 ghost use Rattle.cfm_memory.specs.Extents.{AreApart, AreHeld, Stand, given_back, zeros_at};
-ghost use Rattle.cfm_present.specs.Fragments.{StandAll, all_given_back, filled_in, first_bad_image, image_refusal_in, named};
+ghost use Rattle.cfm_present.specs.Fragments.{StandAll, all_given_back, first_bad_image, image_refusal_in, named, section_filled};
 ghost use Rattle.cfm_present.specs.Kept.Ready.{AllApart, AllFit, AllHeld, AllIn, FillsUpTo, OwnApart, found_in};
 ghost use Rattle.cfm_present.specs.Placing.{Fits};
 
@@ -27,7 +27,7 @@ pub(crate) fn fill_fragments<'a>(
     requires apart { AllApart (found_in present.now.items new.now) }
     requires zeros { StandAll memory.old (found_in present.now.items new.now) (λ f. zeros_at f.places) }
     ensures refused { FillsUpTo result (first_bad_image store.now (found_in present.now.items new.now)) }
-    ensures filled { OnOk result (StandAll memory.new (found_in present.now.items new.now) (λ f. filled_in store.now f.position)) }
+    ensures filled { OnOk result (StandAll memory.new (found_in present.now.items new.now) (λ f. section_filled store.now f.position)) }
     ensures others { all_given_back memory.new (found_in present.now.items new.now) ≡ all_given_back memory.old (found_in present.now.items new.now) }
     ensures held { AllHeld memory.old (found_in present.now.items new.now) → AllHeld memory.new (found_in present.now.items new.now) }
 {
@@ -51,7 +51,7 @@ fn fill_fragment<'a>(
     requires own { AreApart places.now }
     requires zeros { Stand memory.old places.now (zeros_at places.now) }
     ensures refused { FillsUpTo result (named store.now position (image_refusal_in store.now position)) }
-    ensures filled { OnOk result (Stand memory.new places.now (filled_in store.now position)) }
+    ensures filled { OnOk result (Stand memory.new places.now (section_filled store.now position)) }
     ensures others { given_back memory.new places.now ≡ given_back memory.old places.now }
     ensures held { AreHeld memory.old places.now → AreHeld memory.new places.now }
 {

@@ -4,7 +4,7 @@ ghost use Rattle.cfm_present.specs.Fragments.{IsGivenBack, Present, new_among, n
 ghost use Rattle.cfm_present.specs.Lists.{IsOnce};
 ghost use Rattle.cfm_present.specs.Placing.{ArePrepared};
 ghost use Rattle.cfm_present.specs.Refusals.{MayNotPrepareNew};
-ghost use Rattle.cfm_present.specs.Sections.{section_in, section_seen};
+ghost use Rattle.cfm_present.specs.Sections.{section_present, section_seen};
 
 use crate::fault::FragmentFault;
 use crate::preparing::prepare_new;
@@ -96,7 +96,7 @@ impl Fragments {
     /// The address and the bytes of section `i` of the fragment in a place of the store. `None` where the
     /// fragment isn't present, or has no such section.
     pub fn section(&self, position: usize, i: usize) -> Option<(u32, &[u8])>
-        ensures section { option_map section_seen result ≡ section_in self.now.memory self.now.present position i }
+        ensures section { option_map section_seen result ≡ section_present self.now.memory self.now.present position i }
         ensures within { MatchOption result (length (places_of self.now.present position) ≤ i) (λ s. s.0 + length s.1.now ≤ self.now.memory.limit) }
     {
         let place = *self.present.places(position).get(i)?;

@@ -1,8 +1,8 @@
 ghost use Rattle.std.specs.Prelude.{◌≡◌, ◌<◌, Contains, IfOk, OnOk};
 ghost use Rattle.cfm_memory.specs.Extents.{AreApart, AreHeld, Stand, given_back};
 ghost use Rattle.cfm_libraries.specs.Fragments.{import_count};
-ghost use Rattle.cfm_present.specs.Addresses.{addresses_of, first_bad_program, imports_from, section_of, target_address};
-ghost use Rattle.cfm_present.specs.Fragments.{StandAll, all_given_back, filled_in, named, places_of, reloc_refusal_in};
+ghost use Rattle.cfm_present.specs.Addresses.{addresses_from, addresses_of, first_bad_program, section_of, target_address};
+ghost use Rattle.cfm_present.specs.Fragments.{StandAll, all_given_back, named, places_of, reloc_refusal_in, section_filled};
 ghost use Rattle.cfm_present.specs.Kept.Ready.{AllApart, AllFit, AllHeld, AllIn, OwnApart, RelocatesUpTo, found_in};
 ghost use Rattle.cfm_present.specs.Placing.{Fits};
 ghost use Rattle.cfm_present.specs.Fragments.{present_of};
@@ -32,7 +32,7 @@ pub(crate) fn relocate_fragments<'a>(
     requires own { OwnApart (found_in present.now.items new.now) }
     requires apart { AllApart (found_in present.now.items new.now) }
     requires held { AllHeld memory.old (found_in present.now.items new.now) }
-    requires filled { StandAll memory.old (found_in present.now.items new.now) (λ f. filled_in store.now f.position) }
+    requires filled { StandAll memory.old (found_in present.now.items new.now) (λ f. section_filled store.now f.position) }
     ensures refused { RelocatesUpTo result (first_bad_program store.now present.now.items (found_in present.now.items new.now)) }
     ensures relocated { OnOk result (StandAll memory.new (found_in present.now.items new.now) (section_of store.now present.now.items)) }
     ensures others { all_given_back memory.new (found_in present.now.items new.now) ≡ all_given_back memory.old (found_in present.now.items new.now) }
@@ -58,7 +58,7 @@ fn relocate_fragment<'a>(
     requires fits { Fits store.now (present_of present.now.items position) }
     requires own { AreApart (places_of present.now.items position) }
     requires held { AreHeld memory.old (places_of present.now.items position) }
-    requires filled { Stand memory.old (places_of present.now.items position) (filled_in store.now position) }
+    requires filled { Stand memory.old (places_of present.now.items position) (section_filled store.now position) }
     ensures refused { RelocatesUpTo result (named store.now position (reloc_refusal_in store.now (addresses_of store.now present.now.items (present_of present.now.items position)) position)) }
     ensures relocated { OnOk result (Stand memory.new (places_of present.now.items position) (section_of store.now present.now.items (present_of present.now.items position))) }
     ensures others { given_back memory.new (places_of present.now.items position) ≡ given_back memory.old (places_of present.now.items position) }
@@ -87,7 +87,7 @@ fn import_addresses(
     position: usize,
 ) -> Result<Vec<u32>, AllocError>
     requires { Contains closure.now.order position }
-    ensures { IfOk result (λ addresses. addresses.items ≡ imports_from closure.now.pairs present.now.items position 0 (import_count closure.now.pairs position)) }
+    ensures { IfOk result (λ addresses. addresses.items ≡ addresses_from closure.now.pairs present.now.items position 0 (import_count closure.now.pairs position)) }
 {
     let mut addresses = Vec::new(alloc);
     let count = closure.loader(position).header().import_count;

@@ -43,13 +43,6 @@ impl<T: Drop> PlaceTable<T> {
         Ok(PlaceTable { numbers, values })
     }
 
-    /// How many places there are.
-    pub fn len(&self) -> usize
-        ensures { result ≡ length self.now }
-    {
-        self.numbers.len()
-    }
-
     /// The value at place `p`, or `None` where there is none.
     pub fn get(&self, p: usize) -> Option<&T>
         ensures { option_copied result ≡ slice_index_or self.now p None }

@@ -20,7 +20,7 @@ abbrev pub answer_usage : Answer
 answer_usage = record { text = codes "usage\n"; status = 2 }
 
 -- the answer goes out whole; or a front of it, then the output fails at its last call, and the status is 1
-abbrev pub Delivers : Stream → Stream → Answer → ℕ → Type 0
-Delivers before after answer status =
+abbrev pub IsDelivered : Stream → Stream → Answer → ℕ → Type 0
+IsDelivered before after answer status =
     (Grows before.bytes after.bytes answer.text × NoneFailed before after × (status ≡ answer.status))
     ⊎ (((n : ℕ) × Grows before.bytes after.bytes (take n answer.text)) × LastFailed before after × (status ≡ 1))

@@ -1,6 +1,6 @@
 ghost use Rattle.std.specs.Prelude.{◌≡◌, []};
 ghost use Rattle.pef_ports.specs.Sent.{Sends};
-ghost use Rattle.pef_answers.specs.Answers.{Answer, Delivers, answer_usage};
+ghost use Rattle.pef_answers.specs.Answers.{Answer, IsDelivered, answer_usage};
 
 use pef_ports::{Page, Sink, StreamFault, flush, send};
 
@@ -29,7 +29,7 @@ pub trait Reply {
 
 /// Sends a reply whole, and says the status that the run ends with.
 pub fn deliver<A: Reply, W: Sink>(out: &mut W, reply: &A) -> u8
-    ensures { Delivers (W.stream out.old) (W.stream out.new) (A.answer reply.now) result }
+    ensures { IsDelivered (W.stream out.old) (W.stream out.new) (A.answer reply.now) result }
 {
     match print_whole(out, reply) {
         Ok(()) => reply.status(),

@@ -11,7 +11,7 @@ use Rattle.pef_reloc.specs.Deliveries.{index_after, index_past}
 use Rattle.pef_reloc.specs.Fixups.{base_fits, fixup_fits}
 use Rattle.pef_reloc.specs.Limits.{most_imports}
 use Rattle.pef_reloc.proofs.Laws.{each_fits, fixup_fits-parts, index_after-append}
-use Rattle.pef_words.proofs.Laws.Lists.{all-get}
+use Rattle.pef_words.proofs.Laws.Lists.{all-get, drop-here}
 use Rattle.pef_cert.specs.declared.claim.Behind.{Behind}
 use Rattle.pef_cert.specs.declared.claim.Claim.{Claim}
 use Rattle.pef_cert.specs.declared.runs.Tested.{Tested}
@@ -19,7 +19,7 @@ use Rattle.pef_cert.specs.Labels.{Labels, class_of}
 use Rattle.pef_cert.specs.Extension.{extension}
 use Rattle.pef_cert.specs.Kept.Claims.{Sees, Shaped, Tests}
 use Rattle.pef_cert.specs.LabelTests.{adds_test, asked, base_test, import_cost, numbered_test, one_from, pair_test, row_test, second_test}
-use Rattle.pef_cert.proofs.ClaimLemmas.{get-drop, get_under, knows-sees, label_there}
+use Rattle.pef_cert.proofs.ClaimLemmas.{get_under, knows-sees, label_there}
 
 -- what lies right behind the fixup
 pub tests-sees : (b : Behind) (t : Tested) → Tests b t → Sees b (t.at + 1)
@@ -82,8 +82,8 @@ import-is l label index k f rest whole c d single imports at first second =
 -- the test of the next base
 pub second-some : (l : Labels) (label k c d class : ℕ) (f g : Fixup) (fixups : List Fixup) (at : ℕ) (x : Bool) → slice_get fixups at ≡ Some f → slice_get fixups (at + 1) ≡ Some g → class ≡ c → x ≡ pair_test l label k c d f.offset (drop at fixups) g.base → x ≡ asked (class == c) (second_test l label k c d f (drop (at + 1) fixups))
 second-some l label k c d class f g fixups at x here next same is =
-    let more = get-drop fixups (at + 1) g next in
-    let whole = get-drop fixups at f here ∙ ap (λ fs. f ∷ fs) more in
+    let more = drop-here fixups (at + 1) g next in
+    let whole = drop-here fixups at f here ∙ ap (λ fs. f ∷ fs) more in
     rw (eq-eqb class c same)
     (is ∙ (ap (λ fs. pair_test l label k c d f.offset fs g.base) whole ∙ sym (ap (second_test l label k c d f) more)))
 

@@ -1,20 +1,18 @@
 -- A check says yes just where a certificate is valid.
-use Rattle.std.proofs.Common.{◌≡◌, ℕ, zero, suc, ◌+◌, ◌-◌, ◌*◌, ◌<◌, ◌≤◌, inl, inr, Bool, true, false, ◌==◌, List, [], ◌∷◌, length, take, drop, replicate, refl, ap, sym, ◌∙◌, subst, arith, eq-eqb}
+use Rattle.std.proofs.Common.{◌≡◌, ℕ, zero, suc, ◌+◌, ◌-◌, ◌*◌, ◌<◌, ◌≤◌, Bool, true, false, List, [], ◌∷◌, length, take, drop, replicate, ap, sym, ◌∙◌, subst, arith}
 use Rattle.std.specs.List.{AllByRecursion}
 use Rattle.std.proofs.Math.Nat.{mul-le-mul_left}
-use Rattle.std.proofs.lemmas.Bool.Decides.{eqb_tells}
 use Rattle.std.proofs.lemmas.List.{length-drop, length-take-le}
 use Rattle.pef_reloc.specs.declared.fixup.Fixup.{Fixup}
 use Rattle.pef_reloc.specs.declared.instr.Instr.{Instr}
 use Rattle.pef_reloc.specs.Fixups.{fixups_fit}
 use Rattle.pef_reloc.specs.Instrs.{program_length}
 use Rattle.pef_reloc.specs.Limits.{most_sections}
-use Rattle.pef_reloc.specs.Steps.{Least, Makes, is_flat, start}
+use Rattle.pef_reloc.specs.Steps.{Least, start}
 use Rattle.pef_reloc.proofs.Laws.{used_section-below}
 use Rattle.pef_words.proofs.Laws.Lists.{all-append}
 use Rattle.pef_cert.specs.declared.claim.Claim.{Claim}
 use Rattle.pef_cert.specs.Extension.{extension_at}
-use Rattle.pef_cert.specs.Feasible.{Feasible}
 use Rattle.pef_cert.specs.Labels.{Labels, class_of, classes}
 use Rattle.pef_labels.specs.Certified.{Certified}
 use Rattle.pef_cert.specs.Valid.{RegistersOf, Valid}
@@ -42,32 +40,6 @@ too-long claim program label c d n is c_is d_is length_is over = (
       let there : label ≡ l.label (length claim.fixups.now) (class_of claim.registers.now 0) (class_of claim.registers.now 1) =
       is ∙ (ap (λ m. l.label m c d) all ∙ (ap (λ x. l.label (length claim.fixups.now) x d) c_is ∙ ap (λ x. l.label (length claim.fixups.now) (class_of claim.registers.now 0) x) d_is)) in
       absurd (omega (arith, near, there, length_is, over, holds.length_is)),
-)
-
--- one that isn't flat or doesn't make the fixups
-pub not-made : (claim : Claim) (program : List Instr) → Says false ((is_flat program ≡ true) × Makes claim.fixups.now program) → Says false (Holds claim program)
-not-made claim program says = (λ yes. absurd (cc), λ holds. says.1 (holds.flat, holds.makes))
-
--- labels that are not feasible, or that are
-pub not-feasible : (claim : Claim) (program : List Instr) → (Feasible (labels_claimed claim) claim.fixups.now → ⊥) → Says false (Holds claim program)
-not-feasible claim program never = (λ yes. absurd (cc), λ holds. absurd (never holds.feasible))
-
-same_number : (a b : ℕ) → (a == b) ≡ true → a ≡ b
-same_number a b e =
-    elim (eqb_tells a b) [
-      | inl same ↦ same.1
-      | inr other ↦ (let wrong : true ≡ false = sym e ∙ other.0 in absurd (cc))
-    ]
-
-pub holds-says : (claim : Claim) (program : List Instr) (value n : ℕ) (answer : Bool) → Says true ((is_flat program ≡ true) × Makes claim.fixups.now program) → Feasible (labels_claimed claim) claim.fixups.now → value ≡ extension_at (labels_claimed claim) claim.fixups.now start → n ≡ program_length program → answer ≡ (value == n) → Says answer (Holds claim program)
-holds-says claim program value n answer says feasible is length_is e = (
-  λ yes. record {
-    feasible = feasible;
-    flat = (says.0 refl).0;
-    makes = (says.0 refl).1;
-    length_is = sym length_is ∙ (sym (same_number value n (sym e ∙ yes)) ∙ is);
-  },
-  λ holds. e ∙ eq-eqb value n (is ∙ (sym holds.length_is ∙ sym length_is)),
 )
 
 -- registers are few

@@ -2,7 +2,7 @@
 use Rattle.std.proofs.Common.{◌≡◌, ◌≢◌, ℕ, zero, suc, ◌+◌, ◌-◌, ◌*◌, ◌<◌, ◌≤◌, true, List, [], ◌∷◌, length, take, drop, refl, ap, sym, ◌∙◌, subst, arith, slice_index, get_or-take, get_or-drop, nat_lt, ◌==◌, eq-eqb, Option, Some, None, slice_get}
 use Rattle.std.specs.Prelude.{slice_index_or}
 use Rattle.std.proofs.lemmas.Nat.{mul-add-lt}
-use Rattle.std.proofs.lemmas.Bool.{ltb-true}
+use Rattle.std.proofs.lemmas.Bool.{and_parts, ltb-true, or_right}
 use Rattle.std.proofs.lemmas.List.{drop_all, length-drop}
 use Rattle.std.proofs.lemmas.Option.{slice_get-get_or}
 use Rattle.std.proofs.Math.Path.{ap₂}
@@ -11,12 +11,11 @@ use Rattle.pef_reloc.specs.declared.fixup.Base.TheVariants.{Section, Import}
 use Rattle.pef_reloc.specs.declared.fixup.Fixup.{Fixup}
 use Rattle.pef_reloc.specs.Limits.{most_sections}
 use Rattle.pef_reloc.proofs.Laws.{used_section-below}
-use Rattle.pef_words.proofs.Laws.Tests.{met_both}
+use Rattle.pef_words.proofs.Laws.Lists.{drop-here}
 use Rattle.pef_cert.specs.declared.claim.Behind.{Behind}
 use Rattle.pef_cert.specs.declared.claim.Claim.{Claim}
 use Rattle.pef_labels.specs.Rising.{above_all}
 use Rattle.pef_cert.specs.Valid.{is_among, rises}
-use Rattle.pef_cert.proofs.ClassLemmas.{or_right}
 use Rattle.pef_cert.proofs.ExtensionLemmas.{extension-away, extension-end, extension-here}
 use Rattle.pef_cert.specs.Labels.{Labels, class_of}
 use Rattle.pef_cert.specs.Extension.{OfferIs, change, extension, moved_value, offer_at}
@@ -63,7 +62,7 @@ label-kept w q j n place ends values full row inside under =
 few_above : (m low : ℕ) (rs : List ℕ) → above_all low rs ≡ true → ((k : ℕ) → is_among rs k ≡ true → k < m) → low < m → length rs + low < m
 few_above m low [] up below first = omega arith
 few_above m low (r ∷ rs) up below first =
-    let both = met_both (nat_lt low r) (above_all r rs) up in
+    let both = and_parts (nat_lt low r) (above_all r rs) up in
     let over = ltb-true low r both.0 in
     let here = below r (rw (eq-eqb r r refl) refl) in
     let others = few_above m r rs both.1 (λ k among. below k (or_right (r == k) (is_among rs k) among)) here in
@@ -84,12 +83,6 @@ shaped-few c shaped =
 -- what `get` gives is the element there
 pub get-is : {A : Type 0} (xs : List A) (at : ℕ) (x : A) → at < length xs → x ≡ slice_index_or xs at x → slice_get xs at ≡ Some x
 get-is xs at x under is = slice_get-get_or xs at x under ∙ ap Some (sym is)
-
--- the fixup that is got from an index, and those behind it
-pub get-drop : {A : Type 0} (xs : List A) (at : ℕ) (x : A) → slice_get xs at ≡ Some x → drop at xs ≡ x ∷ drop (at + 1) xs
-get-drop [] at x e = absurd (cc)
-get-drop (y ∷ ys) zero x e = let same : y ≡ x = cc in ap (λ z. z ∷ ys) same
-get-drop (y ∷ ys) (suc at) x e = let step : suc at + 1 ≡ suc (at + 1) = omega arith in get-drop ys at x e ∙ ap (λ n. x ∷ drop n (y ∷ ys)) (sym step)
 
 offer-known : (l : Labels) (f : Fixup) (rest : List Fixup) (c d x : ℕ) (b : Base) → f.base ≡ b → OfferIs l f rest c d x f.base → OfferIs l f rest c d x b
 offer-known l f rest c d x b is known = subst (λ (y : Base). OfferIs l f rest c d x y) is known
@@ -118,14 +111,14 @@ pub value-here : (l : Labels) (fixups : List Fixup) (at : ℕ) (f : Fixup) (p c 
 value-here l fixups at f p c d x e here is =
     is ∙ (label_there l fixups at f c d e
     ∙ (sym (extension-here l f (drop (at + 1) fixups) p c d here)
-    ∙ ap (λ fs. extension l fs p c d) (sym (get-drop fixups at f e))))
+    ∙ ap (λ fs. extension l fs p c d) (sym (drop-here fixups at f e))))
 
 pub value-away : (l : Labels) (fixups : List Fixup) (at : ℕ) (f : Fixup) (p c d x y : ℕ) (o : Option ℕ) → slice_get fixups at ≡ Some f → p ≢ f.offset → x ≡ l.label (length fixups - at) c d → o ≡ offer_at l f (drop (at + 1) fixups) c d → y ≡ moved_value (f.offset - p) x o → y ≡ extension l (drop at fixups) p c d
 value-away l fixups at f p c d x y o e away is offer value =
     value
     ∙ (ap₂ (moved_value (f.offset - p)) (is ∙ label_there l fixups at f c d e) offer
     ∙ (sym (extension-away l f (drop (at + 1) fixups) p c d away)
-    ∙ ap (λ fs. extension l fs p c d) (sym (get-drop fixups at f e))))
+    ∙ ap (λ fs. extension l fs p c d) (sym (drop-here fixups at f e))))
 
 pub value-end : (l : Labels) (fixups : List Fixup) (at p c d : ℕ) → length fixups ≤ at → 0 ≡ extension l (drop at fixups) p c d
 value-end l fixups at p c d past = sym (ap (λ fs. extension l fs p c d) (drop_all at fixups past) ∙ extension-end l p c d)

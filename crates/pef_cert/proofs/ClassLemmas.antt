@@ -1,7 +1,7 @@
 -- The classes of sections: each has a small number.
-use Rattle.std.proofs.Common.{◌≡◌, ◌≢◌, ℕ, zero, suc, ◌+◌, ◌<◌, ◌≤◌, ◌⊎◌, inl, inr, Bool, true, false, ◌||◌, ◌==◌, nat_lt, List, [], ◌∷◌, length, refl, ap, sym, ◌∙◌, subst, arith, slice_index, eq-eqb}
+use Rattle.std.proofs.Common.{◌≡◌, ◌≢◌, ℕ, zero, suc, ◌<◌, ◌≤◌, ◌⊎◌, inl, inr, Bool, true, false, ◌||◌, ◌==◌, nat_lt, List, [], ◌∷◌, length, refl, ap, sym, ◌∙◌, subst, arith, slice_index, eq-eqb}
 use Rattle.std.specs.List.{AllByRecursion}
-use Rattle.std.proofs.lemmas.Bool.{ltb-true, ne_eqb}
+use Rattle.std.proofs.lemmas.Bool.{and_parts, false_from_ne_true, ltb-true, ne_eqb, or_right}
 use Rattle.std.proofs.lemmas.Bool.Decides.{eqb_tells}
 use Rattle.pef_reloc.specs.declared.fixup.Base.{Base}
 use Rattle.pef_reloc.specs.declared.fixup.Base.TheVariants.{Section, Import}
@@ -10,7 +10,7 @@ use Rattle.pef_reloc.specs.Deliveries.{is_section, uses_section}
 use Rattle.pef_reloc.specs.Fixups.{fixups_fit}
 use Rattle.pef_reloc.specs.Limits.{most_sections}
 use Rattle.pef_reloc.proofs.Laws.{used_section-below}
-use Rattle.pef_words.proofs.Laws.Tests.{met_both}
+use Rattle.pef_words.proofs.Laws.Numbers.{below_or}
 use Rattle.pef_cert.specs.Labels.{Labels, class_of, classes}
 use Rattle.pef_labels.specs.Rising.{above_all}
 use Rattle.pef_cert.specs.Valid.{RegistersOf, is_among, rises}
@@ -65,16 +65,16 @@ class_of-other (r ∷ rs) k is =
 -- what stands at a place of a rising list
 above-index : (low : ℕ) (rs : List ℕ) (i : ℕ) → above_all low rs ≡ true → i < length rs → low < slice_index rs i
 above-index low [] i above under = absurd (omega arith)
-above-index low (r ∷ rs) zero above under = ltb-true low r (met_both (nat_lt low r) (above_all r rs) above).0
+above-index low (r ∷ rs) zero above under = ltb-true low r (and_parts (nat_lt low r) (above_all r rs) above).0
 above-index low (r ∷ rs) (suc i) above under =
-    let both = met_both (nat_lt low r) (above_all r rs) above in
+    let both = and_parts (nat_lt low r) (above_all r rs) above in
     let first = ltb-true low r both.0 in
     let later = above-index r rs i both.1 (omega arith) in
     omega (arith, first, later)
 
 above_rises : (low : ℕ) (rs : List ℕ) → above_all low rs ≡ true → rises rs ≡ true
 above_rises low [] above = refl
-above_rises low (r ∷ rs) above = (met_both (nat_lt low r) (above_all r rs) above).1
+above_rises low (r ∷ rs) above = (and_parts (nat_lt low r) (above_all r rs) above).1
 
 -- the class of the section at a place of a rising list is that place
 pub class_of-index : (rs : List ℕ) (i : ℕ) → rises rs ≡ true → i < length rs → class_of rs (slice_index rs i) ≡ i
@@ -84,10 +84,6 @@ class_of-index (r ∷ rs) (suc i) up under =
     let low = above-index r rs i up (omega arith) in
     let apart : r ≢ slice_index rs i = omega (arith, low) in
     rw (ne_eqb r (slice_index rs i) apart) (ap suc (class_of-index rs i (above_rises r rs up) (omega arith)))
-
-pub or_right : (a b : Bool) → b ≡ true → (a || b) ≡ true
-or_right true b e = refl
-or_right false b e = e
 
 -- what stands at a place is among them
 pub is_among-index : (rs : List ℕ) (i : ℕ) → i < length rs → is_among rs (slice_index rs i) ≡ true
@@ -105,15 +101,11 @@ pub record NumberOf (registers : List ℕ) (class : ℕ) : Type 0 where
 pub record Numbers (l : Labels) : Type 0 where
   pub of : (class : ℕ) → class < classes l → NumberOf l.registers class
 
-false_of : (b : Bool) → (b ≡ true → ⊥) → b ≡ false
-false_of true never = absurd (never refl)
-false_of false never = refl
-
 free_number : (fixups : List Fixup) (rs : List ℕ) → fixups_fit fixups ≡ true → RegistersOf fixups rs → NumberOf rs (length rs)
 free_number fixups rs fit right = record {
   number = most_sections;
   small = omega arith;
-  is = class_of-other rs most_sections (false_of (is_among rs most_sections) (λ among. let low = used_section-below fixups most_sections fit (sym (right.used most_sections) ∙ among) in omega (arith, low)));
+  is = class_of-other rs most_sections (false_from_ne_true (is_among rs most_sections) (λ among. let low = used_section-below fixups most_sections fit (sym (right.used most_sections) ∙ among) in omega (arith, low)));
 }
 
 register_number : (fixups : List Fixup) (rs : List ℕ) (class : ℕ) → fixups_fit fixups ≡ true → RegistersOf fixups rs → class < length rs → NumberOf rs class
@@ -125,13 +117,6 @@ register_number fixups rs class fit right under =
 numbers_at : (fixups : List Fixup) (rs : List ℕ) (class : ℕ) → fixups_fit fixups ≡ true → RegistersOf fixups rs → (class < length rs) ⊎ (class ≡ length rs) → NumberOf rs class
 numbers_at fixups rs class fit right (inl under) = register_number fixups rs class fit right under
 numbers_at fixups rs class fit right (inr last) = subst (λ (c : ℕ). NumberOf rs c) (sym last) (free_number fixups rs fit right)
-
-below_or : (a b : ℕ) → a < b + 1 → (a < b) ⊎ (a ≡ b)
-below_or a b under =
-    elim (eqb_tells a b) [
-      | inl same ↦ inr same.1
-      | inr other ↦ (let apart = other.1 in inl (omega arith))
-    ]
 
 pub numbers : (fixups : List Fixup) (l : Labels) → fixups_fit fixups ≡ true → RegistersOf fixups l.registers → Numbers l
 numbers fixups l fit right = record {

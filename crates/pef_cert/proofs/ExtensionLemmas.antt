@@ -1,13 +1,12 @@
 -- What the extension is behind the last fixup, at an offset and away from it; and what a skip is worth.
 use Rattle.std.proofs.Common.{◌≡◌, ◌≢◌, ℕ, zero, suc, ◌+◌, ◌-◌, ◌*◌, ◌<◌, ◌⊎◌, inl, inr, Bool, true, false, ◌&&◌, ◌==◌, List, [], ◌∷◌, ◌++◌, length, Option, Some, refl, ap, sym, ◌∙◌, subst, arith, eq-eqb}
-use Rattle.std.proofs.lemmas.Bool.{ne_eqb}
+use Rattle.std.proofs.lemmas.Bool.{and_parts, ne_eqb}
 use Rattle.std.proofs.lemmas.Bool.Decides.{eqb_tells}
 use Rattle.std.proofs.Math.Path.{fun_ext}
 use Rattle.pef_reloc.specs.declared.fixup.Base.{Base}
 use Rattle.pef_reloc.specs.declared.fixup.Base.TheVariants.{Section, Import}
 use Rattle.pef_reloc.specs.declared.fixup.Fixup.{Fixup}
 use Rattle.pef_reloc.specs.Steps.{added, row}
-use Rattle.pef_words.proofs.Laws.Tests.{met_both}
 use Rattle.pef_cert.specs.Labels.{Labels, class_of, classes, has_class}
 use Rattle.pef_cert.specs.Extension.{at_offset, extension, moved_value, offer_at, offer_of, skip, skip_more, skips_at}
 use Rattle.pef_cert.proofs.ClassLemmas.{class_of-same}
@@ -104,7 +103,7 @@ base_is rs (Import j) k class of counts has = absurd (cc)
 
 word_is : (rs : List ℕ) (f : Fixup) (p k class : ℕ) → class_of rs k ≡ class → class < length rs → (f.offset == p && has_class rs class f.base) ≡ true → f ≡ added p (Section k)
 word_is rs f p k class of counts met =
-    let both = met_both (f.offset == p) (has_class rs class f.base) met in
+    let both = and_parts (f.offset == p) (has_class rs class f.base) met in
     let base = base_is rs f.base k class of counts both.1 in
     elim (eqb_tells f.offset p) [
       | inl same ↦ (λ i. record { offset = same.1 i; base = base i })

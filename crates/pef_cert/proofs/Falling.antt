@@ -2,7 +2,7 @@
 -- repeat and adds just the next fixups.
 use Rattle.std.proofs.Common.{◌≡◌, ◌≢◌, ℕ, zero, suc, ◌+◌, ◌-◌, ◌*◌, ◌%◌, ◌<◌, ◌≤◌, inl, inr, true, ◌==◌, nat_le, List, [], ◌∷◌, ◌++◌, length, refl, ap, sym, ◌∙◌, subst, arith, eq-eqb, length-append}
 use Rattle.std.specs.List.{AllByRecursion}
-use Rattle.std.proofs.lemmas.Bool.{leb-true}
+use Rattle.std.proofs.lemmas.Bool.{and_parts, leb-true}
 use Rattle.std.proofs.lemmas.Bool.Decides.{eqb_tells}
 use Rattle.pef_reloc.specs.declared.fixup.Base.TheVariants.{Section}
 use Rattle.pef_reloc.specs.declared.fixup.Fixup.{Fixup}
@@ -12,7 +12,6 @@ use Rattle.pef_reloc.specs.Deliveries.{Delivers, index_after, index_past, is_fla
 use Rattle.pef_reloc.specs.Instrs.{instr_length}
 use Rattle.pef_reloc.specs.Steps.{State, added, additions, next_state, numbered, pairs, row}
 use Rattle.pef_reloc.proofs.Laws.{first_addition, index_kept}
-use Rattle.pef_words.proofs.Laws.Tests.{met_both}
 use Rattle.pef_cert.specs.Labels.{Labels, class_of, classes}
 use Rattle.pef_cert.specs.Extension.{change, extension, extension_at, offer_at}
 use Rattle.pef_cert.specs.Feasible.{FeasibleFrom}
@@ -130,12 +129,12 @@ set_d l k n s f rest stands some =
 pub falling : (l : Labels) (x : Instr) (s : State) (f : Fixup) (rest left : List Fixup) → Stands l s.import_index f rest → is_flat_instr x ≡ true → Delivers x s (f ∷ rest) left → Falls l x s (f ∷ rest) left
 unfolding row pairs numbered
 falling l (BySectDWithSkip u zero) s f rest left stands flat delivers =
-    let few = leb-true u 255 (met_both (nat_le u 255) (nat_le zero 63) flat).0 in
+    let few = leb-true u 255 (and_parts (nat_le u 255) (nat_le zero 63) flat).0 in
     falls_same l (BySectDWithSkip u zero) s f rest left delivers refl
     (falls_moving l f rest s.import_index s.position (4 * u + 4 * zero) (class_of l.registers s.c) (class_of l.registers s.d) stands (class_of-below l s.c) (class_of-below l s.d) (omega (arith, few)))
 falling l (BySectDWithSkip zero (suc t)) s f rest left stands flat delivers = falls_adding l (BySectDWithSkip zero (suc t)) s f _ rest left _ stands flat delivers refl refl
 falling l (BySectDWithSkip (suc u) (suc t)) s f rest left stands flat delivers =
-    let both = met_both (nat_le (suc u) 255) (nat_le (suc t) 63) flat in
+    let both = and_parts (nat_le (suc u) 255) (nat_le (suc t) 63) flat in
     falls_skipping l u t s f rest left stands (leb-true (suc u) 255 both.0) (leb-true (suc t) 63 both.1) delivers
 falling l (BySectC zero) s f rest left stands flat delivers = absurd (cc)
 falling l (BySectC (suc n)) s f rest left stands flat delivers = falls_adding l (BySectC (suc n)) s f _ rest left _ stands flat delivers refl refl
@@ -162,7 +161,7 @@ falling l (LgSetSectC k) s f rest left stands flat delivers =
 falling l (LgSetSectD k) s f rest left stands flat delivers =
     falls_same l (LgSetSectD k) s f rest left delivers refl (set_d l k 2 s f rest stands (omega arith))
 falling l (IncrPosition e) s f rest left stands flat delivers =
-    let few = leb-true e 4096 (met_both (nat_le 1 e) (nat_le e 4096) flat).1 in
+    let few = leb-true e 4096 (and_parts (nat_le 1 e) (nat_le e 4096) flat).1 in
     falls_same l (IncrPosition e) s f rest left delivers refl
     (falls_moving l f rest s.import_index s.position e (class_of l.registers s.c) (class_of l.registers s.d) stands (class_of-below l s.c) (class_of-below l s.d) few)
 falling l (SetPosition q) s f rest left stands flat delivers =

@@ -8,7 +8,7 @@ use Rattle.pef_reloc.specs.declared.fixup.Fixup.{Fixup}
 use Rattle.pef_reloc.specs.Deliveries.{index_after}
 use Rattle.pef_reloc.proofs.Laws.{fixup_fits-parts}
 use Rattle.pef_words.proofs.Laws.Lists.{all-get}
-use Rattle.pef_words.proofs.Laws.Tests.{both_met, met_both}
+use Rattle.std.proofs.lemmas.Bool.{and_from, and_parts}
 use Rattle.pef_cert.specs.declared.claim.Behind.{Behind}
 use Rattle.pef_cert.specs.declared.claim.Claim.{Claim}
 use Rattle.pef_cert.specs.declared.feasible.Under.{Under}
@@ -53,7 +53,7 @@ needed_of c at index f shaped e feasible =
 
 both_say : (a b : Bool) (P Q R : Type 0) → Says a P → Says b Q → (P → Q → R) → (R → P) → (R → Q) → Says (a && b) R
 both_say a b P Q R p q join first second =
-    (λ e. let both = met_both a b e in join (p.0 both.0) (q.0 both.1), λ r. both_met a b (p.1 (first r)) (q.1 (second r)))
+    (λ e. let both = and_parts a b e in join (p.0 both.0) (q.0 both.1), λ r. and_from a b (p.1 (first r)) (q.1 (second r)))
 
 -- what a check says of a fixup is whether labels are feasible there
 pub fixup-says : (b : Behind) (u : Under) (row : List ℕ) (sets adds : Bool) → UnderTest b u

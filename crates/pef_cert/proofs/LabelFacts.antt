@@ -1,7 +1,7 @@
 -- Feasible labels at a fixup: a label is at most the extension from everywhere, the extension is at most 2
 -- more, and the change of one register changes it by at most 1.
 use Rattle.std.proofs.Common.{◌≡◌, ℕ, suc, ◌+◌, ◌-◌, ◌*◌, ◌<◌, ◌≤◌, inl, inr, Bool, true, false, List, ◌∷◌, length, Option, Some, refl, ap, sym, ◌∙◌, subst, arith, length-append}
-use Rattle.std.proofs.lemmas.Bool.{lt-ltb, le-leb}
+use Rattle.std.proofs.lemmas.Bool.{lt-ltb, le-leb, and_from}
 use Rattle.std.proofs.lemmas.Bool.Decides.{eqb_tells}
 use Rattle.pef_reloc.specs.declared.fixup.Base.{Base}
 use Rattle.pef_reloc.specs.declared.fixup.Base.TheVariants.{Section, Import}
@@ -9,7 +9,6 @@ use Rattle.pef_reloc.specs.declared.fixup.Fixup.{Fixup}
 use Rattle.pef_reloc.specs.declared.instr.Instr.TheVariants.{BySectD, SmSetSectC, SmSetSectD}
 use Rattle.pef_reloc.specs.Deliveries.{is_flat_instr}
 use Rattle.pef_reloc.specs.Steps.{State, row}
-use Rattle.pef_words.proofs.Laws.Tests.{both_met}
 use Rattle.pef_cert.specs.Labels.{Labels, class_of, classes, has_class}
 use Rattle.pef_cert.specs.Minima.{least_below, plus}
 use Rattle.pef_cert.specs.Extension.{change, extension, moved_value, offer_at, skip, skip_more, skips_at}
@@ -103,7 +102,7 @@ skipped-label l index f rest c d k x stands under of skipped =
     let other = stands.numbers.of c under in
     let s : State = state_at f index other.number k in
     let few = skipped.under in
-    let flat : is_flat_instr (BySectD (suc skipped.count)) ≡ true = both_met _ _ (le-leb 1 (suc skipped.count) (omega arith)) (le-leb (suc skipped.count) 512 (omega arith)) in
+    let flat : is_flat_instr (BySectD (suc skipped.count)) ≡ true = and_from _ _ (le-leb 1 (suc skipped.count) (omega arith)) (le-leb (suc skipped.count) 512 (omega arith)) in
     let shorter : length skipped.left < length (f ∷ rest) = omega (arith, ap length skipped.words ∙ length-append (row (suc skipped.count) f.offset 4 (Section k)) skipped.left, length-row (suc skipped.count) f.offset 4 (Section k)) in
     let step = stands.feasible.adds (BySectD (suc skipped.count)) s skipped.left (record { position = refl; index_is = refl }) flat (record { is = skipped.words }) shorter in
     let one : label_here l f rest (class_of l.registers other.number) (class_of l.registers k) ≤ 1 + extension l skipped.left (f.offset + 4 * suc skipped.count) (class_of l.registers other.number) (class_of l.registers k) = step in

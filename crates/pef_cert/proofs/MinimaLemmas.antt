@@ -1,8 +1,9 @@
 -- The least of some numbers is one of them, and at most each.
 use Rattle.std.proofs.Common.{◌≡◌, ℕ, zero, suc, ◌+◌, ◌%◌, ◌<◌, ◌≤◌, ◌⊎◌, inl, inr, min, Bool, true, false, ◌&&◌, ◌==◌, nat_le, List, [], ◌∷◌, Option, None, Some, refl, ap, sym, ◌∙◌, subst, arith}
-use Rattle.std.proofs.lemmas.Bool.{leb-true, le-leb}
+use Rattle.std.proofs.lemmas.Bool.{leb-true, le-leb, and_from, and_parts}
 use Rattle.std.proofs.lemmas.Bool.Decides.{eqb_tells}
-use Rattle.pef_words.proofs.Laws.Tests.{both_met, met_both}
+use Rattle.std.proofs.lemmas.Option.{same_Some}
+use Rattle.pef_words.proofs.Laws.Numbers.{min_is}
 use Rattle.pef_cert.specs.Minima.{least_below, least_of, lesser, plus, when}
 use Rattle.pef_cert.specs.Extension.{moved_value}
 
@@ -18,9 +19,6 @@ at_most-weaker o x y m under = record { value = m.value; is = m.is; low = omega 
 some_most : (v x : ℕ) → v ≤ x → AtMost (Some v) x
 some_most v x low = record { value = v; is = refl; low = low }
 
-some_same : (v w : ℕ) → Some v ≡ Some w → v ≡ w
-some_same v w e = cc
-
 none_some : (v : ℕ) → ◌≡◌ {A = Option ℕ} None (Some v) → ⊥
 none_some v e = absurd (cc)
 
@@ -28,15 +26,12 @@ none_some v e = absurd (cc)
 pub lesser-left : (a b : Option ℕ) (x : ℕ) → AtMost a x → AtMost (lesser a b) x
 lesser-left None b x m = absurd (none_some m.value m.is)
 lesser-left (Some v) None x m = m
-lesser-left (Some v) (Some w) x m = some_most (min v w) x (let e = some_same v m.value m.is in omega (arith, e, m.low))
+lesser-left (Some v) (Some w) x m = some_most (min v w) x (let e = same_Some v m.value m.is in omega (arith, e, m.low))
 
 pub lesser-right : (a b : Option ℕ) (x : ℕ) → AtMost b x → AtMost (lesser a b) x
 lesser-right None b x m = m
 lesser-right (Some v) None x m = absurd (none_some m.value m.is)
-lesser-right (Some v) (Some w) x m = some_most (min v w) x (let e = some_same w m.value m.is in omega (arith, e, m.low))
-
-min_is : (v w : ℕ) → (min v w ≡ v) ⊎ (min v w ≡ w)
-min_is v w = grind arith
+lesser-right (Some v) (Some w) x m = some_most (min v w) x (let e = same_Some w m.value m.is in omega (arith, e, m.low))
 
 -- and is one of them
 pub lesser-is : (a b : Option ℕ) (x : ℕ) → lesser a b ≡ Some x → (a ≡ Some x) ⊎ (b ≡ Some x)
@@ -75,7 +70,7 @@ least_below-is (suc n) f x e =
 -- a number more
 pub plus-most : (n : ℕ) (o : Option ℕ) (x : ℕ) → AtMost o x → AtMost (plus n o) (n + x)
 plus-most n None x m = absurd (none_some m.value m.is)
-plus-most n (Some v) x m = some_most (n + v) (n + x) (let e = some_same v m.value m.is in omega (arith, e, m.low))
+plus-most n (Some v) x m = some_most (n + v) (n + x) (let e = same_Some v m.value m.is in omega (arith, e, m.low))
 
 pub record PlusIs (n : ℕ) (o : Option ℕ) (x : ℕ) : Type 0 where
   pub value : ℕ
@@ -84,7 +79,7 @@ pub record PlusIs (n : ℕ) (o : Option ℕ) (x : ℕ) : Type 0 where
 
 pub plus-is : (n : ℕ) (o : Option ℕ) (x : ℕ) → plus n o ≡ Some x → PlusIs n o x
 plus-is n None x e = absurd (none_some x e)
-plus-is n (Some v) x e = record { value = v; is = refl; sum = sym (some_same (n + v) x e) }
+plus-is n (Some v) x e = record { value = v; is = refl; sum = sym (same_Some (n + v) x e) }
 
 -- the least of a number and others is at most the number
 pub least_of-low : (x : ℕ) (os : List (Option ℕ)) → least_of x os ≤ x
@@ -97,7 +92,7 @@ least_of-first : (x y : ℕ) (o : Option ℕ) (os : List (Option ℕ)) → AtMos
 least_of-first x y None os m = absurd (none_some m.value m.is)
 least_of-first x y (Some v) os m =
     let low = least_of-low (min x v) os in
-    let e = some_same v m.value m.is in
+    let e = same_Some v m.value m.is in
     omega (arith, low, e, m.low)
 
 -- and at most the later ones
@@ -150,7 +145,7 @@ abbrev late_value : ℕ → Option ℕ → Option ℕ
 late_value ahead offer = when (nat_le 1 ahead && nat_le ahead 5116) (plus 1 offer)
 
 from_to : (low high ahead : ℕ) → low ≤ ahead → ahead ≤ high → (nat_le low ahead && nat_le ahead high) ≡ true
-from_to low high ahead after before = both_met (nat_le low ahead) (nat_le ahead high) (le-leb low ahead after) (le-leb ahead high before)
+from_to low high ahead after before = and_from (nat_le low ahead) (nat_le ahead high) (le-leb low ahead after) (le-leb ahead high before)
 
 -- the value away from an offset is at most each value of its table
 pub moved-far : (ahead label : ℕ) (offer : Option ℕ) → moved_value ahead label offer ≤ 2 + label
@@ -165,7 +160,7 @@ pub moved-skip : (ahead label : ℕ) (offer : Option ℕ) (x : ℕ) → 4 ≤ ah
 moved-skip ahead label offer x after before even m =
     least_of-later (2 + label) x (near_value ahead label) (skip_value ahead offer ∷ late_value ahead offer ∷ []) (λ z.
     least_of-first z x (skip_value ahead offer) (late_value ahead offer ∷ [])
-    (when_most (nat_le 4 ahead && nat_le ahead 1020 && ahead % 4 == 0) offer x (both_met (nat_le 4 ahead && nat_le ahead 1020) (ahead % 4 == 0) (from_to 4 1020 ahead after before) even) m))
+    (when_most (nat_le 4 ahead && nat_le ahead 1020 && ahead % 4 == 0) offer x (and_from (nat_le 4 ahead && nat_le ahead 1020) (ahead % 4 == 0) (from_to 4 1020 ahead after before) even) m))
 
 pub moved-late : (ahead label : ℕ) (offer : Option ℕ) (x : ℕ) → 1 ≤ ahead → ahead ≤ 5116 → AtMost offer x → moved_value ahead label offer ≤ 1 + x
 moved-late ahead label offer x after before m =
@@ -183,18 +178,18 @@ pub data Moved (ahead label : ℕ) (offer : Option ℕ) (x : ℕ) : Type 0 where
 
 moved_near : (ahead label : ℕ) (offer : Option ℕ) (x : ℕ) → WhenIs (nat_le 1 ahead && nat_le ahead 4096) (Some (1 + label)) x → Moved ahead label offer x
 moved_near ahead label offer x w =
-    let range = met_both (nat_le 1 ahead) (nat_le ahead 4096) w.met in
-    near (leb-true 1 ahead range.0) (leb-true ahead 4096 range.1) (sym (some_same (1 + label) x w.is))
+    let range = and_parts (nat_le 1 ahead) (nat_le ahead 4096) w.met in
+    near (leb-true 1 ahead range.0) (leb-true ahead 4096 range.1) (sym (same_Some (1 + label) x w.is))
 
 moved_skip : (ahead label : ℕ) (offer : Option ℕ) (x : ℕ) → WhenIs (nat_le 4 ahead && nat_le ahead 1020 && ahead % 4 == 0) offer x → Moved ahead label offer x
 moved_skip ahead label offer x w =
-    let both = met_both (nat_le 4 ahead && nat_le ahead 1020) (ahead % 4 == 0) w.met in
-    let range = met_both (nat_le 4 ahead) (nat_le ahead 1020) both.0 in
+    let both = and_parts (nat_le 4 ahead && nat_le ahead 1020) (ahead % 4 == 0) w.met in
+    let range = and_parts (nat_le 4 ahead) (nat_le ahead 1020) both.0 in
     skips (leb-true 4 ahead range.0) (leb-true ahead 1020 range.1) both.1 w.is
 
 moved_late : (ahead label : ℕ) (offer : Option ℕ) (x : ℕ) → WhenIs (nat_le 1 ahead && nat_le ahead 5116) (plus 1 offer) x → Moved ahead label offer x
 moved_late ahead label offer x w =
-    let range = met_both (nat_le 1 ahead) (nat_le ahead 5116) w.met in
+    let range = and_parts (nat_le 1 ahead) (nat_le ahead 5116) w.met in
     let p = plus-is 1 offer x w.is in
     late p.value (leb-true 1 ahead range.0) (leb-true ahead 5116 range.1) p.is p.sum
 

@@ -1,7 +1,6 @@
 -- Where labels are feasible at a fixup, the tests are met that a check makes.
-use Rattle.std.proofs.Common.{◌≡◌, ℕ, suc, ◌+◌, ◌*◌, ◌<◌, ◌≤◌, ◌⊎◌, inl, inr, Bool, true, false, cond, ◌&&◌, ◌||◌, ◌==◌, nat_le, nat_lt, List, [], ◌∷◌, ◌++◌, length, refl, ap, sym, ◌∙◌, subst, arith, length-append}
-use Rattle.std.proofs.lemmas.Bool.{le-leb, lt-ltb, ltb-true}
-use Rattle.std.proofs.lemmas.Bool.Decides.{eqb_tells}
+use Rattle.std.proofs.Common.{◌≡◌, ℕ, suc, ◌+◌, ◌*◌, ◌<◌, ◌≤◌, inl, inr, Bool, true, false, cond, ◌&&◌, ◌||◌, ◌==◌, nat_le, nat_lt, List, [], ◌∷◌, ◌++◌, length, refl, ap, ◌∙◌, subst, arith, length-append}
+use Rattle.std.proofs.lemmas.Bool.{and_from, eqb-true, le-leb, lt-ltb, ltb-true, or_cases}
 use Rattle.pef_reloc.specs.declared.fixup.Base.{Base}
 use Rattle.pef_reloc.specs.declared.fixup.Base.TheVariants.{Section, Import}
 use Rattle.pef_reloc.specs.declared.fixup.Fixup.{Fixup}
@@ -12,7 +11,6 @@ use Rattle.pef_reloc.specs.Fixups.{base_fits}
 use Rattle.pef_reloc.specs.Instrs.{instr_length}
 use Rattle.pef_reloc.specs.Limits.{most_imports, most_sections}
 use Rattle.pef_reloc.specs.Steps.{State, added, additions, next_state, numbered, pairs, row}
-use Rattle.pef_words.proofs.Laws.Tests.{both_met}
 use Rattle.pef_cert.specs.Labels.{Labels, class_of, classes}
 use Rattle.pef_cert.specs.Extension.{extension, extension_at}
 use Rattle.pef_cert.specs.Feasible.{FeasibleAt}
@@ -37,7 +35,7 @@ needed l index f rest left more a c d c' d' x feasible is_c is_d flat words some
     (subst (λ (y : ℕ). l.label (length (f ∷ rest)) (class_of l.registers c') y ≤ instr_length x + extension l left p (class_of l.registers c') y) is_d there)
 
 fits_run : (m : ℕ) → m < 512 → (nat_le 1 (suc m) && nat_le (suc m) 512) ≡ true
-fits_run m under = both_met (nat_le 1 (suc m)) (nat_le (suc m) 512) (le-leb 1 (suc m) (omega arith)) (le-leb (suc m) 512 (omega arith))
+fits_run m under = and_from (nat_le 1 (suc m)) (nat_le (suc m) 512) (le-leb 1 (suc m) (omega arith)) (le-leb (suc m) 512 (omega arith))
 
 needed_c : (l : Labels) (index : ℕ) (f : Fixup) (rest left : List Fixup) (c d c' d' m : ℕ) → FeasibleAt l index f rest → class_of l.registers c' ≡ c → class_of l.registers d' ≡ d → m < 512 → f ∷ rest ≡ row (suc m) f.offset 4 (Section c') ++ left → l.label (length (f ∷ rest)) c d ≤ 1 + extension l left (f.offset + 4 * suc m) c d
 unfolding row
@@ -69,43 +67,31 @@ unfolding numbered
 needed_imports l index f rest left c d c' d' m feasible is_c is_d under words =
     needed l index f rest left (numbered m (f.offset + 4) (index + 1)) (added f.offset (Import index)) c d c' d' (ImportRun (suc m)) feasible is_c is_d (fits_run m under) words refl (f.offset + 4 * suc m) refl
 
--- the tests of a section's fixup
-met_either : (a b : Bool) → (a || b) ≡ true → (a ≡ true) ⊎ (b ≡ true)
-met_either true b e = inl refl
-met_either false b e = inr e
-
-equal_of : (a b : ℕ) → (a == b) ≡ true → a ≡ b
-equal_of a b e =
-    elim (eqb_tells a b) [
-      | inl same ↦ same.1
-      | inr other ↦ (let wrong : true ≡ false = sym e ∙ other.0 in absurd (cc))
-    ]
-
 words_needed : (l : Labels) (index : ℕ) (f : Fixup) (rest : List Fixup) (c d k : ℕ) → Stands l index f rest → c < classes l → d < classes l → (class_of l.registers k == c || class_of l.registers k == d) ≡ true → row_test l (l.label (length (f ∷ rest)) c d) 4 (Section k) c d 512 f.offset (f ∷ rest) ≡ true
 words_needed l index f rest c d k stands under_c under_d either =
     let for_c = stands.numbers.of c under_c in
     let for_d = stands.numbers.of d under_d in
-    elim (met_either (class_of l.registers k == c) (class_of l.registers k == d) either) [
+    elim (or_cases (class_of l.registers k == c) (class_of l.registers k == d) either) [
       | inl is_c ↦ row_test-met l (l.label (length (f ∷ rest)) c d) 4 (Section k) c d 512 f.offset (f ∷ rest)
-          (λ m left under words. needed_c l index f rest left c d k for_d.number m stands.feasible (equal_of (class_of l.registers k) c is_c) for_d.is under words)
+          (λ m left under words. needed_c l index f rest left c d k for_d.number m stands.feasible (eqb-true (class_of l.registers k) c is_c) for_d.is under words)
       | inr is_d ↦ row_test-met l (l.label (length (f ∷ rest)) c d) 4 (Section k) c d 512 f.offset (f ∷ rest)
-          (λ m left under words. needed_d l index f rest left c d for_c.number k m stands.feasible for_c.is (equal_of (class_of l.registers k) d is_d) under words)
+          (λ m left under words. needed_d l index f rest left c d for_c.number k m stands.feasible for_c.is (eqb-true (class_of l.registers k) d is_d) under words)
     ]
 
 spaced_needed : (l : Labels) (index : ℕ) (f : Fixup) (rest : List Fixup) (c d k : ℕ) → Stands l index f rest → c < classes l → (class_of l.registers k == d) ≡ true → row_test l (l.label (length (f ∷ rest)) c d) 8 (Section k) c d 512 f.offset (f ∷ rest) ≡ true
 spaced_needed l index f rest c d k stands under_c is_d =
     let for_c = stands.numbers.of c under_c in
     row_test-met l (l.label (length (f ∷ rest)) c d) 8 (Section k) c d 512 f.offset (f ∷ rest)
-    (λ m left under words. needed_spaced l index f rest left c d for_c.number k m stands.feasible for_c.is (equal_of (class_of l.registers k) d is_d) under words)
+    (λ m left under words. needed_spaced l index f rest left c d for_c.number k m stands.feasible for_c.is (eqb-true (class_of l.registers k) d is_d) under words)
 
 pair_needed : (l : Labels) (index : ℕ) (f : Fixup) (rest : List Fixup) (c d k : ℕ) (b : Base) → Stands l index f rest → (class_of l.registers k == c) ≡ true → pair_test l (l.label (length (f ∷ rest)) c d) k c d f.offset (f ∷ rest) b ≡ true
 pair_needed l index f rest c d k (Section j) stands is_c =
     asked-met (class_of l.registers j == d) (pairs_test l (l.label (length (f ∷ rest)) c d) 8 (Section k) (Section j) c d 512 f.offset (f ∷ rest) && pairs_test l (l.label (length (f ∷ rest)) c d) 12 (Section k) (Section j) c d 512 f.offset (f ∷ rest))
-    (λ is_d. both_met (pairs_test l (l.label (length (f ∷ rest)) c d) 8 (Section k) (Section j) c d 512 f.offset (f ∷ rest)) (pairs_test l (l.label (length (f ∷ rest)) c d) 12 (Section k) (Section j) c d 512 f.offset (f ∷ rest))
+    (λ is_d. and_from (pairs_test l (l.label (length (f ∷ rest)) c d) 8 (Section k) (Section j) c d 512 f.offset (f ∷ rest)) (pairs_test l (l.label (length (f ∷ rest)) c d) 12 (Section k) (Section j) c d 512 f.offset (f ∷ rest))
     (pairs_test-met l (l.label (length (f ∷ rest)) c d) 8 (Section k) (Section j) c d 512 f.offset (f ∷ rest)
-    (λ m left under words. needed_near l index f rest left c d k j m stands.feasible (equal_of (class_of l.registers k) c is_c) (equal_of (class_of l.registers j) d is_d) under words))
+    (λ m left under words. needed_near l index f rest left c d k j m stands.feasible (eqb-true (class_of l.registers k) c is_c) (eqb-true (class_of l.registers j) d is_d) under words))
     (pairs_test-met l (l.label (length (f ∷ rest)) c d) 12 (Section k) (Section j) c d 512 f.offset (f ∷ rest)
-    (λ m left under words. needed_far l index f rest left c d k j m stands.feasible (equal_of (class_of l.registers k) c is_c) (equal_of (class_of l.registers j) d is_d) under words)))
+    (λ m left under words. needed_far l index f rest left c d k j m stands.feasible (eqb-true (class_of l.registers k) c is_c) (eqb-true (class_of l.registers j) d is_d) under words)))
 pair_needed l index f rest c d k (Import j) stands is_c = refl
 
 second_needed : (l : Labels) (index : ℕ) (f : Fixup) (rest : List Fixup) (c d k : ℕ) → Stands l index f rest → (class_of l.registers k == c) ≡ true → second_test l (l.label (length (f ∷ rest)) c d) k c d f rest ≡ true
@@ -143,7 +129,7 @@ import_needed l index f rest c d k stands base small under_c under_d =
       single = import_single l index f rest c d k (nat_lt k 512) stands base small refl under_c under_d;
       imports = λ is. numbered_test-met l (l.label (length (f ∷ rest)) c d) c d 512 f.offset k (f ∷ rest)
           (λ m left under words. needed_imports l index f rest left c d for_c.number for_d.number m stands.feasible for_c.is for_d.is under
-          (words ∙ ap (λ i. numbered (suc m) f.offset i ++ left) (equal_of k index is)));
+          (words ∙ ap (λ i. numbered (suc m) f.offset i ++ left) (eqb-true k index is)));
     })
 
 base_needed : (l : Labels) (index : ℕ) (f : Fixup) (rest : List Fixup) (c d : ℕ) (b : Base) → Stands l index f rest → f.base ≡ b → base_fits b ≡ true → c < classes l → d < classes l → base_test l (l.label (length (f ∷ rest)) c d) index f rest c d b ≡ true

@@ -1,33 +1,29 @@
 -- The tests of registers are met just where these are the sections that the fixups use, rising.
-use Rattle.std.proofs.Common.{◌≡◌, ℕ, ◌<◌, ◌⊎◌, inl, inr, Bool, true, false, ◌||◌, ◌==◌, List, [], ◌∷◌, length, refl, ap, sym, ◌∙◌, arith, eq-eqb}
+use Rattle.std.proofs.Common.{◌≡◌, ℕ, ◌<◌, inl, inr, Bool, true, false, ◌||◌, ◌==◌, List, [], ◌∷◌, length, refl, ap, sym, ◌∙◌, arith, eq-eqb}
 use Rattle.std.specs.List.{AllByRecursion}
-use Rattle.std.proofs.lemmas.Bool.{ltb-true, lt-ltb}
+use Rattle.std.proofs.lemmas.Bool.{ltb-true, lt-ltb, or_right, or_left, or_cases, and_from, and_parts}
 use Rattle.std.proofs.lemmas.Bool.Decides.{eqb_tells}
 use Rattle.pef_reloc.specs.declared.fixup.Base.{Base}
 use Rattle.pef_reloc.specs.declared.fixup.Base.TheVariants.{Section, Import}
 use Rattle.pef_reloc.specs.declared.fixup.Fixup.{Fixup}
 use Rattle.pef_reloc.specs.Deliveries.{all_meet, is_section, uses_section}
-use Rattle.pef_words.proofs.Laws.Tests.{both_met, met_both}
 use Rattle.pef_cert.specs.Labels.{class_of}
 use Rattle.pef_cert.specs.Valid.{RegistersOf, is_among, rises}
 use Rattle.pef_cert.specs.Kept.Registers.{all_registered, is_registered}
 use Rattle.pef_fixups.specs.Answers.{Says}
-use Rattle.pef_cert.proofs.ClassLemmas.{RegisteredBase, all_registered as each_registered, class_of-other, or_right}
-
-or_left : (a b : Bool) → a ≡ true → (a || b) ≡ true
-or_left a b e = rw e refl
+use Rattle.pef_cert.proofs.ClassLemmas.{RegisteredBase, all_registered as each_registered, class_of-other}
 
 -- each of a list meets a test
 meets_each : (test : ℕ → Bool) (ks : List ℕ) → ((k : ℕ) → is_among ks k ≡ true → test k ≡ true) → all_meet test ks ≡ true
 meets_each test [] each = refl
 meets_each test (k ∷ ks) each =
-    both_met (test k) (all_meet test ks) (each k (or_left (k == k) (is_among ks k) (eq-eqb k k refl)))
+    and_from (test k) (all_meet test ks) (each k (or_left (k == k) (is_among ks k) (eq-eqb k k refl)))
     (meets_each test ks (λ j among. each j (or_right (k == j) (is_among ks j) among)))
 
 each_meets : (test : ℕ → Bool) (ks : List ℕ) (k : ℕ) → all_meet test ks ≡ true → is_among ks k ≡ true → test k ≡ true
 each_meets test [] k all among = absurd (cc)
 each_meets test (j ∷ ks) k all among =
-    let both = met_both (test j) (all_meet test ks) all in
+    let both = and_parts (test j) (all_meet test ks) all in
     elim (eqb_tells j k) [
       | inl same ↦ ap test (sym same.1) ∙ both.0
       | inr other ↦ each_meets test ks k both.1 (sym (ap (λ b. b || is_among ks k) other.0) ∙ among)
@@ -46,15 +42,11 @@ registered_among rs k (Section j) e is =
     ]
 registered_among rs k (Import j) e is = absurd (cc)
 
-either_of : (a b : Bool) → (a || b) ≡ true → (a ≡ true) ⊎ (b ≡ true)
-either_of true b e = inl refl
-either_of false b e = inr e
-
 used_among : (rs : List ℕ) (fixups : List Fixup) (k : ℕ) → all_registered rs fixups ≡ true → uses_section fixups k ≡ true → is_among rs k ≡ true
 used_among rs [] k all used = absurd (cc)
 used_among rs (f ∷ fixups) k all used =
-    let both = met_both (is_registered rs f.base) (all_registered rs fixups) all in
-    elim (either_of (is_section k f.base) (uses_section fixups k) used) [
+    let both = and_parts (is_registered rs f.base) (all_registered rs fixups) all in
+    elim (or_cases (is_section k f.base) (uses_section fixups k) used) [
       | inl here ↦ registered_among rs k f.base both.0 here
       | inr later ↦ used_among rs fixups k both.1 later
     ]
@@ -70,7 +62,7 @@ base_registered rs (Import k) under = refl
 
 bases_registered : (rs : List ℕ) (fixups : List Fixup) → AllByRecursion (λ f. RegisteredBase rs f.base) fixups → all_registered rs fixups ≡ true
 bases_registered rs [] each = refl
-bases_registered rs (f ∷ fixups) each = both_met (is_registered rs f.base) (all_registered rs fixups) (base_registered rs f.base each.0) (bases_registered rs fixups each.1)
+bases_registered rs (f ∷ fixups) each = and_from (is_registered rs f.base) (all_registered rs fixups) (base_registered rs f.base each.0) (bases_registered rs fixups each.1)
 
 -- registers that don't rise, or of which one isn't used
 pub not_rising : (fixups : List Fixup) (rs : List ℕ) → false ≡ rises rs → Says false (RegistersOf fixups rs)

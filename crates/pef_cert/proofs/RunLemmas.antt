@@ -1,11 +1,10 @@
 -- The tests along a run are met just where each run that begins the fixups is followed by enough.
 use Rattle.std.proofs.Common.{◌≡◌, ℕ, zero, suc, ◌+◌, ◌*◌, ◌<◌, ◌≤◌, Bool, true, false, ◌&&◌, List, [], ◌∷◌, ◌++◌, refl, ap, ◌∙◌, arith}
-use Rattle.std.proofs.lemmas.Bool.{leb-true, le-leb}
+use Rattle.std.proofs.lemmas.Bool.{leb-true, le-leb, and_from, and_parts}
 use Rattle.pef_reloc.specs.declared.fixup.Base.{Base}
 use Rattle.pef_reloc.specs.declared.fixup.Base.TheVariants.{Import}
 use Rattle.pef_reloc.specs.declared.fixup.Fixup.{Fixup}
 use Rattle.pef_reloc.specs.Steps.{added, numbered, pairs, row}
-use Rattle.pef_words.proofs.Laws.Tests.{both_met, met_both}
 use Rattle.pef_cert.specs.Labels.{Labels}
 use Rattle.pef_cert.specs.Extension.{extension}
 use Rattle.pef_fixups.specs.Additions.{is_added}
@@ -13,15 +12,15 @@ use Rattle.pef_fixups.proofs.Laws.{is_added-is, is_added-refl}
 use Rattle.pef_cert.specs.LabelTests.{numbered_test, one_from, pairs_test, row_test, run_on}
 
 run_on-here : (b here more : Bool) → b ≡ true → run_on b here more ≡ true → here ≡ true
-run_on-here true here more is e = (met_both here more e).0
+run_on-here true here more is e = (and_parts here more e).0
 run_on-here false here more is e = absurd (cc)
 
 run_on-more : (b here more : Bool) → b ≡ true → run_on b here more ≡ true → more ≡ true
-run_on-more true here more is e = (met_both here more e).1
+run_on-more true here more is e = (and_parts here more e).1
 run_on-more false here more is e = absurd (cc)
 
 run_on-met : (b here more : Bool) → (b ≡ true → here ≡ true) → (b ≡ true → more ≡ true) → run_on b here more ≡ true
-run_on-met true here more one others = both_met here more (one refl) (others refl)
+run_on-met true here more one others = and_from here more (one refl) (others refl)
 run_on-met false here more one others = refl
 
 one_from-le : (l : Labels) (label : ℕ) (rest : List Fixup) (p c d : ℕ) → one_from l label rest p c d ≡ true → label ≤ 1 + extension l rest p c d
@@ -91,7 +90,7 @@ joins_two : (f g f' g' : Fixup) (rest more : List Fixup) → f ≡ f' → g ≡ 
 joins_two f g f' g' rest more first second others = cc
 
 two_added : (p : ℕ) (b b' : Base) (f g : Fixup) → f ≡ added p b → g ≡ added (p + 4) b' → (is_added p b f && is_added (p + 4) b' g) ≡ true
-two_added p b b' f g first second = both_met (is_added p b f) (is_added (p + 4) b' g) (is_added-refl p b f first) (is_added-refl (p + 4) b' g second)
+two_added p b b' f g first second = and_from (is_added p b f) (is_added (p + 4) b' g) (is_added-refl p b f first) (is_added-refl (p + 4) b' g second)
 
 one_is_short : (f f' g' : Fixup) (more : List Fixup) → f ∷ [] ≡ f' ∷ g' ∷ more → ⊥
 one_is_short f f' g' more e = let wrong : ◌≡◌ {A = List Fixup} [] (g' ∷ more) = cc in absurd (cc)
@@ -124,13 +123,13 @@ pairs_test-met l label w b b' c d (suc n) p (f ∷ []) holds = refl
 pairs_test-met l label w b b' c d (suc n) p (f ∷ g ∷ rest) holds =
     run_on-met (is_added p b f && is_added (p + 4) b' g) (one_from l label rest (p + w) c d) (pairs_test l label w b b' c d n (p + w) rest)
     (λ is.
-    let both = met_both (is_added p b f) (is_added (p + 4) b' g) is in
+    let both = and_parts (is_added p b f) (is_added (p + 4) b' g) is in
     let end : p + w * 1 ≡ p + w = omega arith in
     let low = holds 0 rest (omega arith) (joins_two f g (added p b) (added (p + 4) b') rest rest (is_added-is p b f both.0) (is_added-is (p + 4) b' g both.1) refl) in
     let same = ap (λ q. extension l rest q c d) end in
     one_from-met l label rest (p + w) c d (omega (arith, low, same)))
     (λ is.
-    let both = met_both (is_added p b f) (is_added (p + 4) b' g) is in
+    let both = and_parts (is_added p b f) (is_added (p + 4) b' g) is in
     pairs_test-met l label w b b' c d n (p + w) rest
     (λ m left under e.
     let end : p + w * suc (suc m) ≡ p + w + w * suc m = omega arith in

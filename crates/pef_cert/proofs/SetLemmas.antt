@@ -3,6 +3,7 @@ use Rattle.std.proofs.Common.{◌≡◌, ℕ, ◌+◌, ◌*◌, ◌<◌, ◌≤�
 use Rattle.std.specs.Prelude.{slice_index_or}
 use Rattle.std.proofs.Math.Path.{ap₂}
 use borrow.Author.Count.{below_more}
+use Rattle.pef_words.proofs.Laws.Numbers.{min_is}
 use Rattle.pef_cert.specs.Valid.{labels_in}
 use Rattle.pef_cert.specs.LabelTests.{SetsHold}
 use Rattle.pef_cert.specs.Kept.Sets.{RowHolds}
@@ -12,9 +13,6 @@ pub record Attains (count : ℕ) (f : ℕ → ℕ) (value : ℕ) : Type 0 where
   pub at : ℕ
   pub under : at < count
   pub is : f at ≡ value
-
-min_is : (v w : ℕ) → (min v w ≡ v) ⊎ (min v w ≡ w)
-min_is v w = grind arith
 
 max_is : (v w : ℕ) → (max v w ≡ v) ⊎ (max v w ≡ w)
 max_is v w = grind arith

@@ -7,6 +7,7 @@ use Rattle.pef_reloc.specs.declared.fixup.Base.{Base}
 use Rattle.pef_reloc.specs.declared.fixup.Base.TheVariants.{Section, Import}
 use Rattle.pef_reloc.specs.declared.fixup.Fixup.{Fixup}
 use Rattle.pef_reloc.specs.Steps.{added, row}
+use Rattle.std.proofs.lemmas.Option.{same_Some}
 use Rattle.pef_cert.specs.Labels.{Labels, class_of, classes, has_class}
 use Rattle.pef_cert.specs.Minima.{lesser}
 use Rattle.pef_cert.specs.Extension.{change, extension, offer_at, skip, skips_at}
@@ -47,9 +48,6 @@ has_of l b k d is has =
       | inr other ↦ (let wrong : true ≡ false = sym has ∙ (ap (has_class l.registers d) is ∙ other.0) in absurd (cc))
     ]
 
-some_same : (v w : ℕ) → Some v ≡ Some w → v ≡ w
-some_same v w e = cc
-
 change_zero : (c : ℕ) → change c c ≡ 0
 change_zero c = rw (eq-eqb c c refl) refl
 
@@ -70,11 +68,11 @@ offer-least l index f rest c d k x w world base counts under e o =
     elim (change_one c o.class_c) [
       | inl one ↦
           (let m = skip-set_c l index f rest c o.class_c k o.skip_value world counts under o.under_c there in
-          let is = some_same m.value x (sym m.is ∙ e) in
+          let is = same_Some m.value x (sym m.is ∙ e) in
           omega (arith, m.low, is, one, changes, o.is))
       | inr equal ↦
           (let at = subst (λ (b : ℕ). skips_at l f rest b (class_of l.registers k) ≡ Some o.skip_value) (sym equal) there in
-          let is = some_same o.skip_value x (sym at ∙ e) in
+          let is = same_Some o.skip_value x (sym at ∙ e) in
           omega (arith, is, changes, o.is))
     ]
 
@@ -124,10 +122,6 @@ unfolding skip
 skip_steps l n p c k [] counts e = absurd (cc)
 skip_steps l n p c k (f ∷ rest) counts e = rw (ap (λ b. f.offset == p && b) (has-same l k f.base counts) ∙ e) refl
 
-lesser_none : (o : Option ℕ) → lesser o None ≡ o
-lesser_none None = refl
-lesser_none (Some x) = refl
-
 lesser_some : (a b : ℕ) (o : Option ℕ) → lesser (Some a) (lesser (Some b) o) ≡ lesser (Some (min a b)) o
 lesser_some a b None = refl
 lesser_some a b (Some x) = let same : min a (min b x) ≡ min (min a b) x = grind arith in ap Some same
@@ -166,7 +160,7 @@ unfolding row
 skip-low l f rest c k x base e =
     let word : f ≡ added f.offset (Section k) = (λ i. record { offset = f.offset; base = base i }) in
     let m = skip-most l 63 f.offset c (class_of l.registers k) k 0 (f ∷ rest) rest (omega arith) refl (ap (λ g. g ∷ rest) word) in
-    let same = some_same m.value x (sym m.is ∙ e) in
+    let same = same_Some m.value x (sym m.is ∙ e) in
     let end : f.offset + 4 * 1 ≡ f.offset + 4 = omega arith in
     let there = ap (λ q. extension l rest q c (class_of l.registers k)) end in
     omega (arith, m.low, same, there)

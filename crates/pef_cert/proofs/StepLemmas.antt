@@ -4,7 +4,7 @@ use Rattle.std.proofs.lemmas.List.{drop-drop}
 use Rattle.pef_reloc.specs.declared.fixup.Base.{Base}
 use Rattle.pef_reloc.specs.declared.fixup.Base.TheVariants.{Import}
 use Rattle.pef_reloc.specs.declared.fixup.Fixup.{Fixup}
-use Rattle.pef_words.proofs.Laws.Tests.{met_both}
+use Rattle.std.proofs.lemmas.Bool.{and_parts}
 use Rattle.pef_cert.specs.Labels.{Labels}
 use Rattle.pef_fixups.specs.Additions.{is_added}
 use Rattle.pef_cert.specs.Kept.Tests.{adds_first}
@@ -87,7 +87,7 @@ pairs_stops l label w b b' c d (suc n) p (f ∷ []) e = refl
 pairs_stops l label w b b' c d (suc n) p (f ∷ g ∷ rest) e = run_stops (is_added p b f && is_added (p + 4) b' g) (one_from l label rest (p + w) c d) (pairs_test l label w b b' c d n (p + w) rest) e
 
 only_one : (p : ℕ) (b b' : Base) (f : Fixup) → adds_two p b b' (f ∷ []) ≡ true → ⊥
-only_one p b b' f e = let both = met_both (is_added p b f) false e in absurd (cc)
+only_one p b b' f e = let both = and_parts (is_added p b f) false e in absurd (cc)
 
 pairs_fails : (l : Labels) (label w : ℕ) (b b' : Base) (c d n p : ℕ) (fs : List Fixup) → adds_two p b b' fs ≡ true → one_from l label (drop 2 fs) (p + w) c d ≡ false → pairs_test l label w b b' c d (suc n) p fs ≡ false
 unfolding pairs_test
@@ -107,7 +107,7 @@ drop_two fixups at = drop-drop 2 at fixups
 -- two fixups are there, where they add something
 pub pair_inside : (fixups : List Fixup) (at p : ℕ) (b b' : Base) → true ≡ (adds_first p b (drop at fixups) && adds_first (p + 4) b' (drop (at + 1) fixups)) → at + 1 < length fixups
 pair_inside fixups at p b b' e =
-    let both = met_both (adds_first p b (drop at fixups)) (adds_first (p + 4) b' (drop (at + 1) fixups)) (sym e) in
+    let both = and_parts (adds_first p b (drop at fixups)) (adds_first (p + 4) b' (drop (at + 1) fixups)) (sym e) in
     adds_inside fixups (at + 1) (p + 4) b' both.1
 
 two_there : (fixups : List Fixup) (at p : ℕ) (b b' : Base) (x : Bool) → x ≡ (adds_first p b (drop at fixups) && adds_first (p + 4) b' (drop (at + 1) fixups)) → adds_two p b b' (drop at fixups) ≡ x

@@ -4,7 +4,7 @@ use Rattle.std.proofs.Common.{◌≡◌, ◌≢◌, ℕ, zero, suc, ◌+◌, ◌
 use Rattle.std.specs.Prelude.{slice_index_or, slice_set}
 use Rattle.std.specs.List.{AllByRecursion}
 use Rattle.std.proofs.Math.Nat.{mod-add-div, mod-lt, div-lt_iff_lt-mul}
-use Rattle.std.proofs.lemmas.Bool.{leb-true, ltb-true}
+use Rattle.std.proofs.lemmas.Bool.{and_parts, leb-true, ltb-true}
 use Rattle.std.proofs.lemmas.Bool.Decides.{eqb_tells}
 use Rattle.std.proofs.lemmas.List.{drop_all, get_or-set_other, get_or-set_same, length-drop, length-set}
 use Rattle.std.proofs.lemmas.Option.{slice_get-get_or}
@@ -15,7 +15,7 @@ use Rattle.pef_reloc.specs.Deliveries.{index_after, index_past}
 use Rattle.pef_reloc.specs.Fixups.{fixup_fits, fixups_fit, fixups_from}
 use Rattle.pef_reloc.specs.Limits.{most_fixups}
 use Rattle.pef_reloc.proofs.Laws.{each_fits}
-use Rattle.pef_words.proofs.Laws.Tests.{met_both}
+use Rattle.pef_words.proofs.Laws.Lists.{drop-here}
 use Rattle.pef_cert.specs.declared.claim.Claim.{Claim}
 use Rattle.pef_cert.specs.Extension.{OfferIs, change, offer_at, skips_at}
 use Rattle.pef_cert.specs.Feasible.{Feasible, FeasibleAt, FeasibleFrom}
@@ -27,7 +27,7 @@ use Rattle.pef_labels.specs.Rows.{RowsFull, rows_from}
 use Rattle.pef_cert.specs.Kept.Sets.{RowIsZero}
 use Rattle.pef_cert.proofs.AdditionLemmas.{index_behind}
 use Rattle.pef_cert.proofs.Bounds.{extension-small}
-use Rattle.pef_cert.proofs.ClaimLemmas.{get-drop, get_under, place_under}
+use Rattle.pef_cert.proofs.ClaimLemmas.{get_under, place_under}
 use Rattle.pef_cert.proofs.ClassLemmas.{RegisteredBase, all_registered, class_of-below, numbers}
 use Rattle.pef_cert.proofs.FeasibleLemmas.{section-counts}
 use Rattle.pef_cert.proofs.Falling.{World}
@@ -38,12 +38,12 @@ use Rattle.pef_cert.proofs.SkipLemmas.{offer-import, offer-section, skip-low}
 rising_at : (low : ℕ) (ends : List ℕ) (q : ℕ) → above_all low ends ≡ true → suc q < length ends → slice_index ends q < slice_index ends (suc q)
 rising_at low [] q up under = absurd (omega arith)
 rising_at low (x ∷ []) q up under = absurd (omega arith)
-rising_at low (x ∷ y ∷ ends) zero up under = ltb-true x y (met_both (nat_lt x y) (above_all y ends) (met_both (nat_lt low x) (above_all x (y ∷ ends)) up).1).0
-rising_at low (x ∷ y ∷ ends) (suc q) up under = rising_at x (y ∷ ends) q (met_both (nat_lt low x) (above_all x (y ∷ ends)) up).1 (omega arith)
+rising_at low (x ∷ y ∷ ends) zero up under = ltb-true x y (and_parts (nat_lt x y) (above_all y ends) (and_parts (nat_lt low x) (above_all x (y ∷ ends)) up).1).0
+rising_at low (x ∷ y ∷ ends) (suc q) up under = rising_at x (y ∷ ends) q (and_parts (nat_lt low x) (above_all x (y ∷ ends)) up).1 (omega arith)
 
 first_above : (low : ℕ) (ends : List ℕ) → above_all low ends ≡ true → 0 < length ends → low < slice_index ends 0
 first_above low [] up some = absurd (omega arith)
-first_above low (x ∷ ends) up some = ltb-true low x (met_both (nat_lt low x) (above_all x ends) up).0
+first_above low (x ∷ ends) up some = ltb-true low x (and_parts (nat_lt low x) (above_all x ends) up).0
 
 before_below : (ends : List ℕ) (q : ℕ) → above_all 0 ends ≡ true → q < length ends → rows_before ends q < slice_index ends q
 before_below ends zero up under = first_above 0 ends up under
@@ -108,7 +108,7 @@ known_here claim q at ring least f new rows skips here row are =
     record {
       row = subst (λ (r : ℕ). IsRowOf claim.kept.ends.now r at) (sym (get_or-set_same ring (at % 1024) q 0 in_ring)) row;
       offer = λ g rest e.
-          let parts : ◌≡◌ {A = List Fixup} (f ∷ drop (at + 1) claim.fixups.now) (g ∷ rest) = sym (get-drop claim.fixups.now at f here) ∙ e in
+          let parts : ◌≡◌ {A = List Fixup} (f ∷ drop (at + 1) claim.fixups.now) (g ∷ rest) = sym (drop-here claim.fixups.now at f here) ∙ e in
           let first : f ≡ g = cc in
           let others : drop (at + 1) claim.fixups.now ≡ rest = cc in
           subst (λ (l : List ℕ). SkipsAre claim g rest l) (sym (get_or-set_same least (at % 1024) new [] in_least))
@@ -157,7 +157,7 @@ index_next fixups at f e =
 
 pub feasible-before : (l : Labels) (fixups : List Fixup) (at : ℕ) (f : Fixup) → slice_get fixups at ≡ Some f → FeasibleAt l (index_after (take at fixups) 0) f (drop (at + 1) fixups) → FeasibleFrom l (index_after (take (at + 1) fixups) 0) (drop (at + 1) fixups) → FeasibleFrom l (index_after (take at fixups) 0) (drop at fixups)
 feasible-before l fixups at f e here others =
-    subst (λ (fs : List Fixup). FeasibleFrom l (index_after (take at fixups) 0) fs) (sym (get-drop fixups at f e))
+    subst (λ (fs : List Fixup). FeasibleFrom l (index_after (take at fixups) 0) fs) (sym (drop-here fixups at f e))
     (here, subst (λ (i : ℕ). FeasibleFrom l i (drop (at + 1) fixups)) (index_next fixups at f e) others)
 
 pub feasible-there : (l : Labels) (index : ℕ) (fixups : List Fixup) (at : ℕ) (f : Fixup) → slice_get fixups at ≡ Some f → FeasibleFrom l index fixups → FeasibleAt l (index_after (take at fixups) index) f (drop (at + 1) fixups)
@@ -185,7 +185,7 @@ world_left claim index at shaped feasible = record {
 
 small_fixups : (fixups : List Fixup) → fixups_fit fixups ≡ true → length fixups ≤ most_fixups
 unfolding fixups_fit
-small_fixups fixups fit = leb-true (length fixups) most_fixups (met_both (nat_le (length fixups) most_fixups) (fixups_from 0 fixups) fit).0
+small_fixups fixups fit = leb-true (length fixups) most_fixups (and_parts (nat_le (length fixups) most_fixups) (fixups_from 0 fixups) fit).0
 
 -- what a skip leads to is small
 pub skip-small : (claim : Claim) (at k c x : ℕ) (f : Fixup) → Shaped claim → slice_get claim.fixups.now at ≡ Some f → f.base ≡ Section k → FeasibleFrom (labels_claimed claim) (index_after (take (at + 1) claim.fixups.now) 0) (drop (at + 1) claim.fixups.now) → c < length claim.registers.now + 1 → skips_at (labels_claimed claim) f (drop (at + 1) claim.fixups.now) c (class_of claim.registers.now k) ≡ Some x → x < 2 ^ 32

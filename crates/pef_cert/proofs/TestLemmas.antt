@@ -1,6 +1,6 @@
 -- Labels are feasible at a fixup just where the tests are met that a check makes.
 use Rattle.std.proofs.Common.{◌≡◌, ℕ, zero, suc, ◌+◌, ◌*◌, ◌<◌, ◌≤◌, Bool, true, false, cond, ◌&&◌, ◌||◌, ◌==◌, nat_le, nat_lt, List, [], ◌∷◌, ◌++◌, length, refl, ap, sym, ◌∙◌, subst, arith, eq-eqb}
-use Rattle.std.proofs.lemmas.Bool.{leb-true, le-leb}
+use Rattle.std.proofs.lemmas.Bool.{leb-true, le-leb, or_right, or_left, and_from, and_parts}
 use Rattle.pef_reloc.specs.declared.fixup.Base.{Base}
 use Rattle.pef_reloc.specs.declared.fixup.Base.TheVariants.{Section, Import}
 use Rattle.pef_reloc.specs.declared.fixup.Fixup.{Fixup}
@@ -9,7 +9,6 @@ use Rattle.pef_reloc.specs.declared.instr.Instr.TheVariants.{BySectDWithSkip, By
 use Rattle.pef_reloc.specs.Deliveries.{is_flat_instr, sets_register}
 use Rattle.pef_reloc.specs.Instrs.{instr_length}
 use Rattle.pef_reloc.specs.Steps.{State, added, additions, next_state, numbered, pairs, row}
-use Rattle.pef_words.proofs.Laws.Tests.{both_met, met_both}
 use Rattle.pef_cert.specs.Labels.{Labels, class_of}
 use Rattle.pef_cert.specs.Extension.{extension, extension_at}
 use Rattle.pef_cert.specs.Feasible.{AtFixup, FeasibleAt, label_at}
@@ -39,9 +38,9 @@ section_tests l label index k f rest c d e =
     let words = asked (class_of l.registers k == c || class_of l.registers k == d) (row_test l label 4 (Section k) c d 512 f.offset (f ∷ rest)) in
     let spaced = asked (class_of l.registers k == d) (row_test l label 8 (Section k) c d 512 f.offset (f ∷ rest)) in
     let second = asked (class_of l.registers k == c) (second_test l label k c d f rest) in
-    let three = met_both (single && words && spaced) second e in
-    let two = met_both (single && words) spaced three.0 in
-    let one = met_both single words two.0 in
+    let three = and_parts (single && words && spaced) second e in
+    let two = and_parts (single && words) spaced three.0 in
+    let one = and_parts single words two.0 in
     record {
       single = one.0;
       words = asked-holds (class_of l.registers k == c || class_of l.registers k == d) (row_test l label 4 (Section k) c d 512 f.offset (f ∷ rest)) one.1;
@@ -55,9 +54,9 @@ section_tests-met l label index k f rest c d t =
     let words = asked (class_of l.registers k == c || class_of l.registers k == d) (row_test l label 4 (Section k) c d 512 f.offset (f ∷ rest)) in
     let spaced = asked (class_of l.registers k == d) (row_test l label 8 (Section k) c d 512 f.offset (f ∷ rest)) in
     let second = asked (class_of l.registers k == c) (second_test l label k c d f rest) in
-    both_met (single && words && spaced) second
-    (both_met (single && words) spaced
-    (both_met single words t.single
+    and_from (single && words && spaced) second
+    (and_from (single && words) spaced
+    (and_from single words t.single
     (asked-met (class_of l.registers k == c || class_of l.registers k == d) (row_test l label 4 (Section k) c d 512 f.offset (f ∷ rest)) t.words))
     (asked-met (class_of l.registers k == d) (row_test l label 8 (Section k) c d 512 f.offset (f ∷ rest)) t.spaced))
     (asked-met (class_of l.registers k == c) (second_test l label k c d f rest) t.second)
@@ -71,7 +70,7 @@ import_tests : (l : Labels) (label index k : ℕ) (f : Fixup) (rest : List Fixup
 import_tests l label index k f rest c d e =
     let single = nat_le label (import_cost k + extension l rest (f.offset + 4) c d) in
     let imports = asked (k == index) (numbered_test l label c d 512 f.offset k (f ∷ rest)) in
-    let both = met_both single imports e in
+    let both = and_parts single imports e in
     record {
       single = leb-true label (import_cost k + extension l rest (f.offset + 4) c d) both.0;
       imports = asked-holds (k == index) (numbered_test l label c d 512 f.offset k (f ∷ rest)) both.1;
@@ -79,23 +78,13 @@ import_tests l label index k f rest c d e =
 
 pub import_tests-met : (l : Labels) (label index k : ℕ) (f : Fixup) (rest : List Fixup) (c d : ℕ) → ImportTests l label index k f rest c d → base_test l label index f rest c d (Import k) ≡ true
 import_tests-met l label index k f rest c d t =
-    both_met (nat_le label (import_cost k + extension l rest (f.offset + 4) c d)) (asked (k == index) (numbered_test l label c d 512 f.offset k (f ∷ rest)))
+    and_from (nat_le label (import_cost k + extension l rest (f.offset + 4) c d)) (asked (k == index) (numbered_test l label c d 512 f.offset k (f ∷ rest)))
     (le-leb label (import_cost k + extension l rest (f.offset + 4) c d) t.single)
     (asked-met (k == index) (numbered_test l label c d 512 f.offset k (f ∷ rest)) t.imports)
-
-or_first : (a b : Bool) → a ≡ true → (a || b) ≡ true
-or_first a b e = rw e refl
-
-or_second : (a b : Bool) → b ≡ true → (a || b) ≡ true
-or_second true b e = refl
-or_second false b e = e
 
 -- the word that begins a run
 first_word : (f g : Fixup) (rest more : List Fixup) → f ∷ rest ≡ g ∷ more → f ≡ g
 first_word f g rest more e = cc
-
-base_of : Fixup → Base
-base_of f = f.base
 
 -- words of a section follow the fixup, and the tests of its state are met
 falls_row : (l : Labels) (label index : ℕ) (f : Fixup) (rest left : List Fixup) (c d k n p w : ℕ) → base_test l label index f rest c d f.base ≡ true → p ≡ f.offset → n < 512 → f ∷ rest ≡ row (suc n) p w (Section k) ++ left → (SectionTests l label k f rest c d → row_test l label w (Section k) c d 512 f.offset (f ∷ rest) ≡ true) → label ≤ 1 + extension l left (p + w * suc n) c d
@@ -122,7 +111,7 @@ pair_tests : (l : Labels) (label k j c d p : ℕ) (fixups : List Fixup) → (cla
 pair_tests l label k j c d p fixups is e =
     let near = pairs_test l label 8 (Section k) (Section j) c d 512 p fixups in
     let far = pairs_test l label 12 (Section k) (Section j) c d 512 p fixups in
-    let both = met_both near far (asked-holds (class_of l.registers j == d) (near && far) e is) in
+    let both = and_parts near far (asked-holds (class_of l.registers j == d) (near && far) e is) in
     record { near = both.0; far = both.1 }
 
 second_tests : (l : Labels) (label k j c d w n : ℕ) (f : Fixup) (rest left : List Fixup) → f ∷ rest ≡ pairs (suc n) f.offset w (Section k) (Section j) ++ left → (class_of l.registers j == d) ≡ true → second_test l label k c d f rest ≡ true → PairTests l label k j c d f.offset (f ∷ rest)
@@ -195,15 +184,15 @@ nothing_made : (l : Labels) (label : ℕ) (x : Instr) (s : State) (f : Fixup) (r
 nothing_made l label x s f rest left same shorter = let e = ap length same in absurd (omega (arith, e))
 
 count_under : (n : ℕ) → (nat_le 1 (suc n) && nat_le (suc n) 512) ≡ true → n < 512
-count_under n fits = let under = leb-true (suc n) 512 (met_both (nat_le 1 (suc n)) (nat_le (suc n) 512) fits).1 in omega (arith, under)
+count_under n fits = let under = leb-true (suc n) 512 (and_parts (nat_le 1 (suc n)) (nat_le (suc n) 512) fits).1 in omega (arith, under)
 
 pub tested : (l : Labels) (label : ℕ) (x : Instr) (s : State) (f : Fixup) (rest left : List Fixup) → base_test l label s.import_index f rest (class_of l.registers s.c) (class_of l.registers s.d) f.base ≡ true → s.position ≡ f.offset → is_flat_instr x ≡ true → f ∷ rest ≡ additions x s ++ left → length left < length (f ∷ rest) → Tested l label x s left
 unfolding row pairs numbered
 tested l label (BySectDWithSkip u zero) s f rest left met at flat words shorter = nothing_made l label (BySectDWithSkip u zero) s f rest left words shorter
 tested l label (BySectDWithSkip zero (suc t)) s f rest left met at flat words shorter =
-    let few = leb-true (suc t) 63 (met_both (nat_le zero 255) (nat_le (suc t) 63) flat).1 in
+    let few = leb-true (suc t) 63 (and_parts (nat_le zero 255) (nat_le (suc t) 63) flat).1 in
     let here : s.position + 4 * zero ≡ f.offset = omega (arith, at) in
-    let low = falls_words l label s.import_index f rest left (class_of l.registers s.c) (class_of l.registers s.d) s.d t (s.position + 4 * zero) met here (omega (arith, few)) words (or_second (class_of l.registers s.d == class_of l.registers s.c) (class_of l.registers s.d == class_of l.registers s.d) (eq-eqb (class_of l.registers s.d) (class_of l.registers s.d) refl)) in
+    let low = falls_words l label s.import_index f rest left (class_of l.registers s.c) (class_of l.registers s.d) s.d t (s.position + 4 * zero) met here (omega (arith, few)) words (or_right (class_of l.registers s.d == class_of l.registers s.c) (class_of l.registers s.d == class_of l.registers s.d) (eq-eqb (class_of l.registers s.d) (class_of l.registers s.d) refl)) in
     let end : s.position + 4 * zero + 4 * suc t ≡ s.position + (4 * zero + 4 * suc t) = omega arith in
     let same = ap (λ q. extension l left q (class_of l.registers s.c) (class_of l.registers s.d)) end in
     omega (arith, low, same)
@@ -213,10 +202,10 @@ tested l label (BySectDWithSkip (suc u) (suc t)) s f rest left met at flat words
     absurd (omega (arith, at, apart))
 tested l label (BySectC zero) s f rest left met at flat words shorter = absurd (cc)
 tested l label (BySectC (suc n)) s f rest left met at flat words shorter =
-    falls_words l label s.import_index f rest left (class_of l.registers s.c) (class_of l.registers s.d) s.c n s.position met at (count_under n flat) words (or_first (class_of l.registers s.c == class_of l.registers s.c) (class_of l.registers s.c == class_of l.registers s.d) (eq-eqb (class_of l.registers s.c) (class_of l.registers s.c) refl))
+    falls_words l label s.import_index f rest left (class_of l.registers s.c) (class_of l.registers s.d) s.c n s.position met at (count_under n flat) words (or_left (class_of l.registers s.c == class_of l.registers s.c) (class_of l.registers s.c == class_of l.registers s.d) (eq-eqb (class_of l.registers s.c) (class_of l.registers s.c) refl))
 tested l label (BySectD zero) s f rest left met at flat words shorter = absurd (cc)
 tested l label (BySectD (suc n)) s f rest left met at flat words shorter =
-    falls_words l label s.import_index f rest left (class_of l.registers s.c) (class_of l.registers s.d) s.d n s.position met at (count_under n flat) words (or_second (class_of l.registers s.d == class_of l.registers s.c) (class_of l.registers s.d == class_of l.registers s.d) (eq-eqb (class_of l.registers s.d) (class_of l.registers s.d) refl))
+    falls_words l label s.import_index f rest left (class_of l.registers s.c) (class_of l.registers s.d) s.d n s.position met at (count_under n flat) words (or_right (class_of l.registers s.d == class_of l.registers s.c) (class_of l.registers s.d == class_of l.registers s.d) (eq-eqb (class_of l.registers s.d) (class_of l.registers s.d) refl))
 tested l label (TVector12 zero) s f rest left met at flat words shorter = absurd (cc)
 tested l label (TVector12 (suc n)) s f rest left met at flat words shorter =
     falls_pairs l label s.import_index f rest left (class_of l.registers s.c) (class_of l.registers s.d) s.c s.d n s.position 12 met at (count_under n flat) words (eq-eqb (class_of l.registers s.c) (class_of l.registers s.c) refl) (eq-eqb (class_of l.registers s.d) (class_of l.registers s.d) refl) (λ t. t.far)

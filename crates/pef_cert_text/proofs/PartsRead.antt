@@ -4,7 +4,7 @@ use Rattle.std.specs.Prelude.{codes, decimal, nat_le, option_map}
 use Rattle.std.specs.List.{AllByRecursion}
 use Rattle.std.specs.Option.{is_none}
 use Rattle.std.specs.Str.{bytes_eq}
-use Rattle.std.proofs.lemmas.Bool.{eqb-true, leb-true, le-ltb, lt-ltb}
+use Rattle.std.proofs.lemmas.Bool.{eqb-true, leb-true, le-ltb, lt-ltb, and_parts}
 use Rattle.pef_cert.specs.Valid.{rises}
 use Rattle.pef_lines.specs.Numbers.{decimal_number}
 use Rattle.pef_ports.specs.Text.{hex_digit, hex_text}
@@ -12,15 +12,14 @@ use Rattle.pef_reloc.specs.declared.fault.RelocFault.{RelocFault}
 use Rattle.pef_reloc.specs.declared.instr.Instr.{Instr}
 use Rattle.pef_reloc.specs.Instrs.{instrs_fit, program_length, spelled}
 use Rattle.pef_reloc.specs.Unrolled.{instrs_of, program_fault}
-use Rattle.pef_reloc.proofs.Laws.{instrs_of-fit, some_length, spelled-instrs_of, spelled-nothing}
-use Rattle.pef_words.proofs.Laws.Tests.{met_both}
+use Rattle.pef_reloc.proofs.Laws.{instrs_of-fit, length-spelled, some_length, spelled-instrs_of, spelled-nothing}
 use Rattle.pef_words.specs.Refusals.{◌>>=◌}
 use Rattle.pef_cert_text.specs.declared.fields.Head.{Head}
 use Rattle.pef_cert_text.specs.declared.fields.Head.TheVariants.{Section, End}
 use Rattle.pef_cert_text.specs.Lines.{bytes_spelled, fixups_line, head_line, length_line, most_text_fixups, most_text_registers, number_line, program_in, program_line, registers_in, registers_line, row_line, version_line}
 use Rattle.pef_cert_text.specs.Printed.{IsNumber, IsRow, halfword_words, number_words, program_words, words_text}
 use Rattle.pef_cert_text.specs.Words.{behind, bytes_in, digit_in, ended, first_of, halfword_in, halfwords_in, none_left, numbers_in, provided, words_of}
-use Rattle.pef_cert_text.proofs.RoundLemmas.{ArePairs, length-spelled}
+use Rattle.pef_cert_text.proofs.RoundLemmas.{ArePairs}
 use Rattle.pef_cert_text.proofs.WordsRead.{decimal_number-is, first_of-some, is_word, line-is, none_left-true, numbers_in-are, provided-some, then_some}
 
 -- a name and a number
@@ -106,7 +105,7 @@ registers_line-is line registers is =
     then_some (behind (codes "registers") (words_of line)) (λ words. registers_in words >>= λ rs. provided (rises rs && nat_le (length rs) most_text_registers) rs) registers is (λ words begins rest.
     then_some (registers_in words) (λ rs. provided (rises rs && nat_le (length rs) most_text_registers) rs) registers rest (λ rs said last.
     let p = provided-some (rises rs && nat_le (length rs) most_text_registers) rs registers last in
-    let tests = met_both (rises rs) (nat_le (length rs) most_text_registers) p.0 in
+    let tests = and_parts (rises rs) (nat_le (length rs) most_text_registers) p.0 in
     let q = registers_in-are words rs said in
     subst (RegistersText line) p.1 (record {
       text = line-is line (codes "registers") words (number_words rs ++ codes "*" ∷ []) begins q.0;
@@ -129,7 +128,7 @@ row_line-is width at line row is =
     then_some (decimal_number index.0) (λ number. numbers_in index.1 >>= λ labels. provided (number == at && length labels == width) labels) row others (λ number spelled more.
     then_some (numbers_in index.1) (λ labels. provided (number == at && length labels == width) labels) row more (λ labels said last.
     let p = provided-some (number == at && length labels == width) labels row last in
-    let tests = met_both (number == at) (length labels == width) p.0 in
+    let tests = and_parts (number == at) (length labels == width) p.0 in
     let first = decimal_number-is index.0 number spelled in
     let q = numbers_in-are index.1 labels said in
     let are : words ≡ decimal at ∷ number_words labels = first_of-some words index found ∙ ap₂ (λ (w : List ℕ) (ws : List (List ℕ)). w ∷ ws) (first.0 ∙ ap decimal (eqb-true number at tests.0)) q.0 in
@@ -147,7 +146,7 @@ digit_in-is b d is = by (nat_le 0x30 b && nat_le b 0x39) refl (nat_le 0x41 b && 
         → cond x (Some (b - 0x30)) (cond y (Some (b - 0x37)) None) ≡ Some d → (b ≡ hex_digit d) × (d < 16)
     by true first y second is =
         let same : b - 0x30 ≡ d = cc in
-        let tests = met_both (nat_le 0x30 b) (nat_le b 0x39) first in
+        let tests = and_parts (nat_le 0x30 b) (nat_le b 0x39) first in
         let low = leb-true 0x30 b tests.0 in
         let high = leb-true b 0x39 tests.1 in
         let under : d < 10 = omega (arith, same, low, high) in
@@ -155,7 +154,7 @@ digit_in-is b d is = by (nat_le 0x30 b && nat_le b 0x39) refl (nat_le 0x41 b && 
         (rw (lt-ltb d 10 under) byte, omega (arith, under))
     by false first true second is =
         let same : b - 0x37 ≡ d = cc in
-        let tests = met_both (nat_le 0x41 b) (nat_le b 0x46) second in
+        let tests = and_parts (nat_le 0x41 b) (nat_le b 0x46) second in
         let low = leb-true 0x41 b tests.0 in
         let high = leb-true b 0x46 tests.1 in
         let over : 10 ≤ d = omega (arith, same, low) in
@@ -270,7 +269,7 @@ program_line-is halfwords line instrs is =
     then_some (behind (codes "program") (words_of line)) (λ words. bytes_spelled words >>= λ bytes. program_in halfwords bytes) instrs is (λ words begins rest.
     then_some (bytes_spelled words) (λ bytes. program_in halfwords bytes) instrs rest (λ bytes said last.
     let p = provided-some (length bytes == 2 * halfwords && is_none (program_fault bytes)) (instrs_of bytes) instrs last in
-    let tests = met_both (length bytes == 2 * halfwords) (is_none (program_fault bytes)) p.0 in
+    let tests = and_parts (length bytes == 2 * halfwords) (is_none (program_fault bytes)) p.0 in
     let q = bytes_spelled-are words bytes said in
     let are = pairs-bytes bytes q.0 in
     let fine = is_none-true (program_fault bytes) tests.1 in

@@ -1,11 +1,11 @@
 -- Texts are printed part by part.
-use Rattle.std.proofs.Common.{◌≡◌, ℕ, zero, suc, ◌+◌, ◌-◌, ◌<◌, ◌≤◌, true, List, [], ◌∷◌, ◌++◌, length, drop, get_or, replicate, refl, sym, ap, ◌∙◌, append_assoc, arith, drop-cons}
+use Rattle.std.proofs.Common.{◌≡◌, ℕ, zero, suc, ◌+◌, ◌-◌, ◌<◌, ◌≤◌, true, List, [], ◌∷◌, ◌++◌, length, drop, get_or, replicate, refl, sym, ap, ◌∙◌, append_assoc, arith}
 use Rattle.std.specs.Prelude.{codes, decimal}
-use Rattle.std.proofs.lemmas.List.{append-nil, drop_all}
+use Rattle.std.proofs.lemmas.List.{append-nil, drop_all, drop_more}
 use Rattle.pef_reloc.specs.declared.instr.Instr.{Instr}
 use Rattle.pef_reloc.specs.Instrs.{halfword_bytes, halfwords_of, instr_fits, instrs_fit, spelled}
 use Rattle.pef_reloc.proofs.Laws.{spelled-nothing, spelled-one}
-use Rattle.pef_words.proofs.Laws.Tests.{met_both}
+use Rattle.std.proofs.lemmas.Bool.{and_parts}
 use Rattle.pef_cert_text.specs.Printed.{halfword_words, line_text, number_words, rows_text, words_text}
 
 -- words behind words
@@ -28,19 +28,16 @@ instrs_text-one instr instrs =
     ∙ ap words_text (halfword_words-append (halfwords_of instr) (spelled instrs))
     ∙ words_text-append (halfword_words (halfword_bytes (halfwords_of instr))) (halfword_words (spelled instrs))
 
-next_instr : (xs : List Instr) (i : ℕ) (d : Instr) → i < length xs → drop i xs ≡ get_or xs i d ∷ drop (i + 1) xs
-next_instr xs i d under = let one : i + 1 ≡ suc i = omega arith in rw one (drop-cons xs i d under)
-
 pub instrs_text-more : (xs : List Instr) (i : ℕ) (d : Instr) (done more total : List ℕ) → i < length xs → more ≡ done ++ words_text (halfword_words (halfword_bytes (halfwords_of (get_or xs i d))))
     → done ++ instrs_text (drop i xs) ≡ total → more ++ instrs_text (drop (i + 1) xs) ≡ total
 instrs_text-more xs i d done more total under grown left =
     ap (λ (t : List ℕ). t ++ instrs_text (drop (i + 1) xs)) grown
     ∙ append_assoc done (words_text (halfword_words (halfword_bytes (halfwords_of (get_or xs i d))))) (instrs_text (drop (i + 1) xs))
-    ∙ ap (λ (t : List ℕ). done ++ t) (sym (instrs_text-one (get_or xs i d) (drop (i + 1) xs)) ∙ ap instrs_text (sym (next_instr xs i d under)))
+    ∙ ap (λ (t : List ℕ). done ++ t) (sym (instrs_text-one (get_or xs i d) (drop (i + 1) xs)) ∙ ap instrs_text (sym (drop_more xs i d under)))
     ∙ left
 
 pub instrs_fit-more : (xs : List Instr) (i : ℕ) (d : Instr) → i < length xs → instrs_fit (drop i xs) ≡ true → instrs_fit (drop (i + 1) xs) ≡ true
-instrs_fit-more xs i d under fit = (met_both (instr_fits (get_or xs i d)) (instrs_fit (drop (i + 1) xs)) (ap instrs_fit (sym (next_instr xs i d under)) ∙ fit)).1
+instrs_fit-more xs i d under fit = (and_parts (instr_fits (get_or xs i d)) (instrs_fit (drop (i + 1) xs)) (ap instrs_fit (sym (drop_more xs i d under)) ∙ fit)).1
 
 pub instrs_text-none : (xs : List Instr) (i : ℕ) (done : List ℕ) → length xs ≤ i → done ++ instrs_text (drop i xs) ≡ done
 instrs_text-none xs i done past =

@@ -6,7 +6,7 @@ use Rattle.pef_reloc.specs.declared.instr.Instr.{Instr}
 use Rattle.pef_cert_text.specs.declared.fault.CertFault.{CertFault}
 use Rattle.pef_cert_text.specs.Kept.Reading.{Says}
 use Rattle.pef_cert_text.specs.Lines.{bytes_spelled, program_in, program_line}
-use Rattle.pef_cert_text.specs.Views.{Fails}
+use Rattle.pef_cert_text.specs.Views.{FailsAs}
 use Rattle.pef_words.specs.Refusals.{◌>>=◌}
 use Rattle.pef_cert_text.specs.Words.{behind, words_of}
 use Rattle.pef_cert_text.proofs.ReadLemmas.{fails_first, said_first, then_read}
@@ -21,7 +21,7 @@ program_line-behind halfwords line words first = rw first (by (bytes_spelled wor
     by (Some bytes) = refl
 
 -- the bytes' fault is the line's
-pub program_fails : (fault : CertFault) (number halfwords : ℕ) (line : List ℕ) (words : List (List ℕ)) → behind (codes "program") (words_of line) ≡ Some words → Fails fault (ok_or (bytes_spelled words) number) → Fails fault (ok_or (program_line halfwords line) number)
+pub program_fails : (fault : CertFault) (number halfwords : ℕ) (line : List ℕ) (words : List (List ℕ)) → behind (codes "program") (words_of line) ≡ Some words → FailsAs fault (ok_or (bytes_spelled words) number) → FailsAs fault (ok_or (program_line halfwords line) number)
 program_fails fault number halfwords line words first is = rw (program_line-behind halfwords line words first) (fails_first fault number (bytes_spelled words) (program_in halfwords) is)
 
 -- their program is the line's

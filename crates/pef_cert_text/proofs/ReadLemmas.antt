@@ -1,14 +1,15 @@
 -- What a line says is what is read from it.
-use Rattle.std.proofs.Common.{◌≡◌, ℕ, suc, ◌+◌, ◌-◌, ◌<◌, ◌≤◌, List, [], ◌∷◌, ◌++◌, Option, None, Some, Result, Ok, Err, length, refl, arith, ap, sym, subst, ◌∙◌}
+use Rattle.std.proofs.Common.{◌≡◌, ℕ, suc, ◌+◌, ◌-◌, ◌<◌, ◌≤◌, List, [], ◌∷◌, ◌++◌, Option, None, Some, Result, Ok, Err, length, refl, arith, ap, sym, ◌∙◌}
 use Rattle.std.specs.Option.{ok_or}
 use Rattle.pef_labels.specs.Certified.{Certified}
+use Rattle.pef_words.specs.Results.{◌>>=◌}
 use Rattle.pef_cert_text.specs.declared.fault.CertFault.{CertFault}
 use Rattle.pef_cert_text.specs.declared.fault.CertFault.TheVariants.{BadCertificate, OutOfMemory}
 use Rattle.pef_cert_text.specs.declared.fields.Head.TheVariants.{Section}
 use Rattle.pef_cert_text.specs.declared.lines.Line.{Line}
-use Rattle.pef_cert_text.specs.Grammar.{◌>>=◌, Left, certificate_read, certificates_of, certificates_read, headed, line_read, rows_read}
+use Rattle.pef_cert_text.specs.Grammar.{Left, behind_head, certificate_read, certificates_of, certificates_read, line_read, rows_read}
 use Rattle.pef_cert_text.specs.Kept.Reading.{Going, NextLine, Says, Takes}
-use Rattle.pef_cert_text.specs.Views.{Fails}
+use Rattle.pef_cert_text.specs.Views.{FailsAs}
 use Rattle.pef_cert_text.specs.Lines.{head_line, row_line, version_line}
 
 -- where there is no line, its number is refused
@@ -38,17 +39,11 @@ rows_read-more width at count rows left under =
     let e : count - at ≡ suc (count - (at + 1)) = omega arith in
     rw e refl
 
--- and end where none is left
-pub rows_read-done : (width at count : ℕ) (rows : List (List ℕ)) (left : Left) → count ≤ at → rows_read width at (count - at) rows left ≡ Ok (rows, left)
-rows_read-done width at count rows left past =
-    let e : count - at ≡ 0 = omega arith in
-    rw e refl
-
 -- more certificates begin with a line
 pub record GoingOn (text : List ℕ) (certificates : List Certified) (behind : Left) : Type 0 where
   pub most : ℕ
   pub more : length behind.text ≤ most
-  pub whole : (line_read head_line behind >>= λ head. headed head.0 certificates head.1 (certificates_read most)) ≡ certificates_of text
+  pub whole : (line_read head_line behind >>= λ head. behind_head head.0 certificates head.1 (certificates_read most)) ≡ certificates_of text
 
 pub going_on : (text : List ℕ) (certificates : List Certified) (behind : Left) → Going text certificates behind → GoingOn text certificates behind
 going_on text certificates behind g =
@@ -61,7 +56,7 @@ then_read None others = None
 then_read (Some x) others = others x
 
 -- a fault of what comes first is one of the whole
-pub fails_first : {A B : Type 0} (fault : CertFault) (number : ℕ) (first : Option A) (others : A → Option B) → Fails fault (ok_or first number) → Fails fault (ok_or (then_read first others) number)
+pub fails_first : {A B : Type 0} (fault : CertFault) (number : ℕ) (first : Option A) (others : A → Option B) → FailsAs fault (ok_or first number) → FailsAs fault (ok_or (then_read first others) number)
 fails_first (BadCertificate l) number None others is = (let same : number ≡ l = cc in rw same refl)
 fails_first (BadCertificate l) number (Some x) others is = absurd (cc)
 fails_first OutOfMemory number first others is = tt
@@ -72,7 +67,7 @@ said_first None number x is = absurd (cc)
 said_first (Some y) number x is = (let same : y ≡ x = cc in rw same refl)
 
 -- a fault of a step is one of what the step leads to
-pub fails_step : {A B : Type 0} (fault : CertFault) (step : Result A ℕ) (others : A → Result B ℕ) → Fails fault step → Fails fault (step >>= others)
+pub fails_step : {A B : Type 0} (fault : CertFault) (step : Result A ℕ) (others : A → Result B ℕ) → FailsAs fault step → FailsAs fault (step >>= others)
 fails_step (BadCertificate l) (Ok x) others is = absurd (cc)
 fails_step (BadCertificate l) (Err n) others is = (let same : n ≡ l = cc in rw same refl)
 fails_step OutOfMemory step others is = tt
@@ -83,7 +78,7 @@ pub rows_read-step : (width at count : ℕ) (rows : List (List ℕ)) (row : List
 rows_read-step width at count rows row left next under is = sym (rows_read-more width at count rows left under ∙ rw is refl)
 
 -- and where it is refused, they are
-pub rows_read-fails : (fault : CertFault) (width at count : ℕ) (rows : List (List ℕ)) (left : Left) → at < count → Fails fault (line_read (row_line width at) left) → Fails fault (rows_read width at (count - at) rows left)
+pub rows_read-fails : (fault : CertFault) (width at count : ℕ) (rows : List (List ℕ)) (left : Left) → at < count → FailsAs fault (line_read (row_line width at) left) → FailsAs fault (rows_read width at (count - at) rows left)
 rows_read-fails fault width at count rows left under is =
     rw (rows_read-more width at count rows left under) (fails_step fault (line_read (row_line width at) left) (λ row. rows_read width (at + 1) (count - (at + 1)) (rows ++ row.0 ∷ []) row.1) is)
 
@@ -92,7 +87,7 @@ rows_read-fails fault width at count rows left under is =
 abbrev pub whole_text : List ℕ → Left
 whole_text text = record { number = 1; text = text }
 
-pub certificates-fail : (fault : CertFault) (text : List ℕ) → Fails fault (line_read version_line (whole_text text)) → Fails fault (certificates_of text)
+pub certificates-fail : (fault : CertFault) (text : List ℕ) → FailsAs fault (line_read version_line (whole_text text)) → FailsAs fault (certificates_of text)
 unfolding certificates_of
 certificates-fail fault text is = fails_step fault (line_read version_line (whole_text text)) (λ version. certificates_read (length text) [] version.1) is
 
@@ -107,9 +102,3 @@ pub certificates-more : (text : List ℕ) (certificates : List Certified) (behin
 certificates-more text certificates behind head next section certificate going is less certified no_more =
     let g = going_on text certificates behind going in
     record { most = g.most; more = omega (arith, g.more); whole = rw (is, certified) at g.whole }
-
--- what follows a line that is refused is refused, and so is what follows a certificate
-pub certificates-head_fails : (fault : CertFault) (text : List ℕ) (certificates : List Certified) (behind : Left) → Going text certificates behind → Fails fault (line_read head_line behind) → Fails fault (certificates_of text)
-certificates-head_fails fault text certificates behind going is =
-    let g = going_on text certificates behind going in
-    subst (Fails fault) g.whole (fails_step fault (line_read head_line behind) (λ head. headed head.0 certificates head.1 (certificates_read g.most)) is)

@@ -2,15 +2,16 @@
 use Rattle.std.proofs.Common.{◌≡◌, ℕ, zero, suc, ◌+◌, ◌-◌, ◌<◌, ◌≤◌, true, List, [], ◌∷◌, ◌++◌, Some, Ok, length, refl, sym, ap, ◌∙◌, append_assoc, arith}
 use Rattle.std.specs.Prelude.{codes, decimal}
 use Rattle.std.specs.List.{AllByRecursion}
-use Rattle.std.proofs.lemmas.Bool.{le-leb}
+use Rattle.std.proofs.lemmas.Bool.{and_from, le-leb}
 use Rattle.std.proofs.lemmas.List.{append-nil, length-append}
 use Rattle.pef_labels.specs.Certified.{Certified}
 use Rattle.pef_reloc.specs.Instrs.{program_length}
+use Rattle.pef_words.specs.Results.{◌>>=◌}
 use Rattle.pef_cert_text.specs.declared.fields.Head.TheVariants.{Section, End}
-use Rattle.pef_cert_text.specs.Grammar.{◌>>=◌, certificate_read, certificates_of, certificates_read, line_read, row_width}
+use Rattle.pef_cert_text.specs.Grammar.{certificate_read, certificates_of, certificates_read, line_read, row_width}
 use Rattle.pef_cert_text.specs.Lines.{fixups_line, head_line, length_line, most_text_fixups, program_line, registers_line, version_line}
 use Rattle.pef_cert_text.specs.Printed.{IsNumber, Printable, certificate_text, certificates_text, each_text, line_text, number_words, program_words, rows_text, words_text}
-use Rattle.pef_cert_text.proofs.RoundLemmas.{Behind, both, number_line-text, program-above, program_line-text, registers-above, registers_line-text, rows_read-text}
+use Rattle.pef_cert_text.proofs.RoundLemmas.{Behind, number_line-text, program-above, program_line-text, registers-above, registers_line-text, rows_read-text}
 use Rattle.pef_cert_text.proofs.TextLemmas.{above, decimal-above, line_read-line}
 
 assoc : (a b c d e f rest : List ℕ) → (((((a ++ b) ++ c) ++ d) ++ e) ++ f) ++ rest ≡ a ++ (b ++ (c ++ (d ++ (e ++ (f ++ rest)))))
@@ -64,9 +65,9 @@ certificate_read-text c number rest p =
     let fixups_rest = line_text (codes "length") (decimal (program_length c.program) ∷ []) ++ length_rest in
     let count : length c.labels - 1 + 1 ≡ length c.labels = omega (arith, some) in
     let fixups = line_read-line fixups_line number (codes "fixups") (decimal (length c.labels - 1) ∷ []) fixups_rest (length c.labels - 1) refl
-    (both (above 0x20 (decimal (length c.labels - 1))) true (one-above (length c.labels - 1) (omega (arith, most))) refl) (fixups_line-text (length c.labels - 1) (omega (arith, most))) in
+    (and_from (above 0x20 (decimal (length c.labels - 1))) true (one-above (length c.labels - 1) (omega (arith, most))) refl) (fixups_line-text (length c.labels - 1) (omega (arith, most))) in
     let halfwords = line_read-line length_line (number + 1) (codes "length") (decimal (program_length c.program) ∷ []) length_rest (program_length c.program) refl
-    (both (above 0x20 (decimal (program_length c.program))) true (one-above (program_length c.program) p.halfwords) refl) (length_line-text (program_length c.program) p.halfwords) in
+    (and_from (above 0x20 (decimal (program_length c.program))) true (one-above (program_length c.program) p.halfwords) refl) (length_line-text (program_length c.program) p.halfwords) in
     let program = line_read-line (program_line (program_length c.program)) (number + 1 + 1) (codes "program") (program_words c.program) program_rest c.program refl (program-above c.program) (program_line-text c.program p.fits p.readable) in
     let registers = line_read-line registers_line (number + 1 + 1 + 1) (codes "registers") (number_words c.registers ++ codes "*" ∷ []) registers_rest c.registers refl (registers-above c.registers p.registers) (registers_line-text c.registers p.registers p.rising p.few) in
     let rows = rows_read-text (row_width c.registers) 0 [] c.labels (number + 1 + 1 + 1 + 1) rest p.rows (omega (arith, most)) in
@@ -88,7 +89,7 @@ certificates_read-text (suc n) before (c ∷ certificates) number all under =
     let parts : each_text (c ∷ certificates) ++ end_text ≡ line_text (codes "section") (decimal c.section ∷ []) ++ body_text c rest =
     append_assoc (certificate_text c) (each_text certificates) end_text ∙ certificate_text-parts c rest in
     let head = line_read-line head_line number (codes "section") (decimal c.section ∷ []) (body_text c rest) (Section c.section) refl
-    (both (above 0x20 (decimal c.section)) true (one-above c.section p.section) refl) (head_line-text c.section p.section) in
+    (and_from (above 0x20 (decimal c.section)) true (one-above c.section p.section) refl) (head_line-text c.section p.section) in
     let certificate = certificate_read-text c (number + 1) rest p in
     let others = certificates_read-text n (before ++ c ∷ []) certificates certificate.number all.1 (omega arith) in
     rw (parts, head, certificate.is) (others ∙ ap (λ (cs : List Certified). Ok cs) (append_assoc before (c ∷ []) certificates))

@@ -3,27 +3,24 @@ use Rattle.std.proofs.Common.{◌≡◌, ℕ, zero, suc, ◌+◌, ◌*◌, ◌/�
 use Rattle.std.specs.Prelude.{codes, decimal, nat_lt}
 use Rattle.std.specs.List.{AllByRecursion}
 use Rattle.std.specs.Str.{bytes_eq}
-use Rattle.std.proofs.lemmas.Bool.{le-leb, lt-ltb}
-use Rattle.std.proofs.lemmas.List.{append-nil, length-append}
+use Rattle.std.proofs.lemmas.Bool.{and_from, le-leb, lt-ltb}
+use Rattle.std.proofs.lemmas.List.{append-nil}
 use Rattle.pef_cert.specs.Valid.{rises}
 use Rattle.pef_ports.specs.Text.{hex_digit, hex_text}
 use Rattle.pef_reloc.specs.declared.instr.Instr.{Instr}
 use Rattle.pef_reloc.specs.Instrs.{halfword_bytes, halfwords_of, instrs_fit, program_length, spelled}
 use Rattle.pef_reloc.specs.Unrolled.{program_fault}
-use Rattle.pef_reloc.proofs.Laws.{instrs_of-spelled, length_spelling, spelled-nothing, spelled-one, some_length}
+use Rattle.pef_reloc.proofs.Laws.{instrs_of-spelled, spelled-nothing, spelled-one, some_length, length-spelled}
 use Rattle.pef_cert_text.specs.Grammar.{Left, rows_read}
 use Rattle.pef_cert_text.specs.Lines.{bytes_spelled, most_text_registers, number_line, program_line, registers_in, registers_line, row_line}
 use Rattle.pef_cert_text.specs.Printed.{IsNumber, IsRow, halfword_words, line_text, number_words, program_words, rows_text, words_text}
 use Rattle.pef_cert_text.specs.Words.{digit_in, halfword_in, halfwords_in, none_left, numbers_in}
 use Rattle.pef_cert_text.proofs.TextLemmas.{above, all_above, decimal-above, decimal-no_star, decimal_number-decimal, line_read-line, words_of-words}
 
-pub both : (a b : Bool) → a ≡ true → b ≡ true → (a && b) ≡ true
-both a b p q = rw (p, q) refl
-
 -- numbers
 pub numbers-above : (numbers : List ℕ) → AllByRecursion IsNumber numbers → all_above 0x20 (number_words numbers) ≡ true
 numbers-above [] all = refl
-numbers-above (n ∷ numbers) all = both (above 0x20 (decimal n)) (all_above 0x20 (number_words numbers)) (decimal-above n (let small = all.0 in omega (arith, small))) (numbers-above numbers all.1)
+numbers-above (n ∷ numbers) all = and_from (above 0x20 (decimal n)) (all_above 0x20 (number_words numbers)) (decimal-above n (let small = all.0 in omega (arith, small))) (numbers-above numbers all.1)
 
 numbers_in-words : (numbers : List ℕ) → AllByRecursion IsNumber numbers → numbers_in (number_words numbers) ≡ Some numbers
 numbers_in-words [] all = refl
@@ -32,7 +29,7 @@ numbers_in-words (n ∷ numbers) all = rw (decimal_number-decimal n all.0, numbe
 pub number_line-text : (name : List ℕ) (n : ℕ) → above 0x20 name ≡ true → bytes_eq name name ≡ true → IsNumber n → number_line name (name ++ words_text (decimal n ∷ [])) ≡ Some n
 unfolding number_line
 number_line-text name n is same small =
-    rw (words_of-words name (decimal n ∷ []) is (both (above 0x20 (decimal n)) true (decimal-above n (omega arith)) refl), same, decimal_number-decimal n small) refl
+    rw (words_of-words name (decimal n ∷ []) is (and_from (above 0x20 (decimal n)) true (decimal-above n (omega arith)) refl), same, decimal_number-decimal n small) refl
 
 -- registers
 registers_in-words : (registers : List ℕ) → AllByRecursion IsNumber registers → registers_in (number_words registers ++ codes "*" ∷ []) ≡ Some registers
@@ -43,7 +40,7 @@ registers_in-words (n ∷ registers) all =
 
 pub registers-above : (registers : List ℕ) → AllByRecursion IsNumber registers → all_above 0x20 (number_words registers ++ codes "*" ∷ []) ≡ true
 registers-above [] all = refl
-registers-above (n ∷ registers) all = both (above 0x20 (decimal n)) (all_above 0x20 (number_words registers ++ codes "*" ∷ [])) (decimal-above n (let small = all.0 in omega (arith, small))) (registers-above registers all.1)
+registers-above (n ∷ registers) all = and_from (above 0x20 (decimal n)) (all_above 0x20 (number_words registers ++ codes "*" ∷ [])) (decimal-above n (let small = all.0 in omega (arith, small))) (registers-above registers all.1)
 
 pub registers_line-text : (registers : List ℕ) → AllByRecursion IsNumber registers → rises registers ≡ true → length registers ≤ most_text_registers → registers_line (codes "registers" ++ words_text (number_words registers ++ codes "*" ∷ [])) ≡ Some registers
 unfolding registers_line
@@ -113,13 +110,6 @@ pairs-spelled : (instrs : List Instr) → ArePairs (spelled instrs)
 pairs-spelled [] = rw spelled-nothing tt
 pairs-spelled (instr ∷ instrs) = rw (spelled-one instr instrs) (pairs-append (halfword_bytes (halfwords_of instr)) (spelled instrs) (pairs-halfwords (halfwords_of instr)) (pairs-spelled instrs))
 
-pub length-spelled : (instrs : List Instr) → length (spelled instrs) ≡ 2 * program_length instrs
-length-spelled [] = ap length spelled-nothing
-length-spelled (instr ∷ instrs) =
-    let parts = ap length (spelled-one instr instrs) in
-    let sum = length-append (halfword_bytes (halfwords_of instr)) (spelled instrs) in
-    omega (arith, parts, sum, length_spelling instr, length-spelled instrs)
-
 -- a program's words are no `-`, unless it has none
 bytes_spelled-pairs : (bytes : List ℕ) → ArePairs bytes → 0 < length bytes → bytes_spelled (halfword_words bytes) ≡ Some bytes
 bytes_spelled-pairs [] are some = absurd (omega arith)
@@ -180,7 +170,7 @@ rows_read-text width at before (row ∷ rows) number rest all small =
     let words = decimal at ∷ number_words row in
     let parts = append_assoc (line_text (codes "at") words) (rows_text (at + 1) rows) rest in
     let line = line_read-line (row_line width at) number (codes "at") words (rows_text (at + 1) rows ++ rest) row refl
-    (both (above 0x20 (decimal at)) (all_above 0x20 (number_words row)) (decimal-above at (omega arith)) (numbers-above row (all.0).numbers)) (row_line-text width at row (omega arith) all.0) in
+    (and_from (above 0x20 (decimal at)) (all_above 0x20 (number_words row)) (decimal-above at (omega arith)) (numbers-above row (all.0).numbers)) (row_line-text width at row (omega arith) all.0) in
     let others = rows_read-text width (at + 1) (before ++ row ∷ []) rows (number + 1) rest all.1 (omega arith) in
     let whole = append_assoc before (row ∷ []) rows in
     record { number = others.number; is = rw (parts, line) (others.is ∙ ap (λ (rs : List (List ℕ)). Ok (rs, record { number = others.number; text = rest })) whole) }

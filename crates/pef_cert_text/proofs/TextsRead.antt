@@ -3,15 +3,17 @@ use Rattle.std.proofs.Common.{◌≡◌, ℕ, zero, suc, ◌+◌, ◌-◌, ◌==
 use Rattle.std.specs.Prelude.{codes, decimal}
 use Rattle.std.specs.List.{AllByRecursion}
 use Rattle.std.proofs.lemmas.Bool.{eqb-true}
-use Rattle.std.proofs.lemmas.List.{append-nil}
+use Rattle.std.proofs.lemmas.List.{append-nil, nil_from_length}
 use Rattle.pef_labels.specs.Certified.{Certified}
 use Rattle.pef_reloc.specs.Instrs.{program_length}
+use Rattle.std.specs.Result.{result_unwrap_or}
+use Rattle.pef_words.specs.Results.{◌>>=◌}
 use Rattle.pef_cert_text.specs.declared.fields.Head.{Head}
 use Rattle.pef_cert_text.specs.declared.fields.Head.TheVariants.{Section, End}
-use Rattle.pef_cert_text.specs.Grammar.{◌>>=◌, Left, certificate_read, certificates_of, certificates_read, headed, line_read, row_width, rows_read, text_ended}
+use Rattle.pef_cert_text.specs.Grammar.{Left, behind_head, certificate_read, certificates_of, certificates_read, line_read, row_width, rows_read, text_ended}
 use Rattle.pef_cert_text.specs.Lines.{fixups_line, head_line, length_line, program_line, registers_line, row_line, version_line}
 use Rattle.pef_cert_text.specs.Printed.{IsNumber, IsRow, Printable, certificate_text, certificates_text, each_text, line_text, number_words, program_words, rows_text, words_text}
-use Rattle.pef_cert_text.proofs.LinesRead.{line_read-ok, step_ok, value_or}
+use Rattle.pef_cert_text.proofs.LinesRead.{line_read-ok, step_ok}
 use Rattle.pef_cert_text.proofs.PartsRead.{HeadText, fixups_line-is, head_line-is, length_line-is, program_line-is, registers_line-is, row_line-is, version_line-is}
 use Rattle.pef_cert_text.proofs.ReadsBack.{body_text, certificate_text-parts, end_text}
 
@@ -30,8 +32,8 @@ record RowsText (width at n : ℕ) (before : List (List ℕ)) (old : Left) (all 
 
 rows_read-are : (width at n : ℕ) (before : List (List ℕ)) (old new : Left) (all : List (List ℕ)) → rows_read width at n before old ≡ Ok (all, new) → RowsText width at n before old all new
 rows_read-are width at zero before old new all is =
-    let same : before ≡ all = ap (λ (r : Result (List (List ℕ) × Left) ℕ). (value_or (all, new) r).0) is in
-    let left : old.text ≡ new.text = ap (λ (r : Result (List (List ℕ) × Left) ℕ). (value_or (all, new) r).1.text) is in
+    let same : before ≡ all = ap (λ (r : Result (List (List ℕ) × Left) ℕ). (result_unwrap_or r (all, new)).0) is in
+    let left : old.text ≡ new.text = ap (λ (r : Result (List (List ℕ) × Left) ℕ). (result_unwrap_or r (all, new)).1.text) is in
     record { more = []; are = sym same ∙ sym (append-nil before); count = refl; text = left; wide = tt }
 rows_read-are width at (suc n) before old new all is =
     step_ok (line_read (row_line width at) old) (λ row. rows_read width (at + 1) n (before ++ row.0 ∷ []) row.1) (all, new) is (λ row first rest.
@@ -67,8 +69,8 @@ certificate_read-is section old new c is =
     line_read-ok length_line fixups.1 halfwords.1 halfwords.0 length_read (λ length_l length_said length_parts.
     line_read-ok (program_line halfwords.0) halfwords.1 program.1 program.0 program_read (λ program_l program_said program_parts.
     line_read-ok registers_line program.1 registers.1 registers.0 registers_read (λ registers_l registers_said registers_parts.
-    let same : record { section = section; program = program.0; registers = registers.0; labels = labels.0 } ≡ c = ap (λ (r : Result (Certified × Left) ℕ). (value_or (c, new) r).0) made in
-    let behind : (labels.1).text ≡ new.text = ap (λ (r : Result (Certified × Left) ℕ). (value_or (c, new) r).1.text) made in
+    let same : record { section = section; program = program.0; registers = registers.0; labels = labels.0 } ≡ c = ap (λ (r : Result (Certified × Left) ℕ). (result_unwrap_or r (c, new)).0) made in
+    let behind : (labels.1).text ≡ new.text = ap (λ (r : Result (Certified × Left) ℕ). (result_unwrap_or r (c, new)).1.text) made in
     let f = fixups_line-is fixups_l fixups.0 fixups_said in
     let few = f.1 in
     let h = length_line-is length_l halfwords.0 length_said in
@@ -109,10 +111,6 @@ record CertificatesText (before : List Certified) (old : Left) (all : List Certi
   printable : AllByRecursion Printable more
   text : old.text ≡ each_text more ++ end_text
 
-nothing : {A : Type 0} (xs : List A) → length xs ≡ 0 → xs ≡ []
-nothing [] none = refl
-nothing (x ∷ xs) none = absurd (omega (arith, none))
-
 -- the text ends
 ended-are : (before all : List Certified) (old left : Left) (line : List ℕ) → line ≡ codes "end" ++ words_text [] → old.text ≡ line ++ 0x0A ∷ left.text → text_ended before left ≡ Ok all → CertificatesText before old all
 ended-are before all old left line is parts read = by (length left.text == 0) refl read
@@ -124,7 +122,7 @@ ended-are before all old left line is parts read = by (length left.text == 0) re
           more = [];
           are = sym same ∙ sym (append-nil before);
           printable = tt;
-          text = line_in old.text (codes "end") left.text [] line parts is ∙ ap (λ (t : List ℕ). line_text (codes "end") [] ++ t) (nothing left.text (eqb-true (length left.text) 0 none));
+          text = line_in old.text (codes "end") left.text [] line parts is ∙ ap (λ (t : List ℕ). line_text (codes "end") [] ++ t) (nil_from_length left.text (eqb-true (length left.text) 0 none));
         }
     by false none read = absurd (cc)
 
@@ -142,7 +140,7 @@ one_more section before all old left next line c is parts one others = record {
       ∙ sym (append_assoc (certificate_text c) (each_text others.more) end_text);
 }
 
-headed-are : (n : ℕ) (head : Head) (before all : List Certified) (old left : Left) (line : List ℕ) → HeadText head line → old.text ≡ line ++ 0x0A ∷ left.text → headed head before left (certificates_read n) ≡ Ok all
+headed-are : (n : ℕ) (head : Head) (before all : List Certified) (old left : Left) (line : List ℕ) → HeadText head line → old.text ≡ line ++ 0x0A ∷ left.text → behind_head head before left (certificates_read n) ≡ Ok all
     → ((others : List Certified) (next : Left) → certificates_read n others next ≡ Ok all → CertificatesText others next all) → CertificatesText before old all
 headed-are n End before all old left line is parts read others = ended-are before all old left line is parts read
 headed-are n (Section section) before all old left line is parts read others =
@@ -152,7 +150,7 @@ headed-are n (Section section) before all old left line is parts read others =
 certificates_read-are : (n : ℕ) (before all : List Certified) (old : Left) → certificates_read n before old ≡ Ok all → CertificatesText before old all
 certificates_read-are zero before all old is = absurd (cc)
 certificates_read-are (suc n) before all old is =
-    step_ok (line_read head_line old) (λ head. headed head.0 before head.1 (certificates_read n)) all is (λ head first rest.
+    step_ok (line_read head_line old) (λ head. behind_head head.0 before head.1 (certificates_read n)) all is (λ head first rest.
     line_read-ok head_line old head.1 head.0 first (λ line said parts.
     headed-are n head.0 before all old head.1 line (head_line-is line head.0 said) parts rest (λ others next read. certificates_read-are n others all next read)))
 

@@ -4,7 +4,6 @@ use Rattle.std.specs.Prelude.{slice_index_or}
 use Rattle.std.specs.List.{AllByRecursion}
 use Rattle.std.proofs.lemmas.Bool.Decides.{eqb_tells}
 use Rattle.std.proofs.Math.Nat.{div-add-mod, div-lt_iff_lt-mul, mod-lt}
-use Rattle.pef_words.proofs.Laws.Tests.{met_both}
 use Rattle.pef_reloc.specs.declared.fixup.Fixup.{Fixup}
 use Rattle.pef_reloc.specs.Deliveries.{index_past}
 use Rattle.pef_reloc.specs.Fixups.{fixup_fits, fixups_fit}
@@ -14,6 +13,7 @@ use Rattle.pef_cert.specs.Labels.{Labels, class_of, classes}
 use Rattle.pef_labels.specs.Certified.{Certified}
 use Rattle.pef_cert.specs.Valid.{Valid, is_among, labels_of}
 use Rattle.pef_cert.proofs.Laws.{World, class_of-below, extension-small, few_rising, label-extension, whole_world, world-first, world-next}
+use Rattle.std.proofs.lemmas.Bool.{and_parts}
 use Rattle.pef_cert_text.specs.Grammar.{row_width}
 use Rattle.pef_cert_text.specs.Printed.{IsNumber, IsRow, Printable}
 use Rattle.pef_reloc.specs.Limits.{most_sections}
@@ -115,7 +115,7 @@ valid_prints fixups c fit valid section =
     let count = valid.rows in
     record {
       section = section;
-      fits = (met_both (repeat_free c.program) (instrs_fit c.program) valid.flat).1;
+      fits = (and_parts (repeat_free c.program) (instrs_fit c.program) valid.flat).1;
       readable = program_fault-spelled c.program valid.flat (omega (arith, instrs, short, few));
       halfwords = omega (arith, short, few);
       rising = valid.registers.rising;

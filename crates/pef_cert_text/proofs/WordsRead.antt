@@ -3,14 +3,13 @@ use Rattle.std.proofs.Common.{◌≡◌, ℕ, ◌+◌, ◌*◌, ◌-◌, ◌/◌
 use Rattle.std.specs.Prelude.{decimal, nat_le, nat_lt}
 use Rattle.std.specs.List.{AllByRecursion}
 use Rattle.std.specs.Str.{bytes_eq}
-use Rattle.std.proofs.lemmas.Bool.{eqb-false, eqb-true, leb-true, ltb-true}
+use Rattle.std.proofs.lemmas.Bool.{and_parts, eqb-false, eqb-true, leb-true, ltb-true}
 use Rattle.std.proofs.lemmas.Fmt.{decimal_digit, decimal_step}
 use Rattle.std.proofs.lemmas.List.{append-nil}
 use Rattle.std.proofs.lemmas.Option.{option_and_then_some}
 use Rattle.std.proofs.lemmas.Slice.Eq.{bytes_eq-Decides}
 use Rattle.pef_lines.specs.Lines.{longer_first}
-use Rattle.pef_lines.specs.Numbers.{below, decimal_number, digits_value, hex_digit, zero_before}
-use Rattle.pef_words.proofs.Laws.Tests.{met_both}
+use Rattle.pef_lines.specs.Numbers.{below, decimal_number, digits_value, hex_value, zero_before}
 use Rattle.pef_words.specs.Refusals.{◌>>=◌}
 use Rattle.pef_cert_text.specs.Printed.{IsNumber, number_words, words_text}
 use Rattle.pef_cert_text.specs.Words.{behind, first_of, none_left, numbers_in, provided, words_of}
@@ -78,34 +77,34 @@ below-some limit (Some n) d is = by (nat_lt n limit) refl is
     by false under is = absurd (cc)
 
 -- a decimal digit is the byte of its value
-digit-is : (b d : ℕ) → hex_digit b ≡ Some d → d < 10 → b ≡ 48 + d
+digit-is : (b d : ℕ) → hex_value b ≡ Some d → d < 10 → b ≡ 48 + d
 digit-is b d is under = by (nat_le 0x30 b && nat_le b 0x39) refl (nat_le 0x41 b && nat_le b 0x46) refl (nat_le 0x61 b && nat_le b 0x66) refl is
   where
     by : (x : Bool) → (nat_le 0x30 b && nat_le b 0x39) ≡ x → (y : Bool) → (nat_le 0x41 b && nat_le b 0x46) ≡ y → (z : Bool) → (nat_le 0x61 b && nat_le b 0x66) ≡ z
         → cond x (Some (b - 0x30)) (cond y (Some (b - 0x37)) (cond z (Some (b - 0x57)) None)) ≡ Some d → b ≡ 48 + d
     by true first y second z third is =
         let same : b - 0x30 ≡ d = cc in
-        let low = leb-true 0x30 b (met_both (nat_le 0x30 b) (nat_le b 0x39) first).0 in
+        let low = leb-true 0x30 b (and_parts (nat_le 0x30 b) (nat_le b 0x39) first).0 in
         omega (arith, same, low)
     by false first true second z third is =
         let same : b - 0x37 ≡ d = cc in
-        let low = leb-true 0x41 b (met_both (nat_le 0x41 b) (nat_le b 0x46) second).0 in
+        let low = leb-true 0x41 b (and_parts (nat_le 0x41 b) (nat_le b 0x46) second).0 in
         absurd (omega (arith, same, low))
     by false first false second true third is =
         let same : b - 0x57 ≡ d = cc in
-        let low = leb-true 0x61 b (met_both (nat_le 0x61 b) (nat_le b 0x66) third).0 in
+        let low = leb-true 0x61 b (and_parts (nat_le 0x61 b) (nat_le b 0x66) third).0 in
         absurd (omega (arith, same, low))
     by false first false second false third is = absurd (cc)
 
-below-digit : (b d : ℕ) → below 10 (hex_digit b) ≡ Some d → (b ≡ 48 + d) × (d < 10)
+below-digit : (b d : ℕ) → below 10 (hex_value b) ≡ Some d → (b ≡ 48 + d) × (d < 10)
 below-digit b d is =
-    let p = below-some 10 (hex_digit b) d is in
+    let p = below-some 10 (hex_value b) d is in
     (digit-is b d p.0 p.1, p.1)
 
 -- digits lead to no smaller number
 digits_value-least : (so_far n : ℕ) (bytes : List ℕ) → digits_value 10 so_far bytes ≡ Some n → so_far ≤ n
 digits_value-least so_far n [] is = (let same : so_far ≡ n = cc in omega (arith, same))
-digits_value-least so_far n (b ∷ bytes) is = option_and_then_some (λ d. digits_value 10 (so_far * 10 + d) bytes) (below 10 (hex_digit b)) n is
+digits_value-least so_far n (b ∷ bytes) is = option_and_then_some (λ d. digits_value 10 (so_far * 10 + d) bytes) (below 10 (hex_value b)) n is
     (λ d digit later. (let least = digits_value-least (so_far * 10 + d) n bytes later in omega (arith, least)))
 
 -- digits behind those of a number are those of the number that they lead to
@@ -113,7 +112,7 @@ digits_value-decimal : (so_far n : ℕ) (bytes : List ℕ) → 0 < so_far → n 
 digits_value-decimal so_far n [] some small is =
     let same : so_far ≡ n = cc in
     append-nil (decimal so_far) ∙ ap decimal same
-digits_value-decimal so_far n (b ∷ bytes) some small is = option_and_then_some (λ d. digits_value 10 (so_far * 10 + d) bytes) (below 10 (hex_digit b)) n is
+digits_value-decimal so_far n (b ∷ bytes) some small is = option_and_then_some (λ d. digits_value 10 (so_far * 10 + d) bytes) (below 10 (hex_value b)) n is
     (λ d digit later.
     let p = below-digit b d digit in
     let byte = p.0 in
@@ -142,7 +141,7 @@ decimal_number-is (b ∷ bytes) n is = by (b == 0x30) refl is
     by false lead is =
         let p = below-some (2 ^ 32) (digits_value 10 0 (b ∷ bytes)) n is in
         let small = p.1 in
-        option_and_then_some (λ d. digits_value 10 (0 * 10 + d) bytes) (below 10 (hex_digit b)) n p.0
+        option_and_then_some (λ d. digits_value 10 (0 * 10 + d) bytes) (below 10 (hex_value b)) n p.0
         (λ d digit later.
         let q = below-digit b d digit in
         let byte = q.0 in

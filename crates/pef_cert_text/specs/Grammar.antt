@@ -5,15 +5,10 @@ use Rattle.std.specs.Prelude.{ℕ, zero, suc, ◌+◌, ◌*◌, ◌==◌, List, 
 use Rattle.std.specs.Option.{ok_or}
 use Rattle.pef_labels.specs.Certified.{Certified}
 use Rattle.pef_lines.specs.Lines.{cut_at}
+use Rattle.pef_words.specs.Results.{◌>>=◌}
 use Rattle.pef_cert_text.specs.declared.fields.Head.{Head}
 use Rattle.pef_cert_text.specs.declared.fields.Head.TheVariants.{Section, End}
 use Rattle.pef_cert_text.specs.Lines.{version_line, head_line, fixups_line, length_line, program_line, registers_line, row_line}
-
--- what a step that was not refused leads to
-infixl 10 ◌>>=◌
-abbrev pub ◌>>=◌ : {A B : Type 0} → Result A ℕ → (A → Result B ℕ) → Result B ℕ
-(Ok x) >>= f = f x
-(Err line) >>= f = Err line
 
 -- what is left of a text, and the number of its first line
 pub record Left : Type 0 where
@@ -53,9 +48,9 @@ abbrev pub text_ended : List Certified → Left → Result (List Certified) ℕ
 text_ended certificates left = if length left.text == 0 then Ok certificates else Err left.number
 
 -- a line begins a certificate, behind which there are others, or ends the text
-abbrev pub headed : Head → List Certified → Left → (List Certified → Left → Result (List Certified) ℕ) → Result (List Certified) ℕ
-headed End certificates left others = text_ended certificates left
-headed (Section section) certificates left others = do
+abbrev pub behind_head : Head → List Certified → Left → (List Certified → Left → Result (List Certified) ℕ) → Result (List Certified) ℕ
+behind_head End certificates left others = text_ended certificates left
+behind_head (Section section) certificates left others = do
   certificate ← certificate_read section left
   others (certificates ++ certificate.0 ∷ []) certificate.1
 
@@ -64,7 +59,7 @@ abbrev pub certificates_read : ℕ → List Certified → Left → Result (List 
 certificates_read zero certificates left = Err left.number
 certificates_read (suc n) certificates left = do
   head ← line_read head_line left
-  headed head.0 certificates head.1 (certificates_read n)
+  behind_head head.0 certificates head.1 (certificates_read n)
 
 -- the certificates that a text has, or the number of the line that is refused. There are fewer than it has bytes
 unfoldable pub certificates_of : List ℕ → Result (List Certified) ℕ

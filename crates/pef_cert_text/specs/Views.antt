@@ -5,10 +5,10 @@ use Rattle.pef_cert_text.specs.declared.fault.CertFault.TheVariants.{BadCertific
 
 -- an answer is the one that was wanted, where there was memory for it
 
-abbrev pub Fails : {A : Type 0} → CertFault → Result A ℕ → Type 0
-Fails (BadCertificate line) wanted = wanted ≡ Err line
-Fails OutOfMemory wanted = Unit {0}
+abbrev pub FailsAs : {A : Type 0} → CertFault → Result A ℕ → Type 0
+FailsAs (BadCertificate line) wanted = wanted ≡ Err line
+FailsAs OutOfMemory wanted = Unit {0}
 
-abbrev pub Reads : {A : Type 0} → Result A CertFault → Result A ℕ → Type 0
-Reads (Ok x) wanted = wanted ≡ Ok x
-Reads (Err fault) wanted = Fails fault wanted
+abbrev pub ReadsAs : {A : Type 0} → Result A CertFault → Result A ℕ → Type 0
+ReadsAs (Ok x) wanted = wanted ≡ Ok x
+ReadsAs (Err fault) wanted = FailsAs fault wanted

@@ -55,7 +55,7 @@ impl fmt::Display for CertFault {
 
     fn fmt<W: fmt::Write>(&self, f: &mut fmt::Formatter<W>) -> fmt::Result {
         match self {
-            CertFault::BadCertificate { line } => write!(f, "BadCertificate line {line}"),
+            CertFault::BadCertificate { line } => write!(f, "{} line {line}", self.name()),
             CertFault::OutOfMemory => f.write_str(self.name()),
         }
     }

@@ -5,7 +5,7 @@ ghost use Rattle.pef_cert_text.specs.Grammar.{certificate_read, certificates_of,
 ghost use Rattle.pef_cert_text.specs.Kept.Reading.{Takes, left};
 ghost use Rattle.pef_cert_text.specs.Lines.{fixups_line, head_line, length_line, program_line, registers_line, row_line, version_line};
 ghost use Rattle.pef_cert_text.specs.Printed.{Printable};
-ghost use Rattle.pef_cert_text.specs.Views.{Reads};
+ghost use Rattle.pef_cert_text.specs.Views.{ReadsAs};
 
 use crate::CertFault;
 use crate::fields::{Head, fixups_line, head_line, length_line, version_line};
@@ -24,7 +24,7 @@ use std::alloc::Global;
 /// before it, or, where a line is missing, of the one behind the last; `OutOfMemory`.
 #[tactic(auto, using(crate::proofs::TextsRead::read_can_be_printed))]
 pub fn read(alloc: Global, text: &[u8]) -> Result<Vec<Certificate>, CertFault>
-    ensures certificates { Reads (result_map (λ v. v.items) result) (certificates_of text.now) }
+    ensures certificates { ReadsAs (result_map (λ v. v.items) result) (certificates_of text.now) }
     ensures printable { IfOk result (λ v. AllByRecursion Printable v.items) }
 {
     let mut lines = Lines::new(text);

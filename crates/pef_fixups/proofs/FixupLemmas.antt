@@ -5,7 +5,7 @@ use Rattle.pef_reloc.specs.declared.fixup.Base.{Base}
 use Rattle.pef_reloc.specs.declared.fixup.Base.TheVariants.{Section, Import}
 use Rattle.pef_reloc.specs.declared.fixup.Fixup.{Fixup}
 use Rattle.pef_reloc.specs.Steps.{added}
-use Rattle.pef_words.proofs.Laws.Tests.{met_both}
+use Rattle.std.proofs.lemmas.Bool.{and_parts}
 use Rattle.pef_fixups.specs.Additions.{is_added, same_base}
 
 -- a base is itself, and one that passes for it is it
@@ -32,7 +32,7 @@ is_added-refl p b f is = rw (is, eq-eqb p p refl, same_base-refl b) refl
 
 pub is_added-is : (p : ℕ) (b : Base) (f : Fixup) → is_added p b f ≡ true → f ≡ added p b
 is_added-is p b f e =
-    let both = met_both (f.offset == p) (same_base f.base b) e in
+    let both = and_parts (f.offset == p) (same_base f.base b) e in
     let base = same_base-is f.base b both.1 in
     elim (eqb_tells f.offset p) [
       | inl same ↦ (λ i. record { offset = same.1 i; base = base i })

@@ -1,5 +1,5 @@
 -- A program's way along fixups: it is flat and makes them just where it gets to their end.
-use Rattle.std.proofs.Common.{◌≡◌, ℕ, suc, ◌+◌, ◌-◌, ◌<◌, ◌≤◌, inl, inr, Bool, true, false, ◌==◌, List, [], ◌∷◌, ◌++◌, length, cond, Option, None, Some, refl, ap, sym, ◌∙◌, arith}
+use Rattle.std.proofs.Common.{◌≡◌, ℕ, ◌+◌, ◌-◌, ◌<◌, ◌≤◌, inl, inr, Bool, true, false, ◌==◌, List, [], ◌∷◌, ◌++◌, length, cond, Option, None, Some, refl, ap, sym, ◌∙◌, arith}
 use Rattle.std.specs.Option.{option_and_then}
 use Rattle.std.proofs.Math.Path.{ap₂}
 use Rattle.std.proofs.lemmas.Bool.Decides.{eqb_tells}
@@ -9,7 +9,7 @@ use Rattle.pef_reloc.specs.declared.fixup.Fixup.{Fixup}
 use Rattle.pef_reloc.specs.declared.instr.Instr.{Instr}
 use Rattle.pef_reloc.specs.Deliveries.{is_flat_instr}
 use Rattle.pef_reloc.specs.Steps.{Makes, State, added, additions, is_flat, next_state, numbered, pairs, row, start, state_after, trace}
-use Rattle.pef_reloc.proofs.Laws.{flat_parts, flat_more}
+use Rattle.pef_reloc.proofs.Laws.{flat_parts, flat_more, row-more, row-end, pairs-more, pairs-end, numbered-more, numbered-end}
 use Rattle.pef_fixups.specs.Additions.{behind, behind_first, is_added}
 use Rattle.pef_fixups.specs.Answers.{Says}
 use Rattle.pef_fixups.specs.Kept.Walks.{Place, passed, placed, start_place, stepped, walked}
@@ -38,71 +38,44 @@ behind_none a made left all so first = ap (option_and_then (behind made)) first 
 behind_nothing : (made left : List Fixup) (all : Option (List Fixup)) → made ≡ [] → behind made left ≡ all → Some left ≡ all
 behind_nothing made left all none so = ap (λ made. behind made left) (sym none) ∙ so
 
--- along words
-row_more : (n i p w : ℕ) (b : Base) → i < n → row (n - i) p w b ≡ added p b ∷ row (n - (i + 1)) (p + w) w b
-unfolding row
-row_more n i p w b under = let steps : n - i ≡ suc (n - (i + 1)) = omega arith in ap (λ m. row m p w b) steps
-
-row_end : (n i p w : ℕ) (b : Base) → n ≤ i → row (n - i) p w b ≡ []
-unfolding row
-row_end n i p w b past = let none : n - i ≡ 0 = omega arith in ap (λ m. row m p w b) none
-
 pub words-next : (n i p w : ℕ) (b : Base) (left rest : List Fixup) (all : Option (List Fixup)) → i < n → behind (row (n - i) p w b) left ≡ all → Some rest ≡ behind_first p b left → behind (row (n - (i + 1)) (p + w) w b) rest ≡ all
 words-next n i p w b left rest all under so first =
-    behind_some (added p b) (row (n - (i + 1)) (p + w) w b) left rest all (ap (λ made. behind made left) (sym (row_more n i p w b under)) ∙ so) first
+    behind_some (added p b) (row (n - (i + 1)) (p + w) w b) left rest all (ap (λ made. behind made left) (sym (row-more n i p w b under)) ∙ so) first
 
 pub words-fail : (n i p w : ℕ) (b : Base) (left : List Fixup) (all : Option (List Fixup)) → i < n → behind (row (n - i) p w b) left ≡ all → None ≡ behind_first p b left → None ≡ all
 words-fail n i p w b left all under so first =
-    behind_none (added p b) (row (n - (i + 1)) (p + w) w b) left all (ap (λ made. behind made left) (sym (row_more n i p w b under)) ∙ so) first
+    behind_none (added p b) (row (n - (i + 1)) (p + w) w b) left all (ap (λ made. behind made left) (sym (row-more n i p w b under)) ∙ so) first
 
 pub words-end : (n i p w : ℕ) (b : Base) (left : List Fixup) (all : Option (List Fixup)) → n ≤ i → behind (row (n - i) p w b) left ≡ all → Some left ≡ all
-words-end n i p w b left all past so = behind_nothing (row (n - i) p w b) left all (row_end n i p w b past) so
-
--- along pairs
-pairs_more : (n i p w : ℕ) (b b' : Base) → i < n → pairs (n - i) p w b b' ≡ added p b ∷ added (p + 4) b' ∷ pairs (n - (i + 1)) (p + w) w b b'
-unfolding pairs
-pairs_more n i p w b b' under = let steps : n - i ≡ suc (n - (i + 1)) = omega arith in ap (λ m. pairs m p w b b') steps
-
-pairs_end : (n i p w : ℕ) (b b' : Base) → n ≤ i → pairs (n - i) p w b b' ≡ []
-unfolding pairs
-pairs_end n i p w b b' past = let none : n - i ≡ 0 = omega arith in ap (λ m. pairs m p w b b') none
+words-end n i p w b left all past so = behind_nothing (row (n - i) p w b) left all (row-end n i p w b past) so
 
 pub pairs-first : (n i p w : ℕ) (b b' : Base) (left rest : List Fixup) (all : Option (List Fixup)) → i < n → behind (pairs (n - i) p w b b') left ≡ all → Some rest ≡ behind_first p b left → behind (added (p + 4) b' ∷ pairs (n - (i + 1)) (p + w) w b b') rest ≡ all
 pairs-first n i p w b b' left rest all under so first =
-    behind_some (added p b) (added (p + 4) b' ∷ pairs (n - (i + 1)) (p + w) w b b') left rest all (ap (λ made. behind made left) (sym (pairs_more n i p w b b' under)) ∙ so) first
+    behind_some (added p b) (added (p + 4) b' ∷ pairs (n - (i + 1)) (p + w) w b b') left rest all (ap (λ made. behind made left) (sym (pairs-more n i p w b b' under)) ∙ so) first
 
 pub pairs-second : (n i p w : ℕ) (b b' : Base) (left rest : List Fixup) (all : Option (List Fixup)) → behind (added (p + 4) b' ∷ pairs (n - (i + 1)) (p + w) w b b') left ≡ all → Some rest ≡ behind_first (p + 4) b' left → behind (pairs (n - (i + 1)) (p + w) w b b') rest ≡ all
 pairs-second n i p w b b' left rest all so first = behind_some (added (p + 4) b') (pairs (n - (i + 1)) (p + w) w b b') left rest all so first
 
 pub pairs-fail : (n i p w : ℕ) (b b' : Base) (left : List Fixup) (all : Option (List Fixup)) → i < n → behind (pairs (n - i) p w b b') left ≡ all → None ≡ behind_first p b left → None ≡ all
 pairs-fail n i p w b b' left all under so first =
-    behind_none (added p b) (added (p + 4) b' ∷ pairs (n - (i + 1)) (p + w) w b b') left all (ap (λ made. behind made left) (sym (pairs_more n i p w b b' under)) ∙ so) first
+    behind_none (added p b) (added (p + 4) b' ∷ pairs (n - (i + 1)) (p + w) w b b') left all (ap (λ made. behind made left) (sym (pairs-more n i p w b b' under)) ∙ so) first
 
 pub pairs-fail_second : (n i p w : ℕ) (b b' : Base) (left : List Fixup) (all : Option (List Fixup)) → behind (added (p + 4) b' ∷ pairs (n - (i + 1)) (p + w) w b b') left ≡ all → None ≡ behind_first (p + 4) b' left → None ≡ all
 pairs-fail_second n i p w b b' left all so first = behind_none (added (p + 4) b') (pairs (n - (i + 1)) (p + w) w b b') left all so first
 
 pub pairs-last : (n i p w : ℕ) (b b' : Base) (left : List Fixup) (all : Option (List Fixup)) → n ≤ i → behind (pairs (n - i) p w b b') left ≡ all → Some left ≡ all
-pairs-last n i p w b b' left all past so = behind_nothing (pairs (n - i) p w b b') left all (pairs_end n i p w b b' past) so
-
--- along imports
-numbered_more : (n i p m : ℕ) → i < n → numbered (n - i) p m ≡ added p (Import m) ∷ numbered (n - (i + 1)) (p + 4) (m + 1)
-unfolding numbered
-numbered_more n i p m under = let steps : n - i ≡ suc (n - (i + 1)) = omega arith in ap (λ k. numbered k p m) steps
-
-numbered_end : (n i p m : ℕ) → n ≤ i → numbered (n - i) p m ≡ []
-unfolding numbered
-numbered_end n i p m past = let none : n - i ≡ 0 = omega arith in ap (λ k. numbered k p m) none
+pairs-last n i p w b b' left all past so = behind_nothing (pairs (n - i) p w b b') left all (pairs-end n i p w b b' past) so
 
 pub imports-next : (n i p m : ℕ) (left rest : List Fixup) (all : Option (List Fixup)) → i < n → behind (numbered (n - i) p m) left ≡ all → Some rest ≡ behind_first p (Import m) left → behind (numbered (n - (i + 1)) (p + 4) (m + 1)) rest ≡ all
 imports-next n i p m left rest all under so first =
-    behind_some (added p (Import m)) (numbered (n - (i + 1)) (p + 4) (m + 1)) left rest all (ap (λ made. behind made left) (sym (numbered_more n i p m under)) ∙ so) first
+    behind_some (added p (Import m)) (numbered (n - (i + 1)) (p + 4) (m + 1)) left rest all (ap (λ made. behind made left) (sym (numbered-more n i p m under)) ∙ so) first
 
 pub imports-fail : (n i p m : ℕ) (left : List Fixup) (all : Option (List Fixup)) → i < n → behind (numbered (n - i) p m) left ≡ all → None ≡ behind_first p (Import m) left → None ≡ all
 imports-fail n i p m left all under so first =
-    behind_none (added p (Import m)) (numbered (n - (i + 1)) (p + 4) (m + 1)) left all (ap (λ made. behind made left) (sym (numbered_more n i p m under)) ∙ so) first
+    behind_none (added p (Import m)) (numbered (n - (i + 1)) (p + 4) (m + 1)) left all (ap (λ made. behind made left) (sym (numbered-more n i p m under)) ∙ so) first
 
 pub imports-end : (n i p m : ℕ) (left : List Fixup) (all : Option (List Fixup)) → n ≤ i → behind (numbered (n - i) p m) left ≡ all → Some left ≡ all
-imports-end n i p m left all past so = behind_nothing (numbered (n - i) p m) left all (numbered_end n i p m past) so
+imports-end n i p m left all past so = behind_nothing (numbered (n - i) p m) left all (numbered-end n i p m past) so
 
 -- what is left, and what was made before it
 first_is : (a f : Fixup) (made rest left : List Fixup) (b : Bool) → is_added a.offset a.base f ≡ b → (behind made rest ≡ Some left → rest ≡ made ++ left) → option_and_then (behind made) (cond b (Some rest) None) ≡ Some left → f ∷ rest ≡ a ∷ (made ++ left)

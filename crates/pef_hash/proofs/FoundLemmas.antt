@@ -106,10 +106,6 @@ begins_behind t s word (suc e) sought ends there some =
 pub ends_inside : (t : ExportTable) (s word : ℕ) → IsSearchable t → slot_word_of t s ≡ Some word → 0 < slot_count word → slot_first word + slot_count word ≤ t.count
 ends_inside t s word sought there some = regular_ends_inside t s word sought.regular there some
 
--- before any slot nothing was counted; one more slot that counts none leaves the end, and one that counts some moves it
-pub end_none : (t : ExportTable) → IsEndOf t 0 0
-end_none t = λ i is. absurd (omega arith)
-
 pub end_kept : (t : ExportTable) (s end : ℕ) → IsEndOf t s end → IsEndOf t (s + 1) end
 end_kept t s end ends = λ i is.
     let b = ends i is in

@@ -1,14 +1,8 @@
 -- What this crate offers to the proofs of others: facts of export tables, as `specs/` defines them.
 
--- what is found by a name is the first export that has it; where none is found, none has it
-pub use Rattle.pef_hash.proofs.NamedExports.{IsFirstNamed, export_named-none, export_named-some}
--- how many slots, keys and places a built table has
-pub use Rattle.pef_hash.proofs.BuiltLemmas.{BuiltLengths, built_lengths}
--- its order names only names that there are
-pub use Rattle.pef_hash.proofs.BuiltLemmas.{built_order}
--- its slot words and its keys have 32 bits
-pub use Rattle.pef_hash.proofs.BuiltLemmas.{built_keys, built_slots}
--- each place of the order is that of a name
+-- what is found by a name is the first export that has it
+pub use Rattle.pef_hash.proofs.NamedExports.{IsFirstNamed, export_named-some}
+-- each place of a built table's order is that of a name
 pub use Rattle.pef_hash.proofs.RegularLemmas.{ordered_name}
 -- the power of a table is at most the greatest
 pub use Rattle.pef_hash.proofs.Slots.{least_power-most}

@@ -1,5 +1,4 @@
 pub mod Laws
-mod BuiltLemmas
 mod FoundLemmas
 mod NamedExports
 mod Places

@@ -1,8 +1,8 @@
 -- Tables whose slots lead to their exports.
-use Rattle.std.proofs.Common.{◌≡◌, ℕ, Bool, true, false, ◌+◌, ◌-◌, ◌^◌, ◌<◌, ◌≤◌, inl, inr, List, Option, None, Some, length, refl, sym, ap, ◌∙◌, arith}
+use Rattle.std.proofs.Common.{◌≡◌, ℕ, false, ◌+◌, ◌-◌, ◌^◌, ◌<◌, ◌≤◌, inl, inr, List, Option, None, Some, length, refl, sym, ap, ◌∙◌, arith}
 use Rattle.std.specs.Prelude.{IsTrue, nat_le, nat_lt}
 use Rattle.std.proofs.Math.Dec.{eqb}
-use Rattle.std.proofs.lemmas.Bool.{and_parts, eq-eqb, leb-true, ltb-true}
+use Rattle.std.proofs.lemmas.Bool.{and_parts, eq-eqb, false_from_ne_true, leb-true, ltb-true}
 use Rattle.std.proofs.lemmas.Bool.Decides.{eqb_tells, leb_tells}
 use Rattle.std.proofs.lemmas.Slice.Eq.{bytes_eq-Decides}
 use Rattle.std.proofs.lemmas.Option.{same_Some}
@@ -52,14 +52,9 @@ leads_nowhere o i is leads = let no = rw is at leads in absurd (cc)
 past_places : (t : ExportTable) (name : List ℕ) (word i : ℕ) → LeadsToAll t → slot_word_of t (slot (hash_word name) t.power) ≡ Some word → (IsCounted word i → ⊥) → named_at t name i ≡ None
 past_places t name word i leads is not = unnamed t name i (λ named. not (leads_word _ word i is (leads i name named).1))
 
--- nor does one that has another key
-not_true : (b : Bool) → (b ≡ true → ⊥) → b ≡ false
-not_true true not = absurd (not refl)
-not_true false not = refl
-
 unnamed_false : (o : Option (List ℕ)) (name : List ℕ) → (o ≡ Some name → ⊥) → option_map_or (λ found. bytes_eq found name) o false ≡ false
 unnamed_false None name not = refl
-unnamed_false (Some found) name not = not_true (bytes_eq found name) (λ same. not (ap Some ((bytes_eq-Decides found name).0 same)))
+unnamed_false (Some found) name not = false_from_ne_true (bytes_eq found name) (λ same. not (ap Some ((bytes_eq-Decides found name).0 same)))
 
 other_key : (o : Option ℕ) (word : ℕ) → option_eq eqb o (Some word) ≡ false → o ≡ Some word → ⊥
 other_key None word other is = absurd (cc)
@@ -81,10 +76,6 @@ pub slotless_none : (t : ExportTable) (name : List ℕ) → LeadsToAll t → slo
 unfolding export_named
 slotless_none t name leads none =
     first_among-none (named_at t name) 0 t.count (λ i low high. unnamed t name i (λ named. leads_nowhere _ i none (leads i name named).1))
-
--- the exports past the last have no name
-past_end : (t : ExportTable) (name : List ℕ) (i : ℕ) → t.count ≤ i → named_at t name i ≡ None
-past_end t name i past = unnamed t name i (λ named. absurd (let under = named_inside t name i named in omega arith))
 
 -- the first export of a name is the first among those that its slot counts
 first_in_places : (t : ExportTable) (name : List ℕ) (word : ℕ) (o : Option ℕ) → LeadsToAll t → slot_word_of t (slot (hash_word name) t.power) ≡ Some word
@@ -166,13 +157,6 @@ turn_regular t turn hashed = record {
         let same : p.word ≡ word = same_Some p.word word (sym p.is ∙ rw at.here there) in
         rw (← same) p.counted),
   );
-}
-
--- before any slot was looked at, and after one more that counts none, or counts behind those before it
-pub turn_none : (t : ExportTable) → AreInTurnTo t 0 0
-turn_none t = record {
-  before = λ r v i less. absurd (omega arith);
-  turn = λ q r v w i j before less. absurd (omega arith);
 }
 
 -- what one more slot counts lies from an old end to a new one

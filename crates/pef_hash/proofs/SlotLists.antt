@@ -1,6 +1,5 @@
 -- The words of a slot: the first of them, the next of them, and how many there are in all.
-use Rattle.std.proofs.Common.{◌≡◌, ◌≢◌, ℕ, zero, suc, ◌+◌, ◌-◌, ◌^◌, ◌<◌, ◌≤◌, inl, inr, List, [], ◌∷◌, ◌++◌, length, get_or, drop, refl, sym, ◌∙◌, ap, arith, append_assoc, append-nil, length-append, drop-cons, add-one}
-use Rattle.std.proofs.Math.ListN.{drop_of_length-le}
+use Rattle.std.proofs.Common.{◌++◌, ◌+◌, ◌-◌, ◌<◌, ◌^◌, ◌∙◌, ◌∷◌, ◌≡◌, ◌≢◌, ◌≤◌, List, [], add-one, ap, append-nil, append_assoc, arith, drop, drop-cons, get_or, inl, inr, length, length-append, refl, suc, sym, zero, ℕ}
 use Rattle.std.proofs.lemmas.Bool.{ne_eqb}
 use Rattle.std.proofs.lemmas.Bool.Decides.{eqb_tells}
 use Rattle.std.proofs.Common.{eq-eqb}
@@ -61,12 +60,6 @@ in_slot-first power s from all (w ∷ words) is =
       | inl same ↦ rw (same.0, is, same.0) refl
       | inr other ↦ rw other.0 later
     ]
-
--- behind the last word there is none
-pub in_slot-end : (power s from : ℕ) (all : List ℕ) → length all ≤ from → in_slot power s from (drop from all) ≡ []
-in_slot-end power s from all past =
-    let none = drop_of_length-le all {i = from} (omega arith) in
-    rw none refl
 
 -- a word of the slot, and those behind it
 pub in_slot-here : (power s from : ℕ) (all : List ℕ) → from < length all → slot (get_or all from 0) power ≡ s → in_slot power s from (drop from all) ≡ from ∷ in_slot power s (from + 1) (drop (from + 1) all)

@@ -1,12 +1,12 @@
 -- Sizes in a table, and what is there.
 use Rattle.std.proofs.Common.{◌≡◌, ℕ, ◌+◌, ◌*◌, ◌^◌, ◌<◌, ◌≤◌, List, length, drop, Some, refl, arith}
-use Rattle.std.specs.Prelude.{IsTrue, IsSome}
+use Rattle.std.specs.Prelude.{IsTrue}
 use Rattle.std.proofs.Math.Nat.{pow-le-pow_right}
-use Rattle.std.proofs.lemmas.Bool.{le-leb, lt-ltb}
+use Rattle.std.proofs.lemmas.Bool.{le-leb}
 use Rattle.std.proofs.lemmas.Bool.Decides.{nat_tests}
 use Rattle.byteorder.specs.Endian.{big_number}
 use Rattle.pef_words.specs.Bytes.{number_at}
-use Rattle.pef_hash.specs.Exports.{ExportTable, entry_at, entry_of, has_table}
+use Rattle.pef_hash.specs.Exports.{has_table}
 
 -- the slots of a table are no more than 2^30
 pub words_small : (power : ℕ) → power ≤ 30 → 2 ^ power ≤ 2 ^ 30
@@ -20,14 +20,3 @@ number_there n bytes at inside = rw (le-leb (at + n) (length bytes) inside) refl
 -- where there is an export, there is a whole table
 pub table_whole : (power count i : ℕ) (bytes : List ℕ) → IsTrue (has_table power count bytes) → i < count → 4 * 2 ^ power + 14 * count ≤ length bytes
 table_whole power count i bytes whole under = grind (arith, nat_tests)
-
--- each export of a table is there
-pub entry_there : (t : ExportTable) (i : ℕ) → IsTrue (has_table t.power t.count t.bytes) → i < t.count → IsSome (entry_of t i)
-unfolding entry_of entry_at
-entry_there t i whole under =
-    let all = table_whole t.power t.count i t.bytes whole under in
-    let from = 4 * 2 ^ t.power + 4 * t.count + 10 * i in
-    let word = number_there 4 t.bytes from (omega arith) in
-    let value = number_there 4 t.bytes (from + 4) (omega arith) in
-    let section = number_there 2 t.bytes (from + 8) (omega arith) in
-    rw (lt-ltb i t.count under, word, value, section) refl

@@ -1,10 +1,9 @@
 -- Rows of labels as they are kept: how many there are, where one stands, and one more.
 use Rattle.std.proofs.Common.{◌≡◌, ℕ, zero, suc, ◌+◌, ◌-◌, ◌*◌, ◌<◌, ◌≤◌, true, nat_lt, List, [], ◌∷◌, ◌++◌, length, take, drop, replicate, None, Some, refl, ap, sym, ◌∙◌, subst, arith, slice_index, slice_get, length-append, append_assoc}
 use Rattle.std.specs.Prelude.{slice_index_or, slice_set}
-use Rattle.std.proofs.lemmas.Bool.{ltb-true, lt-ltb}
+use Rattle.std.proofs.lemmas.Bool.{ltb-true, lt-ltb, and_from, and_parts}
 use Rattle.std.proofs.Math.Path.{ap₂}
-use Rattle.std.proofs.lemmas.List.{append-nil, length-set, drop-append-le, drop-drop, drop_at, length_push, length-take-le, get_or-append_right, get_or-replicate, get_or_append_left, length-drop, length-replicate, take-append-le, take_all}
-use Rattle.pef_words.proofs.Laws.Tests.{both_met, met_both}
+use Rattle.std.proofs.lemmas.List.{append-nil, length-set, drop-append-le, drop-drop, drop_at, length_push, length-take-le, get_or-append_right, get_or-replicate, get_or_append_left, length-drop, length-replicate, take-append-le, take_all, nil_from_length}
 use Rattle.pef_labels.specs.Kept.RowsKept.{RunsFull}
 use Rattle.pef_labels.specs.Rows.{RowsFull, rows_from}
 use Rattle.pef_labels.specs.Rising.{above_all}
@@ -18,7 +17,7 @@ last_end-above : (low : ℕ) (ends : List ℕ) → above_all low ends ≡ true �
 unfolding last_end
 last_end-above low [] up = omega arith
 last_end-above low (end ∷ ends) up =
-    let both = met_both (nat_lt low end) (above_all end ends) up in
+    let both = and_parts (nat_lt low end) (above_all end ends) up in
     let first = ltb-true low end both.0 in
     let later = last_end-above end ends both.1 in
     omega (arith, first, later)
@@ -27,7 +26,7 @@ pub rows-count : (w low : ℕ) (ends values : List ℕ) → above_all low ends �
 unfolding last_end
 rows-count w low [] values up = omega arith
 rows-count w low (end ∷ ends) values up =
-    let both = met_both (nat_lt low end) (above_all end ends) up in
+    let both = and_parts (nat_lt low end) (above_all end ends) up in
     let first = ltb-true low end both.0 in
     let later = rows-count w end ends (drop w values) both.1 in
     omega (arith, first, later, length-append (replicate (end - low) (take w values)) (rows_from w end ends (drop w values)), length-replicate (end - low) (take w values))
@@ -73,7 +72,7 @@ unfolding end_before
 end_before-above low ends zero up = omega arith
 end_before-above low [] (suc q) up = omega arith
 end_before-above low (end ∷ ends) (suc q) up =
-    let both = met_both (nat_lt low end) (above_all end ends) up in
+    let both = and_parts (nat_lt low end) (above_all end ends) up in
     let first = ltb-true low end both.0 in
     let later = end_before-above end ends q both.1 in
     omega (arith, first, later)
@@ -89,7 +88,7 @@ rows-at w low (end ∷ ends) values zero j up under after before =
     ∙ (get_or-replicate (end - low) (j - low) (take w values) [] inside
     ∙ ap (λ n. take w (drop n values)) (sym start))
 rows-at w low (end ∷ ends) values (suc q) j up under after before =
-    let both = met_both (nat_lt low end) (above_all end ends) up in
+    let both = and_parts (nat_lt low end) (above_all end ends) up in
     let first = ltb-true low end both.0 in
     let past = end_before-above end ends q both.1 in
     let rest : (j - low) - (end - low) ≡ j - end = omega (arith, first, past) in
@@ -98,11 +97,6 @@ rows-at w low (end ∷ ends) values (suc q) j up under after before =
     ∙ (ap (λ n. slice_index_or (rows_from w end ends (drop w values)) n []) rest
     ∙ (rows-at w end ends (drop w values) q j both.1 (omega arith) after before
     ∙ ap (take w) (drop-drop (q * w) w values ∙ ap (λ n. drop n values) start)))
-
--- nothing has no length
-empty : {A : Type 0} (xs : List A) → length xs ≡ 0 → xs ≡ []
-empty [] e = refl
-empty (x ∷ xs) e = absurd (omega (arith, e))
 
 -- so many and more of a row
 replicate_more : (m n : ℕ) (row : List ℕ) → replicate (m + n) row ≡ replicate m row ++ replicate n row
@@ -113,7 +107,7 @@ replicate_more (suc m) n row = let e : suc m + n ≡ suc (m + n) = omega arith i
 pub rows-push : (w low end : ℕ) (ends values row : List ℕ) → length values ≡ w * length ends → length row ≡ w → rows_from w low (ends ++ end ∷ []) (values ++ row) ≡ rows_from w low ends values ++ replicate (end - last_end low ends) row
 unfolding last_end
 rows-push w low end [] values row full wide =
-    let none : values ≡ [] = empty values (omega (arith, full)) in
+    let none : values ≡ [] = nil_from_length values (omega (arith, full)) in
     let whole : take w ([] ++ row) ≡ row = ap (λ n. take n row) (sym wide) ∙ take_all (length row) row (omega arith) in
     rw none (append-nil (replicate (end - low) (take w row)) ∙ ap (replicate (end - low)) whole)
 rows-push w low end (x ∷ ends) values row full wide =
@@ -128,7 +122,7 @@ pub rows-more : (w low end n : ℕ) (ends values row : List ℕ) → above_all l
 unfolding last_end
 rows-more w low end n [] values row up count after is = absurd (omega (arith, count))
 rows-more w low end zero (x ∷ []) values row up count after is =
-    let first = ltb-true low x (met_both (nat_lt low x) (above_all x []) up).0 in
+    let first = ltb-true low x (and_parts (nat_lt low x) (above_all x []) up).0 in
     let start : zero * w ≡ 0 = omega arith in
     let same : take w values ≡ row = ap (λ n. take w (drop n values)) (sym start) ∙ is in
     let sum : end - low ≡ (x - low) + (end - x) = omega (arith, first, after) in
@@ -138,7 +132,7 @@ rows-more w low end zero (x ∷ []) values row up count after is =
     ∙ ap₂ (λ a b. a ++ replicate (end - x) b) (sym (append-nil (replicate (x - low) (take w values)))) same))
 rows-more w low end zero (x ∷ y ∷ ends) values row up count after is = absurd (omega (arith, count))
 rows-more w low end (suc n) (x ∷ ends) values row up count after is =
-    let both = met_both (nat_lt low x) (above_all x ends) up in
+    let both = and_parts (nat_lt low x) (above_all x ends) up in
     let start : w + n * w ≡ suc n * w = omega arith in
     let there : take w (drop (n * w) (drop w values)) ≡ row = ap (take w) (drop-drop (n * w) w values ∙ ap (λ m. drop m values) start) ∙ is in
     ap (λ rows. replicate (x - low) (take w values) ++ rows) (rows-more w x end n ends (drop w values) row both.1 (omega (arith, count)) after there)
@@ -147,21 +141,21 @@ rows-more w low end (suc n) (x ∷ ends) values row up count after is =
 -- ends that rise with one more, and with a greater last one
 pub rising-push : (low end : ℕ) (ends : List ℕ) → above_all low ends ≡ true → last_end low ends < end → above_all low (ends ++ end ∷ []) ≡ true
 unfolding last_end
-rising-push low end [] up after = both_met (nat_lt low end) true (lt-ltb low end after) refl
+rising-push low end [] up after = and_from (nat_lt low end) true (lt-ltb low end after) refl
 rising-push low end (x ∷ ends) up after =
-    let both = met_both (nat_lt low x) (above_all x ends) up in
-    both_met (nat_lt low x) (above_all x (ends ++ end ∷ [])) both.0 (rising-push x end ends both.1 after)
+    let both = and_parts (nat_lt low x) (above_all x ends) up in
+    and_from (nat_lt low x) (above_all x (ends ++ end ∷ [])) both.0 (rising-push x end ends both.1 after)
 
 pub rising-more : (low end n : ℕ) (ends : List ℕ) → above_all low ends ≡ true → length ends ≡ suc n → last_end low ends < end → above_all low (slice_set ends n end) ≡ true
 unfolding last_end
 rising-more low end n [] up count after = absurd (omega (arith, count))
 rising-more low end zero (x ∷ []) up count after =
-    let first = ltb-true low x (met_both (nat_lt low x) (above_all x []) up).0 in
-    both_met (nat_lt low end) true (lt-ltb low end (omega (arith, first))) refl
+    let first = ltb-true low x (and_parts (nat_lt low x) (above_all x []) up).0 in
+    and_from (nat_lt low end) true (lt-ltb low end (omega (arith, first))) refl
 rising-more low end zero (x ∷ y ∷ ends) up count after = absurd (omega (arith, count))
 rising-more low end (suc n) (x ∷ ends) up count after =
-    let both = met_both (nat_lt low x) (above_all x ends) up in
-    both_met (nat_lt low x) (above_all x (slice_set ends n end)) both.0 (rising-more x end n ends both.1 (omega (arith, count)) after)
+    let both = and_parts (nat_lt low x) (above_all x ends) up in
+    and_from (nat_lt low x) (above_all x (slice_set ends n end)) both.0 (rising-more x end n ends both.1 (omega (arith, count)) after)
 
 -- how many rows there are, by the end of the last kept one
 pub rows-some : (w end : ℕ) (ends values : List ℕ) → RowsFull w ends values → slice_get ends (length ends - 1) ≡ Some end → end ≡ length (rows_from w 0 ends values)
@@ -220,6 +214,6 @@ runs-next w passed end (x ∷ xs) rest values full is =
     let product : w * length (x ∷ xs) ≡ w + w * length xs = omega arith in
     let same : w * length xs ≡ w * length rest = ap (λ (es : List ℕ). w * length es) others in
     record {
-      rising = subst (λ (e : ℕ). above_all e rest ≡ true) first (subst (λ (es : List ℕ). above_all x es ≡ true) others (met_both (nat_lt passed x) (above_all x xs) full.rising).1);
+      rising = subst (λ (e : ℕ). above_all e rest ≡ true) first (subst (λ (es : List ℕ). above_all x es ≡ true) others (and_parts (nat_lt passed x) (above_all x xs) full.rising).1);
       full = omega (arith, full.full, product, same, length-drop w values);
     }

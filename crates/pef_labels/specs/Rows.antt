@@ -1,16 +1,11 @@
 -- Labels in rows, of which equal neighbours are kept once.
-use Rattle.std.specs.Prelude.{◌≡◌, ℕ, zero, suc, ◌-◌, ◌*◌, true, List, [], ◌∷◌, ◌++◌, length, take, drop, replicate}
+use Rattle.std.specs.Prelude.{◌≡◌, ℕ, ◌-◌, ◌*◌, true, List, [], ◌∷◌, ◌++◌, length, take, drop, replicate}
 use Rattle.pef_labels.specs.Rising.{above_all}
 
 -- rows of labels, all of one width
 pub record LaidRows : Type 0 where
   pub width : ℕ
   pub rows : List (List ℕ)
-
--- a list of labels cut into so many rows of a width
-abbrev pub cut_rows : ℕ → ℕ → List ℕ → List (List ℕ)
-cut_rows width zero labels = []
-cut_rows width (suc count) labels = take width labels ∷ cut_rows width count (drop width labels)
 
 -- How rows are kept: for each row that differs from the one before it, how many rows end with it, and its
 -- labels. These are the rows, from the kept ones on that begin behind so many rows

@@ -1,5 +1,5 @@
-ghost use Rattle.std.specs.Prelude.{◌≡◌, ◌-◌, ◌*◌, ◌<◌, ◌++◌, IfOk, MatchOption, OnErr, OnOk, [], ◌∷◌, length, replicate};
-ghost use Rattle.pef_labels.specs.Rows.{RowsFull, cut_rows, rows_from};
+ghost use Rattle.std.specs.Prelude.{◌≡◌, ◌-◌, ◌<◌, ◌++◌, MatchOption, OnErr, OnOk, [], ◌∷◌, length, replicate};
+ghost use Rattle.pef_labels.specs.Rows.{RowsFull, rows_from};
 
 use std::alloc::{AllocError, Global};
 use std::marker::Model;
@@ -45,30 +45,6 @@ impl LabelRows {
             ends: Vec::new(alloc),
             values: Vec::new(alloc),
         }
-    }
-
-    /// The labels of a list, which has them row after row.
-    ///
-    /// # Errors
-    ///
-    /// There is no memory for the rows that differ from the one before them.
-    pub fn from_labels(
-        alloc: Global,
-        rows: usize,
-        width: usize,
-        labels: &[u32],
-    ) -> Result<LabelRows, AllocError>
-        requires { length labels.now ≡ rows * width }
-        ensures { IfOk result (λ r. r ≡ record { width = width; rows = cut_rows width rows labels.now }) }
-    {
-        let mut laid = LabelRows::new(alloc, width);
-        let mut left = labels;
-        'rows: for _ in 0..rows {
-            let (row, behind) = left.split_at(width);
-            laid.push(row)?;
-            left = behind;
-        }
-        Ok(laid)
     }
 
     /// How many labels a row has.

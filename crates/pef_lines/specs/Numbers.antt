@@ -3,8 +3,8 @@ use Rattle.std.specs.Prelude.{ℕ, ◌+◌, ◌*◌, ◌-◌, ◌^◌, ◌==◌,
 use Rattle.std.specs.Option.{option_and_then}
 
 -- the value of a hex digit, of either case
-abbrev pub hex_digit : ℕ → Option ℕ
-hex_digit b =
+abbrev pub hex_value : ℕ → Option ℕ
+hex_value b =
     if nat_le 0x30 b && nat_le b 0x39 then Some (b - 0x30)
     else if nat_le 0x41 b && nat_le b 0x46 then Some (b - 0x37)
     else if nat_le 0x61 b && nat_le b 0x66 then Some (b - 0x57)
@@ -18,7 +18,7 @@ below limit (Some n) = if nat_lt n limit then Some n else None
 -- the number that digits to a base spell behind a number so far
 abbrev pub digits_value : ℕ → ℕ → List ℕ → Option ℕ
 digits_value base so_far [] = Some so_far
-digits_value base so_far (b ∷ bytes) = option_and_then (λ d. digits_value base (so_far * base + d) bytes) (below base (hex_digit b))
+digits_value base so_far (b ∷ bytes) = option_and_then (λ d. digits_value base (so_far * base + d) bytes) (below base (hex_value b))
 
 -- the number of 32 bits that digits to a base spell
 abbrev pub digits_number : ℕ → List ℕ → Option ℕ

@@ -1,12 +1,12 @@
 ghost use Rattle.std.specs.Prelude.{◌≡◌, ◌≤◌};
-ghost use Rattle.pef_lines.specs.Numbers.{below, decimal_number, digits_number, hex_digit, hex_number};
+ghost use Rattle.pef_lines.specs.Numbers.{below, decimal_number, digits_number, hex_number, hex_value};
 
 /// The most hex digits of a number.
 const MAX_HEX_DIGITS: usize = 8;
 
 /// The value of a hex digit, of either case.
 pub fn hex_digit(digit: u8) -> Option<u8>
-    ensures { result ≡ hex_digit digit }
+    ensures { result ≡ hex_value digit }
 {
     match digit {
         b'0'..=b'9' => Some(digit - b'0'),
@@ -18,7 +18,7 @@ pub fn hex_digit(digit: u8) -> Option<u8>
 
 /// The value of a digit to a base.
 fn digit_to(base: u8, digit: u8) -> Option<u8>
-    ensures { result ≡ below base (hex_digit digit) }
+    ensures { result ≡ below base (hex_value digit) }
 {
     match hex_digit(digit) {
         Some(value) if value < base => Some(value),

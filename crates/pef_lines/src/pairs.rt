@@ -1,8 +1,8 @@
 ghost use Rattle.std.specs.Prelude.{◌≡◌, ◌++◌, ◌*◌, ◌%◌, ◌≤◌, length, OnOk};
 ghost use Rattle.std.specs.List.{list_all};
 ghost use Rattle.pef_lines.specs.Kept.Pairs.{is_hex};
-ghost use Rattle.pef_lines.specs.Views.{digit_value, spelled};
-ghost use Rattle.pef_lines.specs.Pairs.{pairs_of};
+ghost use Rattle.pef_lines.specs.Views.{bytes_of_pairs, digit_value};
+ghost use Rattle.pef_lines.specs.Pairs.{hex_bytes};
 
 use crate::numbers::hex_digit;
 use std::alloc::AllocError;
@@ -16,11 +16,11 @@ pub struct Pairs<'a> {
 
 impl<'a> Model for Pairs<'a> {
     ghost use Rattle.std.specs.Prelude.{◌≡◌, ◌%◌, length, List, ℕ};
-    ghost use Rattle.pef_lines.specs.Views.{spelled};
+    ghost use Rattle.pef_lines.specs.Views.{bytes_of_pairs};
 
     ghost Value = { List ℕ };
 
-    ghost view = { λ p. spelled p.digits.now };
+    ghost view = { λ p. bytes_of_pairs p.digits.now };
 
     ghost invariant = { λ p. length p.digits.now % 2 ≡ 0 };
 }
@@ -28,7 +28,7 @@ impl<'a> Model for Pairs<'a> {
 impl<'a> Pairs<'a> {
     /// The pairs that a word has, where it has nothing else.
     pub fn read(word: &'a [u8]) -> Option<Pairs<'a>>
-        ensures { result ≡ pairs_of word.entry.now }
+        ensures { result ≡ hex_bytes word.entry.now }
     {
         if word.len() % 2 != 0 {
             return None;
@@ -57,7 +57,7 @@ impl<'a> Pairs<'a> {
 /// Appends the bytes that pairs of hex digits spell.
 fn append_spelled(digits: &[u8], bytes: &mut Vec<u8>) -> Result<(), AllocError>
     requires { length digits.now % 2 ≡ 0 }
-    ensures { OnOk result (bytes.new.items ≡ bytes.old.items ++ spelled digits.now) }
+    ensures { OnOk result (bytes.new.items ≡ bytes.old.items ++ bytes_of_pairs digits.now) }
 {
     let start = bytes.len();
     bytes.resize(start + digits.len() / 2, 0)?;
@@ -89,7 +89,7 @@ fn digit_value(digit: u8) -> u8
 /// Writes the bytes that pairs of hex digits spell.
 fn spell(digits: &[u8], bytes: &mut [u8])
     requires { length digits.now ≡ 2 * length bytes.old }
-    ensures { bytes.new ≡ spelled digits.now }
+    ensures { bytes.new ≡ bytes_of_pairs digits.now }
 {
     for i in 0..bytes.len() {
         bytes[i] = digit_value(digits[2 * i]) * 16 + digit_value(digits[2 * i + 1]);

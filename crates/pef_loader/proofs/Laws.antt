@@ -4,12 +4,6 @@
 pub use Rattle.pef_loader.proofs.Loaders.{accepts}
 -- what some bytes are read as is a loader section of these bytes, with so many instantiated sections
 pub use Rattle.pef_loader.proofs.Loaders.{loaded_of-ok}
--- each library below their count is there, and its imports are among all
-pub use Rattle.pef_loader.proofs.Loaders.{library_there}
--- each relocation header is there, and its section is instantiated
-pub use Rattle.pef_loader.proofs.Loaders.{reloc_there}
--- each export is there, in an instantiated section, absolute, or one of the imports
-pub use Rattle.pef_loader.proofs.Loaders.{export_there}
 -- what is found by a name is an export of that name
 pub use Rattle.pef_loader.proofs.Loaders.{named_there}
 -- what is found by its name is one of the exports

@@ -1,15 +1,16 @@
 -- What the acceptance of a loader section says, and what it takes.
 use Rattle.std.proofs.Common.{◌≡◌, ℕ, ◌+◌, ◌*◌, ◌<◌, ◌≤◌, Bool, true, false, not, List, Option, None, Some, length, drop, take, refl, sym, ◌∙◌, ap, subst, arith}
-use Rattle.std.specs.Prelude.{◌&&◌, ◌||◌, Result, Ok, Err, IsTrue, IfSome, nat_lt, nat_le}
+use Rattle.std.specs.Prelude.{◌&&◌, ◌||◌, Ok, Err, IsTrue, IfSome, nat_lt, nat_le}
 use Rattle.std.specs.Option.{is_none, option_map_or}
 use Rattle.std.proofs.lemmas.Option.{cond_some, same_Some}
-use Rattle.std.proofs.lemmas.Bool.{not-false, and_parts, lt-ltb, le-leb, leb-false, ltb-false}
+use Rattle.std.proofs.lemmas.Bool.{not-false, and_parts, le-leb, leb-false, ltb-false}
 use Rattle.pef_words.specs.Bytes.{name_at, part_of}
 use Rattle.pef_words.specs.Refusals.{first_among, first_met}
 use Rattle.pef_words.proofs.Laws.Refusals.{first_unmet, none_among, some_among, unless_ok}
 use Rattle.pef_hash.specs.Exports.{entry_of, name_of}
 use Rattle.pef_hash.proofs.Laws.{IsFirstNamed, export_named-some}
 use Rattle.pef_hash.specs.declared.exports.Entry.{Entry}
+use Rattle.std.specs.Result.{result_unwrap_or}
 use Rattle.pef_loader.specs.declared.header.LoaderHeader.{LoaderHeader}
 use Rattle.pef_loader.specs.declared.library.LibraryEntry.{LibraryEntry}
 use Rattle.pef_loader.specs.declared.import.ImportEntry.{ImportEntry}
@@ -17,16 +18,12 @@ use Rattle.pef_loader.specs.declared.reloc.RelocEntry.{RelocEntry}
 use Rattle.pef_loader.specs.declared.fault.LoaderFault.{LoaderFault}
 use Rattle.pef_loader.specs.declared.fault.LoaderFault.TheVariants.{LoaderShort, BadTableOffset, BadEntry, BadExportTable}
 use Rattle.pef_loader.specs.Header.{header_of, is_entry, tables_end}
-use Rattle.pef_loader.specs.Library.{Library, library_at, library_in, library_refusal, library_tests, owns}
+use Rattle.pef_loader.specs.Library.{library_at, library_refusal, library_tests, owns}
 use Rattle.pef_loader.specs.Import.{import_at, import_refusal, import_tests, owner_at, owner_of}
-use Rattle.pef_loader.specs.Reloc.{instructions_of, reloc_at, reloc_in, reloc_refusal, reloc_tests}
+use Rattle.pef_loader.specs.Reloc.{instructions_of, reloc_at, reloc_refusal, reloc_tests}
 use Rattle.pef_loader.specs.Export.{Export, export_in, export_refusal, export_table, export_tests, has_exports, has_section}
 use Rattle.pef_loader.specs.Kept.Accepted.{IsAccepted}
-use Rattle.pef_loader.specs.Loader.{IsLoader, Loaded, export_of, fault_if, has_entries, judged, library_of, loaded_of, named_of, reloc_of}
-
-abbrev value_or : {A F : Type 0} → A → Result A F → A
-value_or x (Ok y) = y
-value_or x (Err fault) = x
+use Rattle.pef_loader.specs.Loader.{IsLoader, Loaded, export_of, fault_if, has_entries, judged, loaded_of, named_of}
 
 judged_ok : (l : Loaded) (h : LoaderHeader) → header_of l.bytes ≡ Some h → judged l.sections l.bytes h ≡ Ok l → IsAccepted l
 judged_ok l h there ok =
@@ -37,7 +34,7 @@ judged_ok l h there ok =
     let f = unless_ok (first_among (reloc_refusal l.bytes h l.sections) 0 h.reloc_count) _ l e.1 in
     let g = unless_ok (fault_if (not (has_exports l.bytes h)) BadExportTable) _ l f.1 in
     let i = unless_ok (first_among (export_refusal l.bytes h l.sections) 0 h.export_count) _ l g.1 in
-    let same : h ≡ l.header = ap (λ r. (value_or l r).header) i.1 in
+    let same : h ≡ l.header = ap (λ r. (result_unwrap_or r l).header) i.1 in
     let P : LoaderHeader → Type 0 = λ h. IsAccepted (record l { header = h }) in
     subst P same (record { header = there; tables = a.0; libraries = b.0; imports = d.0; entries = e.0; relocs = f.0; table = g.0; exports = i.0 })
 
@@ -98,18 +95,6 @@ library_is l i ok under =
     let there = some_if _ name.0 in
     (part.0, part.1, record { name = there.0; named = there.1; range = ltb-false l.header.import_count _ range.0 })
 
--- .. so library i is there for each i below their count
-pub library_there : (l : Loaded) (i : ℕ) → IsLoader l → i < l.header.library_count
-    → (x : Library) × (library_of l i ≡ Some x) × (x.first + x.count ≤ l.header.import_count)
-unfolding library_of library_in
-library_there l i ok under =
-    let is = library_is l i ok under in
-    let e = is.0 in (
-      record { name = is.2.name; current = e.current; old_imp = e.old_imp; count = e.count; first = e.first; options = e.options },
-      rw (lt-ltb i l.header.library_count under, is.1, is.2.named) refl,
-      is.2.range,
-    )
-
 -- each import is there, with a name
 pub record IsImport (l : Loaded) (entry : ImportEntry) : Type 0 where
   pub name : List ℕ
@@ -163,16 +148,6 @@ reloc_is l k ok under =
       },
     )
 
-pub reloc_there : (l : Loaded) (k : ℕ) → IsLoader l → k < l.header.reloc_count
-    → (x : ℕ × List ℕ) × (reloc_of l k ≡ Some x) × (x.0 < l.sections)
-unfolding reloc_of reloc_in
-reloc_there l k ok under =
-    let is = reloc_is l k ok under in (
-      (is.0.section, is.2.instructions),
-      rw (lt-ltb k l.header.reloc_count under, is.1, is.2.are) refl,
-      is.2.section,
-    )
-
 -- each export is there, with a name, in a section that it may be in
 pub record IsExport (l : Loaded) (entry : Entry) (i : ℕ) : Type 0 where
   pub name : List ℕ
@@ -192,16 +167,6 @@ export_is l i ok under =
     let section = first_unmet (not (has_section l.header l.sections part.0.value part.0.section)) _ _ name.1 in
     let there = some_if _ (second_unmet _ _ name.0) in
     (part.0, part.1, record { name = there.0; named = there.1; section = not-false _ section.0 })
-
-pub export_there : (l : Loaded) (i : ℕ) → IsLoader l → i < l.header.export_count
-    → (x : Export) × (export_of l i ≡ Some x) × IsTrue (has_section l.header l.sections x.value x.section)
-unfolding export_of export_in
-export_there l i ok under =
-    let is = export_is l i ok under in (
-      record { name = is.2.name; class = is.0.class; section = is.0.section; value = is.0.value },
-      rw (is.1, is.2.named) refl,
-      is.2.section,
-    )
 
 -- the same of an entry that was read
 pub library_with : (l : Loaded) (i : ℕ) (e : LibraryEntry) → IsLoader l → i < l.header.library_count → library_at l.bytes i ≡ Some e → IsLibrary l e
@@ -238,7 +203,7 @@ parts_of sections bytes l (Some h) ok =
     let f = unless_ok (first_among (reloc_refusal bytes h sections) 0 h.reloc_count) _ l e.1 in
     let g = unless_ok (fault_if (not (has_exports bytes h)) BadExportTable) _ l f.1 in
     let i = unless_ok (first_among (export_refusal bytes h sections) 0 h.export_count) _ l g.1 in
-    (ap (λ r. (value_or l r).sections) i.1, ap (λ r. (value_or l r).bytes) i.1)
+    (ap (λ r. (result_unwrap_or r l).sections) i.1, ap (λ r. (result_unwrap_or r l).bytes) i.1)
 
 -- what bytes are read as has those bytes, and so many instantiated sections
 pub loaded_of-parts : (sections : ℕ) (bytes : List ℕ) (l : Loaded) → loaded_of sections bytes ≡ Ok l → (sections ≡ l.sections) × (bytes ≡ l.bytes)

@@ -1,5 +1,3 @@
-pub mod Laws
-mod Lengths
 mod Repeats
 mod Steps
 mod Weaves

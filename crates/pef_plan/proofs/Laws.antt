@@ -1,7 +1,5 @@
--- What this crate offers to the proofs of others: facts of labels that are reached.
+-- What this crate offers to the proofs of others: facts of least programs.
 
--- labels that are feasible and reached are least lengths
-pub use Rattle.pef_plan.proofs.Reaching.{reached-exact, reached-least}
 -- a least program has at most four halfwords for each fixup
 pub use Rattle.pef_plan.proofs.Reaching.{least-short}
 -- and names nothing but what its fixups use

@@ -1,7 +1,7 @@
 -- From every state an instruction leads on, where labels are feasible and reached.
 use Rattle.std.proofs.Common.{◌≡◌, ◌≢◌, ℕ, suc, ◌+◌, ◌-◌, ◌*◌, ◌/◌, ◌%◌, ◌<◌, ◌≤◌, ◌⊎◌, inl, inr, true, false, ◌==◌, nat_le, List, [], ◌∷◌, ◌++◌, length, Some, refl, ap, sym, ◌∙◌, subst, arith, eq-eqb}
 use Rattle.std.specs.List.{AllByRecursion}
-use Rattle.std.proofs.lemmas.Bool.{le-leb, lt-ltb}
+use Rattle.std.proofs.lemmas.Bool.{and_from, le-leb, lt-ltb}
 use Rattle.std.proofs.lemmas.Bool.Decides.{eqb_tells}
 use Rattle.pef_reloc.specs.declared.fixup.Base.TheVariants.{Section}
 use Rattle.pef_reloc.specs.declared.fixup.Fixup.{Fixup}
@@ -11,7 +11,6 @@ use Rattle.pef_reloc.specs.Deliveries.{Delivers, index_after, index_past, is_fla
 use Rattle.pef_reloc.specs.Fixups.{fixup_fits}
 use Rattle.pef_reloc.specs.Steps.{State, additions, next_state, row}
 use Rattle.pef_reloc.proofs.Laws.{fixup_fits-parts, index_kept}
-use Rattle.pef_words.proofs.Laws.Tests.{both_met}
 use Rattle.pef_cert.specs.Labels.{Labels, class_of, has_class}
 use Rattle.pef_cert.specs.Extension.{change, extension, extension_at, offer_at, skip, skips_at}
 use Rattle.pef_cert.specs.Feasible.{label_at}
@@ -50,7 +49,7 @@ led_far l s f rest fits is =
     }
 
 increment_fits : (e : ℕ) → 1 ≤ e → e ≤ 4096 → is_flat_instr (IncrPosition e) ≡ true
-increment_fits e some few = both_met (nat_le 1 e) (nat_le e 4096) (le-leb 1 e some) (le-leb e 4096 few)
+increment_fits e some few = and_from (nat_le 1 e) (nat_le e 4096) (le-leb 1 e some) (le-leb e 4096 few)
 
 -- and from not far before it
 led_near : (l : Labels) (s : State) (f : Fixup) (rest : List Fixup) → 1 ≤ f.offset - s.position → f.offset - s.position ≤ 4096 → 1 + label_at l (f ∷ rest) s ≤ extension_at l (f ∷ rest) s → LeadsOn l s (f ∷ rest)
@@ -117,7 +116,7 @@ led_skip l s f rest x w after before even e is =
     record {
       instr = BySectDWithSkip u (suc skipped.count);
       left = skipped.left;
-      flat = both_met (nat_le u 255) (nat_le (suc skipped.count) 63) (le-leb u 255 (omega (arith, words, before))) (le-leb (suc skipped.count) 63 (omega (arith, few)));
+      flat = and_from (nat_le u 255) (nat_le (suc skipped.count) 63) (le-leb u 255 (omega (arith, words, before))) (le-leb (suc skipped.count) 63 (omega (arith, few)));
       delivers = record { is = skipped.words ∙ ap (λ k. row (suc skipped.count) f.offset 4 (Section k) ++ skipped.left) same ∙ ap (λ p. row (suc skipped.count) p 4 (Section s.d) ++ skipped.left) from };
       falls = omega (arith, there, worth, is);
     }

@@ -1,11 +1,9 @@
 -- Lines and squares of numbers: filled place by place, and the least of them.
-use Rattle.std.proofs.Common.{◌≡◌, ℕ, ◌+◌, ◌<◌, ◌≤◌, ◌⊎◌, inl, inr, min, List, slice_index, ap, sym, ◌∙◌, subst, arith}
+use Rattle.std.proofs.Common.{◌≡◌, ℕ, ◌+◌, ◌<◌, ◌≤◌, ◌⊎◌, inl, inr, min, List, slice_index, ap, sym, ◌∙◌, arith}
 use Rattle.std.proofs.lemmas.Bool.Decides.{eqb_tells}
-use Rattle.pef_plan.specs.Kept.Rows.{ClosedOf, LeastOf, LineOf, LinesOf, SmallLine, SmallSquare}
+use Rattle.pef_words.proofs.Laws.Numbers.{min_is}
+use Rattle.pef_plan.specs.Kept.Rows.{ClosedOf, LeastOf, LinesOf, SmallLine, SmallSquare}
 use Rattle.pef_squares.specs.Squares.{number_in}
-
-pub min_is : (v w : ℕ) → (min v w ≡ v) ⊎ (min v w ≡ w)
-min_is v w = grind arith
 
 -- the least of one more number
 pub least-more : (i : ℕ) (f : ℕ → ℕ) (low next : ℕ) → LeastOf i f low → f i ≡ next → LeastOf (i + 1) f (min low next)
@@ -21,17 +19,6 @@ least-more i f low next l is =
           | inl same ↦ (let e = ap f same.1 in omega (arith, e, is))
           | inr other ↦ (let apart = other.1 in let u = l.low x (omega (arith, under)) in omega (arith, u))
         ]
-
-pub least-one : (f : ℕ → ℕ) (low : ℕ) → f 0 ≡ low → LeastOf 1 f low
-least-one f low is = record {
-  low = λ x under. let zero : x ≡ 0 = omega (arith, under) in let e = ap f zero in omega (arith, e, is);
-  at = 0;
-  under = omega arith;
-  is = is;
-}
-
-pub least-count : (m n : ℕ) (f : ℕ → ℕ) (low : ℕ) → LeastOf m f low → m ≡ n → LeastOf n f low
-least-count m n f low l same = subst (λ (k : ℕ). LeastOf k f low) same l
 
 -- a number of a line of labels, from the least along the line and in its column
 pub record NumberOf (count : ℕ) (direct : List ℕ) (low same lows number : ℕ) : Type 0 where
@@ -57,15 +44,6 @@ number-of count direct low here column along number l e = record {
       | inr all ↦ inr (inr all)
     ]
   ];
-}
-
-pub line-of : (count : ℕ) (direct lows : List ℕ) (low : ℕ) (line : List ℕ) → ((d : ℕ) → d < count → NumberOf count direct low (slice_index direct d) (slice_index lows d) (slice_index line d)) → LineOf count direct lows low line
-line-of count direct lows low line each = record {
-  here = λ d under. (each d under).here;
-  column = λ d under. (each d under).column;
-  along = λ d e under other. (each d under).along e other;
-  all = λ d under. (each d under).all;
-  is = λ d under. (each d under).is;
 }
 
 -- the least over all changes
@@ -124,10 +102,4 @@ pub small-lows : (count : ℕ) (direct : List (List ℕ)) (lows : List ℕ) → 
 small-lows count direct lows some small columns = λ d under.
     let least = (columns d under).low 0 some in
     let top = small 0 some d under in
-    omega (arith, least, top)
-
-pub small-least : (count : ℕ) (line : List ℕ) (low : ℕ) → 0 < count → SmallLine count line → LeastOf count (λ d. slice_index line d) low → low ≤ 1048576
-small-least count line low some small l =
-    let least = l.low 0 some in
-    let top = small 0 some in
     omega (arith, least, top)

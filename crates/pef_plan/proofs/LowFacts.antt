@@ -1,6 +1,5 @@
 -- What is led to at a fixup, and the least skips there.
 use Rattle.std.proofs.Common.{◌≡◌, ℕ, ◌+◌, ◌*◌, ◌≤◌, ◌⊎◌, true, List, ◌∷◌, length, Some, ap, sym, ◌∙◌, subst, arith}
-use Rattle.pef_reloc.specs.declared.fixup.Base.{Base}
 use Rattle.pef_reloc.specs.declared.fixup.Base.TheVariants.{Section}
 use Rattle.pef_reloc.specs.declared.fixup.Fixup.{Fixup}
 use Rattle.pef_cert.specs.Labels.{Labels, class_of}
@@ -13,7 +12,7 @@ use Rattle.pef_runs.specs.declared.ends.RunEnds.{RunEnds}
 use Rattle.pef_runs.specs.Runs.{EndOf, Ends, Holds}
 use Rattle.pef_runs.specs.Ends.{EndsAt}
 use Rattle.pef_runs.specs.Leads.{LeadsWithin}
-use Rattle.pef_runs.specs.Places.{AtOf, Counts, HereOf, Led}
+use Rattle.pef_runs.specs.Places.{AtOf, HereOf, Led}
 use Rattle.pef_plan.specs.Kept.Rows.{DirectIs}
 use Rattle.pef_runs.specs.Tables.{Agrees}
 use Rattle.pef_cert.specs.LabelTests.{base_test}
@@ -27,12 +26,6 @@ skip_is k h section first value l here base holds from is one ends agrees =
     best_skip-is l k h 0 section value first here agrees base holds (is l agrees)
     (subst (λ (p : ℕ). (value ≡ first) ⊎ EndOf l (Skip 0 section) h p value) (sym from) (one l agrees))
     (subst (λ (p : ℕ). Ends l (Skip 0 section) h p value) (sym from) (ends l value agrees (omega arith)))
-
--- a register that has the class of a fixup's section holds it
-pub holds_here : (k : Known) (h : Here) (section class : ℕ) → HereOf k h → h.first.base ≡ Section section → class ≡ class_of k.registers.now section → Holds k.registers.now section class
-holds_here k h section class here base is =
-    let counts = subst (λ (b : Base). Counts k.registers.now b) base here.counts.0 in
-    (sym is, omega (arith, is, counts))
 
 -- what is led to with the registers in two classes
 pub low-is : (k : Known) (a : At) (c d : ℕ) (h : Here) (value : ℕ) → AtOf k a → With a c d h → Led k h value → ((l : Labels) (n : ℕ) → Agrees l k h.others.now → n ≤ value → base_test l n h.place.import_index h.first h.others.now h.place.c h.place.d h.first.base ≡ true) → value ≤ 4 * length h.others.now + 4 → DirectIs k a c d value

@@ -12,6 +12,7 @@ use Rattle.pef_cert.proofs.Laws.{Moved, World, class_of-below, extension-away, e
 use Rattle.pef_runs.specs.declared.known.Known.{Known}
 use Rattle.pef_runs.specs.declared.place.Here.{Here}
 use Rattle.pef_runs.specs.Places.{Counts, extension_in}
+use Rattle.std.proofs.lemmas.Option.{same_Some}
 use Rattle.pef_plan.specs.Kept.Steps.{SkipsTo, TrackedHere, labels_tabled}
 use Rattle.pef_runs.specs.Tables.{Agrees, label_in, skip_in}
 use Rattle.pef_plan.proofs.StepFacts.{tracked_world}
@@ -70,9 +71,6 @@ skips_to k h t away within other also = go _ refl (moved-there k h t away)
         let apart = also after in
         absurd (omega (arith, low, label, whole, most, apart, is, sum))
 
-some_same : (v w : ℕ) → Some v ≡ Some w → v ≡ w
-some_same v w e = cc
-
 none_some : (o : Option ℕ) (v : ℕ) → o ≡ None → o ≡ Some v → ⊥
 none_some o v none some = absurd (cc)
 
@@ -100,7 +98,7 @@ skip_set k h section class t at away base of other =
     let apart : h.place.d ≢ class_of k.registers.now section = λ e. other (of ∙ sym e) in
     let one : change h.place.d (class_of k.registers.now section) ≡ 1 = rw (ne_eqb h.place.d (class_of k.registers.now section) apart) refl in
     let none : change class (class_of k.registers.now section) ≡ 0 = rw (eq-eqb class (class_of k.registers.now section) of) refl in
-    let worth = some_same _ _ (sym at.offer ∙ mine) in
+    let worth = same_Some _ _ (sym at.offer ∙ mine) in
     let low = moved-skip (h.first.offset - h.place.position) (label_in k.labels.now (length (h.first ∷ h.others.now)) h.place.c class) (offer_at l h.first h.others.now h.place.c class) x at.after at.before at.even (record { value = _; is = theirs; low = omega (arith, none) }) in
     let next = ap (λ fs. extension l fs h.place.position h.place.c class) t.parts ∙ extension-away l h.first h.others.now h.place.position h.place.c class away in
     omega (arith, worth, one, low, next)
@@ -112,7 +110,7 @@ skip_taken k h section value t at base of counts is =
     let there = subst (λ (d : ℕ). skips_at l h.first h.others.now h.place.c d ≡ Some value) (sym of) is in
     let offer = offer-section l (index_past h.first.base h.place.import_index) h.first h.others.now h.place.c h.place.d section value (world-next l h.place.import_index h.first h.others.now (here_world k h t)) base counts t.at.c there in
     let none : change h.place.d (class_of k.registers.now section) ≡ 0 = rw (eq-eqb h.place.d (class_of k.registers.now section) (sym of)) refl in
-    let worth = some_same _ _ (sym at.offer ∙ offer) in
+    let worth = same_Some _ _ (sym at.offer ∙ offer) in
     omega (arith, worth, none)
 
 pub counts_here : (k : Known) (h : Here) (section : ℕ) → TrackedHere k h → h.first.base ≡ Section section → class_of k.registers.now section < length k.registers.now

@@ -1,8 +1,7 @@
 -- A least program names nothing but what its fixups use: what names more could be left out.
 use Rattle.std.proofs.Common.{◌≡◌, ℕ, zero, suc, ◌+◌, ◌*◌, ◌≤◌, Bool, true, false, ◌&&◌, ◌||◌, ◌==◌, nat_le, List, [], ◌∷◌, ◌++◌, refl, ap, sym, ◌∙◌, subst, arith, eq-eqb}
-use Rattle.std.proofs.lemmas.Bool.{leb-true}
+use Rattle.std.proofs.lemmas.Bool.{and_from, and_parts, leb-true, or_right}
 use Rattle.std.proofs.lemmas.List.{append_assoc}
-use Rattle.pef_words.proofs.Laws.Tests.{both_met, met_both}
 use Rattle.pef_reloc.specs.declared.fixup.Base.TheVariants.{Section, Import}
 use Rattle.pef_reloc.specs.declared.fixup.Fixup.{Fixup}
 use Rattle.pef_reloc.specs.declared.instr.Instr.{Instr}
@@ -12,10 +11,6 @@ use Rattle.pef_reloc.specs.Instrs.{counts_to}
 use Rattle.pef_reloc.specs.Steps.{Least, State, added, additions, is_flat, named_sections, next_state, pairs, row, start, state_after, trace}
 use Rattle.pef_reloc.specs.Deliveries.{named_imports}
 use Rattle.pef_reloc.proofs.Laws.{flat-append, flat-before, flat-behind, flat_parts, program_length-append, some_length, trace-append, uses_import-append, uses_section-append}
-
-or_right : (a b : Bool) → b ≡ true → (a || b) ≡ true
-or_right true b e = refl
-or_right false b e = e
 
 or_none : (a b : Bool) → (a || b) ≡ false → (a ≡ false) × (b ≡ false)
 or_none false b e = (refl, e)
@@ -30,7 +25,7 @@ never_both true e f = absurd (cc)
 never_both false e f = absurd (cc)
 
 some : (limit n : ℕ) → counts_to limit n ≡ true → 1 ≤ n
-some limit n e = leb-true 1 n (met_both (nat_le 1 n) (nat_le n limit) e).0
+some limit n e = leb-true 1 n (and_parts (nat_le 1 n) (nat_le n limit) e).0
 
 -- an addition uses its section
 first_used : (p k : ℕ) (fs : List Fixup) → uses_section (added p (Section k) ∷ fs) k ≡ true
@@ -208,7 +203,7 @@ name_used fixups done _ rest a = refl
 names_all : (fixups : List Fixup) (done xs : List Instr) → Least fixups (done ++ xs) → names_used fixups xs ≡ true
 names_all fixups done [] least = refl
 names_all fixups done (x ∷ xs) least =
-    both_met (all_meet (uses_section fixups) (named_sections x) && all_meet (uses_import fixups) (named_imports x)) (names_used fixups xs)
+    and_from (all_meet (uses_section fixups) (named_sections x) && all_meet (uses_import fixups) (named_imports x)) (names_used fixups xs)
     (name_used fixups done x xs (record { least = least }))
     (names_all fixups (done ++ x ∷ []) xs (subst (λ (ys : List Instr). Least fixups ys) (sym (append_assoc done (x ∷ []) xs)) least))
 

@@ -1,9 +1,8 @@
 -- A program that is read off tables, instruction by instruction.
 use Rattle.std.proofs.Common.{◌≡◌, ℕ, ◌+◌, ◌*◌, ◌<◌, ◌≤◌, ◌⊎◌, inl, inr, true, nat_le, List, [], ◌∷◌, ◌++◌, length, refl, ap, sym, ◌∙◌, subst, arith, length-append}
 use Rattle.std.specs.List.{AllByRecursion}
-use Rattle.std.proofs.lemmas.Bool.{ltb-true, leb-true}
+use Rattle.std.proofs.lemmas.Bool.{ltb-true, leb-true, and_parts}
 use Rattle.std.proofs.lemmas.List.{append_assoc, append-nil}
-use Rattle.pef_words.proofs.Laws.Tests.{met_both}
 use Rattle.pef_reloc.specs.declared.fixup.Fixup.{Fixup}
 use Rattle.pef_reloc.specs.declared.instr.Instr.{Instr}
 use Rattle.pef_reloc.specs.declared.instr.Instr.TheVariants.{BySectDWithSkip, BySectC, BySectD, TVector12, TVector8, VTable8, ImportRun, SmByImport, SmSetSectC, SmSetSectD, SmBySection, IncrPosition, SmRepeat, SetPosition, LgByImport, LgRepeat, LgBySection, LgSetSectC, LgSetSectD}
@@ -31,7 +30,7 @@ use Rattle.pef_plan.proofs.Leading.{Planned, planned_left}
 use Rattle.pef_plan.proofs.StepFacts.{tracked_world}
 
 most : (limit n : ℕ) → counts_to limit n ≡ true → n ≤ limit
-most limit n e = leb-true n limit (met_both (nat_le 1 n) (nat_le n limit) e).1
+most limit n e = leb-true n limit (and_parts (nat_le 1 n) (nat_le n limit) e).1
 
 -- an instruction moves by less than 8,192 bytes, or to a position below a limit
 abbrev MovesNear : Instr → State → Type 0
@@ -39,7 +38,7 @@ MovesNear x s = ((next_state x s).position ≤ s.position + 8192) ⊎ ((next_sta
 
 moves_near : (x : Instr) (s : State) → is_flat_instr x ≡ true → MovesNear x s
 moves_near (BySectDWithSkip skip n) s e =
-    let both = met_both (nat_le skip 255) (nat_le n 63) e in
+    let both = and_parts (nat_le skip 255) (nat_le n 63) e in
     let one = leb-true skip 255 both.0 in
     let two = leb-true n 63 both.1 in
     inl (omega (arith, one, two))

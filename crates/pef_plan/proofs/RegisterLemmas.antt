@@ -1,15 +1,15 @@
 -- The sections that fixups use, one after the other.
 use Rattle.std.proofs.Common.{◌≡◌, ℕ, ◌+◌, ◌<◌, ◌≤◌, inl, inr, Bool, true, false, ◌==◌, ◌||◌, nat_lt, List, [], ◌∷◌, ◌++◌, refl, ap, sym, ◌∙◌, arith, eq-eqb}
-use Rattle.std.proofs.lemmas.Bool.{lt-ltb, ltb-false, ltb-true, ne_eqb}
+use Rattle.std.proofs.lemmas.Bool.{and_from, and_parts, eqb-true, false_from_ne_true, lt-ltb, ltb-false, ltb-true, ne_eqb, or_right}
 use Rattle.std.proofs.lemmas.Bool.Decides.{eqb_tells}
 use Rattle.pef_reloc.specs.declared.fixup.Fixup.{Fixup}
 use Rattle.pef_reloc.specs.Deliveries.{uses_section}
 use Rattle.pef_reloc.specs.Fixups.{fixups_fit}
 use Rattle.pef_reloc.specs.Limits.{most_sections}
 use Rattle.pef_reloc.proofs.Laws.{used_section-below}
-use Rattle.pef_words.proofs.Laws.Tests.{both_met, met_both}
 use Rattle.pef_labels.specs.Rising.{above_all}
 use Rattle.pef_cert.specs.Valid.{RegistersOf, is_among, rises}
+use Rattle.pef_words.proofs.Laws.Tests.{or_assoc, or_either}
 
 -- the sections below one that fixups use, rising
 pub record UsedBelow (fixups : List Fixup) (most : ℕ) (registers : List ℕ) : Type 0 where
@@ -17,43 +17,20 @@ pub record UsedBelow (fixups : List Fixup) (most : ℕ) (registers : List ℕ) :
   pub below : (k : ℕ) → is_among registers k ≡ true → k < most
   pub used : (k : ℕ) → k < most → is_among registers k ≡ uses_section fixups k
 
-or_true : (a b : Bool) → b ≡ true → (a || b) ≡ true
-or_true true b e = refl
-or_true false b e = e
-
 or_false : (a : Bool) → (a || false) ≡ a
 or_false true = refl
 or_false false = refl
 
-or_assoc : (a b c : Bool) → (a || (b || c)) ≡ ((a || b) || c)
-or_assoc true b c = refl
-or_assoc false b c = refl
-
-or_either : (a b : Bool) (P : Type 0) → (a ≡ true → P) → (b ≡ true → P) → (a || b) ≡ true → P
-or_either true b P left right e = left refl
-or_either false b P left right e = right e
-
-same_of : (k j : ℕ) → (k == j) ≡ true → k ≡ j
-same_of k j e =
-    elim (eqb_tells k j) [
-      | inl same ↦ same.1
-      | inr other ↦ (let no : true ≡ false = sym e ∙ other.0 in absurd (cc))
-    ]
-
-false_of : (b : Bool) → (b ≡ true → ⊥) → b ≡ false
-false_of true never = absurd (never refl)
-false_of false never = refl
-
 above-append : (low : ℕ) (rs : List ℕ) (k : ℕ) → above_all low rs ≡ true → low < k → ((j : ℕ) → is_among rs j ≡ true → j < k) → above_all low (rs ++ k ∷ []) ≡ true
-above-append low [] k up under below = both_met (nat_lt low k) true (lt-ltb low k under) refl
+above-append low [] k up under below = and_from (nat_lt low k) true (lt-ltb low k under) refl
 above-append low (r ∷ rs) k up under below =
-    let both = met_both (nat_lt low r) (above_all r rs) up in
-    both_met (nat_lt low r) (above_all r (rs ++ k ∷ [])) both.0
-    (above-append r rs k both.1 (below r (rw (eq-eqb r r refl) refl)) (λ j among. below j (or_true (r == j) (is_among rs j) among)))
+    let both = and_parts (nat_lt low r) (above_all r rs) up in
+    and_from (nat_lt low r) (above_all r (rs ++ k ∷ [])) both.0
+    (above-append r rs k both.1 (below r (rw (eq-eqb r r refl) refl)) (λ j among. below j (or_right (r == j) (is_among rs j) among)))
 
 rises-append : (rs : List ℕ) (k : ℕ) → rises rs ≡ true → ((j : ℕ) → is_among rs j ≡ true → j < k) → rises (rs ++ k ∷ []) ≡ true
 rises-append [] k up below = refl
-rises-append (r ∷ rs) k up below = above-append r rs k up (below r (rw (eq-eqb r r refl) refl)) (λ j among. below j (or_true (r == j) (is_among rs j) among))
+rises-append (r ∷ rs) k up below = above-append r rs k up (below r (rw (eq-eqb r r refl) refl)) (λ j among. below j (or_right (r == j) (is_among rs j) among))
 
 among-append : (rs : List ℕ) (k j : ℕ) → is_among (rs ++ k ∷ []) j ≡ (is_among rs j || k == j)
 among-append [] k j = or_false (k == j)
@@ -70,7 +47,7 @@ used_passed fixups most rs u unused = record {
   below = λ k among. let low = u.below k among in omega (arith, low);
   used = λ k under.
       elim (eqb_tells k most) [
-        | inl same ↦ rw same.1 (false_of (is_among rs most) (λ among. let low = u.below most among in omega (arith, low)) ∙ unused)
+        | inl same ↦ rw same.1 (false_from_ne_true (is_among rs most) (λ among. let low = u.below most among in omega (arith, low)) ∙ unused)
         | inr other ↦ (let apart = other.1 in u.used k (omega (arith, under)))
       ];
 }
@@ -81,12 +58,12 @@ used_more fixups most rs u used = record {
   below = λ k among.
       or_either (is_among rs k) (most == k) (k < most + 1)
       (λ before. let low = u.below k before in omega (arith, low))
-      (λ same. let e = same_of most k same in omega (arith, e))
+      (λ same. let e = eqb-true most k same in omega (arith, e))
       (sym (among-append rs most k) ∙ among);
   used = λ k under.
       among-append rs most k ∙
       (elim (eqb_tells k most) [
-        | inl same ↦ rw (same.1, eq-eqb most most refl) (or_true (is_among rs most) true refl ∙ used)
+        | inl same ↦ rw (same.1, eq-eqb most most refl) (or_right (is_among rs most) true refl ∙ used)
         | inr other ↦
             (let apart = other.1 in
             rw (ne_eqb most k (λ e. other.1 (sym e))) (or_false (is_among rs k) ∙ u.used k (omega (arith, under))))
@@ -102,8 +79,8 @@ used_all fixups most rs fit enough u = record {
   where
     past : (k : ℕ) → most ≤ k → is_among rs k ≡ uses_section fixups k
     past k over =
-        false_of (is_among rs k) (λ among. let low = u.below k among in omega (arith, low))
-        ∙ sym (false_of (uses_section fixups k) (λ used. let low = used_section-below fixups k fit used in omega (arith, low)))
+        false_from_ne_true (is_among rs k) (λ among. let low = u.below k among in omega (arith, low))
+        ∙ sym (false_from_ne_true (uses_section fixups k) (λ used. let low = used_section-below fixups k fit used in omega (arith, low)))
 
     go : (k : ℕ) (b : Bool) → nat_lt k most ≡ b → is_among rs k ≡ uses_section fixups k
     go k true e = u.used k (ltb-true k most e)

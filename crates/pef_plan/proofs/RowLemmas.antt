@@ -1,18 +1,15 @@
 -- A row of labels: what is chosen at each pair of classes, and what follows for the whole row.
-use Rattle.std.proofs.Common.{◌≡◌, ℕ, ◌+◌, ◌*◌, ◌<◌, ◌≤◌, true, List, ◌∷◌, length, slice_index, Some, ap, ap₂, sym, ◌∙◌, subst, arith}
-use Rattle.std.specs.List.{AllByRecursion}
-use Rattle.pef_reloc.specs.Fixups.{fixup_fits}
+use Rattle.std.proofs.Common.{◌≡◌, ℕ, ◌+◌, ◌*◌, ◌<◌, ◌≤◌, List, ◌∷◌, length, slice_index, Some, ap, sym, subst, arith}
 use Rattle.pef_reloc.specs.declared.fixup.Fixup.{Fixup}
 use Rattle.pef_cert.specs.Labels.{Labels, class_of}
 use Rattle.pef_cert.specs.Extension.{skips_at}
 use Rattle.pef_reloc.specs.declared.fixup.Base.{Base}
-use Rattle.pef_reloc.specs.declared.fixup.Base.TheVariants.{Section, Import}
+use Rattle.pef_reloc.specs.declared.fixup.Base.TheVariants.{Section}
 use Rattle.pef_runs.specs.declared.known.Known.{Known}
 use Rattle.pef_runs.specs.declared.place.Here.{Here}
 use Rattle.pef_runs.specs.declared.place.At.{At}
-use Rattle.pef_runs.specs.Places.{AtOf, Counts, HereOf}
-use Rattle.pef_plan.specs.Kept.Rows.{ClosedOf, DirectSquare, RowOf, SkipsOf, SmallSquare}
-use Rattle.pef_runs.specs.Tables.{Agrees, Shaped}
+use Rattle.pef_plan.specs.Kept.Rows.{SkipsOf}
+use Rattle.pef_runs.specs.Tables.{Agrees}
 
 -- a state of a row, with the registers in two classes
 pub record With (a : At) (c d : ℕ) (h : Here) : Type 0 where
@@ -23,33 +20,6 @@ pub record With (a : At) (c d : ℕ) (h : Here) : Type 0 where
   pub import_index : h.place.import_index ≡ a.import_index
   pub c_is : h.place.c ≡ c
   pub d_is : h.place.d ≡ d
-
-pub with-here : (k : Known) (a : At) (c d : ℕ) (h : Here) → AtOf k a → c < length k.registers.now + 1 → d < length k.registers.now + 1 → With a c d h → HereOf k h
-with-here k a c d h at under_c under_d w = record {
-  parts = w.left ∙ (at.parts ∙ ap₂ (λ f fs. f ∷ fs) (sym w.first) (sym w.others));
-  shaped = subst (λ (fs : List Fixup). Shaped k (length fs)) (sym w.others) at.shaped;
-  c = (let e = w.c_is in omega (arith, e, under_c));
-  d = (let e = w.d_is in omega (arith, e, under_d));
-  fit = subst (λ (fs : List Fixup). AllByRecursion (λ f. fixup_fits f ≡ true) fs) whole at.fit;
-  counts = subst (λ (fs : List Fixup). AllByRecursion (λ f. Counts k.registers.now f.base) fs) whole at.counts;
-  import_small = (let e = w.import_index in let small = at.import_small in omega (arith, e, small));
-}
-  where
-    whole : a.first ∷ a.others.now ≡ h.first ∷ h.others.now
-    whole = ap₂ (λ f fs. f ∷ fs) (sym w.first) (sym w.others)
-
-pub direct-small : (k : Known) (a : At) (square : List (List ℕ)) → AtOf k a → DirectSquare k a square → SmallSquare (length k.registers.now + 1) square
-direct-small k a square at direct = λ c under_c d under_d.
-    let small = (direct c under_c d under_d).small in
-    let count = at.shaped.count in
-    omega (arith, small, count)
-
-pub row-of : (k : Known) (a : At) (count : ℕ) (direct square : List (List ℕ)) → count ≡ length k.registers.now + 1 → DirectSquare k a direct → ClosedOf count direct square → RowOf k a square
-row-of k a count direct square same is closed = record {
-  direct = direct;
-  direct_is = is;
-  closed = subst (λ (n : ℕ). ClosedOf n direct square) same closed;
-}
 
 -- the least skip with register C in a class
 pub record SkipIs (k : Known) (a : At) (section c value : ℕ) : Type 0 where
@@ -75,13 +45,4 @@ skips-of k a section line base each = record {
   is = λ l other c agrees is under.
       subst (λ (j : ℕ). skips_at l a.first a.others.now c (class_of k.registers.now j) ≡ Some (slice_index line c)) (section_same section other a.first.base base is) ((each c under).is l agrees);
   small = λ c under. (each c under).small;
-}
-
-import_section : (j k : ℕ) (b : Base) → b ≡ Import j → b ≡ Section k → ⊥
-import_section j k b one two = absurd (cc)
-
-pub skips-import : (k : Known) (a : At) (import : ℕ) (line : List ℕ) → a.first.base ≡ Import import → ((c : ℕ) → c < length k.registers.now + 1 → slice_index line c ≡ 0) → SkipsOf k a line
-skips-import k a import line base zero = record {
-  is = λ l section c agrees is under. absurd (import_section import section a.first.base base is);
-  small = λ c under. let e = zero c under in omega (arith, e);
 }

@@ -1,9 +1,8 @@
 -- Runs against the tests of a label.
-use Rattle.std.proofs.Common.{◌≡◌, ℕ, suc, ◌+◌, ◌≤◌, Bool, true, false, ◌||◌, ◌==◌, List, ◌∷◌, ◌++◌, refl, ap, ◌∙◌, subst}
-use Rattle.std.proofs.lemmas.Bool.{le-leb}
+use Rattle.std.proofs.Common.{◌≡◌, ℕ, suc, ◌+◌, ◌≤◌, true, ◌==◌, List, ◌∷◌, ◌++◌, ap, ◌∙◌, subst}
+use Rattle.std.proofs.lemmas.Bool.{and_from, le-leb}
 use Rattle.pef_reloc.specs.declared.fixup.Base.TheVariants.{Section, Import}
 use Rattle.pef_reloc.specs.declared.fixup.Fixup.{Fixup}
-use Rattle.pef_words.proofs.Laws.Tests.{both_met}
 use Rattle.pef_cert.specs.Labels.{Labels, class_of}
 use Rattle.pef_cert.specs.Extension.{extension}
 use Rattle.pef_cert.specs.LabelTests.{base_test, import_cost, numbered_test, pairs_test, row_test}
@@ -14,6 +13,7 @@ use Rattle.pef_runs.specs.declared.runs.Run.{Run}
 use Rattle.pef_runs.specs.declared.runs.Run.TheVariants.{WordsOfC, WordsOfD, Spaced, Pairs, SpacedPairs, Imports}
 use Rattle.pef_runs.specs.Places.{HereOf}
 use Rattle.pef_runs.specs.Runs.{Ends, EndsFrom, limit}
+use Rattle.pef_words.proofs.Laws.Tests.{or_either}
 use Rattle.pef_plan.specs.Kept.Met.{MetInC, MetInD, PairsMet}
 use Rattle.pef_runs.proofs.Laws.{units_c, units_d, units_far, units_imports, units_pairs, units_spaced}
 
@@ -45,18 +45,14 @@ imports_met l value p m c d fixups ends = numbered_test-met l value c d 512 p m 
 pub both_pairs_met : (l : Labels) (h : Here) (j k value : ℕ) → EndsFrom l (Pairs j k) value 512 (h.first ∷ h.others.now) h.first.offset h.place.import_index h.place.c h.place.d → EndsFrom l (SpacedPairs j k) value 512 (h.first ∷ h.others.now) h.first.offset h.place.import_index h.place.c h.place.d → PairsMet l h j k value
 both_pairs_met l h j k value near far =
     asked-met (class_of l.registers k == h.place.d) _ (λ is.
-    both_met _ _ (pairs_met l value j k h.first.offset h.place.import_index h.place.c h.place.d (h.first ∷ h.others.now) near) (far_met l value j k h.first.offset h.place.import_index h.place.c h.place.d (h.first ∷ h.others.now) far))
-
-either_met : (a b : Bool) (P : Type 0) → (a ≡ true → P) → (b ≡ true → P) → (a || b) ≡ true → P
-either_met true b P left right e = left refl
-either_met false b P left right e = right e
+    and_from _ _ (pairs_met l value j k h.first.offset h.place.import_index h.place.c h.place.d (h.first ∷ h.others.now) near) (far_met l value j k h.first.offset h.place.import_index h.place.c h.place.d (h.first ∷ h.others.now) far))
 
 -- all that can begin by adding a section
 pub section_met : (l : Labels) (h : Here) (index k value : ℕ) → value ≤ 1 + extension l h.others.now (h.first.offset + 4) h.place.c h.place.d → ((class_of l.registers k == h.place.c) ≡ true → MetInC l h k value) → ((class_of l.registers k == h.place.d) ≡ true → MetInD l h k value) → base_test l value index h.first h.others.now h.place.c h.place.d (Section k) ≡ true
 section_met l h index k value low in_c in_d =
     section_tests-met l value index k h.first h.others.now h.place.c h.place.d (record {
       single = le-leb value (1 + extension l h.others.now (h.first.offset + 4) h.place.c h.place.d) low;
-      words = either_met (class_of l.registers k == h.place.c) (class_of l.registers k == h.place.d) _ (λ is. (in_c is).words) (λ is. (in_d is).words);
+      words = or_either (class_of l.registers k == h.place.c) (class_of l.registers k == h.place.d) _ (λ is. (in_c is).words) (λ is. (in_d is).words);
       spaced = λ is. (in_d is).spaced;
       second = λ is. (in_c is).second;
     })

@@ -1,6 +1,5 @@
 -- Steps from a place: what is known at a fixup, and that one of those that are tried leads on.
-use Rattle.std.proofs.Common.{◌≡◌, ℕ, ◌+◌, ◌<◌, ◌≤◌, ◌⊎◌, inl, inr, Bool, true, false, List, [], ◌∷◌, ◌++◌, length, slice_index, refl, ap, ap₂, sym, ◌∙◌, subst, arith, length-append}
-use Rattle.std.specs.List.{AllByRecursion}
+use Rattle.std.proofs.Common.{◌≡◌, ℕ, ◌+◌, ◌<◌, ◌≤◌, ◌⊎◌, inl, inr, true, List, [], ◌∷◌, ◌++◌, length, slice_index, refl, ap, ap₂, sym, ◌∙◌, subst, arith, length-append}
 use Rattle.pef_reloc.specs.declared.fixup.Fixup.{Fixup}
 use Rattle.pef_reloc.specs.declared.instr.Instr.{Instr}
 use Rattle.pef_reloc.specs.declared.instr.Instr.TheVariants.{BySectDWithSkip, BySectC, BySectD, TVector12, TVector8, VTable8, ImportRun, SmByImport, SmSetSectC, SmSetSectD, SmBySection, IncrPosition, SmRepeat, SetPosition, LgByImport, LgRepeat, LgBySection, LgSetSectC, LgSetSectD}
@@ -15,25 +14,22 @@ use Rattle.pef_runs.specs.declared.known.Known.{Known}
 use Rattle.pef_runs.specs.declared.place.Place.{Place}
 use Rattle.pef_runs.specs.declared.place.Here.{Here}
 use Rattle.pef_runs.specs.declared.place.Choice.{Choice}
-use Rattle.pef_runs.specs.Places.{Chosen, Counts, HereOf, InPlace}
+use Rattle.pef_runs.specs.Places.{Chosen, InPlace}
+use Rattle.std.proofs.lemmas.Bool.{false_from_ne_true}
+use Rattle.pef_words.proofs.Laws.Numbers.{below_or}
 use Rattle.pef_plan.specs.Kept.Steps.{FallsOn, Sections, Tracked, TrackedHere, labels_tabled}
 use Rattle.pef_runs.specs.Tables.{Agrees, label_in}
 use Rattle.pef_plan.specs.Reached.{LeadsOn, ReachedFrom}
-use Rattle.pef_reloc.specs.Fixups.{fixup_fits}
 use Rattle.pef_plan.proofs.FillLemmas.{registered-all}
-use Rattle.pef_runs.proofs.Laws.{agrees-behind, shaped_fewer}
+use Rattle.pef_runs.proofs.Laws.{agrees-behind}
 use Rattle.pef_reloc.specs.Limits.{most_sections}
 
 -- a section of each class
 pub section_there : (rs : List ℕ) (class : ℕ) → Sections rs → class < length rs → (class_of rs (slice_index rs class) ≡ class) × (slice_index rs class < most_sections)
 section_there rs class s under = (class_of-index rs class s.rising under, s.below (slice_index rs class) (is_among-index rs class under))
 
-false_of : (b : Bool) → (b ≡ true → ⊥) → b ≡ false
-false_of true never = absurd (never refl)
-false_of false never = refl
-
 pub section_free : (rs : List ℕ) → Sections rs → class_of rs most_sections ≡ length rs
-section_free rs s = class_of-other rs most_sections (false_of (is_among rs most_sections) (λ among. let low = s.below most_sections among in omega (arith, low)))
+section_free rs s = class_of-other rs most_sections (false_from_ne_true (is_among rs most_sections) (λ among. let low = s.below most_sections among in omega (arith, low)))
 
 pub section_is : (rs : List ℕ) (class : ℕ) → Sections rs → class < length rs → class_of rs (slice_index rs class) ≡ class
 section_is rs class s under = (section_there rs class s under).0
@@ -48,29 +44,12 @@ number_of : (rs : List ℕ) (class : ℕ) → Sections rs → (class < length rs
 number_of rs class s (inl under) = let there = section_there rs class s under in let low = there.1 in record { number = slice_index rs class; small = omega (arith, low); is = there.0 }
 number_of rs class s (inr last) = record { number = most_sections; small = omega arith; is = section_free rs s ∙ sym last }
 
-below_or : (a b : ℕ) → a < b + 1 → (a < b) ⊎ (a ≡ b)
-below_or a b under = grind (arith, under)
-
 pub tracked_world : (k : Known) (p : Place) → Tracked k p → World (labels_tabled k) p.import_index p.left.now
 tracked_world k p t = record {
   numbers = record { of = λ class under. number_of k.registers.now class t.sections (below_or class (length k.registers.now) under) };
   registered = registered-all k.registers.now p.left.now t.counts;
   feasible = t.feasible;
 }
-
--- the tables of what lies behind the first fixup
-pub tracked_here : (k : Known) (h : Here) → TrackedHere k h → HereOf k h
-tracked_here k h t =
-    let count = ap length t.parts in
-    record {
-      parts = t.parts;
-      shaped = shaped_fewer k (length h.place.left.now) (length h.others.now) t.at.shaped (omega (arith, count));
-      c = t.at.c;
-      d = t.at.d;
-      fit = subst (λ (fs : List Fixup). AllByRecursion (λ f. fixup_fits f ≡ true) fs) t.parts t.at.fit;
-      counts = subst (λ (fs : List Fixup). AllByRecursion (λ f. Counts k.registers.now f.base) fs) t.parts t.at.counts;
-      import_small = t.at.import_small;
-    }
 
 pub agrees_others : (k : Known) (h : Here) → TrackedHere k h → Agrees (labels_tabled k) k h.others.now
 agrees_others k h t =

@@ -2,7 +2,7 @@
 use Rattle.std.proofs.Common.{◌≡◌, ℕ, ◌≤◌, Bool, true, false, cond, List, [], ◌∷◌, ◌++◌, Option, None, Some, Result, Ok, Err, codes, length, refl, sym, ap, ap₂, subst, ◌∙◌, arith}
 use Rattle.std.proofs.lemmas.List.{length-append}
 use Rattle.cfm_store.specs.Stores.{Pair, place_of}
-use Rattle.cfm_libraries.specs.Faults.{◌>>=◌, Refusal}
+use Rattle.cfm_libraries.specs.Faults.{BindRefusal}
 use Rattle.cfm_libraries.specs.Walk.{order_of, unwalked}
 use Rattle.cfm_closure.specs.Closures.{Closed, closed_of, first_refused}
 use Rattle.cfm_closure.specs.Initialization.{init_order_of, is_ready, take_next, take_ready}
@@ -12,10 +12,11 @@ use Rattle.cfm_memory.specs.Instances.{Layout}
 use Rattle.cfm_memory.specs.declared.place.Place.{Place}
 use Rattle.cfm_present.specs.Fragments.{Present, places_of, positions}
 use Rattle.cfm_present.specs.Placing.{ArePrepared}
-use Rattle.cfm_prepare.specs.Contexts.{Open, State, fresh_state, open_of}
+use Rattle.cfm_prepare.specs.Contexts.{ContextState, Open, fresh_state, open_of}
 use Rattle.cfm_prepare.specs.Now.{IsPreparedNow}
 use Rattle.cfm_prepare.specs.Steps.{HasClosure, Prepares, new_of}
 use Rattle.pef_words.specs.Refusals.{unless}
+use Rattle.pef_words.specs.Results.{◌>>=◌}
 
 -- the last fragment of an order that has no more than one is the only one
 only-one : (front order : List ℕ) → order ≡ front ++ 0 ∷ [] → length order ≤ 1 → order ≡ 0 ∷ []
@@ -33,7 +34,7 @@ module _ (it : Pair) where
   abbrev pub closed-alone : Closed
   closed-alone = record { pairs = alone; order = 0 ∷ []; init_order = 0 ∷ [] }
 
-  abbrev closing : List ℕ → List ℕ → Result Closed Refusal
+  abbrev closing : List ℕ → List ℕ → Result Closed BindRefusal
   closing order init = Ok (record { pairs = alone; order = order; init_order = init })
 
   order-alone : (c : Closed) → closed_of alone 0 ≡ Ok c → c.order ≡ 0 ∷ []
@@ -41,7 +42,7 @@ module _ (it : Pair) where
       let last = closed-root alone 0 c (omega arith) is in
       only-one last.0 c.order last.1 (closed-complete alone 0 c is).count
 
-  ok-same : (a b : List ℕ) → ◌≡◌ {A = Result (List ℕ) Refusal} (Ok a) (Ok b) → a ≡ b
+  ok-same : (a b : List ℕ) → ◌≡◌ {A = Result (List ℕ) BindRefusal} (Ok a) (Ok b) → a ≡ b
   ok-same a b same = cc
 
   -- it is initialized once
@@ -66,15 +67,15 @@ module _ (it : Pair) where
   unfolding closed_of
   closed-is c is = walked (order_of alone 0) is
     where
-      ordered : (order : List ℕ) (r : Result (List ℕ) Refusal) → init_order_of alone order ≡ r → r >>= closing order ≡ Ok c → c ≡ closed-alone
+      ordered : (order : List ℕ) (r : Result (List ℕ) BindRefusal) → init_order_of alone order ≡ r → r >>= closing order ≡ Ok c → c ≡ closed-alone
       ordered order (Ok init) was ends = came c order init is was ends
       ordered order (Err e) was ends = absurd (cc)
 
-      passed : (order : List ℕ) (o : Option Refusal) → unless o (init_order_of alone order >>= closing order) ≡ Ok c → c ≡ closed-alone
+      passed : (order : List ℕ) (o : Option BindRefusal) → unless o (init_order_of alone order >>= closing order) ≡ Ok c → c ≡ closed-alone
       passed order None ends = ordered order (init_order_of alone order) refl ends
       passed order (Some e) ends = absurd (cc)
 
-      walked : (r : Result (List ℕ) Refusal) → r >>= (λ order. unless (first_refused alone order) (init_order_of alone order >>= closing order)) ≡ Ok c → c ≡ closed-alone
+      walked : (r : Result (List ℕ) BindRefusal) → r >>= (λ order. unless (first_refused alone order) (init_order_of alone order >>= closing order)) ≡ Ok c → c ≡ closed-alone
       walked (Ok order) ends = passed order (first_refused alone order) ends
       walked (Err e) ends = absurd (cc)
 
@@ -91,12 +92,12 @@ is-first (f ∷ []) is =
 is-first (f ∷ g ∷ fs) is = absurd (cc)
 
 -- a fragment that is present alone was prepared in a memory, and nothing else is in it
-pub record StandsAlone (pairs : List Pair) (s : State) (m : Layout) : Type 0 where
+pub record StandsAlone (pairs : List Pair) (s : ContextState) (m : Layout) : Type 0 where
   pub now : IsPreparedNow pairs s 0
   pub first : now.before ≡ m
   pub others : given_back s.memory (places_of s.present 0) ≡ m
 
-stands-alone : (pairs : List Pair) (s : State) (m : Layout) (places : List Place) → s.present ≡ (record { position = 0; places = places }) ∷ [] → ArePrepared pairs [] m (0 ∷ []) ((record { position = 0; places = places }) ∷ []) s.memory → StandsAlone pairs s m
+stands-alone : (pairs : List Pair) (s : ContextState) (m : Layout) (places : List Place) → s.present ≡ (record { position = 0; places = places }) ∷ [] → ArePrepared pairs [] m (0 ∷ []) ((record { position = 0; places = places }) ∷ []) s.memory → StandsAlone pairs s m
 stands-alone pairs s m places here is = record {
   now = record {
     before = m;
@@ -124,7 +125,7 @@ module _ (bytes : List ℕ) (limit : ℕ) where
   abbrev it : Pair
   it = record { name = codes "it"; bytes = bytes }
 
-  abbrev start : State
+  abbrev start : ContextState
   start = fresh_state (store-of bytes) limit
 
   -- it has one closure
@@ -136,7 +137,7 @@ module _ (bytes : List ℕ) (limit : ℕ) where
   pub new-is : (has : HasClosure start (codes "it")) → new_of start has.closed ≡ 0 ∷ []
   new-is has = ap (new_of start) (closure-is has)
 
-  module _ (s : State) (number : ℕ) (done : Prepares start (codes "it") number s) where
+  module _ (s : ContextState) (number : ℕ) (done : Prepares start (codes "it") number s) where
     -- its connection is the only one
     abbrev pub opened : Open
     opened = record { number = 0; root = 0; closed = closed-alone it }

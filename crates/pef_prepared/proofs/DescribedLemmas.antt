@@ -1,6 +1,6 @@
 -- A container that was linked of a script, placed, filled and relocated with any addresses of its imports' targets,
 -- has the memory that the script describes under these; and nothing of it is refused.
-use Rattle.std.proofs.Common.{◌≡◌, ℕ, suc, ◌+◌, ◌<◌, ◌≤◌, ◌==◌, true, false, List, [], ◌∷◌, None, Some, get_or, length, map, option_map, inl, inr, refl, sym, ap, ap₂, subst, ◌∙◌, arith}
+use Rattle.std.proofs.Common.{◌≡◌, ℕ, suc, ◌+◌, ◌<◌, ◌==◌, true, false, List, [], ◌∷◌, None, Some, get_or, length, map, option_map, inl, inr, refl, sym, ap, ap₂, subst, ◌∙◌, arith}
 use Rattle.std.specs.List.{slice_get}
 use Rattle.std.specs.Option.{option_and_then, option_map_or}
 use Rattle.std.specs.Prelude.{Ok}
@@ -19,8 +19,8 @@ use Rattle.pef_reloc.specs.declared.instr.Instr.{Instr}
 use Rattle.pef_reloc.specs.Additions.{AreInside}
 use Rattle.pef_reloc.specs.Applied.{Addresses, Done, address_of}
 use Rattle.pef_reloc.specs.Headers.{program_done, refusal_at, relocated_by, untouched}
-use Rattle.pef_reloc.specs.Instrs.{program_length, spelled}
-use Rattle.pef_reloc.proofs.Laws.{fixups_fit-parts, some_length}
+use Rattle.pef_reloc.specs.Instrs.{spelled}
+use Rattle.pef_reloc.proofs.Laws.{count-length, fixups_fit-parts}
 use Rattle.pef_reloc.proofs.Laws.Headers.{program-described, programs-sound, refusal-of}
 use Rattle.pef_script.specs.Described.{described_at, described_memory}
 use Rattle.pef_script.specs.Script.{DescribedScript, DescribedSection}
@@ -38,11 +38,6 @@ use Rattle.pef_write.proofs.Laws.{section_programs}
 use Rattle.pef_prepared.specs.Now.{described_extent, described_extents}
 use Rattle.pef_prepared.proofs.LinkedLemmas.{IsContainerOf}
 use Rattle.pef_prepared.proofs.ProgramLemmas.{Owns, fixups_inside, owns_program, section_made}
-
--- instructions have no more halfwords than their program
-length_most : (instrs : List Instr) → length instrs ≤ program_length instrs
-length_most [] = omega arith
-length_most (x ∷ instrs) = omega (arith, some_length x, length_most instrs)
 
 -- a section of a script is never packed
 not_packed : (kind : ℕ) → is_kind kind ≡ true → (kind == 2) ≡ false
@@ -108,7 +103,7 @@ module _ (script : DescribedScript) (k : LinkedContainer) (linked : IsLinked scr
       let I : ℕ → Type 0 = λ n. AreInside a n s.fixups in
       let P : ℕ → Type 0 = λ n. (instrs : List Instr) → IsProgramFor n s.fixups instrs → program_done a (spelled instrs) memory ≡ untouched (described_memory (address_of a) s) in
       let parts = fixups_fit-parts s.fixups holds.fixups in
-      let makes : P (length a.sections) = λ instrs program. program-described a s.fixups instrs memory program.flat program.makes program.names (omega (arith, program.short, parts.count, length_most instrs)) parts.apart (subst I (sym whole) inside) in
+      let makes : P (length a.sections) = λ instrs program. program-described a s.fixups instrs memory program.flat program.makes program.names (omega (arith, program.short, parts.count, count-length instrs)) parts.apart (subst I (sym whole) inside) in
       let entries = programs_from 0 script.sections linked.programs in
       let from_0 : 0 + i ≡ i = omega arith in
       let own : Owns (length script.sections) i s.fixups entries = subst (λ j. Owns (length script.sections) j s.fixups entries) from_0 (owns_program (length script.sections) i 0 script.sections linked.programs s linked.are there) in

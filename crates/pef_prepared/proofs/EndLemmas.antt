@@ -9,7 +9,7 @@ use Rattle.pef_ports.specs.declared.input.InputFault.{InputFault}
 use Rattle.pef_ports.specs.declared.input.InputFault.TheVariants.{Unreadable, TooLong, OutOfMemory}
 use Rattle.pef_script_text.specs.Grammar.{script_of}
 use Rattle.pef_script.specs.Script.{DescribedScript}
-use Rattle.pef_script_text.specs.Reads.{Fails}
+use Rattle.pef_script_text.specs.Reads.{FailsAs}
 use Rattle.pef_script_text.specs.declared.fault.ScriptFault.{ScriptFault}
 use Rattle.pef_script_text.specs.declared.fault.ScriptFault.TheVariants as script_fault
 use Rattle.pef_prepared.specs.Kept.Showing.{ScriptEnds}
@@ -43,7 +43,7 @@ fault_ends before after OutOfMemory reads = reads
 
 -- an input that is no script ends it
 pub no_script_shown : (before after : Stream) (read : Vec ℕ Global) (text : List ℕ) (fault : ScriptFault)
-    → ReadsInput (Ok read) before after input_limit → text ≡ read.items → Fails fault (script_of text) → ShowEnds before after (refuses (script_refusal fault))
+    → ReadsInput (Ok read) before after input_limit → text ≡ read.items → FailsAs fault (script_of text) → ShowEnds before after (refuses (script_refusal fault))
 no_script_shown before after read text (script_fault.Refused fault line) reads same fails = record {
   text = read.items;
   input = record { whole = reads.0; short = reads.2; sound = reads.3 };

@@ -2,7 +2,7 @@
 use Rattle.std.proofs.Common.{◌≡◌, ◌≢◌, ℕ, zero, suc, ◌==◌, Bool, true, false, List, [], ◌∷◌, Some, Result, Ok, option_map, slice_get, eq-eqb, refl, sym, ap, subst, ◌∙◌}
 use Rattle.std.specs.List.{filter}
 use Rattle.cfm_store.specs.Stores.{Pair, pair_of}
-use Rattle.cfm_libraries.specs.Faults.{Refusal}
+use Rattle.cfm_libraries.specs.Faults.{BindRefusal}
 use Rattle.cfm_libraries.specs.Fragments.{Fragment, fragment_of}
 use Rattle.pef_loader.specs.Loader.{Loaded}
 use Rattle.pef_reloc.specs.Headers.{IsOther}
@@ -73,7 +73,7 @@ has_program s programs loader k (fixup ∷ fixups) instrs tables own =
       others = λ i apart. subst (IsOther k) (sym (tables.relocs i)) (one.others i apart);
     }
 
-fragment_is : (f g : Fragment) (read : Result Fragment Refusal) → read ≡ Ok f → read ≡ Ok g → f ≡ g
+fragment_is : (f g : Fragment) (read : Result Fragment BindRefusal) → read ≡ Ok f → read ≡ Ok g → f ≡ g
 fragment_is f g read one two = let both = sym one ∙ two in cc
 
 -- each section of what was linked has a least program, in the loader section that is read of its bytes

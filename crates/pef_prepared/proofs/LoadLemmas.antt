@@ -1,20 +1,20 @@
 -- Files that are read one after the other, and what is prepared of them.
-use Rattle.std.proofs.Common.{◌≡◌, ℕ, zero, suc, ◌+◌, ◌<◌, ◌≤◌, ◌==◌, ◌^◌, Bool, false, List, [], ◌∷◌, ◌++◌, Ok, inl, inr, length, get_or, map, take, drop, refl, sym, ap, subst, ◌∙◌, append_assoc, arith}
+use Rattle.std.proofs.Common.{◌≡◌, ℕ, zero, suc, ◌+◌, ◌<◌, ◌≤◌, ◌==◌, ◌^◌, Bool, false, List, [], ◌∷◌, ◌++◌, Ok, inl, inr, length, get_or, map, take, drop, refl, sym, ap, subst, ◌∙◌, arith}
 use Rattle.std.proofs.lemmas.List.{map_more, take-map, take_all}
 use Rattle.cfm_store.specs.Stores.{Pair}
 use Rattle.cfm_memory.specs.Extents.{given_back}
 use Rattle.cfm_memory.specs.Instances.{Layout, with_instances, without}
 use Rattle.cfm_memory.specs.declared.place.Place.{Place}
 use Rattle.cfm_present.specs.Fragments.{Present, all_given_back}
-use Rattle.cfm_prepare.specs.Contexts.{State, fresh_state}
+use Rattle.cfm_prepare.specs.Contexts.{ContextState, fresh_state}
 use Rattle.cfm_prepare.specs.Steps.{Prepares}
 use Rattle.pef_ports.specs.Ports.{FilesPort, Reads}
 use Rattle.pef_ports.specs.declared.ports.FileFault.TheVariants as file_fault
-use Rattle.pef_request.specs.Requests.{pair_of}
+use Rattle.pef_request.specs.Requests.{named_path}
 use Rattle.pef_request.specs.declared.files.NamedFile.{NamedFile}
 use Rattle.pef_prepared.specs.Kept.Loading.{StopsFile, StopsReading}
 use Rattle.pef_prepared.specs.Limits.{memory_limit}
-use Rattle.pef_prepared.specs.Load.{StopsAt, WereRead, first_name, paired}
+use Rattle.pef_prepared.specs.Load.{StopsAt, WereRead, first_name}
 use Rattle.pef_prepared.specs.declared.load.ReadingFault.{ReadingFault}
 use Rattle.pef_prepared.specs.declared.load.ReadingFault.TheVariants.{Unreadable, OutOfMemory}
 
@@ -31,11 +31,11 @@ module _ {F : Type 0} (port : FilesPort F) where
 
   -- the same of the files that stand before the next one
   pub read-next : (before between after : F) (xs : List NamedFile) (i : ℕ) (d : NamedFile) (contents : List (List ℕ)) (bytes : List ℕ)
-      → i < length xs → WereRead port before between (map pair_of (take i xs)) contents → Reads port between after (get_or xs i d).path.now (Ok bytes)
-      → WereRead port before after (map pair_of (take (i + 1) xs)) (contents ++ bytes ∷ [])
+      → i < length xs → WereRead port before between (map named_path (take i xs)) contents → Reads port between after (get_or xs i d).path.now (Ok bytes)
+      → WereRead port before after (map named_path (take (i + 1) xs)) (contents ++ bytes ∷ [])
   read-next before between after xs i d contents bytes under read next =
       let P : List (List ℕ × List ℕ) → Type 0 = λ named. WereRead port before after named (contents ++ bytes ∷ []) in
-      subst P (sym (map_more pair_of xs i d under)) (read-more before between after (map pair_of (take i xs)) contents (pair_of (get_or xs i d)) bytes read next)
+      subst P (sym (map_more named_path xs i d under)) (read-more before between after (map named_path (take i xs)) contents (named_path (get_or xs i d)) bytes read next)
 
   -- as many bytes as files
   pub were-length : (before after : F) (named : List (List ℕ × List ℕ)) (contents : List (List ℕ)) → WereRead port before after named contents → length contents ≡ length named
@@ -45,30 +45,30 @@ module _ {F : Type 0} (port : FilesPort F) where
   were-length before after (f ∷ named) (c ∷ contents) read = ap suc (were-length read.0 after named contents read.2)
 
   -- all were read
-  pub read-all : (before after : F) (xs : List NamedFile) (i : ℕ) (contents : List (List ℕ)) → length xs ≤ i → WereRead port before after (map pair_of (take i xs)) contents → WereRead port before after (map pair_of xs) contents
+  pub read-all : (before after : F) (xs : List NamedFile) (i : ℕ) (contents : List (List ℕ)) → length xs ≤ i → WereRead port before after (map named_path (take i xs)) contents → WereRead port before after (map named_path xs) contents
   read-all before after xs i contents past read =
-      let P : List NamedFile → Type 0 = λ ys. WereRead port before after (map pair_of ys) contents in
+      let P : List NamedFile → Type 0 = λ ys. WereRead port before after (map named_path ys) contents in
       subst P (take_all i xs past) read
 
   -- the files that stand before one, that one, and those behind it
-  apart : (xs : List NamedFile) (i : ℕ) (d : NamedFile) → i < length xs → map pair_of xs ≡ map pair_of (take i xs) ++ pair_of (get_or xs i d) ∷ map pair_of (drop (i + 1) xs)
+  apart : (xs : List NamedFile) (i : ℕ) (d : NamedFile) → i < length xs → map named_path xs ≡ map named_path (take i xs) ++ named_path (get_or xs i d) ∷ map named_path (drop (i + 1) xs)
   apart [] i d under = absurd (omega (arith, under))
   apart (x ∷ xs) zero d under = refl
   apart (x ∷ xs) (suc k) d under =
       let more : suc k + 1 ≡ suc (k + 1) = omega arith in
-      ap (λ (ys : List (List ℕ × List ℕ)). pair_of x ∷ ys) (apart xs k d (omega (arith, under)))
-      ∙ ap (λ n. pair_of x ∷ (map pair_of (take k xs) ++ pair_of (get_or xs k d) ∷ map pair_of (drop n (x ∷ xs)))) (sym more)
+      ap (λ (ys : List (List ℕ × List ℕ)). named_path x ∷ ys) (apart xs k d (omega (arith, under)))
+      ∙ ap (λ n. named_path x ∷ (map named_path (take k xs) ++ named_path (get_or xs k d) ∷ map named_path (drop n (x ∷ xs)))) (sym more)
 
   -- a file that can't be read stops the reading
   pub stops : (before between after : F) (xs : List NamedFile) (i : ℕ) (d : NamedFile) (contents : List (List ℕ)) (fault : ReadingFault)
-      → i < length xs → WereRead port before between (map pair_of (take i xs)) contents → StopsFile port between after (get_or xs i d).path.now fault → StopsReading port before after (map pair_of xs) fault
+      → i < length xs → WereRead port before between (map named_path (take i xs)) contents → StopsFile port between after (get_or xs i d).path.now fault → StopsReading port before after (map named_path xs) fault
   stops before between after xs i d contents (Unreadable told) under read stop =
-      let P : List ℕ → Type 0 = λ path. StopsAt port before after (map pair_of xs) path file_fault.Failed in
+      let P : List ℕ → Type 0 = λ path. StopsAt port before after (map named_path xs) path file_fault.Failed in
       let file = get_or xs i d in
       subst P (sym stop.0) (record {
-        done = map pair_of (take i xs);
+        done = map named_path (take i xs);
         name = file.name.now;
-        left = map pair_of (drop (i + 1) xs);
+        left = map named_path (drop (i + 1) xs);
         are = apart xs i d under;
         contents = contents;
         between = between;
@@ -80,9 +80,9 @@ module _ {F : Type 0} (port : FilesPort F) where
       inr (
         file.path.now,
         record {
-          done = map pair_of (take i xs);
+          done = map named_path (take i xs);
           name = file.name.now;
-          left = map pair_of (drop (i + 1) xs);
+          left = map named_path (drop (i + 1) xs);
           are = apart xs i d under;
           contents = contents;
           between = between;
@@ -92,10 +92,10 @@ module _ {F : Type 0} (port : FilesPort F) where
       )
 
   -- memory was refused behind the first files
-  pub lacks-behind : (before after : F) (xs : List NamedFile) (i : ℕ) (contents : List (List ℕ)) → WereRead port before after (map pair_of (take i xs)) contents → StopsReading port before after (map pair_of xs) OutOfMemory
+  pub lacks-behind : (before after : F) (xs : List NamedFile) (i : ℕ) (contents : List (List ℕ)) → WereRead port before after (map named_path (take i xs)) contents → StopsReading port before after (map named_path xs) OutOfMemory
   lacks-behind before after xs i contents read =
       let P : List (List ℕ × List ℕ) → Type 0 = λ named. WereRead port before after named contents in
-      inl (i, contents, subst P (sym (take-map pair_of i xs)) read)
+      inl (i, contents, subst P (sym (take-map named_path i xs)) read)
 
   -- or behind all of them
   pub lacks-all : (before after : F) (named : List (List ℕ × List ℕ)) (contents : List (List ℕ)) → WereRead port before after named contents → WereRead port before after (take (length named) named) contents
@@ -110,16 +110,9 @@ some-files [] empty is some = absurd (cc)
 some-files (x ∷ xs) empty is some = omega arith
 
 -- the first name is that of the first file
-pub first-is : (xs : List NamedFile) (d : NamedFile) → 0 < length xs → first_name (map pair_of xs) ≡ (get_or xs 0 d).name.now
+pub first-is : (xs : List NamedFile) (d : NamedFile) → 0 < length xs → first_name (map named_path xs) ≡ (get_or xs 0 d).name.now
 first-is [] d some = absurd (omega (arith, some))
 first-is (x ∷ xs) d some = refl
-
--- one pair of a store
-pub pair-next : (named : List (List ℕ × List ℕ)) (contents : List (List ℕ)) (file : List ℕ × List ℕ) (bytes : List ℕ) (store now whole : List Pair)
-    → now ≡ store ++ (record { name = file.0; bytes = bytes }) ∷ [] → store ++ paired (file ∷ named) (bytes ∷ contents) ≡ whole → now ++ paired named contents ≡ whole
-pair-next named contents file bytes store now whole is before =
-    let pair : Pair = record { name = file.0; bytes = bytes } in
-    ap (λ (ps : List Pair). ps ++ paired named contents) is ∙ append_assoc store (pair ∷ []) (paired named contents) ∙ before
 
 -- what is given back leaves the limit
 given-limit : (m : Layout) (places : List Place) → (given_back m places).limit ≡ m.limit
@@ -131,7 +124,7 @@ all-limit m [] = refl
 all-limit m (f ∷ fs) = all-limit (given_back m f.places) fs ∙ given-limit m f.places
 
 -- memory keeps its limit when fragments are prepared
-pub prepared-limit : (pairs : List Pair) (name : List ℕ) (number : ℕ) (s : State) → Prepares (fresh_state pairs memory_limit) name number s → s.memory.limit ≤ 2 ^ 32
+pub prepared-limit : (pairs : List Pair) (name : List ℕ) (number : ℕ) (s : ContextState) → Prepares (fresh_state pairs memory_limit) name number s → s.memory.limit ≤ 2 ^ 32
 prepared-limit pairs name number s done =
     let same : s.memory.limit ≡ memory_limit = sym (all-limit s.memory done.fresh) ∙ ap (λ (m : Layout). m.limit) done.prepared.others in
     omega (arith, same)

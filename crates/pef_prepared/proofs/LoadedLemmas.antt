@@ -5,9 +5,9 @@ use Rattle.std.proofs.lemmas.List.{append-nil, at_drop_more, drop_all, take_all,
 use Rattle.cfm_memory.specs.Instances.{Layout, bytes_at}
 use Rattle.cfm_memory.specs.declared.place.Place.{Place}
 use Rattle.cfm_present.specs.Sections.{held_at}
-use Rattle.cfm_prepare.specs.Contexts.{State}
+use Rattle.cfm_prepare.specs.Contexts.{ContextState}
 use Rattle.pef_ports.specs.Text.{word_text}
-use Rattle.pef_prepared.specs.Fragment.{PlacedSection, entry_text, section_at}
+use Rattle.pef_prepared.specs.Fragment.{PlacedSection, entry_text, placed_section}
 use Rattle.pef_prepared.specs.Kept.Routines.{place_of, routine_text, routines_text}
 use Rattle.pef_prepared.specs.Loaded.{inits_text, term_text, terms_text}
 use Rattle.pef_prepared.specs.declared.loaded.Routine.{Routine}
@@ -29,32 +29,32 @@ held-one p (Some b) address bytes same =
 
 -- a section that is found is the one at its place
 pub held-section : (m : Layout) (places : List Place) (i : ℕ) (d : Place) (address : ℕ) (bytes : List ℕ) → i < length places → ◌≡◌ {A = Option (ℕ × List ℕ)} (Some (address, bytes)) (option_and_then (held_at m) (slice_get places i))
-    → section_at m (get_or places i d) ≡ record { address = address; bytes = bytes }
+    → placed_section m (get_or places i d) ≡ record { address = address; bytes = bytes }
 held-section m [] i d address bytes under found = absurd (omega (arith, under))
 held-section m (p ∷ places) zero d address bytes under found = held-one p (bytes_at m.instances p.address) address bytes found
 held-section m (p ∷ places) (suc i) d address bytes under found = held-section m places i d address bytes (omega (arith, under)) found
 
 -- one more in reverse order
-terms-more : (s : State) (number : ℕ) (ps : List ℕ) (p : ℕ) → terms_text s number (ps ++ p ∷ []) ≡ term_text s number p ++ terms_text s number ps
+terms-more : (s : ContextState) (number : ℕ) (ps : List ℕ) (p : ℕ) → terms_text s number (ps ++ p ∷ []) ≡ term_text s number p ++ terms_text s number ps
 terms-more s number [] p = sym (append-nil (term_text s number p))
 terms-more s number (q ∷ ps) p = ap (λ t. t ++ term_text s number q) (terms-more s number ps p) ∙ append_assoc (term_text s number p) (terms_text s number ps) (term_text s number q)
 
-terms-next : (s : State) (number : ℕ) (order : List ℕ) (i d : ℕ) → i < length order → terms_text s number (take (i + 1) order) ≡ term_text s number (get_or order i d) ++ terms_text s number (take i order)
+terms-next : (s : ContextState) (number : ℕ) (order : List ℕ) (i d : ℕ) → i < length order → terms_text s number (take (i + 1) order) ≡ term_text s number (get_or order i d) ++ terms_text s number (take i order)
 terms-next s number order i d under = ap (terms_text s number) (take_more order i d under) ∙ terms-more s number (take i order) (get_or order i d)
 
 -- the lines of routines that are left behind the first i: of the fragments behind them, or, where the last one comes
 -- first, of those before them
-abbrev pub routines-left : Routine → State → ℕ → List ℕ → ℕ → List ℕ
+abbrev pub routines-left : Routine → ContextState → ℕ → List ℕ → ℕ → List ℕ
 routines-left Init s number order i = inits_text s number (drop i order)
 routines-left Term s number order i = terms_text s number (take (length order - i) order)
 
-pub routines-start : (r : Routine) (s : State) (number : ℕ) (order : List ℕ) → routines-left r s number order 0 ≡ routines_text r s number order
+pub routines-start : (r : Routine) (s : ContextState) (number : ℕ) (order : List ℕ) → routines-left r s number order 0 ≡ routines_text r s number order
 routines-start Init s number order = refl
 routines-start Term s number order =
     let all : length order - 0 ≡ length order = omega arith in
     ap (λ n. terms_text s number (take n order)) all ∙ ap (terms_text s number) (take_all (length order) order (omega arith))
 
-pub routines-next : (r : Routine) (s : State) (number : ℕ) (order : List ℕ) (i : ℕ) → i < length order
+pub routines-next : (r : Routine) (s : ContextState) (number : ℕ) (order : List ℕ) (i : ℕ) → i < length order
     → routines-left r s number order i ≡ routine_text r s number (get_or order (place_of r (length order) i) 0) ++ routines-left r s number order (i + 1)
 routines-next Init s number order i under = at_drop_more (inits_text s number) order i 0 under
 routines-next Term s number order i under =
@@ -64,7 +64,7 @@ routines-next Term s number order i under =
     ap (λ n. terms_text s number (take n order)) here ∙ terms-next s number order at 0 (omega arith)
     ∙ ap (λ n. term_text s number (get_or order at 0) ++ terms_text s number (take n order)) before
 
-pub routines-end : (r : Routine) (s : State) (number : ℕ) (order : List ℕ) (i : ℕ) → length order ≤ i → routines-left r s number order i ≡ []
+pub routines-end : (r : Routine) (s : ContextState) (number : ℕ) (order : List ℕ) (i : ℕ) → length order ≤ i → routines-left r s number order i ≡ []
 routines-end Init s number order i past = ap (inits_text s number) (drop_all i order past)
 routines-end Term s number order i past =
     let none : length order - i ≡ 0 = omega arith in

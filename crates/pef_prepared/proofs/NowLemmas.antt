@@ -10,9 +10,9 @@ use Rattle.cfm_memory.specs.Extents.{ArePlaced}
 use Rattle.cfm_memory.specs.Instances.{Layout}
 use Rattle.cfm_memory.specs.declared.place.Place.{Place}
 use Rattle.cfm_memory.proofs.Laws.{length-placed}
-use Rattle.cfm_present.specs.Addresses.{addresses_of, imports_from}
+use Rattle.cfm_present.specs.Addresses.{addresses_from, addresses_of}
 use Rattle.cfm_present.specs.Fragments.{Present, extents_in, image_refusal_in, is_present, places_of, prepared_in, reloc_refusal_in}
-use Rattle.cfm_prepare.specs.Contexts.{State, fresh_state}
+use Rattle.cfm_prepare.specs.Contexts.{ContextState, fresh_state}
 use Rattle.cfm_prepare.specs.Now.{IsPreparedNow}
 use Rattle.cfm_prepare.specs.Runs.{Runs, Step}
 use Rattle.cfm_prepare.specs.Steps.{Prepares}
@@ -28,7 +28,7 @@ use Rattle.pef_prepared.proofs.DescribedLemmas.{AreAddresses, addresses_are, ext
 use Rattle.pef_prepared.proofs.LinkedLemmas.{FragmentLinked, fragment_linked, read_fragment}
 
 -- there is an address for each import
-length-from : (pairs : List Pair) (all : List Present) (p j n : ℕ) → length (imports_from pairs all p j n) ≡ n
+length-from : (pairs : List Pair) (all : List Present) (p j n : ℕ) → length (addresses_from pairs all p j n) ≡ n
 length-from pairs all p j zero = refl
 length-from pairs all p j (suc n) = ap suc (length-from pairs all p (j + 1) n)
 
@@ -58,16 +58,16 @@ module _ (script : DescribedScript) (k : LinkedContainer) (linked : IsLinked scr
       ∙ ap (λ o. option_map_or (λ (l : Loaded). prepared_at whole.container l a i) o []) loader-is
 
   -- with places its sections and its imports have addresses
-  addressed : (all : List Present) (before empty : Layout) (places : List Place) → ArePlaced before (extents_in pairs p) places empty → AreAddresses script (addresses_at places (imports_from pairs all p 0 (import_count pairs p)))
+  addressed : (all : List Present) (before empty : Layout) (places : List Place) → ArePlaced before (extents_in pairs p) places empty → AreAddresses script (addresses_at places (addresses_from pairs all p 0 (import_count pairs p)))
   addressed all before empty places placed =
-      addresses_are script k linked whole.container whole.loader own.of before empty (imports_from pairs all p 0 (import_count pairs p)) places (length-from pairs all p 0 (import_count pairs p) ∙ count-is)
+      addresses_are script k linked whole.container whole.loader own.of before empty (addresses_from pairs all p 0 (import_count pairs p)) places (length-from pairs all p 0 (import_count pairs p) ∙ count-is)
       (subst (λ es. ArePlaced before es places empty) extents-in placed)
 
   -- so it is described, in the memory that it was placed in
-  pub described-from : (s : State) (now : IsPreparedNow pairs s p) → (d : IsDescribedNow pairs s script p) × (d.before ≡ now.before)
+  pub described-from : (s : ContextState) (now : IsPreparedNow pairs s p) → (d : IsDescribedNow pairs s script p) × (d.before ≡ now.before)
   described-from s now =
       let places = places_of s.present p in
-      let imports = imports_from pairs s.present p 0 (import_count pairs p) in
+      let imports = addresses_from pairs s.present p 0 (import_count pairs p) in
       let here : ArePlaced now.before (extents_of whole.container) places now.empty = subst (λ es. ArePlaced now.before es places now.empty) extents-in now.placed in
       let sizes = length-placed now.before (extents_of whole.container) places now.empty here ∙ length-extents script k linked whole.container whole.loader own.of in
       let are = addressed s.present now.before now.empty places now.placed in (
@@ -78,19 +78,19 @@ module _ (script : DescribedScript) (k : LinkedContainer) (linked : IsLinked scr
           stand = λ i under.
               now.stand i under
               ∙ ap Some (prepared-in (addresses_at places imports) i ∙ prepared_is script k linked whole.container whole.loader own.of (addresses_at places imports) are i (omega (arith, under, sizes))
-              ∙ ap (λ n. described_at (address_of (addresses_at places (imports_from pairs s.present p 0 n))) script i) count-is);
+              ∙ ap (λ n. described_at (address_of (addresses_at places (addresses_from pairs s.present p 0 n))) script i) count-is);
         },
         refl,
       )
 
-  described-now : (s : State) → IsPreparedNow pairs s p → IsDescribedNow pairs s script p
+  described-now : (s : ContextState) → IsPreparedNow pairs s p → IsDescribedNow pairs s script p
   described-now s now = (described-from s now).0
 
-pub present-described : (script : DescribedScript) (k : LinkedContainer) (pairs : List Pair) (limit : ℕ) (steps : List Step) (s : State) (p : ℕ) → IsLinked script k → (pair_of pairs p).bytes ≡ k.bytes → Runs (fresh_state pairs limit) steps s → is_present s.present p ≡ true
+pub present-described : (script : DescribedScript) (k : LinkedContainer) (pairs : List Pair) (limit : ℕ) (steps : List Step) (s : ContextState) (p : ℕ) → IsLinked script k → (pair_of pairs p).bytes ≡ k.bytes → Runs (fresh_state pairs limit) steps s → is_present s.present p ≡ true
     → IsDescribedNow pairs s script p
 present-described script k pairs limit steps s p linked holds run is = described-now script k linked pairs p holds s (run-now pairs limit steps s p run is)
 
-pub closure-described : (script : DescribedScript) (k : LinkedContainer) (pairs : List Pair) (limit : ℕ) (steps : List Step) (s t : State) (name : List ℕ) (number p : ℕ) → IsLinked script k → (pair_of pairs p).bytes ≡ k.bytes → Runs (fresh_state pairs limit) steps s
+pub closure-described : (script : DescribedScript) (k : LinkedContainer) (pairs : List Pair) (limit : ℕ) (steps : List Step) (s t : ContextState) (name : List ℕ) (number p : ℕ) → IsLinked script k → (pair_of pairs p).bytes ≡ k.bytes → Runs (fresh_state pairs limit) steps s
     → (step : Prepares s name number t) → Contains step.closure.closed.order p → (is_present t.present p ≡ true) × IsDescribedNow pairs t script p
 closure-described script k pairs limit steps s t name number p linked holds run step there =
     let now = run-prepares pairs limit steps s t name number p run step there in (now.0, described-now script k linked pairs p holds t now.1)
@@ -109,7 +109,7 @@ pub linked-relocated : (script : DescribedScript) (k : LinkedContainer) (pairs :
     → reloc_refusal_in pairs (addresses_of pairs all (record { position = p; places = places })) p ≡ None
 linked-relocated script k pairs p all before empty places linked holds placed =
     let f = read_fragment script k linked pairs p in
-    let a = addresses_at places (imports_from pairs all p 0 (import_count pairs p)) in
+    let a = addresses_at places (addresses_from pairs all p 0 (import_count pairs p)) in
     ap (λ o. option_and_then (λ (c : Contained). option_and_then (λ (l : Loaded). first_reloc_refusal c l a) (loader_at pairs p)) o) (container-is script k linked pairs p holds)
     ∙ ap (λ o. option_and_then (λ (l : Loaded). first_reloc_refusal f.container l a) o) (loader-is script k linked pairs p holds)
     ∙ headers_sound script k linked f.container f.loader (own script k linked pairs p holds).of a (addressed script k linked pairs p holds all before empty places placed)

@@ -3,8 +3,6 @@ use Rattle.std.proofs.Common.{◌≡◌, ◌≢◌, ◌⊎◌, ℕ, zero, suc, �
 use Rattle.std.specs.List.{AllByRecursion, slice_get}
 use Rattle.std.proofs.lemmas.Option.{slice_get_within}
 use Rattle.pef_words.proofs.Laws.Lists.{all-get, all-weaker}
-use Rattle.pef_reloc.specs.declared.fixup.Base.{Base}
-use Rattle.pef_reloc.specs.declared.fixup.Base.TheVariants.{Section, Import}
 use Rattle.pef_reloc.specs.declared.fixup.Fixup.{Fixup}
 use Rattle.pef_reloc.specs.declared.instr.Instr.{Instr}
 use Rattle.pef_reloc.specs.Additions.{AreInside, IsThere, with_bases}
@@ -19,10 +17,7 @@ use Rattle.pef_script.specs.WellFormed.{BaseThere, SectionHolds}
 use Rattle.pef_write.specs.Linked.{AreProgramsFor, IsProgramFor, program_of, programs_from}
 use Rattle.pef_write.specs.Loaders.{ProgramEntry}
 use Rattle.pef_write.specs.ReadBack.{program_read}
-
-base_there : (a : Addresses) (base : Base) → BaseThere (length a.sections) (length a.imports) base → IsThere a base
-base_there a (Section k) there = there
-base_there a (Import j) there = there
+use Rattle.pef_script.proofs.Laws.{base_there}
 
 -- the fixups of a script's section lie inside its memory
 pub fixups_inside : (a : Addresses) (s : DescribedSection) → SectionHolds (length a.sections) (length a.imports) s → AreInside a s.header.total s.fixups

@@ -3,7 +3,7 @@ use Rattle.std.proofs.Common.{◌≡◌, ℕ, suc, List, [], ◌∷◌, ◌++◌
 use Rattle.std.specs.Option.{option_or}
 use Rattle.cfm_store.specs.Stores.{Pair, pair_of, place_of}
 use Rattle.cfm_store.proofs.Laws.{place_of-below, place_of-named}
-use Rattle.cfm_libraries.specs.Faults.{Fails, Refusal, no_container, no_loader}
+use Rattle.cfm_libraries.specs.Faults.{BindRefusal, FailsAs, no_container, no_loader}
 use Rattle.cfm_libraries.specs.Faults as binds
 use Rattle.cfm_libraries.specs.declared.fault.BindFault.{BindFault}
 use Rattle.cfm_libraries.specs.declared.fault.BindFault.TheVariants as bind
@@ -16,7 +16,7 @@ use Rattle.cfm_present.specs.Fragments.{Present, first_bad_image, image_refusal_
 use Rattle.cfm_present.specs.Placing.{AllPlaced, LacksRoom}
 use Rattle.cfm_present.specs.Refusals.{HasBadImage, HasBadProgram}
 use Rattle.cfm_present.specs.declared.fault.FragmentFault.TheVariants as fragment
-use Rattle.cfm_prepare.specs.Contexts.{State}
+use Rattle.cfm_prepare.specs.Contexts.{ContextState}
 use Rattle.cfm_prepare.specs.Faults.{fault_number}
 use Rattle.cfm_prepare.specs.Steps.{HasClosure, HasRoot, MayNotPrepare, new_of}
 use Rattle.cfm_prepare.specs.declared.fault.PrepareFault.{PrepareFault}
@@ -76,7 +76,7 @@ refused-program pairs there m new name k bad =
     subst (λ ps. HasUnlinked pairs ps name) bad.are.are (bad-program pairs (there ++ bad.fresh) m bad.are.empty bad.fresh name k bad.are.placed bad.first)
 
 -- a fragment has one closure
-same-closed : (s : State) (name : List ℕ) (a b : HasClosure s name) → a.closed ≡ b.closed
+same-closed : (s : ContextState) (name : List ℕ) (a b : HasClosure s name) → a.closed ≡ b.closed
 same-closed s name a b =
     let here : place_of s.pairs name ≡ Some a.has.root = a.has.is in
     let there : place_of s.pairs name ≡ Some b.has.root = b.has.is in
@@ -86,8 +86,8 @@ same-closed s name a b =
     cc
 
 -- where a fragment has a closure, it isn't refused for having none
-bound : (s : State) (name : List ℕ) (closure : HasClosure s name) (f : BindFault) (has : HasRoot s name) → Fails f (closed_of s.pairs has.root) → binds.fault_number f ≡ 99
-bound s name closure f has fails = by f (subst (Fails f) (ap (closed_of s.pairs) roots ∙ closure.is) fails)
+bound : (s : ContextState) (name : List ℕ) (closure : HasClosure s name) (f : BindFault) (has : HasRoot s name) → FailsAs f (closed_of s.pairs has.root) → binds.fault_number f ≡ 99
+bound s name closure f has fails = by f (subst (FailsAs f) (ap (closed_of s.pairs) roots ∙ closure.is) fails)
   where
     roots : has.root ≡ closure.has.root
     roots =
@@ -95,7 +95,7 @@ bound s name closure f has fails = by f (subst (Fails f) (ap (closed_of s.pairs)
         let there : place_of s.pairs name ≡ Some closure.has.root = closure.has.is in
         cc
 
-    by : (f : BindFault) → Fails f (Ok closure.closed) → binds.fault_number f ≡ 99
+    by : (f : BindFault) → FailsAs f (Ok closure.closed) → binds.fault_number f ≡ 99
     by (bind.Container f v) e = absurd (cc)
     by (bind.Loader f v) e = absurd (cc)
     by (bind.LibraryMissing f l) e = absurd (cc)
@@ -108,7 +108,7 @@ bound s name closure f has fails = by f (subst (Fails f) (ap (closed_of s.pairs)
 
 -- where its libraries resolve and its sections find room, a fragment is refused for want of memory, or for a new
 -- fragment of its closure that wasn't linked
-pub refused-bound : (s : State) (name : List ℕ) (closure : HasClosure s name) (f : PrepareFault) → ((other : List ℕ) → LacksRoom s.pairs s.memory (new_of s closure.closed) other → ⊥) → MayNotPrepare s name f
+pub refused-bound : (s : ContextState) (name : List ℕ) (closure : HasClosure s name) (f : PrepareFault) → ((other : List ℕ) → LacksRoom s.pairs s.memory (new_of s closure.closed) other → ⊥) → MayNotPrepare s name f
     → (fault_number f ≡ 99) ⊎ ((other : List ℕ) × HasUnlinked s.pairs (new_of s closure.closed) other)
 refused-bound s name closure fault.TooManyConnections rooms why = absurd (omega (arith, why, closure.has.left))
 refused-bound s name closure fault.RootMissing rooms why = let there : place_of s.pairs name ≡ Some closure.has.root = closure.has.is in let none : place_of s.pairs name ≡ None = why.1 in absurd (cc)
@@ -122,7 +122,7 @@ refused-bound s name closure (fault.Fragment fragment.OutOfMemory) rooms why = i
 refused-bound s name closure fault.OutOfMemory rooms why = inl refl
 
 -- a fragment that isn't read isn't linked, and it is the one that its name stands for
-unread : (pairs : List Pair) (root : ℕ) (asked name : List ℕ) (r : Refusal) → place_of pairs asked ≡ Some root → IsOfUnread pairs root name r → IsUnlinked pairs name
+unread : (pairs : List Pair) (root : ℕ) (asked name : List ℕ) (r : BindRefusal) → place_of pairs asked ≡ Some root → IsOfUnread pairs root name r → IsUnlinked pairs name
 unread pairs root asked name r is of = record {
   position = of.position;
   is = elim of.found [
@@ -133,8 +133,8 @@ unread pairs root asked name r is of = record {
   other = λ script l linked holds. (let f = linked-read script l pairs of.position linked holds in let both : Ok f.0 ≡ Err r = sym f.1 ∙ of.refused in absurd (cc));
 }
 
-pub refused-container : (s : State) (asked name : List ℕ) (k : ViewFault) (has : HasRoot s asked) → closed_of s.pairs has.root ≡ Err (no_container name k) → IsUnlinked s.pairs name
+pub refused-container : (s : ContextState) (asked name : List ℕ) (k : ViewFault) (has : HasRoot s asked) → closed_of s.pairs has.root ≡ Err (no_container name k) → IsUnlinked s.pairs name
 refused-container s asked name k has is = unread s.pairs has.root asked name (no_container name k) has.is (closed-no_container s.pairs has.root name k (place_of-below s.pairs asked has.root has.is) is)
 
-pub refused-loader : (s : State) (asked name : List ℕ) (k : LoaderFault) (has : HasRoot s asked) → closed_of s.pairs has.root ≡ Err (no_loader name k) → IsUnlinked s.pairs name
+pub refused-loader : (s : ContextState) (asked name : List ℕ) (k : LoaderFault) (has : HasRoot s asked) → closed_of s.pairs has.root ≡ Err (no_loader name k) → IsUnlinked s.pairs name
 refused-loader s asked name k has is = unread s.pairs has.root asked name (no_loader name k) has.is (closed-no_loader s.pairs has.root name k (place_of-below s.pairs asked has.root has.is) is)

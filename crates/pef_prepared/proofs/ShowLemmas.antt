@@ -5,7 +5,7 @@ use Rattle.std.specs.List.{AllByRecursion}
 use Rattle.std.specs.Option.{option_and_then, option_map_or}
 use Rattle.std.proofs.Math.Nat.{max-le, pow-le-pow_right}
 use Rattle.cfm_store.specs.Stores.{Pair, pair_of}
-use Rattle.cfm_libraries.specs.Faults.{Fails, Refusal}
+use Rattle.cfm_libraries.specs.Faults.{BindRefusal, FailsAs}
 use Rattle.cfm_libraries.specs.Fragments.{loader_at}
 use Rattle.cfm_libraries.specs.declared.fault.BindFault.{BindFault}
 use Rattle.cfm_libraries.specs.declared.fault.BindFault.TheVariants as bind_fault
@@ -19,7 +19,7 @@ use Rattle.cfm_memory.proofs.Laws.{all_find_room, most_taken}
 use Rattle.cfm_present.specs.Fragments.{extents_in, places_of}
 use Rattle.cfm_present.specs.Placing.{LacksRoom}
 use Rattle.cfm_present.specs.declared.fault.FragmentFault.TheVariants as fragment_fault
-use Rattle.cfm_prepare.specs.Contexts.{Open, State, fresh_state}
+use Rattle.cfm_prepare.specs.Contexts.{ContextState, Open, fresh_state}
 use Rattle.cfm_prepare.specs.Readers.{entries_of, main_address}
 use Rattle.cfm_prepare.specs.Steps.{MayNotPrepare, Prepares}
 use Rattle.cfm_prepare.specs.declared.fault.PrepareFault.{PrepareFault}
@@ -52,7 +52,7 @@ most_small n m [] each = omega arith
 most_small n m (s ∷ sections) each = omega (arith, each.0.total, small_step s.header.align each.0.align, most_small n m sections each.1)
 
 -- where all fragments are read, the refusal of a closure isn't of their bytes
-fails_to_bind : (bytes : List ℕ) (fault : BindFault) → ((r : Refusal) → closed_of (it_alone bytes) 0 ≡ Err r → IsOfBinding r) → Fails fault (closed_of (it_alone bytes) 0) → FailsToBind bytes fault
+fails_to_bind : (bytes : List ℕ) (fault : BindFault) → ((r : BindRefusal) → closed_of (it_alone bytes) 0 ≡ Err r → IsOfBinding r) → FailsAs fault (closed_of (it_alone bytes) 0) → FailsToBind bytes fault
 fails_to_bind bytes (bind_fault.Container f v) of fails = of _ fails
 fails_to_bind bytes (bind_fault.Loader f v) of fails = of _ fails
 fails_to_bind bytes (bind_fault.LibraryMissing f l) of fails = fails
@@ -78,11 +78,11 @@ module _ (script : DescribedScript) (k : LinkedContainer) (linked : IsLinked scr
   abbrev alone : List Pair
   alone = it_alone k.bytes
 
-  abbrev start : State
+  abbrev start : ContextState
   start = fresh_state alone memory_limit
 
   -- what was prepared is what the script describes
-  pub shown_of : (s : State) (number : ℕ) → Prepares start (codes "it") number s → IsShown script s number
+  pub shown_of : (s : ContextState) (number : ℕ) → Prepares start (codes "it") number s → IsShown script s number
   shown_of s number done =
       let stands = prepared-alone k.bytes memory_limit s number done in
       let described = described-from script k linked alone 0 refl s stands.now in
@@ -135,9 +135,9 @@ module _ (script : DescribedScript) (k : LinkedContainer) (linked : IsLinked scr
   all_read zero inside = linked-read script k alone 0 linked refl
   all_read (suc p) inside = absurd (omega (arith, inside))
 
-  lacks_closure : (root : ℕ) (fault : BindFault) → root ≡ 0 → Fails fault (closed_of alone root) → FailsToBind k.bytes fault
+  lacks_closure : (root : ℕ) (fault : BindFault) → root ≡ 0 → FailsAs fault (closed_of alone root) → FailsToBind k.bytes fault
   lacks_closure root fault is fails =
-      let P : ℕ → Type 0 = λ p. Fails fault (closed_of alone p) in
+      let P : ℕ → Type 0 = λ p. FailsAs fault (closed_of alone p) in
       fails_to_bind k.bytes fault (λ r refused. closed-refused alone all_read 0 r (omega arith) refused) (subst P is fails)
 
   -- so it isn't prepared for want of a closure or of memory alone

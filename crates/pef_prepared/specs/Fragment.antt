@@ -10,8 +10,8 @@ pub record PlacedSection : Type 0 where
   pub bytes : List ℕ
 
 -- the section at a place
-abbrev pub section_at : Layout → Place → PlacedSection
-section_at m place = record { address = place.address; bytes = unwrap_or (bytes_at m.instances place.address) [] }
+abbrev pub placed_section : Layout → Place → PlacedSection
+placed_section m place = record { address = place.address; bytes = unwrap_or (bytes_at m.instances place.address) [] }
 
 -- the line above a section's memory
 unfoldable pub heading_text : ℕ → ℕ → ℕ → List ℕ

@@ -3,7 +3,7 @@
 -- call is made on files.
 use Rattle.std.specs.Prelude.{◌≡◌, ◌⊎◌, ℕ, ◌<◌, List, [], ◌∷◌, ◌++◌, Ok, Err, length, take}
 use Rattle.cfm_store.specs.Stores.{Pair}
-use Rattle.cfm_prepare.specs.Contexts.{State, fresh_state}
+use Rattle.cfm_prepare.specs.Contexts.{ContextState, fresh_state}
 use Rattle.cfm_prepare.specs.Steps.{MayNotPrepare, Prepares}
 use Rattle.cfm_prepare.specs.declared.fault.PrepareFault.{PrepareFault}
 use Rattle.pef_ports.specs.Ports.{FilesPort, Reads}
@@ -45,11 +45,11 @@ first_name [] = []
 first_name (file ∷ named) = file.0
 
 -- a context of the files, in which nothing is prepared
-abbrev pub context_of : List (List ℕ × List ℕ) → List (List ℕ) → State
+abbrev pub context_of : List (List ℕ × List ℕ) → List (List ℕ) → ContextState
 context_of named contents = fresh_state (paired named contents) memory_limit
 
 -- all files were read, and the first fragment was prepared: a connection with this number, in a context that is so now
-pub record PreparesFirst {F : Type 0} (port : FilesPort F) (before after : F) (named : List (List ℕ × List ℕ)) (s : State) (number : ℕ) : Type 0 where
+pub record PreparesFirst {F : Type 0} (port : FilesPort F) (before after : F) (named : List (List ℕ × List ℕ)) (s : ContextState) (number : ℕ) : Type 0 where
   pub contents : List (List ℕ)
   pub read : WereRead port before after named contents
   pub prepared : Prepares (context_of named contents) (first_name named) number s
@@ -69,7 +69,7 @@ LoadLacksMemory port before after named =
 -- how `load` ends: a fragment is prepared or isn't, or a file can't be read, or memory was refused for that; or there
 -- are no files, or too many
 pub data LoadOutcome : Type 0 where
-  loads : State → ℕ → LoadOutcome
+  loads : ContextState → ℕ → LoadOutcome
   refuses : PrepareFault → LoadOutcome
   unreadable : List ℕ → LoadOutcome
   lacks_memory : LoadOutcome

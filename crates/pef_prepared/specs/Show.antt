@@ -2,7 +2,7 @@
 -- its script describes.
 use Rattle.std.specs.Prelude.{◌≡◌, ℕ, ◌≤◌, List, [], ◌∷◌, Some, Ok, Err, codes, length}
 use Rattle.cfm_store.specs.Stores.{Pair}
-use Rattle.cfm_libraries.specs.Faults.{Fails}
+use Rattle.cfm_libraries.specs.Faults.{FailsAs}
 use Rattle.cfm_libraries.specs.declared.fault.BindFault.{BindFault}
 use Rattle.cfm_libraries.specs.declared.fault.BindFault.TheVariants as bind_fault
 use Rattle.cfm_closure.specs.Closures.{closed_of}
@@ -11,7 +11,7 @@ use Rattle.cfm_fragment.specs.declared.entries.Entries.{Entries}
 use Rattle.cfm_memory.specs.Extents.{given_back, no_instances}
 use Rattle.cfm_memory.specs.declared.place.Place.{Place}
 use Rattle.cfm_present.specs.Fragments.{places_of}
-use Rattle.cfm_prepare.specs.Contexts.{State, fresh_state}
+use Rattle.cfm_prepare.specs.Contexts.{ContextState, fresh_state}
 use Rattle.cfm_prepare.specs.Steps.{Prepares}
 use Rattle.pef_answers.specs.Answers.{Answer, answer_done, answer_refused}
 use Rattle.pef_answers.specs.Refusals.{bind_refusal_text, refusal_text}
@@ -23,7 +23,7 @@ use Rattle.pef_script_text.specs.Grammar.{script_of}
 use Rattle.pef_script.specs.Script.{DescribedScript}
 use Rattle.pef_script_text.specs.declared.fault.LineFault.{LineFault}
 use Rattle.pef_prepared.specs.Limits.{input_limit, memory_limit}
-use Rattle.pef_prepared.specs.Loaded.{entries_in, init_order_in, loaded_text, main_in, name_in, order_in}
+use Rattle.pef_prepared.specs.Loaded.{entries_in, fragment_name, init_order_in, loaded_text, main_in, order_in}
 use Rattle.pef_prepared.specs.Now.{IsDescribedNow}
 use Rattle.pef_write.specs.Linked.{IsLinked, LinkedContainer}
 
@@ -46,8 +46,8 @@ described_entries script places = record {
 }
 
 -- a connection is of one fragment, which has the name `it` and is entered where a script says
-pub record IsAlone (script : DescribedScript) (s : State) (number : ℕ) : Type 0 where
-  pub name : name_in s 0 ≡ codes "it"
+pub record IsAlone (script : DescribedScript) (s : ContextState) (number : ℕ) : Type 0 where
+  pub name : fragment_name s 0 ≡ codes "it"
   pub order : order_in s number ≡ 0 ∷ []
   pub init_order : init_order_in s number ≡ 0 ∷ []
   pub entries : entries_in s number 0 ≡ Some (described_entries script (places_of s.present 0))
@@ -56,7 +56,7 @@ pub record IsAlone (script : DescribedScript) (s : State) (number : ℕ) : Type 
 -- what is shown of a script: its container is linked, and prepared alone, under the name `it`; each section has its
 -- place in memory without instances, in turn the lowest address with room, with the memory that the script
 -- describes under the addresses of its sections and of its imports' targets; and nothing else is in memory
-pub record IsShown (script : DescribedScript) (s : State) (number : ℕ) : Type 0 where
+pub record IsShown (script : DescribedScript) (s : ContextState) (number : ℕ) : Type 0 where
   pub container : LinkedContainer
   pub linked : IsLinked script container
   pub prepared : Prepares (fresh_state (it_alone container.bytes) memory_limit) (codes "it") number s
@@ -70,7 +70,7 @@ pub record IsShown (script : DescribedScript) (s : State) (number : ℕ) : Type 
 abbrev pub FailsToBind : List ℕ → BindFault → Type 0
 FailsToBind bytes (bind_fault.Container f v) = ⊥
 FailsToBind bytes (bind_fault.Loader f v) = ⊥
-FailsToBind bytes fault = Fails fault (closed_of (it_alone bytes) 0)
+FailsToBind bytes fault = FailsAs fault (closed_of (it_alone bytes) 0)
 
 -- the container that is linked of a script has no closure alone, or memory was refused for it
 pub record LacksClosure (script : DescribedScript) (fault : BindFault) : Type 0 where
@@ -79,7 +79,7 @@ pub record LacksClosure (script : DescribedScript) (fault : BindFault) : Type 0 
   pub fails : FailsToBind container.bytes fault
 
 -- the input is a script, of which this is shown
-pub record ShowsInput (before after : Stream) (s : State) (number : ℕ) : Type 0 where
+pub record ShowsInput (before after : Stream) (s : ContextState) (number : ℕ) : Type 0 where
   pub text : List ℕ
   pub input : WasRead before after text
   pub script : DescribedScript
@@ -111,7 +111,7 @@ ShowRefuses before after _ = ⊥
 
 -- how `show` ends: it shows a fragment's memory, or the fragment has no closure, or `show` is refused before
 pub data ShowOutcome : Type 0 where
-  shows : State → ℕ → ShowOutcome
+  shows : ContextState → ℕ → ShowOutcome
   unbound : BindFault → ShowOutcome
   refuses : Refusal → ShowOutcome
 

@@ -1,7 +1,7 @@
 ghost use Rattle.std.specs.Prelude.{◌≡◌, ◌≤◌, IfErr, IfOk, Ok, length, map};
 ghost use Rattle.pef_ports.specs.Ports.{Reads};
-ghost use Rattle.pef_request.specs.Requests.{pair_of};
-ghost use Rattle.pef_answers.specs.Answers.{Answer, Delivers};
+ghost use Rattle.pef_request.specs.Requests.{named_path};
+ghost use Rattle.pef_answers.specs.Answers.{Answer, IsDelivered};
 ghost use Rattle.pef_prepared.specs.Kept.Loading.{StopsFile, StopsReading};
 ghost use Rattle.pef_prepared.specs.Limits.{most_files};
 ghost use Rattle.pef_prepared.specs.Load.{LoadAnswers, WereRead, paired};
@@ -32,8 +32,8 @@ pub fn load_files<F: Files, W: Sink>(
     out: &mut W,
 ) -> u8
     ensures { (answer : Answer)
-        × LoadAnswers (record { state = F.state; was_read = F.was_read; was_written = F.was_written }) files.old files.new (map pair_of named.now) answer
-        × Delivers (W.stream out.old) (W.stream out.new) answer result }
+        × LoadAnswers (record { state = F.state; was_read = F.was_read; was_written = F.was_written }) files.old files.new (map named_path named.now) answer
+        × IsDelivered (W.stream out.old) (W.stream out.new) answer result }
 {
     if named.is_empty() || named.len() > MAX_PAIRS {
         return deliver(out, &Usage);
@@ -60,8 +60,8 @@ fn read_files<'a, F: Files>(
     files: &mut F,
     named: &[NamedFile<'a>],
 ) -> Result<Vec<Vec<u8>>, ReadingFault<'a>>
-    ensures read { IfOk result (λ contents. WereRead (record { state = F.state; was_read = F.was_read; was_written = F.was_written }) files.old files.new (map pair_of named.now) (map (λ bytes. bytes.items) contents.items)) }
-    ensures refused { IfErr result (λ fault. StopsReading (record { state = F.state; was_read = F.was_read; was_written = F.was_written }) files.old files.new (map pair_of named.now) fault) }
+    ensures read { IfOk result (λ contents. WereRead (record { state = F.state; was_read = F.was_read; was_written = F.was_written }) files.old files.new (map named_path named.now) (map (λ bytes. bytes.items) contents.items)) }
+    ensures refused { IfErr result (λ fault. StopsReading (record { state = F.state; was_read = F.was_read; was_written = F.was_written }) files.old files.new (map named_path named.now) fault) }
 {
     let mut contents = Vec::new(alloc);
     for file in named {
@@ -100,7 +100,7 @@ fn store_of<'a>(
 ) -> Result<Store<'a>, StoreFault>
     requires few { length named.now ≤ most_files }
     requires each { length contents.now ≡ length named.now }
-    ensures { IfOk result (λ store. store ≡ paired (map pair_of named.now) (map (λ bytes. bytes.items) contents.now)) }
+    ensures { IfOk result (λ store. store ≡ paired (map named_path named.now) (map (λ bytes. bytes.items) contents.now)) }
 {
     let mut store = Store::new(alloc);
     for (i, file) in named.iter().enumerate() {

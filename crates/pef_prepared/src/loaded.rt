@@ -6,7 +6,7 @@ ghost use Rattle.pef_ports.specs.Sent.{Sends};
 ghost use Rattle.pef_prepared.specs.Fragment.{entry_text, sections_text};
 ghost use Rattle.pef_prepared.specs.Kept.Routines.{address_in, place_of, routine_text, routines_text, word_of};
 ghost use Rattle.pef_prepared.specs.Limits.{memory_limit};
-ghost use Rattle.pef_prepared.specs.Loaded.{entry_label, fragment_text, fragments_text, init_order_in, loaded_text, name_in, order_in, sections_in};
+ghost use Rattle.pef_prepared.specs.Loaded.{entry_label, fragment_name, fragment_text, fragments_text, init_order_in, loaded_text, order_in, sections_in};
 
 use crate::fragment::{entry_line, print_bytes};
 use cfm_fragment::Entries;
@@ -142,7 +142,7 @@ fn init_order_of<'r>(context: &'r Context<'_>, connection: Connection) -> &'r [u
 
 /// The name of the fragment in a place of the store.
 fn name_of<'a>(context: &Context<'a>, position: usize) -> &'a [u8]
-    ensures { result.now ≡ name_in context.now position }
+    ensures { result.now ≡ fragment_name context.now position }
 {
     match context.name(position) {
         Some(name) => name,

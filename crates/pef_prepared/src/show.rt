@@ -1,5 +1,5 @@
 ghost use Rattle.std.specs.Prelude.{◌≡◌, IfOk};
-ghost use Rattle.pef_answers.specs.Answers.{Answer, Delivers};
+ghost use Rattle.pef_answers.specs.Answers.{Answer, IsDelivered};
 ghost use Rattle.pef_script.specs.Script.{DescribedScript};
 ghost use Rattle.pef_write.specs.Linked.{IsLinked};
 ghost use Rattle.pef_prepared.specs.Kept.Showing.{ScriptEnds};
@@ -20,7 +20,7 @@ const INPUT_LIMIT: usize = 536_870_912;
 pub fn show_input<R: Source, W: Sink>(alloc: Global, input: &mut R, out: &mut W) -> u8
     ensures { (answer : Answer)
         × ShowAnswers (R.stream input.old) (R.stream input.new) answer
-        × Delivers (W.stream out.old) (W.stream out.new) answer result }
+        × IsDelivered (W.stream out.old) (W.stream out.new) answer result }
 {
     let text = match read_input(alloc, input, INPUT_LIMIT) {
         Ok(text) => text,
@@ -36,7 +36,7 @@ pub fn show_input<R: Source, W: Sink>(alloc: Global, input: &mut R, out: &mut W)
 fn show_script<W: Sink>(alloc: Global, script: &Script<'_>, out: &mut W) -> u8
     ensures { (outcome : ShowOutcome)
         × ScriptEnds script.now outcome
-        × Delivers (W.stream out.old) (W.stream out.new) (show_answer outcome) result }
+        × IsDelivered (W.stream out.old) (W.stream out.new) (show_answer outcome) result }
 {
     match link(alloc, script) {
         Ok(linked) => show_linked(alloc, &linked, out),
@@ -50,7 +50,7 @@ fn show_script<W: Sink>(alloc: Global, script: &Script<'_>, out: &mut W) -> u8
 fn show_linked<W: Sink>(alloc: Global, linked: &Linked, out: &mut W) -> u8
     ensures { (script : DescribedScript) → IsLinked script linked.now → (outcome : ShowOutcome)
         × ScriptEnds script outcome
-        × Delivers (W.stream out.old) (W.stream out.new) (show_answer outcome) result }
+        × IsDelivered (W.stream out.old) (W.stream out.new) (show_answer outcome) result }
 {
     let Ok(store) = it_alone(alloc, &linked.bytes) else {
         return deliver(out, &Refusal::OutOfMemory);

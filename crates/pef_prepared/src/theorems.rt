@@ -12,7 +12,7 @@ ghost use Rattle.cfm_present.specs.Addresses.{addresses_of};
 ghost use Rattle.cfm_present.specs.Fragments.{Present, extents_in, image_refusal_in, is_present, reloc_refusal_in};
 ghost use Rattle.cfm_present.specs.Placing.{LacksRoom};
 ghost use Rattle.cfm_present.specs.Refusals.{HasBadImage, HasBadProgram};
-ghost use Rattle.cfm_prepare.specs.Contexts.{State, fresh_state};
+ghost use Rattle.cfm_prepare.specs.Contexts.{ContextState, fresh_state};
 ghost use Rattle.cfm_prepare.specs.Runs.{Runs, Step};
 ghost use Rattle.cfm_prepare.specs.Faults.{fault_number};
 ghost use Rattle.cfm_prepare.specs.Steps.{HasClosure, HasRoot, MayNotPrepare, Prepares, new_of};
@@ -39,11 +39,11 @@ ghost use Rattle.pef_write.specs.Linked.{IsLinked, LinkedContainer};
 /// half: the loader section that is read of these bytes has for each section such a least program, and what
 /// was linked has a valid certificate of it.
 pub fn headline()
-    ensures prepares { (script : DescribedScript) (linked : LinkedContainer) (pairs : List Pair) (limit : ℕ) (steps : List Step) (s t : State) (name : List ℕ) (number p : ℕ) → IsLinked script linked → (pair_of pairs p).bytes ≡ linked.bytes
+    ensures prepares { (script : DescribedScript) (linked : LinkedContainer) (pairs : List Pair) (limit : ℕ) (steps : List Step) (s t : ContextState) (name : List ℕ) (number p : ℕ) → IsLinked script linked → (pair_of pairs p).bytes ≡ linked.bytes
         → Runs (fresh_state pairs limit) steps s → (step : Prepares s name number t) → Contains step.closure.closed.order p → (is_present t.present p ≡ true) × IsDescribedNow pairs t script p }
-    ensures present { (script : DescribedScript) (linked : LinkedContainer) (pairs : List Pair) (limit : ℕ) (steps : List Step) (s : State) (p : ℕ) → IsLinked script linked → (pair_of pairs p).bytes ≡ linked.bytes
+    ensures present { (script : DescribedScript) (linked : LinkedContainer) (pairs : List Pair) (limit : ℕ) (steps : List Step) (s : ContextState) (p : ℕ) → IsLinked script linked → (pair_of pairs p).bytes ≡ linked.bytes
         → Runs (fresh_state pairs limit) steps s → is_present s.present p ≡ true → IsDescribedNow pairs s script p }
-    ensures bound { (s : State) (name : List ℕ) (closure : HasClosure s name) (f : PrepareFault) → ((other : List ℕ) → LacksRoom s.pairs s.memory (new_of s closure.closed) other → ⊥) → MayNotPrepare s name f
+    ensures bound { (s : ContextState) (name : List ℕ) (closure : HasClosure s name) (f : PrepareFault) → ((other : List ℕ) → LacksRoom s.pairs s.memory (new_of s closure.closed) other → ⊥) → MayNotPrepare s name f
         → (fault_number f ≡ 99) ⊎ ((other : List ℕ) × HasUnlinked s.pairs (new_of s closure.closed) other) }
     ensures least { (script : DescribedScript) (linked : LinkedContainer) (pairs : List Pair) (p : ℕ) (f : Fragment) (k : ℕ) (section : DescribedSection) → IsLinked script linked → (pair_of pairs p).bytes ≡ linked.bytes
         → fragment_of pairs p ≡ Ok f → slice_get script.sections k ≡ Some section → HasLeast linked f.loader k section.fixups }
@@ -64,6 +64,6 @@ pub fn linked_is_sound()
 pub fn refusals_are_of_others()
     ensures image { (pairs : List Pair) (m : Layout) (new : List ℕ) (name : List ℕ) (k : PackFault) → HasBadImage pairs m new name k → HasUnlinked pairs new name }
     ensures program { (pairs : List Pair) (there : List Present) (m : Layout) (new : List ℕ) (name : List ℕ) (k : RelocFault) → HasBadProgram pairs there m new name k → HasUnlinked pairs new name }
-    ensures container { (s : State) (asked name : List ℕ) (k : ViewFault) (has : HasRoot s asked) → closed_of s.pairs has.root ≡ Err (no_container name k) → IsUnlinked s.pairs name }
-    ensures loader { (s : State) (asked name : List ℕ) (k : LoaderFault) (has : HasRoot s asked) → closed_of s.pairs has.root ≡ Err (no_loader name k) → IsUnlinked s.pairs name }
+    ensures container { (s : ContextState) (asked name : List ℕ) (k : ViewFault) (has : HasRoot s asked) → closed_of s.pairs has.root ≡ Err (no_container name k) → IsUnlinked s.pairs name }
+    ensures loader { (s : ContextState) (asked name : List ℕ) (k : LoaderFault) (has : HasRoot s asked) → closed_of s.pairs has.root ≡ Err (no_loader name k) → IsUnlinked s.pairs name }
 {}

@@ -9,9 +9,6 @@ use Rattle.pef_reloc.specs.Applied.{Addresses, address_of, Done, added_at, appli
 use Rattle.pef_reloc.specs.Kept.Rows.{word_added}
 use Rattle.pef_reloc.specs.Kept.Rows.{Stands}
 
-abbrev memory_of : Done → List ℕ
-memory_of d = d.memory
-
 abbrev fault_of : Done → Option RelocFault
 fault_of d = d.fault
 

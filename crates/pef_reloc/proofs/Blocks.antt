@@ -29,13 +29,6 @@ pub record BlockLeft (a : Addresses) (m : Machine) (memory bytes : List ℕ) (at
   pub spans : Spans bytes at rest to
   pub leaves : (s : State) → Holds a m0 s → Leaves a m memory rest whole block s
 
-pub block-start : (a : Addresses) (m : Machine) (memory bytes : List ℕ) (from to : ℕ) (block : List Instr) → Spans bytes from block to → BlockLeft a m memory bytes from to m memory block
-block-start a m memory bytes from to block spans = record {
-  rest = block;
-  spans = spans;
-  leaves = λ s h. leaves-all a m memory block s h;
-}
-
 -- an instruction that ran
 more : (a : Addresses) (m m' : Machine) (memory memory' bytes : List ℕ) (at to : ℕ) (m0 : Machine) (whole : List ℕ) (block : List Instr) (x : Instr) (rest : List Instr) → Spans bytes at rest to → ((s : State) → Holds a m0 s → Leaves a m memory rest whole block s) → at < to → first_instr (drop at bytes) ≡ Ok x → Runs a m m' memory memory' (x ∷ []) None → BlockLeft a m' memory' bytes (at + 2 * instr_length x) to m0 whole block
 more a m m' memory memory' bytes at to m0 whole block x [] spans leaves under here ran = absurd (omega arith)

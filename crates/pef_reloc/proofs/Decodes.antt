@@ -1,7 +1,7 @@
 -- The bytes that spell instructions decode to them.
-use Rattle.std.proofs.Common.{◌≡◌, ℕ, suc, ◌+◌, ◌*◌, ◌-◌, ◌/◌, ◌%◌, ◌<◌, ◌≤◌, ◌≢◌, ◌==◌, true, false, ◌&&◌, nat_lt, nat_le, List, ◌++◌, length, None, Some, Ok, refl, ap, ◌∙◌, arith}
+use Rattle.std.proofs.Common.{◌≡◌, ℕ, suc, ◌+◌, ◌*◌, ◌-◌, ◌/◌, ◌%◌, ◌<◌, ◌≤◌, ◌==◌, true, false, ◌&&◌, nat_lt, nat_le, List, ◌++◌, length, None, Some, Ok, refl, ap, ◌∙◌, arith}
 use Rattle.std.specs.Option.{is_some}
-use Rattle.std.proofs.lemmas.Bool.{leb-true, ltb-true, lt-ltb, le-leb, ne_eqb, le-ltb}
+use Rattle.std.proofs.lemmas.Bool.{leb-true, ltb-true, lt-ltb, le-leb, ne_eqb, le-ltb, and_parts}
 use Rattle.byteorder.specs.Endian.{big_bytes}
 use Rattle.byteorder.specs.Numbers.{big_number-reads_back}
 use Rattle.pef_words.specs.Bytes.{number_at}
@@ -9,7 +9,6 @@ use Rattle.pef_reloc.specs.declared.instr.Instr.{Instr}
 use Rattle.pef_reloc.specs.declared.instr.Instr.TheVariants.{BySectDWithSkip, BySectC, BySectD, TVector12, TVector8, VTable8, ImportRun, SmByImport, SmSetSectC, SmSetSectD, SmBySection, IncrPosition, SmRepeat, SetPosition, LgByImport, LgRepeat, LgBySection, LgSetSectC, LgSetSectD}
 use Rattle.pef_reloc.specs.Instrs.{halfword_bytes, halfwords_of, instr_fits}
 use Rattle.pef_reloc.specs.Decoding.{first_instr, long_instr, opcode_instr, section_instr, short_instr}
-use Rattle.pef_words.proofs.Laws.Tests.{met_both}
 
 -- the first and the second halfword of some bytes
 first_word : (w : ℕ) (rest : List ℕ) → w < 0x10000 → number_at 2 (big_bytes 2 w ++ rest) 0 ≡ Some w
@@ -50,22 +49,19 @@ numbered_by base op k rest x is six low e =
 one_less : (n : ℕ) → 1 ≤ n → n - 1 + 1 ≡ n
 one_less n low = omega arith
 
-unequal : (a b : ℕ) → a ≢ b → (a == b) ≡ false
-unequal a b apart = ne_eqb a b apart
-
 not_under : (a b : ℕ) → b ≤ a → nat_lt a b ≡ false
 not_under a b past = le-ltb a b past
 
 -- no halfword from A000 on is an instruction by itself
 none_past : (op k : ℕ) → 0x50 ≤ op → opcode_instr op k ≡ None
 none_past op k past =
-    rw (unequal op 0x20 (omega arith), unequal op 0x21 (omega arith), unequal op 0x22 (omega arith), unequal op 0x23 (omega arith), unequal op 0x24 (omega arith), unequal op 0x25 (omega arith), unequal op 0x30 (omega arith), unequal op 0x31 (omega arith), unequal op 0x32 (omega arith), unequal op 0x33 (omega arith)) refl
+    rw (ne_eqb op 0x20 (omega arith), ne_eqb op 0x21 (omega arith), ne_eqb op 0x22 (omega arith), ne_eqb op 0x23 (omega arith), ne_eqb op 0x24 (omega arith), ne_eqb op 0x25 (omega arith), ne_eqb op 0x30 (omega arith), ne_eqb op 0x31 (omega arith), ne_eqb op 0x32 (omega arith), ne_eqb op 0x33 (omega arith)) refl
 
 no_long_short : (w : ℕ) → 0xA000 ≤ w → w < 0x10000 → short_instr w ≡ None
 unfolding short_instr
 no_long_short w low high =
     let a : nat_lt (w / 0x1000) 4 ≡ false = not_under (w / 0x1000) 4 (omega arith) in
-    rw (a, unequal (w / 0x1000) 8 (omega arith), unequal (w / 0x1000) 9 (omega arith)) (none_past (w / 512) (w % 512) (omega arith))
+    rw (a, ne_eqb (w / 0x1000) 8 (omega arith), ne_eqb (w / 0x1000) 9 (omega arith)) (none_past (w / 512) (w % 512) (omega arith))
 
 set_position : (w v : ℕ) → w / 1024 ≡ 0x28 → long_instr w v ≡ Some (SetPosition (w % 1024 * 0x10000 + v))
 unfolding long_instr
@@ -87,7 +83,7 @@ on_section w v op e f = rw (e, f) refl
 pub reads_back : (x : Instr) (rest : List ℕ) → instr_fits x ≡ true → first_instr (halfword_bytes (halfwords_of x) ++ rest) ≡ Ok x
 unfolding halfwords_of short_instr
 reads_back (BySectDWithSkip skip count) rest fits =
-    let p = met_both (nat_le skip 255) (nat_le count 63) fits in
+    let p = and_parts (nat_le skip 255) (nat_le count 63) fits in
     let few = leb-true skip 255 p.0 in
     let short = leb-true count 63 p.1 in
     let w : ℕ = skip * 64 + count in
@@ -96,32 +92,32 @@ reads_back (BySectDWithSkip skip count) rest fits =
     let added : w % 64 ≡ count = omega arith in
     short_reads w rest (BySectDWithSkip skip count) (omega arith) (rw (first, passed, added) refl)
 reads_back (BySectC n) rest fits =
-    let p = met_both (nat_le 1 n) (nat_le n 512) fits in
+    let p = and_parts (nat_le 1 n) (nat_le n 512) fits in
     let low = leb-true 1 n p.0 in
     let high = leb-true n 512 p.1 in
     counted 0x4000 0x20 n rest (BySectC n) refl refl low high (ap (λ k. Some (BySectC k)) (one_less n low))
 reads_back (BySectD n) rest fits =
-    let p = met_both (nat_le 1 n) (nat_le n 512) fits in
+    let p = and_parts (nat_le 1 n) (nat_le n 512) fits in
     let low = leb-true 1 n p.0 in
     let high = leb-true n 512 p.1 in
     counted 0x4200 0x21 n rest (BySectD n) refl refl low high (ap (λ k. Some (BySectD k)) (one_less n low))
 reads_back (TVector12 n) rest fits =
-    let p = met_both (nat_le 1 n) (nat_le n 512) fits in
+    let p = and_parts (nat_le 1 n) (nat_le n 512) fits in
     let low = leb-true 1 n p.0 in
     let high = leb-true n 512 p.1 in
     counted 0x4400 0x22 n rest (TVector12 n) refl refl low high (ap (λ k. Some (TVector12 k)) (one_less n low))
 reads_back (TVector8 n) rest fits =
-    let p = met_both (nat_le 1 n) (nat_le n 512) fits in
+    let p = and_parts (nat_le 1 n) (nat_le n 512) fits in
     let low = leb-true 1 n p.0 in
     let high = leb-true n 512 p.1 in
     counted 0x4600 0x23 n rest (TVector8 n) refl refl low high (ap (λ k. Some (TVector8 k)) (one_less n low))
 reads_back (VTable8 n) rest fits =
-    let p = met_both (nat_le 1 n) (nat_le n 512) fits in
+    let p = and_parts (nat_le 1 n) (nat_le n 512) fits in
     let low = leb-true 1 n p.0 in
     let high = leb-true n 512 p.1 in
     counted 0x4800 0x24 n rest (VTable8 n) refl refl low high (ap (λ k. Some (VTable8 k)) (one_less n low))
 reads_back (ImportRun n) rest fits =
-    let p = met_both (nat_le 1 n) (nat_le n 512) fits in
+    let p = and_parts (nat_le 1 n) (nat_le n 512) fits in
     let low = leb-true 1 n p.0 in
     let high = leb-true n 512 p.1 in
     counted 0x4A00 0x25 n rest (ImportRun n) refl refl low high (ap (λ k. Some (ImportRun k)) (one_less n low))
@@ -130,7 +126,7 @@ reads_back (SmSetSectC k) rest fits = numbered_by 0x6200 0x31 k rest (SmSetSectC
 reads_back (SmSetSectD k) rest fits = numbered_by 0x6400 0x32 k rest (SmSetSectD k) refl refl (ltb-true k 512 fits) refl
 reads_back (SmBySection k) rest fits = numbered_by 0x6600 0x33 k rest (SmBySection k) refl refl (ltb-true k 512 fits) refl
 reads_back (IncrPosition e) rest fits =
-    let p = met_both (nat_le 1 e) (nat_le e 4096) fits in
+    let p = and_parts (nat_le 1 e) (nat_le e 4096) fits in
     let low = leb-true 1 e p.0 in
     let high = leb-true e 4096 p.1 in
     let w : ℕ = 0x8000 + (e - 1) in
@@ -138,9 +134,9 @@ reads_back (IncrPosition e) rest fits =
     let moved : w % 4096 + 1 ≡ e = omega arith in
     short_reads w rest (IncrPosition e) (omega arith) (rw (kind, moved) refl)
 reads_back (SmRepeat blocks count) rest fits =
-    let p = met_both (nat_le 1 blocks && nat_le blocks 16 && nat_le 1 count) (nat_le count 256) fits in
-    let q = met_both (nat_le 1 blocks && nat_le blocks 16) (nat_le 1 count) p.0 in
-    let r = met_both (nat_le 1 blocks) (nat_le blocks 16) q.0 in
+    let p = and_parts (nat_le 1 blocks && nat_le blocks 16 && nat_le 1 count) (nat_le count 256) fits in
+    let q = and_parts (nat_le 1 blocks && nat_le blocks 16) (nat_le 1 count) p.0 in
+    let r = and_parts (nat_le 1 blocks) (nat_le blocks 16) q.0 in
     let some_blocks = leb-true 1 blocks r.0 in
     let few_blocks = leb-true blocks 16 r.1 in
     let some_passes = leb-true 1 count q.1 in
@@ -163,8 +159,8 @@ reads_back (LgByImport n) rest fits =
     let number : w % 1024 * 0x10000 + n % 0x10000 ≡ n = omega arith in
     long_reads w (n % 0x10000) rest (LgByImport n) (omega arith) (omega arith) (no_long_short w (omega arith) (omega arith)) (ap is_some (by_import w 0 kind)) (by_import w (n % 0x10000) kind ∙ ap (λ k. Some (LgByImport k)) number)
 reads_back (LgRepeat blocks count) rest fits =
-    let p = met_both (nat_le 1 blocks && nat_le blocks 16) (nat_lt count 0x400000) fits in
-    let r = met_both (nat_le 1 blocks) (nat_le blocks 16) p.0 in
+    let p = and_parts (nat_le 1 blocks && nat_le blocks 16) (nat_lt count 0x400000) fits in
+    let r = and_parts (nat_le 1 blocks) (nat_le blocks 16) p.0 in
     let some_blocks = leb-true 1 blocks r.0 in
     let few_blocks = leb-true blocks 16 r.1 in
     let under = ltb-true count 0x400000 p.1 in

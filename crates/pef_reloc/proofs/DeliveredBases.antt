@@ -1,8 +1,9 @@
 -- Where an instruction begins to add, the import index that it leaves, and which bases stand in a list.
-use Rattle.std.proofs.Common.{◌≡◌, ℕ, zero, suc, ◌+◌, ◌*◌, ◌<◌, ◌≤◌, ◌⊎◌, inl, inr, Bool, true, false, ◌&&◌, ◌||◌, nat_le, List, [], ◌∷◌, ◌++◌, refl, ap, sym, ◌∙◌, arith}
+use Rattle.std.proofs.Common.{◌≡◌, ℕ, zero, suc, ◌+◌, ◌*◌, ◌<◌, ◌≤◌, inl, inr, true, false, ◌&&◌, ◌||◌, nat_le, List, [], ◌∷◌, ◌++◌, refl, ap, sym, ◌∙◌, arith}
 use Rattle.std.specs.List.{AllByRecursion}
-use Rattle.std.proofs.lemmas.Bool.{leb-true, ltb-true}
+use Rattle.std.proofs.lemmas.Bool.{and_parts, leb-true, ltb-true, or_cases}
 use Rattle.std.proofs.lemmas.Bool.Decides.{eqb_tells}
+use Rattle.pef_words.proofs.Laws.Tests.{or_assoc}
 use Rattle.pef_reloc.specs.declared.fixup.Base.{Base}
 use Rattle.pef_reloc.specs.declared.fixup.Base.TheVariants.{Section, Import}
 use Rattle.pef_reloc.specs.declared.fixup.Fixup.{Fixup}
@@ -10,10 +11,9 @@ use Rattle.pef_reloc.specs.declared.instr.Instr.{Instr}
 use Rattle.pef_reloc.specs.declared.instr.Instr.TheVariants.{BySectDWithSkip, BySectC, BySectD, TVector12, TVector8, VTable8, ImportRun, SmByImport, SmSetSectC, SmSetSectD, SmBySection, IncrPosition, SmRepeat, SetPosition, LgByImport, LgRepeat, LgBySection, LgSetSectC, LgSetSectD}
 use Rattle.pef_reloc.specs.Deliveries.{index_after, index_past, is_import, is_section, passes_on, uses_import, uses_section}
 use Rattle.pef_reloc.specs.Fixups.{base_fits, fixup_fits, fixups_fit, fixups_from}
-use Rattle.pef_reloc.specs.Limits.{most_imports, most_sections, offset_limit}
+use Rattle.pef_reloc.specs.Limits.{most_sections, offset_limit}
 use Rattle.pef_reloc.specs.Steps.{State, added, additions, next_state, numbered, pairs, row}
 use Rattle.pef_reloc.proofs.FixupLemmas.{fixups_fit-parts}
-use Rattle.pef_words.proofs.Laws.Tests.{met_both}
 
 begins : (f g : Fixup) (fs gs : List Fixup) (p : ℕ) → f ∷ fs ≡ g ∷ gs → f.offset ≡ p → g.offset ≡ p
 begins f g fs gs p e at = let same : f ≡ g = cc in sym (ap (λ (h : Fixup). h.offset) same) ∙ at
@@ -103,8 +103,8 @@ index_after-append (f ∷ fs) gs m = index_after-append fs gs (index_past f.base
 each_from : (end : ℕ) (fs : List Fixup) → fixups_from end fs ≡ true → AllByRecursion (λ f. fixup_fits f ≡ true) fs
 each_from end [] apart = tt
 each_from end (f ∷ fs) apart =
-    let first = met_both (nat_le end f.offset && fixup_fits f) (fixups_from (f.offset + 4) fs) apart in
-    ((met_both (nat_le end f.offset) (fixup_fits f) first.0).1, each_from (f.offset + 4) fs first.1)
+    let first = and_parts (nat_le end f.offset && fixup_fits f) (fixups_from (f.offset + 4) fs) apart in
+    ((and_parts (nat_le end f.offset) (fixup_fits f) first.0).1, each_from (f.offset + 4) fs first.1)
 
 pub each_fits : (fs : List Fixup) → fixups_fit fs ≡ true → AllByRecursion (λ f. fixup_fits f ≡ true) fs
 each_fits fs fit = each_from 0 fs (fixups_fit-parts fs fit).apart
@@ -116,12 +116,8 @@ pub record FixupFits (f : Fixup) : Type 0 where
 
 pub fixup_fits-parts : (f : Fixup) → fixup_fits f ≡ true → FixupFits f
 fixup_fits-parts f fits =
-    let both = met_both (nat_le (f.offset + 4) offset_limit) (base_fits f.base) fits in
+    let both = and_parts (nat_le (f.offset + 4) offset_limit) (base_fits f.base) fits in
     record { inside = leb-true _ _ both.0; base = both.1 }
-
-met_either : (a b : Bool) → (a || b) ≡ true → (a ≡ true) ⊎ (b ≡ true)
-met_either true b e = inl refl
-met_either false b e = inr e
 
 used_fits : (b : Base) (k : ℕ) → is_section k b ≡ true → base_fits b ≡ true → k < most_sections
 used_fits (Section j) k is fits =
@@ -131,40 +127,17 @@ used_fits (Section j) k is fits =
     ]
 used_fits (Import j) k is fits = absurd (cc)
 
-import_fits : (b : Base) (k : ℕ) → is_import k b ≡ true → base_fits b ≡ true → k < most_imports
-import_fits (Import j) k is fits =
-    elim (eqb_tells j k) [
-      | inl same ↦ (let e = same.1 in let under = ltb-true j most_imports fits in omega (arith, e, under))
-      | inr other ↦ (let no : true ≡ false = sym is ∙ other.0 in absurd (cc))
-    ]
-import_fits (Section j) k is fits = absurd (cc)
-
 section_below : (fs : List Fixup) (k : ℕ) → AllByRecursion (λ f. fixup_fits f ≡ true) fs → uses_section fs k ≡ true → k < most_sections
 section_below [] k fit uses = absurd (cc)
 section_below (f ∷ fs) k fit uses =
-    elim (met_either (is_section k f.base) (uses_section fs k) uses) [
+    elim (or_cases (is_section k f.base) (uses_section fs k) uses) [
       | inl here ↦ used_fits f.base k here (fixup_fits-parts f fit.0).base
       | inr later ↦ section_below fs k fit.1 later
-    ]
-
-import_below : (fs : List Fixup) (k : ℕ) → AllByRecursion (λ f. fixup_fits f ≡ true) fs → uses_import fs k ≡ true → k < most_imports
-import_below [] k fit uses = absurd (cc)
-import_below (f ∷ fs) k fit uses =
-    elim (met_either (is_import k f.base) (uses_import fs k) uses) [
-      | inl here ↦ import_fits f.base k here (fixup_fits-parts f fit.0).base
-      | inr later ↦ import_below fs k fit.1 later
     ]
 
 -- fixups that fit use sections and imports below the limits
 pub used_section-below : (fs : List Fixup) (k : ℕ) → fixups_fit fs ≡ true → uses_section fs k ≡ true → k < most_sections
 used_section-below fs k fit uses = section_below fs k (each_fits fs fit) uses
-
-pub used_import-below : (fs : List Fixup) (k : ℕ) → fixups_fit fs ≡ true → uses_import fs k ≡ true → k < most_imports
-used_import-below fs k fit uses = import_below fs k (each_fits fs fit) uses
-
-or_assoc : (a b c : Bool) → (a || (b || c)) ≡ ((a || b) || c)
-or_assoc true b c = refl
-or_assoc false b c = refl
 
 -- what fixups in a row use
 pub uses_section-append : (fs gs : List Fixup) (k : ℕ) → uses_section (fs ++ gs) k ≡ (uses_section fs k || uses_section gs k)

@@ -1,16 +1,13 @@
 -- Instruction by instruction: lists of them, what one adds first, and what is left to make.
-use Rattle.std.proofs.Common.{◌≡◌, ℕ, zero, suc, ◌+◌, ◌*◌, ◌<◌, ◌≤◌, Bool, true, false, ◌&&◌, List, [], ◌∷◌, ◌++◌, length, refl, ap, sym, ◌∙◌, arith, length-append, append_assoc}
+use Rattle.std.proofs.Common.{◌≡◌, ◌+◌, ◌≤◌, true, List, [], ◌∷◌, ◌++◌, length, refl, ap, sym, ◌∙◌, arith, append_assoc}
 use Rattle.std.specs.Option.{is_none}
-use Rattle.pef_reloc.specs.declared.fixup.Base.{Base}
-use Rattle.pef_reloc.specs.declared.fixup.Base.TheVariants.{Section, Import}
+use Rattle.std.proofs.lemmas.Bool.{and_from, and_parts}
 use Rattle.pef_reloc.specs.declared.fixup.Fixup.{Fixup}
 use Rattle.pef_reloc.specs.declared.instr.Instr.{Instr}
-use Rattle.pef_reloc.specs.declared.instr.Instr.TheVariants.{BySectDWithSkip, BySectC, BySectD, TVector12, TVector8, VTable8, ImportRun, SmByImport, SmSetSectC, SmSetSectD, SmBySection, IncrPosition, SmRepeat, SetPosition, LgByImport, LgRepeat, LgBySection, LgSetSectC, LgSetSectD}
-use Rattle.pef_reloc.specs.Deliveries.{Delivers, MakesFrom, index_after, index_past, is_flat_instr}
-use Rattle.pef_reloc.specs.Instrs.{instr_fits, instr_length, instrs_fit, program_length, repeat_free, repeat_of}
-use Rattle.pef_reloc.specs.Steps.{State, added, additions, is_flat, next_state, numbered, pairs, row, state_after, trace}
-use Rattle.pef_reloc.proofs.CodeLemmas.{most_length, some_length}
-use Rattle.pef_words.proofs.Laws.Tests.{both_met, met_both}
+use Rattle.pef_reloc.specs.Deliveries.{Delivers, MakesFrom, is_flat_instr}
+use Rattle.pef_reloc.specs.Instrs.{instr_fits, instrs_fit, program_length, repeat_free, repeat_of}
+use Rattle.pef_reloc.specs.Steps.{State, additions, is_flat, next_state, state_after, trace}
+use Rattle.pef_reloc.proofs.CodeLemmas.{some_length}
 
 -- the additions of instructions behind others
 pub trace-append : (xs ys : List Instr) (s : State) → trace (xs ++ ys) s ≡ trace xs s ++ trace ys (state_after xs s)
@@ -29,10 +26,6 @@ pub count-length : (xs : List Instr) → length xs ≤ program_length xs
 count-length [] = omega arith
 count-length (x ∷ xs) = omega (arith, some_length x, count-length xs)
 
-pub length-count : (xs : List Instr) → program_length xs ≤ 2 * length xs
-length-count [] = omega arith
-length-count (x ∷ xs) = omega (arith, most_length x, length-count xs)
-
 -- a flat list is a flat instruction and a flat list
 pub record FlatParts (x : Instr) (xs : List Instr) : Type 0 where
   pub first : is_flat_instr x ≡ true
@@ -40,21 +33,21 @@ pub record FlatParts (x : Instr) (xs : List Instr) : Type 0 where
 
 pub flat_parts : (x : Instr) (xs : List Instr) → is_flat (x ∷ xs) ≡ true → FlatParts x xs
 flat_parts x xs flat =
-    let both = met_both (repeat_free (x ∷ xs)) (instrs_fit (x ∷ xs)) flat in
-    let free = met_both (is_none (repeat_of x)) (repeat_free xs) both.0 in
-    let fits = met_both (instr_fits x) (instrs_fit xs) both.1 in
+    let both = and_parts (repeat_free (x ∷ xs)) (instrs_fit (x ∷ xs)) flat in
+    let free = and_parts (is_none (repeat_of x)) (repeat_free xs) both.0 in
+    let fits = and_parts (instr_fits x) (instrs_fit xs) both.1 in
     record {
-      first = both_met (is_none (repeat_of x)) (instr_fits x) free.0 fits.0;
-      others = both_met (repeat_free xs) (instrs_fit xs) free.1 fits.1;
+      first = and_from (is_none (repeat_of x)) (instr_fits x) free.0 fits.0;
+      others = and_from (repeat_free xs) (instrs_fit xs) free.1 fits.1;
     }
 
 pub flat_more : (x : Instr) (xs : List Instr) → is_flat_instr x ≡ true → is_flat xs ≡ true → is_flat (x ∷ xs) ≡ true
 flat_more x xs first others =
-    let one = met_both (is_none (repeat_of x)) (instr_fits x) first in
-    let more = met_both (repeat_free xs) (instrs_fit xs) others in
-    both_met (repeat_free (x ∷ xs)) (instrs_fit (x ∷ xs))
-    (both_met (is_none (repeat_of x)) (repeat_free xs) one.0 more.0)
-    (both_met (instr_fits x) (instrs_fit xs) one.1 more.1)
+    let one = and_parts (is_none (repeat_of x)) (instr_fits x) first in
+    let more = and_parts (repeat_free xs) (instrs_fit xs) others in
+    and_from (repeat_free (x ∷ xs)) (instrs_fit (x ∷ xs))
+    (and_from (is_none (repeat_of x)) (repeat_free xs) one.0 more.0)
+    (and_from (instr_fits x) (instrs_fit xs) one.1 more.1)
 
 -- flat lists in a row are flat
 pub flat-append : (xs ys : List Instr) → is_flat xs ≡ true → is_flat ys ≡ true → is_flat (xs ++ ys) ≡ true

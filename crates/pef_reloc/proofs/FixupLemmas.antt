@@ -1,10 +1,9 @@
 -- Lists of fixups that are built one by one, and what stands in a list that fits.
 use Rattle.std.proofs.Common.{◌≡◌, ℕ, ◌+◌, ◌≤◌, ◌<◌, Bool, true, false, List, [], ◌∷◌, ◌++◌, ◌&&◌, nat_le, length, refl, ◌∙◌, sym, arith, length-append}
-use Rattle.std.proofs.lemmas.Bool.{leb-true, le-leb}
+use Rattle.std.proofs.lemmas.Bool.{leb-true, le-leb, and_from, and_parts}
 use Rattle.pef_reloc.specs.declared.fixup.Fixup.{Fixup}
 use Rattle.pef_reloc.specs.Limits.{most_fixups, offset_limit}
 use Rattle.pef_reloc.specs.Fixups.{base_fits, fixup_fits, fixups_from, fixups_end, fixups_fit}
-use Rattle.pef_words.proofs.Laws.Tests.{both_met, met_both}
 
 pub and_assoc : (a b c : Bool) → (a && b && c) ≡ (a && (b && c))
 and_assoc true b c = refl
@@ -30,10 +29,10 @@ no_fixups_fit = refl
 pub fixups_fit-more : (fs : List Fixup) (f : Fixup) → fixups_fit fs ≡ true → length fs < most_fixups → fixups_end 0 fs ≤ f.offset → f.offset + 4 ≤ offset_limit → base_fits f.base ≡ true → fixups_fit (fs ++ f ∷ []) ≡ true
 unfolding fixups_fit
 fixups_fit-more fs f fit room after inside base =
-    let parts = met_both (nat_le (length fs) most_fixups) (fixups_from 0 fs) fit in
+    let parts = and_parts (nat_le (length fs) most_fixups) (fixups_from 0 fs) fit in
     let count : length (fs ++ f ∷ []) ≤ most_fixups = omega (arith, length-append fs (f ∷ [])) in
-    both_met _ _ (le-leb _ _ count)
-    (fixups_from-append 0 fs (f ∷ []) ∙ both_met _ _ parts.1 (both_met _ _ (both_met _ _ (le-leb _ _ after) (both_met _ _ (le-leb _ _ inside) base)) refl))
+    and_from _ _ (le-leb _ _ count)
+    (fixups_from-append 0 fs (f ∷ []) ∙ and_from _ _ parts.1 (and_from _ _ (and_from _ _ (le-leb _ _ after) (and_from _ _ (le-leb _ _ inside) base)) refl))
 
 -- what is known of fixups that fit: how many there are, and how each stands to the one before it
 pub record FixupsFit (fs : List Fixup) : Type 0 where
@@ -43,7 +42,7 @@ pub record FixupsFit (fs : List Fixup) : Type 0 where
 pub fixups_fit-parts : (fs : List Fixup) → fixups_fit fs ≡ true → FixupsFit fs
 unfolding fixups_fit
 fixups_fit-parts fs fit =
-    let parts = met_both (nat_le (length fs) most_fixups) (fixups_from 0 fs) fit in
+    let parts = and_parts (nat_le (length fs) most_fixups) (fixups_from 0 fs) fit in
     record { count = leb-true _ _ parts.0; apart = parts.1 }
 
 -- what is known of the first of fixups that stand apart, and of the others
@@ -55,7 +54,7 @@ pub record FirstStands (end : ℕ) (f : Fixup) (fs : List Fixup) : Type 0 where
 
 pub fixups_from-first : (end : ℕ) (f : Fixup) (fs : List Fixup) → fixups_from end (f ∷ fs) ≡ true → FirstStands end f fs
 fixups_from-first end f fs apart =
-    let parts = met_both (nat_le end f.offset && fixup_fits f) (fixups_from (f.offset + 4) fs) apart in
-    let first = met_both (nat_le end f.offset) (fixup_fits f) parts.0 in
-    let second = met_both (nat_le (f.offset + 4) offset_limit) (base_fits f.base) first.1 in
+    let parts = and_parts (nat_le end f.offset && fixup_fits f) (fixups_from (f.offset + 4) fs) apart in
+    let first = and_parts (nat_le end f.offset) (fixup_fits f) parts.0 in
+    let second = and_parts (nat_le (f.offset + 4) offset_limit) (base_fits f.base) first.1 in
     record { after = leb-true _ _ first.0; inside = leb-true _ _ second.0; base = second.1; others = parts.1 }

@@ -4,12 +4,12 @@ use Rattle.std.proofs.Common.{◌≡◌, ℕ, ◌+◌, ◌*◌, ◌<◌, ◌≤�
 use Rattle.std.proofs.lemmas.List.{map-append}
 use Rattle.std.proofs.Math.Seq.{drop-append_seam}
 use Rattle.std.specs.Option.{is_none}
-use Rattle.std.proofs.lemmas.Bool.{le-leb}
+use Rattle.std.proofs.lemmas.Bool.{and_parts, le-leb}
 use Rattle.pef_reloc.specs.declared.fault.RelocFault.{RelocFault}
 use Rattle.pef_reloc.specs.declared.instr.Instr.{Instr}
 use Rattle.pef_reloc.specs.declared.instr.Instr.TheVariants.{BySectDWithSkip, BySectC, BySectD, TVector12, TVector8, VTable8, ImportRun, SmByImport, SmSetSectC, SmSetSectD, SmBySection, IncrPosition, SmRepeat, SetPosition, LgByImport, LgRepeat, LgBySection, LgSetSectC, LgSetSectD}
 use Rattle.pef_reloc.specs.declared.instr.Repeat.{Repeat}
-use Rattle.pef_reloc.specs.Instrs.{halfword_bytes, halfwords_of, instr_fits, instr_length, instrs_fit, repeat_free, repeat_of, spelled}
+use Rattle.pef_reloc.specs.Instrs.{halfword_bytes, halfwords_of, instr_fits, instr_length, instrs_fit, program_length, repeat_free, repeat_of, spelled}
 use Rattle.pef_reloc.specs.Decoding.{Code, code_more, code_of}
 use Rattle.pef_reloc.specs.Steps.{State, Act, add, need, acts_from, additions, all_below, is_flat, named_sections, names_below, next_state, start, trace}
 use Rattle.pef_reloc.specs.Limits.{step_limit}
@@ -19,7 +19,6 @@ use Rattle.pef_reloc.proofs.Acts.{need-there}
 use Rattle.pef_reloc.proofs.ActLists.{applied-append}
 use Rattle.pef_reloc.proofs.CodeLemmas.{code_of-begins, code_of-nothing, some_length}
 use Rattle.pef_reloc.proofs.Decodes.{reads_back}
-use Rattle.pef_words.proofs.Laws.Tests.{met_both}
 use Rattle.pef_reloc.proofs.Spellings.{spelled-nothing, spelled-one}
 
 -- an instruction is spelled in two bytes a halfword
@@ -45,6 +44,12 @@ length_spelling (LgBySection k) = refl
 length_spelling (LgSetSectC k) = refl
 length_spelling (LgSetSectD k) = refl
 
+-- and so are instructions one behind the other
+pub length-spelled : (xs : List Instr) → length (spelled xs) ≡ 2 * program_length xs
+length-spelled [] = ap length spelled-nothing
+length-spelled (x ∷ xs) =
+    omega (arith, ap length (spelled-one x xs) ∙ length-append (halfword_bytes (halfwords_of x)) (spelled xs), length_spelling x, length-spelled xs)
+
 -- what stands behind the bytes of an instruction
 pub behind : (x : Instr) (rest : List ℕ) → drop (2 * instr_length x) (halfword_bytes (halfwords_of x) ++ rest) ≡ rest
 behind x rest =
@@ -55,7 +60,7 @@ behind x rest =
 pub code_of-spelled : (xs : List Instr) → instrs_fit xs ≡ true → code_of (spelled xs) ≡ record { instrs = xs; fault = None }
 code_of-spelled [] fits = ap code_of spelled-nothing ∙ code_of-nothing
 code_of-spelled (x ∷ xs) fits =
-    let p = met_both (instr_fits x) (instrs_fit xs) fits in
+    let p = and_parts (instr_fits x) (instrs_fit xs) fits in
     let some : 0 < length (halfword_bytes (halfwords_of x) ++ spelled xs) = omega (arith, length-append (halfword_bytes (halfwords_of x)) (spelled xs), length_spelling x, some_length x) in
     ap code_of (spelled-one x xs)
     ∙ (code_of-begins (halfword_bytes (halfwords_of x) ++ spelled xs) some
@@ -73,7 +78,7 @@ none_is (Some r) e = absurd (cc e)
 pub first_fault-flat : (before : List Instr) (steps : ℕ) (xs : List Instr) → repeat_free xs ≡ true → steps + length xs ≤ step_limit → first_fault before steps xs ≡ None
 first_fault-flat before steps [] free few = refl
 first_fault-flat before steps (x ∷ xs) free few =
-    let p = met_both (is_none (repeat_of x)) (repeat_free xs) free in
+    let p = and_parts (is_none (repeat_of x)) (repeat_free xs) free in
     let under = le-leb (steps + 1) step_limit (omega arith) in
     rw (none_is (repeat_of x) p.0, under) (first_fault-flat (x ∷ before) (steps + 1) xs p.1 (omega arith))
 
@@ -81,7 +86,7 @@ first_fault-flat before steps (x ∷ xs) free few =
 pub unrolled_after-flat : (before xs : List Instr) → repeat_free xs ≡ true → unrolled_after before xs ≡ xs
 unrolled_after-flat before [] free = refl
 unrolled_after-flat before (x ∷ xs) free =
-    let p = met_both (is_none (repeat_of x)) (repeat_free xs) free in
+    let p = and_parts (is_none (repeat_of x)) (repeat_free xs) free in
     rw (none_is (repeat_of x) p.0) (ap (λ ys. x ∷ ys) (unrolled_after-flat (x ∷ before) xs p.1))
 
 pub unrolled-flat : (xs : List Instr) → repeat_free xs ≡ true → unrolled xs ≡ xs
@@ -91,21 +96,21 @@ unrolled-flat xs free = unrolled_after-flat [] xs free
 pub program_fault-spelled : (xs : List Instr) → is_flat xs ≡ true → length xs ≤ step_limit → program_fault (spelled xs) ≡ None
 unfolding program_fault
 program_fault-spelled xs flat few =
-    let p = met_both (repeat_free xs) (instrs_fit xs) flat in
+    let p = and_parts (repeat_free xs) (instrs_fit xs) flat in
     rw (code_of-spelled xs p.1, first_fault-flat [] 0 xs p.0 (omega arith)) refl
 
 -- and do what the list does
 pub relocated-spelled : (xs : List Instr) (a : Addresses) (memory : List ℕ) → is_flat xs ≡ true → relocated (spelled xs) a memory ≡ applied a (acts_from xs start) memory
 unfolding relocated
 relocated-spelled xs a memory flat =
-    let p = met_both (repeat_free xs) (instrs_fit xs) flat in
+    let p = and_parts (repeat_free xs) (instrs_fit xs) flat in
     ap (λ ys. applied a (acts_from ys start) memory) (ap unrolled (instrs_of-spelled xs p.1) ∙ unrolled-flat xs p.0)
 
 -- sections that are there are looked for without effect
 needs_met : (a : Addresses) (sections : List ℕ) (acts : List Act) (memory : List ℕ) → all_below (length a.sections) sections ≡ true → applied a (map need sections ++ acts) memory ≡ applied a acts memory
 needs_met a [] acts memory below = refl
 needs_met a (k ∷ sections) acts memory below =
-    let p = met_both (nat_lt k (length a.sections)) (all_below (length a.sections) sections) below in
+    let p = and_parts (nat_lt k (length a.sections)) (all_below (length a.sections) sections) below in
     need-there a k (map need sections ++ acts) memory p.0 ∙ needs_met a sections acts memory p.1
 
 unless_same : (f : Option RelocFault) (m : List ℕ) (x y : Done) → x ≡ y → unless_refused f m x ≡ unless_refused f m y
@@ -119,7 +124,7 @@ then_same d f g e = unless_same d.fault d.memory (f d.memory) (g d.memory) (e d.
 pub applied-trace : (a : Addresses) (xs : List Instr) (s : State) (memory : List ℕ) → names_below (length a.sections) xs ≡ true → applied a (acts_from xs s) memory ≡ applied a (map add (trace xs s)) memory
 applied-trace a [] s memory below = refl
 applied-trace a (x ∷ xs) s memory below =
-    let p = met_both (all_below (length a.sections) (named_sections x)) (names_below (length a.sections) xs) below in
+    let p = and_parts (all_below (length a.sections) (named_sections x)) (names_below (length a.sections) xs) below in
     ap (λ acts. applied a acts memory) (append_assoc (map need (named_sections x)) (map add (additions x s)) (acts_from xs (next_state x s)))
     ∙ (needs_met a (named_sections x) (map add (additions x s) ++ acts_from xs (next_state x s)) memory p.0
     ∙ (applied-append a (map add (additions x s)) (acts_from xs (next_state x s)) memory

@@ -1,13 +1,14 @@
 -- Readable bytes are spelled by their instructions, which fit.
-use Rattle.std.proofs.Common.{◌≡◌, ◌⊎◌, inl, inr, ℕ, zero, suc, ◌+◌, ◌*◌, ◌/◌, ◌%◌, ◌<◌, ◌≤◌, ◌==◌, Bool, true, false, cond, ◌&&◌, nat_le, nat_lt, List, [], ◌∷◌, ◌++◌, drop, length, slice_index, Option, None, Some, Result, Ok, Err, refl, ap, sym, subst, ◌∙◌, arith, length-drop}
-use Rattle.std.proofs.lemmas.Bool.{eqb-true, le-leb, lt-leb, lt-ltb, ltb-true}
+use Rattle.std.proofs.Common.{◌≡◌, ◌⊎◌, inl, inr, ℕ, zero, suc, ◌+◌, ◌*◌, ◌/◌, ◌%◌, ◌<◌, ◌≤◌, ◌==◌, Bool, true, false, cond, nat_le, nat_lt, List, [], ◌∷◌, ◌++◌, drop, length, slice_index, Option, None, Some, Result, Ok, Err, refl, ap, sym, subst, ◌∙◌, arith, length-drop}
+use Rattle.std.proofs.lemmas.Bool.{and_from, eqb-true, le-leb, lt-leb, lt-ltb, ltb-true}
 use Rattle.std.proofs.lemmas.List.{get_or-drop}
 use Rattle.std.specs.Option.{is_some}
 use Rattle.byteorder.specs.Endian.{big_bytes}
 use Rattle.pef_words.specs.Bytes.{number_at}
 use Rattle.pef_words.specs.Refusals.{◌>>=◌}
 use Rattle.pef_words.proofs.Laws.Refusals.{neither}
-use Rattle.pef_words.proofs.Laws.Tests.{both_met}
+use Rattle.pef_words.proofs.Laws.Numbers.{counts_fit}
+use Rattle.std.proofs.lemmas.Option.{same_Some}
 use Rattle.pef_reloc.specs.declared.fault.RelocFault.{RelocFault}
 use Rattle.pef_reloc.specs.declared.instr.Instr.{Instr}
 use Rattle.pef_reloc.specs.declared.instr.Instr.TheVariants.{BySectDWithSkip, BySectC, BySectD, TVector12, TVector8, VTable8, ImportRun, SmByImport, SmSetSectC, SmSetSectD, SmBySection, IncrPosition, SmRepeat, SetPosition, LgByImport, LgRepeat, LgBySection, LgSetSectC, LgSetSectD}
@@ -18,13 +19,9 @@ use Rattle.pef_reloc.proofs.FlatLaws.{behind}
 use Rattle.pef_reloc.proofs.CodeLemmas.{some_length}
 use Rattle.pef_reloc.proofs.Spellings.{spelled-nothing, spelled-one}
 
-abbrev some_or : {A : Type 0} → A → Option A → A
-some_or d None = d
-some_or d (Some x) = x
-
 -- what a table of tests picked has a property that each of its rows has
 picked : (P : Instr → Type 0) (b : Bool) (y : Instr) (others : Option Instr) (x : Instr) → (b ≡ true → P y) → (others ≡ Some x → P x) → cond b (Some y) others ≡ Some x → P x
-picked P true y others x here later e = subst P (ap (some_or y) e) (here refl)
+picked P true y others x here later e = subst P (same_Some y x e) (here refl)
 picked P false y others x here later e = later e
 
 -- a table that is asked where a test is met
@@ -43,20 +40,16 @@ one_word w h e = ap (λ v. v ∷ []) e
 two_words : (w v h l : ℕ) → h ≡ w → l ≡ v → ◌≡◌ {A = List ℕ} (h ∷ l ∷ []) (w ∷ v ∷ [])
 two_words w v h l e f = rw (e, f) refl
 
--- a count fits
-counts : (limit n : ℕ) → 1 ≤ n → n ≤ limit → (nat_le 1 n && nat_le n limit) ≡ true
-counts limit n low high = both_met _ _ (le-leb 1 n low) (le-leb n limit high)
-
 -- the instruction of a seven-bit opcode and a nine-bit number
 opcode_spells : (w op k : ℕ) (x : Instr) → w ≡ op * 512 + k → k < 512 → opcode_instr op k ≡ Some x → Spells (w ∷ []) x
 unfolding halfwords_of
 opcode_spells w op k x is small =
-    picked (Spells (w ∷ [])) (op == 0x20) (BySectC (k + 1)) _ x (λ e. let o = eqb-true op 0x20 e in record { words_are = one_word w _ (omega arith); fits = counts 512 (k + 1) (omega arith) (omega arith) })
-    (picked (Spells (w ∷ [])) (op == 0x21) (BySectD (k + 1)) _ x (λ e. let o = eqb-true op 0x21 e in record { words_are = one_word w _ (omega arith); fits = counts 512 (k + 1) (omega arith) (omega arith) })
-    (picked (Spells (w ∷ [])) (op == 0x22) (TVector12 (k + 1)) _ x (λ e. let o = eqb-true op 0x22 e in record { words_are = one_word w _ (omega arith); fits = counts 512 (k + 1) (omega arith) (omega arith) })
-    (picked (Spells (w ∷ [])) (op == 0x23) (TVector8 (k + 1)) _ x (λ e. let o = eqb-true op 0x23 e in record { words_are = one_word w _ (omega arith); fits = counts 512 (k + 1) (omega arith) (omega arith) })
-    (picked (Spells (w ∷ [])) (op == 0x24) (VTable8 (k + 1)) _ x (λ e. let o = eqb-true op 0x24 e in record { words_are = one_word w _ (omega arith); fits = counts 512 (k + 1) (omega arith) (omega arith) })
-    (picked (Spells (w ∷ [])) (op == 0x25) (ImportRun (k + 1)) _ x (λ e. let o = eqb-true op 0x25 e in record { words_are = one_word w _ (omega arith); fits = counts 512 (k + 1) (omega arith) (omega arith) })
+    picked (Spells (w ∷ [])) (op == 0x20) (BySectC (k + 1)) _ x (λ e. let o = eqb-true op 0x20 e in record { words_are = one_word w _ (omega arith); fits = counts_fit 512 (k + 1) (omega arith) (omega arith) })
+    (picked (Spells (w ∷ [])) (op == 0x21) (BySectD (k + 1)) _ x (λ e. let o = eqb-true op 0x21 e in record { words_are = one_word w _ (omega arith); fits = counts_fit 512 (k + 1) (omega arith) (omega arith) })
+    (picked (Spells (w ∷ [])) (op == 0x22) (TVector12 (k + 1)) _ x (λ e. let o = eqb-true op 0x22 e in record { words_are = one_word w _ (omega arith); fits = counts_fit 512 (k + 1) (omega arith) (omega arith) })
+    (picked (Spells (w ∷ [])) (op == 0x23) (TVector8 (k + 1)) _ x (λ e. let o = eqb-true op 0x23 e in record { words_are = one_word w _ (omega arith); fits = counts_fit 512 (k + 1) (omega arith) (omega arith) })
+    (picked (Spells (w ∷ [])) (op == 0x24) (VTable8 (k + 1)) _ x (λ e. let o = eqb-true op 0x24 e in record { words_are = one_word w _ (omega arith); fits = counts_fit 512 (k + 1) (omega arith) (omega arith) })
+    (picked (Spells (w ∷ [])) (op == 0x25) (ImportRun (k + 1)) _ x (λ e. let o = eqb-true op 0x25 e in record { words_are = one_word w _ (omega arith); fits = counts_fit 512 (k + 1) (omega arith) (omega arith) })
     (picked (Spells (w ∷ [])) (op == 0x30) (SmByImport k) _ x (λ e. let o = eqb-true op 0x30 e in record { words_are = one_word w _ (omega arith); fits = lt-ltb k 512 small })
     (picked (Spells (w ∷ [])) (op == 0x31) (SmSetSectC k) _ x (λ e. let o = eqb-true op 0x31 e in record { words_are = one_word w _ (omega arith); fits = lt-ltb k 512 small })
     (picked (Spells (w ∷ [])) (op == 0x32) (SmSetSectD k) _ x (λ e. let o = eqb-true op 0x32 e in record { words_are = one_word w _ (omega arith); fits = lt-ltb k 512 small })
@@ -68,13 +61,13 @@ short_spells : (w : ℕ) (x : Instr) → w < 0x10000 → short_instr w ≡ Some 
 unfolding halfwords_of short_instr
 short_spells w x small =
     picked (Spells (w ∷ [])) (nat_lt (w / 0x1000) 4) (BySectDWithSkip (w / 64) (w % 64)) _ x
-    (λ e. let o = ltb-true (w / 0x1000) 4 e in record { words_are = one_word w _ (omega arith); fits = both_met _ _ (le-leb (w / 64) 255 (omega arith)) (le-leb (w % 64) 63 (omega arith)) })
+    (λ e. let o = ltb-true (w / 0x1000) 4 e in record { words_are = one_word w _ (omega arith); fits = and_from _ _ (le-leb (w / 64) 255 (omega arith)) (le-leb (w % 64) 63 (omega arith)) })
     (picked (Spells (w ∷ [])) (w / 0x1000 == 8) (IncrPosition (w % 4096 + 1)) _ x
-    (λ e. let o = eqb-true (w / 0x1000) 8 e in record { words_are = one_word w _ (omega arith); fits = counts 4096 (w % 4096 + 1) (omega arith) (omega arith) })
+    (λ e. let o = eqb-true (w / 0x1000) 8 e in record { words_are = one_word w _ (omega arith); fits = counts_fit 4096 (w % 4096 + 1) (omega arith) (omega arith) })
     (picked (Spells (w ∷ [])) (w / 0x1000 == 9) (SmRepeat (w / 256 % 16 + 1) (w % 256 + 1)) _ x
     (λ e. let o = eqb-true (w / 0x1000) 9 e in record {
       words_are = one_word w _ (omega arith);
-      fits = both_met _ _ (both_met _ _ (counts 16 (w / 256 % 16 + 1) (omega arith) (omega arith)) (le-leb 1 (w % 256 + 1) (omega arith))) (le-leb (w % 256 + 1) 256 (omega arith));
+      fits = and_from _ _ (and_from _ _ (counts_fit 16 (w / 256 % 16 + 1) (omega arith) (omega arith)) (le-leb 1 (w % 256 + 1) (omega arith))) (le-leb (w % 256 + 1) 256 (omega arith));
     })
     (opcode_spells w (w / 512) (w % 512) x (omega arith) (omega arith))))
 
@@ -98,7 +91,7 @@ long_spells w v x small low =
     (picked (Spells (w ∷ v ∷ [])) (w / 1024 == 0x2C) (LgRepeat (w / 64 % 16 + 1) (w % 64 * 0x10000 + v)) _ x
     (λ e. let o = eqb-true (w / 1024) 0x2C e in record {
       words_are = two_words w v _ _ (omega arith) (omega arith);
-      fits = both_met _ _ (counts 16 (w / 64 % 16 + 1) (omega arith) (omega arith)) (lt-ltb _ 0x400000 (omega arith));
+      fits = and_from _ _ (counts_fit 16 (w / 64 % 16 + 1) (omega arith) (omega arith)) (lt-ltb _ 0x400000 (omega arith));
     })
     (gated (Spells (w ∷ v ∷ [])) (w / 1024 == 0x2D) _ x
     (λ e. section_spells w v (w / 64 % 16) (w % 64 * 0x10000 + v) x (let o = eqb-true (w / 1024) 0x2D e in omega arith) (omega arith) (omega arith) low))))
@@ -202,7 +195,7 @@ more_spelled bytes x instrs begins others =
     let rest_is : drop (2 * instr_length x) bytes ≡ begins.rest = ap (drop (2 * instr_length x)) begins.is ∙ behind x begins.rest in
     record {
       is = spelled-one x instrs ∙ ap (λ (ys : List ℕ). halfword_bytes (halfwords_of x) ++ ys) (others.is ∙ rest_is) ∙ sym begins.is;
-      fit = both_met _ _ begins.fits others.fit;
+      fit = and_from _ _ begins.fits others.fit;
     }
 
 -- what was read of some bytes, and nothing refused, spells them

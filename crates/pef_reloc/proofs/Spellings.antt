@@ -1,8 +1,9 @@
 -- The bytes of instructions, one after the other.
-use Rattle.std.proofs.Common.{◌≡◌, ℕ, suc, ◌+◌, ◌<◌, true, List, [], ◌∷◌, ◌++◌, drop, get_or, length, refl, ap, sym, ◌∙◌, arith, drop-cons, append_assoc}
+use Rattle.std.proofs.Common.{◌≡◌, ℕ, ◌+◌, ◌<◌, true, List, [], ◌∷◌, ◌++◌, drop, get_or, length, refl, ap, sym, ◌∙◌, append_assoc}
+use Rattle.std.proofs.lemmas.List.{drop_more}
+use Rattle.std.proofs.lemmas.Bool.{and_parts}
 use Rattle.pef_reloc.specs.declared.instr.Instr.{Instr}
 use Rattle.pef_reloc.specs.Instrs.{halfword_bytes, halfwords_of, instr_fits, instrs_fit, spelled}
-use Rattle.pef_words.proofs.Laws.Tests.{met_both}
 
 pub spelled-nothing : spelled [] ≡ []
 unfolding spelled
@@ -12,15 +13,12 @@ pub spelled-one : (x : Instr) (xs : List Instr) → spelled (x ∷ xs) ≡ halfw
 unfolding spelled
 spelled-one x xs = refl
 
-next : (xs : List Instr) (i : ℕ) (d : Instr) → i < length xs → drop i xs ≡ get_or xs i d ∷ drop (i + 1) xs
-next xs i d under = let one : i + 1 ≡ suc i = omega arith in rw one (drop-cons xs i d under)
-
 -- the instruction at a place fits, and so do those behind it
 pub fits-here : (xs : List Instr) (i : ℕ) (d : Instr) → i < length xs → instrs_fit (drop i xs) ≡ true → (instr_fits (get_or xs i d) ≡ true) × (instrs_fit (drop (i + 1) xs) ≡ true)
-fits-here xs i d under fits = met_both (instr_fits (get_or xs i d)) (instrs_fit (drop (i + 1) xs)) (ap instrs_fit (sym (next xs i d under)) ∙ fits)
+fits-here xs i d under fits = and_parts (instr_fits (get_or xs i d)) (instrs_fit (drop (i + 1) xs)) (ap instrs_fit (sym (drop_more xs i d under)) ∙ fits)
 
 pub spelled-next : (xs : List Instr) (i : ℕ) (d : Instr) → i < length xs → spelled (drop i xs) ≡ halfword_bytes (halfwords_of (get_or xs i d)) ++ spelled (drop (i + 1) xs)
-spelled-next xs i d under = ap spelled (next xs i d under) ∙ spelled-one (get_or xs i d) (drop (i + 1) xs)
+spelled-next xs i d under = ap spelled (drop_more xs i d under) ∙ spelled-one (get_or xs i d) (drop (i + 1) xs)
 
 -- one more instruction is spelled
 pub spelled-more : (xs : List Instr) (i : ℕ) (d : Instr) (done more : List ℕ) → i < length xs → more ≡ done ++ halfword_bytes (halfwords_of (get_or xs i d)) → done ++ spelled (drop i xs) ≡ spelled xs → more ++ spelled (drop (i + 1) xs) ≡ spelled xs

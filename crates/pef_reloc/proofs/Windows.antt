@@ -115,9 +115,6 @@ pub record CountLeft (bytes : List ℕ) (at to count : ℕ) (block : List Instr)
   pub flat_is : repeat_free rest ≡ repeat_free block
   pub count_is : count + length rest ≡ length block
 
-pub count-start : (bytes : List ℕ) (from to : ℕ) (block : List Instr) → Spans bytes from block to → CountLeft bytes from to 0 block
-count-start bytes from to block spans = record { rest = block; spans = spans; flat_is = refl; count_is = omega arith }
-
 -- the instruction that stands first
 pub record First (bytes : List ℕ) (at to : ℕ) (rest : List Instr) (x : Instr) : Type 0 where
   pub others : List Instr

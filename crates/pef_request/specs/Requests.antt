@@ -16,14 +16,14 @@ pub data Asked : Type 0 where
   check : List ℕ → List ℕ → Asked
 
 -- a file's name and its path
-abbrev pub pair_of : NamedFile → List ℕ × List ℕ
-pair_of file = (file.name.now, file.path.now)
+abbrev pub named_path : NamedFile → List ℕ × List ℕ
+named_path file = (file.name.now, file.path.now)
 
 -- what a request asks for
 abbrev pub asked_of : Request → Asked
 asked_of request.Show = show
 asked_of (request.Link script out) = link script.now out.now
-asked_of (request.Load files) = load (map pair_of files.items)
+asked_of (request.Load files) = load (map named_path files.items)
 asked_of (request.List file) = list file.now
 asked_of (request.Distances script) = distances script.now
 asked_of (request.Check script cert) = check script.now cert.now

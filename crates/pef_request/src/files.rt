@@ -2,7 +2,7 @@
 ghost use Rattle.std.specs.Prelude.{◌≡◌, map, option_map};
 ghost use Rattle.pef_request.specs.Files.{named_file as file_of_word, named_files as files_of_words};
 ghost use Rattle.pef_request.specs.Kept.Files.{AnswersFiles};
-ghost use Rattle.pef_request.specs.Requests.{pair_of};
+ghost use Rattle.pef_request.specs.Requests.{named_path};
 
 use crate::command_line::WordsFault;
 use std::alloc::Global;
@@ -35,7 +35,7 @@ pub(crate) fn named_files<'a>(
 
 /// The file that a word `NAME=FILE` names: its name ends before the first `=`, and isn't empty.
 fn named_file<'a>(word: &'a str) -> Option<NamedFile<'a>>
-    ensures { option_map pair_of result ≡ file_of_word word.now }
+    ensures { option_map named_path result ≡ file_of_word word.now }
 {
     let (name, path) = word.split_once('=')?;
     if name.is_empty() {

@@ -10,7 +10,7 @@ use Rattle.pef_runs.specs.declared.runs.Run.{Run}
 use Rattle.pef_runs.specs.declared.runs.Run.TheVariants.{WordsOfC, WordsOfD, Spaced, Pairs, SpacedPairs, Imports, Skip}
 use Rattle.pef_runs.specs.declared.ends.RunEnds.{RunEnds}
 use Rattle.pef_squares.specs.declared.window.Window.{Window}
-use Rattle.pef_runs.specs.Runs.{Begins, EndAmong, EndOf, Ends, EndsFrom, Holds, NextBase, RunOf, limit, stride, units}
+use Rattle.pef_runs.specs.Runs.{EndAmong, EndOf, Ends, EndsFrom, Holds, NextBase, RunBegins, RunOf, limit, stride, units}
 use Rattle.pef_runs.specs.Ends.{EndRows, EndsAt, FarPairsAt, FarPairsKept, Holding, PairsAt, PairsKept, SkipsAt, SkipsKept, SpacedAt, SpacedKept, WordsAt, WordsKept, window_of}
 use Rattle.pef_runs.specs.Places.{HereOf, Led}
 use Rattle.pef_runs.specs.Tables.{Agrees}
@@ -118,7 +118,7 @@ imports_best k h import first value w here at of base next held bests =
     (λ l agrees. subst (λ (b : Base). WordsAt l h.first.offset (h.first ∷ h.others.now) held.squares b) base (held.kept l agrees) h.place.c h.place.d (under_c l k h here agrees) (under_d l k h here agrees))
     (bests (length k.registers.now + 1) 512 held.squares held.is here.c here.d)
 
-by_run : (k : Known) (h : Here) (r : Run) (first value : ℕ) (e : RunEnds) → HereOf k h → h.place.position ≡ h.first.offset → RunOf k.registers.now r h.place h.place.position → Begins r h.place.import_index h.first.base h.others.now → EndsAt k h.others.now (h.first ∷ h.others.now) e → Bests (window_of e r) h first value → RunBest k h r first value
+by_run : (k : Known) (h : Here) (r : Run) (first value : ℕ) (e : RunEnds) → HereOf k h → h.place.position ≡ h.first.offset → RunOf k.registers.now r h.place h.place.position → RunBegins r h.place.import_index h.first.base h.others.now → EndsAt k h.others.now (h.first ∷ h.others.now) e → Bests (window_of e r) h first value → RunBest k h r first value
 by_run k h (WordsOfC section) first value e here at of begins ends bests = words_c_best k h section first value e.words here at of begins ends.words bests
 by_run k h (WordsOfD section) first value e here at of begins ends bests = words_d_best k h section first value e.words here at of begins ends.words bests
 by_run k h (Spaced section) first value e here at of begins ends bests = spaced_best k h section first value e.spaced here at of begins of.0 ends.spaced bests
@@ -128,5 +128,5 @@ by_run k h Imports first value e here at of begins ends bests = imports_best k h
 by_run k h (Skip words section) first value e here at of begins ends bests = skips_best k h words section first value e.skips here at of begins ends.skips bests
 
 -- what the window of a run says of it
-pub run_low : (k : Known) (h : Here) (r : Run) (first value : ℕ) (e : RunEnds) (w : Window) → HereOf k h → h.place.position ≡ h.first.offset → RunOf k.registers.now r h.place h.place.position → Begins r h.place.import_index h.first.base h.others.now → EndsAt k h.others.now (h.first ∷ h.others.now) e → w ≡ window_of e r → Bests w h first value → RunBest k h r first value
+pub run_low : (k : Known) (h : Here) (r : Run) (first value : ℕ) (e : RunEnds) (w : Window) → HereOf k h → h.place.position ≡ h.first.offset → RunOf k.registers.now r h.place h.place.position → RunBegins r h.place.import_index h.first.base h.others.now → EndsAt k h.others.now (h.first ∷ h.others.now) e → w ≡ window_of e r → Bests w h first value → RunBest k h r first value
 run_low k h r first value e w here at of begins ends is bests = by_run k h r first value e here at of begins ends (subst (λ (x : Window). Bests x h first value) is bests)

@@ -1,6 +1,5 @@
 -- The ends of runs in windows: how they are kept from fixup to fixup, and what follows for a value.
 use Rattle.std.proofs.Common.{◌≡◌, ℕ, zero, suc, ◌+◌, ◌-◌, ◌*◌, ◌<◌, ◌≤◌, inl, inr, List, [], ◌∷◌, ◌++◌, take, refl, ap, ap₂, sym, ◌∙◌, subst, arith}
-use Rattle.std.specs.Prelude.{Result, Ok, Err, OnOk}
 use Rattle.std.proofs.lemmas.List.{append_assoc, append_cancel_left}
 use Rattle.std.proofs.Math.Nat.{mul-add}
 use Rattle.pef_reloc.specs.declared.fixup.Fixup.{Fixup}
@@ -23,11 +22,6 @@ use Rattle.pef_squares.specs.Squares.{number_in}
 use Rattle.pef_runs.specs.Tables.{Agrees}
 use Rattle.pef_squares.specs.Windows.{AtMostEach, BestOf, IsOne, WindowOf}
 use Rattle.pef_runs.proofs.RunFacts.{no_ends, run-adds, run-flat, run-next, run-one, units-more, units-none, units_c, units_d, units_far, units_pairs, units_skip, units_spaced}
-
--- what follows from success
-pub on_ok : {E P Q : Type 0} (r : Result (Unit {0}) E) → (P → Q) → OnOk r P → OnOk r Q
-on_ok (Ok x) so ok = so ok
-on_ok (Err e) so ok = tt
 
 -- the extension at a state in a place
 pub extension-there : (l : Labels) (registers : List ℕ) (q : Place) (s : State) → l.registers ≡ registers → InPlace registers q s → extension_at l q.left.now s ≡ extension_in l q

@@ -1,12 +1,9 @@
 -- Windows that are brought to the fixup before: they have the ends of the runs that begin there.
-use Rattle.std.proofs.Common.{◌≡◌, ℕ, ◌+◌, ◌<◌, List, [], ◌∷◌, length, Option, None, Some, refl, ap, sym, ◌∙◌, subst, arith, ◌≤◌, true}
+use Rattle.std.proofs.Common.{◌≡◌, ℕ, ◌+◌, ◌<◌, List, [], ◌∷◌, length, Option, None, Some, refl, ap, sym, ◌∙◌, subst, arith}
 use Rattle.pef_reloc.specs.declared.fixup.Base.{Base}
 use Rattle.pef_reloc.specs.declared.fixup.Base.TheVariants.{Section, Import}
 use Rattle.pef_reloc.specs.declared.fixup.Fixup.{Fixup}
-use Rattle.pef_reloc.specs.Fixups.{base_fits}
 use Rattle.pef_reloc.specs.Steps.{added}
-use Rattle.pef_reloc.proofs.Laws.{fixup_fits-parts}
-use Rattle.std.proofs.lemmas.Bool.{ltb-true}
 use Rattle.pef_cert.specs.Labels.{Labels, class_of, classes}
 use Rattle.pef_cert.specs.Extension.{extension}
 use Rattle.pef_runs.specs.declared.runs.Run.{Run}
@@ -17,12 +14,9 @@ use Rattle.pef_runs.specs.declared.ends.RunEnds.{RunEnds}
 use Rattle.pef_runs.specs.declared.known.Known.{Known}
 use Rattle.pef_runs.specs.declared.place.Place.{Place}
 use Rattle.pef_runs.specs.declared.place.At.{At}
-use Rattle.pef_runs.specs.Ends.{Brought, BroughtMaybe, EndRows, EndsAt, EndsOf, FarAt, FarKept, FarPairsAt, FarPairsKept, Holding, HoldingTwo, NearKept, PairsAt, PairsKept, SkipsAt, SkipsKept, SpacedAt, SpacedKept, WordsAt, WordsKept, far_pairs_of, number_of, pairs_of, rest_of, second_of, sections_of, words_of}
-use Rattle.pef_runs.specs.Places.{AtOf}
+use Rattle.pef_runs.specs.Ends.{Brought, BroughtMaybe, EndRows, EndsAt, EndsOf, FarAt, FarKept, FarPairsAt, FarPairsKept, Holding, HoldingTwo, NearKept, PairsAt, PairsKept, SkipsAt, SkipsKept, SpacedAt, SpacedKept, WordsAt, WordsKept, base_import, far_pairs_run, pairs_run, rest_of, second_of, sections_of, words_run}
 use Rattle.pef_runs.specs.Tables.{Agrees}
 use Rattle.pef_squares.specs.Windows.{WindowOf}
-use Rattle.pef_reloc.specs.Limits.{most_imports, offset_limit}
-use Rattle.pef_squares.specs.Limits.{most_classes}
 
 -- what a call that brings a window to a place says of it
 abbrev pub Brings : Run → Place → List (List ℕ) → Window → Window → Type 0
@@ -35,9 +29,9 @@ BringsMaybe r start square old new = (count limit : ℕ) (squares : List (List (
 pub record StartAt (f : Fixup) (rest : List Fixup) (start : Place) : Type 0 where
   pub left : start.left.now ≡ f ∷ rest
   pub position : start.position ≡ f.offset
-  pub import_index : start.import_index ≡ number_of f.base
+  pub import_index : start.import_index ≡ base_import f.base
 
-started : (f : Fixup) (rest : List Fixup) (start : Place) (r : Run) (count limit : ℕ) (squares : List (List (List ℕ))) (square : List (List ℕ)) (w : Window) → StartAt f rest start → Brought r count limit start.left.now start.position start.import_index squares square w → Brought r count limit (f ∷ rest) f.offset (number_of f.base) squares square w
+started : (f : Fixup) (rest : List Fixup) (start : Place) (r : Run) (count limit : ℕ) (squares : List (List (List ℕ))) (square : List (List ℕ)) (w : Window) → StartAt f rest start → Brought r count limit start.left.now start.position start.import_index squares square w → Brought r count limit (f ∷ rest) f.offset (base_import f.base) squares square w
 started f rest start r count limit squares square w at b =
     subst (λ (m : ℕ). Brought r count limit (f ∷ rest) f.offset m squares square w) at.import_index
     (subst (λ (p : ℕ). Brought r count limit (f ∷ rest) p start.import_index squares square w) at.position
@@ -49,7 +43,7 @@ tail_same f g rest left e = cc
 tail_two : (f g h : Fixup) (rest left : List Fixup) → f ∷ rest ≡ g ∷ h ∷ left → rest ≡ h ∷ left
 tail_two f g h rest left e = cc
 
-words_go : (l : Labels) (f : Fixup) (rest : List Fixup) (count : ℕ) (b : Base) (squares : List (List (List ℕ))) (square : List (List ℕ)) (w : Window) → WordsKept l rest squares → NearKept l (f ∷ rest) square → (br : Brought (words_of b) count 512 (f ∷ rest) f.offset (number_of b) squares square w) → WordsAt l f.offset (f ∷ rest) br.now b
+words_go : (l : Labels) (f : Fixup) (rest : List Fixup) (count : ℕ) (b : Base) (squares : List (List (List ℕ))) (square : List (List ℕ)) (w : Window) → WordsKept l rest squares → NearKept l (f ∷ rest) square → (br : Brought (words_run b) count 512 (f ∷ rest) f.offset (base_import b) squares square w) → WordsAt l f.offset (f ∷ rest) br.now b
 words_go l f rest count (Section k) squares square w kept near br = λ c d under_c under_d.
     br.ends l c d
     (λ left more parts on.
@@ -114,17 +108,14 @@ far_pairs_go l f rest count j k squares square w kept far br c d under_c is_d =
     subst (λ (fs : List Fixup). FarKept l fs square) same far c d under_c is_d ∙ ap (λ p. extension l left p c d) end)
 
 -- the windows of words, and of those of one section
-pub words_brought : (P : Labels → Type 0) (count : ℕ) (f : Fixup) (rest : List Fixup) (start : Place) (square : List (List ℕ)) (old new : Window) → StartAt f rest start → Holding P count 512 (λ l squares. WordsKept l rest squares) old → ((l : Labels) → P l → NearKept l (f ∷ rest) square) → Brings (words_of f.base) start square old new → Holding P count 512 (λ l squares. WordsKept l (f ∷ rest) squares) new
+pub words_brought : (P : Labels → Type 0) (count : ℕ) (f : Fixup) (rest : List Fixup) (start : Place) (square : List (List ℕ)) (old new : Window) → StartAt f rest start → Holding P count 512 (λ l squares. WordsKept l rest squares) old → ((l : Labels) → P l → NearKept l (f ∷ rest) square) → Brings (words_run f.base) start square old new → Holding P count 512 (λ l squares. WordsKept l (f ∷ rest) squares) new
 words_brought P count f rest start square old new at held near brings =
-    let b = started f rest start (words_of f.base) count 512 held.squares square new at (brings count 512 held.squares held.is) in
+    let b = started f rest start (words_run f.base) count 512 held.squares square new at (brings count 512 held.squares held.is) in
     record { squares = b.now; is = b.is; kept = λ l holds. words_go l f rest count f.base held.squares square new (held.kept l holds) (near l holds) b }
-
-at_section : (f : Fixup) (rest : List Fixup) (start : Place) (k : ℕ) → StartAt f rest start → f.base ≡ Section k → start.import_index ≡ 0
-at_section f rest start k at base = at.import_index ∙ ap number_of base
 
 started_section : (f : Fixup) (rest : List Fixup) (start : Place) (r : Run) (k count limit : ℕ) (squares : List (List (List ℕ))) (square : List (List ℕ)) (w : Window) → StartAt f rest start → f.base ≡ Section k → Brought r count limit start.left.now start.position start.import_index squares square w → Brought r count limit (f ∷ rest) f.offset 0 squares square w
 started_section f rest start r k count limit squares square w at base b =
-    subst (λ (m : ℕ). Brought r count limit (f ∷ rest) f.offset m squares square w) (ap number_of base) (started f rest start r count limit squares square w at b)
+    subst (λ (m : ℕ). Brought r count limit (f ∷ rest) f.offset m squares square w) (ap base_import base) (started f rest start r count limit squares square w at b)
 
 pub skips_brought : (P : Labels → Type 0) (count k : ℕ) (f : Fixup) (rest : List Fixup) (start : Place) (square : List (List ℕ)) (old new : Window) → StartAt f rest start → f.base ≡ Section k → Holding P count 63 (λ l squares. SkipsKept l rest squares) old → ((l : Labels) → P l → NearKept l (f ∷ rest) square) → Brings (WordsOfD k) start square old new → Holding P count 63 (λ l squares. SkipsKept l (f ∷ rest) squares) new
 skips_brought P count k f rest start square old new at base held near brings =
@@ -150,7 +141,7 @@ pub far_section : (l : Labels) (k : ℕ) (f : Fixup) (rest : List Fixup) (square
 far_section l k f rest square base is = subst (λ (x : Base). FarAt l f.offset rest square x) (sym base) is
 
 -- the windows of pairs
-pairs_here : (P : Labels → Type 0) (count : ℕ) (f : Fixup) (rest : List Fixup) (b : Base) (squares : List (List (List ℕ))) (square : List (List ℕ)) (w : Window) → f.base ≡ b → ((l : Labels) → P l → PairsKept l (rest_of rest) squares) → ((l : Labels) → P l → NearKept l rest square) → BroughtMaybe (pairs_of (sections_of b rest)) count 512 (f ∷ rest) f.offset (number_of b) squares square w → Holding P count 512 (λ l now. PairsKept l (f ∷ rest) now) w
+pairs_here : (P : Labels → Type 0) (count : ℕ) (f : Fixup) (rest : List Fixup) (b : Base) (squares : List (List (List ℕ))) (square : List (List ℕ)) (w : Window) → f.base ≡ b → ((l : Labels) → P l → PairsKept l (rest_of rest) squares) → ((l : Labels) → P l → NearKept l rest square) → BroughtMaybe (pairs_run (sections_of b rest)) count 512 (f ∷ rest) f.offset (base_import b) squares square w → Holding P count 512 (λ l now. PairsKept l (f ∷ rest) now) w
 pairs_here P count f [] (Section j) squares square w base kept near br = record { squares = squares; is = br; kept = λ l holds. tt }
 pairs_here P count f [] (Import i) squares square w base kept near br = record { squares = squares; is = br; kept = λ l holds. tt }
 pairs_here P count f (g ∷ rest) (Import i) squares square w base kept near br = record {
@@ -160,7 +151,7 @@ pairs_here P count f (g ∷ rest) (Import i) squares square w base kept near br 
 }
 pairs_here P count f (g ∷ rest) (Section j) squares square w base kept near br = go g.base refl br
   where
-    go : (x : Base) → g.base ≡ x → BroughtMaybe (pairs_of (second_of j x)) count 512 (f ∷ g ∷ rest) f.offset 0 squares square w → Holding P count 512 (λ l now. PairsKept l (f ∷ g ∷ rest) now) w
+    go : (x : Base) → g.base ≡ x → BroughtMaybe (pairs_run (second_of j x)) count 512 (f ∷ g ∷ rest) f.offset 0 squares square w → Holding P count 512 (λ l now. PairsKept l (f ∷ g ∷ rest) now) w
     go (Import i) next b = record {
       squares = squares;
       is = b;
@@ -173,7 +164,7 @@ pairs_here P count f (g ∷ rest) (Section j) squares square w base kept near br
           (pairs_go l f (g ∷ rest) count j k squares square w (kept l holds) (near l holds) b));
     }
 
-far_pairs_here : (P : Labels → Type 0) (count : ℕ) (f : Fixup) (rest : List Fixup) (b : Base) (squares : List (List (List ℕ))) (square : List (List ℕ)) (w : Window) → f.base ≡ b → ((l : Labels) → P l → FarPairsKept l (rest_of rest) squares) → ((l : Labels) → P l → FarKept l rest square) → BroughtMaybe (far_pairs_of (sections_of b rest)) count 512 (f ∷ rest) f.offset (number_of b) squares square w → Holding P count 512 (λ l now. FarPairsKept l (f ∷ rest) now) w
+far_pairs_here : (P : Labels → Type 0) (count : ℕ) (f : Fixup) (rest : List Fixup) (b : Base) (squares : List (List (List ℕ))) (square : List (List ℕ)) (w : Window) → f.base ≡ b → ((l : Labels) → P l → FarPairsKept l (rest_of rest) squares) → ((l : Labels) → P l → FarKept l rest square) → BroughtMaybe (far_pairs_run (sections_of b rest)) count 512 (f ∷ rest) f.offset (base_import b) squares square w → Holding P count 512 (λ l now. FarPairsKept l (f ∷ rest) now) w
 far_pairs_here P count f [] (Section j) squares square w base kept far br = record { squares = squares; is = br; kept = λ l holds. tt }
 far_pairs_here P count f [] (Import i) squares square w base kept far br = record { squares = squares; is = br; kept = λ l holds. tt }
 far_pairs_here P count f (g ∷ rest) (Import i) squares square w base kept far br = record {
@@ -183,7 +174,7 @@ far_pairs_here P count f (g ∷ rest) (Import i) squares square w base kept far 
 }
 far_pairs_here P count f (g ∷ rest) (Section j) squares square w base kept far br = go g.base refl br
   where
-    go : (x : Base) → g.base ≡ x → BroughtMaybe (far_pairs_of (second_of j x)) count 512 (f ∷ g ∷ rest) f.offset 0 squares square w → Holding P count 512 (λ l now. FarPairsKept l (f ∷ g ∷ rest) now) w
+    go : (x : Base) → g.base ≡ x → BroughtMaybe (far_pairs_run (second_of j x)) count 512 (f ∷ g ∷ rest) f.offset 0 squares square w → Holding P count 512 (λ l now. FarPairsKept l (f ∷ g ∷ rest) now) w
     go (Import i) next b = record {
       squares = squares;
       is = b;
@@ -196,30 +187,30 @@ far_pairs_here P count f (g ∷ rest) (Section j) squares square w base kept far
           (far_pairs_go l f (g ∷ rest) count j k squares square w (kept l holds) (far l holds) b));
     }
 
-started_maybe : (f : Fixup) (rest : List Fixup) (start : Place) (r : Option Run) (count limit : ℕ) (squares : List (List (List ℕ))) (square : List (List ℕ)) (w : Window) → StartAt f rest start → BroughtMaybe r count limit start.left.now start.position start.import_index squares square w → BroughtMaybe r count limit (f ∷ rest) f.offset (number_of f.base) squares square w
+started_maybe : (f : Fixup) (rest : List Fixup) (start : Place) (r : Option Run) (count limit : ℕ) (squares : List (List (List ℕ))) (square : List (List ℕ)) (w : Window) → StartAt f rest start → BroughtMaybe r count limit start.left.now start.position start.import_index squares square w → BroughtMaybe r count limit (f ∷ rest) f.offset (base_import f.base) squares square w
 started_maybe f rest start None count limit squares square w at b = b
 started_maybe f rest start (Some r) count limit squares square w at b = started f rest start r count limit squares square w at b
 
-pub pairs_brought : (P : Labels → Type 0) (count : ℕ) (f : Fixup) (rest : List Fixup) (start : Place) (square : List (List ℕ)) (old new : InTurn) → StartAt f rest start → HoldingTwo P count PairsKept rest old → ((l : Labels) → P l → NearKept l rest square) → new.next ≡ old.here → BringsMaybe (pairs_of (sections_of f.base rest)) start square old.next new.here → HoldingTwo P count PairsKept (f ∷ rest) new
+pub pairs_brought : (P : Labels → Type 0) (count : ℕ) (f : Fixup) (rest : List Fixup) (start : Place) (square : List (List ℕ)) (old new : InTurn) → StartAt f rest start → HoldingTwo P count PairsKept rest old → ((l : Labels) → P l → NearKept l rest square) → new.next ≡ old.here → BringsMaybe (pairs_run (sections_of f.base rest)) start square old.next new.here → HoldingTwo P count PairsKept (f ∷ rest) new
 pairs_brought P count f rest start square old new at held near same brings = record {
   here = pairs_here P count f rest f.base held.next.squares square new.here refl held.next.kept near
-      (started_maybe f rest start (pairs_of (sections_of f.base rest)) count 512 held.next.squares square new.here at (brings count 512 held.next.squares held.next.is));
+      (started_maybe f rest start (pairs_run (sections_of f.base rest)) count 512 held.next.squares square new.here at (brings count 512 held.next.squares held.next.is));
   next = subst (λ (w : Window). Holding P count 512 (λ l squares. PairsKept l rest squares) w) (sym same) held.here;
 }
 
-pub far_pairs_brought : (P : Labels → Type 0) (count : ℕ) (f : Fixup) (rest : List Fixup) (start : Place) (square : List (List ℕ)) (old new : InTurn) → StartAt f rest start → HoldingTwo P count FarPairsKept rest old → ((l : Labels) → P l → FarKept l rest square) → new.next ≡ old.here → BringsMaybe (far_pairs_of (sections_of f.base rest)) start square old.next new.here → HoldingTwo P count FarPairsKept (f ∷ rest) new
+pub far_pairs_brought : (P : Labels → Type 0) (count : ℕ) (f : Fixup) (rest : List Fixup) (start : Place) (square : List (List ℕ)) (old new : InTurn) → StartAt f rest start → HoldingTwo P count FarPairsKept rest old → ((l : Labels) → P l → FarKept l rest square) → new.next ≡ old.here → BringsMaybe (far_pairs_run (sections_of f.base rest)) start square old.next new.here → HoldingTwo P count FarPairsKept (f ∷ rest) new
 far_pairs_brought P count f rest start square old new at held far same brings = record {
   here = far_pairs_here P count f rest f.base held.next.squares square new.here refl held.next.kept far
-      (started_maybe f rest start (far_pairs_of (sections_of f.base rest)) count 512 held.next.squares square new.here at (brings count 512 held.next.squares held.next.is));
+      (started_maybe f rest start (far_pairs_run (sections_of f.base rest)) count 512 held.next.squares square new.here at (brings count 512 held.next.squares held.next.is));
   next = subst (λ (w : Window). Holding P count 512 (λ l squares. FarPairsKept l rest squares) w) (sym same) held.here;
 }
 
 -- all windows, at a fixup with a section and at one with an import
 pub section_passed : (k : Known) (a : At) (section : ℕ) (start : Place) (old new : RunEnds) → a.first.base ≡ Section section → StartAt a.first a.others.now start → EndsAt k a.others.now a.others.now old
-    → new.pairs.next ≡ old.pairs.here → BringsMaybe (pairs_of (sections_of a.first.base a.others.now)) start old.near old.pairs.next new.pairs.here
-    → new.far_pairs.next ≡ old.far_pairs.here → BringsMaybe (far_pairs_of (sections_of a.first.base a.others.now)) start old.far old.far_pairs.next new.far_pairs.here
+    → new.pairs.next ≡ old.pairs.here → BringsMaybe (pairs_run (sections_of a.first.base a.others.now)) start old.near old.pairs.next new.pairs.here
+    → new.far_pairs.next ≡ old.far_pairs.here → BringsMaybe (far_pairs_run (sections_of a.first.base a.others.now)) start old.far old.far_pairs.next new.far_pairs.here
     → ((l : Labels) → Agrees l k a.others.now → NearKept l (a.first ∷ a.others.now) new.near)
-    → Brings (words_of a.first.base) start new.near old.words new.words
+    → Brings (words_run a.first.base) start new.near old.words new.words
     → ((l : Labels) → Agrees l k a.others.now → FarAt l a.first.offset a.others.now new.far (Section section))
     → Brings (WordsOfD section) start new.near old.skips new.skips
     → Brings (Spaced section) start new.far old.spaced new.spaced
@@ -238,10 +229,10 @@ section_passed k a section start old new base at e pairs_next pairs far_next far
     }
 
 pub import_passed : (k : Known) (a : At) (import : ℕ) (start : Place) (old new : RunEnds) → a.first.base ≡ Import import → StartAt a.first a.others.now start → EndsAt k a.others.now a.others.now old
-    → new.pairs.next ≡ old.pairs.here → BringsMaybe (pairs_of (sections_of a.first.base a.others.now)) start old.near old.pairs.next new.pairs.here
-    → new.far_pairs.next ≡ old.far_pairs.here → BringsMaybe (far_pairs_of (sections_of a.first.base a.others.now)) start old.far old.far_pairs.next new.far_pairs.here
+    → new.pairs.next ≡ old.pairs.here → BringsMaybe (pairs_run (sections_of a.first.base a.others.now)) start old.near old.pairs.next new.pairs.here
+    → new.far_pairs.next ≡ old.far_pairs.here → BringsMaybe (far_pairs_run (sections_of a.first.base a.others.now)) start old.far old.far_pairs.next new.far_pairs.here
     → ((l : Labels) → Agrees l k a.others.now → NearKept l (a.first ∷ a.others.now) new.near)
-    → Brings (words_of a.first.base) start new.near old.words new.words
+    → Brings (words_run a.first.base) start new.near old.words new.words
     → new.skips ≡ old.skips → new.spaced ≡ old.spaced
     → EndsAt k a.others.now (a.first ∷ a.others.now) new
 import_passed k a import start old new base at e pairs_next pairs far_next far_pairs near words skips spaced =
@@ -277,20 +268,3 @@ ends-map P Q count fixups e to ends = record {
   near = λ l q. ends.near l (to l q);
   far = λ l q. ends.far l (to l q);
 }
-
--- what calls on the way require
-number_small : (b : Base) → base_fits b ≡ true → number_of b ≤ most_imports
-number_small (Section k) fits = omega arith
-number_small (Import k) fits = let low = ltb-true k most_imports fits in omega (arith, low)
-
-pub start-small : (k : Known) (a : At) (start : Place) → AtOf k a → StartAt a.first a.others.now start → (start.position ≤ offset_limit) × (start.import_index ≤ most_imports)
-start-small k a start at is =
-    let parts = fixup_fits-parts a.first at.fit.0 in
-    let inside = parts.inside in
-    let position = is.position in
-    let small = number_small a.first.base parts.base in
-    let index = is.import_index in
-    (omega (arith, inside, position), omega (arith, small, index))
-
-pub held-few : (P : Labels → Type 0) (count n : ℕ) (Kept : Labels → List (List (List ℕ)) → Type 0) (w : Window) → Holding P count n Kept w → w.classes ≤ most_classes
-held-few P count n Kept w held = let same = held.is.classes_is in let few = held.is.few in omega (arith, same, few)

@@ -1,6 +1,6 @@
 -- Runs: the instruction of so many units adds just these, and leads behind them.
-use Rattle.std.proofs.Common.{◌≡◌, ℕ, zero, suc, ◌+◌, ◌-◌, ◌*◌, ◌<◌, ◌≤◌, ◌⊎◌, inl, inr, true, ◌&&◌, nat_le, List, [], ◌∷◌, ◌++◌, length, refl, ap, ap₂, sym, ◌∙◌, subst, arith, length-append}
-use Rattle.std.proofs.lemmas.Bool.{le-leb}
+use Rattle.std.proofs.Common.{◌≡◌, ℕ, zero, suc, ◌+◌, ◌-◌, ◌*◌, ◌<◌, ◌≤◌, ◌⊎◌, inl, inr, true, nat_le, List, [], ◌∷◌, ◌++◌, length, refl, ap, ap₂, sym, ◌∙◌, subst, arith, length-append}
+use Rattle.std.proofs.lemmas.Bool.{and_from, le-leb}
 use Rattle.std.proofs.lemmas.List.{append-nil, append_assoc, append_cancel_left}
 use Rattle.std.proofs.Math.Nat.{mul-add}
 use Rattle.pef_reloc.specs.declared.fixup.Base.TheVariants.{Section, Import}
@@ -8,10 +8,10 @@ use Rattle.pef_reloc.specs.declared.fixup.Fixup.{Fixup}
 use Rattle.pef_reloc.specs.Deliveries.{is_flat_instr}
 use Rattle.pef_reloc.specs.Instrs.{instr_length}
 use Rattle.pef_reloc.specs.Steps.{State, added, additions, next_state, numbered, pairs, row}
-use Rattle.pef_words.proofs.Laws.Tests.{both_met}
 use Rattle.pef_cert.specs.Labels.{Labels, class_of}
 use Rattle.pef_cert.specs.Extension.{extension}
 use Rattle.pef_cert.proofs.Laws.{class_of-same}
+use Rattle.pef_words.proofs.Laws.Numbers.{counts_fit}
 use Rattle.pef_runs.specs.declared.known.Known.{Known}
 use Rattle.pef_runs.specs.declared.place.Place.{Place}
 use Rattle.pef_runs.specs.declared.place.Here.{Here}
@@ -94,9 +94,6 @@ run-next rs (SpacedPairs j k) p q from n s of at position index c d = record { p
 run-next rs Imports p q from n s of at position index c d = record { position = (let a = at.position in let b = of.1 in omega (arith, a, b, position)); import_index = (let a = at.import_index in omega (arith, a, index)); c = at.c ∙ sym c; d = at.d ∙ sym d }
 run-next rs (Skip w k) p q from n s of at position index c d = record { position = (let a = at.position in let b = of.1 in omega (arith, a, b, position)); import_index = (let a = at.import_index in omega (arith, a, index)); c = at.c ∙ sym c; d = at.d ∙ sym d }
 
-counts_fit : (most n : ℕ) → 1 ≤ n → n ≤ most → (nat_le 1 n && nat_le n most) ≡ true
-counts_fit most n some few = both_met (nat_le 1 n) (nat_le n most) (le-leb 1 n some) (le-leb n most few)
-
 pub run-flat : (rs : List ℕ) (r : Run) (p : Place) (from n : ℕ) → RunOf rs r p from → 1 ≤ n → n ≤ limit r → is_flat_instr (run_instr r n) ≡ true
 run-flat rs (WordsOfC k) p from n of some few = counts_fit 512 n some few
 run-flat rs (WordsOfD k) p from n of some few = counts_fit 512 n some few
@@ -104,7 +101,7 @@ run-flat rs (Spaced k) p from n of some few = counts_fit 512 n some few
 run-flat rs (Pairs j k) p from n of some few = counts_fit 512 n some few
 run-flat rs (SpacedPairs j k) p from n of some few = counts_fit 512 n some few
 run-flat rs Imports p from n of some few = counts_fit 512 n some few
-run-flat rs (Skip w k) p from n of some few = both_met (nat_le w 255) (nat_le n 63) (le-leb w 255 of.0.1) (le-leb n 63 few)
+run-flat rs (Skip w k) p from n of some few = and_from (nat_le w 255) (nat_le n 63) (le-leb w 255 of.0.1) (le-leb n 63 few)
 
 pub run-one : (r : Run) (n : ℕ) → instr_length (run_instr r n) ≡ 1
 run-one (WordsOfC k) n = refl
@@ -203,28 +200,6 @@ behind-agrees l k h r from n q here b agrees = agrees-left l k h.first h.others.
 pub behind-shaped : (k : Known) (h : Here) (r : Run) (from n : ℕ) (q : Place) → HereOf k h → Behind k h r from n q → Shaped k (length q.left.now)
 behind-shaped k h r from n q here b = let low = b.fewer in shaped_fewer k (length h.others.now) (length q.left.now) here.shaped (omega (arith, low))
 
--- where a run begins
-pub so_far-start : (k : Known) (h : Here) (r : Run) (from : ℕ) (p : Place) (first : Choice) → Chosen k h first → p.left.now ≡ h.place.left.now → p.position ≡ from → p.import_index ≡ h.place.import_index → p.c ≡ h.place.c → p.d ≡ h.place.d → SoFar k h r from 0 p first first
-so_far-start k h r from p first chosen left position index c d = record {
-  along = record {
-    position = omega (arith, position);
-    import_index = omega (arith, index);
-    c = c;
-    d = d;
-    behind = λ j rest is.
-        let count : j ≡ 0 + j = omega arith in
-        sym left ∙ (is ∙ (ap₂ (λ x y. units r j x y ++ rest) position index ∙ ap (λ m. units r m from h.place.import_index ++ rest) count));
-  };
-  within = omega arith;
-  chosen = chosen;
-  better = omega arith;
-  attained = λ l agrees. inl refl;
-  ends = λ l value low agrees ends j rest under is.
-      let e = ends j rest (omega (arith, under)) (left ∙ (is ∙ ap₂ (λ x y. units r (suc j) x y ++ rest) (sym position) (sym index))) in
-      let same = ap (λ x. extension l rest (x + stride r * suc j) p.c p.d) position ∙ ap₂ (λ x y. extension l rest (from + stride r * suc j) x y) c d in
-      omega (arith, e, same);
-}
-
 -- the first end, and later ones
 ends-step : (l : Labels) (r : Run) (value m : ℕ) (p q : Place) → Next r p q → value ≤ 1 + extension_in l q → EndsFrom l r value m q.left.now q.position q.import_index q.c q.d → EndsFrom l r value (suc m) p.left.now p.position p.import_index p.c p.d
 ends-step l r value m p q next low ends zero left under is =
@@ -288,10 +263,6 @@ so_far-next k h r from n p q first best better s under next chosen lower low eit
 pub so_far-stop : (k : Known) (h : Here) (r : Run) (from n : ℕ) (p : Place) (first best : Choice) → SoFar k h r from n p first best → ((left : List Fixup) → p.left.now ≡ unit r p.position p.import_index ++ left → ⊥) → (l : Labels) (value : ℕ) → Agrees l k h.others.now → value ≤ best.value → Ends l r h from value
 so_far-stop k h r from n p first best s none l value agrees low =
     s.ends l value low agrees (no_ends l r value (limit r - n) p.position p.import_index p.c p.d p.left.now none)
-
-pub so_far-end : (k : Known) (h : Here) (r : Run) (from n : ℕ) (p : Place) (first best : Choice) → SoFar k h r from n p first best → limit r ≤ n → (l : Labels) (value : ℕ) → Agrees l k h.others.now → value ≤ best.value → Ends l r h from value
-so_far-end k h r from n p first best s all l value agrees low =
-    s.ends l value low agrees (λ j left under is. absurd (omega (arith, under, all)))
 
 -- a run of one unit, which the first fixup is
 pub one_goes : (k : Known) (h : Here) (r : Run) (from : ℕ) (q : Place) → HereOf k h → RunOf k.registers.now r h.place from → h.first ∷ [] ≡ unit r from h.place.import_index → q.left.now ≡ h.others.now → q.position ≡ from + stride r → q.import_index ≡ h.place.import_index + imports r → q.c ≡ h.place.c → q.d ≡ h.place.d → GoesOn k.registers.now h.place (step_of r 1 q)

@@ -44,9 +44,9 @@ BroughtMaybe None count limit fixups p m squares square w = WindowOf count limit
 BroughtMaybe (Some r) count limit fixups p m squares square w = Brought r count limit fixups p m squares square w
 
 -- the words that begin at a base, and the sections of two
-abbrev pub words_of : Base → Run
-words_of (Section k) = WordsOfD k
-words_of (Import i) = Imports
+abbrev pub words_run : Base → Run
+words_run (Section k) = WordsOfD k
+words_run (Import i) = Imports
 
 abbrev pub second_of : ℕ → Base → Option (ℕ × ℕ)
 second_of j (Section k) = Some (j, k)
@@ -57,18 +57,18 @@ sections_of (Section j) [] = None
 sections_of (Section j) (g ∷ rest) = second_of j g.base
 sections_of (Import i) rest = None
 
-abbrev pub pairs_of : Option (ℕ × ℕ) → Option Run
-pairs_of None = None
-pairs_of (Some s) = Some (Pairs s.0 s.1)
+abbrev pub pairs_run : Option (ℕ × ℕ) → Option Run
+pairs_run None = None
+pairs_run (Some s) = Some (Pairs s.0 s.1)
 
-abbrev pub far_pairs_of : Option (ℕ × ℕ) → Option Run
-far_pairs_of None = None
-far_pairs_of (Some s) = Some (SpacedPairs s.0 s.1)
+abbrev pub far_pairs_run : Option (ℕ × ℕ) → Option Run
+far_pairs_run None = None
+far_pairs_run (Some s) = Some (SpacedPairs s.0 s.1)
 
 -- the number of a base's import
-abbrev pub number_of : Base → ℕ
-number_of (Section k) = 0
-number_of (Import i) = i
+abbrev pub base_import : Base → ℕ
+base_import (Section k) = 0
+base_import (Import i) = i
 
 -- the squares of the runs that begin at fixups, by their bases
 abbrev pub WordsAt : Labels → ℕ → List Fixup → List (List (List ℕ)) → Base → Type 0

@@ -94,11 +94,11 @@ NextBase b [] = ⊥
 NextBase b (f ∷ rest) = f.base ≡ b
 
 -- a run can begin at fixups, with this import next: the first has this base, and these are the others
-abbrev pub Begins : Run → ℕ → Base → List Fixup → Type 0
-Begins (WordsOfC k) m b others = b ≡ Section k
-Begins (WordsOfD k) m b others = b ≡ Section k
-Begins (Spaced k) m b others = b ≡ Section k
-Begins (Pairs j k) m b others = (b ≡ Section j) × NextBase (Section k) others
-Begins (SpacedPairs j k) m b others = (b ≡ Section j) × NextBase (Section k) others
-Begins Imports m b others = b ≡ Import m
-Begins (Skip words k) m b others = b ≡ Section k
+abbrev pub RunBegins : Run → ℕ → Base → List Fixup → Type 0
+RunBegins (WordsOfC k) m b others = b ≡ Section k
+RunBegins (WordsOfD k) m b others = b ≡ Section k
+RunBegins (Spaced k) m b others = b ≡ Section k
+RunBegins (Pairs j k) m b others = (b ≡ Section j) × NextBase (Section k) others
+RunBegins (SpacedPairs j k) m b others = (b ≡ Section j) × NextBase (Section k) others
+RunBegins Imports m b others = b ≡ Import m
+RunBegins (Skip words k) m b others = b ≡ Section k

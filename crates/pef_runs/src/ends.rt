@@ -2,8 +2,8 @@ ghost use Rattle.std.specs.Prelude.{◌≡◌, ◌+◌, ◌*◌, ◌^◌, ◌<�
 ghost use Rattle.pef_cert.specs.Extension.{extension};
 ghost use Rattle.pef_cert.specs.Labels.{Labels};
 ghost use Rattle.pef_runs.specs.Places.{AtOf, HereOf, Led};
-ghost use Rattle.pef_runs.specs.Runs.{Begins, EndOf, Ends, RunOf};
-ghost use Rattle.pef_runs.specs.Ends.{Brought, BroughtMaybe, EndsAt, EndsOf, FarAt, NearKept, far_pairs_of, number_of, pairs_of, sections_of, window_of, words_of};
+ghost use Rattle.pef_runs.specs.Runs.{EndOf, Ends, RunBegins, RunOf};
+ghost use Rattle.pef_runs.specs.Ends.{Brought, BroughtMaybe, EndsAt, EndsOf, FarAt, NearKept, base_import, far_pairs_run, pairs_run, sections_of, window_of, words_run};
 ghost use Rattle.pef_runs.specs.Tables.{Agrees};
 ghost use Rattle.pef_squares.specs.Windows.{WindowOf};
 ghost use Rattle.pef_reloc.specs.declared.fixup.Base.TheVariants.{Section};
@@ -101,7 +101,7 @@ impl RunEnds {
         requires here { HereOf known here }
         requires at { here.place.position ≡ here.first.offset }
         requires run { RunOf known.registers.now run here.place here.place.position }
-        requires begins { Begins run here.place.import_index here.first.base here.others.now }
+        requires begins { RunBegins run here.place.import_index here.first.base here.others.now }
         requires ends { EndsAt known here.others.now (here.first ∷ here.others.now) self.now }
         ensures led { Led known.entry here.entry first → Led known.entry here.entry result }
         ensures better { result ≤ first }
@@ -194,7 +194,7 @@ impl<'a> At<'a> {
     fn start(self) -> Place<'a>
         ensures left { result.left.now ≡ self.entry.left.now }
         ensures position { result.position ≡ self.entry.first.offset }
-        ensures import_index { result.import_index ≡ number_of self.entry.first.base }
+        ensures import_index { result.import_index ≡ base_import self.entry.first.base }
     {
         Place {
             left: self.left,
@@ -208,7 +208,7 @@ impl<'a> At<'a> {
 
 /// The number of an import. A section has none.
 fn import_number(base: Base) -> u64
-    ensures { result ≡ number_of base }
+    ensures { result ≡ base_import base }
 {
     match base {
         Base::Section(_) => 0,
@@ -218,7 +218,7 @@ fn import_number(base: Base) -> u64
 
 /// The run of words or imports that begins at a base.
 fn words_at(base: Base) -> Run
-    ensures { result ≡ words_of base }
+    ensures { result ≡ words_run base }
 {
     match base {
         Base::Section(section) => Run::WordsOfD(section),
@@ -228,7 +228,7 @@ fn words_at(base: Base) -> Run
 
 /// The run of pairs that may begin at a fixup.
 fn pairs_at(at: At<'_>) -> Option<Run>
-    ensures { result ≡ pairs_of (sections_of at.entry.first.base at.entry.others.now) }
+    ensures { result ≡ pairs_run (sections_of at.entry.first.base at.entry.others.now) }
 {
     let (first, second) = sections_at(at)?;
     Some(Run::Pairs { first, second })
@@ -236,7 +236,7 @@ fn pairs_at(at: At<'_>) -> Option<Run>
 
 /// The run of pairs a word apart that may begin at a fixup.
 fn far_pairs_at(at: At<'_>) -> Option<Run>
-    ensures { result ≡ far_pairs_of (sections_of at.entry.first.base at.entry.others.now) }
+    ensures { result ≡ far_pairs_run (sections_of at.entry.first.base at.entry.others.now) }
 {
     let (first, second) = sections_at(at)?;
     Some(Run::SpacedPairs { first, second })

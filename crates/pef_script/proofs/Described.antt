@@ -2,22 +2,28 @@
 use Rattle.std.proofs.Common.{◌≡◌, ℕ, zero, suc, ◌+◌, ◌-◌, ◌^◌, ◌%◌, ◌≤◌, ◌<◌, ◌&&◌, true, List, [], ◌∷◌, ◌++◌, Some, length, take, drop, get_or, slice_get, inl, inr, refl, sym, ap, subst, ◌∙◌, arith}
 use Rattle.std.specs.Prelude.{nat_le, unwrap_or}
 use Rattle.std.proofs.Math.Seq.{drop-append_seam, drop-append-add, take-append_seam}
-use Rattle.std.proofs.lemmas.Bool.{leb-true}
+use Rattle.std.proofs.lemmas.Bool.{and_parts, leb-true}
 use Rattle.std.proofs.lemmas.List.{drop-drop, get_or-append-add, get_or-drop, get_or-take, get_or_append_left, length-append, length-drop, length-take-le}
 use Rattle.std.proofs.lemmas.Option.{slice_get-get_or, unwrap_or-slice_get}
 use Rattle.byteorder.specs.Endian.{big_number, big_bytes}
 use Rattle.byteorder.specs.Numbers.{length-bytes_high_first}
 use Rattle.pef_words.specs.Bytes.{filled}
 use Rattle.pef_words.proofs.Laws.Images.{filled-at, length-filled}
-use Rattle.pef_words.proofs.Laws.Tests.{met_both}
 use Rattle.pef_reloc.specs.declared.fixup.Base.{Base}
+use Rattle.pef_reloc.specs.declared.fixup.Base.TheVariants.{Import, Section}
 use Rattle.pef_reloc.specs.declared.fixup.Fixup.{Fixup}
 use Rattle.pef_reloc.specs.Fixups.{fixup_fits, fixups_end, fixups_from}
 use Rattle.pef_reloc.proofs.Laws.{fixups_fit-parts}
-use Rattle.pef_reloc.specs.Additions.{with_bases}
+use Rattle.pef_reloc.specs.Additions.{IsThere, with_bases}
+use Rattle.pef_reloc.specs.Applied.{Addresses}
 use Rattle.pef_script.specs.Described.{IsOutside, described_memory}
 use Rattle.pef_script.specs.Script.{DescribedSection}
-use Rattle.pef_script.specs.WellFormed.{SectionHolds}
+use Rattle.pef_script.specs.WellFormed.{BaseThere, SectionHolds}
+
+-- a base of a script is there where its sections and its imports have addresses
+pub base_there : (a : Addresses) (base : Base) → BaseThere (length a.sections) (length a.imports) base → IsThere a base
+base_there a (Section k) there = there
+base_there a (Import j) there = there
 
 -- the word of a fixup, where memory from its place on is known: what stood there and the address of the
 -- base, modulo 2^32
@@ -42,8 +48,8 @@ between-at from (g ∷ fs) end (suc i) f apart at = let later = between-at (g.of
 between_of : (from : ℕ) (fs : List Fixup) (end : ℕ) → fixups_from from fs ≡ true → fixups_end from fs ≤ end → Between from fs end
 between_of from [] end apart inside = inside
 between_of from (f ∷ fs) end apart inside =
-    let parts = met_both (nat_le from f.offset && fixup_fits f) (fixups_from (f.offset + 4) fs) apart in
-    (leb-true _ _ (met_both (nat_le from f.offset) (fixup_fits f) parts.0).0, between_of (f.offset + 4) fs end parts.1 inside)
+    let parts = and_parts (nat_le from f.offset && fixup_fits f) (fixups_from (f.offset + 4) fs) apart in
+    (leb-true _ _ (and_parts (nat_le from f.offset) (fixup_fits f) parts.0).0, between_of (f.offset + 4) fs end parts.1 inside)
 
 length-word : (address : Base → ℕ) (f : Fixup) (memory : List ℕ) → length (word_with_base address f memory) ≡ 4
 length-word address f memory = length-bytes_high_first 4 ((big_number 4 memory + address f.base) % 2 ^ 32)

@@ -17,7 +17,7 @@ use Rattle.pef_script_text.specs.declared.fault.LineFault.{LineFault}
 use Rattle.pef_script_text.specs.declared.fault.LineFault.TheVariants.{RepeatedName, OutOfOrder, Overlap, OutsideSection, TooMany}
 use Rattle.pef_script.specs.Limits.{most_name_bytes}
 use Rattle.pef_script.specs.Script.{DescribedExport, DescribedImport, DescribedLibrary, DescribedSection, bytes_of_names, name_bytes}
-use Rattle.pef_script_text.specs.SoFar.{ScriptSoFar, counted_name_tests, has_no_room, is_repeated, library_group, name_tests, no_section, number_of_name, section_at}
+use Rattle.pef_script_text.specs.SoFar.{ScriptSoFar, counted_name_tests, has_no_room, is_repeated, library_group, name_tests, no_section, number_of_name, section_so_far}
 use Rattle.pef_script_text.specs.Declarations.{entered_import}
 use Rattle.pef_script_text.specs.Contents.{bytes_tests, fixup_of, fixup_tests, with_contents, with_fixups}
 use Rattle.pef_script.specs.WellFormed.{BaseThere, EntryHolds, ExportHolds, ExportsHold, ImportHolds, ImportsHold, PlaceHolds, ScriptHolds, SectionHolds, SectionsHold, SignedPlaceHolds, totals_of}
@@ -68,9 +68,9 @@ counted_tests-unmet s names limit name others unmet =
     let b = first_unmet (has_no_room s name) TooMany (first_met others) a.1 in
     (record { new = a.0.new; room = a.0.room; bytes = ltb-false _ _ b.0 }, b.1)
 
-pub bytes_tests-unmet : (s : ScriptSoFar) (k count : ℕ) → first_met (bytes_tests s k count) ≡ None → length (section_at s k).image + count ≤ (section_at s k).header.total
+pub bytes_tests-unmet : (s : ScriptSoFar) (k count : ℕ) → first_met (bytes_tests s k count) ≡ None → length (section_so_far s k).image + count ≤ (section_so_far s k).header.total
 bytes_tests-unmet s k count unmet =
-    let section = section_at s k in
+    let section = section_so_far s k in
     let a = first_unmet (nat_lt k s.section) OutOfOrder (first_met ((nat_lt section.header.total (length section.image + count), OutsideSection) ∷ [])) unmet in
     let b = first_unmet (nat_lt section.header.total (length section.image + count)) OutsideSection None a.1 in
     ltb-false _ _ b.0
@@ -81,9 +81,9 @@ pub record FixupRoom (section : DescribedSection) (offset count : ℕ) : Type 0 
   pub inside : offset + 4 * count ≤ section.header.total
   pub after : fixups_end 0 section.fixups ≤ offset
 
-pub fixup_tests-unmet : (s : ScriptSoFar) (k offset count : ℕ) → first_met (fixup_tests s k offset count) ≡ None → FixupRoom (section_at s k) offset count
+pub fixup_tests-unmet : (s : ScriptSoFar) (k offset count : ℕ) → first_met (fixup_tests s k offset count) ≡ None → FixupRoom (section_so_far s k) offset count
 fixup_tests-unmet s k offset count unmet =
-    let section = section_at s k in
+    let section = section_so_far s k in
     let fixups = section.fixups in
     let third = (nat_lt section.header.total (offset + 4 * count), OutsideSection) ∷ (nat_lt offset (fixups_end 0 fixups), Overlap) ∷ [] in
     let late = nat_lt k s.section || nat_lt (offset + 4) (fixups_end 0 fixups) in
@@ -174,7 +174,7 @@ entered_import-is s library is =
     last false n some = omega (arith, some)
 
 -- a place in section k
-pub place_at : (s : ScriptSoFar) (k offset : ℕ) → k < length s.script.sections → offset ≤ (section_at s k).header.total → PlaceHolds (totals_of s.script.sections) k offset
+pub place_at : (s : ScriptSoFar) (k offset : ℕ) → k < length s.script.sections → offset ≤ (section_so_far s k).header.total → PlaceHolds (totals_of s.script.sections) k offset
 place_at s k offset under inside =
     let count : length (totals_of s.script.sections) ≡ length s.script.sections = simp length-map in
     record { there = omega (arith, count, under); inside = rw (get_or-map (λ (x : DescribedSection). x.header.total) s.script.sections k no_section 0 under) inside }
@@ -186,7 +186,7 @@ names-more names name = let more = sum_by-append (λ (n : List ℕ). length n + 
 
 -- a section that is changed, but for its line
 
-pub changed : (s : ScriptSoFar) (k : ℕ) (section : DescribedSection) → StateHolds s → section.header ≡ (section_at s k).header → SectionHolds (length s.script.sections) (length s.script.imports) section → StateHolds (with_contents s k section)
+pub changed : (s : ScriptSoFar) (k : ℕ) (section : DescribedSection) → StateHolds s → section.header ≡ (section_so_far s k).header → SectionHolds (length s.script.sections) (length s.script.imports) section → StateHolds (with_contents s k section)
 changed s k section holds same fits =
     let sections = s.script.sections in
     let count : length (slice_set sections k section) ≡ length sections = length-set sections k section in
@@ -208,7 +208,7 @@ changed s k section holds same fits =
       names = holds.names;
     }
 
-pub at_section : (s : ScriptSoFar) (k : ℕ) → StateHolds s → k < length s.script.sections → SectionHolds (length s.script.sections) (length s.script.imports) (section_at s k)
+pub at_section : (s : ScriptSoFar) (k : ℕ) → StateHolds s → k < length s.script.sections → SectionHolds (length s.script.sections) (length s.script.imports) (section_so_far s k)
 at_section s k holds under = all-at (SectionHolds (length s.script.sections) (length s.script.imports)) s.script.sections k no_section holds.sections.each under
 
 -- a base that is there is within the limits of bases

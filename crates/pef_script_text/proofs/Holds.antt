@@ -17,12 +17,12 @@ use Rattle.pef_reloc.specs.Limits.{most_imports, most_sections}
 use Rattle.pef_script.specs.Limits.{greatest_align, greatest_number, greatest_total, most_exports, most_libraries}
 use Rattle.pef_script.specs.Script.{DescribedExport, DescribedImport, DescribedLibrary, DescribedSection, DescribedScript, bytes_of_names, export_names, import_names, library_names, section_names}
 use Rattle.pef_script_text.specs.Words.{image_of, last_name, last_word, next_name, next_word, number_up_to}
-use Rattle.pef_script_text.specs.SoFar.{ScriptSoFar, content_group, counted_name_tests, entered, entered_once, export_group, init_group, library_group, main_group, name_tests, section_at, section_group, section_named, term_group, versions_group}
-use Rattle.pef_script_text.specs.Declarations.{class_of, entered_import, import_line, is_weak_word, kind_of, library_line, options_of, section_line, share_of, versions_line}
+use Rattle.pef_script_text.specs.SoFar.{ScriptSoFar, content_group, counted_name_tests, entered, entered_once, export_group, init_group, library_group, main_group, name_tests, section_group, section_named, section_so_far, term_group, versions_group}
+use Rattle.pef_script_text.specs.Declarations.{entered_import, import_line, is_weak_word, kind_of, library_line, options_of, section_line, share_of, symbol_class_of, versions_line}
 use Rattle.pef_script_text.specs.Contents.{base_named, bytes_line, bytes_tests, fix_line, fixup_of, fixup_tests, is_section_word, tvector_line, with_fixups, with_image}
 use Rattle.pef_script_text.specs.Exports.{entry_in, export_line, init_line, main_line, place_tests, term_line}
 use Rattle.pef_lines.specs.Lines.{lines_of}
-use Rattle.pef_script_text.specs.Grammar.{Refusal, after_line, is_skipped, line_by_word, line_of, no_lines, read_lines, script_of}
+use Rattle.pef_script_text.specs.Grammar.{LineRefusal, after_line, is_skipped, line_by_word, line_of, no_lines, read_lines, script_of}
 use Rattle.pef_script.specs.WellFormed.{ExportHolds, ImportHolds, LibraryHolds, PlaceHolds, ScriptHolds, SectionHolds, totals_of}
 use Rattle.pef_script_text.proofs.Leads.{Leads, leads_if, leads_then, leads_unless, led}
 use Rattle.pef_words.proofs.Laws.Lists.{all-append, all-map, all-weaker}
@@ -106,7 +106,7 @@ module _ (s : ScriptSoFar) (holds : StateHolds s) (line : List ℕ) where
       leads_then StateHolds (next_word name.1) _ (λ class_word class_word_is.
       leads_then StateHolds (last_word class_word.1) _ (λ strength strength_is.
       leads_then StateHolds (entered_import s) _ (λ library library_is.
-      leads_then StateHolds (class_of class_word.0) _ (λ class class_is.
+      leads_then StateHolds (symbol_class_of class_word.0) _ (λ class class_is.
       leads_then StateHolds (is_weak_word strength) _ (λ weak weak_is.
       leads_unless StateHolds (first_met (counted_name_tests s (import_names s.script) most_imports name.0)) _ (λ unmet.
       let room = (counted_tests-unmet s (import_names s.script) most_imports name.0 [] unmet).0 in
@@ -208,13 +208,13 @@ module _ (s : ScriptSoFar) (holds : StateHolds s) (line : List ℕ) where
       let under = section_named-is s name.0 k k_is in
       let section = at_section s k holds under in
       let room = bytes_tests-unmet s k (length bytes) unmet in
-      changed s k (with_image (section_at s k) bytes) holds refl (record {
+      changed s k (with_image (section_so_far s k) bytes) holds refl (record {
         name = section.name;
         kind = section.kind;
         share = section.share;
         align = section.align;
         total = section.total;
-        image = omega (arith, room, length-append (section_at s k).image bytes);
+        image = omega (arith, room, length-append (section_so_far s k).image bytes);
         fixups = section.fixups;
         inside = section.inside;
         bases = section.bases;
@@ -235,8 +235,8 @@ module _ (s : ScriptSoFar) (holds : StateHolds s) (line : List ℕ) where
       leads_unless StateHolds (first_met (fixup_tests s k offset 1)) _ (λ unmet.
       let under = section_named-is s name.0 k k_is in
       let room = fixup_tests-unmet s k offset 1 unmet in
-      changed s k (with_fixups (section_at s k) (fixup_of offset target ∷ [])) holds refl
-      (fixup-more (length s.script.sections) (length s.script.imports) (section_at s k) offset target (omega (arith, holds.sections.count)) (omega (arith, holds.imports.count)) (at_section s k holds under)
+      changed s k (with_fixups (section_so_far s k) (fixup_of offset target ∷ [])) holds refl
+      (fixup-more (length s.script.sections) (length s.script.imports) (section_so_far s k) offset target (omega (arith, holds.sections.count)) (omega (arith, holds.imports.count)) (at_section s k holds under)
       (omega (arith, room.room)) (omega (arith, room.inside)) room.after (base_named-is s is_section target_name target target_is))))))))))))
 
   tvector_line-holds : Leads StateHolds (tvector_line s line)
@@ -258,7 +258,7 @@ module _ (s : ScriptSoFar) (holds : StateHolds s) (line : List ℕ) where
       let n = length s.script.imports in
       let few : m ≤ most_sections = omega (arith, holds.sections.count) in
       let some : n ≤ most_imports = omega (arith, holds.imports.count) in
-      let section = section_at s k in
+      let section = section_so_far s k in
       let a = fixup_of offset (base.Section code) in
       let b = fixup_of (offset + 4) (base.Section data_section) in
       let first = fixup-more m n section offset (base.Section code) few some (at_section s k holds under) (omega (arith, room.room)) (omega (arith, room.inside)) room.after (section_named-is s code_name.0 code code_is) in
@@ -276,13 +276,13 @@ module _ (s : ScriptSoFar) (holds : StateHolds s) (line : List ℕ) where
       leads_then StateHolds (next_name class_word.1) _ (λ section_name section_name_is.
       leads_then StateHolds (last_word section_name.1) _ (λ offset_word offset_word_is.
       leads_then StateHolds (entered s export_group) _ (λ group group_is.
-      leads_then StateHolds (class_of class_word.0) _ (λ class class_is.
+      leads_then StateHolds (symbol_class_of class_word.0) _ (λ class class_is.
       leads_then StateHolds (number_up_to greatest_number offset_word) _ (λ offset offset_is.
       leads_then StateHolds (section_named s section_name.0) _ (λ k k_is.
       leads_unless StateHolds (first_met (counted_name_tests s (export_names s.script) most_exports name.0 ++ place_tests s k offset)) _ (λ unmet.
       let tests = counted_tests-unmet s (export_names s.script) most_exports name.0 (place_tests s k offset) unmet in
       let room = tests.0 in
-      let inside = ltb-false _ _ (first_unmet (nat_lt (section_at s k).header.total offset) OutsideSection None tests.1).0 in
+      let inside = ltb-false _ _ (first_unmet (nat_lt (section_so_far s k).header.total offset) OutsideSection None tests.1).0 in
       let exports = s.script.exports in
       let symbol : DescribedExport = record { name = name.0; class = class; section = pos k; value = offset } in
       let count : length (exports ++ symbol ∷ []) ≡ length exports + 1 = length-append exports (symbol ∷ []) in
@@ -321,7 +321,7 @@ module _ (s : ScriptSoFar) (holds : StateHolds s) (line : List ℕ) where
       leads_then P (number_up_to greatest_number offset_word) _ (λ offset offset_is.
       leads_then P (section_named s name.0) _ (λ k k_is.
       leads_unless P (first_met (place_tests s k offset)) _ (λ unmet.
-      place_at s k offset (section_named-is s name.0 k k_is) (ltb-false _ _ (first_unmet (nat_lt (section_at s k).header.total offset) OutsideSection None unmet).0)))))))
+      place_at s k offset (section_named-is s name.0 k k_is) (ltb-false _ _ (first_unmet (nat_lt (section_so_far s k).header.total offset) OutsideSection None unmet).0)))))))
 
   main_line-holds : Leads StateHolds (main_line s line)
   main_line-holds = leads_then StateHolds (entry_in s main_group line) _ (λ entry entry_is. record {
@@ -384,7 +384,7 @@ line_of-holds s line holds =
     leads_then StateHolds (next_word line) (line_by_word s) (λ p p_is. line_by_word-holds s p holds))
 
 -- what a text was read as
-abbrev OkHolds : Result DescribedScript Refusal → Type 0
+abbrev OkHolds : Result DescribedScript LineRefusal → Type 0
 OkHolds (Ok script) = ScriptHolds script
 OkHolds (Err refusal) = Unit {0}
 

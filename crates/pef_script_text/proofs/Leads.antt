@@ -2,6 +2,7 @@
 use Rattle.std.proofs.Common.{◌≡◌, Bool, true, false, cond, Option, None, Some, Result, Ok, Err, refl, ap, subst}
 use Rattle.pef_words.specs.Refusals.{unless}
 use Rattle.pef_words.specs.Results.{◌>>=◌}
+use Rattle.std.specs.Result.{result_unwrap_or}
 use Rattle.pef_script_text.specs.declared.fault.LineFault.{LineFault}
 
 -- P holds of what a step led to
@@ -21,12 +22,7 @@ pub leads_if : {A : Type 0} (P : A → Type 0) (test : Bool) (then otherwise : R
 leads_if P true then otherwise met unmet = met refl
 leads_if P false then otherwise met unmet = unmet refl
 
--- the value, or another one for a fault
-abbrev value_or : {A : Type 0} → A → Result A LineFault → A
-value_or d (Ok x) = x
-value_or d (Err fault) = d
-
 -- of a step that led somewhere
 pub led : {A : Type 0} (P : A → Type 0) (step : Result A LineFault) (x : A) → step ≡ Ok x → Leads P step → P x
-led P (Ok y) x is holds = subst P (ap (value_or y) is) holds
+led P (Ok y) x is holds = subst P (ap (λ r. result_unwrap_or r y) is) holds
 led P (Err fault) x is holds = absurd (cc)

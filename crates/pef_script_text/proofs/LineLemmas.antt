@@ -3,12 +3,12 @@ use Rattle.std.proofs.Common.{ℕ, List, [], ◌∷◌, Result, Ok, Err, refl}
 use Rattle.pef_script_text.specs.declared.fault.ScriptFault.{ScriptFault}
 use Rattle.pef_script_text.specs.declared.fault.ScriptFault.TheVariants as fault
 use Rattle.pef_script_text.specs.Grammar.{line_of, read_lines}
-use Rattle.pef_script_text.specs.Reads.{Fails}
+use Rattle.pef_script_text.specs.Reads.{FailsAs}
 use Rattle.pef_script_text.specs.SoFar.{ScriptSoFar}
 use Rattle.pef_script_text.specs.Kept.Steps.{FailsAt, NumberedSteps, ReadsLines}
 
 -- a line that fails ends the reading
-pub read_lines-fails : (failed : ScriptFault) (s : ScriptSoFar) (number : ℕ) (line : List ℕ) (lines : List (List ℕ)) → FailsAt failed number (line_of s line) → Fails failed (read_lines s number (line ∷ lines))
+pub read_lines-fails : (failed : ScriptFault) (s : ScriptSoFar) (number : ℕ) (line : List ℕ) (lines : List (List ℕ)) → FailsAt failed number (line_of s line) → FailsAs failed (read_lines s number (line ∷ lines))
 read_lines-fails (fault.Refused what at) s number line lines fails = rw (fails.0, fails.1) refl
 read_lines-fails fault.OutOfMemory s number line lines fails = tt
 

@@ -4,22 +4,21 @@ use Rattle.std.specs.Prelude.{codes, nat_lt}
 use Rattle.std.specs.Option.{ok_or}
 use Rattle.std.specs.List.{list_all}
 use Rattle.std.specs.Str.{bytes_eq}
-use Rattle.std.proofs.lemmas.Bool.{ltb-false, ltb-true}
+use Rattle.std.proofs.lemmas.Bool.{and_parts, ltb-false, ltb-true}
 use Rattle.std.proofs.lemmas.List.{length-map}
 use Rattle.pef_reloc.specs.declared.fixup.Base.{Base}
 use Rattle.pef_reloc.specs.declared.fixup.Base.TheVariants as base
-use Rattle.pef_words.proofs.Laws.Tests.{met_both}
 use Rattle.pef_script_text.specs.declared.fault.LineFault.{LineFault}
 use Rattle.pef_script_text.specs.declared.fault.LineFault.TheVariants.{BadLine, BadNumber, UnknownName, BadKind}
 use Rattle.pef_lines.specs.Lines.{cut_at}
 use Rattle.pef_lines.specs.Numbers.{below}
 use Rattle.pef_lines.specs.Words.{is_word, is_printing, word_before}
 use Rattle.pef_lines.specs.Words as words
-use Rattle.pef_script_text.specs.Words.{named, next_name, next_word, number_in, number_up_to}
+use Rattle.pef_script_text.specs.Words.{named, next_name, next_word, number_spelled, number_up_to}
 use Rattle.pef_script.specs.Limits.{longest_name}
 use Rattle.pef_script.specs.Script.{import_names, section_names}
 use Rattle.pef_script_text.specs.SoFar.{ScriptSoFar, number_of_name, section_named}
-use Rattle.pef_script_text.specs.Declarations.{class_of, kind_of, options_of, share_of}
+use Rattle.pef_script_text.specs.Declarations.{kind_of, options_of, share_of, symbol_class_of}
 use Rattle.pef_script_text.specs.Contents.{base_named, import_named}
 use Rattle.pef_script.specs.WellFormed.{BaseThere, IsName, is_kind, is_options, is_share}
 use Rattle.pef_script_text.proofs.Leads.{Leads, leads_if, leads_then, led}
@@ -36,7 +35,7 @@ word_before-is (Some p) = by (is_word p.0) refl
 -- a word that is not too long is a name
 name_if : (word : List ℕ) → is_word word ≡ true → length word ≤ longest_name → IsName word
 name_if [] is most = absurd (cc)
-name_if (b ∷ bytes) is most = record { least = omega arith; most = most; bytes = (met_both (not (length (b ∷ bytes) == 0)) (list_all is_printing (b ∷ bytes)) is).1 }
+name_if (b ∷ bytes) is most = record { least = omega arith; most = most; bytes = (and_parts (not (length (b ∷ bytes) == 0)) (list_all is_printing (b ∷ bytes)) is).1 }
 
 named-is : (r : Result (List ℕ × List ℕ) LineFault) → Leads (λ p. is_word p.0 ≡ true) r → Leads (λ p. IsName p.0) (named (λ p. p.0) r)
 named-is (Err fault) word = tt
@@ -48,7 +47,7 @@ next_name-is line p is = led (λ (q : List ℕ × List ℕ). IsName q.0) (next_n
 
 pub number_up_to-is : (greatest : ℕ) (word : List ℕ) (n : ℕ) → number_up_to greatest word ≡ Ok n → n ≤ greatest
 unfolding number_up_to
-number_up_to-is greatest word n is = led (λ m. m ≤ greatest) (number_up_to greatest word) n is (by (number_in word))
+number_up_to-is greatest word n is = led (λ m. m ≤ greatest) (number_up_to greatest word) n is (by (number_spelled word))
   where
     by : (o : Option ℕ) → Leads (λ m. m ≤ greatest) (ok_or (below (greatest + 1) o) BadNumber)
     by None = tt
@@ -71,8 +70,8 @@ options_of-is word options is = led (λ o. is_options o ≡ true) (options_of wo
     by false false false true = refl
     by false false false false = tt
 
-pub class_of-is : (word : List ℕ) (class : ℕ) → class_of word ≡ Ok class → class ≤ 4
-class_of-is word class is = led (λ n. n ≤ 4) (class_of word) class is
+pub class_of-is : (word : List ℕ) (class : ℕ) → symbol_class_of word ≡ Ok class → class ≤ 4
+class_of-is word class is = led (λ n. n ≤ 4) (symbol_class_of word) class is
     (by (bytes_eq word (codes "code")) (bytes_eq word (codes "data")) (bytes_eq word (codes "tvector")) (bytes_eq word (codes "toc")) (bytes_eq word (codes "glue")))
   where
     by : (a b c d e : Bool) → Leads (λ n. n ≤ 4) (ok_or (cond a (Some 0) (cond b (Some 1) (cond c (Some 2) (cond d (Some 3) (cond e (Some 4) None))))) BadKind)

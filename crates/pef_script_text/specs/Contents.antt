@@ -14,7 +14,7 @@ use Rattle.pef_script_text.specs.declared.fault.LineFault.{LineFault}
 use Rattle.pef_script_text.specs.declared.fault.LineFault.TheVariants.{UnknownName, OutOfOrder, Overlap, OutsideSection, TooMany, BadKind}
 use Rattle.pef_script.specs.Limits.{greatest_number}
 use Rattle.pef_script.specs.Script.{DescribedSection, import_names}
-use Rattle.pef_script_text.specs.SoFar.{ScriptSoFar, content_group, entered, number_of_name, section_at, section_named}
+use Rattle.pef_script_text.specs.SoFar.{ScriptSoFar, content_group, entered, number_of_name, section_named, section_so_far}
 use Rattle.pef_script_text.specs.Words.{next_word, last_word, next_name, last_name, number_up_to, image_of}
 
 -- section k is changed by a line
@@ -29,7 +29,7 @@ with_contents s k section = record s {
 
 abbrev pub bytes_tests : ScriptSoFar → ℕ → ℕ → List (Bool × LineFault)
 bytes_tests s k count = (nat_lt k s.section, OutOfOrder)
-    ∷ (nat_lt (section_at s k).header.total (length (section_at s k).image + count), OutsideSection)
+    ∷ (nat_lt (section_so_far s k).header.total (length (section_so_far s k).image + count), OutsideSection)
     ∷ []
 
 abbrev pub with_image : DescribedSection → List ℕ → DescribedSection
@@ -42,14 +42,14 @@ bytes_line s line = do
   bytes ← image_of digits
   group ← entered s content_group
   k ← section_named s name.0
-  unless (first_met (bytes_tests s k (length bytes))) (Ok (with_contents s k (with_image (section_at s k) bytes)))
+  unless (first_met (bytes_tests s k (length bytes))) (Ok (with_contents s k (with_image (section_so_far s k) bytes)))
 
 -- the tests of so many fixups, one behind the other, from an offset in section k
 abbrev pub fixup_tests : ScriptSoFar → ℕ → ℕ → ℕ → List (Bool × LineFault)
-fixup_tests s k offset count = (nat_lt most_fixups (length (section_at s k).fixups + count), TooMany)
-    ∷ (nat_lt k s.section || nat_lt (offset + 4) (fixups_end 0 (section_at s k).fixups), OutOfOrder)
-    ∷ (nat_lt (section_at s k).header.total (offset + 4 * count), OutsideSection)
-    ∷ (nat_lt offset (fixups_end 0 (section_at s k).fixups), Overlap)
+fixup_tests s k offset count = (nat_lt most_fixups (length (section_so_far s k).fixups + count), TooMany)
+    ∷ (nat_lt k s.section || nat_lt (offset + 4) (fixups_end 0 (section_so_far s k).fixups), OutOfOrder)
+    ∷ (nat_lt (section_so_far s k).header.total (offset + 4 * count), OutsideSection)
+    ∷ (nat_lt offset (fixups_end 0 (section_so_far s k).fixups), Overlap)
     ∷ []
 
 abbrev pub with_fixups : DescribedSection → List Fixup → DescribedSection
@@ -85,7 +85,7 @@ fix_line s line = do
   offset ← number_up_to greatest_number offset.0
   k ← section_named s name.0
   target ← base_named s is_section target
-  unless (first_met (fixup_tests s k offset 1)) (Ok (with_contents s k (with_fixups (section_at s k) (fixup_of offset target ∷ []))))
+  unless (first_met (fixup_tests s k offset 1)) (Ok (with_contents s k (with_fixups (section_so_far s k) (fixup_of offset target ∷ []))))
 
 -- `tvector SECTION OFFSET CODE DATA`: a transition vector, to whose words the addresses of a section of
 -- code and of one of data are added
@@ -101,4 +101,4 @@ tvector_line s line = do
   k ← section_named s name.0
   code ← section_named s code.0
   data_section ← section_named s data_name
-  unless (first_met (fixup_tests s k offset 2)) (Ok (with_contents s k (with_fixups (section_at s k) (fixup_of offset (base.Section code) ∷ fixup_of (offset + 4) (base.Section data_section) ∷ []))))
+  unless (first_met (fixup_tests s k offset 2)) (Ok (with_contents s k (with_fixups (section_so_far s k) (fixup_of offset (base.Section code) ∷ fixup_of (offset + 4) (base.Section data_section) ∷ []))))

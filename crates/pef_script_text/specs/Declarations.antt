@@ -54,8 +54,8 @@ library_line s line = do
 
 -- `import NAME CLASS STRENGTH`: a symbol of the last library, of which there is one
 
-abbrev pub class_of : List ℕ → Result ℕ LineFault
-class_of = word_of ((codes "code", 0) ∷ (codes "data", 1) ∷ (codes "tvector", 2) ∷ (codes "toc", 3) ∷ (codes "glue", 4) ∷ [])
+abbrev pub symbol_class_of : List ℕ → Result ℕ LineFault
+symbol_class_of = word_of ((codes "code", 0) ∷ (codes "data", 1) ∷ (codes "tvector", 2) ∷ (codes "toc", 3) ∷ (codes "glue", 4) ∷ [])
 
 abbrev pub is_weak_word : List ℕ → Result Bool LineFault
 is_weak_word word = if bytes_eq word (codes "strong") then Ok false else if bytes_eq word (codes "weak") then Ok true else Err BadKind
@@ -75,7 +75,7 @@ import_line s line = do
   class ← next_word name.1
   strength ← last_word class.1
   library ← entered_import s
-  class ← class_of class.0
+  class ← symbol_class_of class.0
   weak ← is_weak_word strength
   with_import s (record { name = name.0; class = class; weak = weak; library = library })
 

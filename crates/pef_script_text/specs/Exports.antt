@@ -7,13 +7,13 @@ use Rattle.pef_script_text.specs.declared.fault.LineFault.{LineFault}
 use Rattle.pef_script_text.specs.declared.fault.LineFault.TheVariants.{OutsideSection}
 use Rattle.pef_script.specs.Limits.{greatest_number, most_exports}
 use Rattle.pef_script.specs.Script.{DescribedExport, export_names}
-use Rattle.pef_script_text.specs.Declarations.{class_of}
-use Rattle.pef_script_text.specs.SoFar.{ScriptSoFar, counted_name_tests, entered, entered_once, export_group, init_group, main_group, section_at, section_named, term_group, with_script}
+use Rattle.pef_script_text.specs.Declarations.{symbol_class_of}
+use Rattle.pef_script_text.specs.SoFar.{ScriptSoFar, counted_name_tests, entered, entered_once, export_group, init_group, main_group, section_named, section_so_far, term_group, with_script}
 use Rattle.pef_script_text.specs.Words.{next_word, last_word, next_name, number_up_to}
 
 -- the test of an offset in section k, which may be its end
 abbrev pub place_tests : ScriptSoFar → ℕ → ℕ → List (Bool × LineFault)
-place_tests s k offset = (nat_lt (section_at s k).header.total offset, OutsideSection) ∷ []
+place_tests s k offset = (nat_lt (section_so_far s k).header.total offset, OutsideSection) ∷ []
 
 -- `export NAME CLASS SECTION OFFSET`
 
@@ -29,7 +29,7 @@ export_line s line = do
   section ← next_name class.1
   offset ← last_word section.1
   group ← entered s export_group
-  class ← class_of class.0
+  class ← symbol_class_of class.0
   offset ← number_up_to greatest_number offset
   k ← section_named s section.0
   with_export s k (record { name = name.0; class = class; section = pos k; value = offset })

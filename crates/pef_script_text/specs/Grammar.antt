@@ -40,17 +40,17 @@ unfoldable pub line_of : ScriptSoFar → List ℕ → Result ScriptSoFar LineFau
 line_of s line = if is_skipped line then Ok s else next_word line >>= line_by_word s
 
 -- a fault and the number of its line, from 1
-pub record Refusal : Type 0 where
+pub record LineRefusal : Type 0 where
   pub fault : LineFault
   pub line : ℕ
 
 -- a line's fault, or what the lines behind it say
-abbrev pub after_line : Result ScriptSoFar LineFault → ℕ → (ScriptSoFar → Result DescribedScript Refusal) → Result DescribedScript Refusal
+abbrev pub after_line : Result ScriptSoFar LineFault → ℕ → (ScriptSoFar → Result DescribedScript LineRefusal) → Result DescribedScript LineRefusal
 after_line (Ok s) number others = others s
 after_line (Err fault) number others = Err (record { fault = fault; line = number })
 
 -- the lines from a number on
-abbrev pub read_lines : ScriptSoFar → ℕ → List (List ℕ) → Result DescribedScript Refusal
+abbrev pub read_lines : ScriptSoFar → ℕ → List (List ℕ) → Result DescribedScript LineRefusal
 read_lines s number [] = Ok s.script
 read_lines s number (line ∷ lines) = after_line (line_of s line) number (λ next. read_lines next (number + 1) lines)
 
@@ -65,5 +65,5 @@ abbrev pub no_lines : ScriptSoFar
 no_lines = record { script = no_script; reached = 0; section = 0 }
 
 -- the script that a text is, or the first refusal
-unfoldable pub script_of : List ℕ → Result DescribedScript Refusal
+unfoldable pub script_of : List ℕ → Result DescribedScript LineRefusal
 script_of text = read_lines no_lines 1 (lines_of text)

@@ -3,14 +3,14 @@ use Rattle.std.specs.Prelude.{◌≡◌, Result, Ok, Err}
 use Rattle.pef_script.specs.Script.{DescribedScript}
 use Rattle.pef_script_text.specs.declared.fault.ScriptFault.{ScriptFault}
 use Rattle.pef_script_text.specs.declared.fault.ScriptFault.TheVariants as fault
-use Rattle.pef_script_text.specs.Grammar.{Refusal}
+use Rattle.pef_script_text.specs.Grammar.{LineRefusal}
 
 -- an answer is the one that was wanted, where there was memory for it
 
-abbrev pub Fails : ScriptFault → Result DescribedScript Refusal → Type 0
-Fails (fault.Refused what line) wanted = wanted ≡ Err (record { fault = what; line = line })
-Fails fault.OutOfMemory wanted = Unit {0}
+abbrev pub FailsAs : ScriptFault → Result DescribedScript LineRefusal → Type 0
+FailsAs (fault.Refused what line) wanted = wanted ≡ Err (record { fault = what; line = line })
+FailsAs fault.OutOfMemory wanted = Unit {0}
 
-abbrev pub Reads : Result DescribedScript ScriptFault → Result DescribedScript Refusal → Type 0
-Reads (Ok script) wanted = wanted ≡ Ok script
-Reads (Err failed) wanted = Fails failed wanted
+abbrev pub ReadsAs : Result DescribedScript ScriptFault → Result DescribedScript LineRefusal → Type 0
+ReadsAs (Ok script) wanted = wanted ≡ Ok script
+ReadsAs (Err failed) wanted = FailsAs failed wanted

@@ -72,8 +72,8 @@ abbrev pub no_section : DescribedSection
 no_section = record { header = record { name = []; kind = 0; share = 0; align = 0; total = 0 }; image = []; fixups = [] }
 
 -- section k
-abbrev pub section_at : ScriptSoFar → ℕ → DescribedSection
-section_at s k = slice_index_or s.script.sections k no_section
+abbrev pub section_so_far : ScriptSoFar → ℕ → DescribedSection
+section_so_far s k = slice_index_or s.script.sections k no_section
 
 -- whether a name has been given
 abbrev pub is_repeated : List (List ℕ) → List ℕ → Bool

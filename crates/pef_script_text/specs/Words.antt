@@ -3,7 +3,7 @@
 use Rattle.std.specs.Prelude.{ℕ, ◌+◌, ◌==◌, List, [], ◌∷◌, Option, None, Some, Result, Ok, Err, length, nat_lt, if◌then◌else◌}
 use Rattle.std.specs.Option.{ok_or}
 use Rattle.pef_lines.specs.Numbers.{below, decimal_number, hex_number}
-use Rattle.pef_lines.specs.Pairs.{pairs_of}
+use Rattle.pef_lines.specs.Pairs.{hex_bytes}
 use Rattle.pef_lines.specs.Words as words
 pub use Rattle.pef_lines.specs.Words.{is_printing}
 use Rattle.pef_script_text.specs.declared.fault.LineFault.{LineFault}
@@ -37,14 +37,14 @@ number_behind_zero [] = Some 0
 number_behind_zero (b ∷ bytes) = if b == 0x78 then hex_number bytes else None
 
 -- the number that a word spells
-abbrev pub number_in : List ℕ → Option ℕ
-number_in [] = None
-number_in (b ∷ bytes) = if b == 0x30 then number_behind_zero bytes else decimal_number (b ∷ bytes)
+abbrev pub number_spelled : List ℕ → Option ℕ
+number_spelled [] = None
+number_spelled (b ∷ bytes) = if b == 0x30 then number_behind_zero bytes else decimal_number (b ∷ bytes)
 
 -- the number that a word spells, at most a greatest one
 unfoldable pub number_up_to : ℕ → List ℕ → Result ℕ LineFault
-number_up_to greatest word = ok_or (below (greatest + 1) (number_in word)) BadNumber
+number_up_to greatest word = ok_or (below (greatest + 1) (number_spelled word)) BadNumber
 
 -- the bytes of an image that a word spells
 unfoldable pub image_of : List ℕ → Result (List ℕ) LineFault
-image_of word = ok_or (pairs_of word) BadLine
+image_of word = ok_or (hex_bytes word) BadLine

@@ -2,7 +2,7 @@ ghost use Rattle.std.specs.Prelude.{◌≡◌, true, ◌+◌, ◌*◌, ◌^◌, 
 ghost use Rattle.std.specs.Result.{result_err};
 ghost use Rattle.pef_words.specs.Refusals.{first_met};
 ghost use Rattle.pef_script_text.specs.Contents.{base_named, bytes_line, bytes_tests, fix_line, fixup_of, fixup_tests, import_named, tvector_line, with_contents, with_fixups};
-ghost use Rattle.pef_script_text.specs.SoFar.{section_at};
+ghost use Rattle.pef_script_text.specs.SoFar.{section_so_far};
 ghost use Rattle.pef_script_text.specs.Kept.Reader.{so_far};
 ghost use Rattle.pef_script_text.specs.Kept.Steps.{Steps};
 
@@ -74,7 +74,7 @@ impl<'a> Reader<'a> {
     /// Appends fixups to those of section `k`, which the line is for.
     fn put_fixups(&mut self, k: usize, fixups: &[Fixup]) -> Result<(), Stop>
         requires { k < vec_len self.old.parts.sections }
-        ensures { Steps result (so_far self.new) (Ok (with_contents (so_far self.old) k (with_fixups (section_at (so_far self.old) k) fixups.now))) }
+        ensures { Steps result (so_far self.new) (Ok (with_contents (so_far self.old) k (with_fixups (section_so_far (so_far self.old) k) fixups.now))) }
     {
         let parts = &mut self.parts;
         add_fixups(&mut parts.sections[k], fixups)?;

@@ -1,7 +1,7 @@
 ghost use Rattle.std.specs.Prelude.{◌≡◌, map};
 ghost use Rattle.std.specs.Str.{bytes_eq};
 ghost use Rattle.pef_script_text.specs.Contents.{is_section_word};
-ghost use Rattle.pef_script_text.specs.Declarations.{class_of, is_weak_word, kind_of, options_of, share_of};
+ghost use Rattle.pef_script_text.specs.Declarations.{is_weak_word, kind_of, options_of, share_of, symbol_class_of};
 ghost use Rattle.pef_script_text.specs.SoFar.{word_of};
 
 use crate::LineFault;
@@ -51,7 +51,7 @@ pub fn options_of(word: &[u8]) -> Result<u8, LineFault>
 
 /// The class of a symbol.
 pub fn class_of(word: &[u8]) -> Result<u8, LineFault>
-    ensures { result ≡ class_of word.now }
+    ensures { result ≡ symbol_class_of word.now }
 {
     let classes = [
         ("code", CODE_SYMBOL),

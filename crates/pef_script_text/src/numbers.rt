@@ -1,12 +1,12 @@
 ghost use Rattle.std.specs.Prelude.{◌≡◌, ◌≤◌, IfOk};
-ghost use Rattle.pef_script_text.specs.Words.{number_in, number_up_to};
+ghost use Rattle.pef_script_text.specs.Words.{number_spelled, number_up_to};
 
 use crate::LineFault;
 use pef_lines::{decimal_number, hex_number};
 
 /// The number that a word spells: decimal without a leading zero, or `0x` and hex digits.
 fn number_in(word: &[u8]) -> Option<u32>
-    ensures { result ≡ number_in word.now }
+    ensures { result ≡ number_spelled word.now }
 {
     match word {
         [b'0', b'x', digits @ ..] => hex_number(digits),

@@ -3,7 +3,7 @@ ghost use Rattle.pef_script.specs.Parts.{script_in};
 ghost use Rattle.pef_script_text.specs.Grammar.{read_lines, script_of};
 ghost use Rattle.pef_script_text.specs.Kept.Reader.{so_far};
 ghost use Rattle.pef_script_text.specs.Kept.Steps.{ReadsLines};
-ghost use Rattle.pef_script_text.specs.Reads.{Reads};
+ghost use Rattle.pef_script_text.specs.Reads.{ReadsAs};
 ghost use Rattle.pef_words.specs.Refusals.{result_map};
 
 use crate::ScriptFault;
@@ -17,7 +17,7 @@ use std::alloc::Global;
 /// # Errors
 /// The first fault of the first line that has one, or that a growth of memory was refused.
 pub fn read<'a>(alloc: Global, text: &'a [u8]) -> Result<Script<'a>, ScriptFault>
-    ensures { Reads result (script_of text.entry.now) }
+    ensures { ReadsAs result (script_of text.entry.now) }
 {
     let parts = read_parts(alloc, text)?;
     Ok(Script::new(parts))
@@ -25,7 +25,7 @@ pub fn read<'a>(alloc: Global, text: &'a [u8]) -> Result<Script<'a>, ScriptFault
 
 /// Reads the lines of a script.
 fn read_parts<'a>(alloc: Global, text: &'a [u8]) -> Result<Parts<'a>, ScriptFault>
-    ensures { Reads (result_map script_in result) (script_of text.entry.now) }
+    ensures { ReadsAs (result_map script_in result) (script_of text.entry.now) }
 {
     let mut reader = Reader::new(alloc);
     read_lines(&mut reader, text)?;

@@ -52,9 +52,6 @@ last_end-none (x ∷ y ∷ ends) e =
 pub count_some : (end : ℕ) (ends : List ℕ) (kept : List (List (List ℕ))) → SquaresFull ends kept → slice_get ends (length ends - 1) ≡ Some end → end ≡ length (squares_from 0 ends kept)
 count_some end ends kept full e = sym (last_end-get 0 ends end e) ∙ count_is ends kept full
 
-pub count_none : (ends : List ℕ) (kept : List (List (List ℕ))) → slice_get ends (length ends - 1) ≡ None → 0 ≡ length (squares_from 0 ends kept)
-count_none ends kept e = rw (last_end-none ends e) refl
-
 -- the square at an index, by the kept one
 square-at : (low : ℕ) (ends : List ℕ) (kept : List (List (List ℕ))) (index place : ℕ) → Rising low ends → length kept ≡ length ends → low ≤ index → PlaceOf ends index place → slice_index_or kept place [] ≡ slice_index_or (squares_from low ends kept) (index - low) []
 square-at low [] kept index place up full after at = let under = at.under in absurd (omega (arith, under))

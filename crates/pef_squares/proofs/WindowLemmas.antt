@@ -1,19 +1,16 @@
 -- Windows of squares: what is kept for the older ones, and the least of all.
-use Rattle.std.proofs.Common.{◌≡◌, ℕ, ◌+◌, ◌-◌, ◌<◌, ◌≤◌, ◌⊎◌, inl, inr, min, List, [], ◌∷◌, ◌++◌, length, take, None, Some, refl, ap, sym, ◌∙◌, subst, arith, length-append}
+use Rattle.std.proofs.Common.{◌≡◌, ℕ, ◌+◌, ◌-◌, ◌<◌, ◌≤◌, ◌⊎◌, inl, inr, min, List, [], ◌∷◌, ◌++◌, length, take, Some, refl, ap, sym, ◌∙◌, subst, arith, length-append}
 use Rattle.std.specs.Prelude.{reverse, slice_index_or}
 use Rattle.std.proofs.Math.ListN.{get_or-append}
 use Rattle.std.proofs.Math.Seq.{get_or-append_seam, take-append-add}
 use Rattle.std.proofs.lemmas.Bool.Decides.{eqb_tells}
-use Rattle.std.proofs.lemmas.Option.{get_or_from_slice_get, slice_get-get_or, slice_get_within}
+use Rattle.std.proofs.lemmas.Option.{get_or_from_slice_get, slice_get_within}
 use Rattle.std.specs.List.{slice_get}
-use Rattle.std.proofs.lemmas.List.{append-nil, append_assoc, get_or-take, length-reverse, length-take, reverse-append, take-append-le, take-take, take_all}
+use Rattle.std.proofs.lemmas.List.{append_assoc, get_or-take, length-reverse, length-take, reverse-append, take-append-le, take-take, take_all}
+use Rattle.pef_words.proofs.Laws.Numbers.{min_is}
 use Rattle.pef_squares.specs.declared.window.Window.{Window}
 use Rattle.pef_squares.specs.Squares.{number_in}
 use Rattle.pef_squares.specs.Windows.{AtMostEach, BestOf, IsOne, LesserOf, LowIn, LowSquare, OlderOf, WindowOf}
-use Rattle.pef_squares.specs.Limits.{most_classes}
-
-min_is : (v w : ℕ) → (min v w ≡ v) ⊎ (min v w ≡ w)
-min_is v w = grind arith
 
 each-append : (more v : ℕ) (xs ys : List (List (List ℕ))) (c d : ℕ) → AtMostEach more v xs c d → AtMostEach more v ys c d → AtMostEach more v (xs ++ ys) c d
 each-append more v [] ys c d a b = b
@@ -102,13 +99,6 @@ pub record Aged (classes : ℕ) (all lows newer : List (List (List ℕ))) : Type
   pub is : OlderOf classes older lows
   pub parts : older ++ reverse newer ≡ all
 
-pub aged-start : (classes : ℕ) (lows newer : List (List (List ℕ))) → lows ≡ [] → Aged classes (reverse newer) lows newer
-aged-start classes lows newer none = record {
-  older = [];
-  is = record { count = ap length none; low = λ i under. absurd (omega (arith, under)) };
-  parts = refl;
-}
-
 pub aged-next : (classes : ℕ) (all lows before newer : List (List (List ℕ))) (s low : List (List ℕ)) → Aged classes all lows before → before ≡ newer ++ s ∷ [] → ((squares : List (List (List ℕ))) → OlderOf classes squares lows → LowSquare classes (squares ++ s ∷ []) low) → Aged classes all (lows ++ low ∷ []) newer
 aged-next classes all lows before newer s low a last is = record {
   older = a.older ++ s ∷ [];
@@ -116,30 +106,11 @@ aged-next classes all lows before newer s low a last is = record {
   parts = append_assoc a.older (s ∷ []) (reverse newer) ∙ (ap (λ xs. a.older ++ xs) (sym (ap reverse last ∙ reverse-append newer (s ∷ []))) ∙ a.parts);
 }
 
-pub aged-end : (classes : ℕ) (all lows newer : List (List (List ℕ))) → Aged classes all lows newer → newer ≡ [] → OlderOf classes all lows
-aged-end classes all lows newer a none =
-    subst (λ (xs : List (List (List ℕ))). OlderOf classes xs lows) (sym (append-nil a.older) ∙ (ap (λ xs. a.older ++ reverse xs) (sym none) ∙ a.parts)) a.is
-
 -- what is kept for the oldest, where it is got
 pub older-got : (classes : ℕ) (squares lows : List (List (List ℕ))) (low : List (List ℕ)) → OlderOf classes squares lows → slice_get lows (length lows - 1) ≡ Some low → LowSquare classes squares low
 older-got classes squares lows low o got =
     let under = slice_get_within lows (length lows - 1) low got in
     subst (λ (x : List (List ℕ)). LowSquare classes squares x) (get_or_from_slice_get lows (length lows - 1) low [] got) (older-last classes squares lows o (omega (arith, under)))
-
-none_got : (lows : List (List (List ℕ))) → slice_get lows (length lows - 1) ≡ None → length lows ≡ 0
-none_got [] got = refl
-none_got (x ∷ xs) got = absurd (some_none (slice_index_or (x ∷ xs) (length (x ∷ xs) - 1) []) (sym (slice_get-get_or (x ∷ xs) (length (x ∷ xs) - 1) [] (omega arith)) ∙ got))
-  where
-    some_none : (y : List (List ℕ)) → Some y ≡ None → ⊥
-    some_none y e = absurd (cc)
-
-older-none : (classes : ℕ) (squares lows : List (List (List ℕ))) → OlderOf classes squares lows → slice_get lows (length lows - 1) ≡ None → squares ≡ []
-older-none classes [] lows o got = refl
-older-none classes (x ∷ xs) lows o got = let count = o.count in let none = none_got lows got in absurd (omega (arith, count, none))
-
--- one more older square
-pub older-one : (classes : ℕ) (squares lows : List (List (List ℕ))) (s : List (List ℕ)) → OlderOf classes squares lows → slice_get lows (length lows - 1) ≡ None → LowSquare classes (squares ++ s ∷ []) s
-older-one classes squares lows s o got = subst (λ (xs : List (List (List ℕ))). LowSquare classes (xs ++ s ∷ []) s) (sym (older-none classes squares lows o got)) (square-one classes s)
 
 pub older-more : (classes : ℕ) (squares lows : List (List (List ℕ))) (s low result : List (List ℕ)) → OlderOf classes squares lows → slice_get lows (length lows - 1) ≡ Some low → LesserOf classes low s result → LowSquare classes (squares ++ s ∷ []) result
 older-more classes squares lows s low result o got is = square-both classes squares (s ∷ []) low s result (older-got classes squares lows low o got) (square-one classes s) is
@@ -154,9 +125,6 @@ best-low squares first c d low l = record {
     | inr is ↦ inr (subst (λ (n : ℕ). IsOne 1 n squares c d) (sym is) (one-more low squares c d l.one))
   ];
 }
-
-pub best-none : (first c d : ℕ) (squares : List (List (List ℕ))) → squares ≡ [] → BestOf first squares c d first
-best-none first c d squares none = subst (λ (xs : List (List (List ℕ))). BestOf first xs c d first) (sym none) (record { first_is = omega arith; each = tt; one = inl refl })
 
 pub best-both : (older newer : List (List (List ℕ))) (first c d best low : ℕ) → BestOf first older c d best → LowIn newer c d low → BestOf first (newer ++ older) c d (min best (1 + low))
 best-both older newer first c d best low b l =
@@ -176,23 +144,6 @@ best-both older newer first c d best low b l =
 pub best-older : (classes : ℕ) (squares lows : List (List (List ℕ))) (low : List (List ℕ)) (first c d : ℕ) → OlderOf classes squares lows → slice_get lows (length lows - 1) ≡ Some low → c < classes → d < classes → BestOf first squares c d (min first (1 + number_in low c d))
 best-older classes squares lows low first c d o got under_c under_d = best-low squares first c d (number_in low c d) (older-got classes squares lows low o got c d under_c under_d)
 
-pub best-no_older : (classes : ℕ) (squares lows : List (List (List ℕ))) (first c d : ℕ) → OlderOf classes squares lows → slice_get lows (length lows - 1) ≡ None → BestOf first squares c d first
-best-no_older classes squares lows first c d o got = best-none first c d squares (older-none classes squares lows o got)
-
--- a window of none
-pub window-none : (classes limit : ℕ) (w : Window) → w.classes ≡ classes → w.limit ≡ limit → classes ≤ most_classes → 0 < limit → w.older.items ≡ [] → w.newer.items ≡ [] → WindowOf classes limit [] w
-window-none classes limit w classes_is limit_is few some older newer = record {
-  classes_is = classes_is;
-  limit_is = limit_is;
-  few = few;
-  some = some;
-  older = [];
-  parts = sym (append-nil (reverse w.newer.items) ∙ ap reverse newer);
-  older_is = record { count = ap length older; low = λ i under. absurd (omega (arith, under)) };
-  newer_is = λ more. let e = ap length newer in absurd (omega (arith, e, more));
-  within = omega arith;
-}
-
 count_is : (classes limit : ℕ) (squares : List (List (List ℕ))) (w : Window) → (o : WindowOf classes limit squares w) → length squares ≡ length w.newer.items + length w.older.items
 count_is classes limit squares w o =
     let e = ap length o.parts in
@@ -200,13 +151,6 @@ count_is classes limit squares w o =
     let back = length-reverse w.newer.items in
     let count = o.older_is.count in
     omega (arith, e, sum, back, count)
-
--- where there is room
-pub window-room : (classes limit : ℕ) (squares : List (List (List ℕ))) (w : Window) → WindowOf classes limit squares w → length w.older.items + length w.newer.items < w.limit → WindowOf classes limit (take (limit - 1) squares) w
-window-room classes limit squares w o room =
-    let count = count_is classes limit squares w o in
-    let is = o.limit_is in
-    subst (λ (xs : List (List (List ℕ))). WindowOf classes limit xs w) (sym (take_all (limit - 1) squares (omega (arith, count, is, room)))) o
 
 -- the oldest goes
 pub window-pop : (classes limit : ℕ) (squares : List (List (List ℕ))) (w v : Window) → WindowOf classes limit squares w → limit ≤ length squares → (length w.newer.items ≡ 0) ⊎ (0 < length w.older.items) → v.classes ≡ w.classes → v.limit ≡ w.limit → v.newer.items ≡ w.newer.items → v.low ≡ w.low → v.older.items ≡ take (length w.older.items - 1) w.older.items → WindowOf classes limit (take (limit - 1) squares) v
@@ -241,52 +185,9 @@ window-full classes limit squares w o full =
     let is = o.limit_is in
     omega (arith, count, is, full)
 
--- newer squares are made older ones
-pub window-aged : (classes limit : ℕ) (squares : List (List (List ℕ))) (w v : Window) → WindowOf classes limit squares w → length w.older.items ≡ 0 → v.classes ≡ w.classes → v.limit ≡ w.limit → v.newer.items ≡ [] → OlderOf w.classes (reverse w.newer.items) v.older.items → WindowOf classes limit squares v
-window-aged classes limit squares w v o none classes_is limit_is newer older = record {
-  classes_is = classes_is ∙ o.classes_is;
-  limit_is = limit_is ∙ o.limit_is;
-  few = o.few;
-  some = o.some;
-  older = squares;
-  parts = sym (ap (λ xs. reverse xs ++ squares) newer);
-  older_is = subst (λ (n : ℕ). OlderOf n squares v.older.items) o.classes_is (subst (λ (xs : List (List (List ℕ))). OlderOf w.classes xs v.older.items) (sym whole) older);
-  newer_is = λ more. let e = ap length newer in absurd (omega (arith, e, more));
-  within = o.within;
-}
-  where
-    nothing : (xs : List (List (List ℕ))) → length xs ≡ 0 → xs ≡ []
-    nothing [] e = refl
-    nothing (x ∷ xs) e = absurd (omega (arith, e))
-
-    whole : squares ≡ reverse w.newer.items
-    whole = o.parts ∙ (ap (λ xs. reverse w.newer.items ++ xs) (nothing o.older (let count = o.older_is.count in omega (arith, count, none))) ∙ append-nil (reverse w.newer.items))
-
--- the least of the newer squares and of one more
-pub newer-none : (s : List (List ℕ)) (classes : ℕ) (newer : List (List (List ℕ))) → length newer ≡ 0 → LowSquare classes (s ∷ reverse newer) s
-newer-none s classes [] none = square-one classes s
-newer-none s classes (x ∷ xs) none = absurd (omega (arith, none))
-
 pub newer-more : (classes limit : ℕ) (squares : List (List (List ℕ))) (w : Window) (s result : List (List ℕ)) → WindowOf classes limit squares w → 0 < length w.newer.items → LesserOf w.classes s w.low result → LowSquare classes (s ∷ reverse w.newer.items) result
 newer-more classes limit squares w s result o some is =
     square-both classes (s ∷ []) (reverse w.newer.items) s w.low result (square-one classes s) (o.newer_is some) (subst (λ (n : ℕ). LesserOf n s w.low result) o.classes_is is)
-
--- one more newer square
-pub window-add : (classes limit : ℕ) (squares : List (List (List ℕ))) (w v : Window) (s low : List (List ℕ)) → WindowOf classes limit (take (limit - 1) squares) w → LowSquare classes (s ∷ reverse w.newer.items) low → v.classes ≡ w.classes → v.limit ≡ w.limit → v.older.items ≡ w.older.items → v.newer.items ≡ w.newer.items ++ s ∷ [] → v.low ≡ low → WindowOf classes limit (s ∷ take (limit - 1) squares) v
-window-add classes limit squares w v s low o is classes_is limit_is older newer low_is =
-    let back : reverse v.newer.items ≡ s ∷ reverse w.newer.items = ap reverse newer ∙ reverse-append w.newer.items (s ∷ []) in
-    record {
-      classes_is = classes_is ∙ o.classes_is;
-      limit_is = limit_is ∙ o.limit_is;
-      few = o.few;
-      some = o.some;
-      older = o.older;
-      parts = ap (λ xs. s ∷ xs) o.parts ∙ sym (ap (λ xs. xs ++ o.older) back);
-      older_is = subst (λ (xs : List (List (List ℕ))). OlderOf classes o.older xs) (sym older) o.older_is;
-      newer_is = λ more.
-          subst (λ (xs : List (List (List ℕ))). LowSquare classes xs v.low) (sym back) (subst (λ (x : List (List ℕ)). LowSquare classes (s ∷ reverse w.newer.items) x) (sym low_is) is);
-      within = (let len = length-take (limit - 1) squares in let any = o.some in omega (arith, len, any));
-    }
 
 -- the least of a number and of 1 more than each of a window's squares
 pub window-best : (classes limit : ℕ) (squares : List (List (List ℕ))) (w : Window) (first c d best : ℕ) → WindowOf classes limit squares w → 0 < length w.newer.items → c < classes → d < classes → ((count : ℕ) (older : List (List (List ℕ))) → OlderOf count older w.older.items → c < count → d < count → BestOf first older c d best) → BestOf first squares c d (min best (1 + number_in w.low c d))

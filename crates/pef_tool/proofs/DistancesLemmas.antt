@@ -11,9 +11,9 @@ use Rattle.pef_script_text.specs.Grammar as grammar
 use Rattle.pef_script_text.specs.Grammar.{script_of}
 use Rattle.pef_script.specs.Script.{DescribedScript, DescribedSection}
 use Rattle.pef_script.specs.WellFormed.{SectionHolds}
-use Rattle.pef_words.proofs.Laws.Tests.{both_met}
 use Rattle.pef_write.specs.Linked.{AreCertified, IsLinked, LinkedContainer}
 use Rattle.pef_verdicts.specs.Check.{AreVerdicts, Judges, Texts, are_numbered, match_sections}
+use Rattle.std.proofs.lemmas.Bool.{and_from}
 use Rattle.pef_tool.specs.Distances.{IsYesToAll, LinksFile}
 use Rattle.pef_verdicts.specs.declared.check.Verdict.{Verdict}
 use Rattle.pef_verdicts.specs.declared.check.Verdict.TheVariants.{Yes, No}
@@ -50,7 +50,7 @@ certified_numbered : (k : ℕ) (sections : List DescribedSection) (certificates 
 certified_numbered k [] [] are = refl
 certified_numbered k [] (c ∷ certificates) are = absurd are
 certified_numbered k (s ∷ sections) [] are = absurd are
-certified_numbered k (s ∷ sections) (c ∷ certificates) are = both_met (c.section == k) (are_numbered (k + 1) certificates) (eq-eqb c.section k are.0.section) (certified_numbered (k + 1) sections certificates are.1)
+certified_numbered k (s ∷ sections) (c ∷ certificates) are = and_from (c.section == k) (are_numbered (k + 1) certificates) (eq-eqb c.section k are.0.section) (certified_numbered (k + 1) sections certificates are.1)
 
 certified_count : (k : ℕ) (sections : List DescribedSection) (certificates : List Certified) → AreCertified k sections certificates → length certificates ≡ length sections
 certified_count k [] [] are = refl
@@ -60,7 +60,7 @@ certified_count k (s ∷ sections) (c ∷ certificates) are = ap suc (certified_
 
 linked_match : (script : DescribedScript) (l : LinkedContainer) → IsLinked script l → match_sections script l.certificates ≡ true
 linked_match script l linked =
-    both_met (length l.certificates == length script.sections) (are_numbered 0 l.certificates)
+    and_from (length l.certificates == length script.sections) (are_numbered 0 l.certificates)
     (eq-eqb (length l.certificates) (length script.sections) (certified_count 0 script.sections l.certificates linked.certified))
     (certified_numbered 0 script.sections l.certificates linked.certified)
 
@@ -75,7 +75,7 @@ all_yes k (s ∷ sections) (c ∷ certificates) (Yes halfwords ∷ verdicts) are
 all_yes k (s ∷ sections) (c ∷ certificates) (No ∷ verdicts) are said = absurd (said.0 are.0.valid)
 
 -- one result can be only one script, and only one list of certificates
-same_script : (r : Result DescribedScript grammar.Refusal) (s t : DescribedScript) → r ≡ Ok s → r ≡ Ok t → s ≡ t
+same_script : (r : Result DescribedScript grammar.LineRefusal) (s t : DescribedScript) → r ≡ Ok s → r ≡ Ok t → s ≡ t
 same_script r s t one two = let both = sym one ∙ two in cc
 
 same_certificates : (r : Result (List Certified) ℕ) (cs ds : List Certified) → r ≡ Ok cs → r ≡ Ok ds → cs ≡ ds

@@ -1,7 +1,7 @@
 ghost use Rattle.std.specs.Prelude.{Some, map, string_bytes};
 ghost use Rattle.pef_request.specs.CommandLine.{asked_by};
 ghost use Rattle.pef_request.specs.Requests.{asked_of};
-ghost use Rattle.pef_answers.specs.Answers.{Answer, Delivers};
+ghost use Rattle.pef_answers.specs.Answers.{Answer, IsDelivered};
 ghost use Rattle.pef_tool.specs.Run.{RunAnswers};
 
 use crate::distances::print_distances;
@@ -27,7 +27,7 @@ pub fn run<F: Files, R: Source, W: Sink>(
 ) -> u8
     ensures { (answer : Answer)
         × RunAnswers (record { state = F.state; was_read = F.was_read; was_written = F.was_written }) R.stream (asked_by (map string_bytes words.now)) files.old files.new input.old input.new answer
-        × Delivers (W.stream out.old) (W.stream out.new) answer result }
+        × IsDelivered (W.stream out.old) (W.stream out.new) answer result }
 {
     match read_words(alloc, words) {
         Ok(request) => run_request(alloc, request, files, input, out),
@@ -46,7 +46,7 @@ fn run_request<F: Files, R: Source, W: Sink>(
 ) -> u8
     ensures { (answer : Answer)
         × RunAnswers (record { state = F.state; was_read = F.was_read; was_written = F.was_written }) R.stream (Some (asked_of request.entry)) files.old files.new input.old input.new answer
-        × Delivers (W.stream out.old) (W.stream out.new) answer result }
+        × IsDelivered (W.stream out.old) (W.stream out.new) answer result }
 {
     match request {
         Request::Show => show_input(alloc, input, out),

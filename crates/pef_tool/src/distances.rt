@@ -1,4 +1,4 @@
-ghost use Rattle.pef_answers.specs.Answers.{Answer, Delivers, answer_done};
+ghost use Rattle.pef_answers.specs.Answers.{Answer, IsDelivered, answer_done};
 ghost use Rattle.pef_tool.specs.Distances.{DistancesAnswers};
 
 use crate::linking::link_text;
@@ -19,7 +19,7 @@ pub fn print_distances<F: Files, W: Sink>(
 ) -> u8
     ensures { (answer : Answer)
         × DistancesAnswers (record { state = F.state; was_read = F.was_read; was_written = F.was_written }) files.old files.new script.now answer
-        × Delivers (W.stream out.old) (W.stream out.new) answer result }
+        × IsDelivered (W.stream out.old) (W.stream out.new) answer result }
 {
     let text = match files.read(alloc, script) {
         Ok(text) => text,

@@ -1,6 +1,6 @@
 ghost use Rattle.std.specs.Prelude.{◌≡◌};
 ghost use Rattle.pef_ports.specs.Sent.{Sends};
-ghost use Rattle.pef_answers.specs.Answers.{Answer, Delivers, answer_done};
+ghost use Rattle.pef_answers.specs.Answers.{Answer, IsDelivered, answer_done};
 ghost use Rattle.pef_tool.specs.Link.{LinkAnswers, length_text, lengths_text, linked_text, size_text};
 
 use crate::linking::link_text;
@@ -21,7 +21,7 @@ pub fn link_files<F: Files, W: Sink>(
 ) -> u8
     ensures { (answer : Answer)
         × LinkAnswers (record { state = F.state; was_read = F.was_read; was_written = F.was_written }) files.old files.new script.now target.now answer
-        × Delivers (W.stream out.old) (W.stream out.new) answer result }
+        × IsDelivered (W.stream out.old) (W.stream out.new) answer result }
 {
     let text = match files.read(alloc, script) {
         Ok(text) => text,

@@ -1,6 +1,6 @@
 ghost use Rattle.pef_listing.specs.Listing.{listing_text};
 ghost use Rattle.pef_listing.specs.Views.{parts};
-ghost use Rattle.pef_answers.specs.Answers.{Answer, Delivers, answer_done};
+ghost use Rattle.pef_answers.specs.Answers.{Answer, IsDelivered, answer_done};
 ghost use Rattle.pef_tool.specs.List.{ListAnswers};
 
 use pef_answers::{DONE, FileRefusal, Refusal, Reply, deliver};
@@ -14,7 +14,7 @@ use std::alloc::Global;
 pub fn list_file<F: Files, W: Sink>(alloc: Global, files: &mut F, path: &[u8], out: &mut W) -> u8
     ensures { (answer : Answer)
         × ListAnswers (record { state = F.state; was_read = F.was_read; was_written = F.was_written }) files.old files.new path.now answer
-        × Delivers (W.stream out.old) (W.stream out.new) answer result }
+        × IsDelivered (W.stream out.old) (W.stream out.new) answer result }
 {
     let bytes = match files.read(alloc, path) {
         Ok(bytes) => bytes,

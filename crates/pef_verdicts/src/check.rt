@@ -1,7 +1,7 @@
 ghost use Rattle.std.specs.Prelude.{◌≡◌, IfOk, length, true};
 ghost use Rattle.pef_ports.specs.Sent.{Sends};
 ghost use Rattle.pef_reloc.specs.Fixups.{fixups_fit};
-ghost use Rattle.pef_answers.specs.Answers.{Answer, Delivers};
+ghost use Rattle.pef_answers.specs.Answers.{Answer, IsDelivered};
 ghost use Rattle.pef_verdicts.specs.Check.{AreVerdicts, CheckAnswers, IsVerdict, Judges, are_numbered, judged_answer, match_sections, verdict_text, verdicts_status, verdicts_text};
 ghost use Rattle.pef_verdicts.specs.Kept.Judged.{JudgesRead, JudgesScript};
 ghost use Rattle.pef_words.specs.Refusals.{result_map};
@@ -44,7 +44,7 @@ pub fn check_files<F: Files, W: Sink>(
 ) -> u8
     ensures { (answer : Answer)
         × CheckAnswers (record { state = F.state; was_read = F.was_read; was_written = F.was_written }) files.old files.new script.now cert.now answer
-        × Delivers (W.stream out.old) (W.stream out.new) answer result }
+        × IsDelivered (W.stream out.old) (W.stream out.new) answer result }
 {
     let text = match files.read(alloc, script) {
         Ok(text) => text,

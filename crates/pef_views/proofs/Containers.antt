@@ -1,15 +1,16 @@
 -- What the acceptance of a container says, and what it takes.
-use Rattle.std.proofs.Common.{◌≡◌, ℕ, ◌<◌, ◌≤◌, Bool, true, false, not, List, Option, None, Some, refl, subst, ap}
-use Rattle.std.specs.Prelude.{◌==◌, ◌&&◌, if◌then◌else◌, option_map, Result, Ok, Err, IsTrue, length, nat_lt}
-use Rattle.std.proofs.lemmas.Bool.{lt-ltb, ltb-false, ltb-true}
+use Rattle.std.proofs.Common.{◌≡◌, ℕ, ◌<◌, ◌≤◌, not, List, Option, None, Some, refl, subst, ap}
+use Rattle.std.specs.Prelude.{◌==◌, ◌&&◌, Ok, Err, IsTrue, length, nat_lt}
+use Rattle.std.proofs.lemmas.Bool.{lt-ltb, ltb-false}
 use Rattle.std.specs.Option.{option_map_or}
 use Rattle.pef_words.specs.Refusals.{first_met, first_among}
+use Rattle.std.specs.Result.{result_unwrap_or}
 use Rattle.pef_views.specs.declared.header.Header.{Header}
 use Rattle.pef_views.specs.declared.section.SectionHeader.{SectionHeader}
 use Rattle.pef_views.specs.declared.fault.ViewFault.TheVariants.{TooShort}
 use Rattle.pef_views.specs.Header.{header_of, header_tests, joy, peff, pwpc, version_1}
 use Rattle.pef_views.specs.Section.{section_at, section_tests, is_inside, raw_of}
-use Rattle.pef_views.specs.Container.{Contained, IsContainer, IsInstantiable, Section, is_instantiated, section_in, section_of, container_of, judged, loader_of, section_refusal, with_loader}
+use Rattle.pef_views.specs.Container.{Contained, IsContainer, IsInstantiable, is_instantiated, section_in, container_of, judged, loader_of, section_refusal, with_loader}
 use Rattle.pef_views.proofs.Sections.{length-raw_of, section_unmet, unmet_inside, unmet_instantiable, unrefused}
 use Rattle.pef_words.proofs.Laws.Refusals.{first_unmet, unless_ok}
 
@@ -20,14 +21,10 @@ pub record IsAccepted (c : Contained) : Type 0 where
   pub sections : first_among (section_refusal c.bytes c.header) 0 c.header.section_count ≡ None
   pub loader : loader_of c.bytes c.header ≡ Some c.loader
 
-abbrev value_or : {A F : Type 0} → A → Result A F → A
-value_or x (Ok y) = y
-value_or x (Err fault) = x
-
 with_loader_ok : (bytes : List ℕ) (h : Header) (loader : Option (List ℕ)) (c : Contained) → with_loader bytes h loader ≡ Ok c → (loader ≡ Some c.loader) × (h ≡ c.header) × (bytes ≡ c.bytes)
 with_loader_ok bytes h None c ok = absurd (cc)
 with_loader_ok bytes h (Some loader) c ok =
-    let same = ap (value_or c) ok in
+    let same = ap (λ r. result_unwrap_or r c) ok in
     (ap (λ x. Some x.loader) same, ap (λ x. x.header) same, ap (λ x. x.bytes) same)
 
 judged_ok : (c : Contained) (h : Header) → header_of c.bytes ≡ Some h → judged c.bytes h ≡ Ok c → IsAccepted c
@@ -51,27 +48,6 @@ accepted c ok = header_ok c (header_of c.bytes) refl ok
 pub accepts : (c : Contained) → IsAccepted c → IsContainer c
 unfolding container_of
 accepts c a = rw (a.header, a.tests, a.sections, a.loader) refl
-
-judged_bytes : (bytes : List ℕ) (h : Header) (c : Contained) → judged bytes h ≡ Ok c → bytes ≡ c.bytes
-judged_bytes bytes h c ok =
-    let a = unless_ok (first_met (header_tests h (length bytes))) _ c ok in
-    let b = unless_ok (first_among (section_refusal bytes h) 0 h.section_count) _ c a.1 in
-    (with_loader_ok bytes h (loader_of bytes h) c b.1).2
-
-header_bytes : (bytes : List ℕ) (h : Option Header) (c : Contained) → option_map_or (judged bytes) h (Err TooShort) ≡ Ok c → bytes ≡ c.bytes
-header_bytes bytes None c ok = absurd (cc)
-header_bytes bytes (Some h) c ok = judged_bytes bytes h c ok
-
--- what bytes are read as has those bytes
-pub container_of-bytes : (bytes : List ℕ) (c : Contained) → container_of bytes ≡ Ok c → bytes ≡ c.bytes
-unfolding container_of
-container_of-bytes bytes c ok = header_bytes bytes (header_of bytes) c ok
-
--- and is a container
-pub container_of-ok : (bytes : List ℕ) (c : Contained) → container_of bytes ≡ Ok c → IsContainer c
-container_of-ok bytes c ok =
-    let P : List ℕ → Type 0 = λ bytes. container_of bytes ≡ Ok c in
-    subst P (container_of-bytes bytes c ok) ok
 
 module _ (c : Contained) (i : ℕ) (s : SectionHeader) (ok : IsContainer c) (under : i < c.header.section_count) (there : section_at c.bytes i ≡ Some s) where
   unmet : first_met (section_tests (is_instantiated c.header i) s (length c.bytes)) ≡ None
@@ -107,41 +83,3 @@ pub section_header_is : (c : Contained) (i : ℕ) → IsContainer c → i < c.he
 section_header_is c i ok under =
     let here = unrefused c.bytes c.header i (accepted c ok).sections under in
     (here.header, here.at)
-
--- a section is its header and its raw bytes
-pub section_of-at : (c : Contained) (i : ℕ) (s : SectionHeader) → i < c.header.section_count → section_at c.bytes i ≡ Some s → section_of c i ≡ Some (section_in c.bytes s)
-unfolding section_of
-section_of-at c i s under there = rw (lt-ltb i c.header.section_count under, there) refl
-
--- each section below the count is there
-pub section_there : (c : Contained) (i : ℕ) → IsContainer c → i < c.header.section_count → (s : Section) × (section_of c i ≡ Some s)
-section_there c i ok under =
-    let here = section_header_is c i ok under in
-    (section_in c.bytes here.0, section_of-at c i here.0 under here.1)
-
--- what is known of section i of a container
-pub record IsSection (c : Contained) (i : ℕ) (s : Section) : Type 0 where
-  pub below : i < c.header.section_count
-  pub header : section_at c.bytes i ≡ Some s.header
-  pub raw : s.raw ≡ raw_of c.bytes s.header
-  pub whole : length s.raw ≡ s.header.packed_size
-  pub instantiated : i < c.header.instantiated_section_count → IsInstantiable s
-
-section_if : (c : Contained) (i : ℕ) (s : Section) (b : Bool) (h : Option SectionHeader) → nat_lt i c.header.section_count ≡ b → section_at c.bytes i ≡ h → (if b then option_map (section_in c.bytes) h else None) ≡ Some s → IsContainer c → IsSection c i s
-section_if c i s false h under there is ok = absurd (cc)
-section_if c i s true None under there is ok = absurd (cc)
-section_if c i s true (Some h) under there is ok =
-    let below = ltb-true i c.header.section_count under in
-    let P : Section → Type 0 = λ s. IsSection c i s in
-    subst P (ap (λ o. option_map_or (λ x. x) o (section_in c.bytes h)) is) (record {
-      below = below;
-      header = there;
-      raw = refl;
-      whole = raw_whole c i h ok below there;
-      instantiated = instantiable c i h ok below there;
-    })
-
--- each section of a container is such a one
-pub section_is : (c : Contained) (i : ℕ) (s : Section) → IsContainer c → section_of c i ≡ Some s → IsSection c i s
-unfolding section_of
-section_is c i s ok is = section_if c i s (nat_lt i c.header.section_count) (section_at c.bytes i) refl refl is ok

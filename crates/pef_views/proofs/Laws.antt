@@ -1,7 +1,5 @@
 -- What this crate offers to the proofs of others: facts of containers, as `specs/` defines them.
 
--- each section below the count is there
-pub use Rattle.pef_views.proofs.Containers.{section_there}
 -- no more sections are instantiated than there are
 pub use Rattle.pef_views.proofs.Containers.{counts}
 -- bytes that were written by the grammar are read as that container

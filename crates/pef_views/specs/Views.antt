@@ -9,8 +9,8 @@ abbrev pub contained : Container → Contained
 contained c = record { bytes = c.cut.bytes.now; header = c.header; loader = c.loader.now }
 
 -- the header of the section that a view shows
-abbrev pub headed : SectionView → SectionHeader
-headed s = record {
+abbrev pub header_seen : SectionView → SectionHeader
+header_seen s = record {
   name_offset = s.name_offset;
   default_address = s.default_address;
   total_size = s.total_size;
@@ -25,4 +25,4 @@ headed s = record {
 
 -- the section that a view shows
 abbrev pub seen : SectionView → Section
-seen s = record { header = headed s; raw = s.raw.now }
+seen s = record { header = header_seen s; raw = s.raw.now }

@@ -1,7 +1,7 @@
 -- Certificates for the sections of a script: their programs are programs for the sections, and least ones.
 use Rattle.std.proofs.Common.{◌≡◌, ◌∙◌, ℕ, suc, ◌+◌, ◌<◌, Bool, true, false, ◌&&◌, ◌||◌, List, [], ◌∷◌, ◌++◌, get_or, length, take, map, refl, sym, ap, subst, arith}
 use Rattle.std.specs.List.{All, AllByRecursion}
-use Rattle.std.proofs.lemmas.Bool.{eqb-true, lt-ltb}
+use Rattle.std.proofs.lemmas.Bool.{and_from, and_parts, eqb-true, lt-ltb}
 use Rattle.std.proofs.lemmas.List.{length-take-le, take_more}
 use Rattle.std.proofs.lemmas.List.Elements.{All-cons}
 use Rattle.pef_labels.specs.Certified.{Certified}
@@ -16,7 +16,6 @@ use Rattle.pef_reloc.specs.Instrs.{instrs_fit, repeat_free}
 use Rattle.pef_reloc.specs.Steps.{Least, all_below, named_sections, names_below}
 use Rattle.pef_script.specs.Script.{DescribedSection}
 use Rattle.pef_script.specs.WellFormed.{BaseThere, SectionHolds}
-use Rattle.pef_words.proofs.Laws.Tests.{both_met, met_both}
 use Rattle.pef_write.specs.Linked.{AreCertified, AreProgramsFor, IsCertified, IsProgramFor}
 
 -- a section that fixups use is there
@@ -36,15 +35,15 @@ used_there n j k (f ∷ fixups) there used = by (is_section k f.base) refl used 
 all_there : (n j : ℕ) (fixups : List Fixup) (ks : List ℕ) → AllByRecursion (λ (fixup : Fixup). BaseThere n j fixup.base) fixups → all_meet (uses_section fixups) ks ≡ true → all_below n ks ≡ true
 all_there n j fixups [] there used = refl
 all_there n j fixups (k ∷ ks) there used =
-    let parts = met_both (uses_section fixups k) (all_meet (uses_section fixups) ks) used in
-    both_met _ _ (lt-ltb k n (used_there n j k fixups there parts.0)) (all_there n j fixups ks there parts.1)
+    let parts = and_parts (uses_section fixups k) (all_meet (uses_section fixups) ks) used in
+    and_from _ _ (lt-ltb k n (used_there n j k fixups there parts.0)) (all_there n j fixups ks there parts.1)
 
 names_there : (n j : ℕ) (fixups : List Fixup) (instrs : List Instr) → AllByRecursion (λ (fixup : Fixup). BaseThere n j fixup.base) fixups → names_used fixups instrs ≡ true → names_below n instrs ≡ true
 names_there n j fixups [] there used = refl
 names_there n j fixups (x ∷ instrs) there used =
-    let parts = met_both (all_meet (uses_section fixups) (named_sections x) && all_meet (uses_import fixups) (named_imports x)) (names_used fixups instrs) used in
-    let own = met_both (all_meet (uses_section fixups) (named_sections x)) (all_meet (uses_import fixups) (named_imports x)) parts.0 in
-    both_met (all_below n (named_sections x)) (names_below n instrs) (all_there n j fixups (named_sections x) there own.0) (names_there n j fixups instrs there parts.1)
+    let parts = and_parts (all_meet (uses_section fixups) (named_sections x) && all_meet (uses_import fixups) (named_imports x)) (names_used fixups instrs) used in
+    let own = and_parts (all_meet (uses_section fixups) (named_sections x)) (all_meet (uses_import fixups) (named_imports x)) parts.0 in
+    and_from (all_below n (named_sections x)) (names_below n instrs) (all_there n j fixups (named_sections x) there own.0) (names_there n j fixups instrs there parts.1)
 
 -- a certified program is a least one
 pub certified_least : (n j k : ℕ) (s : DescribedSection) (c : Certified) → SectionHolds n j s → IsCertified k s.fixups c → Least s.fixups c.program
@@ -74,7 +73,7 @@ certified_fit k [] [] are = λ i d under. absurd (omega arith)
 certified_fit k [] (c ∷ certificates) are = absurd are
 certified_fit k (s ∷ sections) [] are = absurd are
 certified_fit k (s ∷ sections) (c ∷ certificates) are =
-    All-cons (λ (c : Certified). instrs_fit c.program ≡ true) c certificates (met_both (repeat_free c.program) (instrs_fit c.program) are.0.valid.flat).1 (certified_fit (k + 1) sections certificates are.1)
+    All-cons (λ (c : Certified). instrs_fit c.program ≡ true) c certificates (and_parts (repeat_free c.program) (instrs_fit c.program) are.0.valid.flat).1 (certified_fit (k + 1) sections certificates are.1)
 
 -- one certificate more, for the section behind
 certified_behind : (k : ℕ) (sections : List DescribedSection) (certificates : List Certified) (s : DescribedSection) (c : Certified) → AreCertified k sections certificates → IsCertified (k + length sections) s.fixups c → AreCertified k (sections ++ s ∷ []) (certificates ++ c ∷ [])

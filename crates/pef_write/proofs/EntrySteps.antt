@@ -11,11 +11,11 @@ use Rattle.pef_script.specs.declared.parts.LibraryData.{LibraryData}
 use Rattle.pef_script.specs.declared.parts.Parts.{Parts}
 use Rattle.pef_script.specs.Parts.{export_of, import_of, library_of, script_in}
 use Rattle.pef_script.specs.Script.{DescribedExport, DescribedImport, DescribedLibrary, DescribedScript}
+use Rattle.pef_words.proofs.Laws.Lists.{drop-here}
 use Rattle.pef_write.specs.Fields.{spelled}
 use Rattle.pef_write.specs.Linked.{exports_at, libraries_from, linked_export, linked_import, linked_library, no_export}
 use Rattle.pef_write.specs.Loaders.{export_entry, export_fields, import_entry, import_fields, library_entry, library_fields, zero_ended}
 use Rattle.pef_write.proofs.Fields.{spelled-append}
-use Rattle.pef_write.proofs.Listing.{drop-here}
 
 -- what is found of the parts of a script is found of the script
 pub library-found : (p : Parts) (s : DescribedScript) (k : ℕ) (e : Option (Bor (List ℕ) × LibraryData)) → script_in p ≡ s → e ≡ slice_get p.libraries.entries k → slice_get s.libraries k ≡ option_map library_of e

@@ -33,11 +33,11 @@ sum-joined (name ∷ names) =
     omega (arith, sum_by-cons (λ n. n) (length name) (map length names), length-append name (joined names), sum-joined names)
 
 -- where no name is left, all bytes and all lengths are there
-pub all_joined : (names : List (List ℕ)) (bytes lengths : List ℕ) → slice_get names (length lengths) ≡ None → bytes ++ joined (drop (length lengths) names) ≡ joined names → lengths ++ map length (drop (length lengths) names) ≡ map length names
+pub all_joined : (names : List (List ℕ)) (k : ℕ) (bytes lengths : List ℕ) → slice_get names k ≡ None → bytes ++ joined (drop k names) ≡ joined names → lengths ++ map length (drop k names) ≡ map length names
     → (bytes ≡ joined names) × (lengths ≡ map length names)
-all_joined names bytes lengths none bytes_are lengths_are =
-    let past = none_past names (length lengths) none in
-    (finished bytes (joined (drop (length lengths) names)) (joined names) (ap joined (drop_all (length lengths) names past)) bytes_are, mapped-all length names (length lengths) lengths (map length names) past lengths_are)
+all_joined names k bytes lengths none bytes_are lengths_are =
+    let past = none_past names k none in
+    (finished bytes (joined (drop k names)) (joined names) (ap joined (drop_all k names past)) bytes_are, mapped-all length names k lengths (map length names) past lengths_are)
 
 -- the power of a table
 pub power_small : (names : List (List ℕ)) → (built names).power ≤ 16

@@ -1,9 +1,8 @@
 -- What spelled fields are read back as.
-use Rattle.std.proofs.Common.{◌≡◌, ◌∙◌, ℕ, ◌+◌, ◌-◌, ◌<◌, ◌≤◌, ◌^◌, List, [], ◌∷◌, ◌++◌, Some, length, take, drop, get_or, replicate, length-append, append-nil, append_assoc, refl, sym, ap, ap₂, subst, arith}
+use Rattle.std.proofs.Common.{◌≡◌, ◌∙◌, ℕ, ◌+◌, ◌-◌, ◌<◌, ◌^◌, List, [], ◌∷◌, ◌++◌, Some, length, take, replicate, length-append, append-nil, append_assoc, refl, sym, ap, ap₂, subst, arith}
 use Rattle.std.specs.Int.{next_multiple_of}
 use Rattle.std.proofs.lemmas.Bool.{le-leb}
-use Rattle.std.proofs.lemmas.List.{drop_at, drop_more, drop_all, length-replicate, take_all}
-use Rattle.std.specs.Prelude.{Result, Ok, Err, OnOk}
+use Rattle.std.proofs.lemmas.List.{drop_at, length-replicate, take_all}
 use Rattle.byteorder.specs.Endian.{big_bytes}
 use Rattle.byteorder.specs.Numbers.{big_number-reads_back, length-bytes_high_first}
 use Rattle.pef_words.specs.Bytes.{number_at}
@@ -14,6 +13,13 @@ use Rattle.pef_write.specs.Kept.Fits.{AllFit, Reads}
 -- the next multiple is as far as what lies before it and the gap
 next_from : (n multiple : ℕ) → n + (next_multiple_of n multiple - n) ≡ next_multiple_of n multiple
 next_from n multiple = omega arith
+
+-- four parts, and a part within a part, as parts one behind the other
+pub outward : (a b c d : List ℕ) → ((a ++ b) ++ c) ++ d ≡ a ++ (b ++ (c ++ d))
+outward a b c d = simp append_assoc
+
+pub inward : (a b c d e : List ℕ) → a ++ ((b ++ (c ++ d)) ++ e) ≡ (a ++ b) ++ (c ++ (d ++ e))
+inward a b c d e = simp append_assoc
 
 -- what is written and what is left make the whole, also when one more part is written
 pub one_more : (before part now left rest whole : List ℕ) → now ≡ before ++ part → left ≡ part ++ rest → before ++ left ≡ whole → now ++ rest ≡ whole
@@ -41,20 +47,6 @@ unfolding padded
 resized multiple n len bytes end whole =
     let front = take_all n bytes (omega arith) in
     rw (front, end, whole) refl
-
--- what follows from success
-pub on_ok : {E P Q : Type 0} (r : Result (Unit {0}) E) → (P → Q) → OnOk r P → OnOk r Q
-on_ok (Ok x) so ok = so ok
-on_ok (Err e) so ok = tt
-
--- one field, and those behind it
-pub spelled-more : (fields : List Field) (i : ℕ) (d : Field) → i < length fields → spelled (drop i fields) ≡ field_bytes (get_or fields i d) ++ spelled (drop (i + 1) fields)
-unfolding spelled
-spelled-more fields i d under = ap spelled (drop_more fields i d under)
-
-pub spelled-end : (fields : List Field) (i : ℕ) → length fields ≤ i → spelled (drop i fields) ≡ []
-unfolding spelled
-spelled-end fields i past = ap spelled (drop_all i fields past)
 
 -- fields behind fields are spelled behind them
 pub spelled-append : (xs ys : List Field) → spelled (xs ++ ys) ≡ spelled xs ++ spelled ys

@@ -22,6 +22,7 @@ use Rattle.pef_script.specs.Script.{DescribedExport, DescribedImport, DescribedL
 use Rattle.pef_script.specs.WellFormed.{EntryHolds, ExportHolds, ImportHolds, LibraryHolds, ScriptHolds, SectionHolds, SignedPlaceHolds, is_kind, is_options, is_share, totals_of}
 use Rattle.pef_words.proofs.Laws.Lists.{all-at}
 use Rattle.pef_views.specs.Section.{is_instantiable}
+use Rattle.pef_reloc.proofs.Laws.{length-spelled}
 use Rattle.pef_write.specs.Containers.{DescribedPart}
 use Rattle.pef_write.specs.Linked.{AreProgramsFor, IsProgramFor, exports_at, libraries_from, linked_export, linked_import, linked_library, linked_loader, linked_parts, linked_tables, no_export, part_of, program_of, programs_from, script_tables}
 use Rattle.pef_write.specs.Loaders.{LoaderTables, ProgramEntry, program_bytes, strings_of, written_loader, zero_ended}
@@ -29,7 +30,7 @@ use Rattle.pef_write.specs.Kept.Fits.{AreWritable, EntryFits, ExportFits, IsWrit
 use Rattle.pef_write.proofs.Containers.{container_size}
 use Rattle.pef_write.proofs.ExportNames.{keys_small, length-keys, length-order, length-slots, order_below, power_small, slots_small}
 use Rattle.pef_write.proofs.Loaders.{length-table_fields, length-written_loader}
-use Rattle.pef_write.proofs.Programs.{length-spelled, short_program}
+use Rattle.pef_write.proofs.Programs.{short_program}
 use Rattle.pef_script.specs.Limits.{longest_name}
 
 -- how many bytes each section has

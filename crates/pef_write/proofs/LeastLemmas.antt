@@ -1,7 +1,7 @@
 -- The relocation programs of what is linked are least ones.
-use Rattle.std.proofs.Common.{◌≡◌, ◌≢◌, ◌∙◌, ℕ, zero, suc, ◌+◌, ◌<◌, ◌==◌, Bool, true, false, List, [], ◌∷◌, ◌++◌, Some, option_map, slice_get, length, append-nil, eq-eqb, refl, sym, ap, ap₂, subst, arith}
-use Rattle.std.specs.List.{AllByRecursion, filter}
-use Rattle.std.proofs.lemmas.Bool.{eqb-true}
+use Rattle.std.proofs.Common.{◌≡◌, ◌≢◌, ◌∙◌, ℕ, zero, suc, ◌+◌, ◌<◌, ◌==◌, List, [], ◌∷◌, ◌++◌, Some, option_map, slice_get, length, append-nil, eq-eqb, refl, sym, ap, ap₂, subst, arith}
+use Rattle.std.specs.List.{filter}
+use Rattle.std.proofs.lemmas.Bool.{ne_eqb}
 use Rattle.std.proofs.lemmas.List.Elements.{filter-append}
 use Rattle.std.proofs.lemmas.Option.{slice_get-map}
 use Rattle.pef_labels.specs.Certified.{Certified}
@@ -20,13 +20,6 @@ use Rattle.pef_write.proofs.Certificates.{certified_least}
 abbrev own_of : ℕ → List ProgramEntry → List ProgramEntry
 own_of k programs = filter (λ p. p.section == k) programs
 
-eq_other : (a b : ℕ) → a ≢ b → (a == b) ≡ false
-eq_other a b other = by (a == b) refl
-  where
-    by : (same : Bool) → (a == b) ≡ same → same ≡ false
-    by true same = absurd (other (eqb-true a b same))
-    by false same = refl
-
 -- a program of its own section, and of another
 own_same : (k : ℕ) (fixups : List Fixup) (instrs : List Instr) → own_of k (program_of k fixups instrs) ≡ program_of k fixups instrs
 own_same k [] instrs = refl
@@ -34,7 +27,7 @@ own_same k (f ∷ fixups) instrs = rw (eq-eqb k k refl) refl
 
 own_other : (k j : ℕ) (fixups : List Fixup) (instrs : List Instr) → j ≢ k → own_of k (program_of j fixups instrs) ≡ []
 own_other k j [] instrs other = refl
-own_other k j (f ∷ fixups) instrs other = rw (eq_other j k other) refl
+own_other k j (f ∷ fixups) instrs other = rw (ne_eqb j k other) refl
 
 -- sections past a number have no program of it
 own_past : (k from : ℕ) (sections : List DescribedSection) (programs : List (List Instr)) → k < from → own_of k (programs_from from sections programs) ≡ []
@@ -78,20 +71,6 @@ certificate_at from (suc i) (s ∷ sections) (c ∷ certificates) section are th
     let later = certificate_at (from + 1) i sections certificates section are.1 there in
     let at : from + 1 + i ≡ from + suc i = omega arith in
     record { certificate = later.certificate; there = later.there; is = subst (λ n. IsCertified n section.fixups later.certificate) at later.is }
-
--- what holds of each certificate of what is linked, where it holds of one for a section
-pub each_certified : (P : Certified → Type 0) (from : ℕ) (sections : List DescribedSection) (certificates : List Certified) → AreCertified from sections certificates
-    → ((k : ℕ) (section : DescribedSection) (c : Certified) → slice_get sections k ≡ Some section → IsCertified (from + k) section.fixups c → P c) → AllByRecursion P certificates
-each_certified P from [] [] are one = tt
-each_certified P from [] (c ∷ certificates) are one = absurd are
-each_certified P from (s ∷ sections) [] are one = absurd are
-each_certified P from (s ∷ sections) (c ∷ certificates) are one =
-    let at : from ≡ from + 0 = omega arith in (
-      one 0 s c refl (subst (λ n. IsCertified n s.fixups c) at are.0),
-      each_certified P (from + 1) sections certificates are.1 (λ k section d there is.
-          let next : from + 1 + k ≡ from + suc k = omega arith in
-          one (suc k) section d there (subst (λ n. IsCertified n section.fixups d) next is)),
-    )
 
 pub least_program : (s : DescribedScript) (l : LinkedContainer) (linked : IsLinked s l) (k : ℕ) (section : DescribedSection) → slice_get s.sections k ≡ Some section → HasLeastProgram s l linked k section
 least_program s l linked k section there =

@@ -1,8 +1,6 @@
 -- The relocation programs of what is linked relocate their sections, and aren't refused.
 use Rattle.std.proofs.Common.{◌≡◌, ◌∙◌, ℕ, zero, suc, ◌+◌, true, List, [], ◌∷◌, ◌++◌, Some, length, map, slice_get, refl, ap, subst, sym, arith}
 use Rattle.std.specs.List.{AllByRecursion}
-use Rattle.pef_reloc.specs.declared.fixup.Base.{Base}
-use Rattle.pef_reloc.specs.declared.fixup.Base.TheVariants.{Section, Import}
 use Rattle.pef_reloc.specs.declared.fixup.Fixup.{Fixup}
 use Rattle.pef_reloc.specs.declared.instr.Instr.{Instr}
 use Rattle.pef_reloc.specs.Additions.{IsThere}
@@ -14,14 +12,10 @@ use Rattle.pef_reloc.proofs.Laws.Additions.{additions-done, fixups-inside}
 use Rattle.pef_script.specs.Script.{DescribedScript, DescribedSection}
 use Rattle.pef_script.specs.WellFormed.{BaseThere, SectionHolds}
 use Rattle.pef_words.proofs.Laws.Lists.{all-get, all-weaker}
+use Rattle.pef_script.proofs.Laws.{base_there}
 use Rattle.pef_write.specs.Linked.{AreProgramsFor, IsLinked, IsProgramFor, LinkedContainer, program_of, programs_from}
 use Rattle.pef_write.specs.Loaders.{ProgramEntry}
 use Rattle.pef_write.specs.ReadBack.{IsSectionProgram, Relocates}
-
--- a base of a script is there where its sections and its imports have addresses
-is_there : (a : Addresses) (base : Base) → BaseThere (length a.sections) (length a.imports) base → IsThere a base
-is_there a (Section k) there = there
-is_there a (Import j) there = there
 
 -- a program for a section's fixups relocates the section
 pub relocates : (s : DescribedScript) (section : DescribedSection) (instrs : List Instr) → SectionHolds (length s.sections) (length s.imports) section → IsProgramFor (length s.sections) section.fixups instrs → Relocates s section (spelled instrs)
@@ -37,7 +31,7 @@ relocates s section instrs holds program =
           let P : ℕ → Type 0 = λ n. AllByRecursion (λ (fixup : Fixup). BaseThere n (length s.imports) fixup.base) section.fixups in
           let Q : ℕ → Type 0 = λ n. AllByRecursion (λ (fixup : Fixup). BaseThere (length a.sections) n fixup.base) section.fixups in
           let bases = subst Q (sym imports) (subst P (sym sections) holds.bases) in
-          let there = all-weaker (λ (fixup : Fixup). BaseThere (length a.sections) (length a.imports) fixup.base) (λ (fixup : Fixup). IsThere a fixup.base) section.fixups (λ fixup. is_there a fixup.base) bases in
+          let there = all-weaker (λ (fixup : Fixup). BaseThere (length a.sections) (length a.imports) fixup.base) (λ (fixup : Fixup). IsThere a fixup.base) section.fixups (λ fixup. base_there a fixup.base) bases in
           let inside = fixups-inside a 0 (length memory) section.fixups few.apart (omega (arith, holds.inside, whole)) there in
           ap (λ (d : Done). d.fault) (does a memory sections ∙ additions-done a section.fixups memory inside);
     }

@@ -3,7 +3,7 @@
 use Rattle.std.proofs.Common.{◌≡◌, ◌≢◌, ◌∙◌, ℕ, suc, zero, ℤ, pos, negsuc, ◌+◌, ◌/◌, ◌^◌, ◌<◌, ◌≤◌, true, List, [], ◌∷◌, ◌++◌, Option, None, Some, length, map, get_or, slice_get, ap, arith}
 use Rattle.std.specs.Prelude.{IfSome, nat_lt}
 use Rattle.std.specs.List.{All, AllByRecursion, AllZip, list_all, position_from}
-use Rattle.std.proofs.lemmas.Bool.{le-leb, le-ltb, lt-ltb}
+use Rattle.std.proofs.lemmas.Bool.{and_parts, le-leb, le-ltb, lt-ltb}
 use Rattle.std.proofs.lemmas.Iterator.Adapters.{position_from-zero}
 use Rattle.std.proofs.lemmas.List.{get_or-map, length-map}
 use Rattle.std.proofs.lemmas.List.Elements.{All-cons, All-map}
@@ -21,7 +21,6 @@ use Rattle.pef_script.specs.Script.{export_names}
 use Rattle.pef_lines.specs.Words.{is_printing}
 use Rattle.pef_script.specs.WellFormed.{EntryHolds, ExportHolds, ImportHolds, LibraryHolds, Rises, ScriptHolds, SignedPlaceHolds, totals_of}
 use Rattle.pef_words.proofs.Laws.Lists.{all-at, all-get}
-use Rattle.pef_words.proofs.Laws.Tests.{met_both}
 use Rattle.pef_write.specs.Linked.{AreProgramsFor, exports_at, libraries_from, linked_export, linked_import, linked_library, linked_tables, no_export, program_of, programs_from, script_tables}
 use Rattle.pef_write.specs.Loaders.{ProgramEntry}
 use Rattle.pef_write.specs.Kept.Tables.{AreTables, IsBelow, first_owner, has_import}
@@ -34,7 +33,7 @@ use Rattle.pef_write.proofs.Listing.{gotten}
 no_zero : (name : List ℕ) → list_all is_printing name ≡ true → All (λ b. b ≢ 0) name
 no_zero [] printing = λ k d under. absurd (omega arith)
 no_zero (b ∷ name) printing =
-    let parts = met_both (is_printing b) (list_all is_printing name) printing in
+    let parts = and_parts (is_printing b) (list_all is_printing name) printing in
     All-cons (λ b. b ≢ 0) b name (printing_some b parts.0) (no_zero name parts.1)
   where
     printing_some : (b : ℕ) → is_printing b ≡ true → b ≢ 0

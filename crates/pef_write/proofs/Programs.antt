@@ -1,27 +1,21 @@
 -- The programs of a script's sections: their lengths, and those that have bytes.
-use Rattle.std.proofs.Common.{◌≡◌, ◌∙◌, ℕ, ◌+◌, ◌*◌, ◌/◌, ◌≤◌, List, [], ◌∷◌, ◌++◌, length, map, length-append, refl, sym, ap, ap₂, subst, arith}
+use Rattle.std.proofs.Common.{◌≡◌, ◌∙◌, ℕ, ◌+◌, ◌*◌, ◌/◌, ◌≤◌, List, [], ◌∷◌, ◌++◌, length, map, refl, sym, ap, ap₂, subst, arith}
 use Rattle.std.specs.List.{All, AllByRecursion}
 use Rattle.std.proofs.lemmas.List.Elements.{All-cons}
 use Rattle.pef_reloc.specs.declared.fixup.Fixup.{Fixup}
 use Rattle.pef_reloc.specs.declared.instr.Instr.{Instr}
-use Rattle.pef_reloc.specs.Instrs.{halfword_bytes, halfwords_of, instrs_fit, program_length, repeat_free, spelled}
+use Rattle.pef_reloc.specs.Instrs.{instrs_fit, program_length, repeat_free, spelled}
 use Rattle.pef_reloc.specs.Limits.{most_fixups}
 use Rattle.pef_reloc.specs.Steps.{Makes}
 use Rattle.pef_reloc.specs.Unrolled.{instrs_of}
-use Rattle.pef_words.proofs.Laws.Tests.{met_both}
-use Rattle.pef_reloc.proofs.Laws.{fixups_fit-parts}
-use Rattle.pef_reloc.proofs.Laws.{instrs_of-spelled, length_spelling}
-use Rattle.pef_reloc.proofs.Laws.{spelled-nothing, spelled-one}
+use Rattle.pef_reloc.proofs.Laws.{fixups_fit-parts, length-spelled}
+use Rattle.pef_reloc.proofs.Laws.{instrs_of-spelled}
+use Rattle.pef_reloc.proofs.Laws.{spelled-nothing}
 use Rattle.pef_script.specs.Script.{DescribedSection}
 use Rattle.pef_script.specs.WellFormed.{SectionHolds}
+use Rattle.std.proofs.lemmas.Bool.{and_parts}
 use Rattle.pef_write.specs.Linked.{AreProgramsFor, IsProgramFor, program_of, programs_from}
 use Rattle.pef_write.specs.Kept.Encoded.{nonempty, nonempty_from}
-
--- each instruction has one or two halfwords, of two bytes each
-pub length-spelled : (instrs : List Instr) → length (spelled instrs) ≡ 2 * program_length instrs
-length-spelled [] = ap length spelled-nothing
-length-spelled (x ∷ instrs) =
-    omega (arith, ap length (spelled-one x instrs) ∙ length-append (halfword_bytes (halfwords_of x)) (spelled instrs), length_spelling x, length-spelled instrs)
 
 -- a program for no fixups is empty, and one for some is not
 no_bytes : (n : ℕ) (instrs : List Instr) → IsProgramFor n [] instrs → spelled instrs ≡ []
@@ -36,7 +30,7 @@ some_bytes n f fixups instrs is = by (spelled instrs) refl
   where
     by : (bytes : List ℕ) → bytes ≡ spelled instrs → 1 ≤ length bytes
     by [] none =
-        let fits = (met_both (repeat_free instrs) (instrs_fit instrs) is.flat).1 in
+        let fits = (and_parts (repeat_free instrs) (instrs_fit instrs) is.flat).1 in
         let nothing : instrs ≡ [] = sym (instrs_of-spelled instrs fits) ∙ ap instrs_of (sym none ∙ sym spelled-nothing) ∙ instrs_of-spelled [] refl in
         let made : Makes (f ∷ fixups) [] = subst (Makes (f ∷ fixups)) nothing is.makes in
         absurd (cc)

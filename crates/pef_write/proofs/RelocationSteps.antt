@@ -16,9 +16,6 @@ pub program_bytes-more : (programs : List SectionProgram) (i : ℕ) → i < leng
     → program_bytes (map program_entry (drop i programs)) ≡ (get_or programs i no_program).bytes.now ++ program_bytes (map program_entry (drop (i + 1) programs))
 program_bytes-more programs i under = ap (λ rest. program_bytes (map program_entry rest)) (drop_more programs i no_program under)
 
-pub program_bytes-end : (programs : List SectionProgram) (i : ℕ) → length programs ≤ i → program_bytes (map program_entry (drop i programs)) ≡ []
-program_bytes-end programs i past = ap (λ rest. program_bytes (map program_entry rest)) (drop_all i programs past)
-
 pub length-program_bytes-more : (programs : List SectionProgram) (i : ℕ) → i < length programs
     → length (program_bytes (map program_entry (drop i programs))) ≡ length (get_or programs i no_program).bytes.now + length (program_bytes (map program_entry (drop (i + 1) programs)))
 length-program_bytes-more programs i under = ap length (program_bytes-more programs i under) ∙ length-append (get_or programs i no_program).bytes.now (program_bytes (map program_entry (drop (i + 1) programs)))

@@ -14,7 +14,7 @@ use Rattle.pef_write.specs.declared.field.Field.TheVariants.{Word}
 use Rattle.pef_write.specs.Loaders.{ProgramEntry, export_entry, export_fields, import_entry, import_fields, library_entry, library_fields, program_fields, relocation_entry}
 use Rattle.pef_write.specs.Kept.Fits.{Reads}
 use Rattle.pef_write.specs.Kept.Tables.{HasNoZero}
-use Rattle.pef_write.proofs.Fields.{reads-at, reads-split, widths}
+use Rattle.pef_write.proofs.Fields.{inward, reads-at, reads-split, widths}
 
 -- a part of some bytes, at a place
 pub record Stands (bytes part : List ℕ) (at : ℕ) : Type 0 where
@@ -30,15 +30,12 @@ stands-front xs ys = record { before = []; behind = ys; is = refl; far = refl }
 pub stands-end : (xs ys : List ℕ) → Stands (xs ++ ys) ys (length xs)
 stands-end xs ys = record { before = xs; behind = []; is = ap (λ z. xs ++ z) (sym (append-nil ys)); far = refl }
 
-inner : (a b p d e : List ℕ) → a ++ ((b ++ (p ++ d)) ++ e) ≡ (a ++ b) ++ (p ++ (d ++ e))
-inner a b p d e = simp append_assoc
-
 -- a part of a part
 pub stands-in : (bytes xs part : List ℕ) (at off : ℕ) → Stands bytes xs at → Stands xs part off → Stands bytes part (at + off)
 stands-in bytes xs part at off outer within = record {
   before = outer.before ++ within.before;
   behind = within.behind ++ outer.behind;
-  is = outer.is ∙ ap (λ z. outer.before ++ (z ++ outer.behind)) within.is ∙ inner outer.before within.before part within.behind outer.behind;
+  is = outer.is ∙ ap (λ z. outer.before ++ (z ++ outer.behind)) within.is ∙ inward outer.before within.before part within.behind outer.behind;
   far = (let joined = length-append outer.before within.before in let a = outer.far in let b = within.far in omega (arith, joined, a, b));
 }
 

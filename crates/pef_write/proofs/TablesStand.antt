@@ -1,5 +1,5 @@
 -- What stands where in a written loader section.
-use Rattle.std.proofs.Common.{◌≡◌, ℕ, suc, ◌+◌, ◌*◌, ◌-◌, ◌<◌, ◌≤◌, ◌^◌, List, [], ◌∷◌, ◌++◌, Some, length, take, drop, map, replicate, length-append, append-nil, append_assoc, sym, subst, arith}
+use Rattle.std.proofs.Common.{◌≡◌, ℕ, suc, ◌+◌, ◌*◌, ◌-◌, ◌<◌, ◌≤◌, ◌^◌, List, [], ◌∷◌, ◌++◌, Some, length, take, drop, map, replicate, length-append, append-nil, sym, subst, arith}
 use Rattle.std.specs.Prelude.{Bool, true, false, slice_get}
 use Rattle.std.specs.Int.{next_multiple_of}
 use Rattle.std.specs.List.{All, flat_map}
@@ -11,7 +11,7 @@ use Rattle.pef_write.specs.declared.field.Field.TheVariants.{Word}
 use Rattle.pef_write.specs.Fields.{padded, spelled}
 use Rattle.pef_write.specs.Loaders.{LoaderTables, ProgramEntry, class_byte, entry_fields, export_entry, export_fields, export_names_from, exports_from, front_fields, header_fields, import_entry, import_fields, import_names_from, library_entry, library_fields, program_bytes, program_fields, programs_from, relocation_entry, strings_from, strings_of, table_fields, written_loader, zero_ended}
 use Rattle.pef_write.specs.Kept.Fits.{AllFit, ExportFits, LibraryFits, ProgramFits, Reads, TablesFit}
-use Rattle.pef_write.proofs.Fields.{fit-append, reads, reads-at, reads-split, widths, widths-length}
+use Rattle.pef_write.proofs.Fields.{fit-append, outward, reads, reads-at, reads-split, widths, widths-length}
 use Rattle.pef_write.proofs.Loaders.{front_of, length-front_fields, length-front_of, length-import_fields, length-library_fields, length-loader_header, length-table_fields, length-words, length-written_loader}
 use Rattle.pef_write.proofs.Standing.{Stands, exports-table, flat_map-map, import_name, imports-table, libraries-table, library_name, programs-table, stands-among, stands-end, stands-front, stands-in, table-entry, words-table}
 
@@ -72,9 +72,6 @@ fit-exports at limit (e ∷ exports) each inside small =
     let joined = length-append e.name (flat_map (λ e. e.name) exports) in
     let later = fit-exports (at + length e.name) limit exports (λ k d under. each (suc k) d (omega arith)) (omega arith) small in
     (omega arith, (omega arith, (omega arith, later)))
-
-outward : (f r z t : List ℕ) → ((f ++ r) ++ z) ++ t ≡ f ++ (r ++ (z ++ t))
-outward f r z t = simp append_assoc
 
 -- the zeros before the export table
 abbrev table_zeros : LoaderTables → List ℕ

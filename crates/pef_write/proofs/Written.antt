@@ -21,7 +21,7 @@ use Rattle.pef_write.specs.Fields.{padded, spelled}
 use Rattle.pef_write.specs.Containers.{DescribedPart, data_from, header_fields, laid_out, loader_header, part_header, raw_data, section_fields, spelled_headers, written_container, written_header, written_sections}
 use Rattle.pef_write.specs.Kept.Fits.{AllFit, AreWritable, IsWritable, Reads}
 use Rattle.pef_write.specs.Kept.Tables.{ReadsBack, contained_in}
-use Rattle.pef_write.proofs.Fields.{length-padded, reads}
+use Rattle.pef_write.proofs.Fields.{inward, length-padded, outward, reads}
 use Rattle.pef_write.proofs.Containers.{fronts, length-front, length-header, length-headers, length-laid_out, length-written_container}
 
 -- a header whose fields stand at the front
@@ -165,12 +165,6 @@ unfolding laid_out
 last_is at [] loader = (refl, refl)
 last_is at (p ∷ parts) loader = last_is (at + next_multiple_of (length p.image) 16) parts loader
 
-regroup : (a b c d : List ℕ) → ((a ++ b) ++ c) ++ d ≡ a ++ (b ++ (c ++ d))
-regroup a b c d = simp append_assoc
-
-inward : (a b c d e : List ℕ) → a ++ ((b ++ (c ++ d)) ++ e) ≡ (a ++ b) ++ (c ++ (d ++ e))
-inward a b c d e = simp append_assoc
-
 -- the zeros behind all headers
 abbrev front_zeros : Versions → List DescribedPart → List ℕ → List ℕ
 front_zeros v parts loader = replicate (next_multiple_of (length (fronts v parts loader)) 16 - length (fronts v parts loader)) 0
@@ -203,7 +197,7 @@ module _ (v : Versions) (parts : List DescribedPart) (loader : List ℕ) (w : Ar
       let old_imp = w.old_imp in
       let count = w.count in
       let fits : AllFit (header_fields h) = (omega arith, (omega arith, (omega arith, (omega arith, (omega arith, (omega arith, (omega arith, (omega arith, (omega arith, (omega arith, (omega arith, tt))))))))))) in
-      let all = regroup (spelled (header_fields h)) (spelled_headers (written_sections parts loader)) (front_zeros v parts loader) (raw_data parts loader) in
+      let all = outward (spelled (header_fields h)) (spelled_headers (written_sections parts loader)) (front_zeros v parts loader) (raw_data parts loader) in
       let P : List ℕ → Type 0 = λ bytes. Reads bytes 0 0 (header_fields h) in
       header_if (written_container v parts loader) h (subst P (sym all) (reads [] (spelled_headers (written_sections parts loader) ++ (front_zeros v parts loader ++ raw_data parts loader)) (header_fields h) fits))
 
@@ -217,7 +211,7 @@ module _ (v : Versions) (parts : List DescribedPart) (loader : List ℕ) (w : Ar
       let zeros = front_zeros v parts loader in
       let raw = raw_data parts loader in
       let all : written_container v parts loader ≡ (spelled (header_fields h) ++ place.front) ++ (spelled (section_fields s.header) ++ (place.back ++ (zeros ++ raw))) =
-      regroup (spelled (header_fields h)) (spelled_headers (written_sections parts loader)) zeros raw
+      outward (spelled (header_fields h)) (spelled_headers (written_sections parts loader)) zeros raw
       ∙ ap (λ z. spelled (header_fields h) ++ (z ++ (zeros ++ raw))) place.is
       ∙ inward (spelled (header_fields h)) place.front (spelled (section_fields s.header)) place.back (zeros ++ raw) in
       let far : length (spelled (header_fields h) ++ place.front) ≡ 40 + 28 * i = omega (arith, length-append (spelled (header_fields h)) place.front, length-header h, place.place) in

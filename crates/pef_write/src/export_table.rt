@@ -14,9 +14,11 @@ pub(crate) fn export_table(alloc: Global, script: &Script<'_>) -> Result<Table, 
     let exports = &script.parts().exports;
     let mut names = Vec::new(alloc);
     let mut lengths = Vec::with_capacity(alloc, exports.len())?;
-    'exports: while let Some((name, _)) = exports.get_index(lengths.len()) {
+    let mut k = 0;
+    'exports: while let Some((name, _)) = exports.get_index(k) {
         names.extend_from_slice(name)?;
         lengths.push(name.len() as u8)?;
+        k += 1;
     }
     Ok(build(alloc, &names, &lengths)?)
 }

@@ -4,7 +4,7 @@ use Rattle.pef_loader.specs.Export.{Export}
 use Rattle.pef_loader.specs.Loader.{Loaded, export_of}
 use Rattle.cfm_store.specs.Stores.{Pair}
 use Rattle.cfm_libraries.specs.declared.fault.BindFault.{BindFault}
-use Rattle.cfm_libraries.specs.Faults.{Fails, Refusal}
+use Rattle.cfm_libraries.specs.Faults.{BindRefusal, FailsAs}
 use Rattle.cfm_libraries.specs.Fragments.{import_count}
 use Rattle.cfm_closure.specs.declared.hops.Hop.{Hop as CodeHop}
 use Rattle.cfm_closure.specs.declared.hops.Hop.TheVariants as code
@@ -20,10 +20,10 @@ abbrev pub HasHop : ℕ → Loaded → ℕ → CodeHop → Type 0
 HasHop q l e h = (x : Export) × (export_of l e ≡ Some x) × IsHop h (hop_by q e x.value x.section)
 
 -- an answer is the hop, or the refusal
-abbrev pub LeadsTo : Result CodeHop BindFault → Result Hop Refusal → Type 0
+abbrev pub LeadsTo : Result CodeHop BindFault → Result Hop BindRefusal → Type 0
 LeadsTo (Ok (code.Ends target)) expected = expected ≡ Ok (ends target)
 LeadsTo (Ok (code.Through q k)) expected = (e : ℕ) × (expected ≡ Ok (through q e k))
-LeadsTo (Err e) expected = Fails e expected
+LeadsTo (Err e) expected = FailsAs e expected
 
 -- an import that is passed on is one of so many
 abbrev pub StaysBelow : ℕ → CodeHop → Type 0

@@ -3,16 +3,16 @@ use Rattle.std.specs.Prelude.{◌≡◌, ℕ, ◌<◌, List, [], ◌∷◌, leng
 use Rattle.pef_words.specs.Refusals.{unless}
 use Rattle.cfm_store.specs.Stores.{Pair}
 use Rattle.cfm_libraries.specs.declared.fault.BindFault.{BindFault}
-use Rattle.cfm_libraries.specs.Faults.{Fails, Refusal}
+use Rattle.cfm_libraries.specs.Faults.{BindRefusal, FailsAs}
 use Rattle.cfm_libraries.specs.Fragments.{import_count}
 use Rattle.cfm_libraries.specs.Orders.{IsComplete}
 use Rattle.cfm_closure.specs.declared.targets.Target.{Target}
 use Rattle.cfm_closure.specs.Targets.{exports_in, follow}
 
 -- an answer is that there is no refusal, or it is the refusal
-abbrev pub Passes : {A : Type 0} → Result A BindFault → Option Refusal → Type 0
+abbrev pub Passes : {A : Type 0} → Result A BindFault → Option BindRefusal → Type 0
 Passes (Ok x) refusal = refusal ≡ None
-Passes (Err e) refusal = Fails {A = Unit {0}} e (unless refusal (Ok (tt {0})))
+Passes (Err e) refusal = FailsAs {A = Unit {0}} e (unless refusal (Ok (tt {0})))
 
 -- for each place of the store a row, with what is known of each import
 abbrev pub Rows : Type 0
@@ -47,7 +47,7 @@ abbrev pub IsInTable : Rows → ℕ × ℕ → Type 0
 IsInTable rows v = (v.0 < length rows) × (v.1 < length (slice_index_or rows v.0 []))
 
 -- where an import leads to, through as many exports as it takes
-abbrev pub led_to : List Pair → ℕ × ℕ → Option (Result (Option Target) Refusal)
+abbrev pub led_to : List Pair → ℕ × ℕ → Option (Result (Option Target) BindRefusal)
 led_to pairs v = follow (exports_in pairs) pairs v.0 v.1
 
 -- the rows of a closure order: what is known is right

@@ -3,11 +3,12 @@
 use Rattle.std.specs.Prelude.{◌≡◌, ℕ, ◌+◌, ◌-◌, ◌*◌, ◌<◌, ◌≤◌, Bool, false, List, [], ◌∷◌, length, slice_get, slice_index_or, Option, None, Some, Result, Ok, Err}
 use Rattle.std.specs.List.{AllByRecursion}
 use Rattle.cfm_store.specs.Stores.{Pair}
+use Rattle.pef_words.specs.Results.{◌>>=◌}
 use Rattle.cfm_libraries.specs.declared.fault.BindFault.{BindFault}
 use Rattle.cfm_libraries.specs.declared.fragment.FragmentView.{FragmentView}
 use Rattle.cfm_libraries.specs.declared.walk.Frame.{Frame}
 use Rattle.cfm_libraries.specs.declared.walk.Walk.{Walk}
-use Rattle.cfm_libraries.specs.Faults.{◌>>=◌, Fails, Refusal}
+use Rattle.cfm_libraries.specs.Faults.{BindRefusal, FailsAs}
 use Rattle.cfm_libraries.specs.Fragments.{Fragment}
 use Rattle.cfm_libraries.specs.Libraries.{bound_to}
 use Rattle.cfm_libraries.specs.Walk.{Walked, is_marked, joining, left, walk, walks_from}
@@ -15,30 +16,30 @@ use Rattle.cfm_libraries.specs.Kept.Views.{AreRead, fragment_at}
 use Rattle.cfm_libraries.specs.Views.{fragment_seen}
 
 -- the walk from a fragment, with steps enough for the whole store
-abbrev pub visit : List Pair → ℕ → Walked → Result Walked Refusal
+abbrev pub visit : List Pair → ℕ → Walked → Result Walked BindRefusal
 visit pairs p s = walk (length pairs) pairs p s
 
 -- what is left of it in fragment p of so many libraries, when the walks to those before entry l are done
-abbrev pub rest_of : List Pair → ℕ → ℕ → ℕ → Walked → Result Walked Refusal
+abbrev pub rest_of : List Pair → ℕ → ℕ → ℕ → Walked → Result Walked BindRefusal
 rest_of pairs p l count s = walks_from (visit pairs) pairs p l (count - l) s >>= (λ s. Ok (joining p s))
 
 abbrev pub count_of : Frame → ℕ
 count_of f = (fragment_seen f.fragment).loader.header.library_count
 
 -- the same of a frame of the path
-abbrev pub rest_of_frame : List Pair → Frame → Walked → Result Walked Refusal
+abbrev pub rest_of_frame : List Pair → Frame → Walked → Result Walked BindRefusal
 rest_of_frame pairs f s = rest_of pairs f.p (length f.libraries) (count_of f) s
 
 -- and of the whole path, the last frame first
-abbrev pub rest_of_path : List Pair → List Frame → Walked → Result Walked Refusal
+abbrev pub rest_of_path : List Pair → List Frame → Walked → Result Walked BindRefusal
 rest_of_path pairs [] s = Ok s
 rest_of_path pairs (f ∷ path) s = rest_of_path pairs path s >>= rest_of_frame pairs f
 
 -- the same behind the walk from a fragment, and behind the rest of a frame
-abbrev pub visit_and_rest : List Pair → ℕ → List Frame → Walked → Result Walked Refusal
+abbrev pub visit_and_rest : List Pair → ℕ → List Frame → Walked → Result Walked BindRefusal
 visit_and_rest pairs p path s = visit pairs p s >>= rest_of_path pairs path
 
-abbrev pub frame_and_rest : List Pair → Frame → List Frame → Walked → Result Walked Refusal
+abbrev pub frame_and_rest : List Pair → Frame → List Frame → Walked → Result Walked BindRefusal
 frame_and_rest pairs f path s = rest_of_frame pairs f s >>= rest_of_path pairs path
 
 -- the library entries of a fragment that were bound stand for these
@@ -78,9 +79,9 @@ abbrev pub IsWalk : List Pair → Walk → Type 0
 IsWalk pairs w = AreTables pairs w.fragments w.libraries w.marked.items w.path.items w.order.items
 
 -- an answer leads on to what is left, or is the refusal that was to come
-abbrev pub Continues : {A : Type 0} → Result A BindFault → Result Walked Refusal → Result Walked Refusal → Type 0
+abbrev pub Continues : {A : Type 0} → Result A BindFault → Result Walked BindRefusal → Result Walked BindRefusal → Type 0
 Continues (Ok done) now expected = expected ≡ now
-Continues (Err e) now expected = Fails e expected
+Continues (Err e) now expected = FailsAs e expected
 
 -- what is left in a frame: the walk to the next fragment that wasn't met and the rest of the frame, or only that
 -- the fragment joins the order
@@ -91,7 +92,7 @@ NextOf pairs s before now (Some q) = (rest_of_frame pairs before s ≡ (visit pa
 -- the same as the answer of the search for it
 abbrev pub Next : List Pair → Walked → Frame → Frame → Result (Option ℕ) BindFault → Type 0
 Next pairs s before now (Ok next) = NextOf pairs s before now next
-Next pairs s before now (Err e) = Fails e (rest_of_frame pairs before s)
+Next pairs s before now (Err e) = FailsAs e (rest_of_frame pairs before s)
 
 -- a frame of the same fragment
 pub record IsSameFrame (old new : Frame) : Type 0 where

@@ -8,17 +8,17 @@ use Rattle.pef_cert_text.specs.declared.lines.Line.{Line}
 use Rattle.pef_cert_text.specs.declared.lines.Lines.{Lines}
 use Rattle.pef_cert_text.specs.declared.words.Words.{Words}
 use Rattle.pef_cert_text.specs.Grammar.{Left, certificates_of, certificates_read}
-use Rattle.pef_cert_text.specs.Views.{Fails, Reads}
+use Rattle.pef_cert_text.specs.Views.{FailsAs, ReadsAs}
 use Rattle.pef_cert_text.specs.Words.{words_of}
 
 -- an answer and what is left are those that were wanted, where there was memory for them
 abbrev pub Takes : {A : Type 0} → Result A CertFault → Left → Result (A × Left) ℕ → Type 0
 Takes (Ok x) left wanted = wanted ≡ Ok (x, left)
-Takes (Err fault) left wanted = Fails fault wanted
+Takes (Err fault) left wanted = FailsAs fault wanted
 
 -- an answer is what the line with a number says, where there was memory for it
 abbrev pub Says : {A : Type 0} → Result A CertFault → ℕ → Option A → Type 0
-Says result number wanted = Reads result (ok_or wanted number)
+Says result number wanted = ReadsAs result (ok_or wanted number)
 
 -- the words that are left of a line: none behind the last one
 

@@ -1,5 +1,5 @@
 -- How what was sent adds up: text after text, and text that is sent piece by piece.
-use Rattle.std.proofs.Common.{◌≡◌, ℕ, ◌+◌, List, [], ◌++◌, Option, None, Some, Result, Ok, Err, IsErrAnd, OnOk, length, take, refl, sym, ap, ◌∙◌, subst, append_assoc}
+use Rattle.std.proofs.Common.{◌≡◌, ℕ, List, [], ◌++◌, Option, None, Some, Result, Ok, Err, IsErrAnd, OnOk, length, take, refl, sym, ap, ◌∙◌, subst, append_assoc}
 use Rattle.std.proofs.Math.Seq.{take-append_seam}
 use Rattle.std.proofs.lemmas.List.{append-nil}
 use Rattle.std.proofs.lemmas.Result.{err_from_is_err_and}
@@ -14,7 +14,7 @@ Grows-then (Some w) b c x y p q =
     subst P p q ∙ ap Some (append_assoc w x y)
 
 -- where nothing is sent, nothing goes out
-pub Grows-none : (a : Option (List ℕ)) → Grows a a []
+Grows-none : (a : Option (List ℕ)) → Grows a a []
 Grows-none None = tt
 Grows-none (Some w) = ap Some (sym (append-nil w))
 
@@ -32,7 +32,7 @@ Prints-then {a} {b} {c} {p} {l} {m} {t} {u} first second = record {
 }
 
 -- before the first text
-pub Prints-none : (a : Stream) (p : List ℕ) → Prints a a p p []
+Prints-none : (a : Stream) (p : List ℕ) → Prints a a p p []
 Prints-none a p = record { sent = []; out = Grows-none a.bytes; whole = sym (append-nil p); sound = refl }
 
 -- an output that stopped short of a text stops short of a longer one

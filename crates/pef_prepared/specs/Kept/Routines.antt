@@ -2,9 +2,9 @@
 use Rattle.std.specs.Prelude.{ℕ, ◌-◌, List, Option, codes}
 use Rattle.std.specs.Option.{option_and_then}
 use Rattle.cfm_fragment.specs.declared.entries.Entries.{Entries}
-use Rattle.cfm_prepare.specs.Contexts.{State}
+use Rattle.cfm_prepare.specs.Contexts.{ContextState}
 use Rattle.pef_prepared.specs.Fragment.{entry_text}
-use Rattle.pef_prepared.specs.Loaded.{entries_in, entry_label, inits_text, name_in, terms_text}
+use Rattle.pef_prepared.specs.Loaded.{entries_in, entry_label, fragment_name, inits_text, terms_text}
 use Rattle.pef_prepared.specs.declared.loaded.Routine.{Routine}
 use Rattle.pef_prepared.specs.declared.loaded.Routine.TheVariants.{Init, Term}
 
@@ -25,10 +25,10 @@ place_of Init count i = i
 place_of Term count i = count - 1 - i
 
 -- its line, where a fragment has it
-abbrev pub routine_text : Routine → State → ℕ → ℕ → List ℕ
-routine_text r s number p = entry_text (entry_label (word_of r) (name_in s p)) (option_and_then (address_in r) (entries_in s number p))
+abbrev pub routine_text : Routine → ContextState → ℕ → ℕ → List ℕ
+routine_text r s number p = entry_text (entry_label (word_of r) (fragment_name s p)) (option_and_then (address_in r) (entries_in s number p))
 
 -- the lines of several fragments, whose order is that of their initialization
-abbrev pub routines_text : Routine → State → ℕ → List ℕ → List ℕ
+abbrev pub routines_text : Routine → ContextState → ℕ → List ℕ → List ℕ
 routines_text Init s number order = inits_text s number order
 routines_text Term s number order = terms_text s number order

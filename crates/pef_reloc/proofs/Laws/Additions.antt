@@ -1,54 +1,30 @@
 -- Additions that lie inside memory, with bases that are there, are done, and none is refused.
-use Rattle.std.proofs.Common.{◌≡◌, ℕ, ◌+◌, ◌-◌, ◌^◌, ◌%◌, ◌≤◌, true, Bool, false, cond, nat_le, List, [], ◌∷◌, ◌++◌, length, map, take, drop, Option, None, Some, refl, sym, ap, subst, ◌∙◌, append_assoc, arith}
+use Rattle.std.proofs.Common.{◌≡◌, ℕ, ◌+◌, ◌-◌, ◌^◌, ◌%◌, ◌≤◌, true, List, [], ◌∷◌, ◌++◌, length, map, take, drop, Option, None, refl, sym, ap, subst, ◌∙◌, append_assoc, arith}
 use Rattle.std.specs.List.{AllByRecursion}
 use Rattle.std.proofs.Math.Seq.{take-append-add, drop-append-add}
-use Rattle.std.proofs.lemmas.Bool.{leb-true, lt-ltb, le-leb}
+use Rattle.std.proofs.lemmas.Bool.{lt-ltb, le-leb}
 use Rattle.std.proofs.lemmas.List.{length-append, length-drop, length-take}
 use Rattle.byteorder.specs.Endian.{big_number, big_bytes}
 use Rattle.byteorder.specs.Numbers.{length-bytes_high_first}
-use Rattle.pef_words.proofs.Laws.Refusals.{first_unmet}
 use Rattle.pef_reloc.specs.declared.fault.RelocFault.{RelocFault}
-use Rattle.pef_reloc.specs.declared.fault.RelocFault.TheVariants.{ImportOutside, WordOutside}
 use Rattle.pef_reloc.specs.declared.fixup.Base.{Base}
 use Rattle.pef_reloc.specs.declared.fixup.Base.TheVariants.{Section, Import}
 use Rattle.pef_reloc.specs.declared.fixup.Fixup.{Fixup}
 use Rattle.pef_reloc.specs.declared.instr.Instr.{Instr}
 use Rattle.pef_reloc.specs.Additions.{AreInside, IsInside, IsThere, all_added, with_bases}
-use Rattle.pef_reloc.specs.Applied.{Addresses, Done, act_done, act_fault, added_at, address_of, applied, is_missing, unless_refused}
+use Rattle.pef_reloc.specs.Applied.{Addresses, Done, act_fault, added_at, address_of, applied, unless_refused}
 use Rattle.pef_reloc.specs.Fixups.{fixups_end, fixups_from}
-use Rattle.pef_reloc.specs.Steps.{Act, State, acts_from, add, need, names_below, trace}
+use Rattle.pef_reloc.specs.Steps.{State, acts_from, add, names_below, trace}
 use Rattle.pef_reloc.proofs.FixupLemmas.{fixups_from-first}
 use Rattle.pef_reloc.proofs.FlatLaws.{applied-trace}
 
 -- an addition leaves the length of memory
-pub length-added_at : (memory : List ℕ) (at x : ℕ) → at + 4 ≤ length memory → length (added_at memory at x) ≡ length memory
+length-added_at : (memory : List ℕ) (at x : ℕ) → at + 4 ≤ length memory → length (added_at memory at x) ≡ length memory
 unfolding added_at
 length-added_at memory at x inside =
     let word = big_bytes 4 ((big_number 4 (drop at memory) + x) % 2 ^ 32) in
     let word_len : length word ≡ 4 = length-bytes_high_first 4 ((big_number 4 (drop at memory) + x) % 2 ^ 32) in
     rw (length-append (take at memory ++ word) (drop (at + 4) memory), length-append (take at memory) word, length-take at memory, length-drop (at + 4) memory, word_len) (omega (arith, inside))
-
-unmet : {A : Type 0} (b : Bool) (x : A) (y : Option A) → cond b y (Some x) ≡ None → b ≡ true
-unmet true x y none = refl
-unmet false x y none = absurd (cc none)
-
--- an act that isn't refused leaves the length of memory
-length-act_done : (a : Addresses) (act : Act) (memory : List ℕ) → act_fault a (length memory) act ≡ None → length (act_done a act memory) ≡ length memory
-length-act_done a (need k) memory none = refl
-length-act_done a (add x) memory none =
-    let there = first_unmet (is_missing a x.base) ImportOutside _ none in
-    length-added_at memory x.offset (address_of a x.base) (leb-true (x.offset + 4) (length memory) (unmet (nat_le (x.offset + 4) (length memory)) WordOutside None there.1))
-
--- acts leave the length of memory, refused or not
-pub applied-length : (a : Addresses) (acts : List Act) (memory : List ℕ) → length (applied a acts memory).memory ≡ length memory
-unfolding applied
-applied-length a [] memory = refl
-applied-length a (act ∷ acts) memory = go (act_fault a (length memory) act) refl (applied-length a acts (act_done a act memory))
-  where
-    go : (fault : Option RelocFault) → act_fault a (length memory) act ≡ fault → length (applied a acts (act_done a act memory)).memory ≡ length (act_done a act memory)
-        → length (unless_refused fault memory (applied a acts (act_done a act memory))).memory ≡ length memory
-    go None none later = later ∙ length-act_done a act memory none
-    go (Some fault) some later = refl
 
 -- an addition that lies inside memory isn't refused
 addition-there : (a : Addresses) (len : ℕ) (fixup : Fixup) → IsInside a len fixup → act_fault a len (add fixup) ≡ None

@@ -1,36 +1,23 @@
 -- What relocation headers, one after the other, make of a section's memory.
-use Rattle.std.proofs.Common.{◌≡◌, ◌≢◌, ℕ, zero, suc, ◌+◌, ◌<◌, ◌≤◌, ◌==◌, Bool, true, false, cond, List, Option, None, Some, length, refl, sym, ap, subst, ◌∙◌, inl, inr, arith}
+use Rattle.std.proofs.Common.{◌≡◌, ◌≢◌, ℕ, zero, suc, ◌+◌, ◌<◌, ◌≤◌, true, List, Option, None, Some, length, refl, sym, ap, subst, ◌∙◌, inl, inr, arith}
 use Rattle.std.specs.Option.{option_and_then}
 use Rattle.std.proofs.lemmas.Bool.{eq-eqb, ne_eqb}
 use Rattle.std.proofs.lemmas.Bool.Decides.{eqb_tells}
-use Rattle.pef_words.proofs.Laws.Refusals.{none_among}
 use Rattle.pef_reloc.specs.declared.fault.RelocFault.{RelocFault}
 use Rattle.pef_reloc.specs.declared.fixup.Fixup.{Fixup}
 use Rattle.pef_reloc.specs.declared.instr.Instr.{Instr}
 use Rattle.pef_reloc.specs.Additions.{AreInside, all_added, with_bases}
-use Rattle.pef_reloc.specs.Applied.{Addresses, Done, address_of, relocated, then_done, unless_refused}
+use Rattle.pef_reloc.specs.Applied.{Addresses, Done, address_of, then_done, unless_refused}
 use Rattle.pef_reloc.specs.Fixups.{fixups_from}
-use Rattle.pef_reloc.specs.Headers.{IsOther, first_refusal, header_done, program_done, refusal_at, relocated_by, untouched}
+use Rattle.pef_reloc.specs.Headers.{IsOther, header_done, program_done, refusal_at, relocated_by, untouched}
 use Rattle.pef_reloc.specs.Instrs.{spelled}
 use Rattle.pef_reloc.specs.Limits.{step_limit}
-use Rattle.pef_reloc.specs.Steps.{Makes, acts_from, is_flat, names_below, start}
-use Rattle.pef_reloc.specs.Unrolled.{instrs_of, program_fault, unrolled}
-use Rattle.pef_reloc.proofs.Laws.Additions.{additions-described, applied-length, instrs-done}
+use Rattle.pef_reloc.specs.Steps.{Makes, is_flat, names_below, start}
+use Rattle.pef_reloc.proofs.Laws.Additions.{additions-described, instrs-done}
 use Rattle.pef_reloc.proofs.FlatLaws.{program_fault-spelled, relocated-spelled, then_same}
 
 abbrev fault_of : Done → Option RelocFault
 fault_of d = d.fault
-
-relocated_length : (a : Addresses) (bytes memory : List ℕ) → length (relocated bytes a memory).memory ≡ length memory
-unfolding relocated
-relocated_length a bytes memory = applied-length a (acts_from (unrolled (instrs_of bytes)) start) memory
-
-done_length : (d : Done) (next : List ℕ → Done) → length (next d.memory).memory ≡ length d.memory → length (then_done d next).memory ≡ length d.memory
-done_length d next later = go d.fault
-  where
-    go : (fault : Option RelocFault) → length (unless_refused fault d.memory (next d.memory)).memory ≡ length d.memory
-    go None = later
-    go (Some fault) = refl
 
 -- a flat program for fixups in address order that lie inside memory does what they describe
 pub program-described : (a : Addresses) (fixups : List Fixup) (instrs : List Instr) (memory : List ℕ) → is_flat instrs ≡ true → Makes fixups instrs → names_below (length a.sections) instrs ≡ true → length instrs ≤ step_limit
@@ -40,26 +27,6 @@ program-described a fixups instrs memory flat makes names few apart inside =
     rw (program_fault-spelled instrs flat few)
     (relocated-spelled instrs a memory flat ∙ instrs-done a instrs start memory names (subst P (sym makes) inside)
     ∙ ap untouched (ap (λ (fs : List Fixup). all_added a fs memory) makes ∙ additions-described a fixups memory apart inside))
-
--- relocation headers leave the length of memory, refused or not
-pub headers-length : (a : Addresses) (k : ℕ) (header : ℕ → Option (ℕ × List ℕ)) (from n : ℕ) (memory : List ℕ) → length (relocated_by a k header from n memory).memory ≡ length memory
-unfolding relocated_by
-headers-length a k header from zero memory = refl
-headers-length a k header from (suc n) memory =
-    done_length (header_done a k (header from) memory) (relocated_by a k header (from + 1) n) (headers-length a k header (from + 1) n (header_done a k (header from) memory).memory)
-    ∙ header_length (header from)
-  where
-    program_length : (fault : Option RelocFault) (bytes : List ℕ) → length (unless_refused fault memory (relocated bytes a memory)).memory ≡ length memory
-    program_length None bytes = relocated_length a bytes memory
-    program_length (Some fault) bytes = refl
-
-    chosen : (mine : Bool) (bytes : List ℕ) → length (cond mine (program_done a bytes memory) (untouched memory)).memory ≡ length memory
-    chosen true bytes = program_length (program_fault bytes) bytes
-    chosen false bytes = refl
-
-    header_length : (h : Option (ℕ × List ℕ)) → length (header_done a k h memory).memory ≡ length memory
-    header_length None = refl
-    header_length (Some h) = chosen (h.0 == k) h.1
 
 -- a header for another section leaves the memory
 pub header-other : (a : Addresses) (k : ℕ) (h : Option (ℕ × List ℕ)) (memory : List ℕ) → IsOther k h → header_done a k h memory ≡ untouched memory
@@ -168,21 +135,6 @@ header-sound a memory header i k none = go (header i) none
         → (header_done a k o (relocated_by a k header 0 i (memory k)).memory).fault ≡ None
     go None none = refl
     go (Some h) none = here h.0 h.1 none
-
--- where no header is refused, none is for any section
-pub headers-sound : (a : Addresses) (memory : ℕ → List ℕ) (header : ℕ → Option (ℕ × List ℕ)) (n k : ℕ) → first_refusal a memory header n ≡ None
-    → (relocated_by a k header 0 n (memory k)).fault ≡ None
-unfolding relocated_by
-headers-sound a memory header n k none = upto n (omega arith)
-  where
-    upto : (i : ℕ) → i ≤ n → (relocated_by a k header 0 i (memory k)).fault ≡ None
-    upto zero under = refl
-    upto (suc i) under =
-        let before = upto i (omega arith) in
-        let here = none_among (refusal_at a memory header) 0 n i none (omega arith) (omega arith) in
-        let next : i + 1 ≡ suc i = omega arith in
-        let P : ℕ → Type 0 = λ j. (relocated_by a k header 0 j (memory k)).fault ≡ None in
-        subst P next (ap fault_of (headers-next a k header i (memory k) before) ∙ header-sound a memory header i k here)
 
 -- where the headers of a section aren't refused, none of its programs is
 pub programs-sound : (a : Addresses) (k : ℕ) (header : ℕ → Option (ℕ × List ℕ)) (i from n : ℕ) (bytes memory : List ℕ) → i < n → header (from + i) ≡ Some (k, bytes) → (relocated_by a k header from n memory).fault ≡ None

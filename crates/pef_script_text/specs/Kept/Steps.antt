@@ -1,8 +1,8 @@
 -- What the answer of a step says of the grammar's.
 use Rattle.std.specs.Prelude.{◌≡◌, ℕ, Result, Ok, Err}
 use Rattle.pef_script.specs.Script.{DescribedScript}
-use Rattle.pef_script_text.specs.Grammar.{Refusal}
-use Rattle.pef_script_text.specs.Reads.{Fails}
+use Rattle.pef_script_text.specs.Grammar.{LineRefusal}
+use Rattle.pef_script_text.specs.Reads.{FailsAs}
 use Rattle.pef_script_text.specs.SoFar.{ScriptSoFar}
 use Rattle.pef_script_text.specs.declared.fault.LineFault.{LineFault}
 use Rattle.pef_script_text.specs.declared.fault.ScriptFault.{ScriptFault}
@@ -35,6 +35,6 @@ NumberedSteps (Ok done) now number wanted = wanted ≡ Ok now
 NumberedSteps (Err failed) now number wanted = FailsAt failed number wanted
 
 -- lines led to the script that they were to lead to, or one of them failed as it was to
-abbrev pub ReadsLines : Result (Unit {0}) ScriptFault → ScriptSoFar → Result DescribedScript Refusal → Type 0
+abbrev pub ReadsLines : Result (Unit {0}) ScriptFault → ScriptSoFar → Result DescribedScript LineRefusal → Type 0
 ReadsLines (Ok done) now wanted = wanted ≡ Ok now.script
-ReadsLines (Err failed) now wanted = Fails failed wanted
+ReadsLines (Err failed) now wanted = FailsAs failed wanted

@@ -1,5 +1,7 @@
 -- Lists of which each element has a property.
-use Rattle.std.proofs.Common.{◌≡◌, ℕ, zero, suc, ◌<◌, List, [], ◌∷◌, ◌++◌, Option, None, Some, length, map, slice_get, ap, subst, arith}
+use Rattle.std.proofs.Common.{◌≡◌, ℕ, zero, suc, ◌<◌, List, [], ◌∷◌, ◌++◌, Some, length, drop, map, slice_get, ◌+◌, ◌∙◌, ap, subst, arith}
+use Rattle.std.proofs.lemmas.List.{drop_more}
+use Rattle.std.proofs.lemmas.Option.{get_or_from_slice_get, same_Some, slice_get_within}
 use Rattle.std.specs.Prelude.{slice_index_or, slice_set}
 use Rattle.std.specs.List.{AllByRecursion}
 
@@ -20,14 +22,10 @@ all-at P [] k d all under = absurd (omega arith)
 all-at P (x ∷ xs) zero d all under = all.0
 all-at P (x ∷ xs) (suc k) d all under = all-at P xs k d all.1 (omega arith)
 
-abbrev some_or : {A : Type 0} → A → Option A → A
-some_or d None = d
-some_or d (Some x) = x
-
 -- the element that is got from a place
 pub all-get : {A : Type 0} (P : A → Type 0) (xs : List A) (k : ℕ) (x : A) → AllByRecursion P xs → slice_get xs k ≡ Some x → P x
 all-get P [] k x all is = absurd (cc)
-all-get P (y ∷ ys) zero x all is = subst P (ap (some_or y) is) all.0
+all-get P (y ∷ ys) zero x all is = subst P (same_Some y x is) all.0
 all-get P (y ∷ ys) (suc k) x all is = all-get P ys k x all.1 is
 
 -- a property that follows from another
@@ -39,3 +37,7 @@ all-weaker P Q (x ∷ xs) gives all = (gives x all.0, all-weaker P Q xs gives al
 pub all-map : {A B : Type 0} (f : A → B) (P : A → Type 0) (Q : B → Type 0) (xs : List A) → ((x : A) → P x → Q (f x)) → AllByRecursion P xs → AllByRecursion Q (map f xs)
 all-map f P Q [] gives all = tt
 all-map f P Q (x ∷ xs) gives all = (gives x all.0, all-map f P Q xs gives all.1)
+
+-- what stands behind a place is the element there and what stands behind that
+pub drop-here : {A : Type 0} (xs : List A) (n : ℕ) (x : A) → slice_get xs n ≡ Some x → drop n xs ≡ x ∷ drop (n + 1) xs
+drop-here xs n x found = drop_more xs n x (slice_get_within xs n x found) ∙ ap (λ y. y ∷ drop (n + 1) xs) (get_or_from_slice_get xs n x x found)

@@ -2,7 +2,7 @@
 use Rattle.std.proofs.Common.{◌≡◌, ℕ, ◌<◌, ◌≤◌, List, length, Ok, None, get_or, sym, ap, subst, ◌∙◌, arith}
 use Rattle.std.proofs.lemmas.Result.{err_from_is_err_and}
 use Rattle.pef_words.specs.Refusals.{unless}
-use Rattle.cfm_libraries.specs.Faults.{Fails}
+use Rattle.cfm_libraries.specs.Faults.{FailsAs}
 use Rattle.cfm_libraries.proofs.Laws.{Fails-also}
 use Rattle.cfm_closure.specs.Closures.{first_refused, imports_refusal}
 use Rattle.cfm_closure.specs.Kept.Targets.{IsResolved}
@@ -16,7 +16,7 @@ returns-in_err-resolve_imports-clause-answer c =
     let i = c.loop-p.p-index in
     let same = c.order-p-items.ensures.order in
     let under = subst (λ (ps : List ℕ). i < length ps) same c.loop-p-test.true in
-    let P : List ℕ → Type 0 = λ ps. Fails {A = Unit {0}} c.in_err-resolve_imports.field-0.0 (unless (imports_refusal pairs (get_or ps i 0)) (Ok (tt {0}))) in
+    let P : List ℕ → Type 0 = λ ps. FailsAs {A = Unit {0}} c.in_err-resolve_imports.field-0.0 (unless (imports_refusal pairs (get_or ps i 0)) (Ok (tt {0}))) in
     let p = err_from_is_err_and c.from_residual-in_err-resolve_imports.result c.from_residual-in_err-resolve_imports.ensures.1 in
     rw (p.1, p.2) (Fails-also c.in_err-resolve_imports.field-0.0 (unless (imports_refusal pairs (get_or order i 0)) (Ok (tt {0}))) (unless (first_refused pairs order) (Ok (tt {0})))
     (λ r refused. ap (λ o. unless o (Ok (tt {0}))) (sym c.loop-p.invariant.rest ∙ first_refused-here pairs order i r under (unless-err _ (tt {0}) r refused)))

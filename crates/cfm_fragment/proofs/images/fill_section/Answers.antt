@@ -5,8 +5,9 @@ use Rattle.cfm_memory.proofs.Laws.{fitted_same, written_given_back, written_here
 use Rattle.pef_views.specs.Views.{seen}
 use Rattle.pef_words.specs.Bytes.{filled}
 use Rattle.pef_words.specs.Refusals.{result_map}
+use Rattle.std.proofs.lemmas.Option.{same_Some}
 use Rattle.cfm_fragment.specs.Images.{image_of}
-use Rattle.cfm_fragment.proofs.ImageLemmas.{filling_done, filling_refused, on_ok, some_same}
+use Rattle.cfm_fragment.proofs.ImageLemmas.{filling_done, filling_refused, on_ok}
 use Rattle.cfm_fragment.proofs.images.fill_section.Goals as goal
 
 pub returns-clause-refused : goal.returns-clause-refused
@@ -16,7 +17,7 @@ pub returns-clause-here : goal.returns-clause-here
 returns-clause-here c =
     let part = c.part_mut-part.result.now in
     let section = seen c.args.section.now in
-    let zeros = some_same _ _ (sym c.part_mut-part.ensures.bytes ∙ c.requires.zeros) in
+    let zeros = same_Some _ _ (sym c.part_mut-part.ensures.bytes ∙ c.requires.zeros) in
     let kept : length c.fill.new.memory ≡ length part = omega (arith, c.fill.auto.memory) in
     let here = written_here c.args.memory.now.instances c.args.place.address c.fill.new.memory part c.part_mut-part.ensures.bytes ∙ ap Some (fitted_same part c.fill.new.memory kept) in
     on_ok c.fill.result (λ done. here ∙ ap Some (done ∙ ap (λ size. result_unwrap_or (result_map (λ (i : List ℕ). filled i size) (image_of section)) []) c.requires.size))

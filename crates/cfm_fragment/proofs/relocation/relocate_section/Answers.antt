@@ -3,14 +3,14 @@ use Rattle.std.proofs.Common.{◌≡◌, ℕ, List, Some, length, sym, ap, ◌�
 use Rattle.cfm_memory.proofs.Laws.{fitted_same, written_given_back, written_here, written_holds, written_other}
 use Rattle.pef_reloc.specs.Applied.{Addresses, Done}
 use Rattle.pef_reloc.specs.Headers.{program_done}
-use Rattle.cfm_fragment.proofs.ImageLemmas.{some_same}
+use Rattle.std.proofs.lemmas.Option.{same_Some}
 use Rattle.cfm_fragment.proofs.relocation.relocate_section.Goals as goal
 
 pub returns-clause-here : goal.returns-clause-here
 returns-clause-here c = λ bytes there.
     let a : Addresses = record { sections = c.args.sections.now; imports = c.args.imports.now } in
     let part = c.part_mut-part.result.now in
-    let same = some_same part bytes (sym c.part_mut-part.ensures.bytes ∙ there) in
+    let same = same_Some part bytes (sym c.part_mut-part.ensures.bytes ∙ there) in
     let kept : length c.relocate_whole.new.memory ≡ length part = omega (arith, c.relocate_whole.auto.memory) in
     written_here c.args.memory.now.instances c.args.place.address c.relocate_whole.new.memory part c.part_mut-part.ensures.bytes
     ∙ ap Some (fitted_same part c.relocate_whole.new.memory kept ∙ ap (λ (d : Done). d.memory) (sym c.relocate_whole.ensures) ∙ ap (λ (b : List ℕ). (program_done a c.args.program.now b).memory) same)
@@ -18,7 +18,7 @@ returns-clause-here c = λ bytes there.
 pub returns-clause-fault : goal.returns-clause-fault
 returns-clause-fault c = λ bytes there.
     let a : Addresses = record { sections = c.args.sections.now; imports = c.args.imports.now } in
-    let same = some_same c.part_mut-part.result.now bytes (sym c.part_mut-part.ensures.bytes ∙ there) in
+    let same = same_Some c.part_mut-part.result.now bytes (sym c.part_mut-part.ensures.bytes ∙ there) in
     ap (λ (d : Done). d.fault) (sym c.relocate_whole.ensures) ∙ ap (λ (b : List ℕ). (program_done a c.args.program.now b).fault) same
 
 pub returns-clause-elsewhere : goal.returns-clause-elsewhere

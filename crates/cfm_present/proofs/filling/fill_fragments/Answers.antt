@@ -3,7 +3,7 @@ use Rattle.std.proofs.Common.{Err, length, ◌≤◌, ap, ◌<◌, ◌≡◌, No
 use Rattle.std.proofs.lemmas.List.{drop_all}
 use Rattle.std.proofs.lemmas.Result.{err_from_is_err_and}
 use Rattle.cfm_memory.specs.Extents.{AreApart, AreHeld, Stand, given_back, zeros_at}
-use Rattle.cfm_present.specs.Fragments.{Present, filled_in, first_bad_image, image_refusal_in, named}
+use Rattle.cfm_present.specs.Fragments.{Present, first_bad_image, image_refusal_in, named, section_filled}
 use Rattle.cfm_present.specs.Kept.Ready.{FillsUpTo, found_in}
 use Rattle.cfm_present.specs.Placing.{Fits}
 use Rattle.cfm_present.proofs.FoundLemmas.{found-at, length-found}
@@ -66,11 +66,11 @@ loop-position-preserved c =
     let P : Present → Type 0 = λ f. given_back after f.places ≡ given_back at.memory f.places in
     let H : Present → Type 0 = λ f. AreHeld at.memory f.places → AreHeld after f.places in
     let N : Present → Type 0 = λ f. named store f.position (image_refusal_in store f.position) ≡ None in
-    let D : Present → Type 0 = λ f. Stand after f.places (filled_in store f.position) in
+    let D : Present → Type 0 = λ f. Stand after f.places (section_filled store f.position) in
     let same = subst P e given.others in
     record {
       left = image-next store fs i under (subst N e given.refused) ∙ at.invariant.left;
-      done = done-next at.memory after fs i (λ (f : Present). filled_in store f.position) c.requires.apart under same at.invariant.done (subst D e given.filled);
+      done = done-next at.memory after fs i (λ (f : Present). section_filled store f.position) c.requires.apart under same at.invariant.done (subst D e given.filled);
       zeros = left-next at.memory after fs i (λ (f : Present). zeros_at f.places) c.requires.apart under same at.invariant.zeros;
       others = all-one at.memory after fs i under same ∙ at.invariant.others;
       held = λ before. held-next at.memory after fs i c.requires.apart under same (subst H e given.held (at.invariant.held before i under)) (at.invariant.held before);

@@ -9,7 +9,7 @@ use Rattle.pef_reloc.specs.Headers.{first_refusal, relocated_by}
 use Rattle.cfm_libraries.specs.Fragments.{import_count, loader_at}
 use Rattle.cfm_fragment.specs.Images.{filled_at}
 use Rattle.cfm_fragment.specs.Prepared.{prepared_at}
-use Rattle.cfm_present.specs.Addresses.{addresses_of, imports_from}
+use Rattle.cfm_present.specs.Addresses.{addresses_from, addresses_of}
 use Rattle.cfm_present.specs.Fragments.{named, places_of}
 use Rattle.cfm_present.specs.Fragments.{present_of}
 use Rattle.cfm_present.proofs.FragmentLemmas.{container-of, length-there, prepared-there, program-there, stand-there}
@@ -36,7 +36,7 @@ returns-in-Ok-relocate_sections-clause-relocated c =
     let t = container-of store p loader is in
     let a : Addresses = record { sections = c.deref.result.now; imports = c.deref-2.result.now } in
     let sections_are = c.deref.ensures.value ∙ c.in-Ok.ensures.addresses ∙ ap (λ ps. map (λ (q : Place). q.address) ps) c.places-places.ensures in
-    let imports_are : c.deref-2.result.now ≡ imports_from store all p 0 (import_count store p) = rw (c.requires.store) (c.deref-2.ensures.value ∙ c.in_ok-imports.ensures) in
+    let imports_are : c.deref-2.result.now ≡ addresses_from store all p 0 (import_count store p) = rw (c.requires.store) (c.deref-2.ensures.value ∙ c.in_ok-imports.ensures) in
     let same : a ≡ addresses_of store all f = ap₂ (λ s i. record { sections = s; imports = i }) sections_are imports_are in
     let after = c.relocate_sections.new.memory in
     let R : List Place → Type 0 = λ ps. (bytes : ℕ → List ℕ) → Stand c.args.memory.now ps bytes → Stand after ps (λ k. (relocated_by a k (reloc_of loader) 0 loader.header.reloc_count (bytes k)).memory) in
@@ -55,7 +55,7 @@ returns-clause-refused c =
     let t = container-of store p loader is in
     let a : Addresses = record { sections = c.deref.result.now; imports = c.deref-2.result.now } in
     let sections_are = c.deref.ensures.value ∙ c.in-Ok.ensures.addresses ∙ ap (λ ps. map (λ (q : Place). q.address) ps) c.places-places.ensures in
-    let imports_are : c.deref-2.result.now ≡ imports_from store all p 0 (import_count store p) = rw (c.requires.store) (c.deref-2.ensures.value ∙ c.in_ok-imports.ensures) in
+    let imports_are : c.deref-2.result.now ≡ addresses_from store all p 0 (import_count store p) = rw (c.requires.store) (c.deref-2.ensures.value ∙ c.in_ok-imports.ensures) in
     let same : a ≡ addresses_of store all f = ap₂ (λ s i. record { sections = s; imports = i }) sections_are imports_are in
     let R : List Place → Type 0 = λ ps. (bytes : ℕ → List ℕ) → Stand c.args.memory.now ps bytes → Some c.in-Err.fault ≡ first_refusal a bytes (reloc_of loader) loader.header.reloc_count in
     let done = subst R c.places-places.ensures c.in-Err.ensures.refused (filled_at t.0) (stand-there store p t.0 c.args.memory.now f.places t.1 c.requires.filled) in

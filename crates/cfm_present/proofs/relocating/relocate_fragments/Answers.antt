@@ -4,7 +4,7 @@ use Rattle.std.proofs.lemmas.List.{drop_all}
 use Rattle.std.proofs.lemmas.Result.{err_from_is_err_and}
 use Rattle.cfm_memory.specs.Extents.{AreApart, AreHeld, Stand, given_back}
 use Rattle.cfm_present.specs.Addresses.{addresses_of, first_bad_program, section_of}
-use Rattle.cfm_present.specs.Fragments.{Present, filled_in, named, places_of, reloc_refusal_in}
+use Rattle.cfm_present.specs.Fragments.{Present, named, places_of, reloc_refusal_in, section_filled}
 use Rattle.cfm_present.specs.Kept.Ready.{RelocatesUpTo, found_in}
 use Rattle.cfm_present.specs.Placing.{Fits}
 use Rattle.cfm_present.proofs.FoundLemmas.{found-at, length-found}
@@ -62,7 +62,7 @@ loop-position-preserved c =
     record {
       left = program-next store c.args.present.now.items fs i under (subst N e given.refused) ∙ at.invariant.left;
       done = done-next at.memory after fs i (λ (f : Present). section_of store c.args.present.now.items f) c.requires.apart under same at.invariant.done (subst D e given.relocated);
-      filled = left-next at.memory after fs i (λ (f : Present). filled_in store f.position) c.requires.apart under same at.invariant.filled;
+      filled = left-next at.memory after fs i (λ (f : Present). section_filled store f.position) c.requires.apart under same at.invariant.filled;
       others = all-one at.memory after fs i under same ∙ at.invariant.others;
       held = held-next at.memory after fs i c.requires.apart under same (subst H e given.held) at.invariant.held;
     }
@@ -104,7 +104,7 @@ relocate_fragment-requires-clause-filled c =
     let i = at.position-index in
     let e = found-at c.args.present.now.items c.args.new.now i (places_of c.args.present.now.items (get_or c.args.new.now i 0)) c.loop-position-test.true refl in
     let under = subst (λ n. i < n) (sym (length-found c.args.present.now.items c.args.new.now)) c.loop-position-test.true in
-    let P : Present → Type 0 = λ f. Stand at.memory f.places (filled_in c.args.store.now f.position) in
+    let P : Present → Type 0 = λ f. Stand at.memory f.places (section_filled c.args.store.now f.position) in
     subst P (sym e) (at.invariant.filled i (omega arith) under)
 
 pub returns-in_err-relocate_fragment-clause-refused : goal.returns-in_err-relocate_fragment-clause-refused

@@ -6,14 +6,14 @@ use Rattle.pef_cert_text.specs.declared.fields.Head.{Head}
 use Rattle.pef_cert_text.specs.Grammar.{Left, line_read}
 use Rattle.pef_cert_text.specs.Kept.Reading.{Going, left}
 use Rattle.pef_cert_text.specs.Lines.{head_line, version_line}
-use Rattle.pef_cert_text.specs.Views.{Fails}
+use Rattle.pef_cert_text.specs.Views.{FailsAs}
 use Rattle.pef_cert_text.proofs.ReadLemmas.{certificates-begin, certificates-fail, certificates-more}
 use Rattle.pef_cert_text.proofs.reader.read.Goals as goal
 
 pub returns-in_err-read_version-clause-certificates : goal.returns-in_err-read_version-clause-certificates
 returns-in_err-read_version-clause-certificates c =
     let p = err_from_is_err_and c.from_residual.result c.from_residual.ensures.1 in
-    let fails = subst (λ (l : Left). Fails c.in_err-read_version.field-0.0 (line_read version_line l)) c.new-lines.ensures c.in_err-read_version.ensures.takes in
+    let fails = subst (λ (l : Left). FailsAs c.in_err-read_version.field-0.0 (line_read version_line l)) c.new-lines.ensures c.in_err-read_version.ensures.takes in
     rw (p.1, p.2) (certificates-fail c.in_err-read_version.field-0.0 c.args.text.now fails)
 
 pub certificates-init : goal.certificates-init

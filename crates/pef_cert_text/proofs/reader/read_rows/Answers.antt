@@ -4,7 +4,7 @@ use Rattle.std.proofs.lemmas.Result.{err_from_is_err_and}
 use Rattle.pef_labels.specs.Rows.{LaidRows}
 use Rattle.pef_cert_text.specs.Grammar.{rows_read}
 use Rattle.pef_cert_text.specs.Kept.Reading.{left}
-use Rattle.pef_cert_text.specs.Views.{Fails}
+use Rattle.pef_cert_text.specs.Views.{FailsAs}
 use Rattle.pef_cert_text.proofs.ReadLemmas.{rows_read-fails, rows_read-step}
 use Rattle.pef_cert_text.proofs.reader.read_rows.Goals as goal
 
@@ -13,7 +13,7 @@ returns-in_err-read_row-clause-takes c =
     let p = err_from_is_err_and c.from_residual.result c.from_residual.ensures.1 in
     let width = c.args.classes * c.args.classes in
     let fails = rows_read-fails c.in_err-read_row.field-0.0 width c.loop-at.at c.args.count c.loop-at.labels.rows (left c.loop-at.lines) (omega arith) c.in_err-read_row.ensures.takes in
-    rw (p.1, p.2) (subst (Fails c.in_err-read_row.field-0.0) c.loop-at.invariant.rows fails)
+    rw (p.1, p.2) (subst (FailsAs c.in_err-read_row.field-0.0) c.loop-at.invariant.rows fails)
 
 pub loop-at-preserved : goal.loop-at-preserved
 loop-at-preserved c =

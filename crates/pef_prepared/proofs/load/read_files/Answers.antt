@@ -4,7 +4,7 @@ use Rattle.std.proofs.lemmas.List.{map_push}
 use Rattle.std.specs.declared.alloc.Global.{Global}
 use Rattle.std.specs.declared.vec.Vec.{Vec}
 use Rattle.pef_ports.specs.Ports.{FilesPort, Reads}
-use Rattle.pef_request.specs.Requests.{pair_of}
+use Rattle.pef_request.specs.Requests.{named_path}
 use Rattle.pef_prepared.specs.Kept.Loading.{StopsFile}
 use Rattle.pef_prepared.specs.Load.{WereRead}
 use Rattle.pef_prepared.proofs.LoadLemmas.{lacks-behind, read-next, stops}
@@ -23,7 +23,7 @@ loop-file-preserved g c =
     let port : FilesPort _ = record { state = g.F.Files.state; was_read = g.F.Files.was_read; was_written = g.F.Files.was_written } in
     let items : Vec ℕ Global → List ℕ = λ bytes. bytes.items in
     let P : List ℕ → Type 0 = λ path. Reads port at.files c.read_file.new.files path (Ok c.in-Ok.bytes.items) in
-    let Q : List (List ℕ) → Type 0 = λ contents. WereRead port c.args.files.now c.read_file.new.files (map pair_of (take (at.file-index + 1) c.args.named.now)) contents in
+    let Q : List (List ℕ) → Type 0 = λ contents. WereRead port c.args.files.now c.read_file.new.files (map named_path (take (at.file-index + 1) c.args.named.now)) contents in
     let more = read-next port c.args.files.now at.files c.read_file.new.files c.args.named.now at.file-index _ (map items at.contents.items) c.in-Ok.bytes.items c.loop-file-test.true at.invariant (subst P c.as_bytes.ensures.value c.in-Ok.ensures.read) in
     subst Q (sym (ap (map items) c.in-Ok-push.ensures.items ∙ map_push items at.contents.items c.in-Ok.bytes)) more
 

@@ -2,7 +2,7 @@
 use Rattle.std.proofs.Common.{ap}
 use Rattle.pef_ports.proofs.Laws.Sending.{Prints-then, Sends-short, Sends-then, StopsShort-longer, StopsShort-then}
 use Rattle.pef_prepared.specs.Fragment.{sections_text}
-use Rattle.pef_prepared.specs.Loaded.{name_in, sections_in}
+use Rattle.pef_prepared.specs.Loaded.{fragment_name, sections_in}
 use Rattle.pef_answers.specs.Refusals.{name_end}
 use Rattle.pef_answers.proofs.Laws.{same_printed, same_short}
 use Rattle.pef_prepared.proofs.loaded.print_fragment.Goals as goal
@@ -11,7 +11,7 @@ pub returns-in_err-send : goal.returns-in_err-send
 returns-in_err-send g c =
     let s = c.args.context.now in
     let p = c.args.position in
-    Sends-short _ c.from_residual.result _ c.from_residual.ensures.1 (StopsShort-longer (sections_text 0 (sections_in s p)) (StopsShort-longer (name_end (name_in s p)) c.in_err-send.ensures))
+    Sends-short _ c.from_residual.result _ c.from_residual.ensures.1 (StopsShort-longer (sections_text 0 (sections_in s p)) (StopsShort-longer (name_end (fragment_name s p)) c.in_err-send.ensures))
 
 pub returns-in_err-print_name_end : goal.returns-in_err-print_name_end
 returns-in_err-print_name_end g c =

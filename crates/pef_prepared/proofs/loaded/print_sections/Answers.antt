@@ -4,7 +4,7 @@ use Rattle.std.proofs.lemmas.List.{at_drop_more}
 use Rattle.cfm_memory.specs.declared.place.Place.{Place}
 use Rattle.cfm_present.specs.Fragments.{places_of}
 use Rattle.pef_ports.proofs.Laws.Sending.{Sends-short, sent-nothing, sent-piece, sent-short}
-use Rattle.pef_prepared.specs.Fragment.{PlacedSection, section_at, section_text, sections_text}
+use Rattle.pef_prepared.specs.Fragment.{PlacedSection, placed_section, section_text, sections_text}
 use Rattle.pef_prepared.proofs.LoadedLemmas.{held-section}
 use Rattle.pef_prepared.proofs.loaded.print_sections.Goals as goal
 
@@ -14,14 +14,14 @@ nowhere = record { address = 0; size = 0 }
 pub loop-i-init : goal.loop-i-init
 loop-i-init g c =
     let s = c.args.context.now in
-    sent-nothing (g.W.Sink.stream c.args.out.now) c.args.page.now.items (sections_text 0 (map (section_at s.memory) (places_of s.present c.args.position)))
+    sent-nothing (g.W.Sink.stream c.args.out.now) c.args.page.now.items (sections_text 0 (map (placed_section s.memory) (places_of s.present c.args.position)))
 
 pub returns-in_err-print_bytes : goal.returns-in_err-print_bytes
 returns-in_err-print_bytes g c =
     let at = c.loop-i in
     let s = c.args.context.now in
     let places = places_of s.present c.args.position in
-    let show = section_at s.memory in
+    let show = placed_section s.memory in
     let under : at.i < length places = omega (arith, c.loop-i-test.true, c.section_count-count.ensures) in
     let rest = sections_text (at.i + 1) (map show (drop (at.i + 1) places)) in
     let found = held-section s.memory places at.i nowhere c.in-Some.address c.in-Some.bytes.now under c.in-Some.ensures.section in
@@ -33,7 +33,7 @@ loop-i-preserved g c =
     let at = c.loop-i in
     let s = c.args.context.now in
     let places = places_of s.present c.args.position in
-    let show = section_at s.memory in
+    let show = placed_section s.memory in
     let under : at.i < length places = omega (arith, c.loop-i-test.true, c.section_count-count.ensures) in
     let rest = sections_text (at.i + 1) (map show (drop (at.i + 1) places)) in
     let found = held-section s.memory places at.i nowhere c.in-Some.address c.in-Some.bytes.now under c.in-Some.ensures.section in

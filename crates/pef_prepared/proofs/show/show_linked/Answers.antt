@@ -3,7 +3,7 @@ use Rattle.std.proofs.Common.{◌≡◌, List, codes, refl, sym, subst, ap, ◌�
 use Rattle.cfm_store.specs.Stores.{Pair}
 use Rattle.cfm_prepare.specs.Contexts.{fresh_state}
 use Rattle.cfm_prepare.specs.Steps.{MayNotPrepare, Prepares}
-use Rattle.pef_answers.specs.Answers.{Answer, Delivers}
+use Rattle.pef_answers.specs.Answers.{Answer, IsDelivered}
 use Rattle.pef_answers.specs.declared.refusal.Refusal.TheVariants.{OutOfMemory}
 use Rattle.pef_write.specs.Linked.{LinkedContainer}
 use Rattle.pef_prepared.specs.Limits.{memory_limit}
@@ -29,5 +29,5 @@ returns-in-Err g c = λ script linked.
     let store : c.in-Ok.store ≡ it_alone c.args.linked.now.bytes = c.in-Ok.ensures ∙ ap it_alone (c.deref.ensures.value ∙ ap (λ (l : LinkedContainer). l.bytes) c.linked.view_is) in
     let P : List Pair → Type 0 = λ pairs. MayNotPrepare (fresh_state pairs memory_limit) (codes "it") fault in
     let ends = unprepared script c.args.linked.now linked fault (subst P store c.in-Err.ensures.refused) in
-    let Q : Answer → Type 0 = λ answer. Delivers (stream c.args.out.now) (stream c.deliver-in-Err.new.out) answer c.deliver-in-Err.result in
+    let Q : Answer → Type 0 = λ answer. IsDelivered (stream c.args.out.now) (stream c.deliver-in-Err.new.out) answer c.deliver-in-Err.result in
     (ends.outcome, ends.ends, subst Q (sym ends.said) c.deliver-in-Err.ensures)

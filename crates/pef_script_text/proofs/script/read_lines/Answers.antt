@@ -3,7 +3,7 @@ use Rattle.std.proofs.Common.{◌≡◌, ◌+◌, [], ◌∷◌, subst, sym, ap,
 use Rattle.std.proofs.lemmas.Result.{err_from_is_err_and}
 use Rattle.pef_lines.specs.Lines.{lines_of}
 use Rattle.pef_script_text.specs.Grammar.{after_line, read_lines}
-use Rattle.pef_script_text.specs.Reads.{Fails}
+use Rattle.pef_script_text.specs.Reads.{FailsAs}
 use Rattle.pef_script_text.specs.Kept.Reader.{so_far}
 use Rattle.pef_script_text.specs.Kept.Steps.{ReadsLines}
 use Rattle.pef_lines.proofs.Laws.{lines_of-last, lines_of-cut, cut_at-shorter}
@@ -19,7 +19,7 @@ returns-in_err-read_numbered c =
     let cut = lines_of-cut c.lines.rest.now c.in-Some.line.now c.in-Some.behind.now (sym c.in-Some.ensures) in
     let whole : read_lines (so_far c.lines.reader) c.lines.number (c.in-Some.line.now ∷ lines_of c.in-Some.behind.now) ≡ read_lines (so_far c.args.reader.now) 1 (lines_of c.args.text.now) =
     ap (read_lines (so_far c.lines.reader) c.lines.number) (sym cut) ∙ c.lines.invariant.whole in
-    rw (p.1, p.2) (subst (Fails c.in_err-read_numbered.field-0.0) whole (read_lines-fails c.in_err-read_numbered.field-0.0 (so_far c.lines.reader) c.lines.number c.in-Some.line.now (lines_of c.in-Some.behind.now) c.in_err-read_numbered.ensures))
+    rw (p.1, p.2) (subst (FailsAs c.in_err-read_numbered.field-0.0) whole (read_lines-fails c.in_err-read_numbered.field-0.0 (so_far c.lines.reader) c.lines.number c.in-Some.line.now (lines_of c.in-Some.behind.now) c.in_err-read_numbered.ensures))
 
 pub lines-smaller : goal.lines-smaller
 lines-smaller c =

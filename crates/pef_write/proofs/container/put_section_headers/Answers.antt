@@ -1,9 +1,10 @@
 -- One header more is written, and at the end that of the loader section.
 use Rattle.std.proofs.Common.{◌≡◌, ◌∙◌, ◌<◌, ◌≤◌, ◌++◌, append-nil, get_or, length, ap, arith}
+use Rattle.std.proofs.lemmas.Result.{on_ok_weaker}
 use Rattle.pef_write.specs.Fields.{spelled}
 use Rattle.pef_write.specs.Containers.{loader_header, part_header, section_fields, spelled_headers}
 use Rattle.pef_write.specs.Kept.Views.{described}
-use Rattle.pef_write.proofs.Fields.{all_written, on_ok, one_more}
+use Rattle.pef_write.proofs.Fields.{all_written, one_more}
 use Rattle.pef_write.proofs.Containers.{length-raw_data-more, laid_out-more, laid_out-end, no_part, raw_data-end, sections-are}
 use Rattle.pef_write.proofs.container.put_section_headers.Goals as goal
 
@@ -35,4 +36,4 @@ returns c =
     let past : length c.args.parts.now ≤ c.loop-part.part-index = omega arith in
     let fields : c.section_fields-2.result ≡ section_fields (loader_header (length c.args.loader.now) c.loop-part.at) = c.section_fields-2.ensures ∙ ap section_fields c.loader_header.ensures in
     let split = laid_out-end c.loop-part.at c.args.parts.now c.args.loader.now c.loop-part.part-index past ∙ append-nil _ in
-    on_ok c.put_fields-2.result (λ (written : c.put_fields-2.new.out.items ≡ c.loop-part.out.items ++ spelled c.section_fields-2.result). all_written c.loop-part.out.items _ _ _ _ (written ∙ ap (λ f. c.loop-part.out.items ++ spelled f) fields) split c.loop-part.invariant.headers ∙ ap (λ s. c.args.out.now.items ++ spelled_headers s) (sections-are c.args.parts.now c.args.loader.now)) c.put_fields-2.ensures
+    on_ok_weaker c.put_fields-2.result (λ (written : c.put_fields-2.new.out.items ≡ c.loop-part.out.items ++ spelled c.section_fields-2.result). all_written c.loop-part.out.items _ _ _ _ (written ∙ ap (λ f. c.loop-part.out.items ++ spelled f) fields) split c.loop-part.invariant.headers ∙ ap (λ s. c.args.out.now.items ++ spelled_headers s) (sections-are c.args.parts.now c.args.loader.now)) c.put_fields-2.ensures

@@ -1,8 +1,8 @@
 -- A fragment goes onto the path, or is refused.
 use Rattle.std.proofs.Common.{◌∙◌, ℕ, List, Option, length, sym, ap}
 use Rattle.std.proofs.lemmas.Result.{err_from_is_err_and}
+use Rattle.pef_words.specs.Results.{◌>>=◌}
 use Rattle.cfm_libraries.specs.declared.walk.Frame.{Frame}
-use Rattle.cfm_libraries.specs.Faults.{◌>>=◌}
 use Rattle.cfm_libraries.specs.Kept.Paths.{count_of, rest_of, rest_of_path, state_of}
 use Rattle.cfm_libraries.specs.Walk.{marking}
 use Rattle.cfm_libraries.proofs.PathLemmas.{Fails-also, rest_of_path-push, visit-refused, visit-unmet}

@@ -1,7 +1,7 @@
 -- The walk from the root leads to the closure order.
 use Rattle.std.proofs.Common.{Ok, ap, ◌∙◌}
 use Rattle.std.proofs.lemmas.Result.{err_from_is_err_and}
-use Rattle.cfm_libraries.specs.Faults.{◌>>=◌}
+use Rattle.pef_words.specs.Results.{◌>>=◌}
 use Rattle.cfm_libraries.proofs.PathLemmas.{Fails-also, order_of-start}
 use Rattle.cfm_libraries.proofs.walk.Walk.from_root.Goals as goal
 

@@ -1,6 +1,6 @@
 -- A frame goes on with the next fragment that wasn't met, or its fragment is done.
 use Rattle.std.proofs.Common.{◌∙◌, sym, ap, subst}
-use Rattle.cfm_libraries.specs.Faults.{◌>>=◌}
+use Rattle.pef_words.specs.Results.{◌>>=◌}
 use Rattle.cfm_libraries.specs.Kept.Paths.{Continues, rest_of_path, state_of, visit_and_rest}
 use Rattle.cfm_libraries.specs.Walk.{joining}
 use Rattle.cfm_libraries.proofs.FrameLemmas.{met_and_rest, next_is}

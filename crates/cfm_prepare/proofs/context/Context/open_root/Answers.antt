@@ -6,14 +6,14 @@ use Rattle.std.proofs.lemmas.List.{length-append}
 use Rattle.std.proofs.lemmas.Result.{err_from_is_err_and}
 use Rattle.cfm_closure.specs.Closures.{Closed, closed_of}
 use Rattle.cfm_store.specs.Stores.{place_of}
-use Rattle.cfm_libraries.specs.Faults.{Fails}
+use Rattle.cfm_libraries.specs.Faults.{FailsAs}
 use Rattle.cfm_closure.proofs.Laws.{closed-complete, closed-root, closed-store}
 use Rattle.cfm_present.specs.Lists.{has}
 use Rattle.cfm_present.specs.Fragments.{Presence, is_present, new_among}
 use Rattle.cfm_present.specs.Placing.{ArePrepared}
 use Rattle.cfm_present.specs.Refusals.{MayNotPrepareNew}
 use Rattle.cfm_present.proofs.Laws.{has-contains, new-has, once-from-pairs, present-has}
-use Rattle.cfm_prepare.specs.Contexts.{Open, State, most_connections, open_of, open_without}
+use Rattle.cfm_prepare.specs.Contexts.{ContextState, Open, most_connections, open_of, open_without}
 use Rattle.cfm_prepare.specs.Kept.Connections.{AllBelow}
 use Rattle.cfm_prepare.specs.Kept.Users.{CountsMore, CountUsers}
 use Rattle.cfm_prepare.specs.Steps.{HasRoot}
@@ -26,7 +26,7 @@ pub returns-in_err-closure-clause-refused : goal.returns-in_err-closure-clause-r
 returns-in_err-closure-clause-refused c = λ name is.
     let p = err_from_is_err_and c.from_residual-in_err-closure.result c.from_residual-in_err-closure.ensures.1 in
     let has : HasRoot c.args.self.now name = record { left = c.requires.left; root = c.args.root; is = is } in
-    let fails : Fails c.in_err-closure.field-0.0 (closed_of c.args.self.now.pairs c.args.root) = rw (← c.self.view_is) c.in_err-closure.ensures in
+    let fails : FailsAs c.in_err-closure.field-0.0 (closed_of c.args.self.now.pairs c.args.root) = rw (← c.self.view_is) c.in_err-closure.ensures in
     rw (p.1, p.2) (has, fails)
 
 pub new-requires-clause-once : goal.new-requires-clause-once
@@ -36,7 +36,7 @@ new-requires-clause-once c =
 
 pub new-requires-clause-root : goal.new-requires-clause-root
 new-requires-clause-root c =
-    let P : State → Type 0 = λ s. c.args.root < length s.pairs in
+    let P : ContextState → Type 0 = λ s. c.args.root < length s.pairs in
     ends-contains c.in_ok-closure.closure.order c.args.root (closed-root c.self.inside.store c.args.root c.in_ok-closure.closure (subst P (sym c.self.view_is) c.requires.root) c.in_ok-closure.ensures)
 
 pub unwrap-requires : goal.unwrap-requires
@@ -85,8 +85,8 @@ returns-in-Ok-clause-prepared c = λ name is.
     let done = c.in-Ok.ensures.prepared in
     let there = c.self.inside.fragments.present in
     let P : Closed → Type 0 = λ k. ArePrepared c.self.inside.store there c.self.inside.fragments.memory (new_among there k.order) done.0 c.prepare.new.self.memory in
-    let Q : State → Type 0 = λ s. place_of s.pairs name ≡ Some c.args.root in
-    let R : State → Type 0 = λ s. s.given < most_connections in
+    let Q : ContextState → Type 0 = λ s. place_of s.pairs name ≡ Some c.args.root in
+    let R : ContextState → Type 0 = λ s. s.given < most_connections in
     rw (← c.self.view_is) (record {
       closure = record { has = record { left = subst R (sym c.self.view_is) c.requires.left; root = c.args.root; is = subst Q (sym c.self.view_is) is }; closed = closed; is = c.in_ok-closure.ensures };
       fresh = done.0;
@@ -110,7 +110,7 @@ invariant_of-self-in-Ok c =
     let pushed : c.push.new.self ≡ os ++ o ∷ [] = c.in_ok-push.ensures.pushed ∙ ap (λ (x : Open). os ++ x ∷ []) c.new.ensures in
     let done = c.in-Ok.ensures.prepared in
     let there = c.self.inside.fragments.present in
-    let R : State → Type 0 = λ s. s.given < most_connections in
+    let R : ContextState → Type 0 = λ s. s.given < most_connections in
     let left : given < most_connections = subst R (sym c.self.view_is) c.requires.left in
     let P : List ℕ → Type 0 = λ ps. CountsMore ps c.make_room.new.users.items c.enter.new.users.items in
     let Q : List Open → Type 0 = λ xs. CountUsers c.enter.new.users.items xs in
@@ -153,8 +153,8 @@ returns-in-Err-clause-refused c = λ name is.
     let o : Open = record { number = c.self.inside.given; root = c.args.root; closed = closed } in
     let put = put-is os c.push.new.self o c.new.result c.get.result c.unwrap.result c.closure-closure.result.now c.self.invariant.numbered c.in_ok-push.ensures.pushed c.new.ensures c.get.ensures c.unwrap.ensures c.closure-closure.ensures.closure in
     let P : Closed → Type 0 = λ k. MayNotPrepareNew c.self.inside.store c.self.inside.fragments.present c.self.inside.fragments.memory (new_among c.self.inside.fragments.present k.order) c.in-Err.fault in
-    let Q : State → Type 0 = λ s. place_of s.pairs name ≡ Some c.args.root in
-    let R : State → Type 0 = λ s. s.given < most_connections in
+    let Q : ContextState → Type 0 = λ s. place_of s.pairs name ≡ Some c.args.root in
+    let R : ContextState → Type 0 = λ s. s.given < most_connections in
     rw (← c.self.view_is) (record {
       closure = record { has = record { left = subst R (sym c.self.view_is) c.requires.left; root = c.args.root; is = subst Q (sym c.self.view_is) is }; closed = closed; is = c.in_ok-closure.ensures };
       why = subst P put c.in-Err.ensures.refused;
@@ -165,5 +165,5 @@ returns-in-Err-clause-unchanged c =
     let os = c.self.inside.connections in
     let o : Open = record { number = c.self.inside.given; root = c.args.root; closed = c.in_ok-closure.closure } in
     let gone = gone-again os c.push.new.self c.remove.new.self o c.new.result c.self.invariant.numbered c.in_ok-push.ensures.pushed c.new.ensures c.remove.ensures.left in
-    let S : Presence → List Open → State = λ f xs. record { pairs = c.self.inside.store; memory = f.memory; given = c.self.inside.given; connections = xs; present = f.present } in
+    let S : Presence → List Open → ContextState = λ f xs. record { pairs = c.self.inside.store; memory = f.memory; given = c.self.inside.given; connections = xs; present = f.present } in
     rw (← c.self.view_is) (ap (λ f. S f c.remove.new.self) c.in-Err.ensures.unchanged ∙ ap (S c.self.inside.fragments) gone)
