@@ -84,46 +84,75 @@ fn check(rt: HostRuntime) -> Result<(), Fail> {
     Ok(())
 }
 
-/// Files that aren't there or can't be read: SCRIPT is read before CERT, and both before a line of either.
+/// Words with files that aren't there: what is printed, and the calls. SCRIPT is read before CERT, and both before a
+/// line of either.
+const MISSING: &[(&[&str], &[u8], (u64, u64))] = &[
+    (
+        &["check", "none", "b"],
+        b"refused 71 FileUnreadable none\n",
+        (1, 0),
+    ),
+    (
+        &["check", "a", "none"],
+        b"refused 71 FileUnreadable none\n",
+        (2, 0),
+    ),
+    (
+        &["check", "x", "y"],
+        b"refused 71 FileUnreadable x\n",
+        (1, 0),
+    ),
+];
+
+#[test]
+fn check_missing(rt: HostRuntime) -> Result<(), Fail> {
+    for row in MISSING {
+        let (words, printed, calls) = *row;
+        let handed = Handed::files(words, b"no line\n", b"");
+        assert_prints(rt.alloc(), handed, printed, 1)?.assert_calls(calls)?;
+    }
+    Ok(())
+}
+
+/// The call that fails, and how, what is printed, and the calls.
+const FAILING: &[(u32, FileFault, &[u8], (u64, u64))] = &[
+    (
+        1,
+        FileFault::Failed,
+        b"refused 71 FileUnreadable a\n",
+        (1, 0),
+    ),
+    (
+        2,
+        FileFault::Failed,
+        b"refused 71 FileUnreadable b\n",
+        (2, 0),
+    ),
+    (
+        1,
+        FileFault::OutOfMemory,
+        b"refused 99 OutOfMemory\n",
+        (1, 0),
+    ),
+    (
+        2,
+        FileFault::OutOfMemory,
+        b"refused 99 OutOfMemory\n",
+        (2, 0),
+    ),
+];
+
 #[test]
 fn check_unreadable(rt: HostRuntime) -> Result<(), Fail> {
-    let missing: [([&str; 3], &[u8], (u64, u64)); 3] = [
-        (
-            ["check", "none", "b"],
-            b"refused 71 FileUnreadable none\n",
-            (1, 0),
-        ),
-        (
-            ["check", "a", "none"],
-            b"refused 71 FileUnreadable none\n",
-            (2, 0),
-        ),
-        (
-            ["check", "x", "y"],
-            b"refused 71 FileUnreadable x\n",
-            (1, 0),
-        ),
-    ];
-    for (words, printed, calls) in missing {
-        let handed = Handed::files(&words, b"no line\n", b"");
-        let outcome = assert_prints(rt.alloc(), handed, printed, 1)?;
-        outcome.assert_calls(calls)?;
-    }
-    let failing: [(u32, FileFault, &[u8]); 4] = [
-        (1, FileFault::Failed, b"refused 71 FileUnreadable a\n"),
-        (2, FileFault::Failed, b"refused 71 FileUnreadable b\n"),
-        (1, FileFault::OutOfMemory, b"refused 99 OutOfMemory\n"),
-        (2, FileFault::OutOfMemory, b"refused 99 OutOfMemory\n"),
-    ];
-    for (files_fail_at, fault, printed) in failing {
+    for row in FAILING {
+        let (files_fail_at, fault, printed, calls) = *row;
         let handed = Handed {
             step: 1000,
             files_fail_at,
             fault,
             ..Handed::files(&WORDS, b"no line\n", b"")
         };
-        let outcome = assert_prints(rt.alloc(), handed, printed, 1)?;
-        outcome.assert_calls((u64::from(files_fail_at), 0))?;
+        assert_prints(rt.alloc(), handed, printed, 1)?.assert_calls(calls)?;
     }
     Ok(())
 }

@@ -66,35 +66,37 @@ fn input_with_limit(rt: HostRuntime) {
 }
 
 /// Files that fail at a call, or have no memory for it: what `link` prints, and which calls it made.
+const FAILING: &[(u32, FileFault, &[u8], (u64, u64))] = &[
+    (
+        1,
+        FileFault::Failed,
+        b"refused 71 FileUnreadable a\n",
+        (1, 0),
+    ),
+    (
+        2,
+        FileFault::Failed,
+        b"refused 72 FileUnwritable out\n",
+        (1, 1),
+    ),
+    (
+        1,
+        FileFault::OutOfMemory,
+        b"refused 99 OutOfMemory\n",
+        (1, 0),
+    ),
+    (
+        2,
+        FileFault::OutOfMemory,
+        b"refused 99 OutOfMemory\n",
+        (1, 1),
+    ),
+];
+
 #[test]
 fn files_fail(rt: HostRuntime) -> Result<(), Fail> {
-    let rows: [(u32, FileFault, &[u8], (u64, u64)); 4] = [
-        (
-            1,
-            FileFault::Failed,
-            b"refused 71 FileUnreadable a\n",
-            (1, 0),
-        ),
-        (
-            2,
-            FileFault::Failed,
-            b"refused 72 FileUnwritable out\n",
-            (1, 1),
-        ),
-        (
-            1,
-            FileFault::OutOfMemory,
-            b"refused 99 OutOfMemory\n",
-            (1, 0),
-        ),
-        (
-            2,
-            FileFault::OutOfMemory,
-            b"refused 99 OutOfMemory\n",
-            (1, 1),
-        ),
-    ];
-    for (files_fail_at, fault, printed, calls) in rows {
+    for row in FAILING {
+        let (files_fail_at, fault, printed, calls) = *row;
         let handed = Handed {
             step: 1000,
             files_fail_at,

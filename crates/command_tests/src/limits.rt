@@ -1,10 +1,11 @@
 //! Scripts at all limits at once: 8 sections of 16,384 fixups that don't adjoin, 4,096 libraries, 65,536
 //! imports and 16,383 exports.
 
+use std::alloc::Global;
 use std::fmt::Write;
 use std::test::Fail;
 use test_bench::limits::{EVERY_OTHER, SECTIONS, at_all_limits, push_every_other, push_sections};
-use test_bench::runs::{Handed, run_tool};
+use test_bench::runs::{Handed, assert_prints, assert_shows};
 
 /// The address of a section.
 fn address_of(k: u32) -> u32 {
@@ -25,29 +26,40 @@ fn push_row(text: &mut String, k: u32, row: u32) -> Result<(), Fail> {
     Ok(())
 }
 
-/// The fixups are by an export of the fragment's own, at the first byte of its first section, and by all sections in
-/// turn.
+/// A script whose fixups are by an export of the fragment's own, at the first byte of its first section, and by all
+/// sections in turn.
+fn own_import(alloc: Global) -> Result<String, Fail> {
+    let mut text = String::from_str(alloc, "library it 0 0 -\nimport u data strong\n")?;
+    push_sections(&mut text, 4, EVERY_OTHER)?;
+    push_every_other(&mut text, "import u")?;
+    text.push_str("export u data s0 0\n")?;
+    Ok(text)
+}
+
+/// The lines of a section.
+fn push_section(text: &mut String, k: u32) -> Result<(), Fail> {
+    let address = address_of(k);
+    writeln!(text, "section {k} at {address:08X} size {EVERY_OTHER}")?;
+    for row in 0..EVERY_OTHER / 16 {
+        push_row(text, k, row)?;
+    }
+    Ok(())
+}
+
+/// What `show` prints of the script.
+fn shown(alloc: Global) -> Result<String, Fail> {
+    let mut text = String::from_str(alloc, "fragment it\n")?;
+    for k in 0..SECTIONS.len() as u32 {
+        push_section(&mut text, k)?;
+    }
+    Ok(text)
+}
+
 #[test]
 fn show_at_the_limits(rt: HostRuntime) -> Result<(), Fail> {
-    let mut script = String::from_str(rt.alloc(), "library it 0 0 -\nimport u data strong\n")?;
-    push_sections(&mut script, 4, EVERY_OTHER)?;
-    push_every_other(&mut script, "import u")?;
-    script.push_str("export u data s0 0\n")?;
-    let outcome = run_tool(rt.alloc(), Handed::input(&["show"], script.as_bytes()))?;
-    let mut shown = String::from_str(rt.alloc(), "fragment it\n")?;
-    for k in 0..SECTIONS.len() as u32 {
-        writeln!(
-            shown,
-            "section {k} at {:08X} size {EVERY_OTHER}",
-            address_of(k)
-        )?;
-        for row in 0..EVERY_OTHER / 16 {
-            push_row(&mut shown, k, row)?;
-        }
-    }
-    assert!(rt; outcome.printed.as_slice() == shown.as_bytes());
-    assert!(rt; outcome.status == 0);
-    Ok(())
+    let script = own_import(rt.alloc())?;
+    let shown = shown(rt.alloc())?;
+    assert_shows(rt.alloc(), script.as_bytes(), shown.as_bytes(), 0)
 }
 
 /// What `link` prints: a program has two halfwords for each fixup by a far import, and one for each move, of
@@ -63,8 +75,11 @@ const LINKED: &[u8] =
 fn link_at_the_limits(rt: HostRuntime) -> Result<(), Fail> {
     let script = at_all_limits(rt.alloc())?;
     let words = ["link", "a", "out"];
-    let outcome = run_tool(rt.alloc(), Handed::file(&words, script.as_bytes()))?;
-    assert!(rt; outcome.printed.as_slice() == LINKED);
-    assert!(rt; outcome.status == 0);
+    assert_prints(
+        rt.alloc(),
+        Handed::file(&words, script.as_bytes()),
+        LINKED,
+        0,
+    )?;
     Ok(())
 }

@@ -1,4 +1,5 @@
 use pef_tool::FileFault;
+use std::alloc::{AllocError, Global};
 use std::test::Fail;
 use test_bench::changes::{At, changed};
 use test_bench::containers::VECTORS_LEAST;
@@ -7,7 +8,7 @@ use test_bench::runs::{assert_prints_over, put_file, put_linked, run_over};
 use test_bench::scripts::{LIBRARY, USER};
 
 /// Scripts, and the paths at which their containers lie.
-const SCRIPTS: [(&str, &str); 14] = [
+const SCRIPTS: &[(&str, &str)] = &[
     ("user", USER),
     ("library", LIBRARY),
     (
@@ -157,60 +158,87 @@ const LOADS: &[(&[&str], &[u8], u8)] = &[
     (&["load", "x=vectors", "y"], b"usage\n", 2),
 ];
 
-#[test]
-fn load(rt: HostRuntime) -> Result<(), Fail> {
-    let alloc = rt.alloc();
-    let mut papers = Papers::new(alloc, 0, FileFault::Failed);
+/// Puts the containers of the scripts, and other files.
+fn put_files(alloc: Global, papers: &mut Papers) -> Result<(), Fail> {
     for (path, script) in SCRIPTS {
-        put_linked(alloc, &mut papers, path, script.as_bytes())?;
+        put_linked(alloc, papers, path, script.as_bytes())?;
     }
-    put_linked(alloc, &mut papers, "x=y", b"")?;
-    put_file(&mut papers, "vectors", VECTORS_LEAST)?;
+    put_linked(alloc, papers, "x=y", b"")?;
+    put_file(papers, "vectors", VECTORS_LEAST)?;
+    put_file(papers, "text", b"versions 1 0 0\n")?;
     let longer = changed(alloc, VECTORS_LEAST, At::Front(223), b"\x02")?;
-    put_file(&mut papers, "longer", longer.as_slice())?;
-    put_file(&mut papers, "text", b"versions 1 0 0\n")?;
+    put_file(papers, "longer", &longer)
+}
+
+fn test_loads(alloc: Global, papers: &mut Papers) -> Result<(), Fail> {
     for row in LOADS {
         let (words, printed, status) = *row;
-        assert_prints_over(alloc, &mut papers, words, printed, status)?;
+        assert_prints_over(alloc, papers, words, printed, status)?;
     }
     Ok(())
 }
 
-/// A call that reads a file fails, or memory is refused to it: no file behind it is read.
+#[test]
+fn load(rt: HostRuntime) -> Result<(), Fail> {
+    let mut papers = Papers::new(rt.alloc(), 0, FileFault::Failed);
+    put_files(rt.alloc(), &mut papers)?;
+    test_loads(rt.alloc(), &mut papers)
+}
+
+/// A call that reads a file fails, or memory is refused to it: what is printed, and how many files were read.
+const FAILING: &[(u32, FileFault, &[u8], u64)] = &[
+    (1, FileFault::Failed, b"refused 71 FileUnreadable a\n", 1),
+    (2, FileFault::Failed, b"refused 71 FileUnreadable b\n", 2),
+    (1, FileFault::OutOfMemory, b"refused 99 OutOfMemory\n", 1),
+    (3, FileFault::OutOfMemory, b"refused 99 OutOfMemory\n", 3),
+];
+
+/// Loads three files of which one isn't read, and tells how many were.
+fn reads_of(alloc: Global, papers: &mut Papers, printed: &[u8]) -> Result<u64, Fail> {
+    for path in ["a", "b", "c"] {
+        put_file(papers, path, VECTORS_LEAST)?;
+    }
+    assert_prints_over(alloc, papers, &["load", "A=a", "B=b", "C=c"], printed, 1)?;
+    let (reads, _) = papers.calls();
+    Ok(reads)
+}
+
+/// No file behind one that isn't read is read.
 #[test]
 fn load_files_fail(rt: HostRuntime) -> Result<(), Fail> {
-    let rows: [(u32, FileFault, &[u8], u64); 4] = [
-        (1, FileFault::Failed, b"refused 71 FileUnreadable a\n", 1),
-        (2, FileFault::Failed, b"refused 71 FileUnreadable b\n", 2),
-        (1, FileFault::OutOfMemory, b"refused 99 OutOfMemory\n", 1),
-        (3, FileFault::OutOfMemory, b"refused 99 OutOfMemory\n", 3),
-    ];
-    for (call, fault, printed, reads) in rows {
+    for row in FAILING {
+        let (call, fault, printed, reads) = *row;
         let mut papers = Papers::new(rt.alloc(), call, fault);
-        for path in ["a", "b", "c"] {
-            put_file(&mut papers, path, VECTORS_LEAST)?;
-        }
-        let words = ["load", "A=a", "B=b", "C=c"];
-        assert_prints_over(rt.alloc(), &mut papers, &words, printed, 1)?;
-        assert!(rt; papers.calls() == (reads, 0));
+        assert!(rt; reads_of(rt.alloc(), &mut papers, printed)? == reads);
     }
     Ok(())
 }
 
-/// The most files, and one more.
-#[test]
-fn load_many(rt: HostRuntime) -> Result<(), Fail> {
-    let alloc = rt.alloc();
-    let mut papers = Papers::new(alloc, 0, FileFault::Failed);
-    put_file(&mut papers, "x", VECTORS_LEAST)?;
+/// The words that load a file so many times.
+fn words_of(alloc: Global, count: usize) -> Result<Vec<&'static str>, AllocError> {
     let mut words = Vec::new(alloc);
     words.push("load")?;
-    for _ in 0..256 {
+    for _ in 0..count {
         words.push("x=x")?;
     }
-    let (_, status) = run_over(alloc, &mut papers, words.as_slice())?;
-    assert!(rt; status == 0);
+    Ok(words)
+}
+
+/// Loads a file so many times, and tells the status.
+fn status_of(alloc: Global, papers: &mut Papers, count: usize) -> Result<u8, AllocError> {
+    let words = words_of(alloc, count)?;
+    let (_, status) = run_over(alloc, papers, &words)?;
+    Ok(status)
+}
+
+/// The most files, and one more, with which the words are no command.
+#[test]
+fn load_many(rt: HostRuntime) -> Result<(), Fail> {
+    let mut papers = Papers::new(rt.alloc(), 0, FileFault::Failed);
+    put_file(&mut papers, "x", VECTORS_LEAST)?;
+    assert!(rt; status_of(rt.alloc(), &mut papers, 256)? == 0);
     assert!(rt; papers.calls() == (256, 0));
-    words.push("x=x")?;
-    assert_prints_over(alloc, &mut papers, words.as_slice(), b"usage\n", 2)
+    assert!(rt; status_of(rt.alloc(), &mut papers, 257)? == 2);
+    assert!(rt; papers.calls() == (256, 0));
+    Ok(())
 }

@@ -1,8 +1,9 @@
 //! Containers that `link` doesn't write.
 
 use pef_tool::FileFault;
+use std::alloc::Global;
 use std::test::Fail;
-use test_bench::changes::{At, changed};
+use test_bench::changes::{At, change, changed};
 use test_bench::containers::{SPELLED, TWICE};
 use test_bench::ports::Papers;
 use test_bench::runs::{assert_prints_over, put_file, put_linked};
@@ -17,7 +18,7 @@ enum Library {
 }
 
 /// Such libraries, each with other bytes from a place on, and what `load` prints of a fragment that needs it.
-const SPELLED_ROWS: [(Library, usize, &[u8], &[u8]); 24] = [
+const SPELLED_ROWS: &[(Library, usize, &[u8], &[u8])] = &[
     (
         Library::Plain,
         0,
@@ -143,35 +144,62 @@ const SPELLED_ROWS: [(Library, usize, &[u8], &[u8]); 24] = [
     ),
 ];
 
-#[test]
-fn load_spelled(rt: HostRuntime) -> Result<(), Fail> {
-    let alloc = rt.alloc();
-    let mut papers = Papers::new(alloc, 0, FileFault::Failed);
-    put_linked(alloc, &mut papers, "needs-p", b"library P 0 0 -\n")?;
-    let kind = changed(alloc, SPELLED, At::Front(64), b"\x02")?;
-    let size = changed(alloc, kind.as_slice(), At::Front(59), b"\x03")?;
-    let packed = changed(alloc, size.as_slice(), At::Front(96), b"\x41\x09\x7F")?;
-    for (library, at, other, printed) in SPELLED_ROWS {
-        let base = match library {
+/// The library with packed data.
+fn packed(alloc: Global) -> Result<Vec<u8>, Fail> {
+    let mut bytes = changed(alloc, SPELLED, At::Front(64), b"\x02")?;
+    change(&mut bytes, At::Front(59), b"\x03")?;
+    change(&mut bytes, At::Front(96), b"\x41\x09\x7F")?;
+    Ok(bytes)
+}
+
+/// Tests what `load` prints where the library is this container with other bytes from a place on.
+fn test_spelled(
+    alloc: Global,
+    papers: &mut Papers,
+    container: &[u8],
+    at: usize,
+    other: &[u8],
+    printed: &[u8],
+) -> Result<(), Fail> {
+    let changed = changed(alloc, container, At::Front(at), other)?;
+    put_file(papers, "p", &changed)?;
+    let status = if printed.starts_with(b"fragment") {
+        0
+    } else {
+        1
+    };
+    assert_prints_over(
+        alloc,
+        papers,
+        &["load", "A=needs-p", "P=p"],
+        printed,
+        status,
+    )
+}
+
+fn test_all_spelled(alloc: Global, papers: &mut Papers, packed: &[u8]) -> Result<(), Fail> {
+    for row in SPELLED_ROWS {
+        let (library, at, other, printed) = *row;
+        let container = match library {
             Library::Plain => SPELLED,
-            Library::Packed => packed.as_slice(),
+            Library::Packed => packed,
             Library::Twice => TWICE,
         };
-        let container = changed(alloc, base, At::Front(at), other)?;
-        put_file(&mut papers, "p", container.as_slice())?;
-        let status = if printed.starts_with(b"fragment") {
-            0
-        } else {
-            1
-        };
-        let words = ["load", "A=needs-p", "P=p"];
-        assert_prints_over(alloc, &mut papers, &words, printed, status)?;
+        test_spelled(alloc, papers, container, at, other, printed)?;
     }
     Ok(())
 }
 
+#[test]
+fn load_spelled(rt: HostRuntime) -> Result<(), Fail> {
+    let mut papers = Papers::new(rt.alloc(), 0, FileFault::Failed);
+    put_linked(rt.alloc(), &mut papers, "needs-p", b"library P 0 0 -\n")?;
+    let packed = packed(rt.alloc())?;
+    test_all_spelled(rt.alloc(), &mut papers, &packed)
+}
+
 /// Scripts whose export is made to pass on their import, and the paths at which their containers lie.
-const CIRCLES: [(&str, &[u8]); 4] = [
+const CIRCLES: &[(&str, &[u8])] = &[
     (
         "own",
         b"versions 1 0 0\nlibrary P 1 0 -\nimport u data strong\nsection m data process 4 4\nexport u data m 0\n",
@@ -190,36 +218,46 @@ const CIRCLES: [(&str, &[u8]); 4] = [
     ),
 ];
 
-/// Exports that pass on an import around a circle: the import is named that led into it, with its fragment.
-#[test]
-fn load_circles(rt: HostRuntime) -> Result<(), Fail> {
-    let rows: [(&[&str], &[u8]); 3] = [
-        (
-            &["load", "A=user", "P=own"],
-            b"refused 65 ReexportLoop in P symbol u\n",
-        ),
-        (
-            &["load", "P=own-behind-a", "A=user"],
-            b"refused 65 ReexportLoop in A symbol u\n",
-        ),
-        (
-            &["load", "P=p", "Q=q"],
-            b"refused 65 ReexportLoop in Q symbol p\n",
-        ),
-    ];
-    let alloc = rt.alloc();
-    let mut papers = Papers::new(alloc, 0, FileFault::Failed);
+/// Puts the container of a script at a path, with its only export made to pass on an import.
+fn put_circle(alloc: Global, papers: &mut Papers, path: &str, script: &[u8]) -> Result<(), Fail> {
+    put_linked(alloc, papers, "linked", script)?;
+    let linked = papers.bytes(b"linked").ok_or("nothing was linked")?;
+    // the section of the only export stands at the end
+    let circle = changed(alloc, linked, At::End(2), b"\xFF\xFD")?;
+    put_file(papers, path, &circle)
+}
+
+/// Exports that pass on an import around a circle, and what `load` prints: the import is named that led into it, with
+/// its fragment.
+const CIRCLES_LOADED: &[(&[&str], &[u8])] = &[
+    (
+        &["load", "A=user", "P=own"],
+        b"refused 65 ReexportLoop in P symbol u\n",
+    ),
+    (
+        &["load", "P=own-behind-a", "A=user"],
+        b"refused 65 ReexportLoop in A symbol u\n",
+    ),
+    (
+        &["load", "P=p", "Q=q"],
+        b"refused 65 ReexportLoop in Q symbol p\n",
+    ),
+];
+
+fn test_circles(alloc: Global, papers: &mut Papers) -> Result<(), Fail> {
     for (path, script) in CIRCLES {
-        put_linked(alloc, &mut papers, "linked", script)?;
-        let linked = papers.bytes(b"linked").ok_or("nothing was linked")?;
-        // the section of the only export stands at the end
-        let circle = changed(alloc, linked, At::End(2), b"\xFF\xFD")?;
-        put_file(&mut papers, path, circle.as_slice())?;
+        put_circle(alloc, papers, path, script)?;
     }
     let user = b"library P 1 0 -\nimport u data strong\n";
-    put_linked(alloc, &mut papers, "user", user)?;
-    for (words, printed) in rows {
-        assert_prints_over(alloc, &mut papers, words, printed, 1)?;
+    put_linked(alloc, papers, "user", user)?;
+    for (words, printed) in CIRCLES_LOADED {
+        assert_prints_over(alloc, papers, words, printed, 1)?;
     }
     Ok(())
+}
+
+#[test]
+fn load_circles(rt: HostRuntime) -> Result<(), Fail> {
+    let mut papers = Papers::new(rt.alloc(), 0, FileFault::Failed);
+    test_circles(rt.alloc(), &mut papers)
 }

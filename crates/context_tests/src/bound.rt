@@ -68,8 +68,7 @@ const LIBRARIES: &[(&[Fragment], &str)] = &[
     ),
 ];
 
-/// Orders: a diamond, a fragment that is its own library, two that need one another, and a circle of three
-/// with one library that is to come first, in each place, and with three of them.
+/// Orders: a diamond, a fragment that is its own library, and two that need one another.
 const ORDERS: &[(&[Fragment], &str)] = &[
     (
         &[
@@ -103,6 +102,15 @@ const ORDERS: &[(&[Fragment], &str)] = &[
         ],
         "66 InitLoop B",
     ),
+    // An absent library doesn't have to come first.
+    (
+        &[("A", "library B 0 0 weak,before\n", &[])],
+        "order 0, init 0",
+    ),
+];
+
+/// Circles of three with one library that is to come first, in each place, and with three of them.
+const CIRCLES: &[(&[Fragment], &str)] = &[
     (
         &[
             ("A", "library B 0 0 before\n", &[]),
@@ -135,11 +143,6 @@ const ORDERS: &[(&[Fragment], &str)] = &[
         ],
         "66 InitLoop C",
     ),
-    // An absent library doesn't have to come first.
-    (
-        &[("A", "library B 0 0 weak,before\n", &[])],
-        "order 0, init 0",
-    ),
 ];
 
 /// What is written over the section of the only export, so that it is absolute, or passes on an import.
@@ -151,7 +154,7 @@ const REEXPORT: &[Change] = &[(At::End(2), b"\xFF\xFD")];
 const M: &str =
     "versions 1 0 0\nlibrary L 1 0 -\nimport v data strong\nsection m data process 4 4\nexport u data m 0\n";
 
-/// Targets: by name, through exports that pass on imports, and around circles of them.
+/// Targets: by name, through an export that passes on an import or is absolute, and by a fragment from itself.
 const TARGETS: &[(&[Fragment], &str)] = &[
     (
         &[
@@ -195,7 +198,19 @@ const TARGETS: &[(&[Fragment], &str)] = &[
         ],
         "order 2 1 0, init 2 1 0, 1.0 at 2 0 0, 0.0 is 43981",
     ),
-    // A chain that ends where a weak library is absent, and where a weak symbol is missing.
+    (
+        &[(
+            "P",
+            "versions 1 0 0\nlibrary P 1 0 -\nimport u data strong\nsection m data process 4 4\nexport u data m 0\n",
+            &[],
+        )],
+        "order 0, init 0, 0.0 at 0 0 0",
+    ),
+];
+
+/// Chains of exports that pass on imports.
+const CHAINS: &[(&[Fragment], &str)] = &[
+    // One that ends where a weak library is absent, and where a weak symbol is missing.
     (
         &[
             ("A", "library M 1 0 -\nimport u data strong\n", &[]),
@@ -232,15 +247,7 @@ const TARGETS: &[(&[Fragment], &str)] = &[
         ],
         "62 SymbolMissing M A w",
     ),
-    // A fragment that imports from itself, a circle of one, and of two.
-    (
-        &[(
-            "P",
-            "versions 1 0 0\nlibrary P 1 0 -\nimport u data strong\nsection m data process 4 4\nexport u data m 0\n",
-            &[],
-        )],
-        "order 0, init 0, 0.0 at 0 0 0",
-    ),
+    // A circle of one, and of two.
     (
         &[(
             "P",
@@ -286,8 +293,18 @@ fn orders(rt: HostRuntime) -> Result<(), Fail> {
 }
 
 #[test]
+fn circles(rt: HostRuntime) -> Result<(), Fail> {
+    test_told(&rt, rt.alloc(), CIRCLES)
+}
+
+#[test]
 fn targets(rt: HostRuntime) -> Result<(), Fail> {
     test_told(&rt, rt.alloc(), TARGETS)
+}
+
+#[test]
+fn chains(rt: HostRuntime) -> Result<(), Fail> {
+    test_told(&rt, rt.alloc(), CHAINS)
 }
 
 /// Tests what is told of fragments with these names and bytes.
@@ -306,16 +323,22 @@ fn test_told_of_pairs(
 /// section, here at 80.
 const BAD_MAIN: &[Change] = &[(At::Front(80), &[0; 4])];
 
-/// A weak library that can't be read is refused all the same: its container, or its loader section.
+/// A fragment whose library is weak. One that can't be read is refused all the same.
+const NEEDS_WEAK: &str = "library L 0 0 weak\n";
+
 #[test]
-fn unreadable_libraries(rt: HostRuntime) -> Result<(), Fail> {
-    let alloc = rt.alloc();
-    let needs = container(alloc, "library L 0 0 weak\n", &[])?;
-    let short: [(&str, &[u8]); 2] = [("A", &needs), ("L", b"Joy!")];
-    test_told_of_pairs(&rt, alloc, &short, "1 TooShort L")?;
-    let bad_main = container(alloc, "", BAD_MAIN)?;
-    let bad_entry: [(&str, &[u8]); 2] = [("A", &needs), ("L", &bad_main)];
-    test_told_of_pairs(&rt, alloc, &bad_entry, "16 BadEntry L")
+fn unreadable_container(rt: HostRuntime) -> Result<(), Fail> {
+    let needs = container(rt.alloc(), NEEDS_WEAK, &[])?;
+    let pairs: [(&str, &[u8]); 2] = [("A", &needs), ("L", b"Joy!")];
+    test_told_of_pairs(&rt, rt.alloc(), &pairs, "1 TooShort L")
+}
+
+#[test]
+fn unreadable_loader(rt: HostRuntime) -> Result<(), Fail> {
+    let needs = container(rt.alloc(), NEEDS_WEAK, &[])?;
+    let bad_main = container(rt.alloc(), "", BAD_MAIN)?;
+    let pairs: [(&str, &[u8]); 2] = [("A", &needs), ("L", &bad_main)];
+    test_told_of_pairs(&rt, rt.alloc(), &pairs, "16 BadEntry L")
 }
 
 /// What gives the second of two libraries the import of the first. It stands at 160: its count of imports at

@@ -66,8 +66,7 @@ fn tell(text: &mut String, closure: &Closure<'_>) -> Result<(), AllocError> {
     tell_places(text, closure.init_order())?;
     for p in closure.order() {
         for j in 0..closure.loader(*p).header().import_count as usize {
-            write!(text, ", {p}.{j}")?;
-            tell_target(text, closure.target(*p, j))?;
+            tell_import(text, *p, j, closure.target(*p, j))?;
         }
     }
     Ok(())
@@ -78,6 +77,17 @@ fn tell_places(text: &mut String, places: &[usize]) -> Result<(), AllocError> {
         write!(text, " {p}")?;
     }
     Ok(())
+}
+
+/// An import of a fragment, and what it means.
+fn tell_import(
+    text: &mut String,
+    p: usize,
+    j: usize,
+    target: Option<Target>,
+) -> Result<(), AllocError> {
+    write!(text, ", {p}.{j}")?;
+    tell_target(text, target)
 }
 
 fn tell_target(text: &mut String, target: Option<Target>) -> Result<(), AllocError> {

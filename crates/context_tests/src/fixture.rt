@@ -1,4 +1,5 @@
-use cfm_prepare::{Connection, Context, PrepareFault};
+use crate::many::FRAGMENTS;
+use cfm_prepare::{CloseFault, Connection, Context, PrepareFault};
 use cfm_present::FragmentFault;
 use std::alloc::{AllocError, Global};
 use std::fmt::Write;
@@ -11,7 +12,7 @@ use test_links::{tell_name, tell_names};
 pub(crate) const LIMIT: u32 = 0x1000_0000;
 
 /// What is done: a fragment is prepared, or a connection closed.
-#[derive(Clone, Copy, Debug)]
+#[derive(Clone, Copy)]
 pub(crate) enum Step {
     Prepare(&'static str),
     Close(u32),
@@ -26,10 +27,9 @@ pub(crate) fn take_steps(
     limit: u32,
     steps: &[(Step, &str)],
 ) -> Result<(), Fail> {
-    let names = names_of(alloc, fragments)?;
     let containers = containers(alloc, fragments)?;
     let mut context = context_of(alloc, fragments, &containers, limit)?;
-    take_steps_in(rt, alloc, &mut context, &names, steps)
+    take_steps_in(rt, alloc, &mut context, steps)
 }
 
 /// A context over some fragments, which have these containers.
@@ -43,24 +43,15 @@ pub(crate) fn context_of<'a>(
     Ok(Context::new(alloc, store, limit))
 }
 
-fn names_of(alloc: Global, fragments: &[Fragment]) -> Result<Vec<&'static str>, AllocError> {
-    let mut names = Vec::new(alloc);
-    for fragment in fragments {
-        names.push(fragment.0)?;
-    }
-    Ok(names)
-}
-
-/// The same in a context whose fragments have some names.
+/// The same in a context.
 pub(crate) fn take_steps_in(
     rt: &impl Abort,
     alloc: Global,
     context: &mut Context<'_>,
-    names: &[&str],
     steps: &[(Step, &str)],
 ) -> Result<(), Fail> {
     for (step, wanted) in steps {
-        test_step(rt, alloc, context, names, *step, wanted)?;
+        test_step(rt, alloc, context, *step, wanted)?;
     }
     Ok(())
 }
@@ -69,61 +60,72 @@ fn test_step(
     rt: &impl Abort,
     alloc: Global,
     context: &mut Context<'_>,
-    names: &[&str],
     step: Step,
     wanted: &str,
 ) -> Result<(), AllocError> {
     let mut text = String::new(alloc);
-    tell_step(&mut text, context, names, step)?;
+    tell_step(&mut text, context, step)?;
     assert!(rt; text.as_str() == wanted);
     Ok(())
 }
 
 /// What a step is answered, and which sections are present behind it.
-fn tell_step(
-    text: &mut String,
-    context: &mut Context<'_>,
-    names: &[&str],
-    step: Step,
-) -> Result<(), AllocError> {
+fn tell_step(text: &mut String, context: &mut Context<'_>, step: Step) -> Result<(), AllocError> {
     take_step(text, context, step)?;
-    for (p, name) in names.iter().enumerate() {
-        tell_sections(text, context, p, name)?;
+    for p in 0..FRAGMENTS {
+        tell_sections(text, context, p)?;
     }
     Ok(())
 }
 
 fn take_step(text: &mut String, context: &mut Context<'_>, step: Step) -> Result<(), AllocError> {
     match step {
-        Step::Prepare(name) => match context.prepare(name.as_bytes()) {
-            Ok(connection) => write!(text, "{}", connection.0)?,
-            Err(fault) => tell_fault(text, fault)?,
-        },
-        Step::Close(number) => match context.close(Connection(number)) {
-            Ok(()) => text.push_str("closed")?,
-            Err(fault) => write!(text, "{} {fault}", fault.number())?,
-        },
+        Step::Prepare(name) => tell_prepared(text, context.prepare(name.as_bytes())),
+        Step::Close(number) => tell_closed(text, context.close(Connection(number))),
     }
-    Ok(())
 }
 
-/// The sections of a fragment that is present, each with its address and its bytes.
+fn tell_prepared(
+    text: &mut String,
+    answer: Result<Connection, PrepareFault<'_>>,
+) -> Result<(), AllocError> {
+    match answer {
+        Ok(connection) => write!(text, "{}", connection.0),
+        Err(fault) => tell_fault(text, fault),
+    }
+}
+
+fn tell_closed(text: &mut String, answer: Result<(), CloseFault>) -> Result<(), AllocError> {
+    match answer {
+        Ok(()) => text.push_str("closed"),
+        Err(fault) => write!(text, "{} {fault}", fault.number()),
+    }
+}
+
+/// The sections of the fragment at a place, where it is present, each with its address and its bytes.
 fn tell_sections(
     text: &mut String,
     context: &Context<'_>,
     position: usize,
-    name: &str,
 ) -> Result<(), AllocError> {
+    let Some(name) = context.name(position) else {
+        return Ok(());
+    };
     for i in 0..8 {
-        match context.fragment_section(position, i) {
-            Some((address, bytes)) => {
-                write!(text, ", {name} {address:08X} ")?;
-                for byte in bytes {
-                    write!(text, "{byte:02X}")?;
-                }
-            }
-            None => {}
+        if let Some((address, bytes)) = context.fragment_section(position, i) {
+            text.push(',')?;
+            tell_name(text, name)?;
+            tell_memory(text, address, bytes)?;
         }
+    }
+    Ok(())
+}
+
+/// An address, and the bytes that lie there.
+pub(crate) fn tell_memory(text: &mut String, address: u32, bytes: &[u8]) -> Result<(), AllocError> {
+    write!(text, " {address:08X} ")?;
+    for byte in bytes {
+        write!(text, "{byte:02X}")?;
     }
     Ok(())
 }

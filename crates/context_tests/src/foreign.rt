@@ -3,11 +3,12 @@ use crate::fixture::{LIMIT, Step, take_steps, take_steps_in};
 use cfm_closure::Store;
 use cfm_prepare::Context;
 use std::alloc::Global;
+use std::process::Abort;
 use std::test::Fail;
 use test_data::changes::{At, Change, changed};
 use test_data::containers::VECTORS_LEAST;
 use test_data::scripts::{LIBRARY, USER};
-use test_links::fragments::Fragment;
+use test_links::fragments::{Fragment, add};
 
 /// Fragments, and steps in a context over them.
 type Case = (&'static [Fragment], &'static [(Step, &'static str)]);
@@ -24,17 +25,22 @@ const LONGER: &[(Step, &str)] = &[
 /// A store of a changed container, `x`, and the one that it was made of, `y`.
 fn store_of_changed(alloc: Global, longer: &[u8]) -> Result<Store<'_>, Fail> {
     let mut store = Store::new(alloc);
-    store.add(b"x", longer)?;
-    store.add(b"y", VECTORS_LEAST)?;
+    add(&mut store, "x", longer)?;
+    add(&mut store, "y", VECTORS_LEAST)?;
     Ok(store)
+}
+
+/// Takes the steps in a context over these two.
+fn take_steps_over_changed(rt: &impl Abort, alloc: Global, longer: &[u8]) -> Result<(), Fail> {
+    let store = store_of_changed(alloc, longer)?;
+    let mut context = Context::new(alloc, store, LIMIT);
+    take_steps_in(rt, alloc, &mut context, LONGER)
 }
 
 #[test]
 fn bad_program(rt: HostRuntime) -> Result<(), Fail> {
     let longer = changed(rt.alloc(), VECTORS_LEAST, At::Front(223), b"\x02")?;
-    let store = store_of_changed(rt.alloc(), &longer)?;
-    let mut context = Context::new(rt.alloc(), store, LIMIT);
-    take_steps_in(&rt, rt.alloc(), &mut context, &["x", "y"], LONGER)
+    take_steps_over_changed(&rt, rt.alloc(), &longer)
 }
 
 /// A library of pattern-initialized data: seven packed bytes for eight.

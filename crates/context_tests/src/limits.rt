@@ -63,13 +63,17 @@ fn wanted(import: usize) -> Option<Target> {
     })
 }
 
+fn test_target(rt: &impl Abort, import: usize, target: Option<Target>) {
+    assert!(rt; target == wanted(import), "import {import}");
+}
+
 /// Tests what the imports mean.
 fn test_targets(rt: &impl Abort, closure: Closure<'_>) {
     assert!(rt; closure.order() == [1usize, 0].as_slice());
     let mut targets = 0u32;
     for p in closure.order() {
         for j in 0..closure.loader(*p).header().import_count as usize {
-            assert!(rt; closure.target(*p, j) == wanted(j), "{p} {j}");
+            test_target(rt, j, closure.target(*p, j));
             targets = targets.wrapping_add(1);
         }
     }
@@ -85,15 +89,25 @@ fn test_imports(rt: &impl Abort, alloc: Global, store: &Store<'_>) {
     }
 }
 
+/// Tests the closure of a fragment and its library, which have these containers.
+fn test_containers(
+    rt: &impl Abort,
+    alloc: Global,
+    user: &[u8],
+    library: &[u8],
+) -> Result<(), Fail> {
+    let store = store_of_imports(alloc, user, library)?;
+    test_imports(rt, alloc, &store);
+    Ok(())
+}
+
 /// 65,536 imports of one library, which has 16,383 exports, and 4,095 weak libraries that are missing.
 #[test]
 fn most_imports(rt: HostRuntime) -> Result<(), Fail> {
     let alloc = rt.alloc();
     let user = container(alloc, importing(alloc)?.as_str(), &[])?;
     let library = container(alloc, exporting(alloc)?.as_str(), &[])?;
-    let store = store_of_imports(alloc, &user, &library)?;
-    test_imports(&rt, alloc, &store);
-    Ok(())
+    test_containers(&rt, alloc, &user, &library)
 }
 
 /// The address of a fragment of the chain: the last one lies first, and each takes 16 bytes with the gap behind it.
@@ -110,6 +124,19 @@ fn word_of(p: usize) -> u32 {
     } else {
         0
     }
+}
+
+/// Tests the chain of fragments with these names and containers.
+fn test_chain_of(
+    rt: &impl Abort,
+    alloc: Global,
+    names: &[String],
+    containers: &[Vec<u8>],
+) -> Result<(), Fail> {
+    let store = many::store_of_all(alloc, names, containers)?;
+    let mut context = Context::new(alloc, store, LIMIT);
+    test_chain(rt, &mut context);
+    Ok(())
 }
 
 /// Prepares the first fragment of the chain, and tests all.
@@ -130,10 +157,7 @@ fn test_chain(rt: &impl Abort, context: &mut Context<'_>) {
 fn most_fragments(rt: HostRuntime) -> Result<(), Fail> {
     let names = many::names(rt.alloc())?;
     let containers = many::containers(rt.alloc(), false)?;
-    let store = many::store_of_all(rt.alloc(), &names, &containers)?;
-    let mut context = Context::new(rt.alloc(), store, LIMIT);
-    test_chain(&rt, &mut context);
-    Ok(())
+    test_chain_of(&rt, rt.alloc(), &names, &containers)
 }
 
 /// How many bytes a section may have.
@@ -167,14 +191,18 @@ fn test_greatest(rt: &impl Abort, context: &mut Context<'_>) {
     }
 }
 
+/// Tests the fragment that has this container.
+fn test_greatest_of(rt: &impl Abort, alloc: Global, bytes: &[u8]) -> Result<(), Fail> {
+    let mut store = Store::new(alloc);
+    add(&mut store, "G", bytes)?;
+    test_greatest(rt, &mut Context::new(alloc, store, LIMIT));
+    Ok(())
+}
+
 /// 128 MiB are placed, filled and relocated.
 #[test]
 fn most_memory(rt: HostRuntime) -> Result<(), Fail> {
-    let alloc = rt.alloc();
-    let bytes = container(alloc, greatest(alloc)?.as_str(), &[])?;
-    let mut store = Store::new(alloc);
-    add(&mut store, "G", &bytes)?;
-    let mut context = Context::new(alloc, store, LIMIT);
-    test_greatest(&rt, &mut context);
-    Ok(())
+    let script = greatest(rt.alloc())?;
+    let bytes = container(rt.alloc(), &script, &[])?;
+    test_greatest_of(&rt, rt.alloc(), &bytes)
 }

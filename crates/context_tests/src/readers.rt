@@ -1,4 +1,4 @@
-use crate::fixture::{LIMIT, context_of};
+use crate::fixture::{LIMIT, context_of, tell_memory};
 use cfm_prepare::{Connection, Context};
 use std::alloc::{AllocError, Global};
 use std::fmt::Write;
@@ -67,14 +67,11 @@ fn tell_section(
 ) -> Result<(), AllocError> {
     match section {
         Some((address, bytes)) => {
-            write!(text, ", {i} at {address:08X} ")?;
-            for byte in bytes {
-                write!(text, "{byte:02X}")?;
-            }
+            write!(text, ", {i} at")?;
+            tell_memory(text, address, bytes)
         }
-        None => write!(text, ", no {i}")?,
+        None => write!(text, ", no {i}"),
     }
-    Ok(())
 }
 
 fn tell_order(text: &mut String, order: Option<&[usize]>) -> Result<(), AllocError> {

@@ -210,14 +210,18 @@ const OTHER_ENTRIES: &[(usize, u32)] = &[
     (246, 0xFFFE),
 ];
 
+fn test_other_entries(rt: &impl Abort, loader: &Loader<'_>) {
+    assert!(rt; entries(loader) == (None, Some((0, 4)), Some((1, 12))));
+    let export = (&GO[230..232], TRANSITION_VECTOR_SYMBOL, ABSOLUTE_EXPORT, 0);
+    assert!(rt; exported(loader, 0) == Some(export));
+}
+
 #[test]
 fn other_entries(rt: HostRuntime) -> Result<(), Fail> {
     let bytes = with_words(rt.alloc(), &GO, OTHER_ENTRIES)?;
     let container = Container::read(&bytes)?;
     let loader = Loader::read(&container)?;
-    assert!(rt; entries(&loader) == (None, Some((0, 4)), Some((1, 12))));
-    let (_, _, section, value) = exported(&loader, 0).ok_or("no export")?;
-    assert!(rt; (section, value) == (ABSOLUTE_EXPORT, 0));
+    test_other_entries(&rt, &loader);
     Ok(())
 }
 
@@ -385,9 +389,17 @@ fn test_owned(rt: &impl Abort, alloc: Global, loader: Loader<'_>) -> Result<(), 
     let mut reader = ImportReader::new(loader);
     let table = ImportTable::read(alloc, loader)?;
     for (j, library) in OWNED {
-        let found = (library_of(reader.import(*j)), library_of(table.get(*j)));
-        assert!(rt; found == (*library, *library), "import {j}");
+        assert!(rt; library_of(reader.import(*j)) == *library, "import {j}");
+        assert!(rt; library_of(table.get(*j)) == *library, "import {j}");
     }
+    Ok(())
+}
+
+/// Tests the imports of a loader section of two blocks.
+fn test_two_blocks(rt: &impl Abort, alloc: Global, bytes: &[u8]) -> Result<(), Fail> {
+    let container = Container::read(bytes)?;
+    let loader = Loader::read(&container)?;
+    test_owned(rt, alloc, loader)?;
     Ok(())
 }
 
@@ -395,8 +407,5 @@ fn test_owned(rt: &impl Abort, alloc: Global, loader: Loader<'_>) -> Result<(), 
 fn imports_of_two_blocks(rt: HostRuntime) -> Result<(), Fail> {
     let mut bytes = vec![in rt.alloc(); 0; 65_720]?;
     change_words(&mut bytes, TWO_BLOCKS)?;
-    let container = Container::read(&bytes)?;
-    let loader = Loader::read(&container)?;
-    test_owned(&rt, rt.alloc(), loader)?;
-    Ok(())
+    test_two_blocks(&rt, rt.alloc(), &bytes)
 }
