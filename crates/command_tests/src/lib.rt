@@ -1,11 +1,9 @@
-//! Tests of the commands through `run`, over files, an input and an output in memory. Those of `distances` stand in a
-//! crate of their own, but for the memory that is refused to it.
+//! Tests of the commands through `run`, over files, an input and an output in memory. Those of `distances` and `check`
+//! stand in a crate of their own, but for the memory that is refused to them.
 //!
 //! Expected values come from the documents and from worked examples, never from the program.
 #![tactic(auto)]
 
-#[cfg(test)]
-mod check;
 #[cfg(test)]
 mod failures;
 #[cfg(test)]
