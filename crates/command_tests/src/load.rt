@@ -185,7 +185,7 @@ fn load(rt: HostRuntime) -> Result<(), Fail> {
     test_loads(rt.alloc(), &mut papers)
 }
 
-/// A call that reads a file fails, or memory is refused to it: what is printed, and how many files were read.
+/// A call that reads a file fails, or memory is refused to it: what is printed, and how many reads there were.
 const FAILING: &[(u32, FileFault, &[u8], u64)] = &[
     (1, FileFault::Failed, b"refused 71 FileUnreadable a\n", 1),
     (2, FileFault::Failed, b"refused 71 FileUnreadable b\n", 2),
@@ -193,14 +193,13 @@ const FAILING: &[(u32, FileFault, &[u8], u64)] = &[
     (3, FileFault::OutOfMemory, b"refused 99 OutOfMemory\n", 3),
 ];
 
-/// Loads three files of which one isn't read, and tells how many were.
-fn reads_of(alloc: Global, papers: &mut Papers, printed: &[u8]) -> Result<u64, Fail> {
+/// Loads three files of which one isn't read, and tells the calls of reads and of writes.
+fn calls_of(alloc: Global, papers: &mut Papers, printed: &[u8]) -> Result<(u64, u64), Fail> {
     for path in ["a", "b", "c"] {
         put_file(papers, path, VECTORS_LEAST)?;
     }
     assert_prints_over(alloc, papers, &["load", "A=a", "B=b", "C=c"], printed, 1)?;
-    let (reads, _) = papers.calls();
-    Ok(reads)
+    Ok(papers.calls())
 }
 
 /// No file behind one that isn't read is read.
@@ -209,7 +208,7 @@ fn load_files_fail(rt: HostRuntime) -> Result<(), Fail> {
     for row in FAILING {
         let (call, fault, printed, reads) = *row;
         let mut papers = Papers::new(rt.alloc(), call, fault);
-        assert!(rt; reads_of(rt.alloc(), &mut papers, printed)? == reads);
+        assert!(rt; calls_of(rt.alloc(), &mut papers, printed)? == (reads, 0));
     }
     Ok(())
 }
@@ -224,21 +223,24 @@ fn words_of(alloc: Global, count: usize) -> Result<Vec<&'static str>, AllocError
     Ok(words)
 }
 
-/// Loads a file so many times, and tells the status.
-fn status_of(alloc: Global, papers: &mut Papers, count: usize) -> Result<u8, AllocError> {
-    let words = words_of(alloc, count)?;
-    let (_, status) = run_over(alloc, papers, &words)?;
-    Ok(status)
-}
-
-/// The most files, and one more, with which the words are no command.
+/// As many files as there may be.
 #[test]
 fn load_many(rt: HostRuntime) -> Result<(), Fail> {
     let mut papers = Papers::new(rt.alloc(), 0, FileFault::Failed);
     put_file(&mut papers, "x", VECTORS_LEAST)?;
-    assert!(rt; status_of(rt.alloc(), &mut papers, 256)? == 0);
+    let words = words_of(rt.alloc(), 256)?;
+    let (_, status) = run_over(rt.alloc(), &mut papers, &words)?;
+    assert!(rt; status == 0);
     assert!(rt; papers.calls() == (256, 0));
-    assert!(rt; status_of(rt.alloc(), &mut papers, 257)? == 2);
-    assert!(rt; papers.calls() == (256, 0));
+    Ok(())
+}
+
+/// With one more the words are no command.
+#[test]
+fn load_too_many(rt: HostRuntime) -> Result<(), Fail> {
+    let mut papers = Papers::new(rt.alloc(), 0, FileFault::Failed);
+    let words = words_of(rt.alloc(), 257)?;
+    assert_prints_over(rt.alloc(), &mut papers, &words, b"usage\n", 2)?;
+    assert!(rt; papers.calls() == (0, 0));
     Ok(())
 }
