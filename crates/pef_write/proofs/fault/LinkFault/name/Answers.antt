@@ -1,0 +1,5 @@
+use Rattle.std.proofs.Common.{rules}
+use Rattle.pef_write.proofs.fault.LinkFault.name.Goals as goal
+
+pub returns : goal.returns
+returns c = search rules
