@@ -1,14 +1,13 @@
 -- What is gathered of a script for its loader section: the entries, the strings and the export table.
-use Rattle.std.proofs.Common.{◌≡◌, ◌∙◌, ℕ, ◌+◌, ◌<◌, ◌^◌, List, [], ◌++◌, length, map, length-append, refl, sym, ap, ap₂, arith}
-use Rattle.std.specs.List.{flat_map}
+use Rattle.std.proofs.Common.{◌≡◌, ◌∙◌, ℕ, ◌+◌, ◌<◌, ◌^◌, List, [], ◌++◌, length, map, length-append, sym, ap, ap₂, arith}
 use Rattle.pef_hash.specs.Build.{built}
-use Rattle.pef_loader.specs.Export.{Export}
 use Rattle.pef_script.specs.Script.{DescribedScript}
 use Rattle.pef_script.specs.Script.{export_names, import_names, library_names}
 use Rattle.pef_write.specs.declared.field.Field.TheVariants.{Word}
 use Rattle.pef_write.specs.Fields.{spelled}
 use Rattle.pef_write.specs.Linked.{exports_at, libraries_from, linked_import, script_tables}
 use Rattle.pef_write.specs.Loaders.{ProgramEntry, entry_fields, export_fields, export_names_from, import_fields, import_names_from, library_fields, program_bytes, program_fields, strings_of, table_fields, written_loader, zero_ended}
+use Rattle.pef_write.specs.Kept.Pieces.{names_before, names_in_order}
 use Rattle.pef_write.proofs.Fields.{in_three}
 use Rattle.pef_write.proofs.Fitting.{import_names-are, library_names-are}
 use Rattle.pef_write.proofs.Loaders.{length-written_loader}
@@ -24,22 +23,13 @@ module _ (s : DescribedScript) (programs : List ProgramEntry) where
   own_imports = ap zero_ended (sym (import_names-are s.imports))
 
   -- the three kinds of names, one behind the other, are the strings
-  pub strings_are : (first second third : List ℕ) → first ≡ [] ++ zero_ended (library_names s) → second ≡ first ++ zero_ended (import_names s) → third ≡ second ++ flat_map (λ (e : Export). e.name) (exports_at s.exports (built (export_names s)).order)
-      → third ≡ strings_of (script_tables s programs)
+  pub strings_are : names_before s ++ names_in_order s ≡ strings_of (script_tables s programs)
   unfolding script_tables
-  strings_are first second third a b c =
-      let libraries = a ∙ ap zero_ended (sym (library_names-are s.imports 0 s.libraries)) in
-      let both = b ∙ ap₂ (λ x y. x ++ y) libraries own_imports in
-      c ∙ ap (λ z. z ++ flat_map (λ (e : Export). e.name) (exports_at s.exports (built (export_names s)).order)) both
+  strings_are = ap (λ z. z ++ names_in_order s) (ap₂ (λ x y. x ++ y) (ap zero_ended (sym (library_names-are s.imports 0 s.libraries))) own_imports)
 
-  -- .. so there is room for each kind
-  pub strings_room : length (strings_of (script_tables s programs)) < 2 ^ 24
-      → length (zero_ended (library_names s)) + length (zero_ended (import_names s)) + length (flat_map (λ (e : Export). e.name) (exports_at s.exports (built (export_names s)).order)) < 2 ^ 24
-  strings_room small =
-      let a = zero_ended (library_names s) in
-      let b = zero_ended (import_names s) in
-      let c = flat_map (λ (e : Export). e.name) (exports_at s.exports (built (export_names s)).order) in
-      omega (arith, small, ap length (strings_are a (a ++ b) ((a ++ b) ++ c) refl refl refl), length-append (a ++ b) c, length-append a b)
+  -- .. so there is room for them
+  pub strings_room : length (strings_of (script_tables s programs)) < 2 ^ 24 → length (names_before s) + length (names_in_order s) < 2 ^ 24
+  strings_room small = omega (arith, small, ap length strings_are, length-append (names_before s) (names_in_order s))
 
   pub programs_room : length (written_loader (script_tables s programs)) < 2 ^ 32 → length (program_bytes programs) < 2 ^ 32
   unfolding script_tables
@@ -54,13 +44,13 @@ module _ (s : DescribedScript) (programs : List ProgramEntry) where
       in_three [] (library_fields 0 (libraries_from s.imports 0 s.libraries)) (import_fields (import_names_from (script_tables s programs)) (map linked_import s.imports)) (program_fields 0 programs) first second third
       a (b ∙ ap (λ n. first ++ spelled (import_fields n (map linked_import s.imports))) from) c
 
-  -- the export table, where the names of exports stand behind those of imports
-  pub table_is : (libraries strings first second third : List ℕ) → libraries ≡ [] ++ zero_ended (library_names s) → strings ≡ libraries ++ zero_ended (import_names s) → first ≡ [] ++ spelled (map Word (built (export_names s)).slots)
+  -- the export table, where the names of exports stand behind those of libraries and imports
+  pub table_is : (strings first second third : List ℕ) → strings ≡ names_before s → first ≡ [] ++ spelled (map Word (built (export_names s)).slots)
       → second ≡ first ++ spelled (map Word (built (export_names s)).keys) → third ≡ second ++ spelled (export_fields (length strings) (exports_at s.exports (built (export_names s)).order)) → third ≡ spelled (table_fields (script_tables s programs))
   unfolding script_tables
-  table_is libraries strings first second third names more a b c =
+  table_is strings first second third names a b c =
       let exports = exports_at s.exports (built (export_names s)).order in
       let from : length strings ≡ export_names_from (script_tables s programs) =
-      ap length more ∙ length-append libraries (zero_ended (import_names s)) ∙ ap₂ (λ n m. n + m) (ap length names ∙ own_libraries) (ap length own_imports) in
+      ap length names ∙ length-append (zero_ended (library_names s)) (zero_ended (import_names s)) ∙ ap₂ (λ n m. n + m) own_libraries (ap length own_imports) in
       in_three [] (map Word (built (export_names s)).slots) (map Word (built (export_names s)).keys) (export_fields (export_names_from (script_tables s programs)) exports) first second third
       a b (c ∙ ap (λ n. second ++ spelled (export_fields n exports)) from)

@@ -7,10 +7,8 @@ use Rattle.pef_reloc.specs.declared.instr.Instr.{Instr}
 use Rattle.pef_reloc.specs.Instrs.{program_length, spelled}
 use Rattle.pef_reloc.specs.Limits.{most_fixups}
 use Rattle.pef_script.specs.Script.{DescribedScript}
-use Rattle.pef_write.specs.Containers.{DescribedPart, written_container}
-use Rattle.pef_write.specs.Linked.{AreProgramsFor, linked_bytes, linked_loader, linked_parts, linked_tables, script_tables}
-use Rattle.pef_write.specs.Loaders.{strings_of, written_loader}
-use Rattle.pef_write.specs.Kept.Encoded.{AreEncoded, HasCertificates, nonempty_from}
+use Rattle.pef_write.specs.Linked.{AreProgramsFor, linked_bytes, linked_loader, linked_tables, script_tables}
+use Rattle.pef_write.specs.Kept.Encoded.{AreEncoded, HasCertificates, HasRoom, container_with, nonempty_from}
 use Rattle.pef_write.proofs.Certificates.{certified_programs}
 use Rattle.pef_write.proofs.Fitting.{parts_fit, sizes_of}
 use Rattle.pef_write.proofs.Listing.{all-seen, map-twice}
@@ -35,27 +33,26 @@ module _ (s : DescribedScript) (certificates : List Certified) (bytes : List (Li
   tables_as : script_tables s (nonempty_from 0 bytes) ≡ linked_tables s (programs_of certificates)
   tables_as = ap (script_tables s) (ap (nonempty_from 0) bytes_as ∙ sym (own_programs-are (length s.sections) 0 s.sections (programs_of certificates) programs_for))
 
-  pub loader_fits : length (written_loader (script_tables s (nonempty_from 0 bytes))) < 2 ^ 32
-  loader_fits = rw tables_as (omega (arith, (sizes_of s (programs_of certificates) e.has.holds programs_for).loader))
-
-  pub strings_fit : length (strings_of (script_tables s (nonempty_from 0 bytes))) < 2 ^ 24
-  strings_fit = rw tables_as (sizes_of s (programs_of certificates) e.has.holds programs_for).strings
-
   -- the container that is written
-  pub container_is : (parts : List DescribedPart) (loader : List ℕ) → parts ≡ linked_parts s → loader ≡ written_loader (script_tables s (nonempty_from 0 bytes)) → written_container s.versions parts loader ≡ linked_bytes s (programs_of certificates)
+  pub container_is : container_with s bytes ≡ linked_bytes s (programs_of certificates)
   unfolding linked_loader linked_bytes
-  container_is parts loader parts_are loader_is = rw (parts_are, loader_is, tables_as) refl
+  container_is = rw tables_as refl
 
-  pub container_fits : length (linked_bytes s (programs_of certificates)) < 2 ^ 32
+  container_fits : length (linked_bytes s (programs_of certificates)) < 2 ^ 32
   unfolding linked_bytes
   container_fits = (parts_fit s (programs_of certificates) e.has.holds programs_for).size
 
--- programs are few and short
-pub encoded_few : {A : Type 0} (f : A → List ℕ) (s : DescribedScript) (certificates : List Certified) (programs : List A) → AreEncoded s certificates (map f programs) → length programs < 2 ^ 15
-encoded_few f s certificates programs e =
-    let all = bytes_as s certificates (map f programs) e in
-    omega (arith, sym (length-map programs f) ∙ ap length all ∙ length-map (programs_of certificates) spelled, length-programs (length s.sections) s.sections (programs_of certificates) (programs_for s certificates (map f programs) e), e.has.holds.sections.count)
+  -- programs are few, and there is room for them
+  pub has_room : HasRoom s bytes
+  has_room = record {
+    holds = e.has.holds;
+    few = omega (arith, ap length bytes_as ∙ length-map (programs_of certificates) spelled, length-programs (length s.sections) s.sections (programs_of certificates) programs_for, e.has.holds.sections.count);
+    loader = rw tables_as (omega (arith, (sizes_of s (programs_of certificates) e.has.holds programs_for).loader));
+    strings = rw tables_as (sizes_of s (programs_of certificates) e.has.holds programs_for).strings;
+    container = omega (arith, ap length container_is, container_fits);
+  }
 
+-- programs are short
 pub encoded_short : {A : Type 0} (f : A → List ℕ) (s : DescribedScript) (certificates : List Certified) (programs : List A) → AreEncoded s certificates (map f programs) → All (λ p. length (f p) < 2 ^ 32) programs
 encoded_short f s certificates programs e k d under =
     let all = bytes_as s certificates (map f programs) e in

@@ -35,11 +35,8 @@ pub(crate) fn put_libraries(
     'libraries: while let Some((name, library)) = libraries.get_index(k) {
         let end = imports_end(script, k as u32, first);
         let at = strings.len() as u32;
-        put_fields(
-            out,
-            &library_entry(*library, at, first as u32, (end - first) as u32),
-        )?;
-        put_name(strings, name)?;
+        let entry = library_entry(*library, at, first as u32, (end - first) as u32);
+        put_entry(out, strings, &entry, name)?;
         k += 1;
         first = end;
     }
@@ -78,17 +75,24 @@ pub(crate) fn put_imports(
     let mut j = 0;
     let imports = &script.parts().imports;
     'imports: while let Some((name, import)) = imports.get_index(j) {
-        put_fields(out, &import_entry(*import, strings.len() as u32))?;
-        put_name(strings, name)?;
+        let entry = import_entry(*import, strings.len() as u32);
+        put_entry(out, strings, &entry, name)?;
         j += 1;
     }
     Ok(())
 }
 
-/// Appends a name and the byte that ends it.
-fn put_name(strings: &mut Vec<u8>, name: &[u8]) -> Result<(), LinkFault>
-    ensures { OnOk result (strings.new.items ≡ strings.old.items ++ (name.now ++ 0 ∷ [])) }
+/// Appends an entry, and its name and the byte that ends it to the strings.
+fn put_entry(
+    out: &mut Vec<u8>,
+    strings: &mut Vec<u8>,
+    fields: &[Field],
+    name: &[u8],
+) -> Result<(), LinkFault>
+    ensures entry { OnOk result (out.new.items ≡ out.old.items ++ spelled fields.now) }
+    ensures name { OnOk result (strings.new.items ≡ strings.old.items ++ (name.now ++ 0 ∷ [])) }
 {
+    put_fields(out, fields)?;
     strings.extend_from_slice(name)?;
     strings.push(NAME_END)?;
     Ok(())

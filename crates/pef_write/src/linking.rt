@@ -1,6 +1,7 @@
 ghost use Rattle.std.specs.Prelude.{◌≡◌, ◌/◌, ◌<◌, ◌^◌, IfOk, length, map};
 ghost use Rattle.std.specs.List.{All};
 ghost use Rattle.pef_write.specs.Linked.{IsLinked};
+ghost use Rattle.pef_write.specs.Kept.Encoded.{HasRoom, container_with};
 
 use crate::container::write_container;
 use crate::fault::LinkFault;
@@ -44,15 +45,26 @@ pub fn link(alloc: Global, script: &Script<'_>) -> Result<Linked, LinkFault>
     let certificates = certificates(alloc, script)?;
     let programs = programs(alloc, &certificates)?;
     let lengths = halfwords(alloc, &programs)?;
-    let own = section_programs(alloc, &programs)?;
-    let loader = write_loader(alloc, script, &own)?;
-    let parts = parts(alloc, script)?;
-    let bytes = write_container(alloc, script.parts().versions, &parts, &loader)?;
+    let bytes = container(alloc, script, &programs)?;
     Ok(Linked {
         bytes,
         lengths,
         certificates,
     })
+}
+
+/// The container of a script, with the programs of its sections.
+fn container(alloc: Global, script: &Script<'_>, programs: &[Vec<u8>]) -> Result<Vec<u8>, LinkFault>
+    requires { HasRoom script.now (map (λ p. p.items) programs.now) }
+    ensures { IfOk result (λ bytes. bytes.items ≡ container_with script.now (map (λ p. p.items) programs.now)) }
+{
+    let loader = {
+        let own = section_programs(alloc, programs)?;
+        write_loader(alloc, script, &own)?
+    };
+    let parts = parts(alloc, script)?;
+    let versions = script.parts().versions;
+    Ok(write_container(alloc, versions, &parts, &loader)?)
 }
 
 /// How many halfwords each of `programs` has.

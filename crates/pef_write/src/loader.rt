@@ -1,11 +1,13 @@
-ghost use Rattle.std.specs.Prelude.{◌≡◌, ◌+◌, ◌++◌, ◌<◌, ◌^◌, OnOk, IfOk, length, map};
+ghost use Rattle.std.specs.Prelude.{◌≡◌, ◌+◌, ◌++◌, ◌<◌, ◌^◌, List, [], OnOk, IfOk, length, map};
 ghost use Rattle.std.specs.Int.{next_multiple_of};
+ghost use Rattle.pef_hash.specs.Build.{built};
+ghost use Rattle.pef_script.specs.Script.{export_names};
 ghost use Rattle.pef_script.specs.WellFormed.{ScriptHolds};
 ghost use Rattle.pef_write.specs.Fields.{spelled};
-ghost use Rattle.pef_write.specs.Loaders.{entry_offset, entry_section, exports_from, header_fields, program_bytes, strings_of, written_loader};
+ghost use Rattle.pef_write.specs.Loaders.{ProgramEntry, entry_fields, entry_offset, entry_section, exports_from, header_fields, program_bytes, strings_of, table_fields, written_loader};
 ghost use Rattle.pef_write.specs.declared.field.Field.TheVariants.{Word};
 ghost use Rattle.pef_write.specs.Linked.{script_tables};
-ghost use Rattle.pef_write.specs.Kept.Pieces.{ArePieces, ArePlaces};
+ghost use Rattle.pef_write.specs.Kept.Pieces.{ArePieces, ArePlaces, names_before, names_in_order};
 ghost use Rattle.pef_write.specs.Kept.Views.{program_entry};
 
 use crate::entries::{put_exports, put_imports, put_libraries};
@@ -13,6 +15,7 @@ use crate::export_table::export_table;
 use crate::fault::LinkFault;
 use crate::field::{Field, put_fields};
 use crate::relocations::{SectionProgram, programs_len, put_programs, put_relocations};
+use pef_hash::Table;
 use pef_loader::layout::{LOADER_HEADER_SIZE, NO_SECTION};
 use pef_script::Script;
 use std::alloc::{AllocError, Global};
@@ -46,16 +49,12 @@ pub(crate) fn write_loader(
     requires strings { length (strings_of (script_tables script.now (map program_entry programs.now))) < 2 ^ 24 }
     ensures { IfOk result (λ loader. loader.items ≡ written_loader (script_tables script.now (map program_entry programs.now))) }
 {
+    let hash = export_table(alloc, script)?;
     let mut entries = Vec::new(alloc);
     let mut strings = Vec::new(alloc);
-    put_libraries(&mut entries, &mut strings, script)?;
-    put_imports(&mut entries, &mut strings, script)?;
-    put_relocations(&mut entries, programs)?;
-    let hash = export_table(alloc, script)?;
+    put_entries(&mut entries, &mut strings, script, programs)?;
     let mut table = Vec::new(alloc);
-    put_words(&mut table, &hash.slots)?;
-    put_words(&mut table, &hash.keys)?;
-    put_exports(&mut table, &mut strings, script, &hash.order)?;
+    put_table(&mut table, &mut strings, script, &hash)?;
     let pieces = Pieces {
         entries: &entries,
         programs,
@@ -63,11 +62,54 @@ pub(crate) fn write_loader(
         power: hash.power,
         table: &table,
     };
-    Ok(join(alloc, script, pieces)?)
+    join(alloc, script, pieces)
+}
+
+/// Writes the libraries, the imports and the relocation headers of a script, and the names of the first two
+/// to the strings.
+fn put_entries(
+    entries: &mut Vec<u8>,
+    strings: &mut Vec<u8>,
+    script: &Script<'_>,
+    programs: &[SectionProgram<'_>],
+) -> Result<(), LinkFault>
+    requires holds { ScriptHolds script.now }
+    requires first { (entries.old.items ≡ []) × (strings.old.items ≡ []) }
+    requires fits { length (program_bytes (map program_entry programs.now)) < 2 ^ 32 }
+    requires names { length (names_before script.now) < 2 ^ 24 }
+    ensures entries { OnOk result (entries.new.items ≡ spelled (entry_fields (script_tables script.now (map program_entry programs.now)))) }
+    ensures names { OnOk result (strings.new.items ≡ names_before script.now) }
+{
+    put_libraries(entries, strings, script)?;
+    put_imports(entries, strings, script)?;
+    put_relocations(entries, programs)?;
+    Ok(())
+}
+
+/// Writes the export table of a script, and the names of the exports to the strings, behind those of libraries
+/// and imports.
+fn put_table(
+    table: &mut Vec<u8>,
+    strings: &mut Vec<u8>,
+    script: &Script<'_>,
+    hash: &Table,
+) -> Result<(), LinkFault>
+    requires holds { ScriptHolds script.now }
+    requires hash { hash.now ≡ built (export_names script.now) }
+    requires first { table.old.items ≡ [] }
+    requires names { strings.old.items ≡ names_before script.now }
+    requires room { length strings.old.items + length (names_in_order script.now) < 2 ^ 24 }
+    ensures table { OnOk result ((programs : List ProgramEntry) → table.new.items ≡ spelled (table_fields (script_tables script.now programs))) }
+    ensures names { OnOk result (strings.new.items ≡ strings.old.items ++ names_in_order script.now) }
+{
+    put_words(table, &hash.slots)?;
+    put_words(table, &hash.keys)?;
+    put_exports(table, strings, script, &hash.order)?;
+    Ok(())
 }
 
 /// The loader section of `script` whose pieces these are.
-fn join(alloc: Global, script: &Script<'_>, pieces: Pieces<'_>) -> Result<Vec<u8>, AllocError>
+fn join(alloc: Global, script: &Script<'_>, pieces: Pieces<'_>) -> Result<Vec<u8>, LinkFault>
     requires pieces { ArePieces (script_tables script.now (map program_entry pieces.programs.now)) pieces }
     requires fits { length (written_loader (script_tables script.now (map program_entry pieces.programs.now))) < 2 ^ 32 }
     ensures { IfOk result (λ loader. loader.items ≡ written_loader (script_tables script.now (map program_entry pieces.entry.programs.now))) }

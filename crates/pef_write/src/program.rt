@@ -46,8 +46,8 @@ fn program_bytes(alloc: Global, program: &[Instr]) -> Result<Vec<u8>, AllocError
     requires { instrs_fit program.now ≡ true }
     ensures { IfOk result (λ bytes. bytes.items ≡ spelled program.now) }
 {
-    match encode(alloc, program) {
-        Ok(bytes) => Ok(bytes),
-        Err(_) => Err(AllocError),
-    }
+    let Ok(bytes) = encode(alloc, program) else {
+        return Err(AllocError);
+    };
+    Ok(bytes)
 }

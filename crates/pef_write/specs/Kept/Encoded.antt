@@ -1,11 +1,12 @@
 -- The certificates of a script's sections and their relocation programs as bytes, as the code holds them.
-use Rattle.std.specs.Prelude.{◌≡◌, ℕ, ◌+◌, List, [], ◌∷◌, ◌++◌, map}
+use Rattle.std.specs.Prelude.{◌≡◌, ℕ, ◌+◌, ◌<◌, ◌^◌, List, [], ◌∷◌, ◌++◌, length, map}
 use Rattle.pef_labels.specs.Certified.{Certified}
 use Rattle.pef_reloc.specs.Instrs.{spelled}
 use Rattle.pef_script.specs.Script.{DescribedScript}
 use Rattle.pef_script.specs.WellFormed.{ScriptHolds}
-use Rattle.pef_write.specs.Linked.{AreCertified}
-use Rattle.pef_write.specs.Loaders.{ProgramEntry}
+use Rattle.pef_write.specs.Containers.{written_container}
+use Rattle.pef_write.specs.Linked.{AreCertified, linked_parts, script_tables}
+use Rattle.pef_write.specs.Loaders.{ProgramEntry, strings_of, written_loader}
 
 -- a program that has bytes, with its section's number
 abbrev pub nonempty : ℕ → List ℕ → List ProgramEntry
@@ -26,3 +27,19 @@ pub record HasCertificates (s : DescribedScript) (certificates : List Certified)
 pub record AreEncoded (s : DescribedScript) (certificates : List Certified) (bytes : List (List ℕ)) : Type 0 where
   pub has : HasCertificates s certificates
   pub bytes_are : bytes ≡ map (λ c. spelled c.program) certificates
+
+-- the loader section of a script with the programs of its sections as bytes, and the container
+
+abbrev pub loader_with : DescribedScript → List (List ℕ) → List ℕ
+loader_with s programs = written_loader (script_tables s (nonempty_from 0 programs))
+
+abbrev pub container_with : DescribedScript → List (List ℕ) → List ℕ
+container_with s programs = written_container s.versions (linked_parts s) (loader_with s programs)
+
+-- a script that was read, and programs for which there is room
+pub record HasRoom (s : DescribedScript) (programs : List (List ℕ)) : Type 0 where
+  pub holds : ScriptHolds s
+  pub few : length programs < 2 ^ 15
+  pub loader : length (loader_with s programs) < 2 ^ 32
+  pub strings : length (strings_of (script_tables s (nonempty_from 0 programs))) < 2 ^ 24
+  pub container : length (container_with s programs) < 2 ^ 32

@@ -15,8 +15,8 @@ use Rattle.pef_write.proofs.Listing.{none_past}
 use Rattle.pef_write.proofs.entries.put_imports.Goals as goal
 
 -- names that are left have room
-pub import_entry-requires-clause-at : goal.import_entry-requires-clause-at
-import_entry-requires-clause-at c =
+pub import_entry-entry-requires-clause-at : goal.import_entry-entry-requires-clause-at
+import_entry-entry-requires-clause-at c =
     let room = within c.imports.strings.items _ c.args.strings.now.items (zero_ended (import_names c.args.script.now)) (2 ^ 24) c.imports.invariant.names c.requires.strings in
     omega (arith, room)
 
@@ -25,8 +25,8 @@ overflow_cast-len c =
     let room = within c.imports.strings.items _ c.args.strings.now.items (zero_ended (import_names c.args.script.now)) (2 ^ 24) c.imports.invariant.names c.requires.strings in
     omega (arith, room)
 
-pub import_entry-requires-clause-class : goal.import_entry-requires-clause-class
-import_entry-requires-clause-class c =
+pub import_entry-entry-requires-clause-class : goal.import_entry-entry-requires-clause-class
+import_entry-entry-requires-clause-class c =
     (all-get (ImportHolds (length c.args.script.now.libraries)) c.args.script.now.imports c.imports.j (import_of (c.in-Some.name.now, c.in-Some.import.now)) c.requires.holds.imports.each (import-found c.parts.result.now c.args.script.now c.imports.j _ c.parts.ensures.parts c.in-Some.ensures.entry)).class
 
 pub overflow_add-j : goal.overflow_add-j
@@ -43,11 +43,11 @@ imports-preserved c =
     let i = import_of (c.in-Some.name.now, c.in-Some.import.now) in
     let found = import-found c.parts.result.now c.args.script.now c.imports.j _ c.parts.ensures.parts c.in-Some.ensures.entry in
     let at : c.len.result ≡ length c.imports.strings.items = omega arith in
-    let size = longer c.imports.strings.items i.name c.put_name.new.strings.items c.in_ok-put_name.ensures in
-    let entry = c.in_ok-put_fields.ensures ∙ ap (λ f. c.imports.out.items ++ spelled f) (c.import_entry.ensures i.name ∙ ap (λ n. import_entry n (linked_import i)) at) in
+    let size = longer c.imports.strings.items i.name c.put_entry.new.strings.items c.in_ok-put_entry.ensures.name in
+    let entry = c.in_ok-put_entry.ensures.entry ∙ ap (λ f. c.imports.out.items ++ spelled f) (c.import_entry-entry.ensures i.name ∙ ap (λ n. import_entry n (linked_import i)) at) in
     record {
-      names = one_more c.imports.strings.items _ c.put_name.new.strings.items _ _ _ c.in_ok-put_name.ensures (names-here (λ (symbol : DescribedImport). symbol.name) imports c.imports.j i found) c.imports.invariant.names;
-      entries = rw size (one_more c.imports.out.items _ c.put_fields.new.out.items _ _ _ entry (import-here (length c.imports.strings.items) c.imports.j imports i found) c.imports.invariant.entries);
+      names = one_more c.imports.strings.items _ c.put_entry.new.strings.items _ _ _ c.in_ok-put_entry.ensures.name (names-here (λ (symbol : DescribedImport). symbol.name) imports c.imports.j i found) c.imports.invariant.names;
+      entries = rw size (one_more c.imports.out.items _ c.put_entry.new.out.items _ _ _ entry (import-here (length c.imports.strings.items) c.imports.j imports i found) c.imports.invariant.entries);
     }
 
 pub returns-clause-entries : goal.returns-clause-entries

@@ -50,15 +50,15 @@ libraries-preserved c =
     let found = library-found c.parts.result.now c.args.script.now c.libraries.k _ c.parts.ensures.parts c.in-Some.ensures.entry in
     let first : c.libraries.first ≡ count_before k imports = c.libraries.invariant.first in
     let count : c.imports_end-end.result - c.libraries.first ≡ count_of k imports = omega (arith, c.imports_end-end.ensures, first, before-next k imports) in
-    let size = longer c.libraries.strings.items l.name c.put_name.new.strings.items c.in_ok-put_name.ensures in
+    let size = longer c.libraries.strings.items l.name c.put_entry.new.strings.items c.in_ok-put_entry.ensures.name in
     let read : ℕ → ℕ → Library = λ count first. record { name = l.name; current = l.current; old_imp = l.old_imp; count = count; first = first; options = l.options } in
     let at : c.len-at.result ≡ length c.libraries.strings.items = omega arith in
-    let fields = c.library_entry.ensures l.name ∙ ap (λ n. library_entry n (read (c.imports_end-end.result - c.libraries.first) c.libraries.first)) at ∙ ap₂ (λ n m. library_entry (length c.libraries.strings.items) (read n m)) count first in
-    let entry = c.in_ok-put_fields.ensures ∙ ap (λ f. c.libraries.out.items ++ spelled f) fields in
+    let fields = c.library_entry-entry.ensures l.name ∙ ap (λ n. library_entry n (read (c.imports_end-end.result - c.libraries.first) c.libraries.first)) at ∙ ap₂ (λ n m. library_entry (length c.libraries.strings.items) (read n m)) count first in
+    let entry = c.in_ok-put_entry.ensures.entry ∙ ap (λ f. c.libraries.out.items ++ spelled f) fields in
     record {
       first = c.imports_end-end.ensures;
-      names = one_more c.libraries.strings.items _ c.put_name.new.strings.items _ _ _ c.in_ok-put_name.ensures (names-here (λ (library : DescribedLibrary). library.name) libraries k l found) c.libraries.invariant.names;
-      entries = rw size (one_more c.libraries.out.items _ c.put_fields.new.out.items _ _ _ entry (library-here imports (length c.libraries.strings.items) k libraries l found) c.libraries.invariant.entries);
+      names = one_more c.libraries.strings.items _ c.put_entry.new.strings.items _ _ _ c.in_ok-put_entry.ensures.name (names-here (λ (library : DescribedLibrary). library.name) libraries k l found) c.libraries.invariant.names;
+      entries = rw size (one_more c.libraries.out.items _ c.put_entry.new.out.items _ _ _ entry (library-here imports (length c.libraries.strings.items) k libraries l found) c.libraries.invariant.entries);
     }
 
 pub returns-clause-entries : goal.returns-clause-entries
