@@ -1,11 +1,11 @@
 -- What a line says is what is read from it.
-use Rattle.std.proofs.Common.{◌≡◌, ℕ, suc, ◌+◌, ◌-◌, ◌<◌, ◌≤◌, List, [], ◌∷◌, ◌++◌, Option, None, Some, Result, Ok, Err, length, refl, arith, ap, sym, ◌∙◌}
+use Rattle.std.proofs.Common.{◌≡◌, ◌==◌, true, ℕ, suc, ◌+◌, ◌-◌, ◌<◌, ◌≤◌, List, [], ◌∷◌, ◌++◌, Option, None, Some, Result, Ok, Err, length, refl, arith, ap, sym, ◌∙◌}
 use Rattle.std.specs.Option.{ok_or}
 use Rattle.pef_labels.specs.Certified.{Certified}
 use Rattle.pef_words.specs.Results.{◌>>=◌}
 use Rattle.pef_cert_text.specs.declared.fault.CertFault.{CertFault}
 use Rattle.pef_cert_text.specs.declared.fault.CertFault.TheVariants.{BadCertificate, OutOfMemory}
-use Rattle.pef_cert_text.specs.declared.fields.Head.TheVariants.{Section}
+use Rattle.pef_cert_text.specs.declared.fields.Head.TheVariants.{End, Section}
 use Rattle.pef_cert_text.specs.declared.lines.Line.{Line}
 use Rattle.pef_cert_text.specs.Grammar.{Left, behind_head, certificate_read, certificates_of, certificates_read, line_read, rows_read}
 use Rattle.pef_cert_text.specs.Kept.Reading.{Going, NextLine, Says, Takes}
@@ -102,3 +102,9 @@ pub certificates-more : (text : List ℕ) (certificates : List Certified) (behin
 certificates-more text certificates behind head next section certificate going is less certified no_more =
     let g = going_on text certificates behind going in
     record { most = g.most; more = omega (arith, g.more); whole = rw (is, certified) at g.whole }
+
+-- and behind the last line these are all
+pub certificates-end : (text : List ℕ) (certificates : List Certified) (behind head : Left) → Going text certificates behind → line_read head_line behind ≡ Ok (End, head) → true ≡ (length head.text == 0) → certificates_of text ≡ Ok certificates
+certificates-end text certificates behind head going is empty =
+    let g = going_on text certificates behind going in
+    sym (rw (is, ← empty) at g.whole)

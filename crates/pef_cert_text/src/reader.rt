@@ -22,7 +22,6 @@ use std::alloc::Global;
 ///
 /// `BadCertificate` with the number of the first line that breaks a rule by itself or against the lines
 /// before it, or, where a line is missing, of the one behind the last; `OutOfMemory`.
-#[tactic(auto, using(crate::proofs::TextsRead::read_can_be_printed))]
 pub fn read(alloc: Global, text: &[u8]) -> Result<Vec<Certificate>, CertFault>
     ensures certificates { ReadsAs (result_map (λ v. v.items) result) (certificates_of text.now) }
     ensures printable { IfOk result (λ v. AllByRecursion Printable v.items) }

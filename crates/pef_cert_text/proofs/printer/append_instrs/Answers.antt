@@ -2,8 +2,11 @@ use Rattle.std.proofs.Common.{◌++◌, ap, sym, ◌∙◌, arith}
 use Rattle.pef_reloc.specs.declared.instr.Instr.TheVariants.{BySectDWithSkip}
 use Rattle.pef_reloc.specs.Instrs.{halfword_bytes}
 use Rattle.pef_cert_text.specs.Printed.{halfword_words, words_text}
-use Rattle.pef_cert_text.proofs.PrintLemmas.{instrs_fit-more, instrs_text-more, instrs_text-none}
+use Rattle.pef_cert_text.proofs.PrintLemmas.{instrs_fit-first, instrs_fit-more, instrs_text-more, instrs_text-none}
 use Rattle.pef_cert_text.proofs.printer.append_instrs.Goals as goal
+
+pub spelling-requires : goal.spelling-requires
+spelling-requires c = instrs_fit-first _ _ (BySectDWithSkip 0 0) c.loop-instr-test.true c.loop-instr.invariant.fit
 
 pub loop-instr-preserved : goal.loop-instr-preserved
 loop-instr-preserved c =

@@ -1,5 +1,5 @@
 -- Each turn reads one certificate more.
-use Rattle.std.proofs.Common.{◌≡◌, Ok, length, List, subst, sym, ap, arith}
+use Rattle.std.proofs.Common.{◌≡◌, Ok, length, List, subst, sym, ap, arith, rules}
 use Rattle.std.proofs.lemmas.Result.{err_from_is_err_and}
 use Rattle.pef_labels.specs.Certified.{Certified}
 use Rattle.pef_cert_text.specs.declared.fields.Head.{Head}
@@ -7,7 +7,8 @@ use Rattle.pef_cert_text.specs.Grammar.{Left, line_read}
 use Rattle.pef_cert_text.specs.Kept.Reading.{Going, left}
 use Rattle.pef_cert_text.specs.Lines.{head_line, version_line}
 use Rattle.pef_cert_text.specs.Views.{FailsAs}
-use Rattle.pef_cert_text.proofs.ReadLemmas.{certificates-begin, certificates-fail, certificates-more}
+use Rattle.pef_cert_text.proofs.ReadLemmas.{certificates-begin, certificates-end, certificates-fail, certificates-more}
+use Rattle.pef_cert_text.proofs.TextsRead.{read_can_be_printed}
 use Rattle.pef_cert_text.proofs.reader.read.Goals as goal
 
 pub returns-in_err-read_version-clause-certificates : goal.returns-in_err-read_version-clause-certificates
@@ -29,3 +30,11 @@ certificates-preserved c =
     let more = certificates-more c.args.text.now c.certificates.certificates.items (left c.certificates.lines) (left c.read_head.new.lines) (left c.read_certificate.new.lines) c.in-Section.section
     c.in_ok-certificate-in-Section.certificate c.certificates.invariant head c.in_ok-read_head.ensures.less c.in_ok-certificate-in-Section.ensures.takes c.in_ok-certificate-in-Section.ensures.no_more in
     subst (λ (cs : List Certified). Going c.args.text.now cs (left c.read_certificate.new.lines)) (sym c.in_ok-push-in-Section.ensures.items) more
+
+pub returns-clause-certificates : goal.returns-clause-certificates
+returns-clause-certificates c =
+    let head = subst (λ (h : Head). line_read head_line (left c.certificates.lines) ≡ Ok (h, left c.read_head.new.lines)) c.in-End.is c.in_ok-read_head.ensures.takes in
+    certificates-end c.args.text.now c.certificates.certificates.items (left c.certificates.lines) (left c.read_head.new.lines) c.certificates.invariant head (search rules)
+
+pub returns-clause-printable : goal.returns-clause-printable
+returns-clause-printable c = read_can_be_printed c.args.text.now c.certificates.certificates.items (returns-clause-certificates c)
