@@ -1,4 +1,5 @@
-use Rattle.std.proofs.Common.{◌≡◌, ◌+◌, List, ℕ, ap, arith, length, refl, subst}
+use Rattle.std.proofs.Common.{◌≡◌, ◌∙◌, ◌+◌, List, ℕ, ap, arith, length, refl, subst, sym}
+use Rattle.pef_cert.specs.Valid.{RegistersOf}
 use Rattle.pef_labels.specs.Certified.{Certified}
 use Rattle.pef_plan.specs.Kept.Laid.{LaidLabels}
 use Rattle.pef_plan.specs.Kept.Tables.{Tabled}
@@ -37,3 +38,14 @@ returns-clause-valid c = plan_valid c.args.fixups.now c.in_ok-tables.tables.labe
 
 pub returns-clause-exact : goal.returns-clause-exact
 returns-clause-exact c = plan_exact c.args.fixups.now c.in_ok-tables.tables.labels c.in_ok-tables.tables.skips.items c.in_ok-labels.labels (whole c) (made c)
+
+pub fill-requires-clause-registers : goal.fill-requires-clause-registers
+fill-requires-clause-registers c = subst (λ (xs : List ℕ). RegistersOf c.args.fixups.now xs) (sym c.deref.ensures.value) c.in_ok-registers.ensures
+
+pub least_program-requires-clause-registers : goal.least_program-requires-clause-registers
+least_program-requires-clause-registers c = subst (λ (xs : List ℕ). RegistersOf c.args.fixups.now xs) (sym c.deref-2.ensures.value) c.in_ok-registers.ensures
+
+pub least_program-requires-clause-tabled : goal.least_program-requires-clause-tabled
+least_program-requires-clause-tabled c =
+    subst (λ (xs : List ℕ). Tabled xs c.in_ok-tables.tables.labels c.deref-3.result.now 0 c.args.fixups.now) (c.deref.ensures.value ∙ sym c.deref-2.ensures.value)
+    (subst (λ (xs : List (List ℕ)). Tabled c.deref.result.now c.in_ok-tables.tables.labels xs 0 c.args.fixups.now) (sym c.deref-3.ensures.value) c.in_ok-tables.ensures)

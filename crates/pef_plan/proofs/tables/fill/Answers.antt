@@ -1,5 +1,5 @@
-use Rattle.std.proofs.Common.{◌≡◌, ◌+◌, ◌-◌, ◌++◌, ◌∷◌, List, ℕ, [], drop, length, take, refl, subst, sym, arith}
-use Rattle.std.proofs.lemmas.List.{drop_all}
+use Rattle.std.proofs.Common.{◌≡◌, ◌∙◌, ◌+◌, ◌-◌, ◌++◌, ◌∷◌, List, ℕ, [], drop, length, take, refl, subst, sym, arith}
+use Rattle.std.proofs.lemmas.List.{drop_all, get_or_read}
 use Rattle.pef_reloc.specs.Deliveries.{index_after}
 use Rattle.pef_runs.specs.Ends.{EndsOf}
 use Rattle.pef_runs.specs.Tables.{SameLabels}
@@ -76,3 +76,25 @@ fixups-preserved c =
           (record { left = e.left; parts = e.parts; others = e.others; import_index = e.import_index })
           c.in_ok-pass.ensures);
     }
+
+pub index-requires : goal.index-requires
+index-requires c =
+    let h = c.in_ok-indices.ensures in
+    omega (arith, h.count, c.fixups.invariant.inside, c.fixups-test.true, c.in_ok-indices.indices.ok.0)
+
+pub state_at-state-requires-clause-import_index : goal.state_at-state-requires-clause-import_index
+state_at-state-requires-clause-import_index c =
+    let h = c.in_ok-indices.ensures in
+    get_or_read c.in_ok-indices.indices.items _ _ (omega (arith, h.count, c.fixups.invariant.inside, c.fixups-test.true)) c.index.ensures 0
+    ∙ h.at (c.fixups.at - 1) (omega (arith, c.fixups.invariant.inside, c.fixups-test.true))
+
+pub labels_at-row-requires-clause-ends : goal.labels_at-row-requires-clause-ends
+labels_at-row-requires-clause-ends c = c.in_ok-pass.ensures
+
+pub skips_at-line-requires-clause-ends : goal.skips_at-line-requires-clause-ends
+skips_at-line-requires-clause-ends c = c.in_ok-pass.ensures
+
+pub returns : goal.returns
+returns c =
+    let none : c.fixups.at ≡ 0 = omega (arith, c.fixups-test.false) in
+    subst (λ (n : ℕ). Tabled c.args.registers.now c.fixups.labels c.fixups.skips.items (index_after (take n c.args.fixups.now) 0) (drop n c.args.fixups.now)) none c.fixups.invariant.tabled
