@@ -1,6 +1,7 @@
 -- Each section of a container is there, with its raw bytes inside.
-use Rattle.std.proofs.Common.{◌≡◌, ◌∙◌, ap, subst, sym, arith, length}
-use Rattle.pef_views.specs.Container.{IsInstantiable, Section, section_in}
+use Rattle.std.proofs.Common.{◌≡◌, ◌≤◌, ◌∙◌, ap, refl, subst, sym, arith, length}
+use Rattle.std.proofs.lemmas.Bool.{le-ltb}
+use Rattle.pef_views.specs.Container.{IsInstantiable, Section, section_in, section_of}
 use Rattle.pef_views.specs.Views.{contained, seen}
 use Rattle.pef_views.proofs.Containers.{instantiable, raw_inside, raw_whole, section_header_is}
 use Rattle.pef_views.proofs.container.Container.section.Goals as goal
@@ -27,3 +28,13 @@ pub returns-clause-instantiated : goal.returns-clause-instantiated
 returns-clause-instantiated c =
     let sound = instantiable (contained c.args.self.now) c.args.i c.in_ok-header.header c.args.self.now.accepted (omega arith) (sym c.in_ok-header.ensures) in
     λ below. subst IsInstantiable (is_seen c) (sound below)
+
+pub returns-then-i-from-clause-value : goal.returns-then-i-from-clause-value
+unfolding section_of
+returns-then-i-from-clause-value c =
+    let past : c.args.self.now.header.section_count ≤ c.args.i = omega arith in
+    rw (le-ltb c.args.i c.args.self.now.header.section_count past) refl
+
+pub returns-then-i-from-clause-there : goal.returns-then-i-from-clause-there
+returns-then-i-from-clause-there c =
+    let past : c.args.self.now.header.section_count ≤ c.args.i = omega arith in (λ no. absurd (cc), λ under. absurd (omega arith))
