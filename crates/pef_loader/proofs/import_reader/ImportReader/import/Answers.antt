@@ -1,5 +1,5 @@
 -- Each import below their count has a library.
-use Rattle.std.proofs.Common.{◌∙◌, ap, arith}
+use Rattle.std.proofs.Common.{◌∙◌, ap, sym, arith}
 use Rattle.pef_loader.specs.declared.header.LoaderHeader.{LoaderHeader}
 use Rattle.pef_loader.specs.Views.{loaded}
 use Rattle.pef_loader.proofs.Loaders.{import_owned}
@@ -11,3 +11,13 @@ returns-in_err-library-clause-there c =
     let is = import_owned (loaded c.args.self.now.loader) c.args.j c.args.self.now.loader.accepted (omega (arith, count)) in
     let nowhere = c.in_err-library.ensures.value ∙ is.1 in
     absurd (cc)
+
+pub returns-in_err-library-clause-value : goal.returns-in_err-library-clause-value
+returns-in_err-library-clause-value c =
+    let count = ap (λ (h : LoaderHeader). h.import_count) c.header.ensures in
+    let is = import_owned (loaded c.args.self.now.loader) c.args.j c.args.self.now.loader.accepted (omega (arith, count)) in
+    let nowhere = c.in_err-library.ensures.value ∙ is.1 in
+    absurd (cc)
+
+pub import_of-requires-clause-library : goal.import_of-requires-clause-library
+import_of-requires-clause-library c = sym c.in_ok-library.ensures.value

@@ -26,6 +26,14 @@ returns-in_err-name-clause-there c =
     let nowhere = c.in_err-name.ensures ∙ ap (λ t. name_of t c.args.i) c.args.self.now.tabled ∙ is.2.named in
     absurd (cc)
 
+pub returns-clause-value : goal.returns-clause-value
+unfolding export_of export_in
+returns-clause-value c =
+    let cast : cast_signed w32 (cast_unsigned w32 c.in_ok-export.export.section) ≡ c.in_ok-export.export.section = search (arith, to_z-of_z) in
+    let at = c.in_ok-export.ensures ∙ ap (λ t. entry_of t c.args.i) c.args.self.now.tabled in
+    let named = c.in_ok-name.ensures ∙ ap (λ t. name_of t c.args.i) c.args.self.now.tabled in
+    rw (← at, ← named, cast) refl
+
 pub returns-clause-section : goal.returns-clause-section
 returns-clause-section c =
     let cast : cast_signed w32 (cast_unsigned w32 c.in_ok-export.export.section) ≡ c.in_ok-export.export.section = search (arith, to_z-of_z) in
