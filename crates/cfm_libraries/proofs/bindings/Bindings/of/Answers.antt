@@ -1,5 +1,5 @@
 -- The tables of the walk are those of its order.
-use Rattle.std.proofs.Common.{map, ap, sym, subst, ◌∙◌}
+use Rattle.std.proofs.Common.{map, ap, sym, subst, ◌∙◌, rules}
 use Rattle.cfm_store.specs.Seen.{pair_seen}
 use Rattle.cfm_libraries.specs.Kept.Bindings.{AreBindings}
 use Rattle.cfm_libraries.proofs.OrderFacts.{order-complete}
@@ -17,3 +17,9 @@ invariant_of-result c =
       complete = order-complete c.args.store.now c.args.root c.in_ok-walk.walk.order.items c.in_ok-walk.ensures.answer;
       few = c.pairs.ensures.few;
     })
+
+pub returns-in_err-walk-clause-answer : goal.returns-in_err-walk-clause-answer
+returns-in_err-walk-clause-answer c = search rules
+
+pub returns-clause-answer : goal.returns-clause-answer
+returns-clause-answer c = search rules

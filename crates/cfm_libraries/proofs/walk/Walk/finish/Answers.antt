@@ -1,4 +1,5 @@
 -- A fragment that is done has all its libraries.
+use Rattle.std.proofs.Common.{rules}
 use Rattle.cfm_libraries.proofs.TableLemmas.{tables-joined}
 use Rattle.cfm_libraries.proofs.walk.Walk.finish.Goals as goal
 
@@ -7,3 +8,6 @@ returns-clause-walk c =
     rw (c.in_ok-put.ensures.ok, c.in_ok-push.ensures.items)
     (tables-joined c.args.store.now c.args.self.now.fragments c.args.self.now.libraries c.args.self.now.marked.items c.args.self.now.path.items c.args.self.now.order.items
     c.requires.walk c.args.frame c.requires.frame c.requires.all)
+
+pub returns-clause-continues : goal.returns-clause-continues
+returns-clause-continues c = search rules
