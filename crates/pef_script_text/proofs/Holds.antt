@@ -1,5 +1,5 @@
 -- Every line keeps what is true of the script so far.
-use Rattle.std.proofs.Common.{◌≡◌, ℕ, pos, ◌+◌, ◌-◌, ◌≤◌, List, [], ◌∷◌, ◌++◌, None, Result, Ok, Err, length, map, refl, ap, subst, ◌∙◌, arith, length-append, append_assoc}
+use Rattle.std.proofs.Common.{◌≡◌, ℕ, pos, ◌+◌, ◌-◌, ◌<◌, ◌≤◌, true, List, [], ◌∷◌, ◌++◌, None, Result, Ok, Err, length, map, refl, ap, subst, ◌∙◌, arith, length-append, append_assoc}
 use Rattle.std.specs.Prelude.{codes, nat_lt}
 use Rattle.std.specs.List.{AllByRecursion}
 use Rattle.std.specs.Str.{bytes_eq}
@@ -15,80 +15,89 @@ use Rattle.pef_script_text.specs.declared.fault.LineFault.{LineFault}
 use Rattle.pef_script_text.specs.declared.fault.LineFault.TheVariants.{BadLine, OutsideSection}
 use Rattle.pef_reloc.specs.Limits.{most_imports, most_sections}
 use Rattle.pef_script.specs.Limits.{greatest_align, greatest_number, greatest_total, most_exports, most_libraries}
-use Rattle.pef_script.specs.Script.{DescribedExport, DescribedImport, DescribedLibrary, DescribedSection, DescribedScript, bytes_of_names, export_names, import_names, library_names, section_names}
-use Rattle.pef_script_text.specs.Words.{image_of, last_name, last_word, next_name, next_word, number_up_to}
+use Rattle.pef_script.specs.Script.{DescribedExport, DescribedHeader, DescribedImport, DescribedLibrary, DescribedSection, DescribedScript, bytes_of_names, export_names, import_names, library_names, section_names}
+use Rattle.pef_script_text.specs.Words.{image_of, last_name, last_name_and_word, last_two_words, last_word, next_name, next_name_and_word, next_word, number_up_to}
 use Rattle.pef_script_text.specs.SoFar.{ScriptSoFar, content_group, counted_name_tests, entered, entered_once, export_group, init_group, library_group, main_group, name_tests, section_group, section_named, section_so_far, term_group, versions_group}
-use Rattle.pef_script_text.specs.Declarations.{entered_import, import_line, is_weak_word, kind_of, library_line, options_of, section_line, share_of, symbol_class_of, versions_line}
-use Rattle.pef_script_text.specs.Contents.{base_named, bytes_line, bytes_tests, fix_line, fixup_of, fixup_tests, is_section_word, tvector_line, with_fixups, with_image}
-use Rattle.pef_script_text.specs.Exports.{entry_in, export_line, init_line, main_line, place_tests, term_line}
+use Rattle.pef_script_text.specs.Declarations.{entered_import, import_in, import_line, is_weak_word, kind_of, library_in, library_line, options_of, section_in, section_line, share_of, symbol_class_of, versions_in, versions_line}
+use Rattle.pef_script_text.specs.Contents.{base_named, bytes_in, bytes_line, bytes_tests, fix_line, fixup_in, fixup_of, fixup_tests, is_section_word, tvector_line, vector_in, with_fixups, with_image}
+use Rattle.pef_script_text.specs.Exports.{entry_in, export_in, export_line, init_line, main_line, place_tests, term_line}
 use Rattle.pef_lines.specs.Lines.{lines_of}
 use Rattle.pef_script_text.specs.Grammar.{LineRefusal, after_line, is_skipped, line_by_word, line_of, no_lines, read_lines, script_of}
-use Rattle.pef_script.specs.WellFormed.{ExportHolds, ImportHolds, LibraryHolds, PlaceHolds, ScriptHolds, SectionHolds, totals_of}
-use Rattle.pef_script_text.proofs.Leads.{Leads, leads_if, leads_then, leads_unless, led}
+use Rattle.pef_script.specs.WellFormed.{ExportHolds, ImportHolds, IsName, LibraryHolds, PlaceHolds, ScriptHolds, SectionHolds, SignedPlaceHolds, VersionsHold, is_kind, is_share, totals_of}
+use Rattle.pef_script_text.proofs.Leads.{Leads, leads_if, leads_on, leads_then, leads_unless, led}
 use Rattle.pef_words.proofs.Laws.Lists.{all-append, all-map, all-weaker}
 use Rattle.pef_script_text.proofs.ListLemmas.{distinct-more, no_names_apart, rises-more}
-use Rattle.pef_script_text.proofs.WordLemmas.{base_named-is, class_of-is, kind_of-is, next_name-is, number_up_to-is, options_of-is, section_named-is, share_of-is}
+use Rattle.pef_script_text.proofs.WordLemmas.{base_named-is, class_of-is, kind_of-is, next_name_and_word-is, number_up_to-is, options_of-is, section_named-is, share_of-is}
 use Rattle.pef_script_text.proofs.Growing.{StateHolds, name_tests-unmet, counted_tests-unmet, bytes_tests-unmet, fixup_tests-unmet, entry-more, exports-more, section-more, sections-more, imports-more, entered_import-is, place_at, names-more, changed, at_section, fixup-more}
 
+-- what is true of a header that a line declares
+record HeaderHolds (header : DescribedHeader) : Type 0 where
+  name : IsName header.name
+  kind : is_kind header.kind ≡ true
+  share : is_share header.share ≡ true
+  align : header.align ≤ greatest_align
+  total : header.total ≤ greatest_total
+
 module _ (s : ScriptSoFar) (holds : StateHolds s) (line : List ℕ) where
-  versions_line-holds : Leads StateHolds (versions_line s line)
-  unfolding versions_line
-  versions_line-holds =
-      leads_then StateHolds (next_word line) _ (λ current_word current_word_is.
-      leads_then StateHolds (next_word current_word.1) _ (λ old_def_word old_def_word_is.
-      leads_then StateHolds (last_word old_def_word.1) _ (λ old_imp_word old_imp_word_is.
-      leads_then StateHolds (entered_once s versions_group) _ (λ group group_is.
-      leads_then StateHolds (number_up_to greatest_number current_word.0) _ (λ current current_is.
-      leads_then StateHolds (number_up_to greatest_number old_def_word.0) _ (λ old_def old_def_is.
-      leads_then StateHolds (number_up_to greatest_number old_imp_word) _ (λ old_imp old_imp_is.
+  versions_in-holds : Leads VersionsHold (versions_in s line)
+  unfolding versions_in
+  versions_in-holds =
+      leads_then VersionsHold (next_word line) _ (λ current_word current_word_is.
+      leads_then VersionsHold (last_two_words current_word.1) _ (λ old old_is.
+      leads_then VersionsHold (entered_once s versions_group) _ (λ group group_is.
+      leads_then VersionsHold (number_up_to greatest_number current_word.0) _ (λ current current_is.
+      leads_then VersionsHold (number_up_to greatest_number old.0) _ (λ old_def old_def_is.
+      leads_then VersionsHold (number_up_to greatest_number old.1) _ (λ old_imp old_imp_is.
       record {
-        versions = record {
-          current = number_up_to-is greatest_number current_word.0 current current_is;
-          old_def = number_up_to-is greatest_number old_def_word.0 old_def old_def_is;
-          old_imp = number_up_to-is greatest_number old_imp_word old_imp old_imp_is;
-        };
-        libraries = holds.libraries;
-        imports = holds.imports;
-        sections = holds.sections;
-        exports = holds.exports;
-        main = holds.main;
-        init = holds.init;
-        term = holds.term;
-        names = holds.names;
-      })))))))
+        current = number_up_to-is greatest_number current_word.0 current current_is;
+        old_def = number_up_to-is greatest_number old.0 old_def old_def_is;
+        old_imp = number_up_to-is greatest_number old.1 old_imp old_imp_is;
+      }))))))
+
+  versions_line-holds : Leads StateHolds (versions_line s line)
+  versions_line-holds = leads_on VersionsHold StateHolds (versions_in s line) _ versions_in-holds (λ versions fits. record {
+    versions = fits;
+    libraries = holds.libraries;
+    imports = holds.imports;
+    sections = holds.sections;
+    exports = holds.exports;
+    main = holds.main;
+    init = holds.init;
+    term = holds.term;
+    names = holds.names;
+  })
+
+  library_in-holds : Leads LibraryHolds (library_in s line)
+  unfolding library_in
+  library_in-holds =
+      leads_then LibraryHolds (next_name_and_word line) _ (λ library library_is.
+      leads_then LibraryHolds (last_two_words library.2) _ (λ last last_is.
+      leads_then LibraryHolds (entered s library_group) _ (λ group group_is.
+      leads_then LibraryHolds (options_of last.1) _ (λ options options_is.
+      leads_then LibraryHolds (number_up_to greatest_number library.1) _ (λ current current_is.
+      leads_then LibraryHolds (number_up_to greatest_number last.0) _ (λ old_imp old_imp_is.
+      record {
+        name = next_name_and_word-is line library library_is;
+        current = number_up_to-is greatest_number library.1 current current_is;
+        old_imp = number_up_to-is greatest_number last.0 old_imp old_imp_is;
+        options = options_of-is last.1 options options_is;
+      }))))))
 
   library_line-holds : Leads StateHolds (library_line s line)
-  unfolding library_line
   library_line-holds =
-      leads_then StateHolds (next_name line) _ (λ name name_is.
-      leads_then StateHolds (next_word name.1) _ (λ current_word current_word_is.
-      leads_then StateHolds (next_word current_word.1) _ (λ old_imp_word old_imp_word_is.
-      leads_then StateHolds (last_word old_imp_word.1) _ (λ option option_is.
-      leads_then StateHolds (entered s library_group) _ (λ group group_is.
-      leads_then StateHolds (options_of option) _ (λ options options_is.
-      leads_then StateHolds (number_up_to greatest_number current_word.0) _ (λ current current_is.
-      leads_then StateHolds (number_up_to greatest_number old_imp_word.0) _ (λ old_imp old_imp_is.
-      leads_unless StateHolds (first_met (counted_name_tests s (library_names s.script) most_libraries name.0)) _ (λ unmet.
-      let room = (counted_tests-unmet s (library_names s.script) most_libraries name.0 [] unmet).0 in
+      leads_on LibraryHolds StateHolds (library_in s line) _ library_in-holds (λ library fits.
+      leads_unless StateHolds (first_met (counted_name_tests s (library_names s.script) most_libraries library.name)) _ (λ unmet.
+      let room = (counted_tests-unmet s (library_names s.script) most_libraries library.name [] unmet).0 in
       let libraries = s.script.libraries in
-      let library : DescribedLibrary = record { name = name.0; current = current; old_imp = old_imp; options = options } in
       let count : length (libraries ++ library ∷ []) ≡ length libraries + 1 = length-append libraries (library ∷ []) in
-      let names : map (λ (l : DescribedLibrary). l.name) (libraries ++ library ∷ []) ≡ library_names s.script ++ name.0 ∷ [] = map-append (λ (l : DescribedLibrary). l.name) libraries (library ∷ []) in
-      let bytes = ap bytes_of_names names ∙ names-more (library_names s.script) name.0 in
+      let names : map (λ (l : DescribedLibrary). l.name) (libraries ++ library ∷ []) ≡ library_names s.script ++ library.name ∷ [] = map-append (λ (l : DescribedLibrary). l.name) libraries (library ∷ []) in
+      let bytes = ap bytes_of_names names ∙ names-more (library_names s.script) library.name in
       record {
         versions = holds.versions;
         libraries = record {
           count = omega (arith, count, room.room, length-map libraries (λ (l : DescribedLibrary). l.name));
-          each = all-append LibraryHolds libraries (library ∷ []) holds.libraries.each (
-            record {
-              name = next_name-is line name name_is;
-              current = number_up_to-is greatest_number current_word.0 current current_is;
-              old_imp = number_up_to-is greatest_number old_imp_word.0 old_imp old_imp_is;
-              options = options_of-is option options options_is;
-            },
-            tt,
-          );
-          apart = rw names (distinct-more (library_names s.script) name.0 holds.libraries.apart room.new);
+          each = all-append LibraryHolds libraries (library ∷ []) holds.libraries.each (fits, tt);
+          apart = rw names (distinct-more (library_names s.script) library.name holds.libraries.apart room.new);
         };
         imports = rw count (imports-more (length libraries) s.script.imports holds.imports);
         sections = holds.sections;
@@ -97,43 +106,43 @@ module _ (s : ScriptSoFar) (holds : StateHolds s) (line : List ℕ) where
         init = holds.init;
         term = holds.term;
         names = omega (arith, bytes, room.bytes);
-      })))))))))
+      }))
+
+  -- an import is of the last library
+  abbrev IsOfLast : DescribedImport → Type 0
+  IsOfLast symbol = ImportHolds (length s.script.libraries) symbol × (symbol.library + 1 ≡ length s.script.libraries)
+
+  import_in-holds : Leads IsOfLast (import_in s line)
+  unfolding import_in
+  import_in-holds =
+      leads_then IsOfLast (next_name_and_word line) _ (λ symbol symbol_is.
+      leads_then IsOfLast (last_word symbol.2) _ (λ strength strength_is.
+      leads_then IsOfLast (entered_import s) _ (λ library library_is.
+      leads_then IsOfLast (symbol_class_of symbol.1) _ (λ class class_is.
+      leads_then IsOfLast (is_weak_word strength) _ (λ weak weak_is.
+      let last = entered_import-is s library library_is in
+      (record { name = next_name_and_word-is line symbol symbol_is; class = class_of-is symbol.1 class class_is; library = omega (arith, last) }, last))))))
 
   import_line-holds : Leads StateHolds (import_line s line)
-  unfolding import_line
   import_line-holds =
-      leads_then StateHolds (next_name line) _ (λ name name_is.
-      leads_then StateHolds (next_word name.1) _ (λ class_word class_word_is.
-      leads_then StateHolds (last_word class_word.1) _ (λ strength strength_is.
-      leads_then StateHolds (entered_import s) _ (λ library library_is.
-      leads_then StateHolds (symbol_class_of class_word.0) _ (λ class class_is.
-      leads_then StateHolds (is_weak_word strength) _ (λ weak weak_is.
-      leads_unless StateHolds (first_met (counted_name_tests s (import_names s.script) most_imports name.0)) _ (λ unmet.
-      let room = (counted_tests-unmet s (import_names s.script) most_imports name.0 [] unmet).0 in
-      let last = entered_import-is s library library_is in
+      leads_on IsOfLast StateHolds (import_in s line) _ import_in-holds (λ symbol fits.
+      leads_unless StateHolds (first_met (counted_name_tests s (import_names s.script) most_imports symbol.name)) _ (λ unmet.
+      let room = (counted_tests-unmet s (import_names s.script) most_imports symbol.name [] unmet).0 in
       let imports = s.script.imports in
       let n = length s.script.libraries in
-      let symbol : DescribedImport = record { name = name.0; class = class; weak = weak; library = library } in
       let count : length (imports ++ symbol ∷ []) ≡ length imports + 1 = length-append imports (symbol ∷ []) in
-      let names : map (λ (i : DescribedImport). i.name) (imports ++ symbol ∷ []) ≡ import_names s.script ++ name.0 ∷ [] = map-append (λ (i : DescribedImport). i.name) imports (symbol ∷ []) in
-      let libraries : map (λ (i : DescribedImport). i.library) (imports ++ symbol ∷ []) ≡ map (λ (i : DescribedImport). i.library) imports ++ library ∷ [] = map-append (λ (i : DescribedImport). i.library) imports (symbol ∷ []) in
-      let bytes = ap bytes_of_names names ∙ names-more (import_names s.script) name.0 in
+      let names : map (λ (i : DescribedImport). i.name) (imports ++ symbol ∷ []) ≡ import_names s.script ++ symbol.name ∷ [] = map-append (λ (i : DescribedImport). i.name) imports (symbol ∷ []) in
+      let libraries : map (λ (i : DescribedImport). i.library) (imports ++ symbol ∷ []) ≡ map (λ (i : DescribedImport). i.library) imports ++ symbol.library ∷ [] = map-append (λ (i : DescribedImport). i.library) imports (symbol ∷ []) in
+      let bytes = ap bytes_of_names names ∙ names-more (import_names s.script) symbol.name in
       record {
         versions = holds.versions;
         libraries = holds.libraries;
         imports = record {
           count = omega (arith, count, room.room, length-map imports (λ (i : DescribedImport). i.name));
-          each = all-append (ImportHolds n) imports (symbol ∷ []) holds.imports.each (
-            record {
-              name = next_name-is line name name_is;
-              class = class_of-is class_word.0 class class_is;
-              library = omega (arith, last);
-            },
-            tt,
-          );
-          apart = rw names (distinct-more (import_names s.script) name.0 holds.imports.apart room.new);
-          grouped = rw libraries (rises-more (map (λ (i : DescribedImport). i.library) imports) library holds.imports.grouped
-              (all-map (λ (i : DescribedImport). i.library) (ImportHolds n) (λ x. x ≤ library) imports (λ i fits. omega (arith, fits.library, last)) holds.imports.each));
+          each = all-append (ImportHolds n) imports (symbol ∷ []) holds.imports.each (fits.0, tt);
+          apart = rw names (distinct-more (import_names s.script) symbol.name holds.imports.apart room.new);
+          grouped = rw libraries (rises-more (map (λ (i : DescribedImport). i.library) imports) symbol.library holds.imports.grouped
+              (all-map (λ (i : DescribedImport). i.library) (ImportHolds n) (λ x. x ≤ symbol.library) imports (λ i before. omega (arith, before.library, fits.1)) holds.imports.each));
         };
         sections = rw count (sections-more (length imports) 1 s.script.sections holds.sections);
         exports = holds.exports;
@@ -141,31 +150,40 @@ module _ (s : ScriptSoFar) (holds : StateHolds s) (line : List ℕ) where
         init = holds.init;
         term = holds.term;
         names = omega (arith, bytes, room.bytes);
-      })))))))
+      }))
+
+  section_in-holds : Leads HeaderHolds (section_in s line)
+  unfolding section_in
+  section_in-holds =
+      leads_then HeaderHolds (next_name_and_word line) _ (λ section section_is.
+      leads_then HeaderHolds (next_word section.2) _ (λ share_word share_word_is.
+      leads_then HeaderHolds (last_two_words share_word.1) _ (λ size size_is.
+      leads_then HeaderHolds (entered s section_group) _ (λ group group_is.
+      leads_then HeaderHolds (kind_of section.1) _ (λ kind kind_is.
+      leads_then HeaderHolds (share_of share_word.0) _ (λ share share_is.
+      leads_then HeaderHolds (number_up_to greatest_align size.0) _ (λ align align_is.
+      leads_then HeaderHolds (number_up_to greatest_total size.1) _ (λ total total_is.
+      record {
+        name = next_name_and_word-is line section section_is;
+        kind = kind_of-is section.1 kind kind_is;
+        share = share_of-is share_word.0 share share_is;
+        align = number_up_to-is greatest_align size.0 align align_is;
+        total = number_up_to-is greatest_total size.1 total total_is;
+      }))))))))
 
   section_line-holds : Leads StateHolds (section_line s line)
-  unfolding section_line
   section_line-holds =
-      leads_then StateHolds (next_name line) _ (λ name name_is.
-      leads_then StateHolds (next_word name.1) _ (λ kind_word kind_word_is.
-      leads_then StateHolds (next_word kind_word.1) _ (λ share_word share_word_is.
-      leads_then StateHolds (next_word share_word.1) _ (λ align_word align_word_is.
-      leads_then StateHolds (last_word align_word.1) _ (λ total_word total_word_is.
-      leads_then StateHolds (entered s section_group) _ (λ group group_is.
-      leads_then StateHolds (kind_of kind_word.0) _ (λ kind kind_is.
-      leads_then StateHolds (share_of share_word.0) _ (λ share share_is.
-      leads_then StateHolds (number_up_to greatest_align align_word.0) _ (λ align align_is.
-      leads_then StateHolds (number_up_to greatest_total total_word) _ (λ total total_is.
-      leads_unless StateHolds (first_met (name_tests (section_names s.script) most_sections name.0)) _ (λ unmet.
-      let room = (name_tests-unmet (section_names s.script) most_sections name.0 [] unmet).0 in
+      leads_on HeaderHolds StateHolds (section_in s line) _ section_in-holds (λ header fits.
+      leads_unless StateHolds (first_met (name_tests (section_names s.script) most_sections header.name)) _ (λ unmet.
+      let room = (name_tests-unmet (section_names s.script) most_sections header.name [] unmet).0 in
       let sections = s.script.sections in
       let n = length sections in
       let i = length s.script.imports in
-      let section : DescribedSection = record { header = record { name = name.0; kind = kind; share = share; align = align; total = total }; image = []; fixups = [] } in
+      let section : DescribedSection = record { header = header; image = []; fixups = [] } in
       let count : length (sections ++ section ∷ []) ≡ n + 1 = length-append sections (section ∷ []) in
       let same : i + 0 ≡ i = omega arith in
-      let names : map (λ (x : DescribedSection). x.header.name) (sections ++ section ∷ []) ≡ section_names s.script ++ name.0 ∷ [] = map-append (λ (x : DescribedSection). x.header.name) sections (section ∷ []) in
-      let totals : totals_of (sections ++ section ∷ []) ≡ totals_of sections ++ total ∷ [] = map-append (λ (x : DescribedSection). x.header.total) sections (section ∷ []) in
+      let names : map (λ (x : DescribedSection). x.header.name) (sections ++ section ∷ []) ≡ section_names s.script ++ header.name ∷ [] = map-append (λ (x : DescribedSection). x.header.name) sections (section ∷ []) in
+      let totals : totals_of (sections ++ section ∷ []) ≡ totals_of sections ++ header.total ∷ [] = map-append (λ (x : DescribedSection). x.header.total) sections (section ∷ []) in
       let others : AllByRecursion (SectionHolds (n + 1) i) sections = subst (λ j. AllByRecursion (SectionHolds (n + 1) j) sections) same (all-weaker (SectionHolds n i) (SectionHolds (n + 1) (i + 0)) sections (section-more n i 1 0) holds.sections.each) in
       record {
         versions = holds.versions;
@@ -175,11 +193,11 @@ module _ (s : ScriptSoFar) (holds : StateHolds s) (line : List ℕ) where
           count = omega (arith, count, room.room, length-map sections (λ (x : DescribedSection). x.header.name));
           each = rw count (all-append (SectionHolds (n + 1) i) sections (section ∷ []) others (
             record {
-              name = next_name-is line name name_is;
-              kind = kind_of-is kind_word.0 kind kind_is;
-              share = share_of-is share_word.0 share share_is;
-              align = number_up_to-is greatest_align align_word.0 align align_is;
-              total = number_up_to-is greatest_total total_word total total_is;
+              name = fits.name;
+              kind = fits.kind;
+              share = fits.share;
+              align = fits.align;
+              total = fits.total;
               image = omega arith;
               fixups = no_fixups_fit;
               inside = omega arith;
@@ -187,28 +205,31 @@ module _ (s : ScriptSoFar) (holds : StateHolds s) (line : List ℕ) where
             },
             tt,
           ));
-          apart = rw names (distinct-more (section_names s.script) name.0 holds.sections.apart room.new);
+          apart = rw names (distinct-more (section_names s.script) header.name holds.sections.apart room.new);
         };
-        exports = rw totals (exports-more (totals_of sections) (total ∷ []) s.script.exports holds.exports);
-        main = rw totals (entry-more (totals_of sections) (total ∷ []) s.script.main holds.main);
-        init = rw totals (entry-more (totals_of sections) (total ∷ []) s.script.init holds.init);
-        term = rw totals (entry-more (totals_of sections) (total ∷ []) s.script.term holds.term);
+        exports = rw totals (exports-more (totals_of sections) (header.total ∷ []) s.script.exports holds.exports);
+        main = rw totals (entry-more (totals_of sections) (header.total ∷ []) s.script.main holds.main);
+        init = rw totals (entry-more (totals_of sections) (header.total ∷ []) s.script.init holds.init);
+        term = rw totals (entry-more (totals_of sections) (header.total ∷ []) s.script.term holds.term);
         names = holds.names;
-      })))))))))))
+      }))
 
-  bytes_line-holds : Leads StateHolds (bytes_line s line)
-  unfolding bytes_line
-  bytes_line-holds =
-      leads_then StateHolds (next_name line) _ (λ name name_is.
-      leads_then StateHolds (last_word name.1) _ (λ digits digits_is.
-      leads_then StateHolds (image_of digits) _ (λ bytes bytes_is.
-      leads_then StateHolds (entered s content_group) _ (λ group group_is.
-      leads_then StateHolds (section_named s name.0) _ (λ k k_is.
-      leads_unless StateHolds (first_met (bytes_tests s k (length bytes))) _ (λ unmet.
-      let under = section_named-is s name.0 k k_is in
-      let section = at_section s k holds under in
+  -- a section as a line leaves it
+  abbrev IsRight : DescribedSection → Type 0
+  IsRight section = SectionHolds (length s.script.sections) (length s.script.imports) section
+
+  bytes_in-holds : Leads (λ b. IsRight (with_image (section_so_far s b.0) b.1)) (bytes_in s line)
+  unfolding bytes_in
+  bytes_in-holds =
+      let P : ℕ × List ℕ → Type 0 = λ b. IsRight (with_image (section_so_far s b.0) b.1) in
+      leads_then P (last_name_and_word line) _ (λ words words_is.
+      leads_then P (image_of words.1) _ (λ bytes bytes_is.
+      leads_then P (entered s content_group) _ (λ group group_is.
+      leads_then P (section_named s words.0) _ (λ k k_is.
+      leads_unless P (first_met (bytes_tests s k (length bytes))) _ (λ unmet.
+      let section = at_section s k holds (section_named-is s words.0 k k_is) in
       let room = bytes_tests-unmet s k (length bytes) unmet in
-      changed s k (with_image (section_so_far s k) bytes) holds refl (record {
+      record {
         name = section.name;
         kind = section.kind;
         share = section.share;
@@ -218,41 +239,46 @@ module _ (s : ScriptSoFar) (holds : StateHolds s) (line : List ℕ) where
         fixups = section.fixups;
         inside = section.inside;
         bases = section.bases;
-      })))))))
+      })))))
+
+  bytes_line-holds : Leads StateHolds (bytes_line s line)
+  bytes_line-holds = leads_on _ StateHolds (bytes_in s line) _ bytes_in-holds (λ b right. changed s b.0 (with_image (section_so_far s b.0) b.1) holds refl right)
+
+  fixup_in-holds : Leads (λ f. IsRight (with_fixups (section_so_far s f.0) (f.1 ∷ []))) (fixup_in s line)
+  unfolding fixup_in
+  fixup_in-holds =
+      let P : ℕ × Fixup → Type 0 = λ f. IsRight (with_fixups (section_so_far s f.0) (f.1 ∷ [])) in
+      leads_then P (next_name_and_word line) _ (λ place place_is.
+      leads_then P (next_word place.2) _ (λ kind_word kind_word_is.
+      leads_then P (last_name kind_word.1) _ (λ target_name target_name_is.
+      leads_then P (entered s content_group) _ (λ group group_is.
+      leads_then P (is_section_word kind_word.0) _ (λ is_section is_section_is.
+      leads_then P (number_up_to greatest_number place.1) _ (λ offset offset_is.
+      leads_then P (section_named s place.0) _ (λ k k_is.
+      leads_then P (base_named s is_section target_name) _ (λ target target_is.
+      leads_unless P (first_met (fixup_tests s k offset 1)) _ (λ unmet.
+      let section = at_section s k holds (section_named-is s place.0 k k_is) in
+      let room = fixup_tests-unmet s k offset 1 unmet in
+      fixup-more (length s.script.sections) (length s.script.imports) (section_so_far s k) offset target (omega (arith, holds.sections.count)) (omega (arith, holds.imports.count)) section
+      (omega (arith, room.room)) (omega (arith, room.inside)) room.after (base_named-is s is_section target_name target target_is))))))))))
 
   fix_line-holds : Leads StateHolds (fix_line s line)
-  unfolding fix_line
-  fix_line-holds =
-      leads_then StateHolds (next_name line) _ (λ name name_is.
-      leads_then StateHolds (next_word name.1) _ (λ offset_word offset_word_is.
-      leads_then StateHolds (next_word offset_word.1) _ (λ kind_word kind_word_is.
-      leads_then StateHolds (last_name kind_word.1) _ (λ target_name target_name_is.
-      leads_then StateHolds (entered s content_group) _ (λ group group_is.
-      leads_then StateHolds (is_section_word kind_word.0) _ (λ is_section is_section_is.
-      leads_then StateHolds (number_up_to greatest_number offset_word.0) _ (λ offset offset_is.
-      leads_then StateHolds (section_named s name.0) _ (λ k k_is.
-      leads_then StateHolds (base_named s is_section target_name) _ (λ target target_is.
-      leads_unless StateHolds (first_met (fixup_tests s k offset 1)) _ (λ unmet.
-      let under = section_named-is s name.0 k k_is in
-      let room = fixup_tests-unmet s k offset 1 unmet in
-      changed s k (with_fixups (section_so_far s k) (fixup_of offset target ∷ [])) holds refl
-      (fixup-more (length s.script.sections) (length s.script.imports) (section_so_far s k) offset target (omega (arith, holds.sections.count)) (omega (arith, holds.imports.count)) (at_section s k holds under)
-      (omega (arith, room.room)) (omega (arith, room.inside)) room.after (base_named-is s is_section target_name target target_is))))))))))))
+  fix_line-holds = leads_on _ StateHolds (fixup_in s line) _ fixup_in-holds (λ f right. changed s f.0 (with_fixups (section_so_far s f.0) (f.1 ∷ [])) holds refl right)
 
-  tvector_line-holds : Leads StateHolds (tvector_line s line)
-  unfolding tvector_line
-  tvector_line-holds =
-      leads_then StateHolds (next_name line) _ (λ name name_is.
-      leads_then StateHolds (next_word name.1) _ (λ offset_word offset_word_is.
-      leads_then StateHolds (next_name offset_word.1) _ (λ code_name code_name_is.
-      leads_then StateHolds (last_name code_name.1) _ (λ data_name data_name_is.
-      leads_then StateHolds (entered s content_group) _ (λ group group_is.
-      leads_then StateHolds (number_up_to greatest_number offset_word.0) _ (λ offset offset_is.
-      leads_then StateHolds (section_named s name.0) _ (λ k k_is.
-      leads_then StateHolds (section_named s code_name.0) _ (λ code code_is.
-      leads_then StateHolds (section_named s data_name) _ (λ data_section data_section_is.
-      leads_unless StateHolds (first_met (fixup_tests s k offset 2)) _ (λ unmet.
-      let under = section_named-is s name.0 k k_is in
+  vector_in-holds : Leads (λ v. IsRight (with_fixups (section_so_far s v.0) v.1)) (vector_in s line)
+  unfolding vector_in
+  vector_in-holds =
+      let P : ℕ × List Fixup → Type 0 = λ v. IsRight (with_fixups (section_so_far s v.0) v.1) in
+      leads_then P (next_name_and_word line) _ (λ place place_is.
+      leads_then P (next_name place.2) _ (λ code_name code_name_is.
+      leads_then P (last_name code_name.1) _ (λ data_name data_name_is.
+      leads_then P (entered s content_group) _ (λ group group_is.
+      leads_then P (number_up_to greatest_number place.1) _ (λ offset offset_is.
+      leads_then P (section_named s place.0) _ (λ k k_is.
+      leads_then P (section_named s code_name.0) _ (λ code code_is.
+      leads_then P (section_named s data_name) _ (λ data_section data_section_is.
+      leads_unless P (first_met (fixup_tests s k offset 2)) _ (λ unmet.
+      let under = section_named-is s place.0 k k_is in
       let room = fixup_tests-unmet s k offset 2 unmet in
       let m = length s.script.sections in
       let n = length s.script.imports in
@@ -265,29 +291,43 @@ module _ (s : ScriptSoFar) (holds : StateHolds s) (line : List ℕ) where
       let count : length (section.fixups ++ a ∷ []) ≡ length section.fixups + 1 = length-append section.fixups (a ∷ []) in
       let end : fixups_end 0 (section.fixups ++ a ∷ []) ≡ offset + 4 = fixups_end-append 0 section.fixups (a ∷ []) in
       let second = fixup-more m n (with_fixups section (a ∷ [])) (offset + 4) (base.Section data_section) few some first (omega (arith, count, room.room)) (omega (arith, room.inside)) (omega (arith, end)) (section_named-is s data_name data_section data_section_is) in
-      let P : List Fixup → Type 0 = λ fixups. SectionHolds m n (record section { fixups = fixups }) in
-      changed s k (with_fixups section (a ∷ b ∷ [])) holds refl (subst P (append_assoc section.fixups (a ∷ []) (b ∷ [])) second)))))))))))
+      let Q : List Fixup → Type 0 = λ fixups. SectionHolds m n (record section { fixups = fixups }) in
+      subst Q (append_assoc section.fixups (a ∷ []) (b ∷ [])) second)))))))))
+
+  tvector_line-holds : Leads StateHolds (tvector_line s line)
+  tvector_line-holds = leads_on _ StateHolds (vector_in s line) _ vector_in-holds (λ v right. changed s v.0 (with_fixups (section_so_far s v.0) v.1) holds refl right)
+
+  -- an export of section e.0, whose place in it is still to be tested
+  record IsOfSection (e : ℕ × DescribedExport) : Type 0 where
+    name : IsName e.1.name
+    class : e.1.class ≤ 4
+    under : e.0 < length s.script.sections
+    section : pos e.0 ≡ e.1.section
+
+  export_in-holds : Leads IsOfSection (export_in s line)
+  unfolding export_in
+  export_in-holds =
+      leads_then IsOfSection (next_name_and_word line) _ (λ symbol symbol_is.
+      leads_then IsOfSection (last_name_and_word symbol.2) _ (λ place place_is.
+      leads_then IsOfSection (entered s export_group) _ (λ group group_is.
+      leads_then IsOfSection (symbol_class_of symbol.1) _ (λ class class_is.
+      leads_then IsOfSection (number_up_to greatest_number place.1) _ (λ offset offset_is.
+      leads_then IsOfSection (section_named s place.0) _ (λ k k_is.
+      record { name = next_name_and_word-is line symbol symbol_is; class = class_of-is symbol.1 class class_is; under = section_named-is s place.0 k k_is; section = refl }))))))
 
   export_line-holds : Leads StateHolds (export_line s line)
-  unfolding export_line
   export_line-holds =
-      leads_then StateHolds (next_name line) _ (λ name name_is.
-      leads_then StateHolds (next_word name.1) _ (λ class_word class_word_is.
-      leads_then StateHolds (next_name class_word.1) _ (λ section_name section_name_is.
-      leads_then StateHolds (last_word section_name.1) _ (λ offset_word offset_word_is.
-      leads_then StateHolds (entered s export_group) _ (λ group group_is.
-      leads_then StateHolds (symbol_class_of class_word.0) _ (λ class class_is.
-      leads_then StateHolds (number_up_to greatest_number offset_word) _ (λ offset offset_is.
-      leads_then StateHolds (section_named s section_name.0) _ (λ k k_is.
-      leads_unless StateHolds (first_met (counted_name_tests s (export_names s.script) most_exports name.0 ++ place_tests s k offset)) _ (λ unmet.
-      let tests = counted_tests-unmet s (export_names s.script) most_exports name.0 (place_tests s k offset) unmet in
+      leads_on IsOfSection StateHolds (export_in s line) _ export_in-holds (λ e fits.
+      let k = e.0 in
+      let symbol = e.1 in
+      leads_unless StateHolds (first_met (counted_name_tests s (export_names s.script) most_exports symbol.name ++ place_tests s k symbol.value)) _ (λ unmet.
+      let tests = counted_tests-unmet s (export_names s.script) most_exports symbol.name (place_tests s k symbol.value) unmet in
       let room = tests.0 in
-      let inside = ltb-false _ _ (first_unmet (nat_lt (section_so_far s k).header.total offset) OutsideSection None tests.1).0 in
+      let inside = ltb-false _ _ (first_unmet (nat_lt (section_so_far s k).header.total symbol.value) OutsideSection None tests.1).0 in
       let exports = s.script.exports in
-      let symbol : DescribedExport = record { name = name.0; class = class; section = pos k; value = offset } in
       let count : length (exports ++ symbol ∷ []) ≡ length exports + 1 = length-append exports (symbol ∷ []) in
-      let names : map (λ (e : DescribedExport). e.name) (exports ++ symbol ∷ []) ≡ export_names s.script ++ name.0 ∷ [] = map-append (λ (e : DescribedExport). e.name) exports (symbol ∷ []) in
-      let bytes = ap bytes_of_names names ∙ names-more (export_names s.script) name.0 in
+      let names : map (λ (e : DescribedExport). e.name) (exports ++ symbol ∷ []) ≡ export_names s.script ++ symbol.name ∷ [] = map-append (λ (e : DescribedExport). e.name) exports (symbol ∷ []) in
+      let bytes = ap bytes_of_names names ∙ names-more (export_names s.script) symbol.name in
       record {
         versions = holds.versions;
         libraries = holds.libraries;
@@ -297,31 +337,30 @@ module _ (s : ScriptSoFar) (holds : StateHolds s) (line : List ℕ) where
           count = omega (arith, count, room.room, length-map exports (λ (e : DescribedExport). e.name));
           each = all-append (ExportHolds (totals_of s.script.sections)) exports (symbol ∷ []) holds.exports.each (
             record {
-              name = next_name-is line name name_is;
-              class = class_of-is class_word.0 class class_is;
-              place = place_at s k offset (section_named-is s section_name.0 k k_is) inside;
+              name = fits.name;
+              class = fits.class;
+              place = subst (λ z. SignedPlaceHolds (totals_of s.script.sections) z symbol.value) fits.section (place_at s k symbol.value fits.under inside);
             },
             tt,
           );
-          apart = rw names (distinct-more (export_names s.script) name.0 holds.exports.apart room.new);
+          apart = rw names (distinct-more (export_names s.script) symbol.name holds.exports.apart room.new);
         };
         main = holds.main;
         init = holds.init;
         term = holds.term;
         names = omega (arith, bytes, room.bytes);
-      })))))))))
+      }))
 
   entry_in-holds : (group : ℕ) → Leads (λ (entry : ℕ × ℕ). PlaceHolds (totals_of s.script.sections) entry.0 entry.1) (entry_in s group line)
   unfolding entry_in
   entry_in-holds group =
       let P : ℕ × ℕ → Type 0 = λ entry. PlaceHolds (totals_of s.script.sections) entry.0 entry.1 in
-      leads_then P (next_name line) _ (λ name name_is.
-      leads_then P (last_word name.1) _ (λ offset_word offset_word_is.
+      leads_then P (last_name_and_word line) _ (λ place place_is.
       leads_then P (entered_once s group) _ (λ reached reached_is.
-      leads_then P (number_up_to greatest_number offset_word) _ (λ offset offset_is.
-      leads_then P (section_named s name.0) _ (λ k k_is.
+      leads_then P (number_up_to greatest_number place.1) _ (λ offset offset_is.
+      leads_then P (section_named s place.0) _ (λ k k_is.
       leads_unless P (first_met (place_tests s k offset)) _ (λ unmet.
-      place_at s k offset (section_named-is s name.0 k k_is) (ltb-false _ _ (first_unmet (nat_lt (section_so_far s k).header.total offset) OutsideSection None unmet).0)))))))
+      place_at s k offset (section_named-is s place.0 k k_is) (ltb-false _ _ (first_unmet (nat_lt (section_so_far s k).header.total offset) OutsideSection None unmet).0))))))
 
   main_line-holds : Leads StateHolds (main_line s line)
   main_line-holds = leads_then StateHolds (entry_in s main_group line) _ (λ entry entry_is. record {

@@ -14,6 +14,11 @@ pub leads_then : {A B : Type 0} (P : B → Type 0) (step : Result A LineFault) (
 leads_then P (Ok x) others holds = holds x refl
 leads_then P (Err fault) others holds = tt
 
+-- the same where what the first step led to is known
+pub leads_on : {A B : Type 0} (Q : A → Type 0) (P : B → Type 0) (step : Result A LineFault) (others : A → Result B LineFault) → Leads Q step → ((x : A) → Q x → Leads P (others x)) → Leads P (step >>= others)
+leads_on Q P (Ok x) others holds on = on x holds
+leads_on Q P (Err fault) others holds on = tt
+
 pub leads_unless : {A : Type 0} (P : A → Type 0) (refusal : Option LineFault) (otherwise : Result A LineFault) → (refusal ≡ None → Leads P otherwise) → Leads P (unless refusal otherwise)
 leads_unless P None otherwise holds = holds refl
 leads_unless P (Some fault) otherwise holds = tt

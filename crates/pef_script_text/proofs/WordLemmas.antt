@@ -14,7 +14,7 @@ use Rattle.pef_lines.specs.Lines.{cut_at}
 use Rattle.pef_lines.specs.Numbers.{below}
 use Rattle.pef_lines.specs.Words.{is_word, is_printing, word_before}
 use Rattle.pef_lines.specs.Words as words
-use Rattle.pef_script_text.specs.Words.{named, next_name, next_word, number_spelled, number_up_to}
+use Rattle.pef_script_text.specs.Words.{named, next_name, next_name_and_word, next_word, number_spelled, number_up_to}
 use Rattle.pef_script.specs.Limits.{longest_name}
 use Rattle.pef_script.specs.Script.{import_names, section_names}
 use Rattle.pef_script_text.specs.SoFar.{ScriptSoFar, number_of_name, section_named}
@@ -44,6 +44,12 @@ named-is (Ok p) word = leads_if (λ (q : List ℕ × List ℕ). IsName q.0) (nat
 pub next_name-is : (line : List ℕ) (p : List ℕ × List ℕ) → next_name line ≡ Ok p → IsName p.0
 unfolding next_name next_word words.next_word
 next_name-is line p is = led (λ (q : List ℕ × List ℕ). IsName q.0) (next_name line) p is (named-is (next_word line) (word_before-is (cut_at 0x20 line)))
+
+pub next_name_and_word-is : (line : List ℕ) (p : List ℕ × List ℕ × List ℕ) → next_name_and_word line ≡ Ok p → IsName p.0
+unfolding next_name_and_word
+next_name_and_word-is line p is =
+    let P : List ℕ × List ℕ × List ℕ → Type 0 = λ q. IsName q.0 in
+    led P (next_name_and_word line) p is (leads_then P (next_name line) _ (λ name name_is. leads_then P (next_word name.1) _ (λ word word_is. next_name-is line name name_is)))
 
 pub number_up_to-is : (greatest : ℕ) (word : List ℕ) (n : ℕ) → number_up_to greatest word ≡ Ok n → n ≤ greatest
 unfolding number_up_to

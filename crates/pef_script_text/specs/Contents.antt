@@ -15,7 +15,7 @@ use Rattle.pef_script_text.specs.declared.fault.LineFault.TheVariants.{UnknownNa
 use Rattle.pef_script.specs.Limits.{greatest_number}
 use Rattle.pef_script.specs.Script.{DescribedSection, import_names}
 use Rattle.pef_script_text.specs.SoFar.{ScriptSoFar, content_group, entered, number_of_name, section_named, section_so_far}
-use Rattle.pef_script_text.specs.Words.{next_word, last_word, next_name, last_name, number_up_to, image_of}
+use Rattle.pef_script_text.specs.Words.{image_of, last_name, last_name_and_word, next_name, next_name_and_word, next_word, number_up_to}
 
 -- section k is changed by a line
 abbrev pub with_contents : ScriptSoFar → ℕ → DescribedSection → ScriptSoFar
@@ -35,14 +35,17 @@ bytes_tests s k count = (nat_lt k s.section, OutOfOrder)
 abbrev pub with_image : DescribedSection → List ℕ → DescribedSection
 with_image section bytes = record section { image = section.image ++ bytes }
 
-unfoldable pub bytes_line : ScriptSoFar → List ℕ → Result ScriptSoFar LineFault
-bytes_line s line = do
-  name ← next_name line
-  digits ← last_word name.1
-  bytes ← image_of digits
+-- the number of a section, and the bytes that a line has for it, where they may stand
+unfoldable pub bytes_in : ScriptSoFar → List ℕ → Result (ℕ × List ℕ) LineFault
+bytes_in s line = do
+  words ← last_name_and_word line
+  bytes ← image_of words.1
   group ← entered s content_group
-  k ← section_named s name.0
-  unless (first_met (bytes_tests s k (length bytes))) (Ok (with_contents s k (with_image (section_so_far s k) bytes)))
+  k ← section_named s words.0
+  unless (first_met (bytes_tests s k (length bytes))) (Ok (k, bytes))
+
+abbrev pub bytes_line : ScriptSoFar → List ℕ → Result ScriptSoFar LineFault
+bytes_line s line = bytes_in s line >>= λ b. Ok (with_contents s b.0 (with_image (section_so_far s b.0) b.1))
 
 -- the tests of so many fixups, one behind the other, from an offset in section k
 abbrev pub fixup_tests : ScriptSoFar → ℕ → ℕ → ℕ → List (Bool × LineFault)
@@ -74,31 +77,37 @@ abbrev pub base_named : ScriptSoFar → Bool → List ℕ → Result Base LineFa
 base_named s true name = section_named s name >>= λ k. Ok (base.Section k)
 base_named s false name = import_named s name >>= λ j. Ok (base.Import j)
 
-unfoldable pub fix_line : ScriptSoFar → List ℕ → Result ScriptSoFar LineFault
-fix_line s line = do
-  name ← next_name line
-  offset ← next_word name.1
-  kind ← next_word offset.1
+-- the same of a fixup
+unfoldable pub fixup_in : ScriptSoFar → List ℕ → Result (ℕ × Fixup) LineFault
+fixup_in s line = do
+  place ← next_name_and_word line
+  kind ← next_word place.2
   target ← last_name kind.1
   group ← entered s content_group
   is_section ← is_section_word kind.0
-  offset ← number_up_to greatest_number offset.0
-  k ← section_named s name.0
+  offset ← number_up_to greatest_number place.1
+  k ← section_named s place.0
   target ← base_named s is_section target
-  unless (first_met (fixup_tests s k offset 1)) (Ok (with_contents s k (with_fixups (section_so_far s k) (fixup_of offset target ∷ []))))
+  unless (first_met (fixup_tests s k offset 1)) (Ok (k, fixup_of offset target))
+
+abbrev pub fix_line : ScriptSoFar → List ℕ → Result ScriptSoFar LineFault
+fix_line s line = fixup_in s line >>= λ f. Ok (with_contents s f.0 (with_fixups (section_so_far s f.0) (f.1 ∷ [])))
 
 -- `tvector SECTION OFFSET CODE DATA`: a transition vector, to whose words the addresses of a section of
 -- code and of one of data are added
 
-unfoldable pub tvector_line : ScriptSoFar → List ℕ → Result ScriptSoFar LineFault
-tvector_line s line = do
-  name ← next_name line
-  offset ← next_word name.1
-  code ← next_name offset.1
+-- the number of a section, and the fixups of its transition vector, where they may stand
+unfoldable pub vector_in : ScriptSoFar → List ℕ → Result (ℕ × List Fixup) LineFault
+vector_in s line = do
+  place ← next_name_and_word line
+  code ← next_name place.2
   data_name ← last_name code.1
   group ← entered s content_group
-  offset ← number_up_to greatest_number offset.0
-  k ← section_named s name.0
+  offset ← number_up_to greatest_number place.1
+  k ← section_named s place.0
   code ← section_named s code.0
   data_section ← section_named s data_name
-  unless (first_met (fixup_tests s k offset 2)) (Ok (with_contents s k (with_fixups (section_so_far s k) (fixup_of offset (base.Section code) ∷ fixup_of (offset + 4) (base.Section data_section) ∷ []))))
+  unless (first_met (fixup_tests s k offset 2)) (Ok (k, fixup_of offset (base.Section code) ∷ fixup_of (offset + 4) (base.Section data_section) ∷ []))
+
+abbrev pub tvector_line : ScriptSoFar → List ℕ → Result ScriptSoFar LineFault
+tvector_line s line = vector_in s line >>= λ v. Ok (with_contents s v.0 (with_fixups (section_so_far s v.0) v.1))

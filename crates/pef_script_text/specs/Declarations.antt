@@ -12,23 +12,26 @@ use Rattle.pef_script.specs.declared.parts.Versions.{Versions}
 use Rattle.pef_script.specs.Limits.{greatest_align, greatest_number, greatest_total, most_libraries}
 use Rattle.pef_script.specs.Script.{DescribedHeader, DescribedImport, DescribedLibrary, import_names, library_names, section_names}
 use Rattle.pef_script_text.specs.SoFar.{ScriptSoFar, counted_name_tests, entered, entered_once, library_group, name_tests, section_group, versions_group, with_script, word_of}
-use Rattle.pef_script_text.specs.Words.{next_word, last_word, next_name, number_up_to}
+use Rattle.pef_script_text.specs.Words.{last_two_words, last_word, next_name_and_word, next_word, number_up_to}
 
 -- `versions CURRENT OLDDEF OLDIMP`
 
 abbrev pub with_versions : ScriptSoFar → Versions → ScriptSoFar
 with_versions s versions = record s { reached = versions_group; script = record s.script { versions = versions } }
 
-unfoldable pub versions_line : ScriptSoFar → List ℕ → Result ScriptSoFar LineFault
-versions_line s line = do
+-- the versions that a line tells, where it may stand
+unfoldable pub versions_in : ScriptSoFar → List ℕ → Result Versions LineFault
+versions_in s line = do
   current ← next_word line
-  old_def ← next_word current.1
-  old_imp ← last_word old_def.1
+  old ← last_two_words current.1
   group ← entered_once s versions_group
   current ← number_up_to greatest_number current.0
-  old_def ← number_up_to greatest_number old_def.0
-  old_imp ← number_up_to greatest_number old_imp
-  Ok (with_versions s (record { current = current; old_def = old_def; old_imp = old_imp }))
+  old_def ← number_up_to greatest_number old.0
+  old_imp ← number_up_to greatest_number old.1
+  Ok (record { current = current; old_def = old_def; old_imp = old_imp })
+
+abbrev pub versions_line : ScriptSoFar → List ℕ → Result ScriptSoFar LineFault
+versions_line s line = versions_in s line >>= λ versions. Ok (with_versions s versions)
 
 -- `library NAME CURRENT OLDIMP OPTION`
 
@@ -40,17 +43,19 @@ abbrev pub with_library : ScriptSoFar → DescribedLibrary → Result ScriptSoFa
 with_library s library = unless (first_met (counted_name_tests s (library_names s.script) most_libraries library.name))
     (Ok (with_script s library_group (record s.script { libraries = s.script.libraries ++ library ∷ [] })))
 
-unfoldable pub library_line : ScriptSoFar → List ℕ → Result ScriptSoFar LineFault
-library_line s line = do
-  name ← next_name line
-  current ← next_word name.1
-  old_imp ← next_word current.1
-  option ← last_word old_imp.1
+-- the library that a line declares, where it may stand
+unfoldable pub library_in : ScriptSoFar → List ℕ → Result DescribedLibrary LineFault
+library_in s line = do
+  library ← next_name_and_word line
+  last ← last_two_words library.2
   group ← entered s library_group
-  options ← options_of option
-  current ← number_up_to greatest_number current.0
-  old_imp ← number_up_to greatest_number old_imp.0
-  with_library s (record { name = name.0; current = current; old_imp = old_imp; options = options })
+  options ← options_of last.1
+  current ← number_up_to greatest_number library.1
+  old_imp ← number_up_to greatest_number last.0
+  Ok (record { name = library.0; current = current; old_imp = old_imp; options = options })
+
+abbrev pub library_line : ScriptSoFar → List ℕ → Result ScriptSoFar LineFault
+library_line s line = library_in s line >>= with_library s
 
 -- `import NAME CLASS STRENGTH`: a symbol of the last library, of which there is one
 
@@ -69,15 +74,18 @@ abbrev pub with_import : ScriptSoFar → DescribedImport → Result ScriptSoFar 
 with_import s symbol = unless (first_met (counted_name_tests s (import_names s.script) most_imports symbol.name))
     (Ok (with_script s library_group (record s.script { imports = s.script.imports ++ symbol ∷ [] })))
 
-unfoldable pub import_line : ScriptSoFar → List ℕ → Result ScriptSoFar LineFault
-import_line s line = do
-  name ← next_name line
-  class ← next_word name.1
-  strength ← last_word class.1
+-- the import that a line declares, where it may stand
+unfoldable pub import_in : ScriptSoFar → List ℕ → Result DescribedImport LineFault
+import_in s line = do
+  symbol ← next_name_and_word line
+  strength ← last_word symbol.2
   library ← entered_import s
-  class ← symbol_class_of class.0
+  class ← symbol_class_of symbol.1
   weak ← is_weak_word strength
-  with_import s (record { name = name.0; class = class; weak = weak; library = library })
+  Ok (record { name = symbol.0; class = class; weak = weak; library = library })
+
+abbrev pub import_line : ScriptSoFar → List ℕ → Result ScriptSoFar LineFault
+import_line s line = import_in s line >>= with_import s
 
 -- `section NAME KIND SHARE ALIGN TOTAL`
 
@@ -94,16 +102,18 @@ with_section s header = unless (first_met (name_tests (section_names s.script) m
   script = record s.script { sections = s.script.sections ++ record { header = header; image = []; fixups = [] } ∷ [] };
 }))
 
-unfoldable pub section_line : ScriptSoFar → List ℕ → Result ScriptSoFar LineFault
-section_line s line = do
-  name ← next_name line
-  kind ← next_word name.1
-  share ← next_word kind.1
-  align ← next_word share.1
-  total ← last_word align.1
+-- the header of the section that a line declares, where it may stand
+unfoldable pub section_in : ScriptSoFar → List ℕ → Result DescribedHeader LineFault
+section_in s line = do
+  section ← next_name_and_word line
+  share ← next_word section.2
+  size ← last_two_words share.1
   group ← entered s section_group
-  kind ← kind_of kind.0
+  kind ← kind_of section.1
   share ← share_of share.0
-  align ← number_up_to greatest_align align.0
-  total ← number_up_to greatest_total total
-  with_section s (record { name = name.0; kind = kind; share = share; align = align; total = total })
+  align ← number_up_to greatest_align size.0
+  total ← number_up_to greatest_total size.1
+  Ok (record { name = section.0; kind = kind; share = share; align = align; total = total })
+
+abbrev pub section_line : ScriptSoFar → List ℕ → Result ScriptSoFar LineFault
+section_line s line = section_in s line >>= with_section s

@@ -9,7 +9,7 @@ use Rattle.pef_script.specs.Limits.{greatest_number, most_exports}
 use Rattle.pef_script.specs.Script.{DescribedExport, export_names}
 use Rattle.pef_script_text.specs.Declarations.{symbol_class_of}
 use Rattle.pef_script_text.specs.SoFar.{ScriptSoFar, counted_name_tests, entered, entered_once, export_group, init_group, main_group, section_named, section_so_far, term_group, with_script}
-use Rattle.pef_script_text.specs.Words.{next_word, last_word, next_name, number_up_to}
+use Rattle.pef_script_text.specs.Words.{last_name_and_word, next_name_and_word, number_up_to}
 
 -- the test of an offset in section k, which may be its end
 abbrev pub place_tests : ScriptSoFar → ℕ → ℕ → List (Bool × LineFault)
@@ -22,27 +22,28 @@ abbrev pub with_export : ScriptSoFar → ℕ → DescribedExport → Result Scri
 with_export s k symbol = unless (first_met (counted_name_tests s (export_names s.script) most_exports symbol.name ++ place_tests s k symbol.value))
     (Ok (with_script s export_group (record s.script { exports = s.script.exports ++ symbol ∷ [] })))
 
-unfoldable pub export_line : ScriptSoFar → List ℕ → Result ScriptSoFar LineFault
-export_line s line = do
-  name ← next_name line
-  class ← next_word name.1
-  section ← next_name class.1
-  offset ← last_word section.1
+-- the export that a line declares behind the number of its section, where it may stand
+unfoldable pub export_in : ScriptSoFar → List ℕ → Result (ℕ × DescribedExport) LineFault
+export_in s line = do
+  symbol ← next_name_and_word line
+  place ← last_name_and_word symbol.2
   group ← entered s export_group
-  class ← symbol_class_of class.0
-  offset ← number_up_to greatest_number offset
-  k ← section_named s section.0
-  with_export s k (record { name = name.0; class = class; section = pos k; value = offset })
+  class ← symbol_class_of symbol.1
+  offset ← number_up_to greatest_number place.1
+  k ← section_named s place.0
+  Ok (k, record { name = symbol.0; class = class; section = pos k; value = offset })
+
+abbrev pub export_line : ScriptSoFar → List ℕ → Result ScriptSoFar LineFault
+export_line s line = export_in s line >>= λ e. with_export s e.0 e.1
 
 -- `main SECTION OFFSET`, `init SECTION OFFSET` and `term SECTION OFFSET`
 
 unfoldable pub entry_in : ScriptSoFar → ℕ → List ℕ → Result (ℕ × ℕ) LineFault
 entry_in s group line = do
-  section ← next_name line
-  offset ← last_word section.1
+  place ← last_name_and_word line
   group ← entered_once s group
-  offset ← number_up_to greatest_number offset
-  k ← section_named s section.0
+  offset ← number_up_to greatest_number place.1
+  k ← section_named s place.0
   unless (first_met (place_tests s k offset)) (Ok (k, offset))
 
 abbrev pub main_line : ScriptSoFar → List ℕ → Result ScriptSoFar LineFault

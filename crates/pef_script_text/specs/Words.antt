@@ -6,6 +6,7 @@ use Rattle.pef_lines.specs.Numbers.{below, decimal_number, hex_number}
 use Rattle.pef_lines.specs.Pairs.{hex_bytes}
 use Rattle.pef_lines.specs.Words as words
 pub use Rattle.pef_lines.specs.Words.{is_printing}
+use Rattle.pef_words.specs.Results.{◌>>=◌}
 use Rattle.pef_script_text.specs.declared.fault.LineFault.{LineFault}
 use Rattle.pef_script_text.specs.declared.fault.LineFault.TheVariants.{BadLine, BadNumber}
 use Rattle.pef_script.specs.Limits.{longest_name}
@@ -30,6 +31,27 @@ next_name line = named (λ p. p.0) (next_word line)
 -- the name that is left of a line
 unfoldable pub last_name : List ℕ → Result (List ℕ) LineFault
 last_name line = named (λ name. name) (last_word line)
+
+-- the next two words of a line, of which the first is a name, and what follows the space behind them
+unfoldable pub next_name_and_word : List ℕ → Result (List ℕ × List ℕ × List ℕ) LineFault
+next_name_and_word line = do
+  name ← next_name line
+  word ← next_word name.1
+  Ok (name.0, word.0, word.1)
+
+-- the two words that are left of a line
+unfoldable pub last_two_words : List ℕ → Result (List ℕ × List ℕ) LineFault
+last_two_words line = do
+  first ← next_word line
+  second ← last_word first.1
+  Ok (first.0, second)
+
+-- the name and the word behind it that are left of a line
+unfoldable pub last_name_and_word : List ℕ → Result (List ℕ × List ℕ) LineFault
+last_name_and_word line = do
+  name ← next_name line
+  word ← last_word name.1
+  Ok (name.0, word)
 
 -- what follows a leading 0: nothing, or `x` and hex digits
 abbrev pub number_behind_zero : List ℕ → Option ℕ

@@ -1,7 +1,7 @@
 ghost use Rattle.std.specs.Prelude.{◌≡◌, true, ◌+◌, ◌*◌, ◌^◌, ◌<◌, [], ◌∷◌, Ok, vec_len, IfOk, OnOk};
 ghost use Rattle.std.specs.Result.{result_err};
 ghost use Rattle.pef_words.specs.Refusals.{first_met};
-ghost use Rattle.pef_script_text.specs.Contents.{base_named, bytes_line, bytes_tests, fix_line, fixup_of, fixup_tests, import_named, tvector_line, with_contents, with_fixups};
+ghost use Rattle.pef_script_text.specs.Contents.{base_named, bytes_in, bytes_line, bytes_tests, fix_line, fixup_in, fixup_of, fixup_tests, import_named, tvector_line, vector_in, with_contents, with_fixups};
 ghost use Rattle.pef_script_text.specs.SoFar.{section_so_far};
 ghost use Rattle.pef_script_text.specs.Kept.Reader.{so_far};
 ghost use Rattle.pef_script_text.specs.Kept.Steps.{Steps};
@@ -14,20 +14,18 @@ use crate::numbers::read_number;
 use crate::reader::Reader;
 use crate::sections::{add_fixups, append, fixups_end};
 use crate::tables::number_of_name;
-use crate::words::{last_name, last_word, next_name, next_word, read_pairs};
+use crate::words::{
+    last_name, last_name_and_word, next_name, next_name_and_word, next_word, read_pairs,
+};
+use pef_lines::Pairs;
 use pef_reloc::{Base, Fixup, MAX_FIXUPS, WORD};
 
 impl<'a> Reader<'a> {
     /// `bytes SECTION HEX`, behind its first word.
-    #[tactic(auto, unfolding(crate::specs::Contents::bytes_line))]
     pub fn read_bytes(&mut self, line: &[u8]) -> Result<(), Stop>
         ensures { Steps result (so_far self.new) (bytes_line (so_far self.old) line.now) }
     {
-        let (name, rest) = next_name(line)?;
-        let pairs = read_pairs(last_word(rest)?)?;
-        self.enter(CONTENT_GROUP)?;
-        let k = self.section_named(name)?;
-        self.test_bytes(k, pairs.count())?;
+        let (k, pairs) = self.bytes_in(line)?;
         let parts = &mut self.parts;
         append(&mut parts.sections[k], pairs)?;
         self.reached = CONTENT_GROUP;
@@ -36,12 +34,42 @@ impl<'a> Reader<'a> {
     }
 
     /// `fix SECTION OFFSET section NAME` or `fix SECTION OFFSET import NAME`, behind its first word.
-    #[tactic(auto, unfolding(crate::specs::Contents::fix_line))]
     pub fn read_fix(&mut self, line: &[u8]) -> Result<(), Stop>
         ensures { Steps result (so_far self.new) (fix_line (so_far self.old) line.now) }
     {
-        let (name, rest) = next_name(line)?;
-        let (offset, rest) = next_word(rest)?;
+        let (k, fixup) = self.fixup_in(line)?;
+        self.put_fixups(k, &[fixup])
+    }
+
+    /// `tvector SECTION OFFSET CODE DATA`, behind its first word.
+    pub fn read_tvector(&mut self, line: &[u8]) -> Result<(), Stop>
+        ensures { Steps result (so_far self.new) (tvector_line (so_far self.old) line.now) }
+    {
+        let (k, fixups) = self.vector_in(line)?;
+        self.put_fixups(k, &fixups)
+    }
+
+    /// The bytes that a line has for a section, by its number, where they may stand.
+    #[tactic(auto, unfolding(crate::specs::Contents::bytes_in))]
+    fn bytes_in<'l>(&self, line: &'l [u8]) -> Result<(usize, Pairs<'l>), LineFault>
+        ensures bytes { result ≡ bytes_in (so_far self.now) line.now }
+        ensures below { IfOk result (λ b. b.0 < vec_len self.now.parts.sections) }
+    {
+        let (name, digits) = last_name_and_word(line)?;
+        let pairs = read_pairs(digits)?;
+        self.enter(CONTENT_GROUP)?;
+        let k = self.section_named(name)?;
+        self.test_bytes(k, pairs.count())?;
+        Ok((k, pairs))
+    }
+
+    /// The fixup that a line has for a section, by its number, where it may stand.
+    #[tactic(auto, unfolding(crate::specs::Contents::fixup_in))]
+    fn fixup_in(&self, line: &[u8]) -> Result<(usize, Fixup), LineFault>
+        ensures fixup { result ≡ fixup_in (so_far self.now) line.now }
+        ensures below { IfOk result (λ f. f.0 < vec_len self.now.parts.sections) }
+    {
+        let (name, offset, rest) = next_name_and_word(line)?;
         let (kind, rest) = next_word(rest)?;
         let target = last_name(rest)?;
         self.enter(CONTENT_GROUP)?;
@@ -50,16 +78,16 @@ impl<'a> Reader<'a> {
         let k = self.section_named(name)?;
         let base = self.base_named(is_section, target)?;
         self.test_fixups(k, offset, 1)?;
-        self.put_fixups(k, &[Fixup { offset, base }])
+        Ok((k, Fixup { offset, base }))
     }
 
-    /// `tvector SECTION OFFSET CODE DATA`, behind its first word.
-    #[tactic(auto, unfolding(crate::specs::Contents::tvector_line))]
-    pub fn read_tvector(&mut self, line: &[u8]) -> Result<(), Stop>
-        ensures { Steps result (so_far self.new) (tvector_line (so_far self.old) line.now) }
+    /// The fixups of the transition vector that a line has for a section, by its number, where they may stand.
+    #[tactic(auto, unfolding(crate::specs::Contents::vector_in))]
+    fn vector_in(&self, line: &[u8]) -> Result<(usize, [Fixup; 2]), LineFault>
+        ensures fixups { result ≡ vector_in (so_far self.now) line.now }
+        ensures below { IfOk result (λ v. v.0 < vec_len self.now.parts.sections) }
     {
-        let (name, rest) = next_name(line)?;
-        let (offset, rest) = next_word(rest)?;
+        let (name, offset, rest) = next_name_and_word(line)?;
         let (code, rest) = next_name(rest)?;
         let data = last_name(rest)?;
         self.enter(CONTENT_GROUP)?;
@@ -68,7 +96,7 @@ impl<'a> Reader<'a> {
         let code = self.section_base(code)?;
         let data = self.section_base(data)?;
         self.test_fixups(k, offset, 2)?;
-        self.put_fixups(k, &vector_fixups(offset, code, data))
+        Ok((k, vector_fixups(offset, code, data)))
     }
 
     /// Appends fixups to those of section `k`, which the line is for.

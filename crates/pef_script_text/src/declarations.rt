@@ -1,5 +1,6 @@
 ghost use Rattle.std.specs.Prelude.{◌≡◌};
-ghost use Rattle.pef_script_text.specs.Declarations.{entered_import, import_line, library_line, section_line, versions_line, with_import, with_library, with_section};
+ghost use Rattle.pef_script_text.specs.Declarations.{entered_import, import_in, import_line, library_in, library_line, section_in, section_line, versions_in, versions_line, with_import, with_library, with_section};
+ghost use Rattle.pef_words.specs.Refusals.{result_map};
 ghost use Rattle.pef_script_text.specs.Kept.Reader.{so_far};
 ghost use Rattle.pef_script_text.specs.Kept.Steps.{Steps};
 ghost use Rattle.pef_script.specs.Parts.{import_of, library_of};
@@ -16,40 +17,69 @@ use crate::numbers::read_number;
 use crate::reader::Reader;
 use crate::sections::section_number;
 use crate::tables::declare;
-use crate::words::{last_word, next_name, next_word};
+use crate::words::{last_two_words, last_word, next_name_and_word, next_word};
 use pef_script::{ImportData, LibraryData, Section, SectionHeader, Versions};
 
 impl<'a> Reader<'a> {
     /// `versions CURRENT OLDDEF OLDIMP`, behind its first word.
-    #[tactic(auto, unfolding(crate::specs::Declarations::versions_line))]
     pub fn read_versions(&mut self, line: &[u8]) -> Result<(), Stop>
         ensures { Steps result (so_far self.new) (versions_line (so_far self.old) line.now) }
     {
-        let (current, rest) = next_word(line)?;
-        let (old_def, rest) = next_word(rest)?;
-        let old_imp = last_word(rest)?;
-        self.enter_once(VERSIONS_GROUP)?;
-        let current = read_number(MAX_NUMBER, current)?;
-        let old_def = read_number(MAX_NUMBER, old_def)?;
-        let old_imp = read_number(MAX_NUMBER, old_imp)?;
-        self.parts.versions = Versions {
-            current,
-            old_def,
-            old_imp,
-        };
+        let versions = self.versions_in(line)?;
+        self.parts.versions = versions;
         self.reached = VERSIONS_GROUP;
         Ok(())
     }
 
     /// `library NAME CURRENT OLDIMP OPTION`, behind its first word.
-    #[tactic(auto, unfolding(crate::specs::Declarations::library_line))]
     pub fn read_library(&mut self, line: &'a [u8]) -> Result<(), Stop>
         ensures { Steps result (so_far self.new) (library_line (so_far self.old) line.entry.now) }
     {
-        let (name, rest) = next_name(line)?;
-        let (current, rest) = next_word(rest)?;
-        let (old_imp, rest) = next_word(rest)?;
-        let option = last_word(rest)?;
+        let (name, library) = self.library_in(line)?;
+        self.add_library(name, library)
+    }
+
+    /// `import NAME CLASS STRENGTH`, behind its first word.
+    pub fn read_import(&mut self, line: &'a [u8]) -> Result<(), Stop>
+        ensures { Steps result (so_far self.new) (import_line (so_far self.old) line.entry.now) }
+    {
+        let (name, import) = self.import_in(line)?;
+        self.add_import(name, import)
+    }
+
+    /// `section NAME KIND SHARE ALIGN TOTAL`, behind its first word.
+    pub fn read_section(&mut self, line: &'a [u8]) -> Result<(), Stop>
+        ensures { Steps result (so_far self.new) (section_line (so_far self.old) line.entry.now) }
+    {
+        let header = self.section_in(line)?;
+        self.add_section(header)
+    }
+
+    /// The versions that a line tells, where it may stand.
+    #[tactic(auto, unfolding(crate::specs::Declarations::versions_in))]
+    fn versions_in(&self, line: &[u8]) -> Result<Versions, LineFault>
+        ensures { result ≡ versions_in (so_far self.now) line.now }
+    {
+        let (current, rest) = next_word(line)?;
+        let (old_def, old_imp) = last_two_words(rest)?;
+        self.enter_once(VERSIONS_GROUP)?;
+        let current = read_number(MAX_NUMBER, current)?;
+        let old_def = read_number(MAX_NUMBER, old_def)?;
+        let old_imp = read_number(MAX_NUMBER, old_imp)?;
+        Ok(Versions {
+            current,
+            old_def,
+            old_imp,
+        })
+    }
+
+    /// The library that a line declares, where it may stand.
+    #[tactic(auto, unfolding(crate::specs::Declarations::library_in))]
+    fn library_in(&self, line: &'a [u8]) -> Result<(&'a [u8], LibraryData), LineFault>
+        ensures { result_map library_of result ≡ library_in (so_far self.now) line.entry.now }
+    {
+        let (name, current, rest) = next_name_and_word(line)?;
+        let (old_imp, option) = last_two_words(rest)?;
         self.enter(LIBRARY_GROUP)?;
         let options = options_of(option)?;
         let current = read_number(MAX_NUMBER, current)?;
@@ -59,16 +89,15 @@ impl<'a> Reader<'a> {
             old_imp,
             options,
         };
-        self.add_library(name, library)
+        Ok((name, library))
     }
 
-    /// `import NAME CLASS STRENGTH`, behind its first word.
-    #[tactic(auto, unfolding(crate::specs::Declarations::import_line))]
-    pub fn read_import(&mut self, line: &'a [u8]) -> Result<(), Stop>
-        ensures { Steps result (so_far self.new) (import_line (so_far self.old) line.entry.now) }
+    /// The import that a line declares, where it may stand.
+    #[tactic(auto, unfolding(crate::specs::Declarations::import_in))]
+    fn import_in(&self, line: &'a [u8]) -> Result<(&'a [u8], ImportData), LineFault>
+        ensures { result_map import_of result ≡ import_in (so_far self.now) line.entry.now }
     {
-        let (name, rest) = next_name(line)?;
-        let (class, rest) = next_word(rest)?;
+        let (name, class, rest) = next_name_and_word(line)?;
         let strength = last_word(rest)?;
         let library = self.enter_import()?;
         let class = class_of(class)?;
@@ -78,32 +107,29 @@ impl<'a> Reader<'a> {
             weak,
             library,
         };
-        self.add_import(name, import)
+        Ok((name, import))
     }
 
-    /// `section NAME KIND SHARE ALIGN TOTAL`, behind its first word.
-    #[tactic(auto, unfolding(crate::specs::Declarations::section_line))]
-    pub fn read_section(&mut self, line: &'a [u8]) -> Result<(), Stop>
-        ensures { Steps result (so_far self.new) (section_line (so_far self.old) line.entry.now) }
+    /// The header of the section that a line declares, where it may stand.
+    #[tactic(auto, unfolding(crate::specs::Declarations::section_in))]
+    fn section_in(&self, line: &'a [u8]) -> Result<SectionHeader<'a>, LineFault>
+        ensures { result_map header_in result ≡ section_in (so_far self.now) line.entry.now }
     {
-        let (name, rest) = next_name(line)?;
-        let (kind, rest) = next_word(rest)?;
+        let (name, kind, rest) = next_name_and_word(line)?;
         let (share, rest) = next_word(rest)?;
-        let (align, rest) = next_word(rest)?;
-        let total = last_word(rest)?;
+        let (align, total) = last_two_words(rest)?;
         self.enter(SECTION_GROUP)?;
         let kind = kind_of(kind)?;
         let share = share_of(share)?;
         let align = read_number(MAX_ALIGN, align)? as u8;
         let total = read_number(MAX_TOTAL, total)?;
-        let header = SectionHeader {
+        Ok(SectionHeader {
             name,
             kind,
             share,
             align,
             total,
-        };
-        self.add_section(header)
+        })
     }
 
     /// Adds a library, unless its name is another's or passes the limits.

@@ -1,7 +1,7 @@
-ghost use Rattle.std.specs.Prelude.{◌≡◌, ◌<◌, vec_len};
+ghost use Rattle.std.specs.Prelude.{◌≡◌, ◌<◌, vec_len, IfOk};
 ghost use Rattle.std.specs.Result.{result_err};
-ghost use Rattle.pef_words.specs.Refusals.{first_met};
-ghost use Rattle.pef_script_text.specs.Exports.{entry_in, export_line, init_line, main_line, place_tests, term_line, with_export};
+ghost use Rattle.pef_words.specs.Refusals.{first_met, result_map};
+ghost use Rattle.pef_script_text.specs.Exports.{entry_in, export_in, export_line, init_line, main_line, place_tests, term_line, with_export};
 ghost use Rattle.pef_script_text.specs.Kept.Reader.{so_far};
 ghost use Rattle.pef_script_text.specs.Kept.Steps.{Steps};
 ghost use Rattle.pef_script.specs.Parts.{export_of};
@@ -13,19 +13,26 @@ use crate::limits::{EXPORT_GROUP, INIT_GROUP, MAIN_GROUP, MAX_EXPORTS, MAX_NUMBE
 use crate::numbers::read_number;
 use crate::reader::Reader;
 use crate::tables::declare;
-use crate::words::{last_word, next_name, next_word};
+use crate::words::{last_name_and_word, next_name_and_word};
 use pef_script::ExportData;
 
 impl<'a> Reader<'a> {
     /// `export NAME CLASS SECTION OFFSET`, behind its first word.
-    #[tactic(auto, unfolding(crate::specs::Exports::export_line))]
     pub fn read_export(&mut self, line: &'a [u8]) -> Result<(), Stop>
         ensures { Steps result (so_far self.new) (export_line (so_far self.old) line.entry.now) }
     {
-        let (name, rest) = next_name(line)?;
-        let (class, rest) = next_word(rest)?;
-        let (section, rest) = next_name(rest)?;
-        let offset = last_word(rest)?;
+        let (name, k, export) = self.export_in(line)?;
+        self.add_export(name, k, export)
+    }
+
+    /// The name of the export that a line declares, the number of its section, and what else is said of it.
+    #[tactic(auto, unfolding(crate::specs::Exports::export_in))]
+    fn export_in(&self, line: &'a [u8]) -> Result<(&'a [u8], usize, ExportData), LineFault>
+        ensures export { result_map (λ e. (e.1, export_of (e.0, e.2))) result ≡ export_in (so_far self.now) line.entry.now }
+        ensures below { IfOk result (λ e. e.1 < vec_len self.now.parts.sections) }
+    {
+        let (name, class, rest) = next_name_and_word(line)?;
+        let (section, offset) = last_name_and_word(rest)?;
         self.enter(EXPORT_GROUP)?;
         let class = class_of(class)?;
         let value = read_number(MAX_NUMBER, offset)?;
@@ -35,7 +42,7 @@ impl<'a> Reader<'a> {
             section: k as i32,
             value,
         };
-        self.add_export(name, k, export)
+        Ok((name, k, export))
     }
 
     /// `main SECTION OFFSET`, behind its first word.
@@ -73,8 +80,7 @@ impl<'a> Reader<'a> {
     fn read_entry(&self, group: u8, line: &[u8]) -> Result<(u32, u32), LineFault>
         ensures { result ≡ entry_in (so_far self.now) group line.now }
     {
-        let (section, rest) = next_name(line)?;
-        let offset = last_word(rest)?;
+        let (section, offset) = last_name_and_word(line)?;
         self.enter_once(group)?;
         let offset = read_number(MAX_NUMBER, offset)?;
         let k = self.section_named(section)?;

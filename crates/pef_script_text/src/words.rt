@@ -1,6 +1,6 @@
 ghost use Rattle.std.specs.Prelude.{◌≡◌};
 ghost use Rattle.pef_words.specs.Refusals.{result_map};
-ghost use Rattle.pef_script_text.specs.Words.{image_of, last_name, last_word, next_name, next_word};
+ghost use Rattle.pef_script_text.specs.Words.{image_of, last_name, last_name_and_word, last_two_words, last_word, next_name, next_name_and_word, next_word};
 
 use crate::LineFault;
 use crate::limits::MAX_NAME;
@@ -23,27 +23,63 @@ pub fn next_word(line: &[u8]) -> Result<(&[u8], &[u8]), LineFault>
 }
 
 /// The next word of a line where it is a name, and what follows the space behind it.
-#[tactic(auto, unfolding(crate::specs::Words::next_name))]
+#[tactic(auto, unfolding(crate::specs::Words::next_name, crate::specs::Words::next_word))]
 pub fn next_name(line: &[u8]) -> Result<(&[u8], &[u8]), LineFault>
     ensures { result_map (λ p. (p.0.now, p.1.now)) result ≡ next_name line.now }
 {
-    let (name, rest) = next_word(line)?;
-    if name.len() > MAX_NAME {
-        return Err(LineFault::BadLine);
+    match pef_lines::next_word(line) {
+        Some((name, rest)) if name.len() <= MAX_NAME => Ok((name, rest)),
+        _ => Err(LineFault::BadLine),
     }
-    Ok((name, rest))
 }
 
 /// The name that is left of a line.
-#[tactic(auto, unfolding(crate::specs::Words::last_name))]
+#[tactic(auto, unfolding(crate::specs::Words::last_name, crate::specs::Words::last_word))]
 pub fn last_name(line: &[u8]) -> Result<&[u8], LineFault>
     ensures { result_map (λ name. name.now) result ≡ last_name line.now }
 {
-    let name = last_word(line)?;
-    if name.len() > MAX_NAME {
-        return Err(LineFault::BadLine);
+    match pef_lines::last_word(line) {
+        Some(name) if name.len() <= MAX_NAME => Ok(name),
+        _ => Err(LineFault::BadLine),
     }
-    Ok(name)
+}
+
+/// The next two words of a line, of which the first is a name, and what follows the space behind them.
+#[tactic(auto, unfolding(crate::specs::Words::next_name_and_word, crate::specs::Words::next_word))]
+pub fn next_name_and_word(line: &[u8]) -> Result<(&[u8], &[u8], &[u8]), LineFault>
+    ensures { result_map (λ p. (p.0.now, p.1.now, p.2.now)) result ≡ next_name_and_word line.now }
+{
+    let (name, rest) = next_name(line)?;
+    let Some((word, rest)) = pef_lines::next_word(rest) else {
+        return Err(LineFault::BadLine);
+    };
+    Ok((name, word, rest))
+}
+
+/// The name and the word behind it that are left of a line.
+#[tactic(auto, unfolding(crate::specs::Words::last_name_and_word, crate::specs::Words::last_word))]
+pub fn last_name_and_word(line: &[u8]) -> Result<(&[u8], &[u8]), LineFault>
+    ensures { result_map (λ p. (p.0.now, p.1.now)) result ≡ last_name_and_word line.now }
+{
+    let (name, rest) = next_name(line)?;
+    let Some(word) = pef_lines::last_word(rest) else {
+        return Err(LineFault::BadLine);
+    };
+    Ok((name, word))
+}
+
+/// The two words that are left of a line.
+#[tactic(auto, unfolding(crate::specs::Words::last_two_words, crate::specs::Words::next_word, crate::specs::Words::last_word))]
+pub fn last_two_words(line: &[u8]) -> Result<(&[u8], &[u8]), LineFault>
+    ensures { result_map (λ p. (p.0.now, p.1.now)) result ≡ last_two_words line.now }
+{
+    let Some((first, rest)) = pef_lines::next_word(line) else {
+        return Err(LineFault::BadLine);
+    };
+    let Some(second) = pef_lines::last_word(rest) else {
+        return Err(LineFault::BadLine);
+    };
+    Ok((first, second))
 }
 
 /// The pairs of hex digits that a word has.
