@@ -25,7 +25,7 @@ const GAPS: [u32; 14] = [
 ];
 
 /// Numbers from a seed, always the same.
-#[derive(Clone, Copy, Debug)]
+#[derive(Clone, Copy)]
 struct Random {
     state: u32,
 }

@@ -66,7 +66,7 @@ fn change(class: usize, other: usize) -> u32 {
 }
 
 /// The labels and least skips so far.
-#[derive(Clone, Copy, Debug)]
+#[derive(Clone, Copy)]
 struct Plain<'a> {
     fixups: &'a [Fixup],
     registers: &'a [u32],
@@ -77,7 +77,7 @@ struct Plain<'a> {
 }
 
 /// A run from a fixup on, and the classes that the registers stay in.
-#[derive(Clone, Copy, Debug)]
+#[derive(Clone, Copy)]
 struct Run {
     first: Base,
     second: Option<Base>,

@@ -16,7 +16,7 @@ const NO_SECTION: u32 = 2;
 const STATES: usize = 5 * 32 * 27;
 
 /// A state of the machine, with how many fixups are made.
-#[derive(Clone, Copy, Debug)]
+#[derive(Clone, Copy)]
 struct State {
     made: u32,
     position: u32,
@@ -54,7 +54,7 @@ impl State {
 }
 
 /// The least number of halfwords that lead to each state.
-#[derive(Debug, Drop)]
+#[derive(Drop)]
 struct Lengths {
     lengths: Vec<u32>,
 }

@@ -22,7 +22,7 @@ pub const FIXUPS: u32 = 16_384;
 pub const EVERY_OTHER: u32 = 131_072;
 
 /// Fixups side by side or apart: the offset of the first, how far it is to the next, and how many.
-#[derive(Clone, Copy, Debug)]
+#[derive(Clone, Copy)]
 pub struct Spaced {
     pub first: u32,
     pub step: u32,
