@@ -29,9 +29,15 @@ pub fn assert_length(
     length: u64,
 ) -> Result<(), Fail> {
     let certificate = planned(rt, alloc, fixups)?;
+    assert_certified(rt, fixups, &certificate, length);
+    Ok(())
+}
+
+fn assert_certified(rt: &impl Abort, fixups: &[Fixup], certificate: &Certificate, length: u64)
+    requires { fixups_fit fixups.now ≡ true }
+{
     let first = fixups.get(..8).unwrap_or(fixups);
     assert!(rt; certificate.program_length() == length, "{first:?} ..");
     assert!(rt; certificate.section == 3);
-    assert!(rt; check(fixups, &certificate), "{first:?} ..");
-    Ok(())
+    assert!(rt; check(fixups, certificate), "{first:?} ..");
 }

@@ -3,7 +3,7 @@ ghost use Rattle.pef_reloc.specs.Fixups.{fixups_fit};
 
 use crate::plans::{assert_length, planned};
 use crate::reference::{counted_labels, number_at, plain_labels};
-use pef_labels::LabelRows;
+use pef_labels::{Certificate, LabelRows};
 use pef_plan::{Looks, counted_plan};
 use pef_reloc::{Base, Fixup, MAX_SECTIONS, fixups_fit};
 use std::alloc::Global;
@@ -102,6 +102,15 @@ fn push_run(
 /// Compares all labels of a plan with the plain method's.
 fn compare(rt: &impl Abort, alloc: Global, fixups: &[Fixup]) -> Result<(), Fail> {
     let certificate = planned(rt, alloc, fixups)?;
+    compare_labels(rt, alloc, fixups, &certificate)
+}
+
+fn compare_labels(
+    rt: &impl Abort,
+    alloc: Global,
+    fixups: &[Fixup],
+    certificate: &Certificate,
+) -> Result<(), Fail> {
     let labels = plain_labels(alloc, fixups, &certificate.registers)?;
     assert_same(rt, &certificate.labels, &labels, fixups.len());
     Ok(())
