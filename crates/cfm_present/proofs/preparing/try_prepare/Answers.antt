@@ -136,6 +136,9 @@ relocate_fragments-requires-clause-held c =
     let P : List Present → Type 0 = λ fs. AllHeld mid fs in
     c.in_ok-fill_fragments.ensures.held (subst P (sym same) (placed-held store m have.fresh mid have.placed))
 
+pub relocate_fragments-requires-clause-filled : goal.relocate_fragments-requires-clause-filled
+relocate_fragments-requires-clause-filled c = c.in_ok-fill_fragments.ensures.filled
+
 pub returns-in_err-fill_fragments-clause-begun : goal.returns-in_err-fill_fragments-clause-begun
 returns-in_err-fill_fragments-clause-begun c =
     let have = c.in_ok-place_fragments.ensures.placed in

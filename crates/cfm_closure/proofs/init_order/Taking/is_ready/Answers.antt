@@ -1,5 +1,5 @@
 -- The entries that wait for nothing are noted.
-use Rattle.std.proofs.Common.{refl, arith}
+use Rattle.std.proofs.Common.{refl, sym, arith}
 use Rattle.cfm_closure.proofs.InitLemmas.{taking-passed}
 use Rattle.cfm_closure.proofs.init_order.Taking.is_ready.Goals as goal
 
@@ -8,3 +8,6 @@ index_mut-requires c = let place = (c.requires.taking.complete.members c.args.p 
 
 pub returns-clause-taking : goal.returns-clause-taking
 returns-clause-taking c = taking-passed c.args.bindings.now.pairs c.args.bindings.now.order c.args.self.now _ c.args.p c.passed-passed.result refl refl (c.requires.taking.complete.members c.args.p c.requires.place).place c.requires.taking c.passed-passed.ensures.passed
+
+pub returns-clause-ready : goal.returns-clause-ready
+returns-clause-ready c = rw (c.libraries.ensures) (sym c.passed-passed.ensures.ready)
