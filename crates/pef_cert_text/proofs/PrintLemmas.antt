@@ -36,12 +36,9 @@ instrs_text-more xs i d done more total under grown left =
     ∙ ap (λ (t : List ℕ). done ++ t) (sym (instrs_text-one (get_or xs i d) (drop (i + 1) xs)) ∙ ap instrs_text (sym (drop_more xs i d under)))
     ∙ left
 
-pub instrs_fit-more : (xs : List Instr) (i : ℕ) (d : Instr) → i < length xs → instrs_fit (drop i xs) ≡ true → instrs_fit (drop (i + 1) xs) ≡ true
-instrs_fit-more xs i d under fit = (and_parts (instr_fits (get_or xs i d)) (instrs_fit (drop (i + 1) xs)) (ap instrs_fit (sym (drop_more xs i d under)) ∙ fit)).1
-
--- and the first of them fits
-pub instrs_fit-first : (xs : List Instr) (i : ℕ) (d : Instr) → i < length xs → instrs_fit (drop i xs) ≡ true → instr_fits (get_or xs i d) ≡ true
-instrs_fit-first xs i d under fit = (and_parts (instr_fits (get_or xs i d)) (instrs_fit (drop (i + 1) xs)) (ap instrs_fit (sym (drop_more xs i d under)) ∙ fit)).0
+-- where instructions fit, the first one does and the others do
+pub instrs_fit-parts : (xs : List Instr) (i : ℕ) (d : Instr) → i < length xs → instrs_fit (drop i xs) ≡ true → (instr_fits (get_or xs i d) ≡ true) × (instrs_fit (drop (i + 1) xs) ≡ true)
+instrs_fit-parts xs i d under fit = and_parts (instr_fits (get_or xs i d)) (instrs_fit (drop (i + 1) xs)) (ap instrs_fit (sym (drop_more xs i d under)) ∙ fit)
 
 pub instrs_text-none : (xs : List Instr) (i : ℕ) (done : List ℕ) → length xs ≤ i → done ++ instrs_text (drop i xs) ≡ done
 instrs_text-none xs i done past =

@@ -1,6 +1,7 @@
 -- What a `program` line says.
 use Rattle.std.proofs.Common.{◌≡◌, ℕ, false, List, [], ◌∷◌, ◌++◌, Option, None, Some, Result, Ok, refl, option_map, ap}
 use Rattle.std.specs.Prelude.{codes}
+use Rattle.std.proofs.lemmas.Iterator.Adapters.{option_map_id}
 use Rattle.std.specs.Option.{ok_or}
 use Rattle.std.specs.Str.{bytes_eq}
 use Rattle.pef_reloc.specs.declared.instr.Instr.{Instr}
@@ -37,8 +38,4 @@ halfwords_say result number [] first others old is other none says = absurd (cc)
 halfwords_say result number (word ∷ words) first others old is other none says =
     let pair : (first, others) ≡ (word, words) = cc in
     let same : first ≡ word = ap (λ (p : List ℕ × List (List ℕ)). p.0) pair in
-    rw (← same, ← other, same) (rw (none, alone (halfwords_in (word ∷ words))) at says)
-  where
-    alone : (bytes : Option (List ℕ)) → option_map (λ more. [] ++ more) bytes ≡ bytes
-    alone None = refl
-    alone (Some bytes) = refl
+    rw (← same, ← other, same) (rw (none, option_map_id (halfwords_in (word ∷ words))) at says)

@@ -110,8 +110,8 @@ fn link_command<'a>(alloc: Global) -> Result<Command<'a>, AllocError>
     ensures local { IfOk result (λ c. (out-Command c).has_globals ≡ false) }
 {
     let script = Arg::new(alloc, "SCRIPT").required(true);
-    let with_script = Command::new(alloc, "link").arg(script)?;
-    with_script.arg(Arg::new(alloc, "OUT").required(true))
+    let out = Arg::new(alloc, "OUT").required(true);
+    Command::new(alloc, "link").arg(script)?.arg(out)
 }
 
 /// The command `list FILE`.
@@ -129,8 +129,8 @@ fn check_command<'a>(alloc: Global) -> Result<Command<'a>, AllocError>
     ensures local { IfOk result (λ c. (out-Command c).has_globals ≡ false) }
 {
     let script = Arg::new(alloc, "SCRIPT").required(true);
-    let with_script = Command::new(alloc, "check").arg(script)?;
-    with_script.arg(Arg::new(alloc, "CERT").required(true))
+    let cert = Arg::new(alloc, "CERT").required(true);
+    Command::new(alloc, "check").arg(script)?.arg(cert)
 }
 
 /// The command `load NAME=FILE ..`.

@@ -45,40 +45,32 @@ pub fn last_name(line: &[u8]) -> Result<&[u8], LineFault>
 }
 
 /// The next two words of a line, of which the first is a name, and what follows the space behind them.
-#[tactic(auto, unfolding(crate::specs::Words::next_name_and_word, crate::specs::Words::next_word))]
+#[tactic(auto, unfolding(crate::specs::Words::next_name_and_word))]
 pub fn next_name_and_word(line: &[u8]) -> Result<(&[u8], &[u8], &[u8]), LineFault>
     ensures { result_map (λ p. (p.0.now, p.1.now, p.2.now)) result ≡ next_name_and_word line.now }
 {
     let (name, rest) = next_name(line)?;
-    let Some((word, rest)) = pef_lines::next_word(rest) else {
-        return Err(LineFault::BadLine);
-    };
+    let (word, rest) = next_word(rest)?;
     Ok((name, word, rest))
 }
 
 /// The name and the word behind it that are left of a line.
-#[tactic(auto, unfolding(crate::specs::Words::last_name_and_word, crate::specs::Words::last_word))]
+#[tactic(auto, unfolding(crate::specs::Words::last_name_and_word))]
 pub fn last_name_and_word(line: &[u8]) -> Result<(&[u8], &[u8]), LineFault>
     ensures { result_map (λ p. (p.0.now, p.1.now)) result ≡ last_name_and_word line.now }
 {
     let (name, rest) = next_name(line)?;
-    let Some(word) = pef_lines::last_word(rest) else {
-        return Err(LineFault::BadLine);
-    };
+    let word = last_word(rest)?;
     Ok((name, word))
 }
 
 /// The two words that are left of a line.
-#[tactic(auto, unfolding(crate::specs::Words::last_two_words, crate::specs::Words::next_word, crate::specs::Words::last_word))]
+#[tactic(auto, unfolding(crate::specs::Words::last_two_words))]
 pub fn last_two_words(line: &[u8]) -> Result<(&[u8], &[u8]), LineFault>
     ensures { result_map (λ p. (p.0.now, p.1.now)) result ≡ last_two_words line.now }
 {
-    let Some((first, rest)) = pef_lines::next_word(line) else {
-        return Err(LineFault::BadLine);
-    };
-    let Some(second) = pef_lines::last_word(rest) else {
-        return Err(LineFault::BadLine);
-    };
+    let (first, rest) = next_word(line)?;
+    let second = last_word(rest)?;
     Ok((first, second))
 }
 
