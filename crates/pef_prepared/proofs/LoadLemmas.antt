@@ -13,8 +13,10 @@ use Rattle.pef_ports.specs.declared.ports.FileFault.TheVariants as file_fault
 use Rattle.pef_request.specs.Requests.{named_path}
 use Rattle.pef_request.specs.declared.files.NamedFile.{NamedFile}
 use Rattle.pef_prepared.specs.Kept.Loading.{StopsFile, StopsReading}
+use Rattle.pef_prepared.specs.Kept.Rooted.{RootEnds, RootOutcome, root_answer}
+use Rattle.pef_prepared.specs.Kept.Rooted as rooted
 use Rattle.pef_prepared.specs.Limits.{memory_limit}
-use Rattle.pef_prepared.specs.Load.{StopsAt, WereRead, first_name}
+use Rattle.pef_prepared.specs.Load.{LoadEnds, LoadOutcome, StopsAt, WereRead, first_name, load_answer, loads, paired, refuses}
 use Rattle.pef_prepared.specs.declared.load.ReadingFault.{ReadingFault}
 use Rattle.pef_prepared.specs.declared.load.ReadingFault.TheVariants.{Unreadable, OutOfMemory}
 
@@ -103,6 +105,12 @@ module _ {F : Type 0} (port : FilesPort F) where
       let same : length named ≤ length named = omega arith in
       let P : List (List ℕ × List ℕ) → Type 0 = λ files. WereRead port before after files contents in
       subst P (sym (take_all (length named) named same)) read
+
+  -- where they were read, `load` ends as the preparation of the first one does
+  pub root-loads : (before after : F) (named : List (List ℕ × List ℕ)) (contents : List (List ℕ)) (root : RootOutcome) → WereRead port before after named contents → RootEnds (paired named contents) (first_name named) root
+      → (outcome : LoadOutcome) × LoadEnds port before after named outcome × (root_answer root ≡ load_answer outcome)
+  root-loads before after named contents (rooted.prepares s number) read ends = (loads s number, record { contents = contents; read = read; prepared = ends }, refl)
+  root-loads before after named contents (rooted.refuses fault) read ends = (refuses fault, record { contents = contents; read = read; refused = ends }, refl)
 
 -- there are files
 pub some-files : (xs : List NamedFile) (empty : Bool) → empty ≡ (length xs == 0) → empty ≡ false → 0 < length xs

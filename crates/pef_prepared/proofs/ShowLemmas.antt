@@ -24,17 +24,17 @@ use Rattle.cfm_prepare.specs.Readers.{entries_of, main_address}
 use Rattle.cfm_prepare.specs.Steps.{MayNotPrepare, Prepares}
 use Rattle.cfm_prepare.specs.declared.fault.PrepareFault.{PrepareFault}
 use Rattle.cfm_prepare.specs.declared.fault.PrepareFault.TheVariants as prepare_fault
-use Rattle.pef_answers.specs.Answers.{answer_refused}
-use Rattle.pef_answers.specs.Refusals.{prepare_refusal_text}
 use Rattle.pef_answers.specs.declared.refusal.Refusal.TheVariants.{OutOfMemory}
 use Rattle.pef_loader.specs.Loader.{init_of, main_of, term_of}
 use Rattle.pef_script.specs.Script.{DescribedScript, DescribedSection}
 use Rattle.pef_script.specs.WellFormed.{SectionHolds}
 use Rattle.pef_write.specs.Linked.{IsLinked, LinkedContainer}
+use Rattle.pef_prepared.specs.Kept.Rooted.{RootEnds, RootOutcome, root_answer}
+use Rattle.pef_prepared.specs.Kept.Rooted as rooted
 use Rattle.pef_prepared.specs.Kept.Showing.{ScriptEnds}
 use Rattle.pef_prepared.specs.Limits.{memory_limit}
 use Rattle.pef_prepared.specs.Now.{HasUnlinked, described_extent, described_extents}
-use Rattle.pef_prepared.specs.Show.{FailsToBind, IsShown, ShowOutcome, it_alone, refuses, show_answer, unbound}
+use Rattle.pef_prepared.specs.Show.{FailsToBind, IsShown, ShowOutcome, it_alone, refuses, show_answer, shows, unbound}
 use Rattle.pef_prepared.proofs.AloneLemmas.{is-found, new-is, open-is, prepared-alone, root-is}
 use Rattle.pef_prepared.proofs.DescribedLemmas.{extents_are}
 use Rattle.pef_prepared.proofs.NowLemmas.{described-from, extents-in, linked-read, loader-is, own, whole}
@@ -68,11 +68,11 @@ only-first : (p : ℕ) → Contains (0 ∷ []) p → p ≡ 0
 only-first p (zero, low, is) = sym is
 only-first p (suc k, low, is) = absurd (omega (arith, low))
 
--- how `show` ends with a script that isn't prepared for a reason, in the words of that reason
-pub record EndsUnprepared (script : DescribedScript) (fault : PrepareFault) : Type 0 where
+-- how `show` ends with a script whose preparation ends so, in the same words
+pub record EndsRooted (script : DescribedScript) (root : RootOutcome) : Type 0 where
   pub outcome : ShowOutcome
   pub ends : ScriptEnds script outcome
-  pub said : show_answer outcome ≡ answer_refused (prepare_refusal_text fault)
+  pub said : show_answer outcome ≡ root_answer root
 
 module _ (script : DescribedScript) (k : LinkedContainer) (linked : IsLinked script k) where
   abbrev alone : List Pair
@@ -82,7 +82,7 @@ module _ (script : DescribedScript) (k : LinkedContainer) (linked : IsLinked scr
   start = fresh_state alone memory_limit
 
   -- what was prepared is what the script describes
-  pub shown_of : (s : ContextState) (number : ℕ) → Prepares start (codes "it") number s → IsShown script s number
+  shown_of : (s : ContextState) (number : ℕ) → Prepares start (codes "it") number s → IsShown script s number
   shown_of s number done =
       let stands = prepared-alone k.bytes memory_limit s number done in
       let described = described-from script k linked alone 0 refl s stands.now in
@@ -141,7 +141,7 @@ module _ (script : DescribedScript) (k : LinkedContainer) (linked : IsLinked scr
       fails_to_bind k.bytes fault (λ r refused. closed-refused alone all_read 0 r (omega arith) refused) (subst P is fails)
 
   -- so it isn't prepared for want of a closure or of memory alone
-  pub unprepared : (fault : PrepareFault) → MayNotPrepare start (codes "it") fault → EndsUnprepared script fault
+  unprepared : (fault : PrepareFault) → MayNotPrepare start (codes "it") fault → EndsRooted script (rooted.refuses fault)
   unprepared prepare_fault.TooManyConnections why = absurd (omega (arith, why))
   unprepared prepare_fault.RootMissing why = absurd (is-found k.bytes why.1)
   unprepared (prepare_fault.Bind f) why = record {
@@ -154,3 +154,8 @@ module _ (script : DescribedScript) (k : LinkedContainer) (linked : IsLinked scr
   unprepared (prepare_fault.Fragment (fragment_fault.Reloc f e)) why = absurd (all_linked _ f.now (new-is k.bytes memory_limit why.closure) (refused-program alone [] (no_instances memory_limit) _ f.now e why.why))
   unprepared (prepare_fault.Fragment fragment_fault.OutOfMemory) why = record { outcome = refuses OutOfMemory; ends = refl; said = refl }
   unprepared prepare_fault.OutOfMemory why = record { outcome = refuses OutOfMemory; ends = refl; said = refl }
+
+  -- `show` ends with it as its preparation does
+  pub root-shown : (root : RootOutcome) → RootEnds alone (codes "it") root → EndsRooted script root
+  root-shown (rooted.prepares s number) done = record { outcome = shows s number; ends = shown_of s number done; said = refl }
+  root-shown (rooted.refuses fault) why = unprepared fault why

@@ -1,3 +1,4 @@
 pub mod Loading
+pub mod Rooted
 pub mod Routines
 pub mod Showing

@@ -6,7 +6,7 @@ ghost use Rattle.pef_prepared.specs.Kept.Loading.{StopsFile, StopsReading};
 ghost use Rattle.pef_prepared.specs.Limits.{most_files};
 ghost use Rattle.pef_prepared.specs.Load.{LoadAnswers, WereRead, paired};
 
-use crate::loaded::prepare_root;
+use crate::loaded::deliver_root;
 use cfm_store::{MAX_PAIRS, Store, StoreFault};
 use pef_answers::{FileRefusal, Refusal, Usage, deliver};
 use pef_ports::{FileFault, Files, Sink};
@@ -48,10 +48,7 @@ pub fn load_files<F: Files, W: Sink>(
     let Ok(store) = store_of(alloc, named, contents.as_slice()) else {
         return deliver(out, &Refusal::OutOfMemory);
     };
-    match prepare_root(alloc, store, named[0].name.as_bytes()) {
-        Ok(loaded) => deliver(out, &loaded),
-        Err(fault) => deliver(out, &fault),
-    }
+    deliver_root(alloc, store, named[0].name.as_bytes(), out)
 }
 
 /// The bytes of some files, read in order.

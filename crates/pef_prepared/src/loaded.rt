@@ -1,9 +1,10 @@
 ghost use Rattle.std.specs.Prelude.{◌≡◌, ◌<◌, ◌≤◌, ◌^◌, IfErr, IfOk, Some};
 ghost use Rattle.cfm_prepare.specs.Contexts.{fresh_state};
 ghost use Rattle.cfm_prepare.specs.Steps.{MayNotPrepare, Prepares};
-ghost use Rattle.pef_answers.specs.Answers.{answer_done};
+ghost use Rattle.pef_answers.specs.Answers.{IsDelivered, answer_done};
 ghost use Rattle.pef_ports.specs.Sent.{Sends};
 ghost use Rattle.pef_prepared.specs.Fragment.{entry_text, sections_text};
+ghost use Rattle.pef_prepared.specs.Kept.Rooted.{RootEnds, RootOutcome, root_answer};
 ghost use Rattle.pef_prepared.specs.Kept.Routines.{address_in, place_of, routine_text, routines_text, word_of};
 ghost use Rattle.pef_prepared.specs.Limits.{memory_limit};
 ghost use Rattle.pef_prepared.specs.Loaded.{entry_label, fragment_name, fragment_text, fragments_text, init_order_in, loaded_text, order_in, sections_in};
@@ -12,7 +13,7 @@ use crate::fragment::{entry_line, print_bytes};
 use cfm_fragment::Entries;
 use cfm_prepare::{Connection, Context, PrepareFault};
 use cfm_store::Store;
-use pef_answers::{DONE, Reply, print_behind, print_name_end};
+use pef_answers::{DONE, Reply, deliver, print_behind, print_name_end};
 use pef_ports::{Page, Sink, StreamFault, send};
 use std::alloc::Global;
 
@@ -28,7 +29,7 @@ pub struct Loaded<'a> {
 }
 
 /// Prepares the fragment of a name, in a context of its own.
-pub fn prepare_root<'a>(
+fn prepare_root<'a>(
     alloc: Global,
     store: Store<'a>,
     name: &[u8],
@@ -43,6 +44,18 @@ pub fn prepare_root<'a>(
             connection,
         }),
         Err(fault) => Err(fault),
+    }
+}
+
+/// Prepares the fragment of a name, and prints the memory of its closure, or why it isn't prepared.
+pub fn deliver_root<W: Sink>(alloc: Global, store: Store<'_>, name: &[u8], out: &mut W) -> u8
+    ensures { (outcome : RootOutcome)
+        × RootEnds store.entry name.now outcome
+        × IsDelivered (W.stream out.old) (W.stream out.new) (root_answer outcome) result }
+{
+    match prepare_root(alloc, store, name) {
+        Ok(loaded) => deliver(out, &loaded),
+        Err(fault) => deliver(out, &fault),
     }
 }
 

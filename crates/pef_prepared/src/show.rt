@@ -5,7 +5,7 @@ ghost use Rattle.pef_write.specs.Linked.{IsLinked};
 ghost use Rattle.pef_prepared.specs.Kept.Showing.{ScriptEnds};
 ghost use Rattle.pef_prepared.specs.Show.{ShowAnswers, ShowOutcome, it_alone, show_answer};
 
-use crate::loaded::prepare_root;
+use crate::loaded::deliver_root;
 use cfm_store::{Store, StoreFault};
 use pef_answers::{Refusal, deliver, input_refusal, script_refusal};
 use pef_ports::{Sink, Source, read_input};
@@ -55,10 +55,7 @@ fn show_linked<W: Sink>(alloc: Global, linked: &Linked, out: &mut W) -> u8
     let Ok(store) = it_alone(alloc, &linked.bytes) else {
         return deliver(out, &Refusal::OutOfMemory);
     };
-    match prepare_root(alloc, store, b"it") {
-        Ok(loaded) => deliver(out, &loaded),
-        Err(fault) => deliver(out, &fault),
-    }
+    deliver_root(alloc, store, b"it", out)
 }
 
 /// The store of the fragment `it` and no other.
