@@ -1,5 +1,5 @@
 use cfm_memory::{Memory, MemoryFault, Place};
-use std::alloc::{AllocError, Global};
+use std::alloc::Global;
 use std::process::Abort;
 
 fn placed(rt: &impl Abort, memory: &mut Memory, size: u32, alignment: u8) -> Place {
@@ -269,7 +269,7 @@ fn place_as_scanned(
     instances: &mut Vec<Place>,
     call: u32,
     state: u32,
-) -> Result<(), AllocError> {
+) {
     let (size, alignment) = ((state >> 8) % 101, (state >> 12) % 9);
     let want = lowest(instances, size, alignment);
     match memory.place(size, alignment as u8) {
@@ -278,13 +278,12 @@ fn place_as_scanned(
                 (Some(place.address), place.size) == (want, size),
                 "call {call}"
             );
-            instances.push(place)?;
+            instances.push(place).expect(rt, "memory");
         }
         Err(fault) => {
             assert!(rt; (fault, want) == (MemoryFault::NoRoom, None), "call {call}");
         }
     }
-    Ok(())
 }
 
 /// Gives an instance back, or places one.
@@ -294,35 +293,30 @@ fn come_or_go(
     instances: &mut Vec<Place>,
     call: u32,
     state: u32,
-) -> Result<(), AllocError> {
+) {
     let index = (state >> 20) as usize % 160;
     if index < instances.len() {
         let place = instances.remove(index);
         give_back(rt, memory, place.address, place.size);
-        return Ok(());
+    } else {
+        place_as_scanned(rt, memory, instances, call, state);
     }
-    place_as_scanned(rt, memory, instances, call, state)
 }
 
-fn test_against_a_scan(
-    rt: &impl Abort,
-    memory: &mut Memory,
-    instances: &mut Vec<Place>,
-) -> Result<(), AllocError> {
+fn test_against_a_scan(rt: &impl Abort, memory: &mut Memory, instances: &mut Vec<Place>) {
     let mut state = 1u32;
     for call in 0..2_000 {
         state = state.wrapping_mul(1_664_525).wrapping_add(1_013_904_223);
-        come_or_go(rt, memory, instances, call, state)?;
+        come_or_go(rt, memory, instances, call, state);
     }
     // The walk leaves some tens of instances, with gaps between them.
     assert!(rt; instances.len() > 40 && instances.len() < 160);
-    Ok(())
 }
 
 /// Instances of many sizes and alignments come and go, and each comes where a scan of all places it.
 #[test]
-fn place_against_a_scan(rt: HostRuntime) -> Result<(), AllocError> {
+fn place_against_a_scan(rt: HostRuntime) {
     let mut memory = Memory::new(rt.alloc(), 0x2_0000);
     let mut instances = Vec::new(rt.alloc());
-    test_against_a_scan(&rt, &mut memory, &mut instances)
+    test_against_a_scan(&rt, &mut memory, &mut instances);
 }

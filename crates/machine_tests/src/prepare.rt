@@ -1,8 +1,7 @@
 use cfm_closure::Store;
 use cfm_prepare::Context;
-use std::alloc::{AllocError, Global};
+use std::alloc::Global;
 use std::process::Abort;
-use std::test::Fail;
 
 /// A container, and what comes of it where it is prepared in empty memory up to 00020000 (hex). It has one
 /// import, which it exports itself as the number 00000100.
@@ -238,37 +237,41 @@ fn len(bytes: &[u8]) -> u32 {
     u32::try_from(bytes.len()).unwrap_or(0)
 }
 
-fn push_words(bytes: &mut Vec<u8>, words: &[u32]) -> Result<(), AllocError> {
+fn push(rt: &impl Abort, bytes: &mut Vec<u8>, more: &[u8]) {
+    bytes.extend_from_slice(more).expect(rt, "memory");
+}
+
+fn push_words(rt: &impl Abort, bytes: &mut Vec<u8>, words: &[u32]) {
     for word in words {
-        bytes.extend_from_slice(&word.to_be_bytes())?;
+        push(rt, bytes, &word.to_be_bytes());
     }
-    Ok(())
 }
 
 /// A section header without a name or an address, at an alignment of 16.
 fn push_section(
+    rt: &impl Abort,
     bytes: &mut Vec<u8>,
     kind: u8,
     total: u32,
     unpacked: u32,
     packed: u32,
     at: u32,
-) -> Result<(), AllocError> {
-    push_words(bytes, &[0xFFFF_FFFF, 0, total, unpacked, packed, at])?;
-    bytes.extend_from_slice(&[kind, 1, 4, 0])
+) {
+    push_words(rt, bytes, &[0xFFFF_FFFF, 0, total, unpacked, packed, at]);
+    push(rt, bytes, &[kind, 1, 4, 0]);
 }
 
 /// The loader section of a row: no entries, one library with one import, a relocation header for each
 /// program that isn't empty, and one export.
-fn loader(alloc: Global, row: &Row) -> Result<Vec<u8>, AllocError> {
+fn loader(rt: &impl Abort, alloc: Global, row: &Row) -> Vec<u8> {
     let mut headers = Vec::new(alloc);
     let mut instructions = Vec::new(alloc);
     let mut count: u32 = 0;
     for program in [row.program, row.next_program] {
         if !program.is_empty() {
             let at = len(&instructions);
-            push_words(&mut headers, &[0, len(program) / 2, at])?;
-            instructions.extend_from_slice(program)?;
+            push_words(rt, &mut headers, &[0, len(program) / 2, at]);
+            push(rt, &mut instructions, program);
             count = count.wrapping_add(1);
         }
     }
@@ -277,53 +280,77 @@ fn loader(alloc: Global, row: &Row) -> Result<Vec<u8>, AllocError> {
     let exports = names.wrapping_add(len(NAMES));
     let none = 0xFFFF_FFFF;
     let mut bytes = Vec::new(alloc);
-    push_words(&mut bytes, &[none, 0, none, 0, none, 0, 1, 1, count])?;
-    push_words(&mut bytes, &[from, names, exports, 0, 1])?;
-    push_words(&mut bytes, &[0, 0, 0, 1, 0, 0, 0x0100_0003])?;
+    push_words(rt, &mut bytes, &[none, 0, none, 0, none, 0, 1, 1, count]);
+    push_words(rt, &mut bytes, &[from, names, exports, 0, 1]);
+    push_words(rt, &mut bytes, &[0, 0, 0, 1, 0, 0, 0x0100_0003]);
     for part in [headers.as_slice(), &instructions, NAMES, EXPORTS] {
-        bytes.extend_from_slice(part)?;
+        push(rt, &mut bytes, part);
     }
-    Ok(bytes)
+    bytes
 }
 
 /// A container header, of so many instantiated sections and a loader section.
-fn push_header(bytes: &mut Vec<u8>, sections: u16) -> Result<(), AllocError> {
-    bytes.extend_from_slice(b"Joy!peffpwpc")?;
-    push_words(bytes, &[1, 0, 0, 0, 0])?;
-    bytes.extend_from_slice(&sections.wrapping_add(1).to_be_bytes())?;
-    bytes.extend_from_slice(&sections.to_be_bytes())?;
-    push_words(bytes, &[0])
+fn push_header(rt: &impl Abort, bytes: &mut Vec<u8>, sections: u16) {
+    push(rt, bytes, b"Joy!peffpwpc");
+    push_words(rt, bytes, &[1, 0, 0, 0, 0]);
+    push(rt, bytes, &sections.wrapping_add(1).to_be_bytes());
+    push(rt, bytes, &sections.to_be_bytes());
+    push_words(rt, bytes, &[0]);
 }
 
 /// The container of a row. The contents of its sections follow one another.
-fn container(alloc: Global, row: &Row) -> Result<Vec<u8>, AllocError> {
-    let loader = loader(alloc, row)?;
+fn container(rt: &impl Abort, alloc: Global, row: &Row) -> Vec<u8> {
+    let loader = loader(rt, alloc, row);
     let packed = len(row.raw);
     let mut bytes = Vec::new(alloc);
     if row.second {
-        push_header(&mut bytes, 2)?;
+        push_header(rt, &mut bytes, 2);
         let behind = packed.wrapping_add(124);
-        push_section(&mut bytes, row.kind, row.total, row.unpacked, packed, 124)?;
-        push_section(&mut bytes, 1, 4, 4, 4, behind)?;
-        push_section(&mut bytes, 4, 0, 0, len(&loader), behind.wrapping_add(4))?;
+        push_section(
+            rt,
+            &mut bytes,
+            row.kind,
+            row.total,
+            row.unpacked,
+            packed,
+            124,
+        );
+        push_section(rt, &mut bytes, 1, 4, 4, 4, behind);
+        push_section(
+            rt,
+            &mut bytes,
+            4,
+            0,
+            0,
+            len(&loader),
+            behind.wrapping_add(4),
+        );
     } else {
-        push_header(&mut bytes, 1)?;
+        push_header(rt, &mut bytes, 1);
         let behind = packed.wrapping_add(96);
-        push_section(&mut bytes, row.kind, row.total, row.unpacked, packed, 96)?;
-        push_section(&mut bytes, 4, 0, 0, len(&loader), behind)?;
+        push_section(
+            rt,
+            &mut bytes,
+            row.kind,
+            row.total,
+            row.unpacked,
+            packed,
+            96,
+        );
+        push_section(rt, &mut bytes, 4, 0, 0, len(&loader), behind);
     }
     let second = if row.second { SECOND } else { &[] };
     for part in [row.raw, second, &loader] {
-        bytes.extend_from_slice(part)?;
+        push(rt, &mut bytes, part);
     }
-    Ok(bytes)
+    bytes
 }
 
 /// A store of the one fragment of a container.
-fn store_of<'a>(alloc: Global, container: &'a [u8]) -> Result<Store<'a>, Fail> {
+fn store_of<'a>(rt: &impl Abort, alloc: Global, container: &'a [u8]) -> Store<'a> {
     let mut store = Store::new(alloc);
-    store.add(b"it", container)?;
-    Ok(store)
+    store.add(b"it", container).expect(rt, "memory");
+    store
 }
 
 /// The number of the fragment's refusal, where it isn't prepared.
@@ -361,21 +388,19 @@ fn test_prepared(rt: &impl Abort, context: &mut Context<'_>, row: &Row) {
 }
 
 /// Tries a row in a context of its own.
-fn test_row(rt: &impl Abort, alloc: Global, row: &Row) -> Result<(), Fail> {
-    let bytes = container(alloc, row)?;
-    let store = store_of(alloc, &bytes)?;
+fn test_row(rt: &impl Abort, alloc: Global, row: &Row) {
+    let bytes = container(rt, alloc, row);
+    let store = store_of(rt, alloc, &bytes);
     let mut context = Context::new(alloc, store, 0x2_0000);
     test_prepared(rt, &mut context, row);
-    Ok(())
 }
 
 #[test]
-fn fragments(rt: HostRuntime) -> Result<(), Fail> {
+fn fragments(rt: HostRuntime) {
     let tables = [IMAGES, RELOCATED, BAD_IMAGES, BAD_PROGRAMS, FIRST_REFUSALS];
     for table in tables {
         for row in table {
-            test_row(&rt, rt.alloc(), row)?;
+            test_row(&rt, rt.alloc(), row);
         }
     }
-    Ok(())
 }

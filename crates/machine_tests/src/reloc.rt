@@ -1,10 +1,9 @@
-ghost use Rattle.std.specs.Prelude.{◌≡◌, IfOk, true};
+ghost use Rattle.std.specs.Prelude.{◌≡◌, true};
 ghost use Rattle.pef_reloc.specs.Instrs.{instr_fits, instrs_fit};
 
-use pef_reloc::{Base, Fixup, Instr, MAX_FIXUPS, Program, RelocFault, apply, encode, fixups_fit};
-use std::alloc::{AllocError, Global};
+use pef_reloc::{Base, Fixup, Instr, MAX_FIXUPS, Program, apply, encode, fixups_fit};
+use std::alloc::Global;
 use std::process::Abort;
-use std::test::Fail;
 
 /// The number of the refusal that a program is read with, and 0 where it is read.
 fn read_number(bytes: &[u8]) -> u32 {
@@ -149,18 +148,12 @@ const KINDS: &[(&[u8], u8, Instr, &[u32])] = &[
 ];
 
 /// Tests that an instruction starts at a halfword of a program.
-fn test_starts(
-    rt: &impl Abort,
-    bytes: &[u8],
-    halfword: u8,
-    instr: Instr,
-) -> Result<(), RelocFault> {
-    let program = Program::read(bytes)?;
+fn test_starts(rt: &impl Abort, bytes: &[u8], halfword: u8, instr: Instr) {
+    let program = Program::read(bytes).expect(rt, "a program");
     assert!(rt;
         program.instr_at(usize::from(halfword)) == Some(instr),
         "{bytes:?}"
     );
-    Ok(())
 }
 
 /// Tests that an instruction is spelled as from a halfword of a program on.
@@ -171,14 +164,9 @@ fn test_spelled(rt: &impl Abort, spelled: &[u8], bytes: &[u8], halfword: u8, ins
 }
 
 /// Spells an instruction that fits.
-fn spell(
-    rt: &impl Abort,
-    alloc: Global,
-    bytes: &[u8],
-    instr: Instr,
-) -> Result<Vec<u8>, RelocFault> {
+fn spell(rt: &impl Abort, alloc: Global, bytes: &[u8], instr: Instr) -> Vec<u8> {
     assert!(rt; instr.fits(), "{bytes:?}");
-    encode(alloc, &[instr])
+    encode(alloc, &[instr]).expect(rt, "memory")
 }
 
 /// Tests the words that a program makes of zeros.
@@ -192,15 +180,14 @@ fn test_words(rt: &impl Abort, bytes: &[u8], words: &[u32]) {
 }
 
 #[test]
-fn kinds_applied(rt: HostRuntime) -> Result<(), Fail> {
+fn kinds_applied(rt: HostRuntime) {
     for row in KINDS {
         let (bytes, halfword, instr, words) = *row;
-        test_starts(&rt, bytes, halfword, instr)?;
-        let spelled = spell(&rt, rt.alloc(), bytes, instr)?;
+        test_starts(&rt, bytes, halfword, instr);
+        let spelled = spell(&rt, rt.alloc(), bytes, instr);
         test_spelled(&rt, &spelled, bytes, halfword, instr);
         test_words(&rt, bytes, words);
     }
-    Ok(())
 }
 
 /// A program of three instructions.
@@ -248,19 +235,18 @@ const FLAT: &[(&[u8], bool)] = &[
     (WALKED, false),
 ];
 
-fn test_flat(rt: &impl Abort) -> Result<(), RelocFault> {
+fn test_flat(rt: &impl Abort) {
     for (bytes, want) in FLAT {
-        assert!(rt; Program::read(bytes)?.flat() == *want, "{bytes:?}");
+        let program = Program::read(bytes).expect(rt, "a program");
+        assert!(rt; program.flat() == *want, "{bytes:?}");
     }
-    Ok(())
 }
 
 #[test]
-fn instructions_walked(rt: HostRuntime) -> Result<(), Fail> {
-    let program = Program::read(WALKED)?;
+fn instructions_walked(rt: HostRuntime) {
+    let program = Program::read(WALKED).expect(&rt, "a program");
     test_walked(&rt, &program);
-    test_flat(&rt)?;
-    Ok(())
+    test_flat(&rt);
 }
 
 const ZEROS: &[u8] = &[0; 12];
@@ -365,13 +351,12 @@ fn test_applied(
 }
 
 #[test]
-fn programs_applied(rt: HostRuntime) -> Result<(), AllocError> {
+fn programs_applied(rt: HostRuntime) {
     for row in APPLIED {
         let (bytes, before, sections, imports, want, after) = *row;
-        let mut memory = Vec::from_slice(rt.alloc(), before)?;
+        let mut memory = Vec::from_slice(rt.alloc(), before).expect(&rt, "memory");
         test_applied(&rt, bytes, &mut memory, sections, imports, want, after);
     }
-    Ok(())
 }
 
 /// Four instructions, 4,194,302 times four more, and the repeat itself: 16,777,213 steps.
@@ -426,47 +411,42 @@ fn fixups_that_fit(rt: HostRuntime) {
 }
 
 /// As many fixups as there may be, one for each of as many imports.
-fn push_most_fixups(fixups: &mut Vec<Fixup>) -> Result<(), AllocError> {
+fn push_most_fixups(rt: &impl Abort, fixups: &mut Vec<Fixup>) {
     for i in 0..MAX_FIXUPS as u32 {
-        fixups.push(Fixup {
-            offset: 8 * i,
-            base: Base::Import(i),
-        })?;
+        push_fixup(rt, fixups, 8 * i, Base::Import(i));
     }
-    Ok(())
 }
 
-fn test_most_fixups(rt: &impl Abort, fixups: &mut Vec<Fixup>) -> Result<(), AllocError> {
-    push_most_fixups(fixups)?;
+fn push_fixup(rt: &impl Abort, fixups: &mut Vec<Fixup>, offset: u32, base: Base) {
+    let pushed = fixups.push(Fixup { offset, base });
+    pushed.expect(rt, "memory");
+}
+
+fn test_most_fixups(rt: &impl Abort, fixups: &mut Vec<Fixup>) {
+    push_most_fixups(rt, fixups);
     assert!(rt; fixups_fit(fixups));
-    fixups.push(Fixup {
-        offset: 0xFF_FFFC,
-        base: Base::Import(0),
-    })?;
+    push_fixup(rt, fixups, 0xFF_FFFC, Base::Import(0));
     assert!(rt; !fixups_fit(fixups));
-    Ok(())
 }
 
 #[test]
-fn most_fixups(rt: HostRuntime) -> Result<(), Fail> {
-    let mut fixups = Vec::with_capacity(rt.alloc(), MAX_FIXUPS + 1)?;
-    test_most_fixups(&rt, &mut fixups)?;
-    Ok(())
+fn most_fixups(rt: HostRuntime) {
+    let mut fixups = Vec::with_capacity(rt.alloc(), MAX_FIXUPS + 1).expect(&rt, "memory");
+    test_most_fixups(&rt, &mut fixups);
 }
 
 /// So many instructions alike.
-fn alike(alloc: Global, instr: Instr, count: usize) -> Result<Vec<Instr>, AllocError>
+fn alike(rt: &impl Abort, alloc: Global, instr: Instr, count: usize) -> Vec<Instr>
     requires { instr_fits instr ≡ true }
-    ensures { IfOk result (λ instrs. instrs_fit instrs.items ≡ true) }
+    ensures { instrs_fit result.items ≡ true }
 {
-    let instrs = vec![in alloc; instr; count]?;
-    Ok(instrs)
+    vec![in alloc; instr; count].expect(rt, "memory")
 }
 
 /// The bytes of a million instructions.
-fn million(alloc: Global) -> Result<Vec<u8>, Fail> {
-    let instrs = alike(alloc, Instr::TVector8(2), 1_000_000)?;
-    Ok(encode(alloc, &instrs)?)
+fn million(rt: &impl Abort, alloc: Global) -> Vec<u8> {
+    let instrs = alike(rt, alloc, Instr::TVector8(2), 1_000_000);
+    encode(alloc, &instrs).expect(rt, "memory")
 }
 
 fn test_million(rt: &impl Abort, bytes: &[u8], program: &Program<'_>) {
@@ -484,18 +464,18 @@ fn test_million_applied(rt: &impl Abort, memory: &[u8]) {
     assert!(rt; memory.ends_with(&[1; 4]));
 }
 
-fn apply_million(rt: &impl Abort, alloc: Global, program: &Program<'_>) -> Result<(), Fail> {
-    let mut memory = vec![in alloc; 1; 16_000_004]?;
-    apply(program, &mut memory, &[0x0100_0000, 0x0200_0000], &[])?;
+fn apply_million(rt: &impl Abort, alloc: Global, program: &Program<'_>) {
+    let mut memory = vec![in alloc; 1; 16_000_004].expect(rt, "memory");
+    let applied = apply(program, &mut memory, &[0x0100_0000, 0x0200_0000], &[]);
+    applied.expect(rt, "room for each addition");
     test_million_applied(rt, &memory);
-    Ok(())
 }
 
 /// A million instructions are encoded, read, and applied to sixteen million bytes.
 #[test]
-fn a_million_instructions(rt: HostRuntime) -> Result<(), Fail> {
-    let bytes = million(rt.alloc())?;
-    let program = Program::read(&bytes)?;
+fn a_million_instructions(rt: HostRuntime) {
+    let bytes = million(&rt, rt.alloc());
+    let program = Program::read(&bytes).expect(&rt, "a program");
     test_million(&rt, &bytes, &program);
-    apply_million(&rt, rt.alloc(), &program)
+    apply_million(&rt, rt.alloc(), &program);
 }

@@ -9,5 +9,6 @@ copies_fit zero x fits = refl
 copies_fit (suc n) x fits = rw (fits, copies_fit n x fits) refl
 
 pub returns : goal.returns
-returns c =
-    ap instrs_fit (c.in_ok-instrs.ensures.items_if_clones_equal (λ y same. search rules)) ∙ copies_fit c.args.count c.args.instr c.requires
+returns g c =
+    let made = rw c.expect.ensures at c.vec.ensures.items_if_clones_equal in
+    ap instrs_fit (made (λ y same. search rules)) ∙ copies_fit c.args.count c.args.instr c.requires
