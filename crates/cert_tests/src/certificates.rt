@@ -4,7 +4,6 @@ use pef_labels::{Certificate, LabelRows};
 use pef_reloc::{Base, Fixup, Instr, fixups_fit};
 use std::alloc::Global;
 use std::process::Abort;
-use std::test::Fail;
 use test_data::labels::{
     CROSSED, IMPORTS_TWICE, Labelled, PAIR_THEN_FAR, PAIR_THEN_NEAR, SHORTER, SKIPPED, SPACED,
     TRANSITION, VECTORS, VECTORS_LABELS, VTABLE, VTABLE_FAR,
@@ -21,39 +20,26 @@ fn is_yes(rt: &impl Abort, fixups: &[Fixup], certificate: &Certificate) -> bool 
 }
 
 /// Whether a certificate with these labels and this program is a yes.
-fn holds(
-    rt: &impl Abort,
-    alloc: Global,
-    labelled: Labelled,
-    program: &[Instr],
-) -> Result<bool, Fail> {
+fn holds(rt: &impl Abort, alloc: Global, labelled: Labelled, program: &[Instr]) -> bool {
     let (listed, registers, labels) = labelled;
-    let certificate = certificate(rt, alloc, program, registers, labels)?;
-    let fixups = fixups(alloc, listed)?;
-    Ok(is_yes(rt, &fixups, &certificate))
+    let certificate = certificate(rt, alloc, program, registers, labels);
+    let fixups = fixups(alloc, listed).expect(rt, "memory");
+    is_yes(rt, &fixups, &certificate)
 }
 
 /// Whether the program that bytes spell is a yes.
-fn spells_yes(
-    rt: &impl Abort,
-    alloc: Global,
-    labelled: Labelled,
-    bytes: &[u8],
-) -> Result<bool, Fail> {
-    let program = spelled(alloc, bytes)?;
+fn spells_yes(rt: &impl Abort, alloc: Global, labelled: Labelled, bytes: &[u8]) -> bool {
+    let program = spelled(alloc, bytes).expect(rt, "instructions");
     holds(rt, alloc, labelled, &program)
 }
 
 /// Checks programs against labels.
-fn check_all(rt: &impl Abort, alloc: Global, rows: Programs, want: bool) -> Result<(), Fail> {
+fn check_all(rt: &impl Abort, alloc: Global, rows: Programs, want: bool) {
     for row in rows {
         let (labelled, bytes) = *row;
-        assert!(rt;
-            spells_yes(rt, alloc, labelled, bytes)? == want,
-            "{bytes:?}"
-        );
+        let yes = spells_yes(rt, alloc, labelled, bytes);
+        assert!(rt; yes == want, "{bytes:?}");
     }
-    Ok(())
 }
 
 /// The vectors, a word later.
@@ -178,18 +164,18 @@ const LEAST_OF_ONE_FIXUP: Programs = &[
 ];
 
 #[test]
-fn least_programs(rt: HostRuntime) -> Result<(), Fail> {
-    check_all(&rt, rt.alloc(), LEAST_PROGRAMS, true)
+fn least_programs(rt: HostRuntime) {
+    check_all(&rt, rt.alloc(), LEAST_PROGRAMS, true);
 }
 
 #[test]
-fn least_programs_of_low_labels(rt: HostRuntime) -> Result<(), Fail> {
-    check_all(&rt, rt.alloc(), LEAST_OF_LOW_LABELS, true)
+fn least_programs_of_low_labels(rt: HostRuntime) {
+    check_all(&rt, rt.alloc(), LEAST_OF_LOW_LABELS, true);
 }
 
 #[test]
-fn least_programs_of_one_fixup(rt: HostRuntime) -> Result<(), Fail> {
-    check_all(&rt, rt.alloc(), LEAST_OF_ONE_FIXUP, true)
+fn least_programs_of_one_fixup(rt: HostRuntime) {
+    check_all(&rt, rt.alloc(), LEAST_OF_ONE_FIXUP, true);
 }
 
 /// Programs that make the fixups, but are longer than feasible labels say.
@@ -216,8 +202,8 @@ const LONGER_PROGRAMS: Programs = &[
 ];
 
 #[test]
-fn longer_programs(rt: HostRuntime) -> Result<(), Fail> {
-    check_all(&rt, rt.alloc(), LONGER_PROGRAMS, false)
+fn longer_programs(rt: HostRuntime) {
+    check_all(&rt, rt.alloc(), LONGER_PROGRAMS, false);
 }
 
 const NOTHING_HIGH: Labelled = (&[], &[], &[1]);
@@ -350,8 +336,8 @@ const LABELS_TOO_HIGH: Programs = &[
 ];
 
 #[test]
-fn labels_too_high(rt: HostRuntime) -> Result<(), Fail> {
-    check_all(&rt, rt.alloc(), LABELS_TOO_HIGH, false)
+fn labels_too_high(rt: HostRuntime) {
+    check_all(&rt, rt.alloc(), LABELS_TOO_HIGH, false);
 }
 
 const ONES: &[u32] = &[1, 1, 1, 1, 1, 1, 1, 1, 1, 0, 0, 0, 0, 0, 0, 0, 0, 0];
@@ -379,8 +365,8 @@ const OTHER_PROGRAMS_AND_SHAPES: Programs = &[
 ];
 
 #[test]
-fn other_programs_and_shapes(rt: HostRuntime) -> Result<(), Fail> {
-    check_all(&rt, rt.alloc(), OTHER_PROGRAMS_AND_SHAPES, false)
+fn other_programs_and_shapes(rt: HostRuntime) {
+    check_all(&rt, rt.alloc(), OTHER_PROGRAMS_AND_SHAPES, false);
 }
 
 const TWO: Labelled = (
@@ -408,59 +394,57 @@ const DO_NOT_FIT: &[(Labelled, &[Instr])] = &[
 ];
 
 #[test]
-fn instructions_that_do_not_fit(rt: HostRuntime) -> Result<(), Fail> {
+fn instructions_that_do_not_fit(rt: HostRuntime) {
     for row in DO_NOT_FIT {
         let (labelled, program) = *row;
-        assert!(rt; !holds(&rt, rt.alloc(), labelled, program)?);
+        assert!(rt; !holds(&rt, rt.alloc(), labelled, program));
     }
-    Ok(())
 }
 
 /// Words of section 1, one behind the other, from an offset on.
-fn words(rt: &impl Abort, alloc: Global, from: u32, count: u32) -> Result<Vec<Fixup>, Fail> {
+fn words(rt: &impl Abort, alloc: Global, from: u32, count: u32) -> Vec<Fixup> {
     assert!(rt; from <= 4);
     assert!(rt; count <= 600);
     let mut fixups = Vec::new(alloc);
     for i in 0..count {
-        fixups.push(Fixup {
-            offset: from + 4 * i,
-            base: S1,
-        })?;
+        let offset = from + 4 * i;
+        fixups.push(Fixup { offset, base: S1 }).expect(rt, "memory");
     }
-    Ok(fixups)
+    fixups
 }
 
 /// Labels for so many words. They are the least lengths, but those of the first word are at least `first`.
-fn words_labels(rt: &impl Abort, alloc: Global, count: u32, first: u32) -> Result<LabelRows, Fail> {
+fn words_labels(rt: &impl Abort, alloc: Global, count: u32, first: u32) -> LabelRows {
     let mut rows = LabelRows::new(alloc, 4);
-    push_words(rt, &mut rows, count, first)?;
-    Ok(rows)
+    push_words(rt, &mut rows, count, first);
+    rows
 }
 
-fn push_words(rt: &impl Abort, rows: &mut LabelRows, count: u32, first: u32) -> Result<(), Fail> {
+fn push_words(rt: &impl Abort, rows: &mut LabelRows, count: u32, first: u32) {
     let first = first.max(1);
-    push(rt, rows, &[first, first, first, 2])?;
+    push(rt, rows, &[first, first, first, 2]);
     for _ in 2..count {
-        push(rt, rows, &[1, 1, 1, 2])?;
+        push(rt, rows, &[1, 1, 1, 2]);
     }
-    push(rt, rows, &[1, 1, 1, 1])?;
-    push(rt, rows, &[0, 0, 0, 0])
+    push(rt, rows, &[1, 1, 1, 1]);
+    push(rt, rows, &[0, 0, 0, 0]);
 }
 
 /// A certificate for such words.
 fn words_certificate(
+    rt: &impl Abort,
     alloc: Global,
     program: &[Instr],
     labels: LabelRows,
-) -> Result<Certificate, Fail> {
-    let registers = Vec::from_slice(alloc, &[1])?;
-    let program = Vec::from_slice(alloc, program)?;
-    Ok(Certificate {
+) -> Certificate {
+    let registers = Vec::from_slice(alloc, &[1]).expect(rt, "memory");
+    let program = Vec::from_slice(alloc, program).expect(rt, "memory");
+    Certificate {
         section: 1,
         program,
         registers,
         labels,
-    })
+    }
 }
 
 const TWO_RUNS: &[Instr] = &[Instr::BySectD(1), Instr::BySectD(511)];
@@ -497,25 +481,23 @@ const LONG_RUNS: &[LongRun] = &[
     (4, 63, NO_SKIP, 2, false),
 ];
 
-fn assert_long_run(rt: &impl Abort, alloc: Global, row: LongRun) -> Result<(), Fail> {
+fn assert_long_run(rt: &impl Abort, alloc: Global, row: LongRun) {
     let (from, count, program, first, want) = row;
-    let labels = words_labels(rt, alloc, count, first)?;
-    let certificate = words_certificate(alloc, program, labels)?;
-    let fixups = words(rt, alloc, from, count)?;
+    let labels = words_labels(rt, alloc, count, first);
+    let certificate = words_certificate(rt, alloc, program, labels);
+    let fixups = words(rt, alloc, from, count);
     assert!(rt;
         is_yes(rt, &fixups, &certificate) == want,
         "{from} {count} {first}"
     );
-    Ok(())
 }
 
 /// A run has up to 512 words, and a skip up to 63.
 #[test]
-fn long_runs(rt: HostRuntime) -> Result<(), Fail> {
+fn long_runs(rt: HostRuntime) {
     for row in LONG_RUNS {
-        assert_long_run(&rt, rt.alloc(), *row)?;
+        assert_long_run(&rt, rt.alloc(), *row);
     }
-    Ok(())
 }
 
 /// Rows, of which two neighbours are equal.
@@ -537,18 +519,16 @@ fn assert_runs(rt: &impl Abort, rows: &LabelRows) {
     assert!(rt; runs.next_run().is_none());
 }
 
-fn push_rows(rt: &impl Abort, rows: &mut LabelRows) -> Result<(), Fail> {
+fn push_rows(rt: &impl Abort, rows: &mut LabelRows) {
     for row in ROWS {
-        push(rt, rows, *row)?;
+        push(rt, rows, *row);
     }
-    Ok(())
 }
 
 #[test]
-fn rows_are_kept(rt: HostRuntime) -> Result<(), Fail> {
+fn rows_are_kept(rt: HostRuntime) {
     let mut rows = LabelRows::new(rt.alloc(), 2);
-    push_rows(&rt, &mut rows)?;
+    push_rows(&rt, &mut rows);
     assert!(rt; rows.width() == 2);
     assert_runs(&rt, &rows);
-    Ok(())
 }

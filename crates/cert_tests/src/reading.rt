@@ -4,14 +4,13 @@ use pef_labels::Certificate;
 use pef_reloc::Instr;
 use std::alloc::Global;
 use std::process::Abort;
-use std::test::Fail;
 use test_data::labels::{VECTORS_LABELS, labels};
 
-/// The line of a refusal, or `None` where the text is read. Fails where memory is refused.
-fn refused_line(alloc: Global, text: &str) -> Result<Option<usize>, Fail> {
+/// The line of a refusal, or `None` where the text is read. Stops where memory is refused.
+fn refused_line(rt: &impl Abort, alloc: Global, text: &str) -> Option<usize> {
     match read(alloc, text.as_bytes()) {
-        Ok(_) => Ok(None),
-        Err(fault) => Ok(Some(fault.line().ok_or("no memory")?)),
+        Ok(_) => None,
+        Err(fault) => Some(fault.line().expect(rt, "memory")),
     }
 }
 
@@ -36,24 +35,23 @@ fn assert_sections(rt: &impl Abort, certificates: &[Certificate]) {
 }
 
 #[test]
-fn sections(rt: HostRuntime) -> Result<(), Fail> {
-    assert_sections(&rt, &read(rt.alloc(), TWO_SECTIONS.as_bytes())?);
-    Ok(())
+fn sections(rt: HostRuntime) {
+    let certificates = read(rt.alloc(), TWO_SECTIONS.as_bytes()).expect(&rt, "certificates");
+    assert_sections(&rt, &certificates);
 }
 
-fn assert_labels(rt: &impl Abort, alloc: Global, certificates: &[Certificate]) -> Result<(), Fail> {
+fn assert_labels(rt: &impl Abort, alloc: Global, certificates: &[Certificate]) {
     assert!(rt; certificates.len() == 2);
     let second = &certificates[1];
-    let labels = labels(alloc, second)?;
+    let labels = labels(alloc, second).expect(rt, "memory");
     assert!(rt; labels.as_slice() == VECTORS_LABELS);
     assert!(rt; second.labels.rows() == 5);
-    Ok(())
 }
 
 #[test]
-fn labels_in_rows(rt: HostRuntime) -> Result<(), Fail> {
-    let certificates = read(rt.alloc(), TWO_SECTIONS.as_bytes())?;
-    assert_labels(&rt, rt.alloc(), &certificates)
+fn labels_in_rows(rt: HostRuntime) {
+    let certificates = read(rt.alloc(), TWO_SECTIONS.as_bytes()).expect(&rt, "certificates");
+    assert_labels(&rt, rt.alloc(), &certificates);
 }
 
 /// Texts behind `pefcert 1`, and the number of the line that is refused, or `None` where the text is read.
@@ -152,19 +150,19 @@ const TEXTS: &[(&str, Option<usize>)] = &[
 ];
 
 /// The line of a refusal of these lines behind `pefcert 1`.
-fn refused_line_behind(alloc: Global, lines: &str) -> Result<Option<usize>, Fail> {
-    let mut text = String::from_str(alloc, "pefcert 1\n")?;
-    text.push_str(lines)?;
-    refused_line(alloc, &text)
+fn refused_line_behind(rt: &impl Abort, alloc: Global, lines: &str) -> Option<usize> {
+    let mut text = String::from_str(alloc, "pefcert 1\n").expect(rt, "memory");
+    text.push_str(lines).expect(rt, "memory");
+    refused_line(rt, alloc, &text)
 }
 
 #[test]
-fn lines(rt: HostRuntime) -> Result<(), Fail> {
+fn lines(rt: HostRuntime) {
     for row in TEXTS {
         let (lines, line) = *row;
-        assert!(rt; refused_line_behind(rt.alloc(), lines)? == line, "{lines}");
+        let refused = refused_line_behind(&rt, rt.alloc(), lines);
+        assert!(rt; refused == line, "{lines}");
     }
-    Ok(())
 }
 
 /// Whole texts, and the number of the line that is refused, or `None` where the text is read.
@@ -179,22 +177,21 @@ const WHOLE_TEXTS: &[(&str, Option<usize>)] = &[
 ];
 
 #[test]
-fn versions(rt: HostRuntime) -> Result<(), Fail> {
+fn versions(rt: HostRuntime) {
     for row in WHOLE_TEXTS {
         let (text, line) = *row;
-        assert!(rt; refused_line(rt.alloc(), text)? == line, "{text}");
+        let refused = refused_line(&rt, rt.alloc(), text);
+        assert!(rt; refused == line, "{text}");
     }
-    Ok(())
 }
 
 #[test]
-fn faults(rt: HostRuntime) -> Result<(), Fail> {
+fn faults(rt: HostRuntime) {
     let alloc = rt.alloc();
     let fault = read(alloc, b"pefcert 3\nend\n")
         .err()
         .expect(&rt, "refused");
     assert!(rt; fault.number() == 51);
-    let text = format!(in alloc; "{fault}")?;
+    let text = format!(in alloc; "{fault}").expect(&rt, "memory");
     assert!(rt; text.as_str() == "BadCertificate line 1");
-    Ok(())
 }

@@ -3,13 +3,11 @@ use pef_labels::{Certificate, LabelRows};
 use pef_reloc::Instr;
 use std::alloc::Global;
 use std::process::Abort;
-use std::test::Fail;
 
 /// Puts a row of labels behind others.
-pub fn push(rt: &impl Abort, rows: &mut LabelRows, row: &[u32]) -> Result<(), Fail> {
+pub fn push(rt: &impl Abort, rows: &mut LabelRows, row: &[u32]) {
     assert!(rt; row.len() == rows.width());
-    rows.push(row)?;
-    Ok(())
+    rows.push(row).expect(rt, "memory");
 }
 
 /// A certificate with these labels.
@@ -19,23 +17,23 @@ pub fn certificate(
     program: &[Instr],
     registers: &[u32],
     labels: &[u32],
-) -> Result<Certificate, Fail> {
-    let labels = rows(rt, alloc, registers.len() + 1, labels)?;
-    let registers = Vec::from_slice(alloc, registers)?;
-    let program = Vec::from_slice(alloc, program)?;
-    Ok(Certificate {
+) -> Certificate {
+    let labels = rows(rt, alloc, registers.len() + 1, labels);
+    let registers = Vec::from_slice(alloc, registers).expect(rt, "memory");
+    let program = Vec::from_slice(alloc, program).expect(rt, "memory");
+    Certificate {
         section: 0,
         program,
         registers,
         labels,
-    })
+    }
 }
 
 /// The rows of these labels, for so many classes.
-fn rows(rt: &impl Abort, alloc: Global, classes: usize, labels: &[u32]) -> Result<LabelRows, Fail> {
+fn rows(rt: &impl Abort, alloc: Global, classes: usize, labels: &[u32]) -> LabelRows {
     let mut rows = LabelRows::new(alloc, width(rt, classes));
-    push_all(rt, &mut rows, labels)?;
-    Ok(rows)
+    push_all(rt, &mut rows, labels);
+    rows
 }
 
 /// How many labels a row has, for so many classes.
@@ -47,10 +45,9 @@ fn width(rt: &impl Abort, classes: usize) -> usize {
 }
 
 /// Puts labels behind others, row by row.
-fn push_all(rt: &impl Abort, rows: &mut LabelRows, labels: &[u32]) -> Result<(), Fail> {
+fn push_all(rt: &impl Abort, rows: &mut LabelRows, labels: &[u32]) {
     assert!(rt; rows.width() > 0);
     for row in labels.chunks(rows.width()) {
-        push(rt, rows, row)?;
+        push(rt, rows, row);
     }
-    Ok(())
 }

@@ -1,7 +1,6 @@
 use crate::closures::{told, told_of_pairs};
 use std::alloc::Global;
 use std::process::Abort;
-use std::test::Fail;
 use test_data::changes::{At, Change};
 use test_data::scripts::{LIBRARY, USER};
 use test_links::fragments::{Fragment, container};
@@ -274,49 +273,42 @@ const CHAINS: &[(&[Fragment], &str)] = &[
 ];
 
 /// Tests what is told of some fragments.
-fn test_told(rt: &impl Abort, alloc: Global, rows: &[(&[Fragment], &str)]) -> Result<(), Fail> {
+fn test_told(rt: &impl Abort, alloc: Global, rows: &[(&[Fragment], &str)]) {
     for row in rows {
         let (fragments, wanted) = *row;
-        assert!(rt; told(rt, alloc, fragments)?.as_str() == wanted);
+        assert!(rt; told(rt, alloc, fragments).as_str() == wanted);
     }
-    Ok(())
 }
 
 #[test]
-fn libraries(rt: HostRuntime) -> Result<(), Fail> {
-    test_told(&rt, rt.alloc(), LIBRARIES)
+fn libraries(rt: HostRuntime) {
+    test_told(&rt, rt.alloc(), LIBRARIES);
 }
 
 #[test]
-fn orders(rt: HostRuntime) -> Result<(), Fail> {
-    test_told(&rt, rt.alloc(), ORDERS)
+fn orders(rt: HostRuntime) {
+    test_told(&rt, rt.alloc(), ORDERS);
 }
 
 #[test]
-fn circles(rt: HostRuntime) -> Result<(), Fail> {
-    test_told(&rt, rt.alloc(), CIRCLES)
+fn circles(rt: HostRuntime) {
+    test_told(&rt, rt.alloc(), CIRCLES);
 }
 
 #[test]
-fn targets(rt: HostRuntime) -> Result<(), Fail> {
-    test_told(&rt, rt.alloc(), TARGETS)
+fn targets(rt: HostRuntime) {
+    test_told(&rt, rt.alloc(), TARGETS);
 }
 
 #[test]
-fn chains(rt: HostRuntime) -> Result<(), Fail> {
-    test_told(&rt, rt.alloc(), CHAINS)
+fn chains(rt: HostRuntime) {
+    test_told(&rt, rt.alloc(), CHAINS);
 }
 
 /// Tests what is told of fragments with these names and bytes.
-fn test_told_of_pairs(
-    rt: &impl Abort,
-    alloc: Global,
-    pairs: &[(&str, &[u8])],
-    wanted: &str,
-) -> Result<(), Fail> {
-    let told = told_of_pairs(rt, alloc, pairs)?;
+fn test_told_of_pairs(rt: &impl Abort, alloc: Global, pairs: &[(&str, &[u8])], wanted: &str) {
+    let told = told_of_pairs(rt, alloc, pairs);
     assert!(rt; told.as_str() == wanted);
-    Ok(())
 }
 
 /// What makes section 0 the main one in a container without sections: that stands at the head of the loader
@@ -327,18 +319,18 @@ const BAD_MAIN: &[Change] = &[(At::Front(80), &[0; 4])];
 const NEEDS_WEAK: &str = "library L 0 0 weak\n";
 
 #[test]
-fn unreadable_container(rt: HostRuntime) -> Result<(), Fail> {
-    let needs = container(rt.alloc(), NEEDS_WEAK, &[])?;
+fn unreadable_container(rt: HostRuntime) {
+    let needs = container(rt.alloc(), NEEDS_WEAK, &[]).expect(&rt, "a container");
     let pairs: [(&str, &[u8]); 2] = [("A", &needs), ("L", b"Joy!")];
-    test_told_of_pairs(&rt, rt.alloc(), &pairs, "1 TooShort L")
+    test_told_of_pairs(&rt, rt.alloc(), &pairs, "1 TooShort L");
 }
 
 #[test]
-fn unreadable_loader(rt: HostRuntime) -> Result<(), Fail> {
-    let needs = container(rt.alloc(), NEEDS_WEAK, &[])?;
-    let bad_main = container(rt.alloc(), "", BAD_MAIN)?;
+fn unreadable_loader(rt: HostRuntime) {
+    let needs = container(rt.alloc(), NEEDS_WEAK, &[]).expect(&rt, "a container");
+    let bad_main = container(rt.alloc(), "", BAD_MAIN).expect(&rt, "a container");
     let pairs: [(&str, &[u8]); 2] = [("A", &needs), ("L", &bad_main)];
-    test_told_of_pairs(&rt, rt.alloc(), &pairs, "16 BadEntry L")
+    test_told_of_pairs(&rt, rt.alloc(), &pairs, "16 BadEntry L");
 }
 
 /// What gives the second of two libraries the import of the first. It stands at 160: its count of imports at
@@ -347,22 +339,24 @@ const SHARED_IMPORT: &[Change] = &[(At::Front(175), &[1]), (At::Front(179), &[0]
 
 /// An import in the ranges of two libraries belongs to the first.
 #[test]
-fn import_of_two_libraries(rt: HostRuntime) -> Result<(), Fail> {
+fn import_of_two_libraries(rt: HostRuntime) {
     let alloc = rt.alloc();
     let importer = container(
         alloc,
         "library L 1 0 -\nimport v data strong\nlibrary K 0 0 -\n",
         SHARED_IMPORT,
-    )?;
-    let first = container(alloc, LIBRARY, &[])?;
+    )
+    .expect(&rt, "a container");
+    let first = container(alloc, LIBRARY, &[]).expect(&rt, "a container");
     let second = container(
         alloc,
         "section k data process 4 8\nexport v data k 4\n",
         &[],
-    )?;
+    )
+    .expect(&rt, "a container");
     let pairs: [(&str, &[u8]); 3] = [("A", &importer), ("K", &second), ("L", &first)];
     let wanted = "order 2 1 0, init 2 1 0, 0.0 at 2 0 0";
-    test_told_of_pairs(&rt, alloc, &pairs, wanted)
+    test_told_of_pairs(&rt, alloc, &pairs, wanted);
 }
 
 /// A container that passes on its import 1, whose libraries don't have its imports in order: import 1 is of
@@ -370,12 +364,13 @@ fn import_of_two_libraries(rt: HostRuntime) -> Result<(), Fail> {
 ///
 /// The loader section's place stands in the second section header, at 88. In that section the libraries
 /// stand at 56 and 80, with their first imports at 72 and 96.
-fn turned_imports(rt: &impl Abort, alloc: Global) -> Result<Vec<u8>, Fail> {
+fn turned_imports(rt: &impl Abort, alloc: Global) -> Vec<u8> {
     let mut bytes = container(
         alloc,
         "library L 0 0 -\nimport v data strong\nlibrary Q 0 0 -\nimport w data strong\nsection p data process 4 4\nexport p data p 0\n",
         &[(At::End(6), b"\x00\x00\x00\x01\xFF\xFD")],
-    )?;
+    )
+    .expect(rt, "a container");
     assert!(rt; bytes.len() > 91);
     let loader = usize::from(bytes[91]);
     assert!(rt; bytes.len() > loader + 99);
@@ -383,26 +378,28 @@ fn turned_imports(rt: &impl Abort, alloc: Global) -> Result<Vec<u8>, Fail> {
     assert!(rt; bytes[loader + 99] == 1);
     bytes[loader + 75] = 1;
     bytes[loader + 99] = 0;
-    Ok(bytes)
+    bytes
 }
 
 /// Of two fragments that need one another, the first of the order has an import that an export of the second
 /// passes on.
 #[test]
-fn import_before_its_turn(rt: HostRuntime) -> Result<(), Fail> {
+fn import_before_its_turn(rt: HostRuntime) {
     let alloc = rt.alloc();
-    let second = turned_imports(&rt, alloc)?;
+    let second = turned_imports(&rt, alloc);
     let first = container(
         alloc,
         "library P 0 0 -\nimport p data strong\nsection q data process 4 8\nexport v data q 4\n",
         &[],
-    )?;
+    )
+    .expect(&rt, "a container");
     let last = container(
         alloc,
         "section l data process 4 4\nexport w data l 0\n",
         &[],
-    )?;
+    )
+    .expect(&rt, "a container");
     let pairs: [(&str, &[u8]); 3] = [("P", &second), ("Q", &first), ("L", &last)];
     let wanted = "order 2 1 0, init 2 1 0, 1.0 at 2 0 0, 0.0 at 1 0 4, 0.1 at 2 0 0";
-    test_told_of_pairs(&rt, alloc, &pairs, wanted)
+    test_told_of_pairs(&rt, alloc, &pairs, wanted);
 }

@@ -1,6 +1,5 @@
 use cfm_closure::{Definition, Fit, Implementation, Store, versions_fit};
 use std::process::Abort;
-use std::test::Fail;
 
 /// Versions: of the definition the current and the oldest implementation, of the implementation the current
 /// and the oldest definition.
@@ -33,22 +32,26 @@ fn versions(rt: HostRuntime) {
 }
 
 #[test]
-fn store(rt: HostRuntime) -> Result<(), Fail> {
+fn store(rt: HostRuntime) {
     let mut store = Store::new(rt.alloc());
     assert!(rt; store.is_empty());
-    store.add(b"one", b"1")?;
-    store.add(b"", b"2")?;
-    store.add(b"one", b"3")?;
-    test_store(&rt, &store);
-    Ok(())
+    store.add(b"one", b"1").expect(&rt, "memory");
+    store.add(b"", b"2").expect(&rt, "memory");
+    store.add(b"one", b"3").expect(&rt, "memory");
+    test_pairs(&rt, &store);
+    test_found(&rt, &store);
 }
 
-/// Tests what is found in the store.
-fn test_store(rt: &impl Abort, store: &Store<'_>) {
+/// Tests the pairs in the store.
+fn test_pairs(rt: &impl Abort, store: &Store<'_>) {
     assert!(rt; store.len() == 3);
     assert!(rt; store.pair(1) == Some((b"", b"2")));
     assert!(rt; store.pair(2) == Some((b"one", b"3")));
     assert!(rt; store.pair(3).is_none());
+}
+
+/// Tests what is found in the store.
+fn test_found(rt: &impl Abort, store: &Store<'_>) {
     assert!(rt; store.find(b"one") == Some(0));
     assert!(rt; store.find(b"") == Some(1));
     assert!(rt; store.find(b"on").is_none());

@@ -52,7 +52,7 @@ fn link_leaves_the_input(rt: HostRuntime) -> Result<(), Fail> {
 /// Tests a container but for its program, which is one of several of the same length.
 fn test_example(rt: &impl Abort, alloc: Global, papers: &Papers) -> Result<(), Fail> {
     let written = papers.bytes(b"out").ok_or("no container")?;
-    let same = changed(alloc, written, At::Front(180), EXAMPLE_PROGRAM)?;
+    let same = changed(alloc, written, At::Front(180), EXAMPLE_PROGRAM).ok_or("no such place")?;
     assert!(rt; same.as_slice() == EXAMPLE_CONTAINER);
     Ok(())
 }

@@ -34,7 +34,7 @@ fn list_reexport(rt: HostRuntime) -> Result<(), Fail> {
     let Some(container) = linked.papers.bytes(b"out") else {
         return Err(Fail::from("nothing was linked"));
     };
-    let bytes = changed(rt.alloc(), container, At::End(2), b"\xFF\xFD")?;
+    let bytes = changed(rt.alloc(), container, At::End(2), b"\xFF\xFD").ok_or("no such place")?;
     let outcome = run_tool(rt.alloc(), Handed::file(&["list", "a"], bytes.as_slice()))?;
     assert!(rt;
         outcome
@@ -101,7 +101,7 @@ const DAMAGED: &[(&[u8], usize, &[u8], &[u8])] = &[
 fn list_damaged(rt: HostRuntime) -> Result<(), Fail> {
     for row in DAMAGED {
         let (container, at, other, printed) = *row;
-        let bytes = changed(rt.alloc(), container, At::Front(at), other)?;
+        let bytes = changed(rt.alloc(), container, At::Front(at), other).ok_or("no such place")?;
         let handed = Handed::file(&["list", "a"], bytes.as_slice());
         assert_prints(rt.alloc(), handed, printed, 1)?;
     }

@@ -166,7 +166,7 @@ fn put_files(alloc: Global, papers: &mut Papers) -> Result<(), Fail> {
     put_linked(alloc, papers, "x=y", b"")?;
     put_file(papers, "vectors", VECTORS_LEAST)?;
     put_file(papers, "text", b"versions 1 0 0\n")?;
-    let longer = changed(alloc, VECTORS_LEAST, At::Front(223), b"\x02")?;
+    let longer = changed(alloc, VECTORS_LEAST, At::Front(223), b"\x02").ok_or("no such place")?;
     put_file(papers, "longer", &longer)
 }
 

@@ -146,9 +146,9 @@ const SPELLED_ROWS: &[(Library, usize, &[u8], &[u8])] = &[
 
 /// The library with packed data.
 fn packed(alloc: Global) -> Result<Vec<u8>, Fail> {
-    let mut bytes = changed(alloc, SPELLED, At::Front(64), b"\x02")?;
-    change(&mut bytes, At::Front(59), b"\x03")?;
-    change(&mut bytes, At::Front(96), b"\x41\x09\x7F")?;
+    let mut bytes = changed(alloc, SPELLED, At::Front(64), b"\x02").ok_or("no such place")?;
+    change(&mut bytes, At::Front(59), b"\x03").ok_or("no such place")?;
+    change(&mut bytes, At::Front(96), b"\x41\x09\x7F").ok_or("no such place")?;
     Ok(bytes)
 }
 
@@ -161,7 +161,7 @@ fn test_spelled(
     other: &[u8],
     printed: &[u8],
 ) -> Result<(), Fail> {
-    let changed = changed(alloc, container, At::Front(at), other)?;
+    let changed = changed(alloc, container, At::Front(at), other).ok_or("no such place")?;
     put_file(papers, "p", &changed)?;
     let status = if printed.starts_with(b"fragment") {
         0
@@ -223,7 +223,7 @@ fn put_circle(alloc: Global, papers: &mut Papers, path: &str, script: &[u8]) -> 
     put_linked(alloc, papers, "linked", script)?;
     let linked = papers.bytes(b"linked").ok_or("nothing was linked")?;
     // the section of the only export stands at the end
-    let circle = changed(alloc, linked, At::End(2), b"\xFF\xFD")?;
+    let circle = changed(alloc, linked, At::End(2), b"\xFF\xFD").ok_or("no such place")?;
     put_file(papers, path, &circle)
 }
 

@@ -1,10 +1,9 @@
 use crate::many::FRAGMENTS;
 use cfm_prepare::{CloseFault, Connection, Context, PrepareFault};
 use cfm_present::FragmentFault;
-use std::alloc::{AllocError, Global};
+use std::alloc::Global;
 use std::fmt::Write;
 use std::process::Abort;
-use std::test::Fail;
 use test_links::fragments::{Fragment, containers, store_of};
 use test_links::{tell_name, tell_names};
 
@@ -26,21 +25,22 @@ pub(crate) fn take_steps(
     fragments: &[Fragment],
     limit: u32,
     steps: &[(Step, &str)],
-) -> Result<(), Fail> {
-    let containers = containers(alloc, fragments)?;
-    let mut context = context_of(alloc, fragments, &containers, limit)?;
-    take_steps_in(rt, alloc, &mut context, steps)
+) {
+    let containers = containers(alloc, fragments).expect(rt, "containers");
+    let mut context = context_of(rt, alloc, fragments, &containers, limit);
+    take_steps_in(rt, alloc, &mut context, steps);
 }
 
 /// A context over some fragments, which have these containers.
 pub(crate) fn context_of<'a>(
+    rt: &impl Abort,
     alloc: Global,
     fragments: &[Fragment],
     containers: &'a [Vec<u8>],
     limit: u32,
-) -> Result<Context<'a>, Fail> {
-    let store = store_of(alloc, fragments, containers)?;
-    Ok(Context::new(alloc, store, limit))
+) -> Context<'a> {
+    let store = store_of(alloc, fragments, containers).expect(rt, "a store");
+    Context::new(alloc, store, limit)
 }
 
 /// The same in a context.
@@ -49,96 +49,79 @@ pub(crate) fn take_steps_in(
     alloc: Global,
     context: &mut Context<'_>,
     steps: &[(Step, &str)],
-) -> Result<(), Fail> {
+) {
     for (step, wanted) in steps {
-        test_step(rt, alloc, context, *step, wanted)?;
+        test_step(rt, alloc, context, *step, wanted);
     }
-    Ok(())
 }
 
-fn test_step(
-    rt: &impl Abort,
-    alloc: Global,
-    context: &mut Context<'_>,
-    step: Step,
-    wanted: &str,
-) -> Result<(), AllocError> {
+fn test_step(rt: &impl Abort, alloc: Global, context: &mut Context<'_>, step: Step, wanted: &str) {
     let mut text = String::new(alloc);
-    tell_step(&mut text, context, step)?;
+    tell_step(rt, &mut text, context, step);
     assert!(rt; text.as_str() == wanted);
-    Ok(())
 }
 
 /// What a step is answered, and which sections are present behind it.
-fn tell_step(text: &mut String, context: &mut Context<'_>, step: Step) -> Result<(), AllocError> {
-    take_step(text, context, step)?;
+fn tell_step(rt: &impl Abort, text: &mut String, context: &mut Context<'_>, step: Step) {
+    take_step(rt, text, context, step);
     for p in 0..FRAGMENTS {
-        tell_sections(text, context, p)?;
+        tell_sections(rt, text, context, p);
     }
-    Ok(())
 }
 
-fn take_step(text: &mut String, context: &mut Context<'_>, step: Step) -> Result<(), AllocError> {
+fn take_step(rt: &impl Abort, text: &mut String, context: &mut Context<'_>, step: Step) {
     match step {
-        Step::Prepare(name) => tell_prepared(text, context.prepare(name.as_bytes())),
-        Step::Close(number) => tell_closed(text, context.close(Connection(number))),
+        Step::Prepare(name) => tell_prepared(rt, text, context.prepare(name.as_bytes())),
+        Step::Close(number) => tell_closed(rt, text, context.close(Connection(number))),
     }
 }
 
-fn tell_prepared(
-    text: &mut String,
-    answer: Result<Connection, PrepareFault<'_>>,
-) -> Result<(), AllocError> {
+fn tell_prepared(rt: &impl Abort, text: &mut String, answer: Result<Connection, PrepareFault<'_>>) {
     match answer {
-        Ok(connection) => write!(text, "{}", connection.0),
-        Err(fault) => tell_fault(text, fault),
+        Ok(connection) => write!(text, "{}", connection.0).expect(rt, "memory"),
+        Err(fault) => tell_fault(rt, text, fault),
     }
 }
 
-fn tell_closed(text: &mut String, answer: Result<(), CloseFault>) -> Result<(), AllocError> {
-    match answer {
+fn tell_closed(rt: &impl Abort, text: &mut String, answer: Result<(), CloseFault>) {
+    let told = match answer {
         Ok(()) => text.push_str("closed"),
         Err(fault) => write!(text, "{} {fault}", fault.number()),
-    }
+    };
+    told.expect(rt, "memory");
 }
 
 /// The sections of the fragment at a place, where it is present, each with its address and its bytes.
-fn tell_sections(
-    text: &mut String,
-    context: &Context<'_>,
-    position: usize,
-) -> Result<(), AllocError> {
+fn tell_sections(rt: &impl Abort, text: &mut String, context: &Context<'_>, position: usize) {
     let Some(name) = context.name(position) else {
-        return Ok(());
+        return;
     };
     for i in 0..8 {
         if let Some((address, bytes)) = context.fragment_section(position, i) {
-            text.push(',')?;
-            tell_name(text, name)?;
-            tell_memory(text, address, bytes)?;
+            text.push(',').expect(rt, "memory");
+            tell_name(text, name).expect(rt, "memory");
+            tell_memory(rt, text, address, bytes);
         }
     }
-    Ok(())
 }
 
 /// An address, and the bytes that lie there.
-pub(crate) fn tell_memory(text: &mut String, address: u32, bytes: &[u8]) -> Result<(), AllocError> {
-    write!(text, " {address:08X} ")?;
+pub(crate) fn tell_memory(rt: &impl Abort, text: &mut String, address: u32, bytes: &[u8]) {
+    write!(text, " {address:08X} ").expect(rt, "memory");
     for byte in bytes {
-        write!(text, "{byte:02X}")?;
+        write!(text, "{byte:02X}").expect(rt, "memory");
     }
-    Ok(())
 }
 
-fn tell_fault(text: &mut String, fault: PrepareFault<'_>) -> Result<(), AllocError> {
-    write!(text, "{} {fault}", fault.number())?;
+fn tell_fault(rt: &impl Abort, text: &mut String, fault: PrepareFault<'_>) {
+    write!(text, "{} {fault}", fault.number()).expect(rt, "memory");
     match fault {
         PrepareFault::Fragment(
             FragmentFault::NoRoom { fragment }
             | FragmentFault::Pack { fragment, .. }
             | FragmentFault::Reloc { fragment, .. },
-        ) => tell_name(text, fragment),
-        PrepareFault::Bind(fault) => tell_names(text, fault),
-        _ => Ok(()),
+        ) => tell_name(text, fragment).expect(rt, "memory"),
+        PrepareFault::Bind(fault) => tell_names(text, fault).expect(rt, "memory"),
+        _ => {}
     }
 }

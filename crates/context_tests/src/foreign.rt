@@ -4,7 +4,6 @@ use cfm_closure::Store;
 use cfm_prepare::Context;
 use std::alloc::Global;
 use std::process::Abort;
-use std::test::Fail;
 use test_data::changes::{At, Change, changed};
 use test_data::containers::VECTORS_LEAST;
 use test_data::scripts::{LIBRARY, USER};
@@ -23,24 +22,27 @@ const LONGER: &[(Step, &str)] = &[
 ];
 
 /// A store of a changed container, `x`, and the one that it was made of, `y`.
-fn store_of_changed(alloc: Global, longer: &[u8]) -> Result<Store<'_>, Fail> {
+fn store_of_changed<'a>(rt: &impl Abort, alloc: Global, longer: &'a [u8]) -> Store<'a> {
     let mut store = Store::new(alloc);
-    add(&mut store, "x", longer)?;
-    add(&mut store, "y", VECTORS_LEAST)?;
-    Ok(store)
+    add(&mut store, "x", longer).expect(rt, "room in the store");
+    add(&mut store, "y", VECTORS_LEAST).expect(rt, "room in the store");
+    store
 }
 
 /// Takes the steps in a context over these two.
-fn take_steps_over_changed(rt: &impl Abort, alloc: Global, longer: &[u8]) -> Result<(), Fail> {
-    let store = store_of_changed(alloc, longer)?;
+fn take_steps_over_changed(rt: &impl Abort, alloc: Global, longer: &[u8]) {
+    let store = store_of_changed(rt, alloc, longer);
     let mut context = Context::new(alloc, store, LIMIT);
-    take_steps_in(rt, alloc, &mut context, LONGER)
+    take_steps_in(rt, alloc, &mut context, LONGER);
 }
 
 #[test]
-fn bad_program(rt: HostRuntime) -> Result<(), Fail> {
-    let longer = changed(rt.alloc(), VECTORS_LEAST, At::Front(223), b"\x02")?;
-    take_steps_over_changed(&rt, rt.alloc(), &longer)
+fn bad_program(rt: HostRuntime) {
+    let longer = changed(rt.alloc(), VECTORS_LEAST, At::Front(223), b"\x02").expect(
+        &rt,
+        "a changed container",
+    );
+    take_steps_over_changed(&rt, rt.alloc(), &longer);
 }
 
 /// A library of pattern-initialized data: seven packed bytes for eight.
@@ -72,11 +74,10 @@ const PACKED_LIBRARIES: &[Case] = &[
 ];
 
 #[test]
-fn packed_library(rt: HostRuntime) -> Result<(), Fail> {
+fn packed_library(rt: HostRuntime) {
     for (fragments, steps) in PACKED_LIBRARIES {
-        take_steps(&rt, rt.alloc(), fragments, LIMIT, steps)?;
+        take_steps(&rt, rt.alloc(), fragments, LIMIT, steps);
     }
-    Ok(())
 }
 
 const PASSED: &[Change] = &[(At::End(2), b"\xFF\xFD")];
@@ -111,8 +112,8 @@ const PASSED_ON_STEPS: &[(Step, &str)] = &[(
 )];
 
 #[test]
-fn passed_on_twice(rt: HostRuntime) -> Result<(), Fail> {
-    take_steps(&rt, rt.alloc(), PASSED_ON, LIMIT, PASSED_ON_STEPS)
+fn passed_on_twice(rt: HostRuntime) {
+    take_steps(&rt, rt.alloc(), PASSED_ON, LIMIT, PASSED_ON_STEPS);
 }
 
 const WEAK_IMPORT: &str =
@@ -152,9 +153,8 @@ const BINDINGS: &[Case] = &[
 ];
 
 #[test]
-fn binding(rt: HostRuntime) -> Result<(), Fail> {
+fn binding(rt: HostRuntime) {
     for (fragments, steps) in BINDINGS {
-        take_steps(&rt, rt.alloc(), fragments, LIMIT, steps)?;
+        take_steps(&rt, rt.alloc(), fragments, LIMIT, steps);
     }
-    Ok(())
 }

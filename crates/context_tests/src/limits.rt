@@ -6,10 +6,9 @@ use crate::many;
 use crate::readers::prepared;
 use cfm_closure::{Closure, Store, Target, closure};
 use cfm_prepare::Context;
-use std::alloc::{AllocError, Global};
+use std::alloc::Global;
 use std::fmt::Write;
 use std::process::Abort;
-use std::test::Fail;
 use test_data::limits::{
     EXPORTS, IMPORTS, LIBRARIES, SECTIONS, Spaced, push_fixups, push_sections,
 };
@@ -17,38 +16,40 @@ use test_links::fragments::{add, container};
 
 /// A script with as many imports and libraries as one may have: all imports are weak and of the first library, and all
 /// other libraries are weak and missing.
-fn importing(alloc: Global) -> Result<String, AllocError> {
+fn importing(rt: &impl Abort, alloc: Global) -> String {
     let mut text = String::new(alloc);
-    text.push_str("library L 0 0 -\n")?;
+    text.push_str("library L 0 0 -\n").expect(rt, "memory");
     for import in 0..IMPORTS {
-        write!(text, "import e{import} data weak\n")?;
+        write!(text, "import e{import} data weak\n").expect(rt, "memory");
     }
     for library in 1..LIBRARIES {
-        write!(text, "library l{library} 0 0 weak\n")?;
+        write!(text, "library l{library} 0 0 weak\n").expect(rt, "memory");
     }
-    Ok(text)
+    text
 }
 
 /// A script with as many exports as one may have, at an offset each.
-fn exporting(alloc: Global) -> Result<String, AllocError> {
+fn exporting(rt: &impl Abort, alloc: Global) -> String {
     let mut text = String::new(alloc);
-    text.push_str("section d data process 4 16384\n")?;
+    text.push_str("section d data process 4 16384\n")
+        .expect(rt, "memory");
     for export in 0..EXPORTS {
-        write!(text, "export e{export} data d {export}\n")?;
+        write!(text, "export e{export} data d {export}\n").expect(rt, "memory");
     }
-    Ok(text)
+    text
 }
 
 /// A store of the fragment with the imports and of its library.
 fn store_of_imports<'a>(
+    rt: &impl Abort,
     alloc: Global,
     user: &'a [u8],
     library: &'a [u8],
-) -> Result<Store<'a>, Fail> {
+) -> Store<'a> {
     let mut store = Store::new(alloc);
-    add(&mut store, "A", user)?;
-    add(&mut store, "L", library)?;
-    Ok(store)
+    add(&mut store, "A", user).expect(rt, "room in the store");
+    add(&mut store, "L", library).expect(rt, "room in the store");
+    store
 }
 
 /// What an import means: the export of its number, or nothing where the library hasn't so many.
@@ -68,7 +69,7 @@ fn test_target(rt: &impl Abort, import: usize, target: Option<Target>) {
 }
 
 /// Tests what the imports mean.
-fn test_targets(rt: &impl Abort, closure: Closure<'_>) {
+fn test_targets(rt: &impl Abort, closure: &Closure<'_>) {
     assert!(rt; closure.order() == [1usize, 0].as_slice());
     let mut targets = 0u32;
     for p in closure.order() {
@@ -84,30 +85,24 @@ fn test_targets(rt: &impl Abort, closure: Closure<'_>) {
 fn test_imports(rt: &impl Abort, alloc: Global, store: &Store<'_>) {
     assert!(rt; !store.is_empty());
     match closure(alloc, store, 0) {
-        Ok(closure) => test_targets(rt, closure),
+        Ok(closure) => test_targets(rt, &closure),
         Err(fault) => panic!(rt; "{fault}"),
     }
 }
 
 /// Tests the closure of a fragment and its library, which have these containers.
-fn test_containers(
-    rt: &impl Abort,
-    alloc: Global,
-    user: &[u8],
-    library: &[u8],
-) -> Result<(), Fail> {
-    let store = store_of_imports(alloc, user, library)?;
+fn test_containers(rt: &impl Abort, alloc: Global, user: &[u8], library: &[u8]) {
+    let store = store_of_imports(rt, alloc, user, library);
     test_imports(rt, alloc, &store);
-    Ok(())
 }
 
 /// 65,536 imports of one library, which has 16,383 exports, and 4,095 weak libraries that are missing.
 #[test]
-fn most_imports(rt: HostRuntime) -> Result<(), Fail> {
+fn most_imports(rt: HostRuntime) {
     let alloc = rt.alloc();
-    let user = container(alloc, importing(alloc)?.as_str(), &[])?;
-    let library = container(alloc, exporting(alloc)?.as_str(), &[])?;
-    test_containers(&rt, alloc, &user, &library)
+    let user = container(alloc, importing(&rt, alloc).as_str(), &[]).expect(&rt, "a container");
+    let library = container(alloc, exporting(&rt, alloc).as_str(), &[]).expect(&rt, "a container");
+    test_containers(&rt, alloc, &user, &library);
 }
 
 /// The address of a fragment of the chain: the last one lies first, and each takes 16 bytes with the gap behind it.
@@ -127,16 +122,10 @@ fn word_of(p: usize) -> u32 {
 }
 
 /// Tests the chain of fragments with these names and containers.
-fn test_chain_of(
-    rt: &impl Abort,
-    alloc: Global,
-    names: &[String],
-    containers: &[Vec<u8>],
-) -> Result<(), Fail> {
-    let store = many::store_of_all(alloc, names, containers)?;
+fn test_chain_of(rt: &impl Abort, alloc: Global, names: &[String], containers: &[Vec<u8>]) {
+    let store = many::store_of_all(rt, alloc, names, containers);
     let mut context = Context::new(alloc, store, LIMIT);
     test_chain(rt, &mut context);
-    Ok(())
 }
 
 /// Prepares the first fragment of the chain, and tests all.
@@ -154,29 +143,29 @@ fn test_chain(rt: &impl Abort, context: &mut Context<'_>) {
 
 /// 256 fragments, of which each needs the next one, are prepared at once.
 #[test]
-fn most_fragments(rt: HostRuntime) -> Result<(), Fail> {
-    let names = many::names(rt.alloc())?;
-    let containers = many::containers(rt.alloc(), false)?;
-    test_chain_of(&rt, rt.alloc(), &names, &containers)
+fn most_fragments(rt: HostRuntime) {
+    let names = many::names(&rt, rt.alloc());
+    let containers = many::containers(&rt, rt.alloc(), false);
+    test_chain_of(&rt, rt.alloc(), &names, &containers);
 }
 
 /// How many bytes a section may have.
 const TOTAL: u32 = 0x0100_0000;
 
 /// Eight sections of the greatest length, in which the last word is the section's own address.
-fn greatest(alloc: Global) -> Result<String, AllocError> {
+fn greatest(rt: &impl Abort, alloc: Global) -> String {
     let mut text = String::new(alloc);
-    push_sections(&mut text, 4, TOTAL)?;
+    push_sections(&mut text, 4, TOTAL).expect(rt, "memory");
     let last = Spaced {
         first: TOTAL - 4,
         step: 4,
         count: 1,
     };
     for section in SECTIONS {
-        let base = format!(in alloc; "section {section}")?;
-        push_fixups(&mut text, section, last, base.as_str())?;
+        let base = format!(in alloc; "section {section}").expect(rt, "memory");
+        push_fixups(&mut text, section, last, base.as_str()).expect(rt, "memory");
     }
-    Ok(text)
+    text
 }
 
 /// Tests the address, the length and the last word of each of the greatest sections.
@@ -184,25 +173,29 @@ fn test_greatest(rt: &impl Abort, context: &mut Context<'_>) {
     assert!(rt; prepared(context, b"G") == Ok(0));
     for k in 0..SECTIONS.len() {
         let wanted = (k as u32).wrapping_mul(TOTAL).wrapping_add(0x0001_0000);
-        let (address, bytes) = context.fragment_section(0, k).unwrap_or((0, &[]));
-        assert!(rt; address == wanted, "section {k}");
-        assert!(rt; bytes.len() == TOTAL as usize, "section {k}");
-        assert!(rt; bytes.ends_with(&wanted.to_be_bytes()), "section {k}");
+        test_section(rt, context, k, wanted);
     }
 }
 
+/// Tests one of them, whose address is wanted.
+fn test_section(rt: &impl Abort, context: &Context<'_>, k: usize, wanted: u32) {
+    let (address, bytes) = context.fragment_section(0, k).unwrap_or((0, &[]));
+    assert!(rt; address == wanted, "section {k}");
+    assert!(rt; bytes.len() == TOTAL as usize, "section {k}");
+    assert!(rt; bytes.ends_with(&wanted.to_be_bytes()), "section {k}");
+}
+
 /// Tests the fragment that has this container.
-fn test_greatest_of(rt: &impl Abort, alloc: Global, bytes: &[u8]) -> Result<(), Fail> {
+fn test_greatest_of(rt: &impl Abort, alloc: Global, bytes: &[u8]) {
     let mut store = Store::new(alloc);
-    add(&mut store, "G", bytes)?;
+    add(&mut store, "G", bytes).expect(rt, "room in the store");
     test_greatest(rt, &mut Context::new(alloc, store, LIMIT));
-    Ok(())
 }
 
 /// 128 MiB are placed, filled and relocated.
 #[test]
-fn most_memory(rt: HostRuntime) -> Result<(), Fail> {
-    let script = greatest(rt.alloc())?;
-    let bytes = container(rt.alloc(), &script, &[])?;
-    test_greatest_of(&rt, rt.alloc(), &bytes)
+fn most_memory(rt: HostRuntime) {
+    let script = greatest(&rt, rt.alloc());
+    let bytes = container(rt.alloc(), &script, &[]).expect(&rt, "a container");
+    test_greatest_of(&rt, rt.alloc(), &bytes);
 }

@@ -1,9 +1,8 @@
 use crate::fixture::{LIMIT, context_of, tell_memory};
 use cfm_prepare::{Connection, Context};
-use std::alloc::{AllocError, Global};
+use std::alloc::Global;
 use std::fmt::Write;
 use std::process::Abort;
-use std::test::Fail;
 use test_data::scripts::LIBRARY;
 use test_links::fragments::{Fragment, containers};
 
@@ -18,73 +17,71 @@ const FRAGMENTS: &[Fragment] = &[A, ("L", LIBRARY, &[])];
 
 /// What is told of a connection.
 pub(crate) fn told(
+    rt: &impl Abort,
     alloc: Global,
     context: &Context<'_>,
     connection: Connection,
-) -> Result<String, AllocError> {
+) -> String {
     let mut text = String::new(alloc);
-    tell_connection(&mut text, context, connection)?;
-    Ok(text)
+    tell_connection(rt, &mut text, context, connection);
+    text
 }
 
 fn tell_connection(
+    rt: &impl Abort,
     text: &mut String,
     context: &Context<'_>,
     connection: Connection,
-) -> Result<(), AllocError> {
-    tell_addresses(text, context, connection)?;
+) {
+    tell_addresses(rt, text, context, connection);
     for i in 0..2 {
-        tell_section(text, i, context.section(connection, i))?;
+        tell_section(rt, text, i, context.section(connection, i));
     }
-    tell_order(text, context.init_order(connection))?;
-    tell_order(text, context.fragments(connection))
+    tell_order(rt, text, context.init_order(connection));
+    tell_order(rt, text, context.fragments(connection));
 }
 
 /// The addresses of two symbols and of the main routine.
 fn tell_addresses(
+    rt: &impl Abort,
     text: &mut String,
     context: &Context<'_>,
     connection: Connection,
-) -> Result<(), AllocError> {
-    match context.symbol(connection, b"own") {
-        Some(address) => write!(text, "own {address:08X}")?,
-        None => text.push_str("no own")?,
-    }
-    match context.symbol(connection, b"v") {
-        Some(address) => write!(text, ", v {address:08X}")?,
-        None => text.push_str(", no v")?,
-    }
-    match context.main(connection) {
-        Some(address) => write!(text, ", main {address:08X}"),
-        None => text.push_str(", no main"),
-    }
+) {
+    tell_address(rt, text, "own", context.symbol(connection, b"own"));
+    text.push_str(", ").expect(rt, "memory");
+    tell_address(rt, text, "v", context.symbol(connection, b"v"));
+    text.push_str(", ").expect(rt, "memory");
+    tell_address(rt, text, "main", context.main(connection));
 }
 
-fn tell_section(
-    text: &mut String,
-    i: usize,
-    section: Option<(u32, &[u8])>,
-) -> Result<(), AllocError> {
+fn tell_address(rt: &impl Abort, text: &mut String, name: &str, address: Option<u32>) {
+    let told = match address {
+        Some(address) => write!(text, "{name} {address:08X}"),
+        None => write!(text, "no {name}"),
+    };
+    told.expect(rt, "memory");
+}
+
+fn tell_section(rt: &impl Abort, text: &mut String, i: usize, section: Option<(u32, &[u8])>) {
     match section {
         Some((address, bytes)) => {
-            write!(text, ", {i} at")?;
-            tell_memory(text, address, bytes)
+            write!(text, ", {i} at").expect(rt, "memory");
+            tell_memory(rt, text, address, bytes);
         }
-        None => write!(text, ", no {i}"),
+        None => write!(text, ", no {i}").expect(rt, "memory"),
     }
 }
 
-fn tell_order(text: &mut String, order: Option<&[usize]>) -> Result<(), AllocError> {
-    match order {
-        Some(order) => {
-            text.push_str(", order")?;
-            for p in order {
-                write!(text, " {p}")?;
-            }
-        }
-        None => text.push_str(", no order")?,
+fn tell_order(rt: &impl Abort, text: &mut String, order: Option<&[usize]>) {
+    let Some(order) = order else {
+        text.push_str(", no order").expect(rt, "memory");
+        return;
+    };
+    text.push_str(", order").expect(rt, "memory");
+    for p in order {
+        write!(text, " {p}").expect(rt, "memory");
     }
-    Ok(())
 }
 
 /// Tests what is told of a connection.
@@ -94,18 +91,13 @@ pub(crate) fn test_told(
     context: &Context<'_>,
     connection: u32,
     wanted: &str,
-) -> Result<(), Fail> {
-    let told = told(alloc, context, Connection(connection))?;
+) {
+    let told = told(rt, alloc, context, Connection(connection));
     assert!(rt; told.as_str() == wanted);
-    Ok(())
 }
 
 /// Tests what is told of the first connection in a context, and when it is closed.
-fn test_open_and_closed(
-    rt: &impl Abort,
-    alloc: Global,
-    context: &mut Context<'_>,
-) -> Result<(), Fail> {
+fn test_open_and_closed(rt: &impl Abort, alloc: Global, context: &mut Context<'_>) {
     assert!(rt; context.prepare(b"A").is_ok());
     test_told(
         rt,
@@ -113,7 +105,7 @@ fn test_open_and_closed(
         context,
         0,
         "own 00010014, no v, main 00010014, 0 at 00010010 0001000000000000, no 1, order 1 0, order 1 0",
-    )?;
+    );
     assert!(rt; context.close(Connection(0)).is_ok());
     test_told(
         rt,
@@ -121,14 +113,14 @@ fn test_open_and_closed(
         context,
         0,
         "no own, no v, no main, no 0, no 1, no order, no order",
-    )
+    );
 }
 
 #[test]
-fn readers(rt: HostRuntime) -> Result<(), Fail> {
-    let containers = containers(rt.alloc(), FRAGMENTS)?;
-    let mut context = context_of(rt.alloc(), FRAGMENTS, &containers, LIMIT)?;
-    test_open_and_closed(&rt, rt.alloc(), &mut context)
+fn readers(rt: HostRuntime) {
+    let containers = containers(rt.alloc(), FRAGMENTS).expect(&rt, "containers");
+    let mut context = context_of(&rt, rt.alloc(), FRAGMENTS, &containers, LIMIT);
+    test_open_and_closed(&rt, rt.alloc(), &mut context);
 }
 
 /// The number of a connection to a fragment, or that of its refusal.
@@ -151,9 +143,8 @@ fn use_all_numbers(rt: &impl Abort, context: &mut Context<'_>) {
 }
 
 #[test]
-fn all_numbers(rt: HostRuntime) -> Result<(), Fail> {
-    let containers = containers(rt.alloc(), EMPTY)?;
-    let mut context = context_of(rt.alloc(), EMPTY, &containers, LIMIT)?;
+fn all_numbers(rt: HostRuntime) {
+    let containers = containers(rt.alloc(), EMPTY).expect(&rt, "containers");
+    let mut context = context_of(&rt, rt.alloc(), EMPTY, &containers, LIMIT);
     use_all_numbers(&rt, &mut context);
-    Ok(())
 }

@@ -1,6 +1,5 @@
 use crate::fixture::Step::{Close, Prepare};
 use crate::fixture::{LIMIT, Step, take_steps};
-use std::test::Fail;
 use test_data::scripts::{LIBRARY, USER};
 use test_links::fragments::Fragment;
 
@@ -33,8 +32,8 @@ const SHARED: &[(Step, &str)] = &[
 ];
 
 #[test]
-fn shared_library(rt: HostRuntime) -> Result<(), Fail> {
-    take_steps(&rt, rt.alloc(), USERS, LIMIT, SHARED)
+fn shared_library(rt: HostRuntime) {
+    take_steps(&rt, rt.alloc(), USERS, LIMIT, SHARED);
 }
 
 /// The same users of a library whose word is its own address.
@@ -58,8 +57,8 @@ const RELOCATED_ONCE: &[(Step, &str)] = &[
 ];
 
 #[test]
-fn relocated_once(rt: HostRuntime) -> Result<(), Fail> {
-    take_steps(&rt, rt.alloc(), USERS_OF_RELOCATED, LIMIT, RELOCATED_ONCE)
+fn relocated_once(rt: HostRuntime) {
+    take_steps(&rt, rt.alloc(), USERS_OF_RELOCATED, LIMIT, RELOCATED_ONCE);
 }
 
 /// What finds no room leaves nothing.
@@ -69,8 +68,8 @@ const NO_ROOM: &[(Step, &str)] = &[
 ];
 
 #[test]
-fn no_room(rt: HostRuntime) -> Result<(), Fail> {
-    take_steps(&rt, rt.alloc(), USERS, 0x0001_0010, NO_ROOM)
+fn no_room(rt: HostRuntime) {
+    take_steps(&rt, rt.alloc(), USERS, 0x0001_0010, NO_ROOM);
 }
 
 /// Two libraries, and a third, D, that both share.
@@ -126,6 +125,6 @@ const TWENTY: &[(Step, &str)] = &[
 ];
 
 #[test]
-fn twenty_steps(rt: HostRuntime) -> Result<(), Fail> {
-    take_steps(&rt, rt.alloc(), SHARERS, LIMIT, TWENTY)
+fn twenty_steps(rt: HostRuntime) {
+    take_steps(&rt, rt.alloc(), SHARERS, LIMIT, TWENTY);
 }

@@ -4,10 +4,9 @@ use pef_loader::Loader;
 use pef_reloc::{Base, Instr};
 use pef_views::Container;
 use pef_write::Linked;
-use std::alloc::{AllocError, Global};
+use std::alloc::Global;
 use std::fmt::Write;
 use std::process::Abort;
-use std::test::Fail;
 use test_data::labels::{VECTORS_LABELS, labels};
 use test_data::lists::{Listed, S0, S1, S2, spelled};
 use test_links::link_text;
@@ -48,84 +47,70 @@ const OWN: usize = 1;
 const IMPORTS: u32 = 601;
 
 /// The lines of the library and its imports.
-fn push_imports(text: &mut String) -> Result<(), AllocError> {
-    text.push_str("library Tools 1 0 -\n")?;
+fn push_imports(rt: &impl Abort, text: &mut String) {
+    text.push_str("library Tools 1 0 -\n").expect(rt, "memory");
     for number in 0..IMPORTS {
-        write!(text, "import i{number} data strong\n")?;
+        write!(text, "import i{number} data strong\n").expect(rt, "memory");
     }
-    Ok(())
 }
 
 /// The lines of three sections.
-fn push_sections(text: &mut String) -> Result<(), AllocError> {
+fn push_sections(rt: &impl Abort, text: &mut String) {
     for number in 0..3 {
-        write!(text, "section s{number} data process 4 8192\n")?;
+        write!(text, "section s{number} data process 4 8192\n").expect(rt, "memory");
     }
-    Ok(())
 }
 
 /// The lines of the fixups of the second section.
-fn push_listed(text: &mut String, listed: &[(u32, Base)]) -> Result<(), AllocError> {
+fn push_listed(rt: &impl Abort, text: &mut String, listed: &[(u32, Base)]) {
     for (offset, base) in listed {
-        push_fixup(text, *offset, *base)?;
+        push_fixup(rt, text, *offset, *base);
     }
-    Ok(())
 }
 
 /// The line of a fixup of the second section.
-fn push_fixup(text: &mut String, offset: u32, base: Base) -> Result<(), AllocError> {
-    match base {
+fn push_fixup(rt: &impl Abort, text: &mut String, offset: u32, base: Base) {
+    let pushed = match base {
         Base::Section(number) => write!(text, "fix s{OWN} {offset} section s{number}\n"),
         Base::Import(number) => write!(text, "fix s{OWN} {offset} import i{number}\n"),
-    }
+    };
+    pushed.expect(rt, "memory");
 }
 
 /// A script of three sections, of which the second has these fixups.
-fn script_of(alloc: Global, listed: &[(u32, Base)]) -> Result<String, AllocError> {
+fn script_of(rt: &impl Abort, alloc: Global, listed: &[(u32, Base)]) -> String {
     let mut text = String::new(alloc);
-    push_imports(&mut text)?;
-    push_sections(&mut text)?;
-    push_listed(&mut text, listed)?;
-    Ok(text)
+    push_imports(rt, &mut text);
+    push_sections(rt, &mut text);
+    push_listed(rt, &mut text, listed);
+    text
 }
 
 /// How many relocation headers a container has, and the section and the program of the first.
-fn first_header(bytes: &[u8]) -> Result<(u32, u32, &[u8]), Fail> {
-    let container = Container::read(bytes)?;
-    let loader = Loader::read(&container)?;
+fn first_header<'a>(rt: &impl Abort, bytes: &'a [u8]) -> (u32, u32, &'a [u8]) {
+    let container = Container::read(bytes).expect(rt, "a container");
+    let loader = Loader::read(&container).expect(rt, "a loader section");
     let (section, program) = loader.reloc(0).unwrap_or((0, &[]));
-    Ok((loader.header().reloc_count, section, program))
+    (loader.header().reloc_count, section, program)
 }
 
 /// Tests that a section's certificate has the program that is written.
-fn test_written(
-    rt: &impl Abort,
-    alloc: Global,
-    linked: &Linked,
-    section: u32,
-    written: &[u8],
-) -> Result<(), Fail> {
-    let certificate = certificate_of(rt, linked, section)?;
+fn test_written(rt: &impl Abort, alloc: Global, linked: &Linked, section: u32, written: &[u8]) {
+    let certificate = certificate_of(rt, linked, section);
     assert!(rt; section == OWN as u32);
-    test_spelled(rt, alloc, certificate, written)
+    test_spelled(rt, alloc, certificate, written);
 }
 
 /// Tests that a certificate has the program that these bytes spell.
-fn test_spelled(
-    rt: &impl Abort,
-    alloc: Global,
-    certificate: &Certificate,
-    written: &[u8],
-) -> Result<(), Fail> {
-    let program = spelled(alloc, written)?;
+fn test_spelled(rt: &impl Abort, alloc: Global, certificate: &Certificate, written: &[u8]) {
+    let program = spelled(alloc, written).expect(rt, "instructions");
     assert!(rt; certificate.program == program);
-    Ok(())
 }
 
 /// Links a script whose second section has these fixups.
-fn link_listed(alloc: Global, listed: &[(u32, Base)]) -> Result<Linked, Fail> {
-    let text = script_of(alloc, listed)?;
-    link_text(alloc, text.as_bytes())
+fn link_listed(rt: &impl Abort, alloc: Global, listed: &[(u32, Base)]) -> Linked {
+    let text = script_of(rt, alloc, listed);
+    link_text(alloc, text.as_bytes()).expect(rt, "a container")
 }
 
 /// Tests the length of the section's program, and its bytes where some are given.
@@ -144,14 +129,13 @@ fn test_linked(
     fixups: usize,
     halfwords: u32,
     bytes: &[u8],
-) -> Result<(), Fail> {
-    let (headers, section, written) = first_header(&linked.bytes)?;
+) {
+    let (headers, section, written) = first_header(rt, &linked.bytes);
     assert!(rt; headers == u32::from(fixups > 0));
     test_bytes(rt, linked, written, halfwords, bytes);
     if headers > 0 {
-        test_written(rt, alloc, linked, section, written)?;
+        test_written(rt, alloc, linked, section, written);
     }
-    Ok(())
 }
 
 /// Tests the program of the section with these fixups: its length, that it is the one of the certificate,
@@ -162,36 +146,32 @@ fn test_program(
     listed: &[(u32, Base)],
     halfwords: u32,
     bytes: &[u8],
-) -> Result<(), Fail> {
-    let linked = link_listed(alloc, listed)?;
-    test_linked(rt, alloc, &linked, listed.len(), halfwords, bytes)
+) {
+    let linked = link_listed(rt, alloc, listed);
+    test_linked(rt, alloc, &linked, listed.len(), halfwords, bytes);
 }
 
 /// Tests the program of each of some lists.
-fn test_programs(
-    rt: &impl Abort,
-    alloc: Global,
-    rows: &[(Listed, u32, &[u8])],
-) -> Result<(), Fail> {
+fn test_programs(rt: &impl Abort, alloc: Global, rows: &[(Listed, u32, &[u8])]) {
     for row in rows {
         let (listed, halfwords, bytes) = *row;
-        test_program(rt, alloc, listed, halfwords, bytes)?;
+        test_program(rt, alloc, listed, halfwords, bytes);
     }
-    Ok(())
 }
 
 #[test]
-fn shortest_programs(rt: HostRuntime) -> Result<(), Fail> {
-    test_programs(&rt, rt.alloc(), LISTS)
+fn shortest_programs(rt: HostRuntime) {
+    test_programs(&rt, rt.alloc(), LISTS);
 }
 
 /// Words of section 1 in a row, from an offset on.
-fn words(alloc: Global, count: u32, from: u32) -> Result<Vec<(u32, Base)>, AllocError> {
+fn words(rt: &impl Abort, alloc: Global, count: u32, from: u32) -> Vec<(u32, Base)> {
     let mut listed = Vec::new(alloc);
     for i in 0..count {
-        listed.push((from.wrapping_add(i.wrapping_mul(4)), S1))?;
+        let offset = from.wrapping_add(i.wrapping_mul(4));
+        listed.push((offset, S1)).expect(rt, "memory");
     }
-    Ok(listed)
+    listed
 }
 
 /// How many words in a row, the offset of the first, how many halfwords their program has, and its bytes
@@ -203,13 +183,12 @@ const IN_A_ROW: &[(u32, u32, u32, &[u8])] = &[
 ];
 
 #[test]
-fn words_in_a_row(rt: HostRuntime) -> Result<(), Fail> {
+fn words_in_a_row(rt: HostRuntime) {
     for row in IN_A_ROW {
         let (count, from, halfwords, bytes) = *row;
-        let listed = words(rt.alloc(), count, from)?;
-        test_program(&rt, rt.alloc(), &listed, halfwords, bytes)?;
+        let listed = words(&rt, rt.alloc(), count, from);
+        test_program(&rt, rt.alloc(), &listed, halfwords, bytes);
     }
-    Ok(())
 }
 
 /// Two transition vectors, side by side, of which each has the code's address and the data's.
@@ -244,43 +223,26 @@ fn test_program_and_registers(
 }
 
 /// Tests the labels of a certificate.
-fn test_labels(
-    rt: &impl Abort,
-    alloc: Global,
-    certificate: &Certificate,
-    wanted: &[u32],
-) -> Result<(), Fail> {
+fn test_labels(rt: &impl Abort, alloc: Global, certificate: &Certificate, wanted: &[u32]) {
     let section = certificate.section;
-    let labels = labels(alloc, certificate)?;
+    let labels = labels(alloc, certificate).expect(rt, "memory");
     assert!(rt; labels.as_slice() == wanted, "section {section}");
-    Ok(())
 }
 
 /// The certificate of a section.
-fn certificate_of<'a>(
-    rt: &impl Abort,
-    linked: &'a Linked,
-    section: u32,
-) -> Result<&'a Certificate, Fail> {
-    let certificate = linked
-        .certificates
-        .get(section as usize)
-        .ok_or("no certificate")?;
+fn certificate_of<'a>(rt: &impl Abort, linked: &'a Linked, section: u32) -> &'a Certificate {
+    let found = linked.certificates.get(section as usize);
+    let certificate = found.expect(rt, "a certificate");
     assert!(rt; certificate.section == section);
-    Ok(certificate)
+    certificate
 }
 
 /// Tests the certificate of a section.
-fn test_certificate(
-    rt: &impl Abort,
-    alloc: Global,
-    linked: &Linked,
-    certified: &Certified,
-) -> Result<(), Fail> {
+fn test_certificate(rt: &impl Abort, alloc: Global, linked: &Linked, certified: &Certified) {
     let (section, program, registers, labels) = *certified;
-    let certificate = certificate_of(rt, linked, section)?;
+    let certificate = certificate_of(rt, linked, section);
     test_program_and_registers(rt, certificate, program, registers);
-    test_labels(rt, alloc, certificate, labels)
+    test_labels(rt, alloc, certificate, labels);
 }
 
 /// Tests that the certificates are in the order of the sections.
@@ -297,16 +259,15 @@ fn test_two_certificates(rt: &impl Abort, linked: &Linked) {
 }
 
 /// Tests the certificates of the vectors.
-fn test_certificates(rt: &impl Abort, alloc: Global, linked: &Linked) -> Result<(), Fail> {
+fn test_certificates(rt: &impl Abort, alloc: Global, linked: &Linked) {
     for certified in CERTIFIED {
-        test_certificate(rt, alloc, linked, certified)?;
+        test_certificate(rt, alloc, linked, certified);
     }
     test_two_certificates(rt, linked);
-    Ok(())
 }
 
 #[test]
-fn certificates(rt: HostRuntime) -> Result<(), Fail> {
-    let linked = link_text(rt.alloc(), VECTORS)?;
-    test_certificates(&rt, rt.alloc(), &linked)
+fn certificates(rt: HostRuntime) {
+    let linked = link_text(rt.alloc(), VECTORS).expect(&rt, "a container");
+    test_certificates(&rt, rt.alloc(), &linked);
 }

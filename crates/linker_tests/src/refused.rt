@@ -11,10 +11,10 @@ use test_data::refusals::{say_answered, say_begins};
 use test_data::scripts::VECTORS;
 
 /// Links a script, and once more where memory is refused, and says whether that was so.
-fn link_refused(alloc: Global, script: &Script<'_>) -> Result<(Linked, bool), LinkFault> {
+fn link_refused(rt: &impl Abort, alloc: Global, script: &Script<'_>) -> (Linked, bool) {
     match link(alloc, script) {
-        Ok(linked) => Ok((linked, false)),
-        Err(LinkFault::OutOfMemory) => Ok((link(alloc, script)?, true)),
+        Ok(linked) => (linked, false),
+        Err(LinkFault::OutOfMemory) => (link(alloc, script).expect(rt, "memory"), true),
     }
 }
 
@@ -26,7 +26,7 @@ fn link_again(
     container: &[u8],
 ) -> Result<(), Fail> {
     say_begins(rt)?;
-    let (linked, refused) = link_refused(alloc, script)?;
+    let (linked, refused) = link_refused(rt, alloc, script);
     assert!(rt;
         linked.bytes.as_slice() == container,
         "{} bytes",
@@ -39,6 +39,6 @@ fn link_again(
 #[test]
 fn linked_again(rt: HostRuntime) -> Result<(), Fail> {
     let alloc = rt.alloc();
-    let script = pef_script_text::read(alloc, VECTORS)?;
+    let script = pef_script_text::read(alloc, VECTORS).expect(&rt, "a script");
     link_again(&rt, alloc, &script, VECTORS_LEAST)
 }

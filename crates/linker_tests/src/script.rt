@@ -1,9 +1,8 @@
 use pef_reloc::{Base, Fixup};
 use pef_script::Script;
-use std::alloc::{AllocError, Global};
+use std::alloc::Global;
 use std::fmt::Write;
 use std::process::Abort;
-use std::test::Fail;
 use test_data::limits::{Spaced, at_all_limits, push_fixups};
 
 /// The number and the line of a refusal, or `None` where the text is read.
@@ -126,19 +125,18 @@ const FIRST_FAULTS: &[(&str, (u32, usize))] = &[
 ];
 
 /// The refusal of the two lines above with a third.
-fn refusal_of_third(alloc: Global, line: &str) -> Result<Refusal, AllocError> {
-    let text = format!(in alloc; "{TWO_LINES}{line}")?;
-    Ok(refusal(alloc, &text))
+fn refusal_of_third(rt: &impl Abort, alloc: Global, line: &str) -> Refusal {
+    let text = format!(in alloc; "{TWO_LINES}{line}").expect(rt, "memory");
+    refusal(alloc, &text)
 }
 
 #[test]
-fn read_third_lines(rt: HostRuntime) -> Result<(), Fail> {
+fn read_third_lines(rt: HostRuntime) {
     for row in THIRD_LINES {
         let (line, number) = *row;
         let wanted = if number == 0 { None } else { Some((number, 3)) };
-        assert!(rt; refusal_of_third(rt.alloc(), line)? == wanted, "{line}");
+        assert!(rt; refusal_of_third(&rt, rt.alloc(), line) == wanted, "{line}");
     }
-    Ok(())
 }
 
 #[test]
@@ -264,26 +262,26 @@ fn test_parts(rt: &impl Abort, script: &Script) {
 }
 
 #[test]
-fn parts(rt: HostRuntime) -> Result<(), Fail> {
-    let script = pef_script_text::read(rt.alloc(), EVERY_LINE.as_bytes())?;
-    test_parts(&rt, &script);
-    Ok(())
+fn parts(rt: HostRuntime) {
+    let read = pef_script_text::read(rt.alloc(), EVERY_LINE.as_bytes());
+    test_parts(&rt, &read.expect(&rt, "a script"));
 }
 
 /// So many lines that declare names, behind a first line.
 fn names(
+    rt: &impl Abort,
     alloc: Global,
     first: &str,
     front: &str,
     count: u32,
     end: &str,
-) -> Result<String, AllocError> {
+) -> String {
     let mut text = String::new(alloc);
-    text.push_str(first)?;
+    text.push_str(first).expect(rt, "memory");
     for number in 0..count {
-        write!(text, "\n{front}{number}{end}")?;
+        write!(text, "\n{front}{number}{end}").expect(rt, "memory");
     }
-    Ok(text)
+    text
 }
 
 /// A first line, what the lines behind it begin and end with, and how many of them are read.
@@ -301,74 +299,68 @@ const COUNTS: &[(&str, &str, &str, u32)] = &[
 
 /// The refusal of so many lines that declare names, behind a first line.
 fn refusal_of_names(
+    rt: &impl Abort,
     alloc: Global,
     first: &str,
     front: &str,
     count: u32,
     end: &str,
-) -> Result<Refusal, AllocError> {
-    let text = names(alloc, first, front, count, end)?;
-    Ok(refusal(alloc, &text))
+) -> Refusal {
+    let text = names(rt, alloc, first, front, count, end);
+    refusal(alloc, &text)
 }
 
 /// Tests that so many names are read, and no more.
-fn test_most_names(
-    rt: &impl Abort,
-    alloc: Global,
-    row: &(&str, &str, &str, u32),
-) -> Result<(), Fail> {
+fn test_most_names(rt: &impl Abort, alloc: Global, row: &(&str, &str, &str, u32)) {
     let (first, front, end, most) = *row;
-    let read = refusal_of_names(alloc, first, front, most, end)?;
-    let refused = refusal_of_names(alloc, first, front, most.wrapping_add(1), end)?;
+    let read = refusal_of_names(rt, alloc, first, front, most, end);
+    let refused = refusal_of_names(rt, alloc, first, front, most.wrapping_add(1), end);
     let wanted = (None, Some((48, most as usize + 2)));
     assert!(rt; (read, refused) == wanted, "{front}");
-    Ok(())
 }
 
 #[test]
-fn read_most_names(rt: HostRuntime) -> Result<(), Fail> {
+fn read_most_names(rt: HostRuntime) {
     for row in COUNTS {
-        test_most_names(&rt, rt.alloc(), row)?;
+        test_most_names(&rt, rt.alloc(), row);
     }
-    Ok(())
 }
 
 /// A library and imports, whose names of 255 bytes have all the bytes that names may have.
-fn longest_names(alloc: Global) -> Result<String, AllocError> {
+fn longest_names(rt: &impl Abort, alloc: Global) -> String {
     let mut text = String::new(alloc);
-    write!(text, "library {:0255} 1 0 -", 0)?;
+    write!(text, "library {:0255} 1 0 -", 0).expect(rt, "memory");
     for number in 0..32_767 {
-        write!(text, "\nimport {number:0255} data strong")?;
+        write!(text, "\nimport {number:0255} data strong").expect(rt, "memory");
     }
-    Ok(text)
+    text
 }
 
 /// The refusal of a text with one more import.
-fn refusal_of_one_more(alloc: Global, text: &str) -> Result<Refusal, AllocError> {
-    let more = format!(in alloc; "{text}\nimport x data strong")?;
-    Ok(refusal(alloc, &more))
+fn refusal_of_one_more(rt: &impl Abort, alloc: Global, text: &str) -> Refusal {
+    let more = format!(in alloc; "{text}\nimport x data strong").expect(rt, "memory");
+    refusal(alloc, &more)
 }
 
 /// The refusals of the longest names, and of these with one more.
-fn refusals_of_longest(alloc: Global) -> Result<(Refusal, Refusal), AllocError> {
-    let text = longest_names(alloc)?;
-    let more = refusal_of_one_more(alloc, &text)?;
-    Ok((refusal(alloc, &text), more))
+fn refusals_of_longest(rt: &impl Abort, alloc: Global) -> (Refusal, Refusal) {
+    let text = longest_names(rt, alloc);
+    let more = refusal_of_one_more(rt, alloc, &text);
+    (refusal(alloc, &text), more)
 }
 
 /// The refusal of a name of 256 bytes.
-fn refusal_of_longer(alloc: Global) -> Result<Refusal, AllocError> {
-    let longer = format!(in alloc; "library {:0256} 1 0 -", 0)?;
-    Ok(refusal(alloc, &longer))
+fn refusal_of_longer(rt: &impl Abort, alloc: Global) -> Refusal {
+    let longer = format!(in alloc; "library {:0256} 1 0 -", 0).expect(rt, "memory");
+    refusal(alloc, &longer)
 }
 
 /// Names of 255 bytes, with one more for each, that have all the bytes that names may have.
 #[test]
-fn read_longest_names(rt: HostRuntime) -> Result<(), Fail> {
-    let longest = refusals_of_longest(rt.alloc())?;
+fn read_longest_names(rt: HostRuntime) {
+    let longest = refusals_of_longest(&rt, rt.alloc());
     assert!(rt; longest == (None, Some((48, 32_769))));
-    assert!(rt; refusal_of_longer(rt.alloc())? == Some((41, 1)));
-    Ok(())
+    assert!(rt; refusal_of_longer(&rt, rt.alloc()) == Some((41, 1)));
 }
 
 /// How many fixups side by side, a last line, and the refusal.
@@ -382,26 +374,25 @@ const FIXUPS: &[(u32, &str, Refusal)] = &[
 ];
 
 /// The refusal of a section with so many fixups side by side, and a last line.
-fn refusal_of_fixups(alloc: Global, count: u32, last: &str) -> Result<Refusal, AllocError> {
-    let mut text = format!(in alloc; "section s data process 0 65544\n")?;
+fn refusal_of_fixups(rt: &impl Abort, alloc: Global, count: u32, last: &str) -> Refusal {
+    let mut text = format!(in alloc; "section s data process 0 65544\n").expect(rt, "memory");
     let fixups = Spaced {
         first: 0,
         step: 4,
         count,
     };
-    push_fixups(&mut text, "s", fixups, "section s")?;
-    text.push_str(last)?;
-    Ok(refusal(alloc, &text))
+    push_fixups(&mut text, "s", fixups, "section s").expect(rt, "memory");
+    text.push_str(last).expect(rt, "memory");
+    refusal(alloc, &text)
 }
 
 #[test]
-fn read_most_fixups(rt: HostRuntime) -> Result<(), Fail> {
+fn read_most_fixups(rt: HostRuntime) {
     for row in FIXUPS {
         let (count, last, wanted) = *row;
-        let found = refusal_of_fixups(rt.alloc(), count, last)?;
+        let found = refusal_of_fixups(&rt, rt.alloc(), count, last);
         assert!(rt; found == wanted, "{count} and {last}");
     }
-    Ok(())
 }
 
 /// Tests how many there are of each in the script at all limits.
@@ -411,14 +402,13 @@ fn test_most_of_all(rt: &impl Abort, script: &Script) {
 }
 
 /// Tests the script at all limits, which is read from this text.
-fn test_most_of_text(rt: &impl Abort, alloc: Global, text: &str) -> Result<(), Fail> {
-    let script = pef_script_text::read(alloc, text.as_bytes())?;
+fn test_most_of_text(rt: &impl Abort, alloc: Global, text: &str) {
+    let script = pef_script_text::read(alloc, text.as_bytes()).expect(rt, "a script");
     test_most_of_all(rt, &script);
-    Ok(())
 }
 
 #[test]
-fn read_most_of_all(rt: HostRuntime) -> Result<(), Fail> {
-    let text = at_all_limits(rt.alloc())?;
-    test_most_of_text(&rt, rt.alloc(), &text)
+fn read_most_of_all(rt: HostRuntime) {
+    let text = at_all_limits(rt.alloc()).expect(&rt, "memory");
+    test_most_of_text(&rt, rt.alloc(), &text);
 }

@@ -1,9 +1,8 @@
 use pef_loader::Loader;
 use pef_views::Container;
 use pef_write::{LinkFault, Linked};
-use std::alloc::{AllocError, Global};
+use std::alloc::Global;
 use std::process::Abort;
-use std::test::Fail;
 use test_data::containers::VECTORS_LEAST;
 use test_data::limits::{
     EXPORTS, FIXUPS, IMPORTS, IMPORTS_EACH, LIBRARIES, SECTIONS, Spaced, push_fixups, push_sections,
@@ -133,19 +132,17 @@ fn test_linked(rt: &impl Abort, linked: &Linked, bytes: &[u8], lengths: &[u32]) 
 }
 
 /// Links a script, and tests what comes of it.
-fn test_link(rt: &impl Abort, alloc: Global, row: &Row) -> Result<(), Fail> {
+fn test_link(rt: &impl Abort, alloc: Global, row: &Row) {
     let (text, bytes, lengths) = *row;
-    let linked = link_text(alloc, text)?;
+    let linked = link_text(alloc, text).expect(rt, "a container");
     test_linked(rt, &linked, bytes, lengths);
-    Ok(())
 }
 
 #[test]
-fn linked(rt: HostRuntime) -> Result<(), Fail> {
+fn linked(rt: HostRuntime) {
     for row in LINKED {
-        test_link(&rt, rt.alloc(), row)?;
+        test_link(&rt, rt.alloc(), row);
     }
-    Ok(())
 }
 
 /// How many bytes a section may have.
@@ -157,60 +154,56 @@ const LINE_BYTES: u32 = 16_384;
 /// A script that has as much of everything as one may have: the names have 8,388,608 bytes with their ends,
 /// the first two sections are full, and no two fixups adjoin, so that each takes three halfwords: a move, and
 /// two for an import with a great number.
-fn greatest_script(alloc: Global) -> Result<String, AllocError> {
+fn greatest_script(rt: &impl Abort, alloc: Global) -> String {
     let mut text = String::new(alloc);
-    push_greatest(alloc, &mut text)?;
-    Ok(text)
+    push_greatest(rt, alloc, &mut text);
+    text
 }
 
 /// The lines of the greatest script.
-fn push_greatest(alloc: Global, text: &mut String) -> Result<(), AllocError> {
-    push_libraries(text)?;
-    push_sections(text, 12, TOTAL)?;
-    push_contents(alloc, text)?;
-    push_exports(text)
+fn push_greatest(rt: &impl Abort, alloc: Global, text: &mut String) {
+    push_libraries(rt, text);
+    push_sections(text, 12, TOTAL).expect(rt, "memory");
+    push_contents(rt, alloc, text);
+    push_exports(rt, text);
 }
 
 /// The lines for all libraries with their imports.
-fn push_libraries(text: &mut String) -> Result<(), AllocError> {
-    write!(text, "library {:0223} 1 0 -\n", 0)?;
-    push_imports(text, 0)?;
+fn push_libraries(rt: &impl Abort, text: &mut String) {
+    write!(text, "library {:0223} 1 0 -\n", 0).expect(rt, "memory");
+    push_imports(rt, text, 0);
     for library in 1..LIBRARIES {
-        write!(text, "library {library:0127} 1 0 weak\n")?;
-        push_imports(text, library)?;
+        write!(text, "library {library:0127} 1 0 weak\n").expect(rt, "memory");
+        push_imports(rt, text, library);
     }
-    Ok(())
 }
 
 /// The lines for the contents of a full section.
-fn push_full_section(alloc: Global, text: &mut String, section: &str) -> Result<(), AllocError> {
-    let zeros = format!(in alloc; "bytes {section} {:032768}\n", 0)?;
-    push_times(text, &zeros, TOTAL / LINE_BYTES)
+fn push_full_section(rt: &impl Abort, alloc: Global, text: &mut String, section: &str) {
+    let zeros = format!(in alloc; "bytes {section} {:032768}\n", 0).expect(rt, "memory");
+    push_times(rt, text, &zeros, TOTAL / LINE_BYTES);
 }
 
 /// A line, so many times.
-fn push_times(text: &mut String, line: &str, times: u32) -> Result<(), AllocError> {
+fn push_times(rt: &impl Abort, text: &mut String, line: &str, times: u32) {
     for _ in 0..times {
-        text.push_str(line)?;
+        text.push_str(line).expect(rt, "memory");
     }
-    Ok(())
 }
 
 /// The lines for the exports.
-fn push_exports(text: &mut String) -> Result<(), AllocError> {
+fn push_exports(rt: &impl Abort, text: &mut String) {
     for export in 0..EXPORTS {
-        write!(text, "export {export:095} tvector s7 {export}\n")?;
+        write!(text, "export {export:095} tvector s7 {export}\n").expect(rt, "memory");
     }
-    Ok(())
 }
 
 /// The lines for the imports of a library.
-fn push_imports(text: &mut String, library: u32) -> Result<(), AllocError> {
+fn push_imports(rt: &impl Abort, text: &mut String, library: u32) {
     for import in 0..IMPORTS_EACH {
         let number = library.wrapping_mul(IMPORTS_EACH).wrapping_add(import);
-        write!(text, "import {number:095} data weak\n")?;
+        write!(text, "import {number:095} data weak\n").expect(rt, "memory");
     }
-    Ok(())
 }
 
 /// The fixups of a section: 1,024 bytes apart.
@@ -222,33 +215,32 @@ const FAR: Spaced = Spaced {
 
 /// The lines for the contents of all sections: the bytes of the first two, and in each the address of the
 /// last import, 1,024 bytes apart.
-fn push_contents(alloc: Global, text: &mut String) -> Result<(), AllocError> {
-    let base = format!(in alloc; "import {:095}", IMPORTS - 1)?;
+fn push_contents(rt: &impl Abort, alloc: Global, text: &mut String) {
+    let base = format!(in alloc; "import {:095}", IMPORTS - 1).expect(rt, "memory");
     for section in &SECTIONS[..2] {
-        push_full_section(alloc, text, section)?;
-        push_fixups(text, section, FAR, &base)?;
+        push_full_section(rt, alloc, text, section);
+        push_fixups(text, section, FAR, &base).expect(rt, "memory");
     }
     for section in &SECTIONS[2..] {
-        push_fixups(text, section, FAR, &base)?;
+        push_fixups(text, section, FAR, &base).expect(rt, "memory");
     }
-    Ok(())
 }
 
 /// The first import of a library, and how many it has.
-fn imports_of(loader: &Loader<'_>, l: usize) -> Option<(u32, u32)> {
-    let library = loader.library(l)?;
-    Some((library.first, library.count))
+fn imports_of(rt: &impl Abort, loader: &Loader<'_>, l: usize) -> (u32, u32) {
+    let library = loader.library(l).expect(rt, "a library");
+    (library.first, library.count)
 }
 
 /// The library of an import.
-fn library_of(loader: &Loader<'_>, j: usize) -> Option<usize> {
-    Some(loader.import(j)?.library)
+fn library_of(rt: &impl Abort, loader: &Loader<'_>, j: usize) -> usize {
+    loader.import(j).expect(rt, "an import").library
 }
 
 /// The section of a relocation header, and how many bytes its program has.
-fn program_of(loader: &Loader<'_>, h: usize) -> Option<(u32, usize)> {
-    let (section, program) = loader.reloc(h)?;
-    Some((section, program.len()))
+fn program_of(rt: &impl Abort, loader: &Loader<'_>, h: usize) -> (u32, usize) {
+    let (section, program) = loader.reloc(h).expect(rt, "a relocation header");
+    (section, program.len())
 }
 
 /// Tests how many there are of each in the loader section of the greatest script.
@@ -260,9 +252,9 @@ fn test_greatest_counts(rt: &impl Abort, loader: &Loader<'_>) {
 
 /// Tests the last library, the last import and the last program of the greatest script.
 fn test_greatest_last(rt: &impl Abort, loader: &Loader<'_>) {
-    let found = (imports_of(loader, 4095), library_of(loader, 65_535));
-    assert!(rt; found == (Some((65_520, 16)), Some(4095)));
-    assert!(rt; program_of(loader, 7) == Some((7, 98_304)));
+    assert!(rt; imports_of(rt, loader, 4095) == (65_520, 16));
+    assert!(rt; library_of(rt, loader, 65_535) == 4095);
+    assert!(rt; program_of(rt, loader, 7) == (7, 98_304));
 }
 
 /// Tests the container of the greatest script: how many sections it has, and the length of the second.
@@ -272,25 +264,24 @@ fn test_greatest_container(rt: &impl Abort, container: &Container<'_>) {
 }
 
 /// Tests the loader section of the greatest script.
-fn test_greatest_loader(rt: &impl Abort, container: &Container<'_>) -> Result<(), Fail> {
-    let loader = Loader::read(container)?;
+fn test_greatest_loader(rt: &impl Abort, container: &Container<'_>) {
+    let loader = Loader::read(container).expect(rt, "a loader section");
     test_greatest_counts(rt, &loader);
     test_greatest_last(rt, &loader);
-    Ok(())
 }
 
 /// Tests the container of the greatest script and its loader section.
-fn test_greatest(rt: &impl Abort, bytes: &[u8]) -> Result<(), Fail> {
-    let container = Container::read(bytes)?;
+fn test_greatest(rt: &impl Abort, bytes: &[u8]) {
+    let container = Container::read(bytes).expect(rt, "a container");
     test_greatest_container(rt, &container);
-    test_greatest_loader(rt, &container)
+    test_greatest_loader(rt, &container);
 }
 
 /// Tests how many halfwords the programs of the greatest script have, and its container.
-fn test_greatest_linked(rt: &impl Abort, linked: &Linked) -> Result<(), Fail> {
+fn test_greatest_linked(rt: &impl Abort, linked: &Linked) {
     assert!(rt; linked.lengths.as_slice() == [49_152; 8].as_slice());
     assert!(rt; linked.bytes.len() == 43_311_550);
-    test_greatest(rt, &linked.bytes)
+    test_greatest(rt, &linked.bytes);
 }
 
 /// The greatest script is linked, and read back. Its container has 304 bytes of headers, the two full
@@ -298,15 +289,14 @@ fn test_greatest_linked(rt: &impl Abort, linked: &Linked) -> Result<(), Fail> {
 /// a fixup, the names without the ends of those of exports and 3 zeros, and 2,048 slots, a key and ten bytes
 /// an export.
 #[test]
-fn linked_greatest(rt: HostRuntime) -> Result<(), Fail> {
-    let text = greatest_script(rt.alloc())?;
-    let linked = link_text(rt.alloc(), text.as_bytes())?;
-    test_greatest_linked(&rt, &linked)
+fn linked_greatest(rt: HostRuntime) {
+    let text = greatest_script(&rt, rt.alloc());
+    let linked = link_text(rt.alloc(), text.as_bytes()).expect(&rt, "a container");
+    test_greatest_linked(&rt, &linked);
 }
 
 #[test]
-fn shown(rt: HostRuntime) -> Result<(), Fail> {
-    let text = format!(in rt.alloc(); "{}", LinkFault::OutOfMemory)?;
+fn shown(rt: HostRuntime) {
+    let text = format!(in rt.alloc(); "{}", LinkFault::OutOfMemory).expect(&rt, "memory");
     assert!(rt; text.as_str() == "OutOfMemory");
-    Ok(())
 }

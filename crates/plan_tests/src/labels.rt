@@ -2,7 +2,6 @@ use crate::plans::planned;
 use pef_labels::Certificate;
 use std::alloc::Global;
 use std::process::Abort;
-use std::test::Fail;
 use test_data::labels::{
     CROSSED, IMPORTS_TWICE, Labelled, PAIR_THEN_FAR, PAIR_THEN_NEAR, SHORTER, SKIPPED, SPACED,
     TRANSITION, VTABLE, VTABLE_FAR, labels,
@@ -23,25 +22,23 @@ const LABELS: &[Labelled] = &[
 ];
 
 /// Plans a list and compares the registers and the labels.
-fn assert_labels(rt: &impl Abort, alloc: Global, labelled: Labelled) -> Result<(), Fail> {
+fn assert_labels(rt: &impl Abort, alloc: Global, labelled: Labelled) {
     let (listed, registers, wanted) = labelled;
-    let certificate = planned_of(rt, alloc, listed)?;
+    let certificate = planned_of(rt, alloc, listed);
     assert!(rt; certificate.registers.as_slice() == registers, "{listed:?}");
-    let found = labels(alloc, &certificate)?;
+    let found = labels(alloc, &certificate).expect(rt, "memory");
     assert!(rt; found.as_slice() == wanted, "{listed:?}");
-    Ok(())
 }
 
 /// The plan of a list.
-fn planned_of(rt: &impl Abort, alloc: Global, listed: Listed) -> Result<Certificate, Fail> {
-    let fixups = fixups(alloc, listed)?;
+fn planned_of(rt: &impl Abort, alloc: Global, listed: Listed) -> Certificate {
+    let fixups = fixups(alloc, listed).expect(rt, "memory");
     planned(rt, alloc, &fixups)
 }
 
 #[test]
-fn labels_are_least(rt: HostRuntime) -> Result<(), Fail> {
+fn labels_are_least(rt: HostRuntime) {
     for row in LABELS {
-        assert_labels(&rt, rt.alloc(), *row)?;
+        assert_labels(&rt, rt.alloc(), *row);
     }
-    Ok(())
 }

@@ -1,7 +1,7 @@
 use crate::plans::assert_length;
 use pef_reloc::Base;
-use std::alloc::{AllocError, Global};
-use std::test::Fail;
+use std::alloc::Global;
+use std::process::Abort;
 use test_data::lists::{Listed, S0, S1, S2, S3, fixups};
 
 /// Fixups, and the least length of a program for them.
@@ -70,22 +70,22 @@ const LEAST_LENGTHS: &[(Listed, u64)] = &[
 ];
 
 #[test]
-fn least_lengths(rt: HostRuntime) -> Result<(), Fail> {
+fn least_lengths(rt: HostRuntime) {
     for row in LEAST_LENGTHS {
         let (listed, length) = *row;
-        assert_length(&rt, rt.alloc(), &fixups(rt.alloc(), listed)?, length)?;
+        let fixups = fixups(rt.alloc(), listed).expect(&rt, "memory");
+        assert_length(&rt, rt.alloc(), &fixups, length);
     }
-    Ok(())
 }
 
 /// Words in a row, more than one instruction makes, of two sections in turn.
-fn words_in_turn(alloc: Global, even: Base) -> Result<Vec<(u32, Base)>, AllocError> {
+fn words_in_turn(rt: &impl Abort, alloc: Global, even: Base) -> Vec<(u32, Base)> {
     let mut words = Vec::new(alloc);
     for i in 0..1_030u32 {
         let base = if i % 2 == 0 { even } else { S1 };
-        words.push((4 * i, base))?;
+        words.push((4 * i, base)).expect(rt, "memory");
     }
-    Ok(words)
+    words
 }
 
 /// The base of each second word, and the least length. The other words are of section 1.
@@ -93,11 +93,11 @@ const LONG_RUNS: &[(Base, u64)] = &[(S1, 3), (S0, 2)];
 
 /// A run of more words than one instruction makes, and words of two sections in turn.
 #[test]
-fn long_runs(rt: HostRuntime) -> Result<(), Fail> {
+fn long_runs(rt: HostRuntime) {
     for row in LONG_RUNS {
         let (even, length) = *row;
-        let words = words_in_turn(rt.alloc(), even)?;
-        assert_length(&rt, rt.alloc(), &fixups(rt.alloc(), &words)?, length)?;
+        let words = words_in_turn(&rt, rt.alloc(), even);
+        let fixups = fixups(rt.alloc(), &words).expect(&rt, "memory");
+        assert_length(&rt, rt.alloc(), &fixups, length);
     }
-    Ok(())
 }

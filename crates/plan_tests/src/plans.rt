@@ -1,5 +1,5 @@
 //! Plans of fixups.
-ghost use Rattle.std.specs.Prelude.{◌≡◌, IfOk, true};
+ghost use Rattle.std.specs.Prelude.{◌≡◌, true};
 ghost use Rattle.pef_reloc.specs.Fixups.{fixups_fit};
 
 use pef_cert::check;
@@ -8,29 +8,19 @@ use pef_plan::plan;
 use pef_reloc::{Fixup, fixups_fit};
 use std::alloc::Global;
 use std::process::Abort;
-use std::test::Fail;
 
 /// The plan of fixups that fit.
-pub fn planned(rt: &impl Abort, alloc: Global, fixups: &[Fixup]) -> Result<Certificate, Fail>
-    ensures { IfOk result (λ certificate. fixups_fit fixups.now ≡ true) }
+pub fn planned(rt: &impl Abort, alloc: Global, fixups: &[Fixup]) -> Certificate
+    ensures { fixups_fit fixups.now ≡ true }
 {
     assert!(rt; fixups_fit(fixups));
-    match plan(alloc, 3, fixups) {
-        Ok(certificate) => Ok(certificate),
-        Err(fault) => panic!(rt; "{fault}"),
-    }
+    plan(alloc, 3, fixups).expect(rt, "a plan")
 }
 
 /// Plans fixups and compares the length of the program. The certificate is a yes.
-pub fn assert_length(
-    rt: &impl Abort,
-    alloc: Global,
-    fixups: &[Fixup],
-    length: u64,
-) -> Result<(), Fail> {
-    let certificate = planned(rt, alloc, fixups)?;
+pub fn assert_length(rt: &impl Abort, alloc: Global, fixups: &[Fixup], length: u64) {
+    let certificate = planned(rt, alloc, fixups);
     assert_certified(rt, fixups, &certificate, length);
-    Ok(())
 }
 
 fn assert_certified(rt: &impl Abort, fixups: &[Fixup], certificate: &Certificate, length: u64)

@@ -9,7 +9,6 @@ use pef_reloc::{Base, Fixup, MAX_SECTIONS, fixups_fit};
 use std::alloc::Global;
 use std::cell::Cell;
 use std::process::Abort;
-use std::test::Fail;
 use test_data::limits::{FIXUPS, IN_TURN_LENGTH};
 use test_data::lists::S1;
 
@@ -54,27 +53,28 @@ impl Random {
 }
 
 /// Fixups in runs of all kinds, broken at the limits of instructions, and short runs of two sections in turn.
-fn random_list(alloc: Global, random: &mut Random) -> Result<Vec<Fixup>, Fail> {
+fn random_list(rt: &impl Abort, alloc: Global, random: &mut Random) -> Vec<Fixup> {
     let mut fixups = Vec::new(alloc);
     let mut offset = random.one_of(&GAPS);
     let sections = 1 + random.below(MAX_SECTIONS);
     for _ in 0..20 {
         if fixups.len() >= ENOUGH {
-            return Ok(fixups);
+            return fixups;
         }
-        offset = push_run(&mut fixups, random, sections, offset)?;
+        offset = push_run(rt, &mut fixups, random, sections, offset);
         offset = offset.wrapping_add(random.one_of(&GAPS).saturating_sub(4));
     }
-    Ok(fixups)
+    fixups
 }
 
 /// Puts a run of one kind behind others, from an offset on. Hands out the offset behind it.
 fn push_run(
+    rt: &impl Abort,
     fixups: &mut Vec<Fixup>,
     random: &mut Random,
     sections: u32,
     from: u32,
-) -> Result<u32, Fail>
+) -> u32
     requires { 0 < sections }
 {
     let mut offset = from;
@@ -88,7 +88,7 @@ fn push_run(
             5 => Base::Section(if i / 3 % 2 == 0 { first } else { second }),
             _ => Base::Section(if i % 2 == 0 { first } else { second }),
         };
-        fixups.push(Fixup { offset, base })?;
+        fixups.push(Fixup { offset, base }).expect(rt, "memory");
         let step = match kind {
             1 => 8,
             4 => 4 + 4 * (i % 2),
@@ -96,24 +96,18 @@ fn push_run(
         };
         offset = offset.wrapping_add(step);
     }
-    Ok(offset)
+    offset
 }
 
 /// Compares all labels of a plan with the plain method's.
-fn compare(rt: &impl Abort, alloc: Global, fixups: &[Fixup]) -> Result<(), Fail> {
-    let certificate = planned(rt, alloc, fixups)?;
-    compare_labels(rt, alloc, fixups, &certificate)
+fn compare(rt: &impl Abort, alloc: Global, fixups: &[Fixup]) {
+    let certificate = planned(rt, alloc, fixups);
+    compare_labels(rt, alloc, fixups, &certificate);
 }
 
-fn compare_labels(
-    rt: &impl Abort,
-    alloc: Global,
-    fixups: &[Fixup],
-    certificate: &Certificate,
-) -> Result<(), Fail> {
-    let labels = plain_labels(alloc, fixups, &certificate.registers)?;
+fn compare_labels(rt: &impl Abort, alloc: Global, fixups: &[Fixup], certificate: &Certificate) {
+    let labels = plain_labels(rt, alloc, fixups, &certificate.registers);
     assert_same(rt, &certificate.labels, &labels, fixups.len());
-    Ok(())
 }
 
 /// Asserts that rows have these labels, of which the last row is the one where no fixup is left.
@@ -141,58 +135,53 @@ fn assert_same_row(rt: &impl Abort, row: &[u32], labels: &[u32], left: usize) {
 }
 
 #[test]
-fn labels_of_random_lists(rt: HostRuntime) -> Result<(), Fail> {
+fn labels_of_random_lists(rt: HostRuntime) {
     let alloc = rt.alloc();
     let mut random = Random { state: 2_026 };
     for _ in 0..300 {
-        let fixups = random_list(alloc, &mut random)?;
-        compare(&rt, alloc, &fixups)?;
+        let fixups = random_list(&rt, alloc, &mut random);
+        compare(&rt, alloc, &fixups);
     }
-    Ok(())
 }
 
 /// So many fixups in a row, of two sections in turn, so many bytes apart.
-fn in_a_row(alloc: Global, count: u32, step: u32, other: Base) -> Result<Vec<Fixup>, Fail> {
+fn in_a_row(rt: &impl Abort, alloc: Global, count: u32, step: u32, other: Base) -> Vec<Fixup> {
     let mut fixups = Vec::new(alloc);
     for i in 0..count {
         let base = if i % 2 == 0 { other } else { S1 };
-        fixups.push(Fixup {
-            offset: i.wrapping_mul(step),
-            base,
-        })?;
+        let offset = i.wrapping_mul(step);
+        fixups.push(Fixup { offset, base }).expect(rt, "memory");
     }
-    Ok(fixups)
+    fixups
 }
 
 /// How many looks the plan of some fixups takes, and how many labels it has.
-fn looks_and_labels(alloc: Global, fixups: &[Fixup]) -> Result<(u64, usize), Fail>
+fn looks_and_labels(rt: &impl Abort, alloc: Global, fixups: &[Fixup]) -> (u64, usize)
     requires { fixups_fit fixups.now ≡ true }
 {
     let looks = Cell::new(0);
-    let certificate = counted_plan(alloc, 1, fixups, Looks::new(&looks))?;
+    let certificate = counted_plan(alloc, 1, fixups, Looks::new(&looks)).expect(rt, "a plan");
     let labels = &certificate.labels;
-    Ok((looks.get(), labels.rows().wrapping_mul(labels.width())))
+    (looks.get(), labels.rows().wrapping_mul(labels.width()))
 }
 
 #[test]
-fn plan_looks_seldom(rt: HostRuntime) -> Result<(), Fail> {
-    let fixups = in_a_row(rt.alloc(), 16_384, 4, S1)?;
+fn plan_looks_seldom(rt: HostRuntime) {
+    let fixups = in_a_row(&rt, rt.alloc(), 16_384, 4, S1);
     assert!(rt; fixups_fit(&fixups));
-    let (looks, labels) = looks_and_labels(rt.alloc(), &fixups)?;
+    let (looks, labels) = looks_and_labels(&rt, rt.alloc(), &fixups);
     assert!(rt; labels == 65_540);
     assert!(rt; 65_540 < looks && looks <= 16 * 65_540, "{looks}");
-    Ok(())
 }
 
 #[test]
-fn plain_method_looks_more_often(rt: HostRuntime) -> Result<(), Fail> {
+fn plain_method_looks_more_often(rt: HostRuntime) {
     let alloc = rt.alloc();
-    let fixups = in_a_row(alloc, 16_384, 4, S1)?;
+    let fixups = in_a_row(&rt, alloc, 16_384, 4, S1);
     let looks = Cell::new(0);
-    let labels = counted_labels(alloc, &fixups, &[1], &looks)?;
+    let labels = counted_labels(&rt, alloc, &fixups, &[1], &looks);
     assert!(rt; labels.len() == 65_540);
     assert!(rt; looks.get() > 128 * 65_540);
-    Ok(())
 }
 
 /// How many fixups, how many bytes apart, the base of each second one, and the least length.
@@ -203,32 +192,29 @@ const LONG_RUNS: &[(u32, u32, Base, u64)] = &[
 ];
 
 #[test]
-fn labels_of_long_runs(rt: HostRuntime) -> Result<(), Fail> {
+fn labels_of_long_runs(rt: HostRuntime) {
     for row in LONG_RUNS {
         let (count, step, other, length) = *row;
-        let fixups = in_a_row(rt.alloc(), count, step, other)?;
-        assert_length(&rt, rt.alloc(), &fixups, length)?;
-        compare(&rt, rt.alloc(), &fixups)?;
+        let fixups = in_a_row(&rt, rt.alloc(), count, step, other);
+        assert_length(&rt, rt.alloc(), &fixups, length);
+        compare(&rt, rt.alloc(), &fixups);
     }
-    Ok(())
 }
 
 /// As many fixups as a section may have, at every other word, by all sections in turn.
-fn all_in_turn(alloc: Global) -> Result<Vec<Fixup>, Fail> {
+fn all_in_turn(rt: &impl Abort, alloc: Global) -> Vec<Fixup> {
     let mut fixups = Vec::new(alloc);
     for i in 0..FIXUPS {
+        let offset = 8 * i;
         let base = Base::Section(i % MAX_SECTIONS);
-        fixups.push(Fixup {
-            offset: 8 * i,
-            base,
-        })?;
+        fixups.push(Fixup { offset, base }).expect(rt, "memory");
     }
-    Ok(fixups)
+    fixups
 }
 
 #[test]
-fn labels_of_all_sections_in_turn(rt: HostRuntime) -> Result<(), Fail> {
-    let fixups = all_in_turn(rt.alloc())?;
-    assert_length(&rt, rt.alloc(), &fixups, u64::from(IN_TURN_LENGTH))?;
-    compare(&rt, rt.alloc(), &fixups)
+fn labels_of_all_sections_in_turn(rt: HostRuntime) {
+    let fixups = all_in_turn(&rt, rt.alloc());
+    assert_length(&rt, rt.alloc(), &fixups, u64::from(IN_TURN_LENGTH));
+    compare(&rt, rt.alloc(), &fixups);
 }

@@ -2,24 +2,30 @@
 use pef_reloc::{Base, Fixup};
 use std::alloc::Global;
 use std::cell::Cell;
-use std::test::Fail;
+use std::process::Abort;
 
 /// The labels of fixups, row by row, where none is left to where all are.
-pub fn plain_labels(alloc: Global, fixups: &[Fixup], registers: &[u32]) -> Result<Vec<u32>, Fail> {
+pub fn plain_labels(
+    rt: &impl Abort,
+    alloc: Global,
+    fixups: &[Fixup],
+    registers: &[u32],
+) -> Vec<u32> {
     let looks = Cell::new(0);
-    counted_labels(alloc, fixups, registers, &looks)
+    counted_labels(rt, alloc, fixups, registers, &looks)
 }
 
 /// The same, with a count of the looks: how often the value behind an end of a run is read.
 pub fn counted_labels(
+    rt: &impl Abort,
     alloc: Global,
     fixups: &[Fixup],
     registers: &[u32],
     looks: &Cell<u64>,
-) -> Result<Vec<u32>, Fail> {
+) -> Vec<u32> {
     let classes = registers.len().wrapping_add(1);
-    let mut labels = zeros(alloc, classes.wrapping_mul(classes))?;
-    let mut skips = zeros(alloc, classes)?;
+    let mut labels = zeros(rt, alloc, classes.wrapping_mul(classes));
+    let mut skips = zeros(rt, alloc, classes);
     let plain = Plain {
         fixups,
         registers,
@@ -28,16 +34,12 @@ pub fn counted_labels(
         skips: &[],
         looks,
     };
-    plain.add_rows(alloc, &mut labels, &mut skips)?;
-    Ok(labels)
+    plain.add_rows(rt, alloc, &mut labels, &mut skips);
+    labels
 }
 
-fn zeros(alloc: Global, count: usize) -> Result<Vec<u32>, Fail> {
-    let mut zeros = Vec::new(alloc);
-    for _ in 0..count {
-        zeros.push(0)?;
-    }
-    Ok(zeros)
+fn zeros(rt: &impl Abort, alloc: Global, count: usize) -> Vec<u32> {
+    vec![in alloc; 0; count].expect(rt, "memory")
 }
 
 /// A number of a list, 0 past its end.
@@ -89,62 +91,56 @@ struct Run {
 
 impl<'a> Plain<'a> {
     /// Puts the rows of all fixups behind others, the last fixup's first.
-    fn add_rows(
-        self,
-        alloc: Global,
-        labels: &mut Vec<u32>,
-        skips: &mut Vec<u32>,
-    ) -> Result<(), Fail> {
+    fn add_rows(self, rt: &impl Abort, alloc: Global, labels: &mut Vec<u32>, skips: &mut Vec<u32>) {
         for left in 0..self.fixups.len() {
             let at = self.fixups.len() - left - 1;
-            self.add_row(alloc, at, labels, skips)?;
+            self.add_row(rt, alloc, at, labels, skips);
         }
-        Ok(())
     }
 
     /// Puts a fixup's labels and least skips behind those so far.
     fn add_row(
         self,
+        rt: &impl Abort,
         alloc: Global,
         at: usize,
         labels: &mut Vec<u32>,
         skips: &mut Vec<u32>,
-    ) -> Result<(), Fail> {
+    ) {
         let plain = Plain {
             labels: labels.as_slice(),
             skips: skips.as_slice(),
             ..self
         };
-        let row = plain.row(alloc, at)?;
-        let line = plain.skip_line(alloc, at)?;
-        labels.extend_from_slice(&row)?;
-        skips.extend_from_slice(&line)?;
-        Ok(())
+        let row = plain.row(rt, alloc, at);
+        let line = plain.skip_line(rt, alloc, at);
+        labels.extend_from_slice(&row).expect(rt, "memory");
+        skips.extend_from_slice(&line).expect(rt, "memory");
     }
 
-    fn row(self, alloc: Global, at: usize) -> Result<Vec<u32>, Fail> {
-        let direct = self.direct_row(alloc, at)?;
-        self.closed_row(alloc, &direct)
+    fn row(self, rt: &impl Abort, alloc: Global, at: usize) -> Vec<u32> {
+        let direct = self.direct_row(rt, alloc, at);
+        self.closed_row(rt, alloc, &direct)
     }
 
-    fn direct_row(self, alloc: Global, at: usize) -> Result<Vec<u32>, Fail> {
+    fn direct_row(self, rt: &impl Abort, alloc: Global, at: usize) -> Vec<u32> {
         let mut direct = Vec::new(alloc);
         for c in 0..self.classes {
             for d in 0..self.classes {
-                direct.push(self.direct(at, c, d))?;
+                direct.push(self.direct(at, c, d)).expect(rt, "memory");
             }
         }
-        Ok(direct)
+        direct
     }
 
-    fn closed_row(self, alloc: Global, direct: &[u32]) -> Result<Vec<u32>, Fail> {
+    fn closed_row(self, rt: &impl Abort, alloc: Global, direct: &[u32]) -> Vec<u32> {
         let mut row = Vec::new(alloc);
         for c in 0..self.classes {
             for d in 0..self.classes {
-                row.push(self.closed(direct, c, d))?;
+                row.push(self.closed(direct, c, d)).expect(rt, "memory");
             }
         }
-        Ok(row)
+        row
     }
 
     /// The least over all classes, with 1 for each register that changes.
@@ -163,12 +159,12 @@ impl<'a> Plain<'a> {
         best
     }
 
-    fn skip_line(self, alloc: Global, at: usize) -> Result<Vec<u32>, Fail> {
+    fn skip_line(self, rt: &impl Abort, alloc: Global, at: usize) -> Vec<u32> {
         let mut line = Vec::new(alloc);
         for c in 0..self.classes {
-            line.push(self.skip_at(at, c))?;
+            line.push(self.skip_at(at, c)).expect(rt, "memory");
         }
-        Ok(line)
+        line
     }
 
     fn skip_at(self, at: usize, c: usize) -> u32 {

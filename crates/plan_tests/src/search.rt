@@ -1,7 +1,7 @@
 //! The least length of a program for a short list of fixups, by a search of all states of the machine.
 use pef_reloc::{Base, Fixup};
 use std::alloc::Global;
-use std::test::Fail;
+use std::process::Abort;
 
 /// Positions are told apart up to this one, which lies behind all fixups.
 const LAST_POSITION: u32 = 31;
@@ -169,13 +169,10 @@ fn imports(fixups: &[Fixup], from: State, count: u32) -> Option<State> {
 }
 
 /// The least length, or 21 where it is greater.
-pub fn least_length(alloc: Global, fixups: &[Fixup]) -> Result<u32, Fail> {
+pub fn least_length(rt: &impl Abort, alloc: Global, fixups: &[Fixup]) -> u32 {
     let mut lengths = Lengths {
-        lengths: Vec::new(alloc),
+        lengths: vec![in alloc; u32::MAX; STATES].expect(rt, "memory"),
     };
-    for _ in 0..STATES {
-        lengths.lengths.push(u32::MAX)?;
-    }
     let start = State {
         made: 0,
         position: 0,
@@ -191,10 +188,10 @@ pub fn least_length(alloc: Global, fixups: &[Fixup]) -> Result<u32, Fail> {
             }
             let state = State::of_number(number);
             if state.made as usize == fixups.len() {
-                return Ok(length);
+                return length;
             }
             lengths.go_on(fixups, state, length);
         }
     }
-    Ok(21)
+    21
 }

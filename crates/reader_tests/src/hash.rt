@@ -1,4 +1,4 @@
-use pef_hash::{Entry, Exports, HashFault, Table, build, hash_word, power_for, slot};
+use pef_hash::{Entry, Exports, Table, build, hash_word, power_for, slot};
 use std::process::Abort;
 
 /// Names and their hash words.
@@ -265,8 +265,8 @@ fn test_table(rt: &impl Abort, table: &Table, power: u32, slots: &[u32], keys: &
 }
 
 #[test]
-fn builds(rt: HostRuntime) -> Result<(), HashFault> {
-    let table = build(rt.alloc(), b"abcdefghij", &[1; 10])?;
+fn builds(rt: HostRuntime) {
+    let table = build(rt.alloc(), b"abcdefghij", &[1; 10]).expect(&rt, "a table");
     let keys = [
         0x0001_0063,
         0x0001_0064,
@@ -281,12 +281,11 @@ fn builds(rt: HostRuntime) -> Result<(), HashFault> {
     ];
     test_table(&rt, &table, 1, &[0x0010_0000, 0x0018_0004], &keys);
     assert!(rt; table.order.as_slice() == [2, 3, 6, 7, 0, 1, 4, 5, 8, 9].as_slice());
-    Ok(())
 }
 
 #[test]
-fn builds_of_no_names_and_mixed(rt: HostRuntime) -> Result<(), HashFault> {
-    let mixed = build(rt.alloc(), b"go\x80\xFF", &[0, 2, 2])?;
+fn builds_of_no_names_and_mixed(rt: HostRuntime) {
+    let mixed = build(rt.alloc(), b"go\x80\xFF", &[0, 2, 2]).expect(&rt, "a table");
     test_table(
         &rt,
         &mixed,
@@ -294,9 +293,8 @@ fn builds_of_no_names_and_mixed(rt: HostRuntime) -> Result<(), HashFault> {
         &[0x000C_0000],
         &[0, 0x0002_00A1, 0x0002_01FF],
     );
-    let none = build(rt.alloc(), b"", &[])?;
+    let none = build(rt.alloc(), b"", &[]).expect(&rt, "a table");
     test_table(&rt, &none, 0, &[0], &[]);
-    Ok(())
 }
 
 /// Slots of the greatest table, and their words.
@@ -338,12 +336,11 @@ fn fill_numbers(names: &mut [u8; 32_766]) {
 }
 
 #[test]
-fn builds_of_as_many_names_as_may_be(rt: HostRuntime) -> Result<(), HashFault> {
+fn builds_of_as_many_names_as_may_be(rt: HostRuntime) {
     let mut names = [0; 32_766];
     fill_numbers(&mut names);
-    let table = build(rt.alloc(), &names, &[2; 16_383])?;
+    let table = build(rt.alloc(), &names, &[2; 16_383]).expect(&rt, "a table");
     assert!(rt; table.power == 11);
     test_greatest_slots(&rt, &table.slots);
     test_greatest_keys(&rt, &table.keys, &table.order);
-    Ok(())
 }

@@ -5,9 +5,8 @@ use pef_loader::layout::{
 };
 use pef_loader::{ImportReader, ImportTable, ImportView, Loader, LoaderHeader};
 use pef_views::Container;
-use std::alloc::{AllocError, Global};
+use std::alloc::Global;
 use std::process::Abort;
-use std::test::Fail;
 use test_data::changes::{change_words, with_words};
 use test_data::containers::VECTORS_BYTES as GO;
 
@@ -117,27 +116,21 @@ const LIBRARY_WORDS: &[Refused] = &[
     (&[(96, 0), (124, 11)], Some(13)),
 ];
 
-fn test_refused(
-    rt: &impl Abort,
-    alloc: Global,
-    container: &[u8],
-    rows: &[Refused],
-) -> Result<(), Fail> {
+fn test_refused(rt: &impl Abort, alloc: Global, container: &[u8], rows: &[Refused]) {
     let length = container.len();
     for (i, (words, want)) in rows.iter().enumerate() {
-        let bytes = with_words(alloc, container, words)?;
+        let bytes = with_words(alloc, container, words).expect(rt, "a changed container");
         assert!(rt;
             refused_loader(&bytes) == *want,
             "row {i} of {length} bytes"
         );
     }
-    Ok(())
 }
 
 #[test]
-fn read(rt: HostRuntime) -> Result<(), Fail> {
-    test_refused(&rt, rt.alloc(), &GO, GO_WORDS)?;
-    test_refused(&rt, rt.alloc(), &LIBRARIES, LIBRARY_WORDS)
+fn read(rt: HostRuntime) {
+    test_refused(&rt, rt.alloc(), &GO, GO_WORDS);
+    test_refused(&rt, rt.alloc(), &LIBRARIES, LIBRARY_WORDS);
 }
 
 /// How many libraries, imports, relocation headers and exports there are.
@@ -188,16 +181,15 @@ fn entries(loader: &Loader<'_>) -> Entries {
 }
 
 #[test]
-fn relocs_exports_and_entries(rt: HostRuntime) -> Result<(), Fail> {
-    let container = Container::read(&GO)?;
-    let loader = Loader::read(&container)?;
+fn relocs_exports_and_entries(rt: HostRuntime) {
+    let container = Container::read(&GO).expect(&rt, "a container");
+    let loader = Loader::read(&container).expect(&rt, "a loader section");
     test_header(&rt, loader.header());
     test_relocs(&rt, &loader);
     let export = (&GO[230..232], TRANSITION_VECTOR_SYMBOL, 1, 0);
     assert!(rt; exported(&loader, 0) == Some(export));
     assert!(rt; exported(&loader, 1).is_none());
     assert!(rt; entries(&loader) == (Some((1, 0)), None, None));
-    Ok(())
 }
 
 /// Other entries, and an absolute export.
@@ -217,12 +209,11 @@ fn test_other_entries(rt: &impl Abort, loader: &Loader<'_>) {
 }
 
 #[test]
-fn other_entries(rt: HostRuntime) -> Result<(), Fail> {
-    let bytes = with_words(rt.alloc(), &GO, OTHER_ENTRIES)?;
-    let container = Container::read(&bytes)?;
-    let loader = Loader::read(&container)?;
+fn other_entries(rt: HostRuntime) {
+    let bytes = with_words(rt.alloc(), &GO, OTHER_ENTRIES).expect(&rt, "a changed container");
+    let container = Container::read(&bytes).expect(&rt, "a container");
+    let loader = Loader::read(&container).expect(&rt, "a loader section");
     test_other_entries(&rt, &loader);
-    Ok(())
 }
 
 /// Words at some places, a name, and the number of its export.
@@ -236,20 +227,19 @@ const EXPORTS_NAMED: &[(&[(usize, u32)], &[u8], Option<usize>)] = &[
 ];
 
 /// The number of a name's export.
-fn export_named(container: &[u8], name: &[u8]) -> Result<Option<usize>, Fail> {
-    let container = Container::read(container)?;
-    let loader = Loader::read(&container)?;
-    Ok(loader.export_named(name))
+fn export_named(rt: &impl Abort, container: &[u8], name: &[u8]) -> Option<usize> {
+    let container = Container::read(container).expect(rt, "a container");
+    let loader = Loader::read(&container).expect(rt, "a loader section");
+    loader.export_named(name)
 }
 
 #[test]
-fn exports_named(rt: HostRuntime) -> Result<(), Fail> {
+fn exports_named(rt: HostRuntime) {
     for (i, (words, name, want)) in EXPORTS_NAMED.iter().enumerate() {
-        let bytes = with_words(rt.alloc(), &GO, words)?;
-        let found = export_named(&bytes, name)?;
+        let bytes = with_words(rt.alloc(), &GO, words).expect(&rt, "a changed container");
+        let found = export_named(&rt, &bytes, name);
         assert!(rt; found == *want, "row {i}");
     }
-    Ok(())
 }
 
 /// A library: its name, its version and the oldest implementation, how many imports it has and the first of
@@ -302,15 +292,14 @@ fn test_import(rt: &impl Abort, j: usize, import: Option<ImportView<'_>>) {
 }
 
 /// Imports are read one by one, by a reader, and from a table. The last one that is tried isn't there.
-fn test_imports(rt: &impl Abort, alloc: Global, loader: &Loader<'_>) -> Result<(), AllocError> {
+fn test_imports(rt: &impl Abort, alloc: Global, loader: &Loader<'_>) {
     let mut reader = ImportReader::new(*loader);
-    let table = ImportTable::read(alloc, *loader)?;
+    let table = ImportTable::read(alloc, *loader).expect(rt, "memory");
     for j in 0..=3 {
         test_import(rt, j, loader.import(j));
         test_import(rt, j, reader.import(j));
         test_import(rt, j, table.get(j));
     }
-    Ok(())
 }
 
 /// Tests that there are no entries, and no export of a name.
@@ -322,23 +311,24 @@ fn test_nothing_else(rt: &impl Abort, loader: &Loader<'_>) {
 }
 
 #[test]
-fn libraries_and_imports(rt: HostRuntime) -> Result<(), Fail> {
-    let container = Container::read(&LIBRARIES)?;
-    let loader = Loader::read(&container)?;
+fn libraries_and_imports(rt: HostRuntime) {
+    let container = Container::read(&LIBRARIES).expect(&rt, "a container");
+    let loader = Loader::read(&container).expect(&rt, "a loader section");
     test_libraries(&rt, &loader);
     test_nothing_else(&rt, &loader);
-    test_imports(&rt, rt.alloc(), &loader)?;
-    Ok(())
+    test_imports(&rt, rt.alloc(), &loader);
 }
 
 /// In order, library `M` has import 2 alone.
 #[test]
-fn imports_in_order(rt: HostRuntime) -> Result<(), Fail> {
-    let bytes = with_words(rt.alloc(), &LIBRARIES, &[(160, 1), (164, 2)])?;
-    let container = Container::read(&bytes)?;
-    let loader = Loader::read(&container)?;
-    test_imports(&rt, rt.alloc(), &loader)?;
-    Ok(())
+fn imports_in_order(rt: HostRuntime) {
+    let bytes = with_words(rt.alloc(), &LIBRARIES, &[(160, 1), (164, 2)]).expect(
+        &rt,
+        "a changed container",
+    );
+    let container = Container::read(&bytes).expect(&rt, "a container");
+    let loader = Loader::read(&container).expect(&rt, "a loader section");
+    test_imports(&rt, rt.alloc(), &loader);
 }
 
 /// A loader section alone, with 16,386 imports and two libraries out of order: library 0 has the last two
@@ -385,27 +375,25 @@ fn library_of(import: Option<ImportView<'_>>) -> Option<usize> {
 }
 
 /// Imports are read by a reader, and from a table.
-fn test_owned(rt: &impl Abort, alloc: Global, loader: Loader<'_>) -> Result<(), AllocError> {
+fn test_owned(rt: &impl Abort, alloc: Global, loader: Loader<'_>) {
     let mut reader = ImportReader::new(loader);
-    let table = ImportTable::read(alloc, loader)?;
+    let table = ImportTable::read(alloc, loader).expect(rt, "memory");
     for (j, library) in OWNED {
         assert!(rt; library_of(reader.import(*j)) == *library, "import {j}");
         assert!(rt; library_of(table.get(*j)) == *library, "import {j}");
     }
-    Ok(())
 }
 
 /// Tests the imports of a loader section of two blocks.
-fn test_two_blocks(rt: &impl Abort, alloc: Global, bytes: &[u8]) -> Result<(), Fail> {
-    let container = Container::read(bytes)?;
-    let loader = Loader::read(&container)?;
-    test_owned(rt, alloc, loader)?;
-    Ok(())
+fn test_two_blocks(rt: &impl Abort, alloc: Global, bytes: &[u8]) {
+    let container = Container::read(bytes).expect(rt, "a container");
+    let loader = Loader::read(&container).expect(rt, "a loader section");
+    test_owned(rt, alloc, loader);
 }
 
 #[test]
-fn imports_of_two_blocks(rt: HostRuntime) -> Result<(), Fail> {
-    let mut bytes = vec![in rt.alloc(); 0; 65_720]?;
-    change_words(&mut bytes, TWO_BLOCKS)?;
-    test_two_blocks(&rt, rt.alloc(), &bytes)
+fn imports_of_two_blocks(rt: HostRuntime) {
+    let mut bytes = vec![in rt.alloc(); 0; 65_720].expect(&rt, "memory");
+    change_words(&mut bytes, TWO_BLOCKS).expect(&rt, "places in the container");
+    test_two_blocks(&rt, rt.alloc(), &bytes);
 }

@@ -2,7 +2,6 @@ use crate::fixture::refused_container;
 use pef_views::layout::{DEBUG_SECTION, EXCEPTION_SECTION, TRACEBACK_SECTION};
 use pef_views::{Container, Header, SectionView};
 use std::process::Abort;
-use std::test::Fail;
 use test_data::changes::with_words;
 use test_data::containers::VECTORS_BYTES as BYTES;
 
@@ -69,12 +68,11 @@ const WORDS: &[(&[(usize, u32)], Option<u32>)] = &[
 ];
 
 #[test]
-fn read(rt: HostRuntime) -> Result<(), Fail> {
+fn read(rt: HostRuntime) {
     for (i, (words, want)) in WORDS.iter().enumerate() {
-        let bytes = with_words(rt.alloc(), &BYTES, words)?;
+        let bytes = with_words(rt.alloc(), &BYTES, words).expect(&rt, "a changed container");
         assert!(rt; refused_container(&bytes) == *want, "row {i}");
     }
-    Ok(())
 }
 
 /// Other words in the container's header.
@@ -101,11 +99,10 @@ const HEADER: Header = Header {
 };
 
 #[test]
-fn header(rt: HostRuntime) -> Result<(), Fail> {
-    let bytes = with_words(rt.alloc(), &BYTES, HEADER_WORDS)?;
-    let header = Container::read(&bytes)?.header();
-    assert!(rt; header == HEADER);
-    Ok(())
+fn header(rt: HostRuntime) {
+    let bytes = with_words(rt.alloc(), &BYTES, HEADER_WORDS).expect(&rt, "a changed container");
+    let container = Container::read(&bytes).expect(&rt, "a container");
+    assert!(rt; container.header() == HEADER);
 }
 
 /// Other words for all fields of section 2, which isn't instantiated.
@@ -157,11 +154,10 @@ fn test_sections(rt: &impl Abort, container: &Container<'_>) {
 }
 
 #[test]
-fn section(rt: HostRuntime) -> Result<(), Fail> {
-    let bytes = with_words(rt.alloc(), &BYTES, SECTION_WORDS)?;
-    let container = Container::read(&bytes)?;
+fn section(rt: HostRuntime) {
+    let bytes = with_words(rt.alloc(), &BYTES, SECTION_WORDS).expect(&rt, "a changed container");
+    let container = Container::read(&bytes).expect(&rt, "a container");
     test_sections(&rt, &container);
-    Ok(())
 }
 
 /// Kinds of sections that aren't instantiated, and a word of a section header with each.
@@ -172,24 +168,28 @@ const OTHER_KINDS: &[(u8, u32)] = &[
 ];
 
 /// Tests the kind of section 3, which is behind those that are instantiated.
-fn test_kind(rt: &impl Abort, bytes: &[u8], kind: u8) -> Result<(), Fail> {
-    let container = Container::read(bytes)?;
+fn test_kind(rt: &impl Abort, bytes: &[u8], kind: u8) {
+    let container = Container::read(bytes).expect(rt, "a container");
     assert!(rt; container.header().instantiated_section_count == 2);
-    let section = container.section(3).ok_or("no section")?;
+    let section = container.section(3).expect(rt, "a section");
     assert!(rt; section.section_kind == kind);
-    Ok(())
 }
 
 #[test]
-fn not_instantiated(rt: HostRuntime) -> Result<(), Fail> {
+fn not_instantiated(rt: HostRuntime) {
     for row in OTHER_KINDS {
         let (kind, word) = *row;
-        let bytes = with_words(rt.alloc(), &BYTES, &[(32, 0x0004_0002), (148, word)])?;
-        test_kind(&rt, &bytes, kind)?;
-        let bytes = with_words(rt.alloc(), &BYTES, &[(64, word)])?;
+        let bytes = with_words(rt.alloc(), &BYTES, &[(32, 0x0004_0002), (148, word)]).expect(
+            &rt,
+            "a changed container",
+        );
+        test_kind(&rt, &bytes, kind);
+        let bytes = with_words(rt.alloc(), &BYTES, &[(64, word)]).expect(
+            &rt,
+            "a changed container",
+        );
         assert!(rt; refused_container(&bytes) == Some(7), "kind {kind}");
     }
-    Ok(())
 }
 
 /// The raw bytes of section 0, without any change.
@@ -226,14 +226,13 @@ fn test_raw<'a>(
 }
 
 #[test]
-fn raw_and_loader(rt: HostRuntime) -> Result<(), Fail> {
+fn raw_and_loader(rt: HostRuntime) {
     assert!(rt; RAW == &BYTES[0x80..0x88]);
     for (i, (words, raw)) in RAW_BYTES.iter().enumerate() {
-        let bytes = with_words(rt.alloc(), &BYTES, words)?;
-        let container = Container::read(&bytes)?;
+        let bytes = with_words(rt.alloc(), &BYTES, words).expect(&rt, "a changed container");
+        let container = Container::read(&bytes).expect(&rt, "a container");
         test_raw(&rt, i, &container, raw, &BYTES[160..]);
     }
-    Ok(())
 }
 
 /// Where a name begins, and the name. The bytes from 129 on are 11 22 33 44 55 66 77 00, and the container's last zero
@@ -248,24 +247,20 @@ const NAMES: &[(u32, Option<&[u8]>)] = &[
     (0xFFFF_FFFE, None),
 ];
 
-fn test_section_name(
-    rt: &impl Abort,
-    bytes: &[u8],
-    offset: u32,
-    want: Option<&[u8]>,
-) -> Result<(), Fail> {
-    let container = Container::read(bytes)?;
+fn test_section_name(rt: &impl Abort, bytes: &[u8], offset: u32, want: Option<&[u8]>) {
+    let container = Container::read(bytes).expect(rt, "a container");
     let names = (container.section_name(0), container.section_name(3));
     assert!(rt; names == (want, None), "at {offset}");
-    Ok(())
 }
 
 #[test]
-fn section_name(rt: HostRuntime) -> Result<(), Fail> {
+fn section_name(rt: HostRuntime) {
     for row in NAMES {
         let (offset, want) = *row;
-        let bytes = with_words(rt.alloc(), &BYTES, &[(40, offset)])?;
-        test_section_name(&rt, &bytes, offset, want)?;
+        let bytes = with_words(rt.alloc(), &BYTES, &[(40, offset)]).expect(
+            &rt,
+            "a changed container",
+        );
+        test_section_name(&rt, &bytes, offset, want);
     }
-    Ok(())
 }

@@ -1,7 +1,6 @@
 //! Copies of containers with other bytes in some places.
 
 use std::alloc::Global;
-use std::test::Fail;
 
 /// A place in a container.
 #[derive(Clone, Copy, Debug)]
@@ -25,40 +24,36 @@ impl At {
 /// Other bytes, and the place from which on they are written.
 pub type Change = (At, &'static [u8]);
 
-/// Writes other bytes from a place on. Fails where the container ends before them.
-pub fn change(bytes: &mut [u8], at: At, other: &[u8]) -> Result<(), Fail> {
+/// Writes other bytes from a place on. `None` where the container ends before them.
+pub fn change(bytes: &mut [u8], at: At, other: &[u8]) -> Option<()> {
     let len = bytes.len();
     match at.within(len) {
         Some(from) if from <= len && other.len() <= len - from => {
             bytes[from..from + other.len()].copy_from_slice(other);
-            Ok(())
+            Some(())
         }
-        _ => Err(Fail::new(format_args!("{len} bytes have no {at:?} for {other:?}"))),
+        _ => None,
     }
 }
 
-/// A copy of a container, with other bytes from a place on.
-pub fn changed(alloc: Global, container: &[u8], at: At, other: &[u8]) -> Result<Vec<u8>, Fail> {
-    let mut bytes = Vec::from_slice(alloc, container)?;
+/// A copy of a container, with other bytes from a place on. `None` where it ends before them, or memory is refused.
+pub fn changed(alloc: Global, container: &[u8], at: At, other: &[u8]) -> Option<Vec<u8>> {
+    let mut bytes = Vec::from_slice(alloc, container).ok()?;
     change(&mut bytes, at, other)?;
-    Ok(bytes)
+    Some(bytes)
 }
 
-/// Writes words at some places.
-pub fn change_words(bytes: &mut [u8], words: &[(usize, u32)]) -> Result<(), Fail> {
+/// Writes words at some places. `None` where the container ends before one.
+pub fn change_words(bytes: &mut [u8], words: &[(usize, u32)]) -> Option<()> {
     for (at, word) in words {
         change(bytes, At::Front(*at), &word.to_be_bytes())?;
     }
-    Ok(())
+    Some(())
 }
 
-/// A copy of a container, with other words at some places.
-pub fn with_words(
-    alloc: Global,
-    container: &[u8],
-    words: &[(usize, u32)],
-) -> Result<Vec<u8>, Fail> {
-    let mut bytes = Vec::from_slice(alloc, container)?;
+/// A copy of a container, with other words at some places. `None` where it ends before one, or memory is refused.
+pub fn with_words(alloc: Global, container: &[u8], words: &[(usize, u32)]) -> Option<Vec<u8>> {
+    let mut bytes = Vec::from_slice(alloc, container).ok()?;
     change_words(&mut bytes, words)?;
-    Ok(bytes)
+    Some(bytes)
 }

@@ -1,7 +1,6 @@
 //! Fixups in tables, and instructions from their bytes.
 use pef_reloc::{Base, Fixup, Instr, Program};
 use std::alloc::{AllocError, Global};
-use std::test::Fail;
 
 pub const S0: Base = Base::Section(0);
 
@@ -24,14 +23,14 @@ pub fn fixups(alloc: Global, listed: &[(u32, Base)]) -> Result<Vec<Fixup>, Alloc
     Ok(fixups)
 }
 
-/// The instructions that bytes spell.
-pub fn spelled(alloc: Global, bytes: &[u8]) -> Result<Vec<Instr>, Fail> {
+/// The instructions that bytes spell. `None` where they spell none, or memory is refused.
+pub fn spelled(alloc: Global, bytes: &[u8]) -> Option<Vec<Instr>> {
     let mut instrs = Vec::new(alloc);
-    let mut walk = Program::read(bytes)?.instrs();
+    let mut walk = Program::read(bytes).ok()?.instrs();
     for _ in 0..bytes.len() {
         if let Some(instr) = walk.next_instr() {
-            instrs.push(instr)?;
+            instrs.push(instr).ok()?;
         }
     }
-    Ok(instrs)
+    Some(instrs)
 }

@@ -3,7 +3,6 @@
 use crate::link_text;
 use cfm_store::{MAX_PAIRS, Store};
 use std::alloc::Global;
-use std::test::Fail;
 use test_data::changes::{Change, change};
 
 /// A fragment: its name, its script, and what is written over some bytes of its container.
@@ -11,33 +10,31 @@ use test_data::changes::{Change, change};
 /// Where a script has one export, that export's section is the last two bytes, and its value the four before them.
 pub type Fragment = (&'static str, &'static str, &'static [Change]);
 
-/// The container of a script, with some changes.
-pub fn container(alloc: Global, script: &str, changes: &[Change]) -> Result<Vec<u8>, Fail> {
-    let linked = link_text(alloc, script.as_bytes())?;
-    let mut bytes = Vec::from_slice(alloc, &linked.bytes)?;
+/// The container of a script, with some changes. `None` where it has none, or memory is refused.
+pub fn container(alloc: Global, script: &str, changes: &[Change]) -> Option<Vec<u8>> {
+    let mut bytes = link_text(alloc, script.as_bytes())?.bytes;
     for (at, other) in changes {
         change(&mut bytes, *at, other)?;
     }
-    Ok(bytes)
+    Some(bytes)
 }
 
 /// The containers of some fragments.
-pub fn containers(alloc: Global, fragments: &[Fragment]) -> Result<Vec<Vec<u8>>, Fail> {
+pub fn containers(alloc: Global, fragments: &[Fragment]) -> Option<Vec<Vec<u8>>> {
     let mut containers = Vec::new(alloc);
     for (_, script, changes) in fragments {
         let bytes = container(alloc, script, changes)?;
-        containers.push(bytes)?;
+        containers.push(bytes).ok()?;
     }
-    Ok(containers)
+    Some(containers)
 }
 
-/// Adds a pair to a store. Fails where that is full.
-pub fn add<'a>(store: &mut Store<'a>, name: &'a str, bytes: &'a [u8]) -> Result<(), Fail> {
+/// Adds a pair to a store. `None` where that is full, or memory is refused.
+pub fn add<'a>(store: &mut Store<'a>, name: &'a str, bytes: &'a [u8]) -> Option<()> {
     if store.len() >= MAX_PAIRS {
-        return Err(Fail::new("the store is full"));
+        return None;
     }
-    store.add(name.as_bytes(), bytes)?;
-    Ok(())
+    store.add(name.as_bytes(), bytes).ok()
 }
 
 /// A store of some fragments, which have these containers.
@@ -45,10 +42,10 @@ pub fn store_of<'a>(
     alloc: Global,
     fragments: &[Fragment],
     containers: &'a [Vec<u8>],
-) -> Result<Store<'a>, Fail> {
+) -> Option<Store<'a>> {
     let mut store = Store::new(alloc);
     for (fragment, bytes) in fragments.iter().zip(containers) {
         add(&mut store, fragment.0, bytes)?;
     }
-    Ok(store)
+    Some(store)
 }

@@ -5,20 +5,13 @@
 pub mod fragments;
 
 use cfm_closure::BindFault;
-use pef_script::Script;
 use pef_write::{Linked, link};
 use std::alloc::{AllocError, Global};
-use std::test::Fail;
 
-/// Links a script.
-pub fn link_text(alloc: Global, text: &[u8]) -> Result<Linked, Fail> {
-    let script = pef_script_text::read(alloc, text)?;
-    link_script(alloc, &script)
-}
-
-/// Links a script that was read.
-fn link_script(alloc: Global, script: &Script<'_>) -> Result<Linked, Fail> {
-    Ok(link(alloc, script)?)
+/// Links a script. `None` where it is none, or memory is refused.
+pub fn link_text(alloc: Global, text: &[u8]) -> Option<Linked> {
+    let script = pef_script_text::read(alloc, text).ok()?;
+    link(alloc, &script).ok()
 }
 
 /// Tells the names that a refusal has, behind a space each: the fragment, its library and the symbol.
