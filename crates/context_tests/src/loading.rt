@@ -1,7 +1,7 @@
 //! What `docs/LOADING.md` shows to the author of an emulator: its lines stand in `store_of`, `load` and
 //! `prepare_app` as they stand there.
 
-use cfm_closure::{Store, StoreFault};
+use cfm_closure::Store;
 use cfm_prepare::Context;
 use std::alloc::Global;
 use std::process::Abort;
@@ -45,7 +45,7 @@ fn store_of<'a>(
     alloc: Global,
     tools_bytes: &'a [u8],
     app_bytes: &'a [u8],
-) -> Result<Store<'a>, StoreFault> {
+) -> Result<Store<'a>, Fail> {
     let mut store = Store::new(alloc);
     store.add(b"Tools", tools_bytes)?;
     store.add(b"App", app_bytes)?;
@@ -54,13 +54,12 @@ fn store_of<'a>(
 
 /// Loads an application and its library into a machine.
 fn load(
-    rt: &impl Abort,
     alloc: Global,
     tools_bytes: &[u8],
     app_bytes: &[u8],
     machine: &mut Machine,
 ) -> Result<(), Fail> {
-    let store = store_of(alloc, tools_bytes, app_bytes).expect(rt, "a store");
+    let store = store_of(alloc, tools_bytes, app_bytes)?;
     let mut context = Context::new(alloc, store, 0x1000_0000);
     prepare_app(&mut context, machine)
 }
@@ -84,7 +83,7 @@ fn loading(rt: HostRuntime) -> Result<(), Fail> {
     let tools = link_text(rt.alloc(), TOOLS).expect(&rt, "a container");
     let app = link_text(rt.alloc(), APP).expect(&rt, "a container");
     let mut machine = Machine { memory: [0xEE; 24] };
-    load(&rt, rt.alloc(), &tools.bytes, &app.bytes, &mut machine)?;
+    load(rt.alloc(), &tools.bytes, &app.bytes, &mut machine)?;
     test_loaded(&rt, &machine);
     Ok(())
 }
