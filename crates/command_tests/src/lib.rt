@@ -1,9 +1,12 @@
-//! Tests of the commands through `run`, over files, an input and an output in memory. Those of `distances` and `check`
-//! stand in a crate of their own, but for the memory that is refused to them.
+//! Tests of the commands through `run`, over files, an input and an output in memory.
 //!
 //! Expected values come from the documents and from worked examples, never from the program.
 #![tactic(auto)]
 
+#[cfg(test)]
+mod check;
+#[cfg(test)]
+mod distances;
 #[cfg(test)]
 mod failures;
 #[cfg(test)]
@@ -19,7 +22,11 @@ mod listings;
 #[cfg(test)]
 mod load;
 #[cfg(test)]
+mod plans;
+#[cfg(test)]
 mod refused;
+#[cfg(test)]
+mod runs;
 #[cfg(test)]
 mod show;
 #[cfg(test)]

@@ -247,16 +247,31 @@ fn push_words(rt: &impl Abort, bytes: &mut Vec<u8>, words: &[u32]) {
     }
 }
 
-/// A section header without a name or an address, at an alignment of 16.
-fn push_section(
-    rt: &impl Abort,
-    bytes: &mut Vec<u8>,
+/// A section: its kind, its total length, the length of its image, and that of its raw bytes.
+#[derive(Clone, Copy)]
+struct Section {
     kind: u8,
     total: u32,
     unpacked: u32,
     packed: u32,
-    at: u32,
-) {
+}
+
+/// One word.
+const WORD: Section = Section {
+    kind: 1,
+    total: 4,
+    unpacked: 4,
+    packed: 4,
+};
+
+/// A section header without a name or an address, at an alignment of 16. The raw bytes stand at a place.
+fn push_section(rt: &impl Abort, bytes: &mut Vec<u8>, section: Section, at: u32) {
+    let Section {
+        kind,
+        total,
+        unpacked,
+        packed,
+    } = section;
     push_words(rt, bytes, &[0xFFFF_FFFF, 0, total, unpacked, packed, at]);
     push(rt, bytes, &[kind, 1, 4, 0]);
 }
@@ -289,57 +304,45 @@ fn loader(rt: &impl Abort, alloc: Global, row: &Row) -> Vec<u8> {
     bytes
 }
 
-/// A container header, of so many instantiated sections and a loader section.
-fn push_header(rt: &impl Abort, bytes: &mut Vec<u8>, sections: u16) {
+/// The headers of a container whose last section is its loader section. The raw bytes of the sections follow one
+/// another behind them.
+fn push_headers(rt: &impl Abort, bytes: &mut Vec<u8>, sections: &[Section]) {
+    let count = u16::try_from(sections.len()).expect(rt, "few sections");
     push(rt, bytes, b"Joy!peffpwpc");
     push_words(rt, bytes, &[1, 0, 0, 0, 0]);
-    push(rt, bytes, &sections.wrapping_add(1).to_be_bytes());
-    push(rt, bytes, &sections.to_be_bytes());
+    push(rt, bytes, &count.to_be_bytes());
+    push(rt, bytes, &count.wrapping_sub(1).to_be_bytes());
     push_words(rt, bytes, &[0]);
+    let mut at = u32::from(count).wrapping_mul(28).wrapping_add(40);
+    for section in sections {
+        push_section(rt, bytes, *section, at);
+        at = at.wrapping_add(section.packed);
+    }
 }
 
-/// The container of a row. The contents of its sections follow one another.
+/// The container of a row.
 fn container(rt: &impl Abort, alloc: Global, row: &Row) -> Vec<u8> {
     let loader = loader(rt, alloc, row);
-    let packed = len(row.raw);
+    let first = Section {
+        kind: row.kind,
+        total: row.total,
+        unpacked: row.unpacked,
+        packed: len(row.raw),
+    };
+    let last = Section {
+        kind: 4,
+        total: 0,
+        unpacked: 0,
+        packed: len(&loader),
+    };
     let mut bytes = Vec::new(alloc);
-    if row.second {
-        push_header(rt, &mut bytes, 2);
-        let behind = packed.wrapping_add(124);
-        push_section(
-            rt,
-            &mut bytes,
-            row.kind,
-            row.total,
-            row.unpacked,
-            packed,
-            124,
-        );
-        push_section(rt, &mut bytes, 1, 4, 4, 4, behind);
-        push_section(
-            rt,
-            &mut bytes,
-            4,
-            0,
-            0,
-            len(&loader),
-            behind.wrapping_add(4),
-        );
+    let second = if row.second {
+        push_headers(rt, &mut bytes, &[first, WORD, last]);
+        SECOND
     } else {
-        push_header(rt, &mut bytes, 1);
-        let behind = packed.wrapping_add(96);
-        push_section(
-            rt,
-            &mut bytes,
-            row.kind,
-            row.total,
-            row.unpacked,
-            packed,
-            96,
-        );
-        push_section(rt, &mut bytes, 4, 0, 0, len(&loader), behind);
-    }
-    let second = if row.second { SECOND } else { &[] };
+        push_headers(rt, &mut bytes, &[first, last]);
+        &[]
+    };
     for part in [row.raw, second, &loader] {
         push(rt, &mut bytes, part);
     }

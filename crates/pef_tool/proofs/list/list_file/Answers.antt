@@ -4,10 +4,16 @@ use Rattle.pef_listing.specs.Listed.{listed_of}
 use Rattle.pef_listing.specs.Listing.{listing_text}
 use Rattle.pef_listing.specs.Views.{parts}
 use Rattle.pef_answers.specs.Answers.{answer_done, answer_refused}
-use Rattle.pef_tool.specs.List.{lacks_memory, lists, unlisted}
-use Rattle.pef_answers.specs.Refusals.{refusal_text}
+use Rattle.pef_tool.specs.List.{lacks_memory, lists, unlisted, unreadable}
+use Rattle.pef_answers.specs.Refusals.{refusal_text, unreadable_text}
 use Rattle.pef_answers.specs.declared.refusal.Refusal.TheVariants.{Listing, OutOfMemory}
 use Rattle.pef_tool.proofs.list.list_file.Goals as goal
+
+pub returns-in-Err-Failed : goal.returns-in-Err-Failed
+returns-in-Err-Failed g c =
+    let call = rw c.in-Err-Failed.field-0-is at c.in-Err-Failed.ensures.call in
+    let told = rw c.in-Err-Failed.field-0-is at c.in-Err-Failed.ensures.told in
+    (answer_refused (unreadable_text c.args.path.now), (unreadable, record { call = call; told = told }, refl), c.deliver.ensures)
 
 pub returns-in-Err-OutOfMemory : goal.returns-in-Err-OutOfMemory
 returns-in-Err-OutOfMemory g c =

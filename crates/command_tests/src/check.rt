@@ -1,7 +1,6 @@
+use crate::runs::{Handed, assert_cut_output, assert_prints};
 use pef_tool::FileFault;
-use std::test::Fail;
-use test_bench::runs::{Handed, assert_cut_output, assert_prints};
-use test_bench::scripts::{VECTORS, VECTORS_CERTIFIED};
+use test_data::scripts::{VECTORS, VECTORS_CERTIFIED};
 
 const WORDS: [&str; 3] = ["check", "a", "b"];
 
@@ -73,15 +72,14 @@ const CHECKS: &[(&[u8], &[u8], &[u8], u8)] = &[
 ];
 
 #[test]
-fn check(rt: HostRuntime) -> Result<(), Fail> {
+fn check(rt: HostRuntime) {
     for row in CHECKS {
         let (script, certificates, printed, status) = *row;
         let handed = Handed::files(&WORDS, script, certificates);
-        let outcome = assert_prints(rt.alloc(), handed, printed, status)?;
-        outcome.assert_calls((2, 0))?;
+        let outcome = assert_prints(&rt, rt.alloc(), handed, printed, status);
+        outcome.assert_calls(&rt, (2, 0));
         assert!(rt; outcome.has(b"a", script) && outcome.has(b"b", certificates));
     }
-    Ok(())
 }
 
 /// Words with files that aren't there: what is printed, and the calls. SCRIPT is read before CERT, and both before a
@@ -105,13 +103,12 @@ const MISSING: &[(&[&str], &[u8], (u64, u64))] = &[
 ];
 
 #[test]
-fn check_missing(rt: HostRuntime) -> Result<(), Fail> {
+fn check_missing(rt: HostRuntime) {
     for row in MISSING {
         let (words, printed, calls) = *row;
         let handed = Handed::files(words, b"no line\n", b"");
-        assert_prints(rt.alloc(), handed, printed, 1)?.assert_calls(calls)?;
+        assert_prints(&rt, rt.alloc(), handed, printed, 1).assert_calls(&rt, calls);
     }
-    Ok(())
 }
 
 /// The call that fails, and how, what is printed, and the calls.
@@ -143,7 +140,7 @@ const FAILING: &[(u32, FileFault, &[u8], (u64, u64))] = &[
 ];
 
 #[test]
-fn check_unreadable(rt: HostRuntime) -> Result<(), Fail> {
+fn check_unreadable(rt: HostRuntime) {
     for row in FAILING {
         let (files_fail_at, fault, printed, calls) = *row;
         let handed = Handed {
@@ -152,13 +149,12 @@ fn check_unreadable(rt: HostRuntime) -> Result<(), Fail> {
             fault,
             ..Handed::files(&WORDS, b"no line\n", b"")
         };
-        assert_prints(rt.alloc(), handed, printed, 1)?.assert_calls(calls)?;
+        assert_prints(&rt, rt.alloc(), handed, printed, 1).assert_calls(&rt, calls);
     }
-    Ok(())
 }
 
 #[test]
-fn check_output_fails(rt: HostRuntime) -> Result<(), Fail> {
+fn check_output_fails(rt: HostRuntime) {
     let handed = Handed::files(&WORDS, VECTORS, VECTORS_CERTIFIED);
-    assert_cut_output(rt.alloc(), handed, CHECKED)
+    assert_cut_output(&rt, rt.alloc(), handed, CHECKED);
 }
