@@ -49,7 +49,7 @@ fn link_leaves_the_input(rt: HostRuntime) {
 /// Tests a container but for its program, which is one of several of the same length.
 fn test_example(rt: &impl Abort, alloc: Global, papers: &Papers) {
     let written = papers.bytes(b"out").expect(rt, "a container");
-    let same = changed(alloc, written, At::Front(180), EXAMPLE_PROGRAM).expect(rt, "a place");
+    let same = changed(alloc, written, At::Front(180), EXAMPLE_PROGRAM).expect(rt, "a copy");
     assert!(rt; same.as_slice() == EXAMPLE_CONTAINER);
 }
 

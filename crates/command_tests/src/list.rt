@@ -30,7 +30,7 @@ fn list_reexport(rt: HostRuntime) {
         b"versions 1 0 0\nlibrary L 1 0 -\nimport v data strong\nsection m data process 4 4\nexport u data m 0\n";
     let linked = run_tool(&rt, rt.alloc(), Handed::file(&["link", "a", "out"], script));
     let container = linked.papers.bytes(b"out").expect(&rt, "a container");
-    let bytes = changed(rt.alloc(), container, At::End(2), b"\xFF\xFD").expect(&rt, "a place");
+    let bytes = changed(rt.alloc(), container, At::End(2), b"\xFF\xFD").expect(&rt, "a copy");
     let outcome = run_tool(
         &rt,
         rt.alloc(),
@@ -100,7 +100,7 @@ const DAMAGED: &[(&[u8], usize, &[u8], &[u8])] = &[
 fn list_damaged(rt: HostRuntime) {
     for row in DAMAGED {
         let (container, at, other, printed) = *row;
-        let bytes = changed(rt.alloc(), container, At::Front(at), other).expect(&rt, "a place");
+        let bytes = changed(rt.alloc(), container, At::Front(at), other).expect(&rt, "a copy");
         let handed = Handed::file(&["list", "a"], bytes.as_slice());
         assert_prints(&rt, rt.alloc(), handed, printed, 1);
     }

@@ -166,7 +166,7 @@ fn put_files(rt: &impl Abort, alloc: Global, papers: &mut Papers) {
     put_linked(rt, alloc, papers, "x=y", b"");
     put_file(rt, papers, "vectors", VECTORS_LEAST);
     put_file(rt, papers, "text", b"versions 1 0 0\n");
-    let longer = changed(alloc, VECTORS_LEAST, At::Front(223), b"\x02").expect(rt, "a place");
+    let longer = changed(alloc, VECTORS_LEAST, At::Front(223), b"\x02").expect(rt, "a copy");
     put_file(rt, papers, "longer", &longer);
 }
 

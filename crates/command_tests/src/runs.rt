@@ -162,22 +162,22 @@ pub fn assert_prints(
     requires { 0 < handed.step }
 {
     let outcome = run_tool(rt, alloc, handed);
-    assert_same(rt, handed.words, &outcome.printed, printed);
-    assert!(rt;
-        outcome.status == status,
-        "{:?} ends with {}",
+    assert_ends(
+        rt,
         handed.words,
-        outcome.status
+        (outcome.printed.as_slice(), outcome.status),
+        (printed, status),
     );
     outcome
 }
 
-/// Tests what was printed.
-fn assert_same(rt: &impl Abort, words: &[&str], told: &[u8], printed: &[u8]) {
+/// Tests what was printed, and the status.
+fn assert_ends(rt: &impl Abort, words: &[&str], told: (&[u8], u8), wanted: (&[u8], u8)) {
+    let (printed, status) = told;
     assert!(rt;
-        told == printed,
-        "{words:?} prints {}",
-        str::from_utf8(told).unwrap_or("no text")
+        printed == wanted.0 && status == wanted.1,
+        "{words:?} ends with {status} and prints {}",
+        str::from_utf8(printed).unwrap_or("no text")
     );
 }
 
@@ -239,8 +239,7 @@ pub fn assert_prints_over(
     status: u8,
 ) {
     let (told, ended) = run_over(rt, alloc, papers, words);
-    assert_same(rt, words, &told, printed);
-    assert!(rt; ended == status, "{words:?} ends with {ended}");
+    assert_ends(rt, words, (told.as_slice(), ended), (printed, status));
 }
 
 /// Runs the tool over files, with an empty input: what it prints, and its status.
@@ -274,8 +273,7 @@ pub fn assert_prints_or_lacks_memory(
     let told = out.into_bytes();
     let refused = told.as_slice() == b"refused 99 OutOfMemory\n".as_slice() && status == 1;
     if !refused {
-        assert_same(rt, words, &told, printed);
-        assert!(rt; status == 0, "{words:?} ends with {status}");
+        assert_ends(rt, words, (told.as_slice(), status), (printed, 0));
     }
     say_answered(rt, refused)
 }

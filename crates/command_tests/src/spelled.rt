@@ -146,7 +146,7 @@ const SPELLED_ROWS: &[(Library, usize, &[u8], &[u8])] = &[
 
 /// The library with packed data.
 fn packed(rt: &impl Abort, alloc: Global) -> Vec<u8> {
-    let mut bytes = changed(alloc, SPELLED, At::Front(64), b"\x02").expect(rt, "a place");
+    let mut bytes = changed(alloc, SPELLED, At::Front(64), b"\x02").expect(rt, "a copy");
     change(&mut bytes, At::Front(59), b"\x03").expect(rt, "a place");
     change(&mut bytes, At::Front(96), b"\x41\x09\x7F").expect(rt, "a place");
     bytes
@@ -178,7 +178,7 @@ fn test_all_spelled(rt: &impl Abort, alloc: Global, papers: &mut Papers, packed:
             Library::Packed => packed,
             Library::Twice => TWICE,
         };
-        let library = changed(alloc, container, At::Front(at), other).expect(rt, "a place");
+        let library = changed(alloc, container, At::Front(at), other).expect(rt, "a copy");
         test_spelled(rt, alloc, papers, &library, printed);
     }
 }
@@ -222,7 +222,7 @@ fn put_circle(rt: &impl Abort, alloc: Global, papers: &mut Papers, path: &str, s
     put_linked(rt, alloc, papers, "linked", script);
     let linked = papers.bytes(b"linked").expect(rt, "a container");
     // the section of the only export stands at the end
-    let circle = changed(alloc, linked, At::End(2), b"\xFF\xFD").expect(rt, "a place");
+    let circle = changed(alloc, linked, At::End(2), b"\xFF\xFD").expect(rt, "a copy");
     put_file(rt, papers, path, &circle);
 }
 
