@@ -1,37 +1,39 @@
-use crate::runs::{Handed, assert_cut_output, assert_prints};
 use pef_ports::{InputFault, read_input};
 use pef_tool::FileFault;
+use std::test::Fail;
+use test_bench::containers::VECTORS_LEAST;
 use test_bench::ports::Text;
-use test_data::containers::VECTORS_LEAST;
-use test_data::scripts::{EXAMPLE, EXAMPLE_SHOWN, VECTORS, VECTORS_LINKED};
+use test_bench::runs::{Handed, assert_cut_output, assert_prints};
+use test_bench::scripts::{EXAMPLE, EXAMPLE_SHOWN, VECTORS, VECTORS_LINKED};
 
 #[test]
-fn show_output_fails(rt: HostRuntime) {
+fn show_output_fails(rt: HostRuntime) -> Result<(), Fail> {
     let show = Handed {
         step: 1,
         ..Handed::input(&["show"], EXAMPLE)
     };
-    assert_prints(&rt, rt.alloc(), show, EXAMPLE_SHOWN, 0);
-    assert_cut_output(&rt, rt.alloc(), show, EXAMPLE_SHOWN);
+    assert_prints(rt.alloc(), show, EXAMPLE_SHOWN, 0)?;
+    assert_cut_output(rt.alloc(), show, EXAMPLE_SHOWN)
 }
 
 /// An output that takes a byte a call, and fails at call k: k - 1 bytes go out, and the container is whole.
 #[test]
-fn link_output_fails(rt: HostRuntime) {
+fn link_output_fails(rt: HostRuntime) -> Result<(), Fail> {
     for k in 1..=VECTORS_LINKED.len() {
         let handed = Handed {
             step: 1,
             out_fails_at: k,
             ..Handed::file(&["link", "a", "out"], VECTORS)
         };
-        let outcome = assert_prints(&rt, rt.alloc(), handed, &VECTORS_LINKED[..k - 1], 1);
+        let outcome = assert_prints(rt.alloc(), handed, &VECTORS_LINKED[..k - 1], 1)?;
         assert!(rt; outcome.has(b"out", VECTORS_LEAST));
     }
+    Ok(())
 }
 
 /// An input that gives seven bytes a call, and fails at call k: it isn't read on, though it would go on.
 #[test]
-fn input_fails(rt: HostRuntime) {
+fn input_fails(rt: HostRuntime) -> Result<(), Fail> {
     for k in 1..=EXAMPLE.len() / 7 + 1 {
         let handed = Handed {
             step: 7,
@@ -39,9 +41,10 @@ fn input_fails(rt: HostRuntime) {
             ..Handed::input(&["show"], EXAMPLE)
         };
         let printed = b"refused 73 InputUnreadable\n";
-        let outcome = assert_prints(&rt, rt.alloc(), handed, printed, 1);
+        let outcome = assert_prints(rt.alloc(), handed, printed, 1)?;
         assert!(rt; outcome.left == EXAMPLE.len() - 7 * (k - 1));
     }
+    Ok(())
 }
 
 /// Inputs that are read with a limit, and what is answered.
@@ -91,7 +94,7 @@ const FAILING: &[(u32, FileFault, &[u8], (u64, u64))] = &[
 ];
 
 #[test]
-fn files_fail(rt: HostRuntime) {
+fn files_fail(rt: HostRuntime) -> Result<(), Fail> {
     for row in FAILING {
         let (files_fail_at, fault, printed, calls) = *row;
         let handed = Handed {
@@ -100,9 +103,10 @@ fn files_fail(rt: HostRuntime) {
             fault,
             ..Handed::file(&["link", "a", "out"], EXAMPLE)
         };
-        let outcome = assert_prints(&rt, rt.alloc(), handed, printed, 1);
-        outcome.assert_calls(&rt, calls);
+        let outcome = assert_prints(rt.alloc(), handed, printed, 1)?;
+        outcome.assert_calls(calls)?;
         assert!(rt; outcome.has(b"a", EXAMPLE));
         assert!(rt; outcome.papers.bytes(b"out").is_none());
     }
+    Ok(())
 }

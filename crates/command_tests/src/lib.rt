@@ -1,12 +1,9 @@
-//! Tests of the commands through `run`, over files, an input and an output in memory.
+//! Tests of the commands through `run`, over files, an input and an output in memory. Those of `distances` and `check`
+//! stand in a crate of their own, but for the memory that is refused to them.
 //!
 //! Expected values come from the documents and from worked examples, never from the program.
 #![tactic(auto)]
 
-#[cfg(test)]
-mod check;
-#[cfg(test)]
-mod distances;
 #[cfg(test)]
 mod failures;
 #[cfg(test)]
@@ -22,11 +19,7 @@ mod listings;
 #[cfg(test)]
 mod load;
 #[cfg(test)]
-mod plans;
-#[cfg(test)]
 mod refused;
-#[cfg(test)]
-mod runs;
 #[cfg(test)]
 mod show;
 #[cfg(test)]

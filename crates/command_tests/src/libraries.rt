@@ -1,4 +1,5 @@
-use crate::runs::{Handed, assert_cut_output, assert_prints, assert_shows};
+use std::test::Fail;
+use test_bench::runs::{Handed, assert_cut_output, assert_prints, assert_shows};
 
 /// Scripts with libraries, of which `it` is the script itself: what `show` prints of them, and its status.
 const LIBRARIES: &[(&[u8], &[u8], u8)] = &[
@@ -88,22 +89,23 @@ const LIBRARIES: &[(&[u8], &[u8], u8)] = &[
 ];
 
 #[test]
-fn show_libraries(rt: HostRuntime) {
+fn show_libraries(rt: HostRuntime) -> Result<(), Fail> {
     for row in LIBRARIES {
         let (script, printed, status) = *row;
-        assert_shows(&rt, rt.alloc(), script, printed, status);
+        assert_shows(rt.alloc(), script, printed, status)?;
     }
+    Ok(())
 }
 
 /// The line of a refusal with names goes out byte by byte, or a front of it up to the call that fails.
 #[test]
-fn refusal_fails(rt: HostRuntime) {
+fn refusal_fails(rt: HostRuntime) -> Result<(), Fail> {
     let script = b"library it 0 0 -\nimport a%b data strong\n";
     let printed: &[u8] = b"refused 62 SymbolMissing in it library it symbol a%25b\n";
     let whole = Handed {
         step: 1,
         ..Handed::input(&["show"], script)
     };
-    assert_prints(&rt, rt.alloc(), whole, printed, 1);
-    assert_cut_output(&rt, rt.alloc(), whole, printed);
+    assert_prints(rt.alloc(), whole, printed, 1)?;
+    assert_cut_output(rt.alloc(), whole, printed)
 }

@@ -1,10 +1,11 @@
 //! Scripts at all limits at once: 8 sections of 16,384 fixups that don't adjoin, 4,096 libraries, 65,536
 //! imports and 16,383 exports.
 
-use crate::runs::{Handed, assert_prints, assert_shows};
-use std::alloc::{AllocError, Global};
+use std::alloc::Global;
 use std::fmt::Write;
-use test_data::limits::{EVERY_OTHER, SECTIONS, at_all_limits, push_every_other, push_sections};
+use std::test::Fail;
+use test_bench::limits::{EVERY_OTHER, SECTIONS, at_all_limits, push_every_other, push_sections};
+use test_bench::runs::{Handed, assert_prints, assert_shows};
 
 /// The address of a section.
 fn address_of(k: u32) -> u32 {
@@ -13,7 +14,7 @@ fn address_of(k: u32) -> u32 {
 
 /// A line of memory of a section, in which every other word has an address: that of the first section, or behind the
 /// fourth section those of all sections in turn.
-fn push_row(text: &mut String, k: u32, row: u32) -> Result<(), AllocError> {
+fn push_row(text: &mut String, k: u32, row: u32) -> Result<(), Fail> {
     let first = if k < 4 { 0 } else { row % 4 * 2 };
     let second = if k < 4 { 0 } else { row % 4 * 2 + 1 };
     let address = address_of(k).wrapping_add(row.wrapping_mul(16));
@@ -27,7 +28,7 @@ fn push_row(text: &mut String, k: u32, row: u32) -> Result<(), AllocError> {
 
 /// A script whose fixups are by an export of the fragment's own, at the first byte of its first section, and by all
 /// sections in turn.
-fn own_import(alloc: Global) -> Result<String, AllocError> {
+fn own_import(alloc: Global) -> Result<String, Fail> {
     let mut text = String::from_str(alloc, "library it 0 0 -\nimport u data strong\n")?;
     push_sections(&mut text, 4, EVERY_OTHER)?;
     push_every_other(&mut text, "import u")?;
@@ -36,7 +37,7 @@ fn own_import(alloc: Global) -> Result<String, AllocError> {
 }
 
 /// The lines of a section.
-fn push_section(text: &mut String, k: u32) -> Result<(), AllocError> {
+fn push_section(text: &mut String, k: u32) -> Result<(), Fail> {
     let address = address_of(k);
     writeln!(text, "section {k} at {address:08X} size {EVERY_OTHER}")?;
     for row in 0..EVERY_OTHER / 16 {
@@ -46,7 +47,7 @@ fn push_section(text: &mut String, k: u32) -> Result<(), AllocError> {
 }
 
 /// What `show` prints of the script.
-fn shown(alloc: Global) -> Result<String, AllocError> {
+fn shown(alloc: Global) -> Result<String, Fail> {
     let mut text = String::from_str(alloc, "fragment it\n")?;
     for k in 0..SECTIONS.len() as u32 {
         push_section(&mut text, k)?;
@@ -55,10 +56,10 @@ fn shown(alloc: Global) -> Result<String, AllocError> {
 }
 
 #[test]
-fn show_at_the_limits(rt: HostRuntime) {
-    let script = own_import(rt.alloc()).expect(&rt, "memory");
-    let shown = shown(rt.alloc()).expect(&rt, "memory");
-    assert_shows(&rt, rt.alloc(), script.as_bytes(), shown.as_bytes(), 0);
+fn show_at_the_limits(rt: HostRuntime) -> Result<(), Fail> {
+    let script = own_import(rt.alloc())?;
+    let shown = shown(rt.alloc())?;
+    assert_shows(rt.alloc(), script.as_bytes(), shown.as_bytes(), 0)
 }
 
 /// What `link` prints: a program has two halfwords for each fixup by a far import, and one for each move, of
@@ -71,14 +72,14 @@ const LINKED: &[u8] =
     b"linked 1795714 bytes\nsection 0 length 49151\nsection 1 length 49151\nsection 2 length 49151\nsection 3 length 49151\nsection 4 length 30719\nsection 5 length 30719\nsection 6 length 30719\nsection 7 length 30719\n";
 
 #[test]
-fn link_at_the_limits(rt: HostRuntime) {
-    let script = at_all_limits(rt.alloc()).expect(&rt, "memory");
+fn link_at_the_limits(rt: HostRuntime) -> Result<(), Fail> {
+    let script = at_all_limits(rt.alloc())?;
     let words = ["link", "a", "out"];
     assert_prints(
-        &rt,
         rt.alloc(),
         Handed::file(&words, script.as_bytes()),
         LINKED,
         0,
-    );
+    )?;
+    Ok(())
 }

@@ -1,12 +1,13 @@
 use crate::listings::{RICH_LISTED, VECTORS_LISTED};
-use crate::runs::{Handed, assert_cut_output, assert_prints, assert_unreadable, run_tool};
-use test_data::changes::{At, changed};
-use test_data::containers::{RICH, VECTORS_LEAST};
-use test_data::scripts::EMPTY_CONTAINER;
+use std::test::Fail;
+use test_bench::changes::{At, changed};
+use test_bench::containers::{RICH, VECTORS_LEAST};
+use test_bench::runs::{Handed, assert_cut_output, assert_prints, assert_unreadable, run_tool};
+use test_bench::scripts::EMPTY_CONTAINER;
 
 /// Containers, and what `list` prints of them.
 #[test]
-fn list(rt: HostRuntime) {
+fn list(rt: HostRuntime) -> Result<(), Fail> {
     let rows: [(&[u8], &[u8]); 3] = [
         (VECTORS_LEAST, VECTORS_LISTED),
         (RICH, RICH_LISTED),
@@ -17,25 +18,24 @@ fn list(rt: HostRuntime) {
     ];
     for (container, printed) in rows {
         let handed = Handed::file(&["list", "a"], container);
-        let outcome = assert_prints(&rt, rt.alloc(), handed, printed, 0);
-        outcome.assert_calls(&rt, (1, 0));
+        let outcome = assert_prints(rt.alloc(), handed, printed, 0)?;
+        outcome.assert_calls((1, 0))?;
         assert!(rt; outcome.has(b"a", container));
     }
+    Ok(())
 }
 
 /// A container that was linked, with its export made a re-export of its import.
 #[test]
-fn list_reexport(rt: HostRuntime) {
+fn list_reexport(rt: HostRuntime) -> Result<(), Fail> {
     let script =
         b"versions 1 0 0\nlibrary L 1 0 -\nimport v data strong\nsection m data process 4 4\nexport u data m 0\n";
-    let linked = run_tool(&rt, rt.alloc(), Handed::file(&["link", "a", "out"], script));
-    let container = linked.papers.bytes(b"out").expect(&rt, "a container");
-    let bytes = changed(rt.alloc(), container, At::End(2), b"\xFF\xFD").expect(&rt, "a copy");
-    let outcome = run_tool(
-        &rt,
-        rt.alloc(),
-        Handed::file(&["list", "a"], bytes.as_slice()),
-    );
+    let linked = run_tool(rt.alloc(), Handed::file(&["link", "a", "out"], script))?;
+    let Some(container) = linked.papers.bytes(b"out") else {
+        return Err(Fail::from("nothing was linked"));
+    };
+    let bytes = changed(rt.alloc(), container, At::End(2), b"\xFF\xFD").ok_or("no such place")?;
+    let outcome = run_tool(rt.alloc(), Handed::file(&["list", "a"], bytes.as_slice()))?;
     assert!(rt;
         outcome
             .printed
@@ -43,6 +43,7 @@ fn list_reexport(rt: HostRuntime) {
             .ends_with(b"\nexport u class 1 section -3 value 00000000\n")
     );
     assert!(rt; outcome.status == 0);
+    Ok(())
 }
 
 /// Damaged copies: from which place which bytes are others, and the only line that is printed then.
@@ -97,22 +98,23 @@ const DAMAGED: &[(&[u8], usize, &[u8], &[u8])] = &[
 ];
 
 #[test]
-fn list_damaged(rt: HostRuntime) {
+fn list_damaged(rt: HostRuntime) -> Result<(), Fail> {
     for row in DAMAGED {
         let (container, at, other, printed) = *row;
-        let bytes = changed(rt.alloc(), container, At::Front(at), other).expect(&rt, "a copy");
+        let bytes = changed(rt.alloc(), container, At::Front(at), other).ok_or("no such place")?;
         let handed = Handed::file(&["list", "a"], bytes.as_slice());
-        assert_prints(&rt, rt.alloc(), handed, printed, 1);
+        assert_prints(rt.alloc(), handed, printed, 1)?;
     }
+    Ok(())
 }
 
 #[test]
-fn list_unreadable(rt: HostRuntime) {
-    assert_unreadable(&rt, rt.alloc(), "list", VECTORS_LEAST);
+fn list_unreadable(rt: HostRuntime) -> Result<(), Fail> {
+    assert_unreadable(rt.alloc(), "list", VECTORS_LEAST)
 }
 
 #[test]
-fn list_output_fails(rt: HostRuntime) {
+fn list_output_fails(rt: HostRuntime) -> Result<(), Fail> {
     let handed = Handed::file(&["list", "a"], VECTORS_LEAST);
-    assert_cut_output(&rt, rt.alloc(), handed, VECTORS_LISTED);
+    assert_cut_output(rt.alloc(), handed, VECTORS_LISTED)
 }

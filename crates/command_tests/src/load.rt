@@ -1,11 +1,11 @@
-use crate::runs::{assert_prints_over, put_file, put_linked, run_over};
 use pef_tool::FileFault;
 use std::alloc::{AllocError, Global};
-use std::process::Abort;
+use std::test::Fail;
+use test_bench::changes::{At, changed};
+use test_bench::containers::VECTORS_LEAST;
 use test_bench::ports::Papers;
-use test_data::changes::{At, changed};
-use test_data::containers::VECTORS_LEAST;
-use test_data::scripts::{LIBRARY, USER};
+use test_bench::runs::{assert_prints_over, put_file, put_linked, run_over};
+use test_bench::scripts::{LIBRARY, USER};
 
 /// Scripts, and the paths at which their containers lie.
 const SCRIPTS: &[(&str, &str)] = &[
@@ -159,29 +159,30 @@ const LOADS: &[(&[&str], &[u8], u8)] = &[
 ];
 
 /// Puts the containers of the scripts, and other files.
-fn put_files(rt: &impl Abort, alloc: Global, papers: &mut Papers) {
+fn put_files(alloc: Global, papers: &mut Papers) -> Result<(), Fail> {
     for (path, script) in SCRIPTS {
-        put_linked(rt, alloc, papers, path, script.as_bytes());
+        put_linked(alloc, papers, path, script.as_bytes())?;
     }
-    put_linked(rt, alloc, papers, "x=y", b"");
-    put_file(rt, papers, "vectors", VECTORS_LEAST);
-    put_file(rt, papers, "text", b"versions 1 0 0\n");
-    let longer = changed(alloc, VECTORS_LEAST, At::Front(223), b"\x02").expect(rt, "a copy");
-    put_file(rt, papers, "longer", &longer);
+    put_linked(alloc, papers, "x=y", b"")?;
+    put_file(papers, "vectors", VECTORS_LEAST)?;
+    put_file(papers, "text", b"versions 1 0 0\n")?;
+    let longer = changed(alloc, VECTORS_LEAST, At::Front(223), b"\x02").ok_or("no such place")?;
+    put_file(papers, "longer", &longer)
 }
 
-fn test_loads(rt: &impl Abort, alloc: Global, papers: &mut Papers) {
+fn test_loads(alloc: Global, papers: &mut Papers) -> Result<(), Fail> {
     for row in LOADS {
         let (words, printed, status) = *row;
-        assert_prints_over(rt, alloc, papers, words, printed, status);
+        assert_prints_over(alloc, papers, words, printed, status)?;
     }
+    Ok(())
 }
 
 #[test]
-fn load(rt: HostRuntime) {
+fn load(rt: HostRuntime) -> Result<(), Fail> {
     let mut papers = Papers::new(rt.alloc(), 0, FileFault::Failed);
-    put_files(&rt, rt.alloc(), &mut papers);
-    test_loads(&rt, rt.alloc(), &mut papers);
+    put_files(rt.alloc(), &mut papers)?;
+    test_loads(rt.alloc(), &mut papers)
 }
 
 /// A call that reads a file fails, or memory is refused to it: what is printed, and how many reads there were.
@@ -193,29 +194,23 @@ const FAILING: &[(u32, FileFault, &[u8], u64)] = &[
 ];
 
 /// Loads three files of which one isn't read, and tells the calls of reads and of writes.
-fn calls_of(rt: &impl Abort, alloc: Global, papers: &mut Papers, printed: &[u8]) -> (u64, u64) {
+fn calls_of(alloc: Global, papers: &mut Papers, printed: &[u8]) -> Result<(u64, u64), Fail> {
     for path in ["a", "b", "c"] {
-        put_file(rt, papers, path, VECTORS_LEAST);
+        put_file(papers, path, VECTORS_LEAST)?;
     }
-    assert_prints_over(
-        rt,
-        alloc,
-        papers,
-        &["load", "A=a", "B=b", "C=c"],
-        printed,
-        1,
-    );
-    papers.calls()
+    assert_prints_over(alloc, papers, &["load", "A=a", "B=b", "C=c"], printed, 1)?;
+    Ok(papers.calls())
 }
 
 /// No file behind one that isn't read is read.
 #[test]
-fn load_files_fail(rt: HostRuntime) {
+fn load_files_fail(rt: HostRuntime) -> Result<(), Fail> {
     for row in FAILING {
         let (call, fault, printed, reads) = *row;
         let mut papers = Papers::new(rt.alloc(), call, fault);
-        assert!(rt; calls_of(&rt, rt.alloc(), &mut papers, printed) == (reads, 0));
+        assert!(rt; calls_of(rt.alloc(), &mut papers, printed)? == (reads, 0));
     }
+    Ok(())
 }
 
 /// The words that load a file so many times.
@@ -230,20 +225,22 @@ fn words_of(alloc: Global, count: usize) -> Result<Vec<&'static str>, AllocError
 
 /// As many files as there may be.
 #[test]
-fn load_many(rt: HostRuntime) {
+fn load_many(rt: HostRuntime) -> Result<(), Fail> {
     let mut papers = Papers::new(rt.alloc(), 0, FileFault::Failed);
-    put_file(&rt, &mut papers, "x", VECTORS_LEAST);
-    let words = words_of(rt.alloc(), 256).expect(&rt, "memory");
-    let (_, status) = run_over(&rt, rt.alloc(), &mut papers, &words);
+    put_file(&mut papers, "x", VECTORS_LEAST)?;
+    let words = words_of(rt.alloc(), 256)?;
+    let (_, status) = run_over(rt.alloc(), &mut papers, &words)?;
     assert!(rt; status == 0);
     assert!(rt; papers.calls() == (256, 0));
+    Ok(())
 }
 
 /// With one more the words are no command.
 #[test]
-fn load_too_many(rt: HostRuntime) {
+fn load_too_many(rt: HostRuntime) -> Result<(), Fail> {
     let mut papers = Papers::new(rt.alloc(), 0, FileFault::Failed);
-    let words = words_of(rt.alloc(), 257).expect(&rt, "memory");
-    assert_prints_over(&rt, rt.alloc(), &mut papers, &words, b"usage\n", 2);
+    let words = words_of(rt.alloc(), 257)?;
+    assert_prints_over(rt.alloc(), &mut papers, &words, b"usage\n", 2)?;
     assert!(rt; papers.calls() == (0, 0));
+    Ok(())
 }

@@ -2,27 +2,26 @@
 //! another, as by `tools/refuse-memory`.
 
 use crate::listings::VECTORS_LISTED;
-use crate::runs::{assert_prints_or_lacks_memory, put_file, put_linked};
 use pef_tool::FileFault;
 use std::alloc::Global;
-use std::process::Abort;
 use std::test::Fail;
+use test_bench::containers::VECTORS_LEAST;
 use test_bench::ports::Papers;
-use test_data::containers::VECTORS_LEAST;
-use test_data::scripts::{
+use test_bench::runs::{assert_prints_or_lacks_memory, put_file, put_linked};
+use test_bench::scripts::{
     EXAMPLE, EXAMPLE_SHOWN, LIBRARY, USER, VECTORS, VECTORS_CERTIFIED, VECTORS_LINKED,
 };
 
 /// A file `a`, and nothing else.
-fn papers(rt: &impl Abort, alloc: Global, file: &[u8]) -> Papers {
+fn papers(alloc: Global, file: &[u8]) -> Result<Papers, Fail> {
     let mut papers = Papers::new(alloc, 0, FileFault::Failed);
-    put_file(rt, &mut papers, "a", file);
-    papers
+    put_file(&mut papers, "a", file)?;
+    Ok(papers)
 }
 
 #[test]
 fn show(rt: HostRuntime) -> Result<(), Fail> {
-    let mut papers = papers(&rt, rt.alloc(), b"");
+    let mut papers = papers(rt.alloc(), b"")?;
     assert_prints_or_lacks_memory(
         &rt,
         rt.alloc(),
@@ -36,7 +35,7 @@ fn show(rt: HostRuntime) -> Result<(), Fail> {
 /// The container is whole, or there is none.
 #[test]
 fn link(rt: HostRuntime) -> Result<(), Fail> {
-    let mut papers = papers(&rt, rt.alloc(), VECTORS);
+    let mut papers = papers(rt.alloc(), VECTORS)?;
     let words = ["link", "a", "out"];
     assert_prints_or_lacks_memory(&rt, rt.alloc(), &mut papers, &words, b"", VECTORS_LINKED)?;
     let written = papers.bytes(b"out");
@@ -46,7 +45,7 @@ fn link(rt: HostRuntime) -> Result<(), Fail> {
 
 #[test]
 fn distances(rt: HostRuntime) -> Result<(), Fail> {
-    let mut papers = papers(&rt, rt.alloc(), VECTORS);
+    let mut papers = papers(rt.alloc(), VECTORS)?;
     assert_prints_or_lacks_memory(
         &rt,
         rt.alloc(),
@@ -59,8 +58,8 @@ fn distances(rt: HostRuntime) -> Result<(), Fail> {
 
 #[test]
 fn check(rt: HostRuntime) -> Result<(), Fail> {
-    let mut papers = papers(&rt, rt.alloc(), VECTORS);
-    put_file(&rt, &mut papers, "b", VECTORS_CERTIFIED);
+    let mut papers = papers(rt.alloc(), VECTORS)?;
+    put_file(&mut papers, "b", VECTORS_CERTIFIED)?;
     let checked = b"section 0 yes 0\nsection 1 yes 1\n";
     let words = ["check", "a", "b"];
     assert_prints_or_lacks_memory(&rt, rt.alloc(), &mut papers, &words, b"", checked)
@@ -68,7 +67,7 @@ fn check(rt: HostRuntime) -> Result<(), Fail> {
 
 #[test]
 fn list(rt: HostRuntime) -> Result<(), Fail> {
-    let mut papers = papers(&rt, rt.alloc(), VECTORS_LEAST);
+    let mut papers = papers(rt.alloc(), VECTORS_LEAST)?;
     assert_prints_or_lacks_memory(
         &rt,
         rt.alloc(),
@@ -81,9 +80,9 @@ fn list(rt: HostRuntime) -> Result<(), Fail> {
 
 #[test]
 fn load(rt: HostRuntime) -> Result<(), Fail> {
-    let mut papers = papers(&rt, rt.alloc(), b"");
-    put_linked(&rt, rt.alloc(), &mut papers, "user", USER.as_bytes());
-    put_linked(&rt, rt.alloc(), &mut papers, "library", LIBRARY.as_bytes());
+    let mut papers = papers(rt.alloc(), b"")?;
+    put_linked(rt.alloc(), &mut papers, "user", USER.as_bytes())?;
+    put_linked(rt.alloc(), &mut papers, "library", LIBRARY.as_bytes())?;
     let loaded =
         b"fragment L\nsection 0 at 00010000 size 4\n00010000 0000002A\nfragment A\nsection 0 at 00010010 size 4\n00010010 00010000\n";
     let words = ["load", "A=user", "L=library"];

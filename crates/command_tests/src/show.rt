@@ -1,5 +1,6 @@
-use crate::runs::assert_shows;
-use test_data::scripts::{EXAMPLE, EXAMPLE_SHOWN, VECTORS};
+use std::test::Fail;
+use test_bench::runs::assert_shows;
+use test_bench::scripts::{EXAMPLE, EXAMPLE_SHOWN, VECTORS};
 
 /// Scripts on the input, what `show` prints of them, and its status.
 const SHOWN: &[(&[u8], &[u8], u8)] = &[
@@ -74,9 +75,10 @@ const SHOWN: &[(&[u8], &[u8], u8)] = &[
 ];
 
 #[test]
-fn show(rt: HostRuntime) {
+fn show(rt: HostRuntime) -> Result<(), Fail> {
     for row in SHOWN {
         let (script, printed, status) = *row;
-        assert_shows(&rt, rt.alloc(), script, printed, status);
+        assert_shows(rt.alloc(), script, printed, status)?;
     }
+    Ok(())
 }

@@ -1,12 +1,12 @@
 //! Containers that `link` doesn't write.
 
-use crate::runs::{assert_prints_over, put_file, put_linked};
 use pef_tool::FileFault;
 use std::alloc::Global;
-use std::process::Abort;
+use std::test::Fail;
+use test_bench::changes::{At, change, changed};
+use test_bench::containers::{SPELLED, TWICE};
 use test_bench::ports::Papers;
-use test_data::changes::{At, change, changed};
-use test_data::containers::{SPELLED, TWICE};
+use test_bench::runs::{assert_prints_over, put_file, put_linked};
 
 /// A library that is spelled by hand: with a plain section, with three bytes of pattern-initialized data (byte
 /// 7F ten times), and with two relocation headers.
@@ -145,32 +145,39 @@ const SPELLED_ROWS: &[(Library, usize, &[u8], &[u8])] = &[
 ];
 
 /// The library with packed data.
-fn packed(rt: &impl Abort, alloc: Global) -> Vec<u8> {
-    let mut bytes = changed(alloc, SPELLED, At::Front(64), b"\x02").expect(rt, "a copy");
-    change(&mut bytes, At::Front(59), b"\x03").expect(rt, "a place");
-    change(&mut bytes, At::Front(96), b"\x41\x09\x7F").expect(rt, "a place");
-    bytes
+fn packed(alloc: Global) -> Result<Vec<u8>, Fail> {
+    let mut bytes = changed(alloc, SPELLED, At::Front(64), b"\x02").ok_or("no such place")?;
+    change(&mut bytes, At::Front(59), b"\x03").ok_or("no such place")?;
+    change(&mut bytes, At::Front(96), b"\x41\x09\x7F").ok_or("no such place")?;
+    Ok(bytes)
 }
 
-/// Tests what `load` prints where the library has these bytes.
+/// Tests what `load` prints where the library is this container with other bytes from a place on.
 fn test_spelled(
-    rt: &impl Abort,
     alloc: Global,
     papers: &mut Papers,
-    library: &[u8],
+    container: &[u8],
+    at: usize,
+    other: &[u8],
     printed: &[u8],
-) {
-    put_file(rt, papers, "p", library);
+) -> Result<(), Fail> {
+    let changed = changed(alloc, container, At::Front(at), other).ok_or("no such place")?;
+    put_file(papers, "p", &changed)?;
     let status = if printed.starts_with(b"fragment") {
         0
     } else {
         1
     };
-    let words = ["load", "A=needs-p", "P=p"];
-    assert_prints_over(rt, alloc, papers, &words, printed, status);
+    assert_prints_over(
+        alloc,
+        papers,
+        &["load", "A=needs-p", "P=p"],
+        printed,
+        status,
+    )
 }
 
-fn test_all_spelled(rt: &impl Abort, alloc: Global, papers: &mut Papers, packed: &[u8]) {
+fn test_all_spelled(alloc: Global, papers: &mut Papers, packed: &[u8]) -> Result<(), Fail> {
     for row in SPELLED_ROWS {
         let (library, at, other, printed) = *row;
         let container = match library {
@@ -178,23 +185,17 @@ fn test_all_spelled(rt: &impl Abort, alloc: Global, papers: &mut Papers, packed:
             Library::Packed => packed,
             Library::Twice => TWICE,
         };
-        let library = changed(alloc, container, At::Front(at), other).expect(rt, "a copy");
-        test_spelled(rt, alloc, papers, &library, printed);
+        test_spelled(alloc, papers, container, at, other, printed)?;
     }
+    Ok(())
 }
 
 #[test]
-fn load_spelled(rt: HostRuntime) {
+fn load_spelled(rt: HostRuntime) -> Result<(), Fail> {
     let mut papers = Papers::new(rt.alloc(), 0, FileFault::Failed);
-    put_linked(
-        &rt,
-        rt.alloc(),
-        &mut papers,
-        "needs-p",
-        b"library P 0 0 -\n",
-    );
-    let packed = packed(&rt, rt.alloc());
-    test_all_spelled(&rt, rt.alloc(), &mut papers, &packed);
+    put_linked(rt.alloc(), &mut papers, "needs-p", b"library P 0 0 -\n")?;
+    let packed = packed(rt.alloc())?;
+    test_all_spelled(rt.alloc(), &mut papers, &packed)
 }
 
 /// Scripts whose export is made to pass on their import, and the paths at which their containers lie.
@@ -218,12 +219,12 @@ const CIRCLES: &[(&str, &[u8])] = &[
 ];
 
 /// Puts the container of a script at a path, with its only export made to pass on an import.
-fn put_circle(rt: &impl Abort, alloc: Global, papers: &mut Papers, path: &str, script: &[u8]) {
-    put_linked(rt, alloc, papers, "linked", script);
-    let linked = papers.bytes(b"linked").expect(rt, "a container");
+fn put_circle(alloc: Global, papers: &mut Papers, path: &str, script: &[u8]) -> Result<(), Fail> {
+    put_linked(alloc, papers, "linked", script)?;
+    let linked = papers.bytes(b"linked").ok_or("nothing was linked")?;
     // the section of the only export stands at the end
-    let circle = changed(alloc, linked, At::End(2), b"\xFF\xFD").expect(rt, "a copy");
-    put_file(rt, papers, path, &circle);
+    let circle = changed(alloc, linked, At::End(2), b"\xFF\xFD").ok_or("no such place")?;
+    put_file(papers, path, &circle)
 }
 
 /// Exports that pass on an import around a circle, and what `load` prints: the import is named that led into it, with
@@ -243,19 +244,20 @@ const CIRCLES_LOADED: &[(&[&str], &[u8])] = &[
     ),
 ];
 
-fn test_circles(rt: &impl Abort, alloc: Global, papers: &mut Papers) {
+fn test_circles(alloc: Global, papers: &mut Papers) -> Result<(), Fail> {
     for (path, script) in CIRCLES {
-        put_circle(rt, alloc, papers, path, script);
+        put_circle(alloc, papers, path, script)?;
     }
     let user = b"library P 1 0 -\nimport u data strong\n";
-    put_linked(rt, alloc, papers, "user", user);
+    put_linked(alloc, papers, "user", user)?;
     for (words, printed) in CIRCLES_LOADED {
-        assert_prints_over(rt, alloc, papers, words, printed, 1);
+        assert_prints_over(alloc, papers, words, printed, 1)?;
     }
+    Ok(())
 }
 
 #[test]
-fn load_circles(rt: HostRuntime) {
+fn load_circles(rt: HostRuntime) -> Result<(), Fail> {
     let mut papers = Papers::new(rt.alloc(), 0, FileFault::Failed);
-    test_circles(&rt, rt.alloc(), &mut papers);
+    test_circles(rt.alloc(), &mut papers)
 }

@@ -1,5 +1,6 @@
-use crate::runs::{Handed, assert_prints};
-use test_data::scripts::EXAMPLE;
+use std::test::Fail;
+use test_bench::runs::{Handed, assert_prints};
+use test_bench::scripts::EXAMPLE;
 
 /// Words that are no command, a request for help among them: the usage, and nothing is read or written.
 const NO_COMMANDS: &[&[&str]] = &[
@@ -30,14 +31,15 @@ const NO_COMMANDS: &[&[&str]] = &[
 ];
 
 #[test]
-fn usage(rt: HostRuntime) {
+fn usage(rt: HostRuntime) -> Result<(), Fail> {
     for words in NO_COMMANDS {
         let handed = Handed {
             file: EXAMPLE,
             ..Handed::input(words, EXAMPLE)
         };
-        let outcome = assert_prints(&rt, rt.alloc(), handed, b"usage\n", 2);
+        let outcome = assert_prints(rt.alloc(), handed, b"usage\n", 2)?;
         assert!(rt; outcome.left == EXAMPLE.len());
-        outcome.assert_calls(&rt, (0, 0));
+        outcome.assert_calls((0, 0))?;
     }
+    Ok(())
 }

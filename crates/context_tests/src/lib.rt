@@ -1,12 +1,8 @@
-//! Tests of closures and of contexts, also at their limits, through public calls: the containers are linked from
-//! scripts, or spelled by hand. The expected values come from the rules of binding and of preparation and their worked
-//! examples, never from the program.
+//! Tests of contexts, and of contexts and closures at their limits, through public calls: the containers are linked from
+//! scripts. The expected values come from the rules of binding and of preparation and their worked examples, never from
+//! the program.
 #![tactic(auto)]
 
-#[cfg(test)]
-mod bound;
-#[cfg(test)]
-mod closures;
 #[cfg(test)]
 mod fixture;
 #[cfg(test)]
@@ -17,8 +13,6 @@ mod limits;
 mod loading;
 #[cfg(test)]
 mod many;
-#[cfg(test)]
-mod pairs;
 #[cfg(test)]
 mod readers;
 #[cfg(test)]

@@ -1,10 +1,8 @@
-//! Tests of plans, of certificates and of their text. They go through public calls. The expected values come from the
-//! definition of labels, from worked examples, from the format's documents, from a plain method that tries each end of
-//! each run, and from a search of the machine, never from the program.
+//! Tests of plans. They go through public calls. The expected values come from the definition of labels, from worked
+//! examples, from a plain method that tries each end of each run, and from a search of the machine, never from the
+//! program.
 #![tactic(auto)]
 
-#[cfg(test)]
-mod certificates;
 #[cfg(test)]
 mod exhaustive;
 #[cfg(test)]
@@ -14,16 +12,8 @@ mod lengths;
 #[cfg(test)]
 mod plans;
 #[cfg(test)]
-mod printing;
-#[cfg(test)]
 mod random;
-#[cfg(test)]
-mod reading;
 #[cfg(test)]
 mod reference;
 #[cfg(test)]
 mod search;
-#[cfg(test)]
-mod tables;
-#[cfg(test)]
-mod texts;

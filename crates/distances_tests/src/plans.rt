@@ -1,6 +1,5 @@
 //! What `distances` prints is read as the plans of the sections' fixups.
 
-use crate::runs::{Handed, run_tool};
 use pef_cert_text::read;
 use pef_labels::Certificate;
 use pef_plan::plan;
@@ -8,8 +7,10 @@ use pef_reloc::fixups_fit;
 use pef_script::Script;
 use std::alloc::{AllocError, Global};
 use std::process::Abort;
+use std::test::Fail;
+use test_bench::runs::{Handed, run_tool};
+use test_bench::scripts::{EXAMPLE, VECTORS};
 use test_data::labels::labels;
-use test_data::scripts::{EXAMPLE, VECTORS};
 
 /// Scripts, each with its number of sections.
 const SCRIPTS: &[(&[u8], usize)] = &[
@@ -24,46 +25,61 @@ const SCRIPTS: &[(&[u8], usize)] = &[
 ];
 
 #[test]
-fn distances_are_plans(rt: HostRuntime) {
+fn distances_are_plans(rt: HostRuntime) -> Result<(), Fail> {
     for row in SCRIPTS {
         let (text, sections) = *row;
-        let certificates = printed_certificates(&rt, rt.alloc(), text);
+        let certificates = printed_certificates(rt.alloc(), text)?;
         assert!(rt; certificates.len() == sections);
-        test_plans(&rt, rt.alloc(), text, &certificates);
+        test_plans(&rt, rt.alloc(), text, &certificates)?;
     }
+    Ok(())
 }
 
 /// The certificates that `distances` prints of a script.
-fn printed_certificates(rt: &impl Abort, alloc: Global, text: &[u8]) -> Vec<Certificate> {
-    let printed = run_tool(rt, alloc, Handed::file(&["distances", "a"], text)).printed;
-    read(alloc, printed.as_slice()).expect(rt, "certificates")
+fn printed_certificates(alloc: Global, text: &[u8]) -> Result<Vec<Certificate>, Fail> {
+    let printed = run_tool(alloc, Handed::file(&["distances", "a"], text))?.printed;
+    Ok(read(alloc, printed.as_slice())?)
 }
 
 /// Tests that certificates are the plans of a script's sections.
-fn test_plans(rt: &impl Abort, alloc: Global, text: &[u8], certificates: &[Certificate]) {
-    let script = pef_script_text::read(alloc, text).expect(rt, "a script");
+fn test_plans(
+    rt: &impl Abort,
+    alloc: Global,
+    text: &[u8],
+    certificates: &[Certificate],
+) -> Result<(), Fail> {
+    let script = pef_script_text::read(alloc, text)?;
     for (k, certificate) in certificates.iter().enumerate() {
         assert!(rt; certificate.section as usize == k);
-        test_plan(rt, alloc, &script, certificate);
+        test_plan(rt, alloc, &script, certificate)?;
     }
+    Ok(())
 }
 
 /// Tests that a certificate is the plan of its section in a script.
-fn test_plan(rt: &impl Abort, alloc: Global, script: &Script, certificate: &Certificate) {
+fn test_plan(
+    rt: &impl Abort,
+    alloc: Global,
+    script: &Script,
+    certificate: &Certificate,
+) -> Result<(), Fail> {
     let section = certificate.section;
-    let planned = planned(rt, alloc, script, section);
-    assert!(rt;
-        is_same(alloc, certificate, &planned).expect(rt, "memory"),
-        "section {section}"
-    );
+    let planned = planned(rt, alloc, script, section)?;
+    assert!(rt; is_same(alloc, certificate, &planned)?, "section {section}");
+    Ok(())
 }
 
 /// The plan of a section's fixups.
-fn planned(rt: &impl Abort, alloc: Global, script: &Script, section: u32) -> Certificate {
+fn planned(
+    rt: &impl Abort,
+    alloc: Global,
+    script: &Script,
+    section: u32,
+) -> Result<Certificate, Fail> {
     let sections = &script.parts().sections;
-    let described = sections.get(section as usize).expect(rt, "a section");
+    let described = sections.get(section as usize).ok_or("no such section")?;
     assert!(rt; fixups_fit(&described.fixups));
-    plan(alloc, section, &described.fixups).expect(rt, "a plan")
+    Ok(plan(alloc, section, &described.fixups)?)
 }
 
 /// Whether two certificates have the same parts.

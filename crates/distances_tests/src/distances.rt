@@ -1,9 +1,10 @@
-use crate::runs::{Handed, assert_cut_output, assert_prints, assert_unreadable, run_tool};
 use std::alloc::{AllocError, Global};
 use std::fmt::Write;
 use std::process::Abort;
-use test_data::limits::{EVERY_OTHER, push_in_turn, push_sections};
-use test_data::scripts::{VECTORS, VECTORS_CERTIFIED};
+use std::test::Fail;
+use test_bench::limits::{EVERY_OTHER, push_in_turn, push_sections};
+use test_bench::runs::{Handed, assert_cut_output, assert_prints, assert_unreadable, run_tool};
+use test_bench::scripts::{VECTORS, VECTORS_CERTIFIED};
 
 const WORDS: [&str; 2] = ["distances", "a"];
 
@@ -26,18 +27,26 @@ const PRINTED: &[(&[u8], &[u8], u8)] = &[
 ];
 
 #[test]
-fn distances(rt: HostRuntime) {
+fn distances(rt: HostRuntime) -> Result<(), Fail> {
     for row in PRINTED {
         let (script, printed, status) = *row;
-        assert_printed(&rt, rt.alloc(), script, printed, status);
+        assert_printed(&rt, rt.alloc(), script, printed, status)?;
     }
+    Ok(())
 }
 
 /// Asserts what is printed of a script, which stays as it is.
-fn assert_printed(rt: &impl Abort, alloc: Global, script: &[u8], printed: &[u8], status: u8) {
-    let outcome = assert_prints(rt, alloc, Handed::file(&WORDS, script), printed, status);
-    outcome.assert_calls(rt, (1, 0));
+fn assert_printed(
+    rt: &impl Abort,
+    alloc: Global,
+    script: &[u8],
+    printed: &[u8],
+    status: u8,
+) -> Result<(), Fail> {
+    let outcome = assert_prints(alloc, Handed::file(&WORDS, script), printed, status)?;
+    outcome.assert_calls((1, 0))?;
     assert!(rt; outcome.has(b"a", script));
+    Ok(())
 }
 
 /// Scripts, and what `check` prints of them with the certificates that `distances` prints.
@@ -113,19 +122,21 @@ const CHECKED: &[(&str, &str)] = &[
 
 /// What `distances` prints is accepted by `check`, with these lengths.
 #[test]
-fn distances_checked(rt: HostRuntime) {
+fn distances_checked(rt: HostRuntime) -> Result<(), Fail> {
     for row in CHECKED {
         let (script, printed) = *row;
-        assert_checked(&rt, rt.alloc(), script.as_bytes(), printed.as_bytes());
+        assert_checked(rt.alloc(), script.as_bytes(), printed.as_bytes())?;
     }
+    Ok(())
 }
 
 /// What `distances` prints of a script is accepted by `check`, which prints this.
-fn assert_checked(rt: &impl Abort, alloc: Global, script: &[u8], printed: &[u8]) {
-    let certified = run_tool(rt, alloc, Handed::file(&WORDS, script));
+fn assert_checked(alloc: Global, script: &[u8], printed: &[u8]) -> Result<(), Fail> {
+    let certified = run_tool(alloc, Handed::file(&WORDS, script))?;
     let certificates = certified.printed.as_slice();
     let handed = Handed::files(&["check", "a", "b"], script, certificates);
-    assert_prints(rt, alloc, handed, printed, 0);
+    assert_prints(alloc, handed, printed, 0)?;
+    Ok(())
 }
 
 /// A script with so many words of its second section in a row.
@@ -152,12 +163,13 @@ const RUNS: &[(u32, u32, &[u8])] = &[
 
 /// The longest runs of one section, and those behind a skip, which adds 63 at most.
 #[test]
-fn distances_of_runs(rt: HostRuntime) {
+fn distances_of_runs(rt: HostRuntime) -> Result<(), Fail> {
     for row in RUNS {
         let (from, count, printed) = *row;
-        let script = words_of_second(rt.alloc(), from, count).expect(&rt, "memory");
-        assert_checked(&rt, rt.alloc(), script.as_bytes(), printed);
+        let script = words_of_second(rt.alloc(), from, count)?;
+        assert_checked(rt.alloc(), script.as_bytes(), printed)?;
     }
+    Ok(())
 }
 
 /// Eight sections, of which the last has as many fixups as one may have, at every other word, by all sections in turn.
@@ -174,24 +186,19 @@ const MOST_IN_TURN: &[u8] =
 
 /// A certificate of 16,385 rows of 81 labels.
 #[test]
-fn distances_of_most_in_turn(rt: HostRuntime) {
-    let script = most_in_turn(rt.alloc()).expect(&rt, "memory");
-    assert_checked(&rt, rt.alloc(), script.as_bytes(), MOST_IN_TURN);
+fn distances_of_most_in_turn(rt: HostRuntime) -> Result<(), Fail> {
+    let script = most_in_turn(rt.alloc())?;
+    assert_checked(rt.alloc(), script.as_bytes(), MOST_IN_TURN)
 }
 
 #[test]
-fn distances_unreadable(rt: HostRuntime) {
-    assert_unreadable(&rt, rt.alloc(), "distances", VECTORS);
+fn distances_unreadable(rt: HostRuntime) -> Result<(), Fail> {
+    assert_unreadable(rt.alloc(), "distances", VECTORS)
 }
 
 #[test]
-fn distances_output_fails(rt: HostRuntime) {
-    assert_cut_output(
-        &rt,
-        rt.alloc(),
-        Handed::file(&WORDS, VECTORS),
-        VECTORS_CERTIFIED,
-    );
+fn distances_output_fails(rt: HostRuntime) -> Result<(), Fail> {
+    assert_cut_output(rt.alloc(), Handed::file(&WORDS, VECTORS), VECTORS_CERTIFIED)
 }
 
 /// A library with 601 imports, and a section of 16 bytes.
@@ -218,17 +225,18 @@ const IMPORTED: &[(&str, &[u8])] = &[
     ("fix a 0 import i600\n", b"section 0 yes 2\n"),
 ];
 
-fn assert_imported(rt: &impl Abort, alloc: Global, fixups: &str, printed: &[u8]) {
-    let mut script = imports(alloc).expect(rt, "memory");
-    script.push_str(fixups).expect(rt, "memory");
-    assert_checked(rt, alloc, script.as_bytes(), printed);
+fn assert_imported(alloc: Global, fixups: &str, printed: &[u8]) -> Result<(), Fail> {
+    let mut script = imports(alloc)?;
+    script.push_str(fixups)?;
+    assert_checked(alloc, script.as_bytes(), printed)
 }
 
 /// The last import that one halfword names with the next one, and one that takes two.
 #[test]
-fn distances_of_imports(rt: HostRuntime) {
+fn distances_of_imports(rt: HostRuntime) -> Result<(), Fail> {
     for row in IMPORTED {
         let (fixups, printed) = *row;
-        assert_imported(&rt, rt.alloc(), fixups, printed);
+        assert_imported(rt.alloc(), fixups, printed)?;
     }
+    Ok(())
 }

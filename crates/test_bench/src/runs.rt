@@ -2,11 +2,10 @@
 
 ghost use Rattle.std.specs.Prelude.{◌<◌};
 
+use crate::ports::{Papers, Sheet, Text};
 use pef_tool::{FileFault, run};
 use std::alloc::{AllocError, Global};
-use std::process::Abort;
 use std::test::Fail;
-use test_bench::ports::{Papers, Sheet, Text};
 use test_data::refusals::{say_answered, say_begins};
 
 /// What a run is handed. Where a call is numbered 0, none fails.
@@ -83,12 +82,12 @@ pub struct Outcome {
 
 impl Outcome {
     /// Tests how many calls of `read` and of `write` the files had.
-    pub fn assert_calls(&self, rt: &impl Abort, calls: (u64, u64)) {
+    pub fn assert_calls(&self, calls: (u64, u64)) -> Result<(), Fail> {
         let (reads, writes) = self.papers.calls();
-        assert!(rt;
-            (reads, writes) == calls,
-            "{reads} reads and {writes} writes of files"
-        );
+        if (reads, writes) != calls {
+            return Err(Fail::new(format_args!("{reads} reads and {writes} writes of files")));
+        }
+        Ok(())
     }
 
     /// Whether a file has just these bytes.
@@ -109,84 +108,67 @@ fn line_of(alloc: Global, words: &[&str]) -> Result<Vec<String>, AllocError> {
 
 /// Runs the tool on words over files: its status.
 fn run_words(
-    rt: &impl Abort,
     alloc: Global,
     words: &[&str],
     papers: &mut Papers,
     input: &mut Text<'_>,
     out: &mut Sheet,
-) -> u8 {
-    let line = line_of(alloc, words).expect(rt, "memory");
-    run(alloc, line.as_slice(), papers, input, out)
+) -> Result<u8, AllocError> {
+    let line = line_of(alloc, words)?;
+    Ok(run(alloc, line.as_slice(), papers, input, out))
 }
 
 /// Puts a file at a path.
-pub fn put_file(rt: &impl Abort, papers: &mut Papers, path: &str, bytes: &[u8]) {
-    papers.put(path.as_bytes(), bytes).expect(rt, "memory");
-}
-
-/// The files that a run is handed.
-fn papers_of(rt: &impl Abort, alloc: Global, handed: Handed<'_>) -> Papers {
-    let mut papers = Papers::new(alloc, handed.files_fail_at, handed.fault);
-    put_file(rt, &mut papers, "a", handed.file);
-    if let Some(second) = handed.second {
-        put_file(rt, &mut papers, "b", second);
+pub fn put_file(papers: &mut Papers, path: &str, bytes: &[u8]) -> Result<(), Fail> {
+    match papers.put(path.as_bytes(), bytes) {
+        Ok(()) => Ok(()),
+        Err(_) => Err(Fail::new("no memory for a file")),
     }
-    papers
 }
 
 /// Runs the tool.
-pub fn run_tool(rt: &impl Abort, alloc: Global, handed: Handed<'_>) -> Outcome
+pub fn run_tool(alloc: Global, handed: Handed<'_>) -> Result<Outcome, Fail>
     requires { 0 < handed.step }
 {
-    let mut papers = papers_of(rt, alloc, handed);
+    let mut papers = Papers::new(alloc, handed.files_fail_at, handed.fault);
+    put_file(&mut papers, "a", handed.file)?;
+    if let Some(second) = handed.second {
+        put_file(&mut papers, "b", second)?;
+    }
     let mut input = Text::new(handed.input, handed.step, handed.input_fails_at);
-    let mut out = Sheet::new(alloc, handed.step, handed.out_fails_at).expect(rt, "memory");
-    let status = run_words(rt, alloc, handed.words, &mut papers, &mut input, &mut out);
-    Outcome {
+    let mut out = Sheet::new(alloc, handed.step, handed.out_fails_at)?;
+    let status = run_words(alloc, handed.words, &mut papers, &mut input, &mut out)?;
+    Ok(Outcome {
         printed: out.into_bytes(),
         status,
         papers,
         left: input.rest().len(),
-    }
+    })
 }
 
 /// Runs the tool, which must print this and end with this status.
 pub fn assert_prints(
-    rt: &impl Abort,
     alloc: Global,
     handed: Handed<'_>,
     printed: &[u8],
     status: u8,
-) -> Outcome
+) -> Result<Outcome, Fail>
     requires { 0 < handed.step }
 {
-    let outcome = run_tool(rt, alloc, handed);
-    assert_ends(
-        rt,
-        handed.words,
-        (outcome.printed.as_slice(), outcome.status),
-        (printed, status),
-    );
-    outcome
-}
-
-/// Tests what was printed, and the status.
-fn assert_ends(rt: &impl Abort, words: &[&str], told: (&[u8], u8), wanted: (&[u8], u8)) {
-    let (printed, status) = told;
-    assert!(rt;
-        printed == wanted.0 && status == wanted.1,
-        "{words:?} ends with {status} and prints {}",
-        str::from_utf8(printed).unwrap_or("no text")
-    );
+    let outcome = run_tool(alloc, handed)?;
+    if outcome.printed.as_slice() != printed || outcome.status != status {
+        return Err(unlike(handed.words, &outcome.printed, outcome.status));
+    }
+    Ok(outcome)
 }
 
 /// Runs `show`, which must take the whole input, and leave files alone.
-pub fn assert_shows(rt: &impl Abort, alloc: Global, script: &[u8], printed: &[u8], status: u8) {
-    let handed = Handed::input(&["show"], script);
-    let outcome = assert_prints(rt, alloc, handed, printed, status);
-    assert!(rt; outcome.left == 0, "{} bytes are left", outcome.left);
-    outcome.assert_calls(rt, (0, 0));
+pub fn assert_shows(alloc: Global, script: &[u8], printed: &[u8], status: u8) -> Result<(), Fail> {
+    let outcome = assert_prints(alloc, Handed::input(&["show"], script), printed, status)?;
+    if outcome.left != 0 {
+        return Err(Fail::new(format_args!("{} bytes are left", outcome.left)));
+    }
+    outcome.assert_calls((0, 0))
 }
 
 /// Files that aren't there or can't be read, or for which there is no memory: the path, the call of the
@@ -203,7 +185,7 @@ const UNREADABLE: &[(&str, u32, FileFault, &[u8])] = &[
 ];
 
 /// Runs a command of one file where that can't be read. It must say so, and make no other call.
-pub fn assert_unreadable(rt: &impl Abort, alloc: Global, command: &str, file: &[u8]) {
+pub fn assert_unreadable(alloc: Global, command: &str, file: &[u8]) -> Result<(), Fail> {
     for row in UNREADABLE {
         let (path, files_fail_at, fault, printed) = *row;
         let words = [command, path];
@@ -212,53 +194,56 @@ pub fn assert_unreadable(rt: &impl Abort, alloc: Global, command: &str, file: &[
             fault,
             ..Handed::file(&words, file)
         };
-        assert_prints(rt, alloc, handed, printed, 1).assert_calls(rt, (1, 0));
+        assert_prints(alloc, handed, printed, 1)?.assert_calls((1, 0))?;
     }
+    Ok(())
 }
 
 /// Runs a command with an output that takes a byte a call, and fails at call k: k - 1 bytes go out, though it
 /// would go on.
-pub fn assert_cut_output(rt: &impl Abort, alloc: Global, handed: Handed<'_>, printed: &[u8]) {
+pub fn assert_cut_output(alloc: Global, handed: Handed<'_>, printed: &[u8]) -> Result<(), Fail> {
     for k in 0..printed.len() {
         let handed = Handed {
             step: 1,
             out_fails_at: k + 1,
             ..handed
         };
-        assert_prints(rt, alloc, handed, &printed[..k], 1);
+        assert_prints(alloc, handed, &printed[..k], 1)?;
     }
+    Ok(())
 }
 
 /// Runs the tool over files, with an empty input. It must print this and end with this status.
 pub fn assert_prints_over(
-    rt: &impl Abort,
     alloc: Global,
     papers: &mut Papers,
     words: &[&str],
     printed: &[u8],
     status: u8,
-) {
-    let (told, ended) = run_over(rt, alloc, papers, words);
-    assert_ends(rt, words, (told.as_slice(), ended), (printed, status));
+) -> Result<(), Fail> {
+    let (told, ended) = run_over(alloc, papers, words)?;
+    if told.as_slice() != printed || ended != status {
+        return Err(unlike(words, &told, ended));
+    }
+    Ok(())
 }
 
 /// Runs the tool over files, with an empty input: what it prints, and its status.
 pub fn run_over(
-    rt: &impl Abort,
     alloc: Global,
     papers: &mut Papers,
     words: &[&str],
-) -> (Vec<u8>, u8) {
+) -> Result<(Vec<u8>, u8), AllocError> {
     let mut input = Text::new(b"", 1000, 0);
-    let mut out = Sheet::new(alloc, 1000, 0).expect(rt, "memory");
-    let status = run_words(rt, alloc, words, papers, &mut input, &mut out);
-    (out.into_bytes(), status)
+    let mut out = Sheet::new(alloc, 1000, 0)?;
+    let status = run_words(alloc, words, papers, &mut input, &mut out)?;
+    Ok((out.into_bytes(), status))
 }
 
 /// Runs the tool over files and an input where one growth may be refused to it, as by `tools/refuse-memory`. It must
 /// print this and end with 0; or say that memory is refused, print nothing else and end with 1.
 pub fn assert_prints_or_lacks_memory(
-    rt: &(impl Abort + Print),
+    rt: &impl Print,
     alloc: Global,
     papers: &mut Papers,
     words: &[&str],
@@ -272,15 +257,30 @@ pub fn assert_prints_or_lacks_memory(
     let status = run(alloc, line.as_slice(), papers, &mut input, &mut out);
     let told = out.into_bytes();
     let refused = told.as_slice() == b"refused 99 OutOfMemory\n".as_slice() && status == 1;
-    if !refused {
-        assert_ends(rt, words, (told.as_slice(), status), (printed, 0));
+    if !refused && (told.as_slice() != printed || status != 0) {
+        return Err(unlike(words, &told, status));
     }
     say_answered(rt, refused)
 }
 
 /// Puts the container of a script at a path, and the script at `script`.
-pub fn put_linked(rt: &impl Abort, alloc: Global, papers: &mut Papers, path: &str, script: &[u8]) {
-    put_file(rt, papers, "script", script);
-    let (_, status) = run_over(rt, alloc, papers, &["link", "script", path]);
-    assert!(rt; status == 0, "nothing is linked at {path}");
+pub fn put_linked(
+    alloc: Global,
+    papers: &mut Papers,
+    path: &str,
+    script: &[u8],
+) -> Result<(), Fail> {
+    put_file(papers, "script", script)?;
+    let words = ["link", "script", path];
+    let (told, status) = run_over(alloc, papers, &words)?;
+    if status != 0 {
+        return Err(unlike(&words, &told, status));
+    }
+    Ok(())
+}
+
+/// A failure that tells what a run printed, and its status.
+fn unlike(words: &[&str], printed: &[u8], status: u8) -> Fail {
+    let printed = str::from_utf8(printed).unwrap_or("no text");
+    Fail::new(format_args!("{words:?} ends with {status} and prints {printed}"))
 }

@@ -1,6 +1,7 @@
-use crate::runs::{Handed, assert_cut_output, assert_prints};
 use pef_tool::FileFault;
-use test_data::scripts::{VECTORS, VECTORS_CERTIFIED};
+use std::test::Fail;
+use test_bench::runs::{Handed, assert_cut_output, assert_prints};
+use test_bench::scripts::{VECTORS, VECTORS_CERTIFIED};
 
 const WORDS: [&str; 3] = ["check", "a", "b"];
 
@@ -72,14 +73,15 @@ const CHECKS: &[(&[u8], &[u8], &[u8], u8)] = &[
 ];
 
 #[test]
-fn check(rt: HostRuntime) {
+fn check(rt: HostRuntime) -> Result<(), Fail> {
     for row in CHECKS {
         let (script, certificates, printed, status) = *row;
         let handed = Handed::files(&WORDS, script, certificates);
-        let outcome = assert_prints(&rt, rt.alloc(), handed, printed, status);
-        outcome.assert_calls(&rt, (2, 0));
+        let outcome = assert_prints(rt.alloc(), handed, printed, status)?;
+        outcome.assert_calls((2, 0))?;
         assert!(rt; outcome.has(b"a", script) && outcome.has(b"b", certificates));
     }
+    Ok(())
 }
 
 /// Words with files that aren't there: what is printed, and the calls. SCRIPT is read before CERT, and both before a
@@ -103,12 +105,13 @@ const MISSING: &[(&[&str], &[u8], (u64, u64))] = &[
 ];
 
 #[test]
-fn check_missing(rt: HostRuntime) {
+fn check_missing(rt: HostRuntime) -> Result<(), Fail> {
     for row in MISSING {
         let (words, printed, calls) = *row;
         let handed = Handed::files(words, b"no line\n", b"");
-        assert_prints(&rt, rt.alloc(), handed, printed, 1).assert_calls(&rt, calls);
+        assert_prints(rt.alloc(), handed, printed, 1)?.assert_calls(calls)?;
     }
+    Ok(())
 }
 
 /// The call that fails, and how, what is printed, and the calls.
@@ -140,7 +143,7 @@ const FAILING: &[(u32, FileFault, &[u8], (u64, u64))] = &[
 ];
 
 #[test]
-fn check_unreadable(rt: HostRuntime) {
+fn check_unreadable(rt: HostRuntime) -> Result<(), Fail> {
     for row in FAILING {
         let (files_fail_at, fault, printed, calls) = *row;
         let handed = Handed {
@@ -149,12 +152,13 @@ fn check_unreadable(rt: HostRuntime) {
             fault,
             ..Handed::files(&WORDS, b"no line\n", b"")
         };
-        assert_prints(&rt, rt.alloc(), handed, printed, 1).assert_calls(&rt, calls);
+        assert_prints(rt.alloc(), handed, printed, 1)?.assert_calls(calls)?;
     }
+    Ok(())
 }
 
 #[test]
-fn check_output_fails(rt: HostRuntime) {
+fn check_output_fails(rt: HostRuntime) -> Result<(), Fail> {
     let handed = Handed::files(&WORDS, VECTORS, VECTORS_CERTIFIED);
-    assert_cut_output(&rt, rt.alloc(), handed, CHECKED);
+    assert_cut_output(rt.alloc(), handed, CHECKED)
 }
