@@ -34,7 +34,7 @@ fn exports<'a>(bindings: &Bindings<'a>) -> usize
 {
     let mut exports = 0;
     for p in bindings.order() {
-        exports += bindings.fragment(*p).loader.header().export_count as usize;
+        exports += bindings.fragment(*p).loader.exports();
     }
     exports
 }

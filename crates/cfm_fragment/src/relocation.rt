@@ -38,8 +38,8 @@ pub fn relocate_sections(
     ensures others { given_back memory.new places.now ≡ given_back memory.old places.now }
     ensures held { AreHeld memory.new places.now }
 {
-    for i in 0..loader.header().reloc_count {
-        let Some((section, program)) = loader.reloc(i as usize) else {
+    for i in 0..loader.relocs() {
+        let Some((section, program)) = loader.reloc(i) else {
             unreachable!()
         };
         let place = places[section as usize];

@@ -101,7 +101,7 @@ impl<'a> Bindings<'a> {
         requires { Contains self.now.order p }
         ensures { result ≡ import_count self.now.pairs p }
     {
-        self.fragment(p).loader.header().import_count as usize
+        self.fragment(p).loader.imports()
     }
 
     /// A fragment of the order.
@@ -120,7 +120,7 @@ impl<'a> Bindings<'a> {
         requires { Contains self.now.order p }
         ensures { result ≡ library_count self.now.pairs p }
     {
-        self.fragment(p).loader.header().library_count as usize
+        self.fragment(p).loader.libraries()
     }
 
     /// What an entry of a fragment of the order stands for.

@@ -146,7 +146,7 @@ impl<'a> Lines for Libraries<'a> {
     ghost text = { λ l. library_lines (loaded l.loader) };
 
     fn len(&self) -> usize {
-        self.loader.header().library_count as usize
+        self.loader.libraries()
     }
 
     #[tactic(auto, unfolding(crate::specs::Listing::library_lines, crate::specs::Listing::library_text))]
@@ -181,7 +181,7 @@ pub fn print_imports<W: Sink>(
     ensures { Sends result (W.stream out.old) (W.stream out.new) page.old.items page.new.items (each_text (import_lines (loaded loader.entry)) 0 (loaded loader.entry).header.import_count) }
 {
     let mut imports = ImportReader::new(loader);
-    for j in 0..loader.header().import_count as usize {
+    for j in 0..loader.imports() {
         let Some(import) = imports.import(j) else {
             unreachable!()
         };
@@ -234,7 +234,7 @@ impl<'a> Lines for Exported<'a> {
     ghost text = { λ l. export_lines (loaded l.loader) };
 
     fn len(&self) -> usize {
-        self.loader.header().export_count as usize
+        self.loader.exports()
     }
 
     fn print_at<W: Sink>(&self, out: &mut W, page: &mut Page, i: usize) -> Result<(), StreamFault> {
@@ -274,7 +274,7 @@ impl<'a> Lines for Relocations<'a> {
     ghost text = { λ l. reloc_lines (loaded l.loader) };
 
     fn len(&self) -> usize {
-        self.loader.header().reloc_count as usize
+        self.loader.relocs()
     }
 
     fn print_at<W: Sink>(&self, out: &mut W, page: &mut Page, i: usize) -> Result<(), StreamFault> {

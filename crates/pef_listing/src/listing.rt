@@ -112,7 +112,7 @@ fn print_entries<W: Sink>(
 fn test_programs(loader: &Loader<'_>) -> Result<(), RelocFault>
     ensures { result_err result ≡ programs_fault (loaded loader.now) }
 {
-    for k in 0..loader.header().reloc_count as usize {
+    for k in 0..loader.relocs() {
         test_program(loader, k)?;
     }
     Ok(())

@@ -46,7 +46,7 @@ impl<'a> ImportReader<'a> {
         if loader.in_order {
             return loader.import(j);
         }
-        if j >= loader.header().import_count as usize {
+        if j >= loader.imports() {
             return None;
         }
         let library = self.owner(j)?;

@@ -105,6 +105,38 @@ impl<'a> Loader<'a> {
         self.header
     }
 
+    /// The number of libraries.
+    pub fn libraries(&self) -> usize
+        ensures count { result ≡ (loaded self.now).header.library_count }
+        ensures small { result < 2 ^ 32 }
+    {
+        self.header.library_count as usize
+    }
+
+    /// The number of imports.
+    pub fn imports(&self) -> usize
+        ensures count { result ≡ (loaded self.now).header.import_count }
+        ensures small { result < 2 ^ 32 }
+    {
+        self.header.import_count as usize
+    }
+
+    /// The number of relocation headers.
+    pub fn relocs(&self) -> usize
+        ensures count { result ≡ (loaded self.now).header.reloc_count }
+        ensures small { result < 2 ^ 32 }
+    {
+        self.header.reloc_count as usize
+    }
+
+    /// The number of exports.
+    pub fn exports(&self) -> usize
+        ensures count { result ≡ (loaded self.now).header.export_count }
+        ensures small { result < 2 ^ 32 }
+    {
+        self.header.export_count as usize
+    }
+
     /// Library `i`, or `None` past the last one.
     #[tactic(auto, unfolding(crate::specs::Loader::library_of, crate::specs::Library::library_in))]
     pub fn library(&self, i: usize) -> Option<LibraryView<'a>>

@@ -1,7 +1,6 @@
 -- What is left of the headers.
-use Rattle.std.proofs.Common.{◌≡◌, ◌<◌, Some, length, refl, sym, ◌∙◌, ap, arith}
+use Rattle.std.proofs.Common.{◌≡◌, ◌<◌, Some, length, refl, sym, ◌∙◌, arith}
 use Rattle.std.proofs.lemmas.Result.{err_from_is_err_and}
-use Rattle.pef_loader.specs.declared.header.LoaderHeader.{LoaderHeader}
 use Rattle.pef_loader.specs.Loader.{reloc_of}
 use Rattle.pef_loader.specs.Views.{loaded}
 use Rattle.pef_reloc.specs.Applied.{Addresses}
@@ -23,7 +22,7 @@ returns-in_err-relocate_section-clause-refused c = λ bytes stand.
     let at = c.loop-i in
     let a : Addresses = record { sections = c.args.sections.now; imports = c.args.imports.now } in
     let loader = loaded c.args.loader.now in
-    let under : at.i < loader.header.reloc_count = omega (arith, c.loop-i-test.true, ap (λ (h : LoaderHeader). h.reloc_count) c.header-i-end.ensures) in
+    let under : at.i < loader.header.reloc_count = omega (arith, c.loop-i-test.true, c.relocs-i-end.ensures.count) in
     let is : reloc_of loader at.i ≡ Some (c.in-Some.section, c.in-Some.program.now) = sym c.in-Some.ensures.value in
     let there : c.in-Some.section < length c.args.places.now = omega (arith, c.in-Some.ensures.section, c.requires.count) in
     let p = err_from_is_err_and c.from_residual.result c.from_residual.ensures.1 in
@@ -35,7 +34,7 @@ loop-i-preserved c =
     let at = c.loop-i in
     let a : Addresses = record { sections = c.args.sections.now; imports = c.args.imports.now } in
     let loader = loaded c.args.loader.now in
-    let under : at.i < loader.header.reloc_count = omega (arith, c.loop-i-test.true, ap (λ (h : LoaderHeader). h.reloc_count) c.header-i-end.ensures) in
+    let under : at.i < loader.header.reloc_count = omega (arith, c.loop-i-test.true, c.relocs-i-end.ensures.count) in
     let is : reloc_of loader at.i ≡ Some (c.in-Some.section, c.in-Some.program.now) = sym c.in-Some.ensures.value in
     let there : c.in-Some.section < length c.args.places.now = omega (arith, c.in-Some.ensures.section, c.requires.count) in
     let done = c.in_ok-relocate_section.ensures in
@@ -51,7 +50,7 @@ returns-clause-relocated c = λ bytes stand.
     let at = c.loop-i in
     let a : Addresses = record { sections = c.args.sections.now; imports = c.args.imports.now } in
     let loader = loaded c.args.loader.now in
-    let all : at.i ≡ loader.header.reloc_count = omega (arith, c.loop-i-test.false, at.auto.i-end, ap (λ (h : LoaderHeader). h.reloc_count) c.header-i-end.ensures) in
+    let all : at.i ≡ loader.header.reloc_count = omega (arith, c.loop-i-test.false, at.auto.i-end, c.relocs-i-end.ensures.count) in
     (run_whole a (reloc_of loader) c.args.places.now bytes at.memory at.i loader.header.reloc_count (at.invariant.run bytes stand) all).stand
 
 pub returns-in_err-relocate_section-clause-others : goal.returns-in_err-relocate_section-clause-others

@@ -1,6 +1,5 @@
 -- Each import sends its line.
-use Rattle.std.proofs.Common.{◌≡◌, ◌-◌, ◌∙◌, ℕ, ap, arith}
-use Rattle.pef_loader.specs.declared.header.LoaderHeader.{LoaderHeader}
+use Rattle.std.proofs.Common.{◌≡◌, ◌-◌, ◌∙◌, ℕ, arith}
 use Rattle.pef_loader.specs.Views.{loaded}
 use Rattle.pef_listing.specs.Listing.{each_text, import_lines}
 use Rattle.pef_listing.proofs.PieceLemmas.{each_text-more, each_text-none}
@@ -18,7 +17,7 @@ loop-j-init g c =
 
 pub loop-j-preserved : goal.loop-j-preserved
 loop-j-preserved g c =
-    let next = each_text-more (import_lines (loaded c.args.loader)) c.loop-j.j (loaded c.args.loader).header.import_count (omega (arith, ap (λ (h : LoaderHeader). h.import_count) c.header-j-end.ensures)) in
+    let next = each_text-more (import_lines (loaded c.args.loader)) c.loop-j.j (loaded c.args.loader).header.import_count (omega (arith, c.imports-j-end.ensures.count)) in
     record {
       sent = sent-piece _ c.loop-j.invariant.sent next c.in_ok-print_import.ensures;
       loader = c.in-Some.ensures.same ∙ c.loop-j.invariant.loader;
@@ -26,8 +25,8 @@ loop-j-preserved g c =
 
 pub returns-in_err-print_import : goal.returns-in_err-print_import
 returns-in_err-print_import g c =
-    let next = each_text-more (import_lines (loaded c.args.loader)) c.loop-j.j (loaded c.args.loader).header.import_count (omega (arith, ap (λ (h : LoaderHeader). h.import_count) c.header-j-end.ensures)) in
+    let next = each_text-more (import_lines (loaded c.args.loader)) c.loop-j.j (loaded c.args.loader).header.import_count (omega (arith, c.imports-j-end.ensures.count)) in
     Sends-short _ c.from_residual.result _ c.from_residual.ensures.1 (sent-short _ c.loop-j.invariant.sent next c.in_err-print_import.ensures)
 
 pub returns : goal.returns
-returns g c = sent-all c.loop-j.invariant.sent (each_text-none (import_lines (loaded c.args.loader)) c.loop-j.j (loaded c.args.loader).header.import_count (omega (arith, ap (λ (h : LoaderHeader). h.import_count) c.header-j-end.ensures)))
+returns g c = sent-all c.loop-j.invariant.sent (each_text-none (import_lines (loaded c.args.loader)) c.loop-j.j (loaded c.args.loader).header.import_count (omega (arith, c.imports-j-end.ensures.count)))

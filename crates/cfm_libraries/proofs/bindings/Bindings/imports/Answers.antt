@@ -1,5 +1,5 @@
-use Rattle.std.proofs.Common.{refl}
+use Rattle.std.proofs.Common.{rules}
 use Rattle.cfm_libraries.proofs.bindings.Bindings.imports.Goals as goal
 
 pub returns : goal.returns
-returns c = rw (c.fragment.ensures, c.header.ensures) refl
+returns c = search rules

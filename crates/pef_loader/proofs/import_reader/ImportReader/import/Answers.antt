@@ -1,21 +1,18 @@
 -- Each import below their count has a library.
-use Rattle.std.proofs.Common.{◌∙◌, ap, sym, arith}
-use Rattle.pef_loader.specs.declared.header.LoaderHeader.{LoaderHeader}
+use Rattle.std.proofs.Common.{◌∙◌, sym, arith}
 use Rattle.pef_loader.specs.Views.{loaded}
 use Rattle.pef_loader.proofs.Loaders.{import_owned}
 use Rattle.pef_loader.proofs.import_reader.ImportReader.import.Goals as goal
 
 pub returns-in_err-library-clause-there : goal.returns-in_err-library-clause-there
 returns-in_err-library-clause-there c =
-    let count = ap (λ (h : LoaderHeader). h.import_count) c.header.ensures in
-    let is = import_owned (loaded c.args.self.now.loader) c.args.j c.args.self.now.loader.accepted (omega (arith, count)) in
+    let is = import_owned (loaded c.args.self.now.loader) c.args.j c.args.self.now.loader.accepted (omega (arith, c.imports.ensures.count)) in
     let nowhere = c.in_err-library.ensures.value ∙ is.1 in
     absurd (cc)
 
 pub returns-in_err-library-clause-value : goal.returns-in_err-library-clause-value
 returns-in_err-library-clause-value c =
-    let count = ap (λ (h : LoaderHeader). h.import_count) c.header.ensures in
-    let is = import_owned (loaded c.args.self.now.loader) c.args.j c.args.self.now.loader.accepted (omega (arith, count)) in
+    let is = import_owned (loaded c.args.self.now.loader) c.args.j c.args.self.now.loader.accepted (omega (arith, c.imports.ensures.count)) in
     let nowhere = c.in_err-library.ensures.value ∙ is.1 in
     absurd (cc)
 
