@@ -6,7 +6,9 @@
 mod parts;
 mod script;
 mod theorems;
+mod views;
 
 pub use parts::{ExportData, ImportData, LibraryData, Parts, Section, SectionHeader, Versions};
 pub use script::Script;
 pub use theorems::described_bytes;
+pub use views::{ExportView, ImportView, LibraryView};

@@ -1,8 +1,13 @@
-ghost use Rattle.std.specs.Prelude.{◌≡◌};
+ghost use Rattle.std.specs.Prelude.{◌≡◌, ◌≤◌, IfSome, length, option_copied, option_map, slice_get, true};
+ghost use Rattle.pef_reloc.specs.Fixups.{fixups_fit};
+ghost use Rattle.pef_reloc.specs.Limits.{most_imports, most_sections};
+ghost use Rattle.pef_script.specs.Limits.{most_exports, most_libraries};
 ghost use Rattle.pef_script.specs.Parts.{script_in};
+ghost use Rattle.pef_script.specs.Views.{export_in, header_in, import_in, library_in};
 ghost use Rattle.pef_script.specs.WellFormed.{ScriptHolds};
 
-use crate::Parts;
+use crate::{ExportView, ImportView, LibraryView, Parts, SectionHeader, Versions};
+use pef_reloc::Fixup;
 use std::marker::Model;
 
 /// A link script: what a container is made of. Names are borrowed.
@@ -38,5 +43,126 @@ impl<'a> Script<'a> {
         ensures holds { ScriptHolds self.now }
     {
         &self.parts
+    }
+
+    /// The versions of the container.
+    pub fn versions(&self) -> Versions
+        ensures { result ≡ self.now.versions }
+    {
+        self.parts.versions
+    }
+
+    /// The number of sections.
+    pub fn sections(&self) -> usize
+        ensures count { result ≡ length self.now.sections }
+        ensures few { result ≤ most_sections }
+    {
+        self.parts.sections.len()
+    }
+
+    /// The number of libraries.
+    pub fn libraries(&self) -> usize
+        ensures count { result ≡ length self.now.libraries }
+        ensures few { result ≤ most_libraries }
+    {
+        self.parts.libraries.len()
+    }
+
+    /// The number of imports.
+    pub fn imports(&self) -> usize
+        ensures count { result ≡ length self.now.imports }
+        ensures few { result ≤ most_imports }
+    {
+        self.parts.imports.len()
+    }
+
+    /// The number of exports.
+    pub fn exports(&self) -> usize
+        ensures count { result ≡ length self.now.exports }
+        ensures few { result ≤ most_exports }
+    {
+        self.parts.exports.len()
+    }
+
+    /// Section `k` without its image and its fixups, or `None` past the last one.
+    pub fn section(&self, k: usize) -> Option<SectionHeader<'a>>
+        ensures { option_map header_in result ≡ option_map (λ s. s.header) (slice_get self.now.sections k) }
+    {
+        Some(self.parts.sections.get(k)?.header)
+    }
+
+    /// The bytes that section `k` begins with, or `None` past the last one.
+    pub fn image(&self, k: usize) -> Option<&[u8]>
+        ensures { option_copied result ≡ option_map (λ s. s.image) (slice_get self.now.sections k) }
+    {
+        Some(&self.parts.sections.get(k)?.image)
+    }
+
+    /// The fixups of section `k` in address order, or `None` past the last one.
+    pub fn fixups(&self, k: usize) -> Option<&[Fixup]>
+        ensures value { option_copied result ≡ option_map (λ s. s.fixups) (slice_get self.now.sections k) }
+        ensures fit { IfSome result (λ fixups. fixups_fit fixups.now ≡ true) }
+    {
+        Some(&self.parts.sections.get(k)?.fixups)
+    }
+
+    /// Library `l`, or `None` past the last one.
+    pub fn library(&self, l: usize) -> Option<LibraryView<'a>>
+        ensures { option_map library_in result ≡ slice_get self.now.libraries l }
+    {
+        let (name, library) = self.parts.libraries.get_index(l)?;
+        Some(LibraryView {
+            name,
+            current: library.current,
+            old_imp: library.old_imp,
+            options: library.options,
+        })
+    }
+
+    /// Import `j`, or `None` past the last one.
+    pub fn import(&self, j: usize) -> Option<ImportView<'a>>
+        ensures { option_map import_in result ≡ slice_get self.now.imports j }
+    {
+        let (name, import) = self.parts.imports.get_index(j)?;
+        Some(ImportView {
+            name,
+            class: import.class,
+            weak: import.weak,
+            library: import.library,
+        })
+    }
+
+    /// Export `e`, or `None` past the last one.
+    pub fn export(&self, e: usize) -> Option<ExportView<'a>>
+        ensures { option_map export_in result ≡ slice_get self.now.exports e }
+    {
+        let (name, export) = self.parts.exports.get_index(e)?;
+        Some(ExportView {
+            name,
+            class: export.class,
+            section: export.section,
+            value: export.value,
+        })
+    }
+
+    /// The section and offset of the main entry, where there is one.
+    pub fn main(&self) -> Option<(u32, u32)>
+        ensures { result ≡ self.now.main }
+    {
+        self.parts.main
+    }
+
+    /// The section and offset of the initialization routine, where there is one.
+    pub fn init(&self) -> Option<(u32, u32)>
+        ensures { result ≡ self.now.init }
+    {
+        self.parts.init
+    }
+
+    /// The section and offset of the termination routine, where there is one.
+    pub fn term(&self) -> Option<(u32, u32)>
+        ensures { result ≡ self.now.term }
+    {
+        self.parts.term
     }
 }

@@ -1,13 +1,22 @@
 -- Verdicts that are said one after the other.
-use Rattle.std.proofs.Common.{◌≡◌, ◌<◌, ◌≤◌, ℕ, ◌+◌, List, [], ◌∷◌, ◌++◌, Result, Ok, drop, get_or, length, sym, ap, subst, ◌∙◌, append_assoc, arith}
+use Rattle.std.proofs.Common.{◌≡◌, ◌<◌, ◌≤◌, ℕ, ◌+◌, List, [], ◌∷◌, ◌++◌, Option, None, Some, option_map, slice_get, refl, Result, Ok, drop, get_or, length, sym, ap, subst, ◌∙◌, append_assoc, arith}
 use Rattle.std.proofs.lemmas.List.{append-nil, at_drop_more, drop_all}
 use Rattle.pef_labels.specs.Certified.{Certified}
+use Rattle.pef_reloc.specs.declared.fixup.Fixup.{Fixup}
 use Rattle.pef_script.specs.Script.{DescribedSection}
 use Rattle.pef_ports.specs.Ports.{FilesPort, Reads}
 use Rattle.pef_ports.specs.declared.ports.FileFault.{FileFault}
 use Rattle.pef_verdicts.specs.Check.{AreVerdicts, IsVerdict, Judges, JudgesFiles, ReadsSecond}
 use Rattle.pef_answers.specs.declared.refusal.Refusal.{Refusal}
 use Rattle.pef_verdicts.specs.declared.check.Verdict.{Verdict}
+
+-- the section whose fixups are found
+pub fixups_found : (sections : List DescribedSection) (k : ℕ) (fixups : List Fixup) → Some fixups ≡ option_map (λ s. s.fixups) (slice_get sections k) → (s : DescribedSection) × (slice_get sections k ≡ Some s) × (s.fixups ≡ fixups)
+fixups_found sections k fixups found = by (slice_get sections k) refl found
+  where
+    by : (o : Option DescribedSection) → slice_get sections k ≡ o → Some fixups ≡ option_map (λ s. s.fixups) o → (s : DescribedSection) × (slice_get sections k ≡ Some s) × (s.fixups ≡ fixups)
+    by None at is = absurd (cc)
+    by (Some s) at is = (s, at, cc)
 
 -- verdicts on the first k certificates: with verdicts on the others they are verdicts on all
 abbrev pub AreSoFar : List DescribedSection → List Certified → ℕ → List Verdict → Type 0

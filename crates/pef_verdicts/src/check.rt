@@ -107,7 +107,7 @@ fn judge(
 fn match_sections(script: &Script<'_>, certificates: &[Certificate]) -> bool
     ensures { result ≡ match_sections script.now certificates.now }
 {
-    certificates.len() == script.parts().sections.len() && are_numbered(certificates)
+    certificates.len() == script.sections() && are_numbered(certificates)
 }
 
 /// Whether certificates are for sections numbered from 0.
@@ -131,10 +131,12 @@ fn check_sections(
     requires { length certificates.now ≡ length script.now.sections }
     ensures { IfOk result (λ verdicts. AreVerdicts script.now.sections certificates.now verdicts.items) }
 {
-    let sections = &script.parts().sections;
     let mut verdicts = Vec::new(alloc);
     for (k, certificate) in certificates.iter().enumerate() {
-        verdicts.push(verdict_on(&sections[k].fixups, certificate))?;
+        let Some(fixups) = script.fixups(k) else {
+            unreachable!()
+        };
+        verdicts.push(verdict_on(fixups, certificate))?;
     }
     Ok(verdicts)
 }

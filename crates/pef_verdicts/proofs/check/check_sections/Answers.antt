@@ -1,10 +1,10 @@
 -- Each certificate has a section, and each turn says one verdict more.
-use Rattle.std.proofs.Common.{◌≡◌, ◌∙◌, ◌+◌, List, get_or, ap, sym, subst}
+use Rattle.std.proofs.Common.{◌≡◌, ◌+◌, List, get_or, sym, subst}
+use Rattle.std.proofs.lemmas.Option.{get_or_from_slice_get}
 use Rattle.pef_reloc.specs.declared.fixup.Fixup.{Fixup}
-use Rattle.pef_script.specs.Script.{DescribedScript, DescribedSection}
 use Rattle.pef_verdicts.specs.Check.{IsVerdict}
 use Rattle.pef_verdicts.specs.declared.check.Verdict.{Verdict}
-use Rattle.pef_verdicts.proofs.CheckLemmas.{AreSoFar, all_said, none_said, one_said}
+use Rattle.pef_verdicts.proofs.CheckLemmas.{AreSoFar, all_said, fixups_found, none_said, one_said}
 use Rattle.pef_verdicts.proofs.check.check_sections.Goals as goal
 
 pub loop-k-init : goal.loop-k-init
@@ -15,12 +15,11 @@ loop-k-preserved c =
     let sections = c.args.script.now.sections in
     let certificates = c.args.certificates.now in
     let at = c.loop-k in
-    let section = c.index.result.now in
     let certificate = c.index-certificates-k.result in
-    let there : section ≡ get_or sections at.k section = c.index.ensures ∙ ap (λ (s : DescribedScript). get_or s.sections at.k section) c.parts.ensures.parts in
-    let fixups : c.deref.result.now ≡ section.fixups = c.deref.ensures.value ∙ ap (λ (s : DescribedSection). s.fixups) c.behind-sections.view_is in
-    let is : IsVerdict section.fixups certificate c.verdict_on.result = subst (λ (fs : List Fixup). IsVerdict fs certificate c.verdict_on.result) fixups c.verdict_on.ensures in
-    let more = one_said sections certificates at.k at.verdicts.items section section certificate _ c.verdict_on.result at.invariant c.requires c.loop-k-test.true there c.index-certificates-k.is is in
+    let found = fixups_found sections at.k c.in-Some.fixups.now c.in-Some.ensures.value in
+    let there : found.0 ≡ get_or sections at.k found.0 = sym (get_or_from_slice_get sections at.k found.0 found.0 found.1) in
+    let is : IsVerdict found.0.fixups certificate c.verdict_on.result = subst (λ (fs : List Fixup). IsVerdict fs certificate c.verdict_on.result) (sym found.2) c.verdict_on.ensures in
+    let more = one_said sections certificates at.k at.verdicts.items found.0 found.0 certificate _ c.verdict_on.result at.invariant c.requires c.loop-k-test.true there c.index-certificates-k.is is in
     subst (λ (vs : List Verdict). AreSoFar sections certificates (at.k + 1) vs) (sym c.in_ok-push.ensures.items) more
 
 pub returns : goal.returns
