@@ -20,9 +20,11 @@ impl<R: Read + Drop> Input<R> {
 }
 
 impl<R: Read + Drop> Source for Input<R> {
-    ghost use Rattle.std.specs.Prelude.{None};
-
-    ghost stream = { λ input. record { bytes = None; failures = input.failures; failed = input.failed } };
+    ghost stream = { λ input. record {
+      bytes = R.remaining input.reader;
+      failures = input.failures;
+      failed = input.failed;
+    } };
 
     fn read(&mut self, buffer: &mut [u8]) -> Result<usize, StreamFault> {
         match self.reader.read(buffer) {
@@ -58,9 +60,11 @@ impl<W: Write + Drop> Output<W> {
 }
 
 impl<W: Write + Drop> Sink for Output<W> {
-    ghost use Rattle.std.specs.Prelude.{None};
-
-    ghost stream = { λ out. record { bytes = None; failures = out.failures; failed = out.failed } };
+    ghost stream = { λ out. record {
+      bytes = W.contents out.writer;
+      failures = out.failures;
+      failed = out.failed;
+    } };
 
     fn write(&mut self, bytes: &[u8]) -> Result<usize, StreamFault> {
         match self.writer.write(bytes) {
