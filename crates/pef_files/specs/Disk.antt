@@ -1,0 +1,31 @@
+-- What the port over a disk answers, by what the disk did.
+use Rattle.std.specs.Prelude.{◌≡◌, ◌⊎◌, ℕ, List, Result, Ok, Err}
+use Rattle.std.specs.Str.{IsUtf8}
+use Rattle.std.specs.IoError.{error_kind}
+use Rattle.std.specs.declared.io.Error.{Error}
+use Rattle.std.specs.declared.io.ErrorKind.{ErrorKind}
+use Rattle.std.specs.declared.io.ErrorKind.TheVariants as kind
+use Rattle.pef_ports.specs.declared.ports.FileFault.{FileFault}
+use Rattle.pef_ports.specs.declared.ports.FileFault.TheVariants.{Failed, OutOfMemory}
+
+-- what a disk did, by the kind of its error
+abbrev pub seen : {A B : Type 0} → (A → B) → Result A Error → Result B ErrorKind
+seen f (Ok value) = Ok (f value)
+seen f (Err error) = Err (error_kind error)
+
+-- the fault of an error: want of memory, or a failure
+abbrev pub fault_of : ErrorKind → FileFault
+fault_of kind.OutOfMemory = OutOfMemory
+fault_of _ = Failed
+
+-- the port's answer
+abbrev pub answer_of : {A : Type 0} → Result A ErrorKind → Result A FileFault
+answer_of (Ok value) = Ok value
+answer_of (Err kind) = Err (fault_of kind)
+
+-- the disk was called by just this path, and what it did is answered; or the path is no text, by which no file can be
+-- asked for
+abbrev pub IsAnswered : {A : Type 0} → (Result A ErrorKind → Type 0) → List ℕ → Result A FileFault → Type 0
+IsAnswered {A} Did path answer =
+    (IsUtf8 path × ((did : Result A ErrorKind) × Did did × (answer ≡ answer_of did)))
+    ⊎ (¬ (IsUtf8 path) × (answer ≡ Err Failed))
