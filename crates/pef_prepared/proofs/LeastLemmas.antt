@@ -1,19 +1,23 @@
 -- What is linked has a least program for each section, in its bytes as they are read.
-use Rattle.std.proofs.Common.{◌≡◌, ◌≢◌, ℕ, zero, suc, ◌==◌, Bool, true, false, List, [], ◌∷◌, Some, Result, Ok, option_map, slice_get, eq-eqb, refl, sym, ap, subst, ◌∙◌}
+use Rattle.std.proofs.Common.{◌≡◌, ◌≢◌, ℕ, zero, suc, ◌*◌, ◌==◌, Bool, true, false, List, [], ◌∷◌, None, Some, Result, Ok, option_map, slice_get, eq-eqb, refl, sym, ap, subst, ◌∙◌, arith}
 use Rattle.std.specs.List.{filter}
+use Rattle.std.proofs.lemmas.Bool.{and_parts}
 use Rattle.cfm_store.specs.Stores.{Pair, pair_of}
 use Rattle.cfm_libraries.specs.Faults.{BindRefusal}
 use Rattle.cfm_libraries.specs.Fragments.{Fragment, fragment_of}
 use Rattle.pef_loader.specs.Loader.{Loaded}
 use Rattle.pef_reloc.specs.Headers.{IsOther}
-use Rattle.pef_reloc.specs.Instrs.{spelled}
+use Rattle.pef_reloc.specs.Instrs.{instrs_fit, program_length, repeat_free, spelled}
+use Rattle.pef_reloc.specs.Steps.{Least}
+use Rattle.pef_reloc.specs.Unrolled.{instrs_of, program_fault}
+use Rattle.pef_reloc.proofs.Laws.{count-length, instrs_of-spelled, length-spelled, program_fault-spelled}
 use Rattle.pef_reloc.specs.declared.fixup.Fixup.{Fixup}
 use Rattle.pef_reloc.specs.declared.instr.Instr.{Instr}
 use Rattle.pef_script.specs.Script.{DescribedScript, DescribedSection}
 use Rattle.pef_write.specs.Linked.{IsLinked, LinkedContainer, program_of, programs_from}
 use Rattle.pef_write.specs.Loaders.{ProgramEntry}
 use Rattle.pef_write.specs.ReadBack.{HasTables, program_read}
-use Rattle.pef_write.proofs.Laws.{least_program}
+use Rattle.pef_write.proofs.Laws.{least_program, section_programs}
 use Rattle.pef_prepared.specs.Least.{HasLeast, HasProgram}
 use Rattle.pef_prepared.proofs.LinkedLemmas.{fragment_linked, read_fragment}
 
@@ -73,6 +77,15 @@ has_program s programs loader k (fixup ∷ fixups) instrs tables own =
       others = λ i apart. subst (IsOther k) (sym (tables.relocs i)) (one.others i apart);
     }
 
+-- and these bytes are a readable program
+program_readable : (script : DescribedScript) (linked : LinkedContainer) (is : IsLinked script linked) (k : ℕ) (fixups : List Fixup) (instrs : List Instr) → own_of k (programs_from 0 script.sections is.programs) ≡ program_of k fixups instrs → Least fixups instrs
+    → program_fault (spelled instrs) ≡ None
+program_readable script linked is k [] instrs own least = program_fault-spelled instrs least.flat (omega (arith, least.shortest [] refl refl, count-length instrs))
+program_readable script linked is k (fixup ∷ fixups) instrs own least =
+    let p : ProgramEntry = record { section = k; bytes = spelled instrs } in
+    let one = one_owned k (programs_from 0 script.sections is.programs) p own in
+    (section_programs script linked is one.place p one.here).relocates.readable
+
 fragment_is : (f g : Fragment) (read : Result Fragment BindRefusal) → read ≡ Ok f → read ≡ Ok g → f ≡ g
 fragment_is f g read one two = let both = sym one ∙ two in cc
 
@@ -83,10 +96,16 @@ linked_least script linked pairs p f k section is holds read there =
     let own = fragment_linked script linked is pairs p holds in
     let same = ap (λ (g : Fragment). g.loader) (fragment_is (read_fragment script linked is pairs p) f (fragment_of pairs p) own.read read) in
     let least = least_program script linked is k section there in
+    let instrs = least.certificate.program in
+    let reads : instrs_of (spelled instrs) ≡ instrs = instrs_of-spelled instrs (and_parts (repeat_free instrs) (instrs_fit instrs) least.least.flat).1 in
     subst (λ (loader : Loaded). HasLeast linked loader k section.fixups) same (record {
+      program = spelled instrs;
+      header = has_program script is.programs (read_fragment script linked is pairs p).loader k section.fixups instrs own.of.tables least.written;
+      readable = program_readable script linked is k section.fixups instrs least.written least.least;
+      halfwords = length-spelled instrs ∙ ap (λ xs. 2 * program_length xs) (sym reads);
+      least = subst (Least section.fixups) (sym reads) least.least;
       certificate = least.certificate;
       there = least.there;
       valid = least.certified.valid;
-      least = least.least;
-      program = has_program script is.programs (read_fragment script linked is pairs p).loader k section.fixups least.certificate.program own.of.tables least.written;
+      written = refl;
     })

@@ -1,6 +1,7 @@
 mod AloneLemmas
 mod DescribedLemmas
 mod EndLemmas
+mod HeadlineLemmas
 mod LeastLemmas
 mod LinkedLemmas
 mod LoadLemmas

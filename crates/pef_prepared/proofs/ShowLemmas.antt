@@ -33,7 +33,8 @@ use Rattle.pef_prepared.specs.Kept.Rooted.{RootEnds, RootOutcome, root_answer}
 use Rattle.pef_prepared.specs.Kept.Rooted as rooted
 use Rattle.pef_prepared.specs.Kept.Showing.{ScriptEnds}
 use Rattle.pef_prepared.specs.Limits.{memory_limit}
-use Rattle.pef_prepared.specs.Now.{HasUnlinked, described_extent, described_extents}
+use Rattle.pef_prepared.specs.Now.{described_extent, described_extents}
+use Rattle.pef_prepared.specs.Others.{HasForeign}
 use Rattle.pef_prepared.specs.Show.{FailsToBind, IsShown, ShowOutcome, it_alone, refuses, show_answer, shows, unbound}
 use Rattle.pef_prepared.proofs.AloneLemmas.{is-found, new-is, open-is, prepared-alone, root-is}
 use Rattle.pef_prepared.proofs.DescribedLemmas.{extents_are}
@@ -126,10 +127,10 @@ module _ (script : DescribedScript) (k : LinkedContainer) (linked : IsLinked scr
       go extents (inr later) = later.3
 
   -- no fragment of it is one that wasn't linked
-  all_linked : (new : List ℕ) (name : List ℕ) → new ≡ 0 ∷ [] → HasUnlinked alone new name → ⊥
+  all_linked : (new : List ℕ) (name : List ℕ) → new ≡ 0 ∷ [] → HasForeign alone new name → ⊥
   all_linked new name is has =
       let at = only-first has.position (subst (λ ps. Contains ps has.position) is has.member) in
-      has.other script k linked (ap (λ p. (pair_of alone p).bytes) at)
+      has.foreign script (record { container = k; linked = linked; bytes = ap (λ p. (pair_of alone p).bytes) at })
 
   all_read : AllRead alone
   all_read zero inside = linked-read script k alone 0 linked refl

@@ -1,8 +1,10 @@
 pub mod Fragment
+pub mod Headline
 pub mod Kept
 pub mod Least
 pub mod Limits
 pub mod Load
 pub mod Loaded
 pub mod Now
+pub mod Others
 pub mod Show

@@ -1,7 +1,5 @@
-use Rattle.pef_prepared.proofs.LeastLemmas.{linked_least}
-use Rattle.pef_prepared.proofs.NowLemmas.{closure-described, present-described}
-use Rattle.pef_prepared.proofs.RefusedLemmas.{refused-bound}
+use Rattle.pef_prepared.proofs.HeadlineLemmas.{headline-least, headline-prepares, headline-present}
 use Rattle.pef_prepared.proofs.theorems.headline.Goals as goal
 
 pub returns : goal.returns
-returns c = record { prepares = closure-described; present = present-described; bound = refused-bound; least = linked_least }
+returns c = record { prepares = headline-prepares; present = headline-present; least = headline-least }
