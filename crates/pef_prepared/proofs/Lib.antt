@@ -1,4 +1,5 @@
 mod AloneLemmas
+mod ConditionLemmas
 mod DescribedLemmas
 mod EndLemmas
 mod HeadlineLemmas

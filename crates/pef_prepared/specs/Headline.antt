@@ -65,7 +65,7 @@ pub record HasDescribedMemory (s : ContextState) (p : ℕ) (script : DescribedSc
   pub memory : IsDescribedNow s.pairs s script p
 
 -- "prepares": the answer is the next connection, and the fragment in place p has the described memory afterwards; or it
--- is 99, since an allocation failed, and the context is as it was
+-- is 99, the refusal for want of memory, and the context is as it was
 abbrev pub PreparesAsDescribed : ContextState → Result ℕ PrepareFault → ContextState → ℕ → DescribedScript → Type 0
 PreparesAsDescribed s (Ok number) t p script = (number ≡ s.given) × HasDescribedMemory t p script
 PreparesAsDescribed s (Err fault) t p script = (fault_number fault ≡ 99) × (t ≡ s)

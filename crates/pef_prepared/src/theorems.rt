@@ -10,7 +10,7 @@ ghost use Rattle.cfm_present.specs.Addresses.{addresses_of};
 ghost use Rattle.cfm_present.specs.Fragments.{Present, extents_in, image_refusal_in, is_present, reloc_refusal_in};
 ghost use Rattle.cfm_present.specs.Refusals.{HasBadImage, HasBadProgram};
 ghost use Rattle.cfm_prepare.specs.Contexts.{ContextState};
-ghost use Rattle.cfm_prepare.specs.Steps.{HasRoot};
+ghost use Rattle.cfm_prepare.specs.Steps.{HasRoot, Prepares};
 ghost use Rattle.cfm_prepare.specs.declared.fault.PrepareFault.{PrepareFault};
 ghost use Rattle.pef_loader.specs.declared.fault.LoaderFault.{LoaderFault};
 ghost use Rattle.pef_pidata.specs.declared.fault.PackFault.{PackFault};
@@ -27,8 +27,8 @@ ghost use Rattle.pef_views.specs.declared.fault.ViewFault.{ViewFault};
 ///
 /// `prepares`, the first half: a store has the linked bytes in place `p`. After any list of preparations and closings a
 /// root is prepared by its name, and its closure has `p`: it is the root itself, or what the root needs. The call gives
-/// the next connection, and the fragment in `p` is present with the described memory. The only refusal is 99, if an
-/// allocation fails, and then the context is as it was. The conditions: the root is in the store, and its closure isn't
+/// the next connection, and the fragment in `p` is present with the described memory. The only refusal is 99, for want
+/// of memory, and then the context is as it was. The conditions: the root is in the store, and its closure isn't
 /// refused; fewer than 65,536 connections were given; the fragments of the closure that aren't present yet find room;
 /// and none of these that wasn't linked has an image or a relocation header that is refused.
 ///
@@ -42,6 +42,11 @@ pub fn headline()
         → SectionsFindRoom s resolve.closed → OthersAreSound s resolve.closed → MayAnswer s name answer t → PreparesAsDescribed s answer t p script }
     ensures present { (script : DescribedScript) (s : ContextState) (p : ℕ) → IsReached s → HasLinked s.pairs p script → is_present s.present p ≡ true → HasDescribedMemory s p script }
     ensures least { (script : DescribedScript) (pairs : List Pair) (p : ℕ) (linked : HasLinked pairs p script) → HasLeastPrograms pairs p script linked.container }
+{}
+
+/// Each preparation that gives a connection meets the conditions of `prepares`, so they ask for no more than it needs.
+pub fn conditions_are_met()
+    ensures { (s t : ContextState) (name : List ℕ) (number : ℕ) → Prepares s name number t → (resolve : LibrariesResolve s name) × SectionsFindRoom s resolve.closed × OthersAreSound s resolve.closed }
 {}
 
 /// No image of a linked container is refused. Nor is a relocation header, if its sections have places, whichever
