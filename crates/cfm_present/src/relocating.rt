@@ -90,9 +90,9 @@ fn import_addresses(
     ensures { IfOk result (λ addresses. addresses.items ≡ addresses_from closure.now.pairs present.now.items position 0 (import_count closure.now.pairs position)) }
 {
     let mut addresses = Vec::new(alloc);
-    let count = closure.loader(position).header().import_count;
+    let count = closure.loader(position).imports();
     for import in 0..count {
-        let target = closure.target(position, import as usize);
+        let target = closure.target(position, import);
         addresses.push(target_address(present, target))?;
     }
     Ok(addresses)

@@ -1,5 +1,5 @@
 -- Certificates for the sections of a script: their programs are programs for the sections, and least ones.
-use Rattle.std.proofs.Common.{◌≡◌, ◌∙◌, ℕ, suc, ◌+◌, ◌<◌, Bool, true, false, ◌&&◌, ◌||◌, List, [], ◌∷◌, ◌++◌, get_or, length, take, map, refl, sym, ap, subst, arith}
+use Rattle.std.proofs.Common.{◌≡◌, ◌∙◌, ℕ, suc, ◌+◌, ◌<◌, ◌^◌, Bool, true, false, ◌&&◌, ◌||◌, List, [], ◌∷◌, ◌++◌, get_or, length, take, map, refl, sym, ap, subst, arith}
 use Rattle.std.specs.List.{All, AllByRecursion}
 use Rattle.std.proofs.lemmas.Bool.{and_from, and_parts, eqb-true, lt-ltb}
 use Rattle.std.proofs.lemmas.List.{length-take-le, take_more}
@@ -12,7 +12,8 @@ use Rattle.pef_reloc.specs.declared.fixup.Base.TheVariants.{Section, Import}
 use Rattle.pef_reloc.specs.declared.fixup.Fixup.{Fixup}
 use Rattle.pef_reloc.specs.declared.instr.Instr.{Instr}
 use Rattle.pef_reloc.specs.Deliveries.{all_meet, is_section, named_imports, names_used, uses_import, uses_section}
-use Rattle.pef_reloc.specs.Instrs.{instrs_fit, repeat_free}
+use Rattle.pef_reloc.proofs.Laws.{fixups_fit-parts}
+use Rattle.pef_reloc.specs.Instrs.{instrs_fit, program_length, repeat_free}
 use Rattle.pef_reloc.specs.Steps.{Least, all_below, named_sections, names_below}
 use Rattle.pef_script.specs.Script.{DescribedSection}
 use Rattle.pef_script.specs.WellFormed.{BaseThere, SectionHolds}
@@ -74,6 +75,16 @@ certified_fit k [] (c ∷ certificates) are = absurd are
 certified_fit k (s ∷ sections) [] are = absurd are
 certified_fit k (s ∷ sections) (c ∷ certificates) are =
     All-cons (λ (c : Certified). instrs_fit c.program ≡ true) c certificates (and_parts (repeat_free c.program) (instrs_fit c.program) are.0.valid.flat).1 (certified_fit (k + 1) sections certificates are.1)
+
+-- .. and which are short
+pub certified_short : (n j k : ℕ) (sections : List DescribedSection) (certificates : List Certified) → AllByRecursion (SectionHolds n j) sections → AreCertified k sections certificates → All (λ (c : Certified). program_length c.program < 2 ^ 32) certificates
+certified_short n j k [] [] holds are = λ i d under. absurd (omega arith)
+certified_short n j k [] (c ∷ certificates) holds are = absurd are
+certified_short n j k (s ∷ sections) [] holds are = absurd are
+certified_short n j k (s ∷ sections) (c ∷ certificates) holds are =
+    let short = (certified_program n j k s c holds.0 are.0).short in
+    let few = (fixups_fit-parts s.fixups holds.0.fixups).count in
+    All-cons (λ (c : Certified). program_length c.program < 2 ^ 32) c certificates (omega (arith, short, few)) (certified_short n j (k + 1) sections certificates holds.1 are.1)
 
 -- one certificate more, for the section behind
 certified_behind : (k : ℕ) (sections : List DescribedSection) (certificates : List Certified) (s : DescribedSection) (c : Certified) → AreCertified k sections certificates → IsCertified (k + length sections) s.fixups c → AreCertified k (sections ++ s ∷ []) (certificates ++ c ∷ [])

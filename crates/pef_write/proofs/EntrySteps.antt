@@ -1,31 +1,14 @@
 -- Steps along the entries and the names of libraries, imports and exports.
 use Rattle.std.proofs.Common.{◌≡◌, ◌∙◌, ℕ, ◌+◌, ◌<◌, ◌≤◌, List, [], ◌∷◌, ◌++◌, Option, Some, length, drop, get_or, map, option_map, slice_get, length-append, ap, sym, arith}
-use denote.Ref.{Bor}
 use Rattle.std.specs.List.{flat_map}
 use Rattle.std.proofs.lemmas.List.{drop_all, drop_more}
-use Rattle.std.proofs.lemmas.Option.{slice_get-map}
 use Rattle.pef_loader.specs.Export.{Export}
-use Rattle.pef_script.specs.declared.parts.ExportData.{ExportData}
-use Rattle.pef_script.specs.declared.parts.ImportData.{ImportData}
-use Rattle.pef_script.specs.declared.parts.LibraryData.{LibraryData}
-use Rattle.pef_script.specs.declared.parts.Parts.{Parts}
-use Rattle.pef_script.specs.Parts.{export_of, import_of, library_of, script_in}
-use Rattle.pef_script.specs.Script.{DescribedExport, DescribedImport, DescribedLibrary, DescribedScript}
+use Rattle.pef_script.specs.Script.{DescribedExport, DescribedImport, DescribedLibrary}
 use Rattle.pef_words.proofs.Laws.Lists.{drop-here}
 use Rattle.pef_write.specs.Fields.{spelled}
 use Rattle.pef_write.specs.Linked.{exports_at, libraries_from, linked_export, linked_import, linked_library, no_export}
 use Rattle.pef_write.specs.Loaders.{export_entry, export_fields, import_entry, import_fields, library_entry, library_fields, zero_ended}
 use Rattle.pef_write.proofs.Fields.{spelled-append}
-
--- what is found of the parts of a script is found of the script
-pub library-found : (p : Parts) (s : DescribedScript) (k : ℕ) (e : Option (Bor (List ℕ) × LibraryData)) → script_in p ≡ s → e ≡ slice_get p.libraries.entries k → slice_get s.libraries k ≡ option_map library_of e
-library-found p s k e are found = ap (λ (s : DescribedScript). slice_get s.libraries k) (sym are) ∙ slice_get-map library_of p.libraries.entries k ∙ ap (option_map library_of) (sym found)
-
-pub import-found : (p : Parts) (s : DescribedScript) (j : ℕ) (e : Option (Bor (List ℕ) × ImportData)) → script_in p ≡ s → e ≡ slice_get p.imports.entries j → slice_get s.imports j ≡ option_map import_of e
-import-found p s j e are found = ap (λ (s : DescribedScript). slice_get s.imports j) (sym are) ∙ slice_get-map import_of p.imports.entries j ∙ ap (option_map import_of) (sym found)
-
-pub export-found : (p : Parts) (s : DescribedScript) (k : ℕ) (e : Option (Bor (List ℕ) × ExportData)) → script_in p ≡ s → e ≡ slice_get p.exports.entries k → slice_get s.exports k ≡ option_map export_of e
-export-found p s k e are found = ap (λ (s : DescribedScript). slice_get s.exports k) (sym are) ∙ slice_get-map export_of p.exports.entries k ∙ ap (option_map export_of) (sym found)
 
 -- what is gathered of a whole stays within its bound
 pub within : (done left first all : List ℕ) (limit : ℕ) → done ++ left ≡ first ++ all → length first + length all < limit → length done < limit

@@ -11,8 +11,8 @@ use Rattle.pef_write.specs.Linked.{AreProgramsFor, linked_bytes, linked_loader, 
 use Rattle.pef_write.specs.Kept.Encoded.{AreEncoded, HasCertificates, HasRoom, container_with, nonempty_from}
 use Rattle.pef_write.proofs.Certificates.{certified_programs}
 use Rattle.pef_write.proofs.Fitting.{parts_fit, sizes_of}
-use Rattle.pef_write.proofs.Listing.{all-seen, map-twice}
-use Rattle.pef_write.proofs.Programs.{halves-are, length-programs, own_programs-are, short_programs}
+use Rattle.pef_write.proofs.Listing.{map-twice}
+use Rattle.pef_write.proofs.Programs.{length-programs, own_programs-are}
 
 -- the programs of certificates
 abbrev pub programs_of : List Certified → List (List Instr)
@@ -51,14 +51,3 @@ module _ (s : DescribedScript) (certificates : List Certified) (bytes : List (Li
     strings = rw tables_as (sizes_of s (programs_of certificates) e.has.holds programs_for).strings;
     container = omega (arith, ap length container_is, container_fits);
   }
-
--- programs are short
-pub encoded_short : {A : Type 0} (f : A → List ℕ) (s : DescribedScript) (certificates : List Certified) (programs : List A) → AreEncoded s certificates (map f programs) → All (λ p. length (f p) < 2 ^ 32) programs
-encoded_short f s certificates programs e k d under =
-    let all = bytes_as s certificates (map f programs) e in
-    let short = short_programs (length s.sections) (length s.sections) (length s.imports) s.sections (programs_of certificates) e.has.holds.sections.each (programs_for s certificates (map f programs) e) in
-    let seen : All (λ bytes. length bytes ≤ 8 * most_fixups) (map f programs) = rw all short in
-    omega (arith, all-seen (λ (bytes : List ℕ). length bytes ≤ 8 * most_fixups) f programs seen k d under)
-
-pub lengths_are : {A : Type 0} (f : A → List ℕ) (s : DescribedScript) (certificates : List Certified) (programs : List A) (e : AreEncoded s certificates (map f programs)) → map (λ p. length (f p) / 2) programs ≡ map program_length (programs_of certificates)
-lengths_are f s certificates programs e = map-twice (λ (bytes : List ℕ). length bytes / 2) f programs ∙ ap (map (λ (bytes : List ℕ). length bytes / 2)) (bytes_as s certificates (map f programs) e) ∙ halves-are (programs_of certificates)

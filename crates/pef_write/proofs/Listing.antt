@@ -20,12 +20,7 @@ mapped-all g xs i done whole past all = sym (append-nil done) ∙ ap (λ rest. d
 pub finished : {B : Type 0} (done left whole : List B) → left ≡ [] → done ++ left ≡ whole → done ≡ whole
 finished done left whole none all = sym (append-nil done) ∙ ap (λ z. done ++ z) (sym none) ∙ all
 
--- what holds of all as they are seen
-pub all-seen : {A B : Type 0} (P : B → Type 0) (f : A → B) (xs : List A) → All P (map f xs) → All (λ x. P (f x)) xs
-all-seen P f xs all k d under =
-    let inside : k < length (map f xs) = omega (arith, under, length-map xs f) in
-    subst P (get_or-map f xs k d (f d) under) (all k (f d) inside)
-
+-- what is mapped twice
 pub map-twice : {A B C : Type 0} (f : B → C) (g : A → B) (xs : List A) → map (λ x. f (g x)) xs ≡ map f (map g xs)
 map-twice f g [] = refl
 map-twice f g (x ∷ xs) = ap (λ ys. f (g x) ∷ ys) (map-twice f g xs)

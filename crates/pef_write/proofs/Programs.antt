@@ -59,21 +59,7 @@ length-programs n [] (instrs ∷ programs) are = absurd are
 length-programs n (s ∷ sections) [] are = absurd are
 length-programs n (s ∷ sections) (instrs ∷ programs) are = omega (arith, length-programs n sections programs are.1)
 
--- the bytes that are counted are two for each halfword
-pub halves-are : (programs : List (List Instr)) → map (λ bytes. length bytes / 2) (map spelled programs) ≡ map program_length programs
-halves-are [] = refl
-halves-are (instrs ∷ programs) =
-    let here : length (spelled instrs) / 2 ≡ program_length instrs = omega (arith, length-spelled instrs) in
-    ap₂ (λ a b. a ∷ b) here (halves-are programs)
-
 -- a program is short
 pub short_program : (n m j : ℕ) (s : DescribedSection) (instrs : List Instr) → SectionHolds m j s → IsProgramFor n s.fixups instrs → length (spelled instrs) ≤ 8 * most_fixups
 short_program n m j s instrs holds is =
     omega (arith, length-spelled instrs, is.short, (fixups_fit-parts s.fixups holds.fixups).count)
-
-pub short_programs : (n m j : ℕ) (sections : List DescribedSection) (programs : List (List Instr)) → AllByRecursion (SectionHolds m j) sections → AreProgramsFor n sections programs → All (λ bytes. length bytes ≤ 8 * most_fixups) (map spelled programs)
-short_programs n m j [] [] holds are = λ k d under. absurd (omega arith)
-short_programs n m j [] (instrs ∷ programs) holds are = absurd are
-short_programs n m j (s ∷ sections) [] holds are = absurd are
-short_programs n m j (s ∷ sections) (instrs ∷ programs) holds are =
-    All-cons (λ (bytes : List ℕ). length bytes ≤ 8 * most_fixups) (spelled instrs) (map spelled programs) (short_program n m j s instrs holds.0 are.0) (short_programs n m j sections programs holds.1 are.1)

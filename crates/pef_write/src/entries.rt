@@ -1,16 +1,17 @@
 ghost use Rattle.std.specs.Prelude.{◌≡◌, ◌+◌, ◌++◌, ◌<◌, ◌≤◌, ◌^◌, ℕ, List, [], ◌∷◌, OnOk, length, map, nat_lt};
 ghost use Rattle.std.specs.List.{All, count_by, flat_map};
 ghost use Rattle.pef_script.specs.Script.{import_names, library_names};
+ghost use Rattle.pef_script.specs.Views.{export_in, import_in};
 ghost use Rattle.pef_script.specs.WellFormed.{ScriptHolds};
 ghost use Rattle.pef_write.specs.Fields.{spelled};
-ghost use Rattle.pef_write.specs.Linked.{exports_at, libraries_from, linked_import};
+ghost use Rattle.pef_write.specs.Linked.{exports_at, libraries_from, linked_export, linked_import};
 ghost use Rattle.pef_write.specs.Loaders.{class_byte, export_entry, export_fields, import_entry, import_fields, library_entry, library_fields, zero_ended};
 ghost use Rattle.pef_write.specs.Kept.Tables.{IsBelow};
 
 use crate::fault::LinkFault;
 use crate::field::{Field, put_fields};
 use pef_loader::layout::{CLASS_SHIFT, WEAK_IMPORT};
-use pef_script::{ExportData, ImportData, LibraryData, Script};
+use pef_script::{ExportView, ImportView, LibraryView, Script};
 
 /// The byte behind the name of a library or an import.
 const NAME_END: u8 = 0;
@@ -31,12 +32,11 @@ pub(crate) fn put_libraries(
 {
     let mut k = 0;
     let mut first = 0;
-    let libraries = &script.parts().libraries;
-    'libraries: while let Some((name, library)) = libraries.get_index(k) {
+    'libraries: while let Some(library) = script.library(k) {
         let end = imports_end(script, k as u32, first);
         let at = strings.len() as u32;
-        let entry = library_entry(*library, at, first as u32, (end - first) as u32);
-        put_entry(out, strings, &entry, name)?;
+        let entry = library_entry(library, at, first as u32, (end - first) as u32);
+        put_entry(out, strings, &entry, library.name)?;
         k += 1;
         first = end;
     }
@@ -51,8 +51,7 @@ fn imports_end(script: &Script<'_>, l: u32, from: usize) -> usize
     ensures { result ≡ count_by (λ i. nat_lt i.library (l + 1)) script.now.imports }
 {
     let mut end = from;
-    let imports = &script.parts().imports;
-    'imports: while let Some((_, import)) = imports.get_index(end) {
+    'imports: while let Some(import) = script.import(end) {
         if import.library > l {
             break;
         }
@@ -73,10 +72,9 @@ pub(crate) fn put_imports(
     ensures names { OnOk result (strings.new.items ≡ strings.old.items ++ zero_ended (import_names script.now)) }
 {
     let mut j = 0;
-    let imports = &script.parts().imports;
-    'imports: while let Some((name, import)) = imports.get_index(j) {
-        let entry = import_entry(*import, strings.len() as u32);
-        put_entry(out, strings, &entry, name)?;
+    'imports: while let Some(import) = script.import(j) {
+        let entry = import_entry(import, strings.len() as u32);
+        put_entry(out, strings, &entry, import.name)?;
         j += 1;
     }
     Ok(())
@@ -112,21 +110,20 @@ pub(crate) fn put_exports(
     ensures entries { OnOk result (out.new.items ≡ out.old.items ++ spelled (export_fields (length strings.old.items) (exports_at script.now.exports order.now))) }
     ensures names { OnOk result (strings.new.items ≡ strings.old.items ++ flat_map (λ e. e.name) (exports_at script.now.exports order.now)) }
 {
-    let exports = &script.parts().exports;
     for place in order {
-        let Some((name, export)) = exports.get_index(*place as usize) else {
+        let Some(export) = script.export(*place as usize) else {
             unreachable!()
         };
-        put_fields(out, &export_entry(*export, strings.len() as u32))?;
-        strings.extend_from_slice(name)?;
+        put_fields(out, &export_entry(export, strings.len() as u32))?;
+        strings.extend_from_slice(export.name)?;
     }
     Ok(())
 }
 
 /// The fields of a library whose name stands at `at`, and whose imports are `count` ones from number
 /// `first` on (PEFImportedLibrary).
-fn library_entry(library: LibraryData, at: u32, first: u32, count: u32) -> [Field; 8]
-    ensures { (name : List ℕ) → result ≡ library_entry at (record { name = name; current = library.current; old_imp = library.old_imp; count = count; first = first; options = library.options }) }
+fn library_entry(library: LibraryView<'_>, at: u32, first: u32, count: u32) -> [Field; 8]
+    ensures { result ≡ library_entry at (record { name = library.entry.name.now; current = library.entry.current; old_imp = library.entry.old_imp; count = count; first = first; options = library.entry.options }) }
 {
     [
         Field::Word(at),
@@ -141,10 +138,10 @@ fn library_entry(library: LibraryData, at: u32, first: u32, count: u32) -> [Fiel
 }
 
 /// The fields of an import whose name stands at `at` (PEFImportedSymbol).
-fn import_entry(import: ImportData, at: u32) -> [Field; 1]
+fn import_entry(import: ImportView<'_>, at: u32) -> [Field; 1]
     requires class { import.class ≤ 4 }
     requires at { at < 2 ^ 24 }
-    ensures { (name : List ℕ) → result ≡ import_entry at (record { name = name; class = import.class; weak = import.weak; library = import.library }) }
+    ensures { result ≡ import_entry at (linked_import (import_in import.entry)) }
 {
     let class = class_byte(import.weak, import.class);
     [Field::Word(u32::from(class) * CLASS_UNIT + at)]
@@ -159,11 +156,11 @@ fn class_byte(weak: bool, class: u8) -> u8
 }
 
 /// The fields of an export whose name stands at `at` (PEFExportedSymbol).
-fn export_entry(export: ExportData, at: u32) -> [Field; 3]
+fn export_entry(export: ExportView<'_>, at: u32) -> [Field; 3]
     requires class { export.class ≤ 4 }
     requires section { IsBelow (2 ^ 15) export.section }
     requires at { at < 2 ^ 24 }
-    ensures { (name : List ℕ) → result ≡ export_entry at (record { name = name; class = export.class; section = export.section; value = export.value }) }
+    ensures { result ≡ export_entry at (linked_export (export_in export.entry)) }
 {
     [
         Field::Word(u32::from(export.class) * CLASS_UNIT + at),

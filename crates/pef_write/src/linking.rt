@@ -1,5 +1,4 @@
-ghost use Rattle.std.specs.Prelude.{◌≡◌, ◌/◌, ◌<◌, ◌^◌, IfOk, length, map};
-ghost use Rattle.std.specs.List.{All};
+ghost use Rattle.std.specs.Prelude.{◌≡◌, IfOk, length, map, option_copied, slice_get};
 ghost use Rattle.pef_write.specs.Linked.{IsLinked};
 ghost use Rattle.pef_write.specs.Kept.Encoded.{HasRoom, container_with};
 
@@ -10,28 +9,68 @@ use crate::parts::parts;
 use crate::program::{certificates, programs};
 use crate::relocations::section_programs;
 use pef_labels::Certificate;
-use pef_loader::layout::HALFWORD_SIZE;
 use pef_script::Script;
-use std::alloc::{AllocError, Global};
+use std::alloc::Global;
 use std::marker::Model;
 
 /// A container that was linked of a script, with the certificates of its relocation programs.
 #[derive(Debug, Drop)]
 pub struct Linked {
-    /// The container.
-    pub bytes: Vec<u8>,
-    /// How many halfwords the relocation program of each section has: 0 for one without fixups.
-    pub lengths: Vec<u32>,
-    /// The certificates, one for each section, that no program of it has fewer halfwords.
-    pub certificates: Vec<Certificate>,
+    bytes: Vec<u8>,
+    /// A certificate for each section, in order.
+    certificates: Vec<Certificate>,
 }
 
 impl Model for Linked {
+    ghost use Rattle.std.specs.Prelude.{◌<◌, ◌^◌, map};
+    ghost use Rattle.std.specs.List.{All};
+    ghost use Rattle.pef_reloc.specs.Instrs.{program_length};
     ghost use Rattle.pef_write.specs.Linked.{LinkedContainer};
 
     ghost Value = { LinkedContainer };
 
-    ghost view = { λ l. record { bytes = l.bytes.items; lengths = l.lengths.items; certificates = l.certificates.items } };
+    ghost view = { λ l. record { bytes = l.bytes.items; lengths = map (λ c. program_length c.program) l.certificates.items; certificates = l.certificates.items } };
+
+    ghost invariant = { λ l. All (λ c. program_length c.program < 2 ^ 32) l.certificates.items };
+}
+
+impl Linked {
+    /// The container.
+    pub fn bytes(&self) -> &[u8]
+        ensures { result.now ≡ self.now.bytes }
+    {
+        &self.bytes
+    }
+
+    /// The number of sections.
+    pub fn sections(&self) -> usize
+        ensures lengths { result ≡ length self.now.lengths }
+        ensures certificates { result ≡ length self.now.certificates }
+    {
+        self.certificates.len()
+    }
+
+    /// The number of halfwords of section `k`'s relocation program, or `None` past the last section. It is 0
+    /// for a section without fixups.
+    pub fn length(&self, k: usize) -> Option<u32>
+        ensures { result ≡ slice_get self.now.lengths k }
+    {
+        Some(self.certificates.get(k)?.program_length() as u32)
+    }
+
+    /// The certificate of section `k`, or `None` past the last section.
+    pub fn certificate(&self, k: usize) -> Option<&Certificate>
+        ensures { option_copied result ≡ slice_get self.now.certificates k }
+    {
+        self.certificates.get(k)
+    }
+
+    /// The certificates of all sections, in order.
+    pub fn certificates(&self) -> &[Certificate]
+        ensures { result.now ≡ self.now.certificates }
+    {
+        &self.certificates
+    }
 }
 
 /// Links a script: its container, with a shortest relocation program for each section that has fixups.
@@ -44,11 +83,9 @@ pub fn link(alloc: Global, script: &Script<'_>) -> Result<Linked, LinkFault>
 {
     let certificates = certificates(alloc, script)?;
     let programs = programs(alloc, &certificates)?;
-    let lengths = halfwords(alloc, &programs)?;
     let bytes = container(alloc, script, &programs)?;
     Ok(Linked {
         bytes,
-        lengths,
         certificates,
     })
 }
@@ -63,18 +100,6 @@ fn container(alloc: Global, script: &Script<'_>, programs: &[Vec<u8>]) -> Result
         write_loader(alloc, script, &own)?
     };
     let parts = parts(alloc, script)?;
-    let versions = script.parts().versions;
+    let versions = script.versions();
     Ok(write_container(alloc, versions, &parts, &loader)?)
-}
-
-/// How many halfwords each of `programs` has.
-fn halfwords(alloc: Global, programs: &[Vec<u8>]) -> Result<Vec<u32>, AllocError>
-    requires { All (λ p. length p.items < 2 ^ 32) programs.now }
-    ensures { IfOk result (λ lengths. lengths.items ≡ map (λ p. length p.items / 2) programs.now) }
-{
-    let mut lengths = Vec::with_capacity(alloc, programs.len())?;
-    for program in programs {
-        lengths.push((program.len() / HALFWORD_SIZE) as u32)?;
-    }
-    Ok(lengths)
 }

@@ -158,10 +158,9 @@ fn header_fields(script: &Script<'_>, pieces: Pieces<'_>, places: Places) -> [Fi
     requires places { ArePlaces (script_tables script.now (map program_entry pieces.programs.now)) places }
     ensures { result ≡ header_fields (script_tables script.now (map program_entry pieces.entry.programs.now)) }
 {
-    let parts = script.parts();
-    let (main, main_offset) = entry_numbers(parts.main);
-    let (init, init_offset) = entry_numbers(parts.init);
-    let (term, term_offset) = entry_numbers(parts.term);
+    let (main, main_offset) = entry_numbers(script.main());
+    let (init, init_offset) = entry_numbers(script.init());
+    let (term, term_offset) = entry_numbers(script.term());
     [
         Field::Word(main),
         Field::Word(main_offset),
@@ -169,14 +168,14 @@ fn header_fields(script: &Script<'_>, pieces: Pieces<'_>, places: Places) -> [Fi
         Field::Word(init_offset),
         Field::Word(term),
         Field::Word(term_offset),
-        Field::Word(parts.libraries.len() as u32),
-        Field::Word(parts.imports.len() as u32),
+        Field::Word(script.libraries() as u32),
+        Field::Word(script.imports() as u32),
         Field::Word(pieces.programs.len() as u32),
         Field::Word(places.programs as u32),
         Field::Word(places.strings as u32),
         Field::Word(places.exports as u32),
         Field::Word(pieces.power),
-        Field::Word(parts.exports.len() as u32),
+        Field::Word(script.exports() as u32),
     ]
 }
 

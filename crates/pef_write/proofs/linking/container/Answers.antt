@@ -1,7 +1,7 @@
 -- What is written is the container of the script.
 use Rattle.std.proofs.Common.{◌∙◌, ◌<◌, ◌^◌, length, map, ap, ap₂, subst, sym, arith}
 use Rattle.std.proofs.lemmas.List.{length-map}
-use Rattle.pef_script.specs.Script.{DescribedScript}
+use Rattle.pef_script.specs.declared.parts.Versions.{Versions}
 use Rattle.pef_write.specs.Containers.{written_container}
 use Rattle.pef_write.specs.Linked.{script_tables}
 use Rattle.pef_write.specs.Loaders.{strings_of, written_loader}
@@ -26,7 +26,7 @@ write_container-requires-clause-fits c =
     let own = ap (map program_entry) c.deref.ensures.value ∙ c.in_ok-own.ensures in
     let loader = c.deref-3.ensures.value ∙ c.in_ok-loader.ensures ∙ ap (λ programs. written_loader (script_tables c.args.script.now programs)) own in
     let parts = ap (map described) c.deref-2.ensures.value ∙ c.in_ok-parts.ensures in
-    let whole = ap (λ (s : DescribedScript). written_container s.versions (map described c.deref-2.result.now) c.deref-3.result.now) c.parts-2.ensures.parts ∙ ap₂ (written_container c.args.script.now.versions) parts loader in
+    let whole = ap (λ (versions : Versions). written_container versions (map described c.deref-2.result.now) c.deref-3.result.now) c.versions-versions.ensures ∙ ap₂ (written_container c.args.script.now.versions) parts loader in
     omega (arith, ap length whole, c.requires.container)
 
 pub returns : goal.returns
@@ -34,4 +34,4 @@ returns c =
     let own = ap (map program_entry) c.deref.ensures.value ∙ c.in_ok-own.ensures in
     let loader = c.deref-3.ensures.value ∙ c.in_ok-loader.ensures ∙ ap (λ programs. written_loader (script_tables c.args.script.now programs)) own in
     let parts = ap (map described) c.deref-2.ensures.value ∙ c.in_ok-parts.ensures in
-    c.in_ok-write_container.ensures ∙ ap (λ (s : DescribedScript). written_container s.versions (map described c.deref-2.result.now) c.deref-3.result.now) c.parts-2.ensures.parts ∙ ap₂ (written_container c.args.script.now.versions) parts loader
+    c.in_ok-write_container.ensures ∙ ap (λ (versions : Versions). written_container versions (map described c.deref-2.result.now) c.deref-3.result.now) c.versions-versions.ensures ∙ ap₂ (written_container c.args.script.now.versions) parts loader
