@@ -37,6 +37,9 @@ is_closed pairs root c is =
     let same = same_ok (Ok whole) whole c refl d.leads in
     subst (IsClosed pairs root) same (record { store = refl; order = a.is; passes = b.0 })
 
+pub closed-order : (pairs : List Pair) (root : ℕ) (c : Closed) → closed_of pairs root ≡ Ok c → order_of pairs root ≡ Ok c.order
+closed-order pairs root c is = (is_closed pairs root c is).order
+
 pub closed-store : (pairs : List Pair) (root : ℕ) (c : Closed) → closed_of pairs root ≡ Ok c → c.pairs ≡ pairs
 closed-store pairs root c is = (is_closed pairs root c is).store
 
@@ -56,7 +59,7 @@ passes-of pairs (q ∷ order) p none there =
       | inr later ↦ passes-of pairs order p both.1 later
     ]
 
-not_refused : {A : Type 0} (r : Result A BindRefusal) → result_err r ≡ None → (x : A) × (r ≡ Ok x)
+pub not_refused : {A : Type 0} (r : Result A BindRefusal) → result_err r ≡ None → (x : A) × (r ≡ Ok x)
 not_refused (Ok x) none = (x, refl)
 not_refused (Err e) none = absurd (cc)
 

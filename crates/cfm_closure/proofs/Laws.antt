@@ -8,3 +8,8 @@ pub use Rattle.cfm_closure.proofs.TargetLemmas.{target-inside}
 pub use Rattle.cfm_closure.proofs.ReadLemmas.{closed-no_container, closed-no_loader}
 -- so where all fragments of a store are read, a closure is refused by no fragment's bytes
 pub use Rattle.cfm_closure.proofs.ReadLemmas.{closed-refused}
+-- the order of a closure is the one that the walk from its root gives
+pub use Rattle.cfm_closure.proofs.ClosedLemmas.{closed-order}
+-- a closure is refused as a loop of re-exports just where an import of its order meets an export again, before which no
+-- import is refused
+pub use Rattle.cfm_closure.proofs.EndlessLemmas.{closed-endless}

@@ -1,4 +1,5 @@
 mod ClosedLemmas
+mod EndlessLemmas
 mod FollowLemmas
 mod HopFacts
 mod HopLemmas
@@ -10,6 +11,7 @@ mod LoopLemmas
 mod Pigeons
 mod Ranks
 mod ReadLemmas
+mod RefusalLemmas
 mod RowLemmas
 mod SymbolLemmas
 mod TargetLemmas

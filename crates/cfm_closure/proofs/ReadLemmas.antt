@@ -1,54 +1,14 @@
 -- Where a closure is refused by a fragment's bytes, it is one of the store that isn't read.
-use Rattle.std.proofs.Common.{◌≡◌, ℕ, zero, suc, ◌+◌, ◌<◌, Bool, true, false, cond, List, [], ◌∷◌, length, Option, None, Some, Ok, Err, refl, sym, ◌∙◌, subst, inl, inr}
-use Rattle.std.specs.Prelude.{◌⊎◌, ⊤, Result}
-use Rattle.std.specs.Option.{option_and_then, option_map_or, option_or}
-use Rattle.std.specs.Result.{result_err}
-use Rattle.pef_loader.specs.Export.{Export}
-use Rattle.pef_loader.specs.Import.{Import}
-use Rattle.pef_loader.specs.Library.{Library}
-use Rattle.pef_loader.specs.Loader.{Loaded, library_of, loaded_of}
+use Rattle.std.proofs.Common.{◌≡◌, ℕ, ◌<◌, List, length, Some, Ok, Err, sym, ◌∙◌, subst}
+use Rattle.std.specs.Prelude.{◌⊎◌, ⊤}
 use Rattle.pef_loader.specs.declared.fault.LoaderFault.{LoaderFault}
-use Rattle.pef_views.specs.Container.{Contained, container_of}
 use Rattle.pef_views.specs.declared.fault.ViewFault.{ViewFault}
-use Rattle.pef_words.specs.Refusals.{first_among, unless}
-use Rattle.cfm_store.specs.declared.versions.Fit.{Fit}
-use Rattle.cfm_store.specs.declared.versions.Fit.TheVariants.{Fits, TooOld, TooNew}
 use Rattle.cfm_store.specs.Stores.{Pair, pair_of, place_of}
-use Rattle.cfm_store.proofs.Laws.{place_of-below, place_of-first}
 use Rattle.cfm_libraries.specs.Faults.{BindRefusal, implementation_too_new, implementation_too_old, init_loop, library_missing, no_container, no_loader, reexport_loop, symbol_missing}
-use Rattle.cfm_libraries.specs.Fragments.{Fragment, fragment_of, import_at, import_count, loader_at, with_container, with_loader}
-use Rattle.cfm_libraries.specs.Libraries.{absent_or, bound, bound_at, bound_by, bound_to, fit_with, is_weak, library_at}
-use Rattle.cfm_libraries.specs.Walk.{Walked, is_marked, joining, marking, order_of, unwalked, walk, walk_at, walk_to, walks_from}
-use Rattle.cfm_libraries.proofs.Laws.{stands_for}
-use Rattle.pef_words.specs.Results.{◌>>=◌}
-use Rattle.cfm_closure.specs.declared.targets.Target.{Target}
-use Rattle.cfm_closure.specs.Closures.{Closed, closed_of, first_refused, import_refusal, imports_refusal}
-use Rattle.cfm_closure.specs.Initialization.{first_left, init_order_of, next_ready, take_next, take_ready, taken_all}
+use Rattle.cfm_libraries.specs.Fragments.{fragment_of}
+use Rattle.cfm_closure.specs.Closures.{closed_of}
 use Rattle.cfm_closure.specs.Promises.{AllRead, IsOfBinding, IsOfUnread}
-use Rattle.cfm_closure.specs.Targets.{Hop, ends, exported, exports_in, follow, followed, hop, hop_from, hop_of, hop_to, symbol_of, target_of, through}
-
--- a refusal of a fragment has its name
-abbrev IsNamed : List ℕ → BindRefusal → Type 0
-IsNamed name (no_container f v) = name ≡ f
-IsNamed name (no_loader f v) = name ≡ f
-IsNamed name (library_missing f l) = ⊤
-IsNamed name (symbol_missing f l s) = ⊤
-IsNamed name (implementation_too_old f l) = ⊤
-IsNamed name (implementation_too_new f l) = ⊤
-IsNamed name (reexport_loop f s) = ⊤
-IsNamed name (init_loop f) = ⊤
-
-loader-named : (name : List ℕ) (c : Contained) (l : Result Loaded LoaderFault) (r : BindRefusal) → with_loader name c l ≡ Err r → IsNamed name r
-loader-named name c (Ok l) r is = absurd (cc)
-loader-named name c (Err fault) r is = let same : no_loader name fault ≡ r = cc in subst (IsNamed name) same refl
-
-container-named : (name : List ℕ) (c : Result Contained ViewFault) (r : BindRefusal) → with_container name c ≡ Err r → IsNamed name r
-container-named name (Ok c) r is = loader-named name c (loaded_of c.header.instantiated_section_count c.loader) r is
-container-named name (Err fault) r is = let same : no_container name fault ≡ r = cc in subst (IsNamed name) same refl
-
-fragment-named : (pairs : List Pair) (p : ℕ) (r : BindRefusal) → fragment_of pairs p ≡ Err r → IsNamed (pair_of pairs p).name r
-unfolding fragment_of
-fragment-named pairs p r is = container-named (pair_of pairs p).name (container_of (pair_of pairs p).bytes) r is
+use Rattle.cfm_closure.proofs.RefusalLemmas.{Binds, Covers, IsMet, IsNamed, closed-binds, fragment-named}
 
 module _ (pairs : List Pair) (root : ℕ) where
   -- a refusal of bytes is of a fragment that isn't read
@@ -62,54 +22,7 @@ module _ (pairs : List Pair) (root : ℕ) where
   Tells (reexport_loop f s) = ⊤
   Tells (init_loop f) = ⊤
 
-  -- .. so is that of a result, where there is one
-  abbrev Binds : {A : Type 0} → Result A BindRefusal → Type 0
-  Binds (Ok x) = ⊤
-  Binds (Err r) = Tells r
-
-  -- .. and so are those of what follows
-  binds-then : {A B : Type 0} (r : Result A BindRefusal) (f : A → Result B BindRefusal) → Binds r → ((x : A) → r ≡ Ok x → Binds (f x)) → Binds (r >>= f)
-  binds-then (Ok x) f first later = later x refl
-  binds-then (Err e) f first later = first
-
-  absent-binds : (weak : Bool) (r : BindRefusal) → Tells r → Binds (absent_or weak r)
-  absent-binds true r of = tt
-  absent-binds false r of = of
-
-  fit-binds : (fit : Fit) (name : List ℕ) (l : Library) (q : ℕ) → Binds (bound_by fit name l q)
-  fit-binds Fits name l q = tt
-  fit-binds TooOld name l q = absent-binds (is_weak l) (implementation_too_old name l.name) tt
-  fit-binds TooNew name l q = absent-binds (is_weak l) (implementation_too_new name l.name) tt
-
-  take-binds : (n : ℕ) (order : List ℕ) (s : Walked) → Binds (take_ready n pairs order s)
-  unfolding take_ready
-  take-binds zero order s = by (first_left s order)
-    where
-      by : (o : Option ℕ) → Binds (taken_all pairs s o)
-      by None = tt
-      by (Some p) = tt
-  take-binds (suc n) order s = next (next_ready pairs s order) (λ t. take-binds n order t)
-    where
-      by : (o : Option ℕ) → Binds (taken_all pairs s o)
-      by None = tt
-      by (Some p) = tt
-
-      next : (o : Option ℕ) → ((t : Walked) → Binds (take_ready n pairs order t)) → Binds (take_next (take_ready n pairs order) pairs order s o)
-      next None deeper = by (first_left s order)
-      next (Some p) deeper = deeper (joining p (marking p s))
-
-  -- a fragment that a walk can meet: the root, or the first of its name
-  record IsMet (p : ℕ) : Type 0 where
-    pub inside : p < length pairs
-    pub found : (p ≡ root) ⊎ (place_of pairs (pair_of pairs p).name ≡ Some p)
-
-  root-met : root < length pairs → IsMet root
-  root-met inside = record { inside = inside; found = inl refl }
-
-  library-met : (p l q : ℕ) → bound_to pairs p l ≡ Ok (Some q) → IsMet q
-  library-met p l q is = let s = stands_for pairs p l q is in record { inside = s.inside; found = inr s.first }
-
-  unread : (p : ℕ) (name : List ℕ) (r : BindRefusal) → IsMet p → fragment_of pairs p ≡ Err r → (pair_of pairs p).name ≡ name → IsOfUnread pairs root name r
+  unread : (p : ℕ) (name : List ℕ) (r : BindRefusal) → IsMet pairs root p → fragment_of pairs p ≡ Err r → (pair_of pairs p).name ≡ name → IsOfUnread pairs root name r
   unread p name r met is named = record {
     position = p;
     inside = met.inside;
@@ -118,161 +31,33 @@ module _ (pairs : List Pair) (root : ℕ) where
     refused = is;
   }
 
-  fragment-binds : (p : ℕ) → IsMet p → Binds (fragment_of pairs p)
-  fragment-binds p met = by (fragment_of pairs p) refl
+  -- a refusal of a fragment that a walk meets tells that one
+  told : (p : ℕ) (r : BindRefusal) → IsMet pairs root p → fragment_of pairs p ≡ Err r → Tells r
+  told p r met is = by r is (fragment-named pairs p r is)
     where
-      told : (r : BindRefusal) → fragment_of pairs p ≡ Err r → IsNamed (pair_of pairs p).name r → Tells r
-      told (no_container f v) is named = unread p f (no_container f v) met is named
-      told (no_loader f v) is named = unread p f (no_loader f v) met is named
-      told (library_missing f l) is named = tt
-      told (symbol_missing f l s) is named = tt
-      told (implementation_too_old f l) is named = tt
-      told (implementation_too_new f l) is named = tt
-      told (reexport_loop f s) is named = tt
-      told (init_loop f) is named = tt
+      by : (r : BindRefusal) → fragment_of pairs p ≡ Err r → IsNamed (pair_of pairs p).name r → Tells r
+      by (no_container f v) is named = unread p f (no_container f v) met is named
+      by (no_loader f v) is named = unread p f (no_loader f v) met is named
+      by (library_missing f l) is named = tt
+      by (symbol_missing f l s) is named = tt
+      by (implementation_too_old f l) is named = tt
+      by (implementation_too_new f l) is named = tt
+      by (reexport_loop f s) is named = tt
+      by (init_loop f) is named = tt
 
-      by : (r : Result Fragment BindRefusal) → fragment_of pairs p ≡ r → Binds r
-      by (Ok f) is = tt
-      by (Err r) is = told r is (fragment-named pairs p r is)
-
-  library-binds : (name : List ℕ) (l : Library) → Binds (bound pairs name l)
-  unfolding bound
-  library-binds name l = by (place_of pairs l.name) refl
-    where
-      met : (q : ℕ) → place_of pairs l.name ≡ Some q → IsMet q
-      met q was = record { inside = place_of-below pairs l.name q was; found = inr (place_of-first pairs l.name q was) }
-
-      by : (o : Option ℕ) → place_of pairs l.name ≡ o → Binds (bound_at pairs name l o)
-      by None was = absent-binds (is_weak l) (library_missing name l.name) tt
-      by (Some q) was = binds-then (fragment_of pairs q) (λ f. bound_by (fit_with l f) name l q) (fragment-binds q (met q was)) (λ f is. fit-binds (fit_with l f) name l q)
-
-  entry-binds : (p l : ℕ) → IsMet p → Binds (bound_to pairs p l)
-  unfolding bound_to
-  entry-binds p l met = binds-then (fragment_of pairs p) (λ f. option_map_or (bound pairs f.name) (library_of f.loader l) (Ok None)) (fragment-binds p met) (λ f is. by f (library_of f.loader l))
-    where
-      by : (f : Fragment) (o : Option Library) → Binds (option_map_or (bound pairs f.name) o (Ok None))
-      by f None = tt
-      by f (Some x) = library-binds f.name x
-
-  walks-bind : (v : ℕ → Walked → Result Walked BindRefusal) → ((q : ℕ) (s : Walked) → IsMet q → Binds (v q s)) → (p l n : ℕ) (s : Walked) → IsMet p → Binds (walks_from v pairs p l n s)
-  walks-bind v each p l zero s met = tt
-  walks-bind v each p l (suc n) s met =
-      binds-then (bound_to pairs p l) (λ q. walk_to v q s >>= walks_from v pairs p (l + 1) n) (entry-binds p l met)
-      (λ q is. binds-then (walk_to v q s) (walks_from v pairs p (l + 1) n) (to q is) (λ t there. walks-bind v each p (l + 1) n t met))
-    where
-      to : (o : Option ℕ) → bound_to pairs p l ≡ Ok o → Binds (walk_to v o s)
-      to None is = tt
-      to (Some q) is = each q s (library-met p l q is)
-
-  walk-binds : (n p : ℕ) (s : Walked) → IsMet p → Binds (walk n pairs p s)
-  unfolding walk
-  walk-binds zero p s met = tt
-  walk-binds (suc n) p s met = by (is_marked s p) (λ q t there. walk-binds n q t there)
-    where
-      by : (marked : Bool) → ((q : ℕ) (t : Walked) → IsMet q → Binds (walk n pairs q t)) → Binds (walk_at (walk n pairs) pairs p s marked)
-      by true deeper = tt
-      by false deeper =
-          binds-then (fragment_of pairs p) (λ f. walks_from (walk n pairs) pairs p 0 f.loader.header.library_count (marking p s) >>= (λ s. Ok (joining p s))) (fragment-binds p met)
-          (λ f is. binds-then (walks_from (walk n pairs) pairs p 0 f.loader.header.library_count (marking p s)) (λ s. Ok (joining p s)) (walks-bind (walk n pairs) deeper p 0 f.loader.header.library_count (marking p s) met) (λ t there. tt))
-
-  order-binds : root < length pairs → Binds (order_of pairs root)
-  unfolding order_of
-  order-binds inside = binds-then (walk (length pairs) pairs root (unwalked pairs)) (λ s. Ok s.order) (walk-binds (length pairs) root (unwalked pairs) (root-met inside)) (λ s is. tt)
-
-  hop-binds : (p j : ℕ) → Binds (hop pairs p j)
-  unfolding hop
-  hop-binds p j = of (import_at pairs p j)
-    where
-      weak : (b : Bool) (r : BindRefusal) → Tells r → Binds {A = Hop} (cond b (Ok (ends None)) (Err r))
-      weak true r is = tt
-      weak false r is = is
-
-      to : (q : ℕ) (i : Import) (o : Option (ℕ × Export)) → Binds (hop_to (pair_of pairs p).name (pair_of pairs q).name i q o)
-      to q i None = weak i.weak (symbol_missing (pair_of pairs p).name (pair_of pairs q).name i.name) tt
-      to q i (Some x) = tt
-
-      from : (i : Import) (o : Option ℕ) → Binds (hop_from pairs p i o)
-      from i None = tt
-      from i (Some q) = to q i (option_and_then (exported i.name) (loader_at pairs q))
-
-      of : (o : Option Import) → Binds (hop_of pairs p o)
-      of None = tt
-      of (Some i) = from i (library_at pairs p i.library)
-
-  -- an answer, where there is one
-  abbrev AnswerBinds : Option (Result (Option Target) BindRefusal) → Type 0
-  AnswerBinds None = ⊤
-  AnswerBinds (Some answer) = Binds answer
-
-  follow-binds : (n p j : ℕ) → AnswerBinds (follow n pairs p j)
-  unfolding follow
-  follow-binds zero p j = by (hop pairs p j) (hop-binds p j)
-    where
-      by : (r : Result Hop BindRefusal) → Binds r → AnswerBinds (followed (λ q k. None) r)
-      by (Ok (ends t)) binds = tt
-      by (Ok (through q e k)) binds = tt
-      by (Err r) binds = binds
-  follow-binds (suc n) p j = by (hop pairs p j) (hop-binds p j) (λ q k. follow-binds n q k)
-    where
-      by : (r : Result Hop BindRefusal) → Binds r → ((q k : ℕ) → AnswerBinds (follow n pairs q k)) → AnswerBinds (followed (follow n pairs) r)
-      by (Ok (ends t)) binds deeper = tt
-      by (Ok (through q e k)) binds deeper = deeper q k
-      by (Err r) binds deeper = binds
-
-  target-binds : (p j : ℕ) → Binds (target_of pairs p j)
-  unfolding target_of
-  target-binds p j = by (follow (exports_in pairs) pairs p j) (follow-binds (exports_in pairs) p j)
-    where
-      by : (o : Option (Result (Option Target) BindRefusal)) → AnswerBinds o → Binds (option_map_or (λ answer. answer) o (Err (reexport_loop (pair_of pairs p).name (symbol_of pairs p j))))
-      by None binds = tt
-      by (Some answer) binds = binds
-
-  -- a refusal that is there
-  abbrev RefusalBinds : Option BindRefusal → Type 0
-  RefusalBinds None = ⊤
-  RefusalBinds (Some r) = Tells r
-
-  or-binds : (o rest : Option BindRefusal) → RefusalBinds o → RefusalBinds rest → RefusalBinds (option_or o rest)
-  or-binds None rest first later = later
-  or-binds (Some r) rest first later = first
-
-  import-binds : (p j : ℕ) → RefusalBinds (import_refusal pairs p j)
-  import-binds p j = by (target_of pairs p j) (target-binds p j)
-    where
-      by : (r : Result (Option Target) BindRefusal) → Binds r → RefusalBinds (result_err r)
-      by (Ok t) binds = tt
-      by (Err r) binds = binds
-
-  among-binds : (p from n : ℕ) → RefusalBinds (first_among (import_refusal pairs p) from n)
-  among-binds p from zero = tt
-  among-binds p from (suc n) = or-binds (import_refusal pairs p from) (first_among (import_refusal pairs p) (from + 1) n) (import-binds p from) (among-binds p (from + 1) n)
-
-  imports-bind : (order : List ℕ) → RefusalBinds (first_refused pairs order)
-  imports-bind [] = tt
-  imports-bind (p ∷ order) = or-binds (imports_refusal pairs p) (first_refused pairs order) (among-binds p 0 (import_count pairs p)) (imports-bind order)
-
-  ordered-binds : (order : List ℕ) → Binds (init_order_of pairs order)
-  unfolding init_order_of
-  ordered-binds order = take-binds (length order) order (unwalked pairs)
-
-  abbrev with_order : List ℕ → List ℕ → Closed
-  with_order order init_order = record { pairs = pairs; order = order; init_order = init_order }
-
-  -- what follows a closure order
-  abbrev behind : List ℕ → Option BindRefusal → Result Closed BindRefusal
-  behind order refusal = unless refusal (init_order_of pairs order >>= (λ init_order. Ok (with_order order init_order)))
-
-  behind-binds : (order : List ℕ) (refusal : Option BindRefusal) → RefusalBinds refusal → Binds (behind order refusal)
-  behind-binds order None binds = binds-then (init_order_of pairs order) (λ init_order. Ok (with_order order init_order)) (ordered-binds order) (λ init_order is. tt)
-  behind-binds order (Some r) binds = binds
-
-  closed-binds : root < length pairs → Binds (closed_of pairs root)
-  unfolding closed_of
-  closed-binds inside = binds-then (order_of pairs root) (λ order. behind order (first_refused pairs order)) (order-binds inside) (λ order is. behind-binds order (first_refused pairs order) (imports-bind order))
+  all_tell : Covers pairs root Tells
+  all_tell = record {
+    library = λ f l. tt;
+    symbol = λ f l s. tt;
+    too_old = λ f l. tt;
+    too_new = λ f l. tt;
+    init = λ f. tt;
+    bytes = told;
+  }
 
   -- so a closure that is refused by the bytes of a fragment tells one that isn't read
   closed-tells : (r : BindRefusal) → root < length pairs → closed_of pairs root ≡ Err r → Tells r
-  closed-tells r inside is = subst Binds is (closed-binds inside)
+  closed-tells r inside is = subst (Binds pairs root Tells all_tell) is (closed-binds pairs root Tells all_tell (λ p j. tt) inside)
 
   pub closed-no_container : (name : List ℕ) (v : ViewFault) → root < length pairs → closed_of pairs root ≡ Err (no_container name v) → IsOfUnread pairs root name (no_container name v)
   closed-no_container name v inside is = closed-tells (no_container name v) inside is

@@ -1,12 +1,14 @@
 -- What holds of closures beside their definitions.
-use Rattle.std.specs.Prelude.{◌≡◌, ◌⊎◌, ⊤, ℕ, ◌<◌, List, length, Option, None, Some, Result, Ok, Err, Contains}
+use Rattle.std.specs.Prelude.{◌≡◌, ◌⊎◌, ⊤, ℕ, ◌<◌, List, ◌∷◌, ◌++◌, length, Option, None, Some, Result, Ok, Err, Contains}
 use Rattle.std.specs.Option.{option_map_or}
 use Rattle.pef_loader.specs.Loader.{IsLoader, Loaded}
 use Rattle.cfm_store.specs.Stores.{Pair, pair_of, place_of}
 use Rattle.cfm_libraries.specs.Faults.{BindRefusal, implementation_too_new, implementation_too_old, init_loop, library_missing, no_container, no_loader, reexport_loop, symbol_missing}
-use Rattle.cfm_libraries.specs.Fragments.{Fragment, fragment_of, loader_at}
+use Rattle.cfm_libraries.specs.Fragments.{Fragment, fragment_of, import_count, loader_at}
+use Rattle.cfm_libraries.specs.Walk.{order_of}
 use Rattle.cfm_closure.specs.declared.targets.Target.{Target}
 use Rattle.cfm_closure.specs.declared.targets.Target.TheVariants.{Absolute, At}
+use Rattle.cfm_closure.specs.Reexports.{MeetsAgain}
 use Rattle.cfm_closure.specs.Targets.{exports_among, follow, symbol_of, target_of}
 
 -- the loader section of a fragment is one of its container
@@ -55,6 +57,21 @@ LiesInside pairs order (Some (At fragment section offset)) = HasSection pairs or
 -- an import isn't refused
 abbrev pub HasTarget : List Pair → ℕ → ℕ → Type 0
 HasTarget pairs p j = (target : Option Target) × (target_of pairs p j ≡ Ok target)
+
+-- the closure order of a root has a fragment with an import, of these names, from which an export is met a
+-- second time; no import before that one is refused
+pub record IsEndless (pairs : List Pair) (root : ℕ) (fragment symbol : List ℕ) : Type 0 where
+  pub before : List ℕ
+  pub position : ℕ
+  pub later : List ℕ
+  pub walked : order_of pairs root ≡ Ok (before ++ position ∷ later)
+  pub index : ℕ
+  pub below : index < import_count pairs position
+  pub name : (pair_of pairs position).name ≡ fragment
+  pub import_name : symbol_of pairs position index ≡ symbol
+  pub again : MeetsAgain pairs (position, index)
+  pub earlier : (p j : ℕ) → Contains before p → j < import_count pairs p → HasTarget pairs p j
+  pub first : (j : ℕ) → j < index → HasTarget pairs position j
 
 -- the target of an import, where only the exports of some fragments are counted
 abbrev pub target_within : List Pair → List ℕ → ℕ → ℕ → Result (Option Target) BindRefusal

@@ -3,17 +3,22 @@ ghost use Rattle.std.specs.Prelude.{◌≡◌, ◌<◌, ◌↔◌, ℕ, List, No
 ghost use Rattle.pef_loader.specs.declared.fault.LoaderFault.{LoaderFault};
 ghost use Rattle.pef_views.specs.declared.fault.ViewFault.{ViewFault};
 ghost use Rattle.cfm_store.specs.Stores.{Pair};
-ghost use Rattle.cfm_libraries.specs.Faults.{BindRefusal, no_container, no_loader};
+ghost use Rattle.cfm_libraries.specs.Faults.{BindRefusal, no_container, no_loader, reexport_loop};
 ghost use Rattle.cfm_libraries.specs.Fragments.{import_count};
 ghost use Rattle.cfm_libraries.specs.Orders.{EndsWith, IsComplete};
+ghost use Rattle.cfm_libraries.specs.Walk.{order_of};
 ghost use Rattle.cfm_closure.specs.Closures.{Closed, closed_of};
-ghost use Rattle.cfm_closure.specs.Promises.{AllRead, HasTarget, IsOfBinding, IsOfUnread, target_within};
+ghost use Rattle.cfm_closure.specs.Promises.{AllRead, HasTarget, IsEndless, IsOfBinding, IsOfUnread, target_within};
 ghost use Rattle.cfm_closure.specs.Reexports.{MeetsAgain};
 ghost use Rattle.cfm_closure.specs.Targets.{exports_among, follow, target_of};
 
 /// A closure order has each fragment once, with each of its fragments all its libraries, and its root
-/// last.
+/// last: the order that the walk from a root gives, also where an import is refused after it, and so that of
+/// a closure.
 pub fn closure_orders()
+    ensures walked { (pairs : List Pair) (root : ℕ) (order : List ℕ) → order_of pairs root ≡ Ok order → IsComplete pairs order }
+    ensures ends { (pairs : List Pair) (root : ℕ) (order : List ℕ) → root < length pairs → order_of pairs root ≡ Ok order → EndsWith order root }
+    ensures order { (pairs : List Pair) (root : ℕ) (c : Closed) → closed_of pairs root ≡ Ok c → order_of pairs root ≡ Ok c.order }
     ensures store { (pairs : List Pair) (root : ℕ) (c : Closed) → closed_of pairs root ≡ Ok c → c.pairs ≡ pairs }
     ensures complete { (pairs : List Pair) (root : ℕ) (c : Closed) → closed_of pairs root ≡ Ok c → IsComplete pairs c.order }
     ensures root { (pairs : List Pair) (root : ℕ) (c : Closed) → root < length pairs → closed_of pairs root ≡ Ok c → EndsWith c.order root }
@@ -31,9 +36,12 @@ pub fn closures_agree()
     ensures agree { (pairs : List Pair) (root root' : ℕ) (c c' : Closed) (p j : ℕ) → closed_of pairs root ≡ Ok c → closed_of pairs root' ≡ Ok c' → Contains c.order p → Contains c'.order p → target_within pairs c.order p j ≡ target_within pairs c'.order p j }
 {}
 
-/// More hops than the closure of a fragment has exports are just where an export is met a second time.
+/// More hops than the closure of a fragment has exports are just where an export is met a second time. So a
+/// closure is refused as a loop of re-exports just where an import of its order, with the names that are told,
+/// meets an export a second time, and no import before that one is refused.
 pub fn endless_imports()
-    ensures { (pairs : List Pair) (order : List ℕ) (p j : ℕ) → IsComplete pairs order → Contains order p → (follow (exports_among pairs order) pairs p j ≡ None) ↔ MeetsAgain pairs (p, j) }
+    ensures bound { (pairs : List Pair) (order : List ℕ) (p j : ℕ) → IsComplete pairs order → Contains order p → (follow (exports_among pairs order) pairs p j ≡ None) ↔ MeetsAgain pairs (p, j) }
+    ensures refused { (pairs : List Pair) (root : ℕ) (fragment symbol : List ℕ) → root < length pairs → (closed_of pairs root ≡ Err (reexport_loop fragment symbol)) ↔ IsEndless pairs root fragment symbol }
 {}
 
 /// Where a closure is refused by the bytes of a fragment, the name that is told is that of a fragment of the
