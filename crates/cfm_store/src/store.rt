@@ -1,4 +1,4 @@
-ghost use Rattle.std.specs.Prelude.{◌≡◌, ◌==◌, ◌<◌, ◌≤◌, ◌++◌, [], ◌∷◌, length, map, slice_get, option_map, IfSome, OnOk, OnErr};
+ghost use Rattle.std.specs.Prelude.{◌≡◌, ◌==◌, ◌<◌, ◌≤◌, ◌++◌, [], ◌∷◌, length, map, slice_get, option_map, nat_le, IfSome, OnOk, OnErr};
 ghost use Rattle.cfm_store.specs.Kept.Places.{NotesPlace};
 ghost use Rattle.cfm_store.specs.Seen.{pair_seen};
 ghost use Rattle.cfm_store.specs.Stores.{pair_of, place_of};
@@ -47,7 +47,7 @@ impl<'a> Store<'a> {
         }
     }
 
-    /// Appends a pair. A store has at most [`MAX_PAIRS`].
+    /// Appends a pair, where the store isn't full ([`Store::is_full`]): it has at most [`MAX_PAIRS`].
     ///
     /// # Errors
     ///
@@ -77,6 +77,13 @@ impl<'a> Store<'a> {
         ensures { result ≡ (length self.now == 0) }
     {
         self.pairs.is_empty()
+    }
+
+    /// Whether there are as many pairs as a store may have: no more may be added.
+    pub fn is_full(&self) -> bool
+        ensures { result ≡ nat_le most_pairs (length self.now) }
+    {
+        self.len() >= MAX_PAIRS
     }
 
     /// Pair `p`, name first, or `None` past the last one.
