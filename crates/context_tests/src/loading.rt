@@ -83,7 +83,7 @@ fn loading(rt: HostRuntime) -> Result<(), Fail> {
     let tools = link_text(rt.alloc(), TOOLS).expect(&rt, "a container");
     let app = link_text(rt.alloc(), APP).expect(&rt, "a container");
     let mut machine = Machine { memory: [0xEE; 24] };
-    load(rt.alloc(), &tools.bytes, &app.bytes, &mut machine)?;
+    load(rt.alloc(), tools.bytes(), app.bytes(), &mut machine)?;
     test_loaded(&rt, &machine);
     Ok(())
 }

@@ -87,11 +87,11 @@ fn script_of(rt: &impl Abort, alloc: Global, listed: &[(u32, Base)]) -> String {
 }
 
 /// How many relocation headers a container has, and the section and the program of the first.
-fn first_header<'a>(rt: &impl Abort, bytes: &'a [u8]) -> (u32, u32, &'a [u8]) {
+fn first_header<'a>(rt: &impl Abort, bytes: &'a [u8]) -> (usize, u32, &'a [u8]) {
     let container = Container::read(bytes).expect(rt, "a container");
     let loader = Loader::read(&container).expect(rt, "a loader section");
     let (section, program) = loader.reloc(0).unwrap_or((0, &[]));
-    (loader.header().reloc_count, section, program)
+    (loader.relocs(), section, program)
 }
 
 /// Tests that a section's certificate has the program that is written.
@@ -115,7 +115,7 @@ fn link_listed(rt: &impl Abort, alloc: Global, listed: &[(u32, Base)]) -> Linked
 
 /// Tests the length of the section's program, and its bytes where some are given.
 fn test_bytes(rt: &impl Abort, linked: &Linked, written: &[u8], halfwords: u32, bytes: &[u8]) {
-    let lengths = (linked.lengths.get(OWN).copied(), written.len());
+    let lengths = (linked.length(OWN), written.len());
     assert!(rt; lengths == (Some(halfwords), 2 * halfwords as usize));
     assert!(rt; bytes.is_empty() || written == bytes);
 }
@@ -130,8 +130,8 @@ fn test_linked(
     halfwords: u32,
     bytes: &[u8],
 ) {
-    let (headers, section, written) = first_header(rt, &linked.bytes);
-    assert!(rt; headers == u32::from(fixups > 0));
+    let (headers, section, written) = first_header(rt, linked.bytes());
+    assert!(rt; headers == usize::from(fixups > 0));
     test_bytes(rt, linked, written, halfwords, bytes);
     if headers > 0 {
         test_written(rt, alloc, linked, section, written);
@@ -231,7 +231,7 @@ fn test_labels(rt: &impl Abort, alloc: Global, certificate: &Certificate, wanted
 
 /// The certificate of a section.
 fn certificate_of<'a>(rt: &impl Abort, linked: &'a Linked, section: u32) -> &'a Certificate {
-    let found = linked.certificates.get(section as usize);
+    let found = linked.certificate(section as usize);
     let certificate = found.expect(rt, "a certificate");
     assert!(rt; certificate.section == section);
     certificate
@@ -254,8 +254,8 @@ fn test_order(rt: &impl Abort, certificates: &[Certificate]) {
 
 /// Tests that the vectors have two certificates.
 fn test_two_certificates(rt: &impl Abort, linked: &Linked) {
-    assert!(rt; linked.certificates.len() == 2);
-    test_order(rt, &linked.certificates);
+    assert!(rt; linked.certificates().len() == 2 && linked.certificate(2).is_none());
+    test_order(rt, linked.certificates());
 }
 
 /// Tests the certificates of the vectors.

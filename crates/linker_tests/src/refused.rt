@@ -28,9 +28,9 @@ fn link_again(
     say_begins(rt)?;
     let (linked, refused) = link_refused(rt, alloc, script);
     assert!(rt;
-        linked.bytes.as_slice() == container,
+        linked.bytes() == container,
         "{} bytes",
-        linked.bytes.len()
+        linked.bytes().len()
     );
     say_answered(rt, refused)
 }

@@ -127,8 +127,12 @@ const LINKED: &[Row] = &[
 
 /// Tests a container, and how many halfwords the programs have.
 fn test_linked(rt: &impl Abort, linked: &Linked, bytes: &[u8], lengths: &[u32]) {
-    let found = (linked.bytes.as_slice(), linked.lengths.as_slice());
-    assert!(rt; found == (bytes, lengths), "{} bytes", bytes.len());
+    assert!(rt; linked.bytes() == bytes, "{} bytes", bytes.len());
+    for (k, length) in lengths.iter().enumerate() {
+        assert!(rt; linked.length(k) == Some(*length), "section {k}");
+    }
+    let sections = lengths.len();
+    assert!(rt; linked.sections() == sections && linked.length(sections).is_none());
 }
 
 /// Links a script, and tests what comes of it.
@@ -245,9 +249,8 @@ fn program_of(rt: &impl Abort, loader: &Loader<'_>, h: usize) -> (u32, usize) {
 
 /// Tests how many there are of each in the loader section of the greatest script.
 fn test_greatest_counts(rt: &impl Abort, loader: &Loader<'_>) {
-    let header = loader.header();
-    assert!(rt; (header.library_count, header.import_count) == (4096, 65_536));
-    assert!(rt; (header.reloc_count, header.export_count) == (8, 16_383));
+    assert!(rt; (loader.libraries(), loader.imports()) == (4096, 65_536));
+    assert!(rt; (loader.relocs(), loader.exports()) == (8, 16_383));
 }
 
 /// Tests the last library, the last import and the last program of the greatest script.
@@ -279,9 +282,11 @@ fn test_greatest(rt: &impl Abort, bytes: &[u8]) {
 
 /// Tests how many halfwords the programs of the greatest script have, and its container.
 fn test_greatest_linked(rt: &impl Abort, linked: &Linked) {
-    assert!(rt; linked.lengths.as_slice() == [49_152; 8].as_slice());
-    assert!(rt; linked.bytes.len() == 43_311_550);
-    test_greatest(rt, &linked.bytes);
+    for k in 0..8 {
+        assert!(rt; linked.length(k) == Some(49_152), "section {k}");
+    }
+    assert!(rt; linked.bytes().len() == 43_311_550);
+    test_greatest(rt, linked.bytes());
 }
 
 /// The greatest script is linked, and read back. Its container has 304 bytes of headers, the two full

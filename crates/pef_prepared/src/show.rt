@@ -52,7 +52,7 @@ fn show_linked<W: Sink>(alloc: Global, linked: &Linked, out: &mut W) -> u8
         × ScriptEnds script outcome
         × IsDelivered (W.stream out.old) (W.stream out.new) (show_answer outcome) result }
 {
-    let Ok(store) = it_alone(alloc, &linked.bytes) else {
+    let Ok(store) = it_alone(alloc, linked.bytes()) else {
         return deliver(out, &Refusal::OutOfMemory);
     };
     deliver_root(alloc, store, b"it", out)

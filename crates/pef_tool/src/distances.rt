@@ -30,7 +30,7 @@ pub fn print_distances<F: Files, W: Sink>(
         Ok(linked) => linked,
         Err(refusal) => return deliver(out, &refusal),
     };
-    match print(alloc, &linked.certificates) {
+    match print(alloc, linked.certificates()) {
         Ok(text) => deliver(out, &Distances { text }),
         Err(_) => deliver(out, &Refusal::OutOfMemory),
     }

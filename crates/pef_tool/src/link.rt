@@ -32,7 +32,7 @@ pub fn link_files<F: Files, W: Sink>(
         Ok(linked) => linked,
         Err(refusal) => return deliver(out, &refusal),
     };
-    match files.write(target, &linked.bytes) {
+    match files.write(target, linked.bytes()) {
         Ok(()) => deliver(out, &LinkedReply { linked: &linked }),
         Err(FileFault::Failed) => deliver(out, &FileRefusal::Unwritable(target)),
         Err(FileFault::OutOfMemory) => deliver(out, &Refusal::OutOfMemory),
@@ -61,18 +61,20 @@ impl<'a> Reply for LinkedReply<'a> {
 fn print_linked<W: Sink>(out: &mut W, page: &mut Page, linked: &Linked) -> Result<(), StreamFault>
     ensures { Sends result (W.stream out.old) (W.stream out.new) page.old.items page.new.items (linked_text linked.now) }
 {
-    let container = linked.bytes.as_slice();
-    let size = container.len();
+    let size = linked.bytes().len();
     send(out, page, size_line(size).as_slice())?;
-    print_lengths(out, page, &linked.lengths)
+    print_lengths(out, page, linked)
 }
 
-/// Prints the lengths of sections' programs, numbered from 0.
-fn print_lengths<W: Sink>(out: &mut W, page: &mut Page, lengths: &[u32]) -> Result<(), StreamFault>
-    ensures { Sends result (W.stream out.old) (W.stream out.new) page.old.items page.new.items (lengths_text 0 lengths.now) }
+/// Prints the lengths of the sections' programs, numbered from 0.
+fn print_lengths<W: Sink>(out: &mut W, page: &mut Page, linked: &Linked) -> Result<(), StreamFault>
+    ensures { Sends result (W.stream out.old) (W.stream out.new) page.old.items page.new.items (lengths_text 0 linked.now.lengths) }
 {
-    for (k, length) in lengths.iter().enumerate() {
-        let line = length_line(k, *length);
+    for k in 0..linked.sections() {
+        let Some(length) = linked.length(k) else {
+            unreachable!()
+        };
+        let line = length_line(k, length);
         send(out, page, line.as_slice())?;
     }
     Ok(())

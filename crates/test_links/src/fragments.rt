@@ -12,7 +12,8 @@ pub type Fragment = (&'static str, &'static str, &'static [Change]);
 
 /// The container of a script, with some changes. `None` where it has none, or memory is refused.
 pub fn container(alloc: Global, script: &str, changes: &[Change]) -> Option<Vec<u8>> {
-    let mut bytes = link_text(alloc, script.as_bytes())?.bytes;
+    let linked = link_text(alloc, script.as_bytes())?;
+    let mut bytes = Vec::from_slice(alloc, linked.bytes()).ok()?;
     for (at, other) in changes {
         change(&mut bytes, *at, other)?;
     }

@@ -2,7 +2,6 @@
 use Rattle.std.proofs.Common.{◌≡◌, refl, sym, subst, ap, ◌∙◌}
 use Rattle.pef_answers.specs.Answers.{Answer, IsDelivered}
 use Rattle.pef_answers.specs.declared.refusal.Refusal.TheVariants.{OutOfMemory}
-use Rattle.pef_write.specs.Linked.{LinkedContainer}
 use Rattle.pef_prepared.specs.Show.{it_alone, refuses}
 use Rattle.pef_prepared.proofs.ShowLemmas.{root-shown}
 use Rattle.pef_prepared.proofs.show.show_linked.Goals as goal
@@ -13,7 +12,7 @@ returns-in_default g c = λ script linked. (refuses OutOfMemory, refl, c.deliver
 pub returns : goal.returns
 returns g c = λ script linked.
     let stream = g.W.Sink.stream in
-    let store : c.in-Ok.store ≡ it_alone c.args.linked.now.bytes = c.in-Ok.ensures ∙ ap it_alone (c.deref.ensures.value ∙ ap (λ (l : LinkedContainer). l.bytes) c.linked.view_is) in
+    let store : c.in-Ok.store ≡ it_alone c.args.linked.now.bytes = c.in-Ok.ensures ∙ ap it_alone c.bytes.ensures in
     let ends = root-shown script c.args.linked.now linked c.deliver_root.ensures.0 (rw (← store) c.deliver_root.ensures.1) in
     let P : Answer → Type 0 = λ answer. IsDelivered (stream c.args.out.now) (stream c.deliver_root.new.out) answer c.deliver_root.result in
     (ends.outcome, ends.ends, subst P (sym ends.said) c.deliver_root.ensures.2)

@@ -1,6 +1,5 @@
 -- SCRIPT is read and linked, and the certificates are printed.
 use Rattle.std.proofs.Common.{inl, inr, refl, ap, ◌∙◌}
-use Rattle.pef_write.specs.Linked.{LinkedContainer}
 use Rattle.pef_cert_text.specs.Printed.{certificates_text}
 use Rattle.pef_answers.specs.Answers.{answer_done, answer_refused}
 use Rattle.pef_tool.specs.Distances.{certifies, refuses}
@@ -26,7 +25,7 @@ pub returns-in-Ok-print : goal.returns-in-Ok-print
 returns-in-Ok-print g c =
     let l = c.in-Ok-link_text.linked in
     let ends = files_linked c.as_slice.result.now c.in-Ok-link_text.ensures.0 (record { call = c.in-Ok.ensures.call; told = c.in-Ok.ensures.told }) c.as_slice.ensures.value c.in-Ok-link_text.ensures.1 c.in-Ok-link_text.ensures.2 in
-    let text = c.in-Ok-print.ensures.text ∙ ap certificates_text (c.deref.ensures.value ∙ ap (λ (l : LinkedContainer). l.certificates) c.linked.view_is) in
+    let text = c.in-Ok-print.ensures.text ∙ ap certificates_text c.certificates.ensures in
     (answer_done c.in-Ok-print.text.items, (certifies l, ends, ap answer_done text), c.deliver-in-Ok-print.ensures)
 
 pub returns : goal.returns
@@ -34,4 +33,4 @@ returns g c =
     (answer_refused (refusal_text OutOfMemory), (refuses OutOfMemory, inr (inr (c.in-Ok.text.items, record { call = c.in-Ok.ensures.call; told = c.in-Ok.ensures.told })), refl), c.deliver-in-Err-print.ensures)
 
 pub print-requires : goal.print-requires
-print-requires g c = linked_prints c.in-Ok-link_text.ensures.0 c.in-Ok-link_text.linked c.deref.result.now c.in-Ok-link_text.ensures.2 (c.deref.ensures.value ∙ ap (λ (l : LinkedContainer). l.certificates) c.linked.view_is)
+print-requires g c = linked_prints c.in-Ok-link_text.ensures.0 c.in-Ok-link_text.linked c.certificates.result.now c.in-Ok-link_text.ensures.2 c.certificates.ensures

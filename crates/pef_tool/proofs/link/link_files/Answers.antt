@@ -1,6 +1,5 @@
 -- SCRIPT is read, and the whole container is written, whatever that write is answered.
-use Rattle.std.proofs.Common.{inl, inr, refl, ap, ◌∙◌}
-use Rattle.pef_write.specs.Linked.{LinkedContainer}
+use Rattle.std.proofs.Common.{inl, inr, refl}
 use Rattle.pef_answers.specs.Answers.{answer_done, answer_refused}
 use Rattle.pef_tool.specs.Link.{links, unwritable, refuses, linked_text}
 use Rattle.pef_answers.specs.Refusals.{refusal_text, unwritable_text}
@@ -12,7 +11,7 @@ use Rattle.pef_tool.proofs.link.link_files.Goals as goal
 pub returns-in-Ok-write : goal.returns-in-Ok-write
 returns-in-Ok-write g c =
     let l = c.in-Ok-link_text.linked in
-    let writes = written c.as_slice.result.now c.in-Ok-link_text.ensures.0 (record { call = c.in-Ok.ensures.call; told = c.in-Ok.ensures.told }) c.as_slice.ensures.value c.in-Ok-link_text.ensures.1 c.in-Ok-link_text.ensures.2 (c.deref.ensures.value ∙ ap (λ (l : LinkedContainer). l.bytes) c.linked.view_is)
+    let writes = written c.as_slice.result.now c.in-Ok-link_text.ensures.0 (record { call = c.in-Ok.ensures.call; told = c.in-Ok.ensures.told }) c.as_slice.ensures.value c.in-Ok-link_text.ensures.1 c.in-Ok-link_text.ensures.2 c.bytes.ensures
     (record { call = c.in-Ok-write.ensures.call; told = c.in-Ok-write.ensures.told }) in
     (answer_done (linked_text l), (links l, writes, refl), c.deliver-in-Ok-write.ensures)
 
@@ -20,7 +19,7 @@ pub returns-in-Err-Failed-write : goal.returns-in-Err-Failed-write
 returns-in-Err-Failed-write g c =
     let call = rw c.in-Err-Failed-write.field-0-is at c.in-Err-Failed-write.ensures.call in
     let told = rw c.in-Err-Failed-write.field-0-is at c.in-Err-Failed-write.ensures.told in
-    let writes = written c.as_slice.result.now c.in-Ok-link_text.ensures.0 (record { call = c.in-Ok.ensures.call; told = c.in-Ok.ensures.told }) c.as_slice.ensures.value c.in-Ok-link_text.ensures.1 c.in-Ok-link_text.ensures.2 (c.deref.ensures.value ∙ ap (λ (l : LinkedContainer). l.bytes) c.linked.view_is)
+    let writes = written c.as_slice.result.now c.in-Ok-link_text.ensures.0 (record { call = c.in-Ok.ensures.call; told = c.in-Ok.ensures.told }) c.as_slice.ensures.value c.in-Ok-link_text.ensures.1 c.in-Ok-link_text.ensures.2 c.bytes.ensures
     (record { call = call; told = told }) in
     (answer_refused (unwritable_text c.args.target.now), (unwritable, (c.in-Ok-link_text.linked, writes), refl), c.deliver-in-Err-Failed-write.ensures)
 
@@ -28,7 +27,7 @@ pub returns : goal.returns
 returns g c =
     let call = rw c.in-Err-OutOfMemory-write.field-0-is at c.in-Err-OutOfMemory-write.ensures.call in
     let told = rw c.in-Err-OutOfMemory-write.field-0-is at c.in-Err-OutOfMemory-write.ensures.told in
-    let writes = written c.as_slice.result.now c.in-Ok-link_text.ensures.0 (record { call = c.in-Ok.ensures.call; told = c.in-Ok.ensures.told }) c.as_slice.ensures.value c.in-Ok-link_text.ensures.1 c.in-Ok-link_text.ensures.2 (c.deref.ensures.value ∙ ap (λ (l : LinkedContainer). l.bytes) c.linked.view_is)
+    let writes = written c.as_slice.result.now c.in-Ok-link_text.ensures.0 (record { call = c.in-Ok.ensures.call; told = c.in-Ok.ensures.told }) c.as_slice.ensures.value c.in-Ok-link_text.ensures.1 c.in-Ok-link_text.ensures.2 c.bytes.ensures
     (record { call = call; told = told }) in
     (answer_refused (refusal_text OutOfMemory), (refuses OutOfMemory, inr (inr (inr (c.in-Ok-link_text.linked, writes))), refl), c.deliver-in-Err-OutOfMemory-write.ensures)
 
