@@ -73,7 +73,7 @@ fn test_targets(rt: &impl Abort, closure: &Closure<'_>) {
     assert!(rt; closure.order() == [1usize, 0].as_slice());
     let mut targets = 0u32;
     for p in closure.order() {
-        for j in 0..closure.loader(*p).header().import_count as usize {
+        for j in 0..closure.loader(*p).imports() {
             test_target(rt, j, closure.target(*p, j));
             targets = targets.wrapping_add(1);
         }

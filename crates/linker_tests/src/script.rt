@@ -4,6 +4,7 @@ use std::alloc::Global;
 use std::fmt::Write;
 use std::process::Abort;
 use test_data::limits::{Spaced, at_all_limits, push_fixups};
+use test_data::scripts::VECTORS;
 
 /// The number and the line of a refusal, or `None` where the text is read.
 type Refusal = Option<(u32, usize)>;
@@ -165,56 +166,51 @@ term code 4
 
 /// How many libraries, imports, sections and exports there are.
 fn counts(script: &Script) -> (usize, usize, usize, usize) {
-    let parts = script.parts();
     (
-        parts.libraries.len(),
-        parts.imports.len(),
-        parts.sections.len(),
-        parts.exports.len(),
+        script.libraries(),
+        script.imports(),
+        script.sections(),
+        script.exports(),
     )
 }
 
 fn versions(script: &Script) -> (u32, u32, u32) {
-    let versions = script.parts().versions;
+    let versions = script.versions();
     (versions.current, versions.old_def, versions.old_imp)
 }
 
 fn library<'a>(script: &Script<'a>, l: usize) -> Option<(&'a [u8], u32, u32, u8)> {
-    let (name, library) = script.parts().libraries.get_index(l)?;
-    Some((*name, library.current, library.old_imp, library.options))
-}
-
-fn import<'a>(script: &Script<'a>, j: usize) -> Option<(&'a [u8], u8, bool, u32)> {
-    let (name, import) = script.parts().imports.get_index(j)?;
-    Some((*name, import.class, import.weak, import.library))
-}
-
-fn section<'a>(script: &Script<'a>, k: usize) -> Option<(&'a [u8], u8, u8, u8, u32)> {
-    let section = script.parts().sections.get(k)?;
-    let header = section.header;
+    let library = script.library(l)?;
     Some((
-        header.name,
-        header.kind,
-        header.share,
-        header.align,
-        header.total,
+        library.name,
+        library.current,
+        library.old_imp,
+        library.options,
     ))
 }
 
-/// The bytes that section `k` begins with.
-fn image<'s>(script: &'s Script<'_>, k: usize) -> Option<&'s [u8]> {
-    let section = script.parts().sections.get(k)?;
-    Some(&section.image)
+fn import<'a>(script: &Script<'a>, j: usize) -> Option<(&'a [u8], u8, bool, u32)> {
+    let import = script.import(j)?;
+    Some((import.name, import.class, import.weak, import.library))
 }
 
-fn fixups<'s>(script: &'s Script<'_>, k: usize) -> Option<&'s [Fixup]> {
-    let section = script.parts().sections.get(k)?;
-    Some(&section.fixups)
+/// A section: its name, its kind and share, its alignment and how many bytes it has.
+type Header<'a> = (&'a [u8], u8, u8, u8, u32);
+
+fn section<'a>(script: &Script<'a>, k: usize) -> Option<Header<'a>> {
+    let section = script.section(k)?;
+    Some((
+        section.name,
+        section.kind,
+        section.share,
+        section.align,
+        section.total,
+    ))
 }
 
 fn export<'a>(script: &Script<'a>, e: usize) -> Option<(&'a [u8], u8, i32, u32)> {
-    let (name, export) = script.parts().exports.get_index(e)?;
-    Some((*name, export.class, export.section, export.value))
+    let export = script.export(e)?;
+    Some((export.name, export.class, export.section, export.value))
 }
 
 fn has_tables(script: &Script) -> bool {
@@ -245,13 +241,12 @@ fn has_sections(script: &Script) -> bool {
     ];
     section(script, 1) == Some((b"data", 1, 1, 12, 16))
         && section(script, 2).is_none()
-        && image(script, 0) == Some(&[0, 0x11])
-        && fixups(script, 1) == Some(&data_fixups)
+        && script.image(0) == Some(&[0, 0x11])
+        && script.fixups(1) == Some(&data_fixups)
 }
 
 fn has_entries(script: &Script) -> bool {
-    let parts = script.parts();
-    parts.main == Some((1, 0)) && parts.init.is_none() && parts.term == Some((0, 4))
+    script.main() == Some((1, 0)) && script.init().is_none() && script.term() == Some((0, 4))
 }
 
 /// Tests the script of every line.
@@ -265,6 +260,78 @@ fn test_parts(rt: &impl Abort, script: &Script) {
 fn parts(rt: HostRuntime) {
     let read = pef_script_text::read(rt.alloc(), EVERY_LINE.as_bytes());
     test_parts(&rt, &read.expect(&rt, "a script"));
+}
+
+/// The sections of the worked script, each with its image.
+const WORKED_SECTIONS: &[(Header<'static>, &[u8])] = &[
+    (
+        (b"code", 0, 4, 4, 8),
+        &[0x00, 0x11, 0x22, 0x33, 0x44, 0x55, 0x66, 0x77],
+    ),
+    (
+        (b"data", 1, 1, 4, 16),
+        &[0, 0, 0, 0, 0, 0, 0, 0, 0, 0, 0, 4, 0, 0, 0, 0],
+    ),
+];
+
+/// The fixups of its data: two transition vectors.
+const WORKED_FIXUPS: [Fixup; 4] = [
+    Fixup {
+        offset: 0,
+        base: Base::Section(0),
+    },
+    Fixup {
+        offset: 4,
+        base: Base::Section(1),
+    },
+    Fixup {
+        offset: 8,
+        base: Base::Section(0),
+    },
+    Fixup {
+        offset: 12,
+        base: Base::Section(1),
+    },
+];
+
+/// Tests the sections of the worked script, and that there is no third one.
+fn test_worked_sections(rt: &impl Abort, script: &Script) {
+    for (k, (header, image)) in WORKED_SECTIONS.iter().enumerate() {
+        assert!(rt; section(script, k) == Some(*header), "section {k}");
+        assert!(rt; script.image(k) == Some(*image), "section {k}");
+    }
+    assert!(rt; section(script, 2).is_none() && script.image(2).is_none());
+}
+
+/// Tests the fixups of the worked script.
+fn test_worked_fixups(rt: &impl Abort, script: &Script) {
+    assert!(rt; script.fixups(0) == Some(&[]));
+    assert!(rt; script.fixups(1) == Some(&WORKED_FIXUPS));
+    assert!(rt; script.fixups(2).is_none());
+}
+
+/// Tests that the worked script has one export, and neither libraries nor imports.
+fn test_worked_tables(rt: &impl Abort, script: &Script) {
+    assert!(rt; counts(script) == (0, 0, 2, 1));
+    assert!(rt; library(script, 0).is_none() && import(script, 0).is_none());
+    assert!(rt; export(script, 0) == Some((b"go", 2, 1, 0)));
+    assert!(rt; export(script, 1).is_none());
+}
+
+/// Tests the versions and the entries of the worked script.
+fn test_worked_entries(rt: &impl Abort, script: &Script) {
+    assert!(rt; versions(script) == (1, 0, 0));
+    assert!(rt; (script.main(), script.init(), script.term()) == (Some((1, 0)), None, None));
+}
+
+/// Tests each call on the worked script, with values from its lines.
+#[test]
+fn worked(rt: HostRuntime) {
+    let script = pef_script_text::read(rt.alloc(), VECTORS).expect(&rt, "a script");
+    test_worked_sections(&rt, &script);
+    test_worked_fixups(&rt, &script);
+    test_worked_tables(&rt, &script);
+    test_worked_entries(&rt, &script);
 }
 
 /// So many lines that declare names, behind a first line.
@@ -398,7 +465,7 @@ fn read_most_fixups(rt: HostRuntime) {
 /// Tests how many there are of each in the script at all limits.
 fn test_most_of_all(rt: &impl Abort, script: &Script) {
     assert!(rt; counts(script) == (4096, 65_536, 8, 16_383));
-    assert!(rt; fixups(script, 7).unwrap_or(&[]).len() == 16_384);
+    assert!(rt; script.fixups(7).unwrap_or(&[]).len() == 16_384);
 }
 
 /// Tests the script at all limits, which is read from this text.
