@@ -1,32 +1,72 @@
 //! Calls to which memory is refused. That shows where these tests are run with one growth refused after another, as by
 //! `tools/refuse-memory`.
 
-use crate::fixture::{LIMIT, context_of};
+use crate::fixture::{LIMIT, context_of, tell_memory};
 use crate::readers::{prepared, test_told, told};
 use cfm_memory::{Memory, MemoryFault, Place};
 use cfm_prepare::{Connection, Context};
 use std::alloc::Global;
+use std::fmt::Write;
 use std::process::Abort;
 use std::test::Fail;
 use test_data::refusals::{say_answered, say_begins};
-use test_data::scripts::LIBRARY;
+use test_data::scripts::{LIBRARY, USER};
 use test_links::fragments::{Fragment, containers};
 
 /// A library with one export, and two fragments that import it.
-const FRAGMENTS: &[Fragment] = &[("A", A, &[]), ("B", A, &[]), ("L", LIBRARY, &[])];
+const FRAGMENTS: &[Fragment] = &[("A", USER, &[]), ("B", USER, &[]), ("L", LIBRARY, &[])];
 
-const A: &str =
-    "library L 1 0 -\nimport v data strong\nsection a data process 4 4\nfix a 0 import v\nexport own data a 0\n";
+/// The same with more in the two, so that each reader has something to tell.
+const RICH_FRAGMENTS: &[Fragment] = &[("A", RICH, &[]), ("B", RICH, &[]), ("L", LIBRARY, &[])];
+
+const RICH: &str =
+    "library L 1 0 before\nimport v data strong\nsection a data process 4 4\nfix a 0 import v\nexport own data a 0\nmain a 0\ninit a 2\nterm a 3\n";
+
+/// What each reader of a context tells of the first two connections and of all fragments.
+fn all_told(rt: &impl Abort, alloc: Global, context: &Context<'_>) -> String {
+    let mut text = told(rt, alloc, context, Connection(0));
+    let second = told(rt, alloc, context, Connection(1));
+    text.push_str(&second).expect(rt, "memory");
+    for position in 0..3 {
+        tell_fragment(rt, &mut text, context, position);
+    }
+    text
+}
+
+/// How many sections of a fragment are present, the first of them, and where the first connection enters it.
+fn tell_fragment(rt: &impl Abort, text: &mut String, context: &Context<'_>, position: usize) {
+    let named = context.name(position).is_some();
+    let count = context.section_count(position);
+    write!(text, ", {named} {count}").expect(rt, "memory");
+    if let Some((address, bytes)) = context.fragment_section(position, 0) {
+        tell_memory(rt, text, address, bytes);
+    }
+    tell_entries(rt, text, context, position);
+}
+
+fn tell_entries(rt: &impl Abort, text: &mut String, context: &Context<'_>, position: usize) {
+    let Some(entries) = context.fragment_entries(Connection(0), position) else {
+        return;
+    };
+    for entry in [entries.init, entries.main, entries.term] {
+        let address = entry.unwrap_or(0);
+        write!(text, " {address:08X}").expect(rt, "memory");
+    }
+}
 
 /// Prepares the second of two fragments behind the first, and once more where memory is refused.
 fn prepare_again(
     rt: &(impl Abort + Print),
     alloc: Global,
-    context: &mut Context<'_>,
+    fragments: &[Fragment],
+    wanted: &str,
 ) -> Result<(), Fail> {
-    assert!(rt; prepared(context, b"A") == Ok(0));
-    let before = told(rt, alloc, context, Connection(0));
-    prepare_second(rt, alloc, context, &before)
+    let containers = containers(alloc, fragments).ok_or("no containers")?;
+    let mut context = context_of(rt, alloc, fragments, &containers, LIMIT);
+    assert!(rt; prepared(&mut context, b"A") == Ok(0));
+    prepare_second(rt, alloc, &mut context)?;
+    test_told(rt, alloc, &context, 1, wanted);
+    Ok(())
 }
 
 /// Prepares the second fragment, behind which the same is told of the first as before.
@@ -34,19 +74,13 @@ fn prepare_second(
     rt: &(impl Abort + Print),
     alloc: Global,
     context: &mut Context<'_>,
-    before: &str,
 ) -> Result<(), Fail> {
+    let first = told(rt, alloc, context, Connection(0));
+    let before = all_told(rt, alloc, context);
     say_begins(rt)?;
-    let refused = prepare_until_answered(rt, alloc, context, before);
+    let refused = prepare_until_answered(rt, alloc, context, &before);
     say_answered(rt, refused)?;
-    test_told(rt, alloc, context, 0, before);
-    test_told(
-        rt,
-        alloc,
-        context,
-        1,
-        "own 00010020, no v, no main, 0 at 00010020 00010000, no 1, order 2 1, order 2 1",
-    );
+    test_told(rt, alloc, context, 0, &first);
     Ok(())
 }
 
@@ -60,8 +94,7 @@ fn prepare_until_answered(
     let mut answer = prepared(context, b"B");
     let refused = answer == Err(99);
     if refused {
-        test_told(rt, alloc, context, 0, before);
-        assert!(rt; context.fragment_section(1, 0).is_none());
+        assert!(rt; all_told(rt, alloc, context).as_str() == before);
         answer = prepared(context, b"B");
     }
     assert!(rt; answer == Ok(1));
@@ -72,38 +105,64 @@ fn prepare_until_answered(
 /// would have.
 #[test]
 fn prepared_again(rt: HostRuntime) -> Result<(), Fail> {
-    let containers = containers(rt.alloc(), FRAGMENTS).expect(&rt, "containers");
-    let mut context = context_of(&rt, rt.alloc(), FRAGMENTS, &containers, LIMIT);
-    prepare_again(&rt, rt.alloc(), &mut context)
+    let wanted = "no own, no v, no main, 0 at 00010020 00010000, no 1, order 2 1, order 2 1";
+    prepare_again(&rt, rt.alloc(), FRAGMENTS, wanted)
 }
 
-/// Places four bytes, which come right behind those at an address, and once more where memory is refused.
-fn place_again(rt: &(impl Abort + Print), memory: &mut Memory, first: Place) -> Result<(), Fail> {
-    say_begins(rt)?;
-    let refused = place_until_answered(rt, memory, first);
-    say_answered(rt, refused)?;
-    assert!(rt; memory.holds(first));
-    Ok(())
+#[test]
+fn rich_prepared_again(rt: HostRuntime) -> Result<(), Fail> {
+    let wanted =
+        "own 00010020, no v, main 00010020, 0 at 00010020 00010000, no 1, order 2 1, order 2 1";
+    prepare_again(&rt, rt.alloc(), RICH_FRAGMENTS, wanted)
 }
 
-/// Places them, and once more where memory is refused, which has changed nothing. Tells whether it was.
-fn place_until_answered(rt: &impl Abort, memory: &mut Memory, first: Place) -> bool {
-    let mut answer = memory.place(4, 4);
+/// The first address of memory, and what is placed there in the tests below.
+const FIRST: Place = Place {
+    address: 0x0001_0000,
+    size: 8,
+};
+
+/// Whether the first instance has its bytes, and nothing is right behind it.
+fn has_first_alone(memory: &Memory) -> bool {
+    memory.holds(FIRST)
+        && memory.part(FIRST) == b"\0\0\0\0\0\0\0\x2A".as_slice()
+        && memory.at(0x0001_0007, 1) == Some(b"\x2A".as_slice())
+        && memory.at(0x0001_0010, 1).is_none()
+}
+
+/// Places twenty bytes, which come right behind the first, and once more where memory is refused, which has changed
+/// nothing. Tells whether it was.
+fn place_until_answered(rt: &impl Abort, memory: &mut Memory) -> bool {
+    let mut answer = memory.place(20, 4);
     let refused = answer == Err(MemoryFault::OutOfMemory);
     if refused {
-        assert!(rt; memory.holds(first));
-        assert!(rt; memory.at(0x0001_0010, 1).is_none());
-        answer = memory.place(4, 4);
+        assert!(rt; has_first_alone(memory));
+        answer = memory.place(20, 4);
     }
-    assert!(rt; answer.map(|place| (place.address, place.size)) == Ok((0x0001_0010, 4)));
+    assert!(rt; answer.map(|place| (place.address, place.size)) == Ok((0x0001_0010, 20)));
     refused
+}
+
+/// Places eight bytes of which the last is 2A, and none far behind them.
+fn place_first(rt: &impl Abort, memory: &mut Memory) {
+    assert!(rt; memory.place(8, 4) == Ok(FIRST));
+    assert!(rt; memory.holds(FIRST));
+    if let Some(byte) = memory.part_mut(FIRST).last_mut() {
+        *byte = 0x2A;
+    }
+    let second = memory.place(0, 17).expect(rt, "a place");
+    assert!(rt; second.address == 0x0002_0000);
+    assert!(rt; has_first_alone(memory));
 }
 
 /// Where memory is refused to `place`, nothing is placed, and the next `place` answers as this one would have.
 #[test]
 fn placed_again(rt: HostRuntime) -> Result<(), Fail> {
-    let mut memory = Memory::new(rt.alloc(), LIMIT);
-    let first = memory.place(4, 4).expect(&rt, "a place");
-    assert!(rt; first.address == 0x0001_0000);
-    place_again(&rt, &mut memory, first)
+    let mut memory = Memory::new(rt.alloc(), 0x0100_0000);
+    place_first(&rt, &mut memory);
+    say_begins(&rt)?;
+    let refused = place_until_answered(&rt, &mut memory);
+    say_answered(&rt, refused)?;
+    assert!(rt; memory.holds(FIRST));
+    Ok(())
 }
