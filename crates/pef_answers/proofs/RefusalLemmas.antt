@@ -81,6 +81,7 @@ pack_name pack.BadOpcode = omega arith
 pack_name pack.CountTooLarge = omega arith
 pack_name pack.TooLong = omega arith
 pack_name pack.TooShort = omega arith
+pack_name pack.OutOfMemory = omega arith
 
 -- names of the refusals of preparation are short
 pub short_prepare_name : (fault : PrepareFault) → length (prepares.fault_name fault) ≤ 20

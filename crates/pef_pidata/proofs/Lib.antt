@@ -1,3 +1,6 @@
+mod Arguments
+mod Packings
+mod Parts
 mod Repeats
 mod Steps
 mod Weaves

@@ -33,7 +33,7 @@ left_begun packed out =
     record { most = length packed; bound = omega arith; same = rw all (map_same (pattern (length packed) packed (length out))) }
 
 -- an instruction's output goes before what the others spell
-pattern_next : (n : ℕ) (rest after piece : List ℕ) (room : ℕ) → 0 < room → next_output room rest ≡ Ok (piece, after) → pattern (suc n) rest room ≡ result_map (λ more. piece ++ more) (pattern n after (room - length piece))
+pub pattern_next : (n : ℕ) (rest after piece : List ℕ) (room : ℕ) → 0 < room → next_output room rest ≡ Ok (piece, after) → pattern (suc n) rest room ≡ result_map (λ more. piece ++ more) (pattern n after (room - length piece))
 pattern_next n rest after piece room some is =
     elim (eqb_tells room 0) [
       | inl none ↦ absurd (omega (arith, none.1))

@@ -1,4 +1,5 @@
 pub mod Faults
 pub mod Instructions
 pub mod Kept
+pub mod Packing
 pub mod Pattern

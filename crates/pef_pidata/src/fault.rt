@@ -1,10 +1,11 @@
 ghost use Rattle.std.specs.Prelude.{◌≡◌};
 ghost use Rattle.pef_pidata.specs.Faults.{fault_name, fault_number};
 
+use std::alloc::AllocError;
 use std::fmt;
 use thiserror::Error;
 
-/// Why packed bytes don't expand. Its text is its name.
+/// Why packed bytes don't expand, or an image isn't packed. Its text is its name.
 #[derive(Clone, Copy, Debug, PartialEq, Eq, Error)]
 pub enum PackFault {
     /// The packed bytes end inside an instruction.
@@ -17,10 +18,12 @@ pub enum PackFault {
     TooLong,
     /// The packed bytes end before all bytes are written.
     TooShort,
+    /// The machine refused memory.
+    OutOfMemory,
 }
 
 impl PackFault {
-    /// The refusal's number, from 21 to 25, which no refusal of another crate has.
+    /// The refusal's number: 21 to 25, which no refusal of another crate has, or 99.
     pub fn number(&self) -> u32
         ensures { result ≡ fault_number self.now }
     {
@@ -30,6 +33,7 @@ impl PackFault {
             PackFault::CountTooLarge => 23,
             PackFault::TooLong => 24,
             PackFault::TooShort => 25,
+            PackFault::OutOfMemory => 99,
         }
     }
 
@@ -43,6 +47,7 @@ impl PackFault {
             PackFault::CountTooLarge => "CountTooLarge",
             PackFault::TooLong => "TooLong",
             PackFault::TooShort => "TooShort",
+            PackFault::OutOfMemory => "OutOfMemory",
         }
     }
 }
@@ -55,5 +60,16 @@ impl fmt::Display for PackFault {
 
     fn fmt<W: fmt::Write>(&self, f: &mut fmt::Formatter<W>) -> fmt::Result {
         f.write_str(self.name())
+    }
+}
+
+impl From<AllocError> for PackFault {
+    ghost use Rattle.std.specs.Prelude.{◌≡◌};
+    ghost use Rattle.pef_pidata.specs.declared.fault.PackFault.TheVariants.{OutOfMemory};
+
+    ghost from_gives = { λ _ e. e ≡ OutOfMemory };
+
+    fn from(_error: AllocError) -> PackFault {
+        PackFault::OutOfMemory
     }
 }

@@ -8,13 +8,13 @@ use crate::argument::{read_argument, read_count};
 use crate::fault::PackFault;
 
 /// An instruction's first byte has its opcode in the high three bits, and a count below this one in the low.
-const COUNTS: u8 = 32;
+pub(crate) const COUNTS: u8 = 32;
 
 // The opcodes (kPEFPkDataZero, kPEFPkDataBlock, kPEFPkDataRepeat, kPEFPkDataRepeatBlock and
 // kPEFPkDataRepeatZero).
-const ZERO: u8 = 0;
+pub(crate) const ZERO: u8 = 0;
 
-const BLOCK: u8 = 1;
+pub(crate) const BLOCK: u8 = 1;
 
 const REPEAT: u8 = 2;
 

@@ -1,4 +1,5 @@
-use pef_pidata::expand;
+use pef_pidata::{expand, pack};
+use std::alloc::{AllocError, Global};
 use std::process::Abort;
 
 /// Packed bytes, and the image that they spell.
@@ -158,5 +159,114 @@ fn expand_refused(rt: HostRuntime) {
         assert!(rt; len <= 8);
         let found = refusal(packed, &mut buffer[..len]);
         assert!(rt; found == Some(want), "{packed:?}");
+    }
+}
+
+/// Packed bytes, and the image of which they are packed.
+const PACKED: &[Image<'static>] = &[
+    (&[], &[]),
+    (&[0x03, 0x25, 1, 2, 0, 0, 3], &[0, 0, 0, 1, 2, 0, 0, 3]),
+    (&[0x22, 0, 0], &[0, 0]),
+    (&[0x00, 0x81, 0x00], &[0; 128]),
+    (
+        &[0x24, 0x11, 0x22, 0x33, 0x44, 0x03, 0x23, 0x08, 1, 2],
+        &[0x11, 0x22, 0x33, 0x44, 0, 0, 0, 0x08, 1, 2],
+    ),
+    // Two zeros are copied, three are a run: between other bytes, at either end, and with one other byte between.
+    (&[0x24, 1, 0, 0, 2], &[1, 0, 0, 2]),
+    (&[0x21, 1, 0x03, 0x21, 2], &[1, 0, 0, 0, 2]),
+    (&[0x23, 0, 0, 1], &[0, 0, 1]),
+    (&[0x03, 0x21, 1], &[0, 0, 0, 1]),
+    (&[0x23, 1, 0, 0], &[1, 0, 0]),
+    (&[0x21, 1, 0x03], &[1, 0, 0, 0]),
+    (&[0x25, 0, 0, 1, 0, 0], &[0, 0, 1, 0, 0]),
+    (&[0x03, 0x21, 1, 0x03], &[0, 0, 0, 1, 0, 0, 0]),
+];
+
+/// Packs an image, and expands what was packed.
+fn test_packed(rt: &impl Abort, alloc: Global, image: &[u8], want: &[u8]) {
+    assert!(rt; image.len() <= 16_777_216);
+    let packed = pack(alloc, image).expect(rt, "packed bytes");
+    assert!(rt; packed.as_slice() == want, "{want:?}");
+    let mut out = vec![in alloc; 0xEE; image.len()].expect(rt, "memory");
+    test_image(rt, &packed, &mut out, image);
+}
+
+#[test]
+fn pack_images(rt: HostRuntime) {
+    for row in PACKED {
+        let (packed, image) = *row;
+        test_packed(&rt, rt.alloc(), image, packed);
+    }
+}
+
+/// A count, and how instructions with it begin: that of zeros, and that of a block.
+const COUNTS: &[(usize, &[u8], &[u8])] = &[
+    (31, &[0x1F], &[0x3F]),
+    (32, &[0x00, 0x20], &[0x20, 0x20]),
+    (127, &[0x00, 0x7F], &[0x20, 0x7F]),
+    (128, &[0x00, 0x81, 0x00], &[0x20, 0x81, 0x00]),
+    (16_383, &[0x00, 0xFF, 0x7F], &[0x20, 0xFF, 0x7F]),
+    (16_384, &[0x00, 0x81, 0x80, 0x00], &[0x20, 0x81, 0x80, 0x00]),
+];
+
+fn joined(alloc: Global, parts: &[&[u8]]) -> Result<Vec<u8>, AllocError> {
+    let mut bytes = Vec::new(alloc);
+    for part in parts {
+        bytes.extend_from_slice(part)?;
+    }
+    Ok(bytes)
+}
+
+/// Packs some bytes alone, and between others.
+fn test_between(rt: &impl Abort, alloc: Global, part: &[u8], packed: &[u8], other: (&[u8], &[u8])) {
+    test_packed(rt, alloc, part, packed);
+    let image = joined(alloc, &[other.0, part, other.0]).expect(rt, "memory");
+    let want = joined(alloc, &[other.1, packed, other.1]).expect(rt, "memory");
+    test_packed(rt, alloc, &image, &want);
+}
+
+#[test]
+fn pack_limits_of_counts(rt: HostRuntime) {
+    let alloc = rt.alloc();
+    for row in COUNTS {
+        let (count, zeros, block) = *row;
+        let run = vec![in alloc; 0; count].expect(&rt, "memory");
+        test_between(&rt, alloc, &run, zeros, (&[7], &[0x21, 7]));
+        let bytes = vec![in alloc; 0xFF; count].expect(&rt, "memory");
+        let packed = joined(alloc, &[block, &bytes]).expect(&rt, "memory");
+        test_between(&rt, alloc, &bytes, &packed, (&[0, 0, 0], &[0x03]));
+    }
+}
+
+/// How many images of 0 to 9 bytes there are with three values.
+const IMAGES_OF: [u32; 10] = [1, 3, 9, 27, 81, 243, 729, 2_187, 6_561, 19_683];
+
+/// Writes the image with this number, among those with the values 0, 1 and 255.
+fn write_image(number: u32, image: &mut [u8]) {
+    let mut left = number;
+    for byte in image.iter_mut() {
+        *byte = [0, 1, 255][(left % 3) as usize];
+        left /= 3;
+    }
+}
+
+/// Packs an image, and expands what was packed into a buffer of its length.
+fn test_round_trip(rt: &impl Abort, alloc: Global, image: &[u8], out: &mut [u8]) {
+    assert!(rt; image.len() <= 9);
+    let packed = pack(alloc, image).expect(rt, "packed bytes");
+    test_image(rt, &packed, out, image);
+}
+
+#[test]
+fn pack_all_short_images(rt: HostRuntime) {
+    let alloc = rt.alloc();
+    let mut image = [0; 9];
+    let mut out = [0xEE; 9];
+    for (len, count) in IMAGES_OF.iter().enumerate() {
+        for number in 0..*count {
+            write_image(number, &mut image[..len]);
+            test_round_trip(&rt, alloc, &image[..len], &mut out[..len]);
+        }
     }
 }

@@ -1,6 +1,9 @@
 -- What the code keeps, seen without places in memory.
 use Rattle.std.specs.Prelude.{ℕ, List, replicate}
+use Rattle.pef_pidata.specs.Packing.{Part, block, zeros}
 use Rattle.pef_pidata.specs.Pattern.{output}
+use Rattle.pef_pidata.specs.declared.packing.Piece.{Piece}
+use Rattle.pef_pidata.specs.declared.packing.Piece.TheVariants as piece
 use Rattle.pef_pidata.specs.declared.packed.Step.{Step}
 use Rattle.pef_pidata.specs.declared.argument.Argument.{Argument}
 use Rattle.pef_pidata.specs.declared.instruction.Instruction.{Instruction}
@@ -24,3 +27,8 @@ step_seen s = (output s.instruction s.bytes.now, s.rest.now)
 abbrev pub common_seen : Common → List ℕ
 common_seen (Bytes bytes) = bytes.now
 common_seen (Zeros count) = replicate count 0
+
+-- a part of an image
+abbrev pub piece_seen : Piece → Part
+piece_seen (piece.Zeros count) = zeros count
+piece_seen (piece.Block bytes) = block bytes.now

@@ -1,19 +1,8 @@
--- A byte with its top bit set is passed over.
-use Rattle.std.proofs.Common.{◌≡◌, ◌≢◌, ℕ, suc, ◌+◌, ◌*◌, ◌%◌, ◌≤◌, List, ◌∷◌, drop, drop-cons, get_or, refl, sym, ap, ◌∙◌, inl, inr, add-one, arith}
+use Rattle.std.proofs.Common.{◌≡◌, ◌+◌, ◌*◌, ◌∷◌, drop, drop-cons, get_or, sym, ap, ◌∙◌, add-one, arith}
 use Rattle.std.proofs.lemmas.Nat.{pow-add}
-use Rattle.std.proofs.lemmas.Bool.Decides.{eqb_tells, leb_tells}
 use Rattle.pef_pidata.specs.Instructions.{argument_from}
+use Rattle.pef_pidata.proofs.Arguments.{passed}
 use Rattle.pef_pidata.proofs.argument.read_argument.Goals as goal
-
-passed : (i value b : ℕ) (rest : List ℕ) → 128 ≤ b → i ≢ 4 → argument_from i value (b ∷ rest) ≡ argument_from (i + 1) (value * 128 + b % 128) rest
-passed i value b rest more few =
-    elim (leb_tells (suc b) 128) [
-      | inl below ↦ absurd (omega (arith, below.1))
-      | inr above ↦ (elim (eqb_tells i 4) [
-        | inl last ↦ absurd (few last.1)
-        | inr other ↦ rw (above.0, other.0) refl
-      ])
-    ]
 
 pub loop-i-preserved : goal.loop-i-preserved
 loop-i-preserved c =
