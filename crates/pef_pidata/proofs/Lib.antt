@@ -1,3 +1,4 @@
+pub mod Laws
 mod Arguments
 mod Packings
 mod Parts

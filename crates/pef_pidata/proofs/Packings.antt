@@ -7,7 +7,7 @@ use Rattle.std.proofs.lemmas.List.{length-append, length-replicate}
 use Rattle.pef_pidata.specs.declared.instruction.Instruction.TheVariants.{Block, Zeros}
 use Rattle.pef_pidata.specs.Instructions.{argument, by_opcode, counted, next_instruction}
 use Rattle.pef_pidata.specs.Kept.Runs.{part_len}
-use Rattle.pef_pidata.specs.Packing.{PackedExpands, Part, argument_bytes, block, bytes_before, counted_bytes, packed_of, part_bytes, parts_of, runs, spelling, without_short, zero_before, zeros}
+use Rattle.pef_pidata.specs.Packing.{PackedExpands, Part, argument_bytes, block, bytes_before, counted_bytes, leading_byte, packed_of, part_bytes, parts_of, runs, spelling, without_short, zero_before, zeros}
 use Rattle.pef_pidata.specs.Pattern.{next_output, obeyed, pattern, pattern_text}
 use Rattle.pef_pidata.proofs.Arguments.{argument-read}
 use Rattle.pef_pidata.proofs.Steps.{pattern_next}
@@ -194,6 +194,46 @@ some_part_bytes (block bytes) = omega (arith, some_bytes 1 (length bytes), lengt
 length-spelling : (parts : List Part) → length parts ≤ length (spelling parts)
 length-spelling [] = omega arith
 length-spelling (part ∷ parts) = omega (arith, length-spelling parts, some_part_bytes part, length-append (part_bytes part) (spelling parts))
+
+-- an instruction has no more bytes than its count says, but for those that it copies
+leading_most : (unit value : ℕ) → length (leading_byte unit value) ≤ 1
+leading_most unit value = elim (leb_tells (suc value) unit) [
+  | inl below ↦ rw below.0 (omega arith)
+  | inr above ↦ rw above.0 (omega arith)
+]
+
+argument_most : (value : ℕ) → length (argument_bytes value) ≤ 5
+unfolding argument_bytes
+argument_most value =
+    let first = leading_byte (2 ^ 28) value in
+    let second = leading_byte (2 ^ 21) value in
+    let third = leading_byte (2 ^ 14) value in
+    let fourth = leading_byte (2 ^ 7) value in
+    let last : List ℕ = (value % 128) ∷ [] in
+    omega (arith, leading_most (2 ^ 28) value, leading_most (2 ^ 21) value, leading_most (2 ^ 14) value, leading_most (2 ^ 7) value, length-append first (second ++ (third ++ (fourth ++ last))), length-append second (third ++ (fourth ++ last)), length-append third (fourth ++ last), length-append fourth last)
+
+counted_most : (opcode count : ℕ) → 0 < count → length (counted_bytes opcode count) ≤ count
+unfolding counted_bytes
+counted_most opcode count some = elim (leb_tells (suc count) 32) [
+  | inl low ↦ rw low.0 (omega (arith, some))
+  | inr high ↦ rw high.0 (omega (arith, high.1, argument_most count))
+]
+
+part_most : (part : Part) → 0 < part_len part → length (part_bytes part) ≤ 2 * length (part_image part)
+unfolding part_bytes
+part_most (zeros count) some = omega (arith, counted_most 0 count some, length-replicate {A = ℕ} count 0)
+part_most (block bytes) some = omega (arith, counted_most 1 (length bytes) some, length-append (counted_bytes 1 (length bytes)) bytes)
+
+spelling_most : (parts : List Part) → AreSome parts → length (spelling parts) ≤ 2 * length (image_of parts)
+spelling_most [] all = omega arith
+spelling_most (part ∷ parts) all = omega (arith, part_most part all.0, spelling_most parts all.1, length-append (part_bytes part) (spelling parts), length-append (part_image part) (image_of parts))
+
+-- there are at most twice as many packed bytes as the image has
+pub length-packed_of : (image : List ℕ) → length (packed_of image) ≤ 2 * length image
+unfolding packed_of
+length-packed_of image =
+    let most = spelling_most (parts_of image) (some-parts image) in
+    rw (image-parts image) at most
 
 pub packed-expands : PackedExpands
 unfolding pattern_text packed_of

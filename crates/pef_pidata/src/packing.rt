@@ -8,10 +8,10 @@ use crate::fault::PackFault;
 use crate::instruction::{BLOCK, COUNTS, ZERO};
 use std::alloc::{AllocError, Global};
 
-/// Packs an image of up to 16,777,216 bytes, for `expand` at the image's length.
+/// Returns the packed bytes of an image of up to 16,777,216 bytes. `expand` makes the image of them.
 ///
-/// Each longest run of three or more zeros is spelled by its length, and what is between two such runs
-/// is copied. The time is linear in the image's length.
+/// Each longest run of three or more zeros is one instruction. What is between two such runs, or at an
+/// end, is one that copies it. The time is linear in the image's length.
 ///
 /// # Errors
 ///
@@ -21,7 +21,7 @@ pub fn pack(alloc: Global, image: &[u8]) -> Result<Vec<u8>, PackFault>
     ensures packed { IfOk result (λ v. v.items ≡ packed_of image.now) }
     ensures memory { IfErr result (λ e. e ≡ OutOfMemory) }
 {
-    // A block and the run after it grow by a byte in 131 at most, and a last block by five.
+    // This is enough: a block with the run after it grows by at most one byte in 131, a last block by five.
     let room = image.len() + image.len() / 128 + 5;
     let mut packed = Vec::with_capacity(alloc, room)?;
     let mut rest = image;
@@ -42,7 +42,7 @@ enum Piece<'a> {
     Block(&'a [u8]),
 }
 
-/// The first part of an image that isn't empty, and what follows it.
+/// The first part of an image that has bytes, and what follows the part.
 fn first_piece(image: &[u8]) -> (Piece<'_>, &[u8])
     requires { 0 < length image.now }
     ensures parts { parts_of image.now ≡ piece_seen result.0 ∷ parts_of result.1.now }
@@ -59,7 +59,7 @@ fn first_piece(image: &[u8]) -> (Piece<'_>, &[u8])
     (Piece::Block(bytes), rest)
 }
 
-/// How many bytes stand before the first three zeros in a row.
+/// How many bytes there are before the first three zeros in a row.
 fn block_len(image: &[u8]) -> usize
     ensures within { result ≤ length image.now }
     ensures copied { IsCopiedTo image.now result }
