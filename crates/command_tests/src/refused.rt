@@ -85,6 +85,6 @@ fn load(rt: HostRuntime) -> Result<(), Fail> {
     put_linked(rt.alloc(), &mut papers, "library", LIBRARY.as_bytes())?;
     let loaded =
         b"fragment L\nsection 0 at 00010000 size 4\n00010000 0000002A\nfragment A\nsection 0 at 00010010 size 4\n00010010 00010000\n";
-    let words = ["load", "A=user", "L=library"];
+    let words = ["load", "A=user", "B=user", "L=library"];
     assert_prints_or_lacks_memory(&rt, rt.alloc(), &mut papers, &words, b"", loaded)
 }

@@ -2,6 +2,7 @@
 
 ghost use Rattle.std.specs.Prelude.{◌<◌};
 
+use arrayvec::ArrayVec;
 use pef_ports::{FileFault, Files, Sink, Source, StreamFault};
 use std::alloc::{AllocError, Global};
 
@@ -61,7 +62,7 @@ impl<'a> Source for Text<'a> {
 /// How many bytes an output has room for from the start.
 const ROOM: usize = 4096;
 
-/// An output that takes so many bytes a call, and fails at one call. It takes no memory for a short text.
+/// An output that takes so many bytes a call, and fails at one call.
 #[derive(Drop)]
 pub struct Sheet {
     bytes: Vec<u8>,
@@ -109,6 +110,45 @@ impl Sink for Sheet {
         self.fails_at = self.fails_at.saturating_sub(1);
         self.failed = false;
         Ok(count)
+    }
+}
+
+/// An output that is an array, so it takes no memory. It fails where it has no room.
+#[derive(Drop)]
+pub struct Slip {
+    bytes: ArrayVec<u8, ROOM>,
+    failures: u64,
+    failed: bool,
+}
+
+impl Slip {
+    pub fn new() -> Slip {
+        Slip {
+            bytes: ArrayVec::new(),
+            failures: 0,
+            failed: false,
+        }
+    }
+
+    /// What went out.
+    pub fn bytes(&self) -> &[u8] {
+        self.bytes.as_slice()
+    }
+}
+
+impl Sink for Slip {
+    ghost use Rattle.std.specs.Prelude.{Some};
+
+    ghost stream = { λ slip. record { bytes = Some slip.bytes.items; failures = slip.failures; failed = slip.failed } };
+
+    fn write(&mut self, bytes: &[u8]) -> Result<usize, StreamFault> {
+        if self.bytes.try_extend_from_slice(bytes).is_err() {
+            self.failures = self.failures.saturating_add(1);
+            self.failed = true;
+            return Err(StreamFault);
+        }
+        self.failed = false;
+        Ok(bytes.len())
     }
 }
 
@@ -163,6 +203,11 @@ impl Papers {
     /// How many calls of `read` and of `write` were made.
     pub fn calls(&self) -> (u64, u64) {
         (self.reads, self.writes)
+    }
+
+    /// How many calls failed.
+    pub fn failures(&self) -> u64 {
+        self.failures
     }
 
     /// Whether this call is the one that fails, and how.

@@ -2,11 +2,14 @@
 
 ghost use Rattle.std.specs.Prelude.{◌<◌};
 
-use crate::ports::{Papers, Sheet, Text};
+use crate::ports::{Papers, Sheet, Slip, Text};
 use pef_tool::{FileFault, run};
 use std::alloc::{AllocError, Global};
 use std::test::Fail;
 use test_data::refusals::{say_answered, say_begins};
+
+/// More writes than an answer has that is cut at each.
+const MOST_WRITES: usize = 100;
 
 /// What a run is handed. Where a call is numbered 0, none fails.
 #[derive(Clone, Copy)]
@@ -90,6 +93,17 @@ impl Outcome {
         Ok(())
     }
 
+    /// Tests that a failure of the files was counted just where one is told.
+    fn assert_counted(&self) -> Result<(), Fail> {
+        let printed = self.printed.as_slice();
+        let told = printed.starts_with(b"refused 71 ") || printed.starts_with(b"refused 72 ");
+        let failures = self.papers.failures();
+        if failures != u64::from(told) {
+            return Err(Fail::new(format_args!("{failures} failures of files")));
+        }
+        Ok(())
+    }
+
     /// Whether a file has just these bytes.
     pub fn has(&self, path: &[u8], bytes: &[u8]) -> bool {
         self.papers.bytes(path) == Some(bytes)
@@ -159,6 +173,7 @@ pub fn assert_prints(
     if outcome.printed.as_slice() != printed || outcome.status != status {
         return Err(unlike(handed.words, &outcome.printed, outcome.status));
     }
+    outcome.assert_counted()?;
     Ok(outcome)
 }
 
@@ -213,6 +228,27 @@ pub fn assert_cut_output(alloc: Global, handed: Handed<'_>, printed: &[u8]) -> R
     Ok(())
 }
 
+/// Runs a command with an output that takes all of a write, and fails at the first, at the second, and so on: a front of
+/// the answer goes out, though it would go on. Tells how many writes there are, behind which it ends with 0.
+pub fn assert_cut_writes(alloc: Global, handed: Handed<'_>, printed: &[u8]) -> Result<usize, Fail> {
+    for k in 1..=MOST_WRITES {
+        let handed = Handed {
+            step: usize::MAX,
+            out_fails_at: k,
+            ..handed
+        };
+        let outcome = run_tool(alloc, handed)?;
+        let sent = outcome.printed.as_slice();
+        if outcome.status == 0 && sent == printed {
+            return Ok(k - 1);
+        }
+        if outcome.status != 1 || sent.len() >= printed.len() || !printed.starts_with(sent) {
+            return Err(unlike(handed.words, &outcome.printed, outcome.status));
+        }
+    }
+    Err(Fail::new("writes without end"))
+}
+
 /// Runs the tool over files, with an empty input. It must print this and end with this status.
 pub fn assert_prints_over(
     alloc: Global,
@@ -252,13 +288,13 @@ pub fn assert_prints_or_lacks_memory(
 ) -> Result<(), Fail> {
     let line = line_of(alloc, words)?;
     let mut input = Text::new(input, 1000, 0);
-    let mut out = Sheet::new(alloc, 1000, 0)?;
+    let mut out = Slip::new();
     say_begins(rt)?;
     let status = run(alloc, line.as_slice(), papers, &mut input, &mut out);
-    let told = out.into_bytes();
-    let refused = told.as_slice() == b"refused 99 OutOfMemory\n".as_slice() && status == 1;
-    if !refused && (told.as_slice() != printed || status != 0) {
-        return Err(unlike(words, &told, status));
+    let told = out.bytes();
+    let refused = told == b"refused 99 OutOfMemory\n".as_slice() && status == 1;
+    if !refused && (told != printed || status != 0) {
+        return Err(unlike(words, told, status));
     }
     say_answered(rt, refused)
 }
