@@ -1,10 +1,14 @@
+use crate::listings::VECTORS_LISTED;
+use crate::load::VECTORS_LOADED;
 use pef_ports::{InputFault, read_input};
 use pef_tool::FileFault;
+use std::alloc::Global;
+use std::fmt::Write;
 use std::test::Fail;
 use test_bench::containers::VECTORS_LEAST;
 use test_bench::ports::Text;
-use test_bench::runs::{Handed, assert_cut_output, assert_prints};
-use test_bench::scripts::{EXAMPLE, EXAMPLE_SHOWN, VECTORS, VECTORS_LINKED};
+use test_bench::runs::{Handed, assert_cut_output, assert_cut_writes, assert_prints};
+use test_bench::scripts::{EXAMPLE, EXAMPLE_SHOWN, VECTORS, VECTORS_CERTIFIED, VECTORS_LINKED};
 
 #[test]
 fn show_output_fails(rt: HostRuntime) -> Result<(), Fail> {
@@ -28,6 +32,71 @@ fn link_output_fails(rt: HostRuntime) -> Result<(), Fail> {
         let outcome = assert_prints(rt.alloc(), handed, &VECTORS_LINKED[..k - 1], 1)?;
         assert!(rt; outcome.has(b"out", VECTORS_LEAST));
     }
+    Ok(())
+}
+
+#[test]
+fn load_output_fails(rt: HostRuntime) -> Result<(), Fail> {
+    let handed = Handed::file(&["load", "x=a"], VECTORS_LEAST);
+    assert_cut_output(rt.alloc(), handed, VECTORS_LOADED)
+}
+
+/// Short answers go out by one write, and where it fails there is nothing.
+#[test]
+fn only_write_fails(rt: HostRuntime) -> Result<(), Fail> {
+    let checked = b"section 0 yes 0\nsection 1 yes 1\n".as_slice();
+    let rows = [
+        (Handed::input(&["show"], EXAMPLE), EXAMPLE_SHOWN),
+        (Handed::file(&["link", "a", "out"], VECTORS), VECTORS_LINKED),
+        (Handed::file(&["list", "a"], VECTORS_LEAST), VECTORS_LISTED),
+        (
+            Handed::file(&["load", "x=a"], VECTORS_LEAST),
+            VECTORS_LOADED,
+        ),
+        (
+            Handed::file(&["distances", "a"], VECTORS),
+            VECTORS_CERTIFIED,
+        ),
+        (
+            Handed::files(&["check", "a", "b"], VECTORS, VECTORS_CERTIFIED),
+            checked,
+        ),
+    ];
+    for (handed, printed) in rows {
+        assert!(rt; assert_cut_writes(rt.alloc(), handed, printed)? == 1);
+    }
+    Ok(())
+}
+
+/// The container is whole before the only write fails.
+#[test]
+fn link_writes_first(rt: HostRuntime) -> Result<(), Fail> {
+    let handed = Handed {
+        step: 1000,
+        out_fails_at: 1,
+        ..Handed::file(&["link", "a", "out"], VECTORS)
+    };
+    let outcome = assert_prints(rt.alloc(), handed, b"", 1)?;
+    assert!(rt; outcome.has(b"out", VECTORS_LEAST));
+    Ok(())
+}
+
+/// What `show` prints of a section of 20,000 zero bytes.
+fn shown_zeros(alloc: Global) -> Result<String, Fail> {
+    let mut text = String::from_str(alloc, "fragment it\nsection 0 at 00010000 size 20000\n")?;
+    for row in 0..1250u32 {
+        let address = row.wrapping_mul(16).wrapping_add(0x0001_0000);
+        writeln!(text, "{address:08X} 00000000 00000000 00000000 00000000")?;
+    }
+    Ok(text)
+}
+
+/// A long answer goes out by several writes.
+#[test]
+fn each_write_fails(rt: HostRuntime) -> Result<(), Fail> {
+    let shown = shown_zeros(rt.alloc())?;
+    let handed = Handed::input(&["show"], b"section d data process 4 20000\n");
+    assert!(rt; assert_cut_writes(rt.alloc(), handed, shown.as_bytes())? > 1);
     Ok(())
 }
 

@@ -44,13 +44,13 @@ const SCRIPTS: &[(&str, &str)] = &[
     ),
 ];
 
+/// What `load x=` prints of the container of the script with two transition vectors.
+pub(crate) const VECTORS_LOADED: &[u8] =
+    b"fragment x\nsection 0 at 00010000 size 8\n00010000 00112233 44556677\nsection 1 at 00010010 size 16\n00010010 00010000 00010010 00010004 00010010\nmain 00010010\n";
+
 /// Containers of libraries and of fragments that need them: what `load` prints of them, and its status.
 const LOADS: &[(&[&str], &[u8], u8)] = &[
-    (
-        &["load", "x=vectors"],
-        b"fragment x\nsection 0 at 00010000 size 8\n00010000 00112233 44556677\nsection 1 at 00010010 size 16\n00010010 00010000 00010010 00010004 00010010\nmain 00010010\n",
-        0,
-    ),
+    (&["load", "x=vectors"], VECTORS_LOADED, 0),
     // a fragment that none needs isn't prepared; a file that is no container may be one
     (
         &["load", "A=user", "B=user", "C=text", "L=library"],
@@ -189,7 +189,9 @@ fn load(rt: HostRuntime) -> Result<(), Fail> {
 const FAILING: &[(u32, FileFault, &[u8], u64)] = &[
     (1, FileFault::Failed, b"refused 71 FileUnreadable a\n", 1),
     (2, FileFault::Failed, b"refused 71 FileUnreadable b\n", 2),
+    (3, FileFault::Failed, b"refused 71 FileUnreadable c\n", 3),
     (1, FileFault::OutOfMemory, b"refused 99 OutOfMemory\n", 1),
+    (2, FileFault::OutOfMemory, b"refused 99 OutOfMemory\n", 2),
     (3, FileFault::OutOfMemory, b"refused 99 OutOfMemory\n", 3),
 ];
 
@@ -209,6 +211,7 @@ fn load_files_fail(rt: HostRuntime) -> Result<(), Fail> {
         let (call, fault, printed, reads) = *row;
         let mut papers = Papers::new(rt.alloc(), call, fault);
         assert!(rt; calls_of(rt.alloc(), &mut papers, printed)? == (reads, 0));
+        assert!(rt; papers.failures() == u64::from(fault == FileFault::Failed));
     }
     Ok(())
 }
