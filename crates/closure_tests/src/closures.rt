@@ -59,7 +59,7 @@ fn tell(rt: &impl Abort, text: &mut String, closure: &Closure<'_>) {
     text.push_str(", init").expect(rt, "memory");
     tell_places(rt, text, closure.init_order());
     for p in closure.order() {
-        for j in 0..closure.loader(*p).header().import_count as usize {
+        for j in 0..closure.loader(*p).imports() {
             tell_import(rt, text, *p, j, closure.target(*p, j));
         }
     }

@@ -1,5 +1,5 @@
 -- Steps along the entries and the names of libraries, imports and exports.
-use Rattle.std.proofs.Common.{◌≡◌, ◌∙◌, ℕ, ◌+◌, ◌<◌, ◌≤◌, List, [], ◌∷◌, ◌++◌, Option, Some, length, drop, get_or, map, option_map, slice_get, length-append, ap, sym, arith}
+use Rattle.std.proofs.Common.{◌≡◌, ◌∙◌, ℕ, ◌+◌, ◌<◌, ◌≤◌, List, [], ◌∷◌, ◌++◌, Some, length, drop, get_or, map, slice_get, length-append, ap, arith}
 use Rattle.std.specs.List.{flat_map}
 use Rattle.std.proofs.lemmas.List.{drop_all, drop_more}
 use Rattle.pef_loader.specs.Export.{Export}

@@ -1,11 +1,9 @@
 -- What is linked of a script: the bytes that are written are its own.
-use Rattle.std.proofs.Common.{◌≡◌, ◌∙◌, ℕ, ◌*◌, ◌/◌, ◌<◌, ◌≤◌, ◌^◌, List, length, map, refl, sym, ap, arith}
-use Rattle.std.specs.List.{All}
+use Rattle.std.proofs.Common.{◌≡◌, ◌∙◌, ℕ, ◌<◌, ◌^◌, List, length, map, refl, sym, ap, arith}
 use Rattle.std.proofs.lemmas.List.{length-map}
 use Rattle.pef_labels.specs.Certified.{Certified}
 use Rattle.pef_reloc.specs.declared.instr.Instr.{Instr}
-use Rattle.pef_reloc.specs.Instrs.{program_length, spelled}
-use Rattle.pef_reloc.specs.Limits.{most_fixups}
+use Rattle.pef_reloc.specs.Instrs.{spelled}
 use Rattle.pef_script.specs.Script.{DescribedScript}
 use Rattle.pef_write.specs.Linked.{AreProgramsFor, linked_bytes, linked_loader, linked_tables, script_tables}
 use Rattle.pef_write.specs.Kept.Encoded.{AreEncoded, HasCertificates, HasRoom, container_with, nonempty_from}

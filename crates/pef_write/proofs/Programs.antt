@@ -1,10 +1,8 @@
 -- The programs of a script's sections: their lengths, and those that have bytes.
-use Rattle.std.proofs.Common.{◌≡◌, ◌∙◌, ℕ, ◌+◌, ◌*◌, ◌/◌, ◌≤◌, List, [], ◌∷◌, ◌++◌, length, map, refl, sym, ap, ap₂, subst, arith}
-use Rattle.std.specs.List.{All, AllByRecursion}
-use Rattle.std.proofs.lemmas.List.Elements.{All-cons}
+use Rattle.std.proofs.Common.{◌≡◌, ◌∙◌, ℕ, ◌+◌, ◌*◌, ◌≤◌, List, [], ◌∷◌, ◌++◌, length, map, refl, sym, ap, ap₂, subst, arith}
 use Rattle.pef_reloc.specs.declared.fixup.Fixup.{Fixup}
 use Rattle.pef_reloc.specs.declared.instr.Instr.{Instr}
-use Rattle.pef_reloc.specs.Instrs.{instrs_fit, program_length, repeat_free, spelled}
+use Rattle.pef_reloc.specs.Instrs.{instrs_fit, repeat_free, spelled}
 use Rattle.pef_reloc.specs.Limits.{most_fixups}
 use Rattle.pef_reloc.specs.Steps.{Makes}
 use Rattle.pef_reloc.specs.Unrolled.{instrs_of}

@@ -1,12 +1,11 @@
 -- One name more is listed; at the end the bytes and the lengths are those of all names.
-use Rattle.std.proofs.Common.{◌≡◌, ◌∙◌, ◌+◌, ◌∷◌, [], length, drop, map, option_map, ap, ap₂, sym, arith}
+use Rattle.std.proofs.Common.{◌∙◌, ◌+◌, ◌∷◌, [], length, drop, map, option_map, ap, ap₂, sym, arith}
 use Rattle.std.proofs.lemmas.Option.{slice_get_within}
 use Rattle.std.specs.List.{sum}
 use Rattle.pef_hash.specs.Build.{built, names_in}
 use Rattle.pef_script.specs.Views.{export_in}
 use Rattle.pef_script.specs.Script.{DescribedExport, export_names}
-use Rattle.pef_script.specs.WellFormed.{ExportHolds, totals_of}
-use Rattle.pef_words.proofs.Laws.Lists.{all-get, drop-here}
+use Rattle.pef_words.proofs.Laws.Lists.{drop-here}
 use Rattle.pef_write.proofs.ExportNames.{all_joined, joined, names_in-joined, sum-joined}
 use Rattle.pef_write.proofs.Fields.{one_more}
 use Rattle.pef_write.proofs.Listing.{found-as}
