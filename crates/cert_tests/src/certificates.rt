@@ -499,36 +499,3 @@ fn long_runs(rt: HostRuntime) {
         assert_long_run(&rt, rt.alloc(), *row);
     }
 }
-
-/// Rows, of which two neighbours are equal.
-const ROWS: &[&[u32]] = &[&[1, 2], &[1, 2], &[0, 0], &[1, 2]];
-
-/// The runs of these rows: two of 1 2, one of 0 0 and one of 1 2.
-const RUNS: &[(usize, &[u32])] = &[(2, &[1, 2]), (1, &[0, 0]), (1, &[1, 2])];
-
-/// Checks that the rows are these, and that equal neighbours are kept once.
-fn assert_runs(rt: &impl Abort, rows: &LabelRows) {
-    assert!(rt; rows.rows() == 4);
-    let mut runs = rows.runs();
-    for want in RUNS {
-        match runs.next_run() {
-            Some(run) => assert!(rt; (run.rows, run.labels) == *want),
-            None => panic!(rt; "a run too few"),
-        }
-    }
-    assert!(rt; runs.next_run().is_none());
-}
-
-fn push_rows(rt: &impl Abort, rows: &mut LabelRows) {
-    for row in ROWS {
-        push(rt, rows, *row);
-    }
-}
-
-#[test]
-fn rows_are_kept(rt: HostRuntime) {
-    let mut rows = LabelRows::new(rt.alloc(), 2);
-    push_rows(&rt, &mut rows);
-    assert!(rt; rows.width() == 2);
-    assert_runs(&rt, &rows);
-}

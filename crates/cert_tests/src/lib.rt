@@ -9,6 +9,8 @@ mod printing;
 #[cfg(test)]
 mod reading;
 #[cfg(test)]
+mod rows;
+#[cfg(test)]
 mod tables;
 #[cfg(test)]
 mod texts;

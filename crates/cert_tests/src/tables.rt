@@ -7,6 +7,7 @@ use std::process::Abort;
 /// Puts a row of labels behind others.
 pub fn push(rt: &impl Abort, rows: &mut LabelRows, row: &[u32]) {
     assert!(rt; row.len() == rows.width());
+    assert!(rt; rows.rows() < usize::MAX);
     rows.push(row).expect(rt, "memory");
 }
 

@@ -1,11 +1,15 @@
 -- Rows of labels as they are kept: how many there are, where one stands, and one more.
-use Rattle.std.proofs.Common.{◌≡◌, ℕ, zero, suc, ◌+◌, ◌-◌, ◌*◌, ◌<◌, ◌≤◌, true, nat_lt, List, [], ◌∷◌, ◌++◌, length, take, drop, replicate, None, Some, refl, ap, sym, ◌∙◌, subst, arith, slice_index, slice_get, length-append, append_assoc}
+use Rattle.std.proofs.Common.{◌≡◌, ◌≢◌, ◌==◌, Bool, false, eqb, ℕ, zero, suc, ◌+◌, ◌-◌, ◌*◌, ◌<◌, ◌≤◌, true, nat_lt, List, [], ◌∷◌, ◌++◌, length, take, drop, replicate, None, Some, refl, ap, sym, ◌∙◌, subst, arith, slice_index, slice_get, length-append, append_assoc}
 use Rattle.std.specs.Prelude.{slice_index_or, slice_set}
 use Rattle.std.proofs.lemmas.Bool.{ltb-true, lt-ltb, and_from, and_parts}
+use Rattle.std.proofs.lemmas.Bool.Decides.{Decides-eqb}
+use Rattle.std.proofs.lemmas.Slice.Eq.{slice_eq-Decides}
+use Rattle.std.specs.Cmp.Lexicographic.{pointwise}
 use Rattle.std.proofs.Math.Path.{ap₂}
-use Rattle.std.proofs.lemmas.List.{append-nil, length-set, drop-append-le, drop-drop, drop_at, length_push, length-take-le, get_or-append_right, get_or-replicate, get_or_append_left, length-drop, length-replicate, take-append-le, take_all, nil_from_length}
-use Rattle.pef_labels.specs.Kept.RowsKept.{RunsFull}
-use Rattle.pef_labels.specs.Rows.{RowsFull, rows_from}
+use Rattle.pef_fixups.specs.Answers.{Says}
+use Rattle.std.proofs.lemmas.List.{append-nil, length-set, drop-append-le, drop-drop, drop_all, drop_at, length_push, length-take-le, get_or-append_right, get_or-replicate, get_or_append_left, length-drop, length-replicate, take-append-le, take_all, take-append-drop, nil_from_length}
+use Rattle.pef_labels.specs.Kept.RowsKept.{EndsWith, RunsFull}
+use Rattle.pef_labels.specs.Rows.{NeighboursDiffer, RowsFull, rows_from}
 use Rattle.pef_labels.specs.Rising.{above_all}
 
 -- how many rows there are up to the last kept one
@@ -171,41 +175,76 @@ rows-none w ends values e = rw (last_end-none 0 ends e) refl
 last_is : (w : ℕ) (ends values : List ℕ) → RowsFull w ends values → last_end 0 ends ≡ length (rows_from w 0 ends values)
 last_is w ends values full = let count = rows-count w 0 ends values full.rising in omega (arith, count)
 
-pub full-push : (w end : ℕ) (ends values row : List ℕ) → RowsFull w ends values → length row ≡ w → length (rows_from w 0 ends values) < end → RowsFull w (ends ++ end ∷ []) (values ++ row)
-full-push w end ends values row full wide after = record {
-  rising = rising-push 0 end ends full.rising (omega (arith, last_is w ends values full));
-  full = rw (length_push ends end) (omega (arith, full.full, wide, length-append values row));
+-- rows of which each but the last differs from the one after it, and one that differs from the last
+differ-push : (w n : ℕ) (values row : List ℕ) → length values ≡ w * suc n → length row ≡ w → NeighboursDiffer w n values → ((front : List ℕ) → values ≢ front ++ row) → NeighboursDiffer w (suc n) (values ++ row)
+differ-push w zero values row full wide differ other =
+    let whole : take w values ≡ values = take_all w values (omega (arith, full)) in
+    let none : drop w values ≡ [] = drop_all w values (omega (arith, full)) in
+    let first : take w (values ++ row) ≡ values = take-append-le w values row (omega (arith, full)) ∙ whole in
+    let second : take w (drop w (values ++ row)) ≡ row =
+    ap (take w) (drop-append-le w values row (omega (arith, full)) ∙ ap (λ vs. vs ++ row) none) ∙ take_all w row (omega (arith, wide)) in
+    (λ same. other [] (sym first ∙ (same ∙ second)), tt)
+differ-push w (suc n) values row full wide differ other =
+    let rest : length (drop w values) ≡ w * suc n = omega (arith, full, length-drop w values) in
+    let first : take w (values ++ row) ≡ take w values = take-append-le w values row (omega (arith, full)) in
+    let behind : drop w (values ++ row) ≡ drop w values ++ row = drop-append-le w values row (omega (arith, full)) in
+    let second : take w (drop w values ++ row) ≡ take w (drop w values) = take-append-le w (drop w values) row (omega (arith, rest)) in
+    let later = differ-push w n (drop w values) row rest wide differ.1
+    (λ front is. other (take w values ++ front) (sym (take-append-drop w values) ∙ (ap (λ vs. take w values ++ vs) is ∙ sym (append_assoc (take w values) front row)))) in
+    (λ same. differ.0 (sym first ∙ (same ∙ (ap (take w) behind ∙ second))), subst (λ (vs : List ℕ). NeighboursDiffer w (suc n) vs) (sym behind) later)
+
+pub full-push : (w end : ℕ) (ends values row : List ℕ) → RowsFull w ends values → length row ≡ w → length (rows_from w 0 ends values) < end → (0 < length ends → (front : List ℕ) → values ≢ front ++ row) → RowsFull w (ends ++ end ∷ []) (values ++ row)
+full-push w end [] values row full wide after other = record {
+  rising = rising-push 0 end [] full.rising (omega (arith, last_is w [] values full));
+  full = (let none = full.full in omega (arith, none, wide, length-append values row));
+  apart = tt;
 }
+full-push w end (x ∷ ends) values row full wide after other =
+    let count : length (x ∷ ends) - 1 ≡ length ends = omega arith in
+    let more : length ((x ∷ ends) ++ end ∷ []) - 1 ≡ suc (length ends) = omega (arith, length_push (x ∷ ends) end) in
+    let long : length values ≡ w * suc (length ends) = full.full in
+    record {
+      rising = rising-push 0 end (x ∷ ends) full.rising (omega (arith, last_is w (x ∷ ends) values full));
+      full = rw (length_push (x ∷ ends) end) (omega (arith, full.full, wide, length-append values row));
+      apart = subst (λ (n : ℕ). NeighboursDiffer w n (values ++ row)) (sym more)
+          (differ-push w (length ends) values row long wide (subst (λ (n : ℕ). NeighboursDiffer w n values) count full.apart) (other (omega arith)));
+    }
 
 pub rows-pushed : (w end : ℕ) (ends values row : List ℕ) → RowsFull w ends values → length row ≡ w → rows_from w 0 (ends ++ end ∷ []) (values ++ row) ≡ rows_from w 0 ends values ++ replicate (end - length (rows_from w 0 ends values)) row
 rows-pushed w end ends values row full wide =
     rows-push w 0 end ends values row full.full wide
     ∙ ap (λ n. rows_from w 0 ends values ++ replicate (end - n) row) (last_is w ends values full)
 
--- one more of the last row
-pub full-more : (w end n : ℕ) (ends values : List ℕ) → RowsFull w ends values → length ends ≡ suc n → length (rows_from w 0 ends values) + 1 ≡ end → RowsFull w (slice_set ends n end) values
+-- more of the last row
+pub full-more : (w end n : ℕ) (ends values : List ℕ) → RowsFull w ends values → length ends ≡ suc n → length (rows_from w 0 ends values) < end → RowsFull w (slice_set ends n end) values
 full-more w end n ends values full count after = record {
   rising = rising-more 0 end n ends full.rising count (omega (arith, after, last_is w ends values full));
   full = full.full ∙ ap (λ m. w * m) (sym (length-set ends n end));
+  apart = subst (λ (m : ℕ). NeighboursDiffer w (m - 1) values) (sym (length-set ends n end)) full.apart;
 }
 
-last_row : (w n : ℕ) (ends values row : List ℕ) → RowsFull w ends values → length ends ≡ suc n → length row ≡ w → values ≡ take (length values - length row) values ++ row → take w (drop (n * w) values) ≡ row
-last_row w n ends values row full count wide is =
+last_row : (w n : ℕ) (ends values front row : List ℕ) → RowsFull w ends values → length ends ≡ suc n → length row ≡ w → values ≡ front ++ row → take w (drop (n * w) values) ≡ row
+last_row w n ends values front row full count wide is =
     let product : w * length ends ≡ w * suc n = ap (λ m. w * m) count in
-    let before : length values - length row ≡ n * w = omega (arith, full.full, product, wide) in
-    let inside : length values - length row ≤ length values = omega arith in
-    let front = length-take-le (length values - length row) values inside in
+    let long : length values ≡ length front + length row = ap length is ∙ length-append front row in
+    let before : length front ≡ n * w = omega (arith, full.full, product, wide, long) in
     ap (λ vs. take w (drop (n * w) vs)) is
-    ∙ (ap (take w) (drop_at (take (length values - length row) values) row (n * w) (front ∙ before))
+    ∙ (ap (take w) (drop_at front row (n * w) before)
     ∙ take_all w row (omega (arith, wide)))
 
-pub rows-one_more : (w end n : ℕ) (ends values row : List ℕ) → RowsFull w ends values → length ends ≡ suc n → length row ≡ w → values ≡ take (length values - length row) values ++ row → length (rows_from w 0 ends values) + 1 ≡ end → rows_from w 0 (slice_set ends n end) values ≡ rows_from w 0 ends values ++ row ∷ []
-rows-one_more w end n ends values row full count wide is after =
-    let one : end - last_end 0 ends ≡ 1 = omega (arith, after, last_is w ends values full) in
-    rows-more w 0 end n ends values row full.rising count (omega (arith, after, last_is w ends values full)) (last_row w n ends values row full count wide is)
-    ∙ ap (λ m. rows_from w 0 ends values ++ replicate m row) one
+pub rows-many_more : (w end n : ℕ) (ends values row : List ℕ) → RowsFull w ends values → length ends ≡ suc n → length row ≡ w → EndsWith ends values row → length (rows_from w 0 ends values) ≤ end → rows_from w 0 (slice_set ends n end) values ≡ rows_from w 0 ends values ++ replicate (end - length (rows_from w 0 ends values)) row
+rows-many_more w end n ends values row full count wide last after =
+    rows-more w 0 end n ends values row full.rising count (omega (arith, after, last_is w ends values full)) (last_row w n ends values last.front row full count wide last.is)
+    ∙ ap (λ m. rows_from w 0 ends values ++ replicate (end - m) row) (last_is w ends values full)
 
 -- rows to go through
+differ-next : (w end : ℕ) (ends values : List ℕ) → NeighboursDiffer w (length (end ∷ ends) - 1) values → NeighboursDiffer w (length ends - 1) (drop w values)
+differ-next w end [] values differ = tt
+differ-next w end (x ∷ ends) values differ =
+    let more : length (end ∷ x ∷ ends) - 1 ≡ suc (length ends) = omega arith in
+    let fewer : length ends ≡ length (x ∷ ends) - 1 = omega arith in
+    subst (λ (n : ℕ). NeighboursDiffer w n (drop w values)) fewer (subst (λ (n : ℕ). NeighboursDiffer w n values) more differ).1
+
 pub runs-next : (w passed end : ℕ) (ends rest values : List ℕ) → RunsFull w passed ends values → ends ≡ end ∷ rest → RunsFull w end rest (drop w values)
 runs-next w passed end [] rest values full is = absurd (cc)
 runs-next w passed end (x ∷ xs) rest values full is =
@@ -216,4 +255,49 @@ runs-next w passed end (x ∷ xs) rest values full is =
     record {
       rising = subst (λ (e : ℕ). above_all e rest ≡ true) first (subst (λ (es : List ℕ). above_all x es ≡ true) others (and_parts (nat_lt passed x) (above_all x xs) full.rising).1);
       full = omega (arith, full.full, product, same, length-drop w values);
+      apart = subst (λ (es : List ℕ). NeighboursDiffer w (length es - 1) (drop w values)) others (differ-next w x xs values full.apart);
     }
+
+-- the rows after a run begin with another one
+begins_otherwise : (w passed end : ℕ) (rest values : List ℕ) → RunsFull w passed (end ∷ rest) values → (others : List (List ℕ)) → rows_from w end rest (drop w values) ≢ take w values ∷ others
+begins_otherwise w passed end [] values full others is = absurd (cc)
+begins_otherwise w passed end (x ∷ rest) values full others is =
+    let more : length (end ∷ x ∷ rest) - 1 ≡ suc (length rest) = omega arith in
+    let differ = (subst (λ (n : ℕ). NeighboursDiffer w n values) more full.apart).0 in
+    let up = (and_parts (nat_lt passed end) (above_all end (x ∷ rest)) full.rising).1 in
+    let above = ltb-true end x (and_parts (nat_lt end x) (above_all x rest) up).0 in
+    let count : x - end ≡ suc (x - end - 1) = omega (arith, above) in
+    let rows = rows_from w x rest (drop w (drop w values)) in
+    let here : replicate (suc (x - end - 1)) (take w (drop w values)) ++ rows ≡ take w values ∷ others = ap (λ n. replicate n (take w (drop w values)) ++ rows) (sym count) ∙ is in
+    differ (cc)
+
+pub runs-whole : (w passed end : ℕ) (ends rest values : List ℕ) → RunsFull w passed ends values → ends ≡ end ∷ rest → (others : List (List ℕ)) → rows_from w end rest (drop w values) ≢ take w values ∷ others
+runs-whole w passed end ends rest values full is =
+    begins_otherwise w passed end rest values (subst (λ (es : List ℕ). RunsFull w passed es values) is full)
+
+-- what `starts_with` says of the rows behind a row
+pub starts_same : (w : ℕ) (values : List ℕ) (answer : Bool) → w ≤ length values → answer ≡ pointwise eqb (take w values) (take (length (take w values)) (drop w values)) → Says answer (take w values ≡ take w (drop w values))
+starts_same w values answer long is =
+    slice_eq-Decides Decides-eqb (take w values) (take w (drop w values)) answer (is ∙ ap (λ n. pointwise eqb (take w values) (take n (drop w values))) (length-take-le w values long))
+
+-- a row that differs from the one after it, or doesn't, and those after both
+pub differ_here : (w left : ℕ) (values : List ℕ) → 0 < left → NeighboursDiffer w left values → take w values ≢ take w (drop w values)
+differ_here w zero values some differ = absurd (omega (arith, some))
+differ_here w (suc n) values some differ = differ.0
+
+pub differ_later : (w left : ℕ) (values : List ℕ) → 0 < left → NeighboursDiffer w left values → NeighboursDiffer w (left - 1) (drop w values)
+differ_later w zero values some differ = absurd (omega (arith, some))
+differ_later w (suc n) values some differ = let less : n ≡ suc n - 1 = omega arith in subst (λ (m : ℕ). NeighboursDiffer w m (drop w values)) less differ.1
+
+pub differ_both : (w left : ℕ) (values : List ℕ) → 0 < left → take w values ≢ take w (drop w values) → NeighboursDiffer w (left - 1) (drop w values) → NeighboursDiffer w left values
+differ_both w zero values some here later = absurd (omega (arith, some))
+differ_both w (suc n) values some here later = let less : suc n - 1 ≡ n = omega arith in (here, subst (λ (m : ℕ). NeighboursDiffer w m (drop w values)) less later)
+
+pub long_rows : (w left n : ℕ) → 0 < left → w * left ≤ n → (w ≤ n) × (w * (left - 1) ≤ n - w)
+long_rows w zero n some long = absurd (omega (arith, some))
+long_rows w (suc left) n some long = let less : w * (suc left - 1) ≡ w * left = ap (λ m. w * m) (omega arith) in (omega (arith, long), omega (arith, long, less))
+
+-- an empty list is one without elements
+pub some_there : (n : ℕ) → (n == 0) ≡ false → 0 < n
+some_there zero none = absurd (cc)
+some_there (suc n) none = omega arith

@@ -1,5 +1,8 @@
-ghost use Rattle.std.specs.Prelude.{◌≡◌, ◌-◌, ◌<◌, ◌++◌, MatchOption, OnErr, OnOk, [], ◌∷◌, length, replicate};
-ghost use Rattle.pef_labels.specs.Rows.{RowsFull, rows_from};
+ghost use Rattle.std.specs.Prelude.{◌≡◌, ◌≢◌, ◌↔◌, ℕ, ◌+◌, ◌*◌, ◌^◌, ◌<◌, ◌≤◌, ◌++◌, IfSome, IsSome, List, MatchOption, OnErr, OnOk, [], ◌∷◌, false, length, replicate, true};
+ghost use Rattle.pef_labels.specs.Kept.RowsKept.{EndsWith};
+ghost use Rattle.pef_fixups.specs.Answers.{Says};
+ghost use Rattle.pef_labels.specs.Rising.{above_all};
+ghost use Rattle.pef_labels.specs.Rows.{NeighboursDiffer, RowsFull, rows_from};
 
 use std::alloc::{AllocError, Global};
 use std::marker::Model;
@@ -47,6 +50,30 @@ impl LabelRows {
         }
     }
 
+    /// Rows of a width from what is kept of them: for each kept row, how many rows there are up to its last one;
+    /// and the kept rows, one after the other. `None` if no rows are kept like this.
+    pub fn from_kept(width: usize, ends: Vec<usize>, values: Vec<u32>) -> Option<LabelRows>
+        ensures kept { IsSome result ↔ RowsFull width ends.items values.items }
+        ensures rows { IfSome result (λ rows. rows ≡ record { width = width; rows = rows_from width 0 ends.items values.items }) }
+    {
+        if !are_kept(width, &ends, &values) {
+            return None;
+        }
+        Some(LabelRows {
+            width,
+            ends,
+            values,
+        })
+    }
+
+    /// What is kept of the rows, from which `from_kept` makes them again.
+    pub fn into_kept(self) -> (Vec<usize>, Vec<u32>)
+        ensures rows { self.rows ≡ rows_from self.width 0 result.0.items result.1.items }
+        ensures full { RowsFull self.width result.0.items result.1.items }
+    {
+        (self.ends, self.values)
+    }
+
     /// How many labels a row has.
     pub fn width(&self) -> usize
         ensures { result ≡ self.now.width }
@@ -70,30 +97,35 @@ impl LabelRows {
     ///
     /// Where there is no memory for the row, the rows stay as they were.
     pub fn push(&mut self, row: &[u32]) -> Result<(), AllocError>
-        requires { length row.now ≡ self.old.width }
+        requires wide { length row.now ≡ self.old.width }
+        requires room { length self.old.rows + 1 < 2 ^ 64 }
         ensures ok { OnOk result (self.new ≡ record { width = self.old.width; rows = self.old.rows ++ row.now ∷ [] }) }
         ensures err { OnErr result (self.new ≡ self.old) }
     {
-        let end = match self.rows().checked_add(1) {
-            Some(end) => end,
-            None => return Err(AllocError),
-        };
-        match self.ends.len().checked_sub(1) {
-            Some(last) if self.values.ends_with(row) => {
-                self.ends[last] = end;
-                Ok(())
-            }
-            _ => self.append(end, row),
-        }
+        self.push_many(row, 1)
     }
 
-    /// Keeps a row of its own, that stands for all rows from here up to an end.
-    fn append(&mut self, end: usize, row: &[u32]) -> Result<(), AllocError>
+    /// Adds a row after the others, so many times. It is kept once, and takes no memory if it equals the last
+    /// one.
+    ///
+    /// # Errors
+    ///
+    /// If there is no memory for the row, the rows stay as they were.
+    pub fn push_many(&mut self, row: &[u32], count: usize) -> Result<(), AllocError>
         requires wide { length row.now ≡ self.old.width }
-        requires more { length self.old.rows < end }
-        ensures ok { OnOk result (self.new ≡ record { width = self.old.width; rows = self.old.rows ++ replicate (end - length self.old.rows) row.now }) }
+        requires room { length self.old.rows + count < 2 ^ 64 }
+        ensures ok { OnOk result (self.new ≡ record { width = self.old.width; rows = self.old.rows ++ replicate count row.now }) }
         ensures err { OnErr result (self.new ≡ self.old) }
     {
+        if count == 0 {
+            return Ok(());
+        }
+        let end = self.rows() + count;
+        if end_with(&self.ends, &self.values, row) {
+            let last = self.ends.len() - 1;
+            self.ends[last] = end;
+            return Ok(());
+        }
         self.ends.reserve(1)?;
         self.values.extend_from_slice(row)?;
         self.ends.push(end)?;
@@ -112,7 +144,7 @@ impl LabelRows {
         }
     }
 
-    /// The rows as they are kept.
+    /// The rows as they are kept, of which no two neighbours are equal.
     pub fn kept(&self) -> KeptRows<'_>
         ensures width { result.width ≡ self.now.width }
         ensures rows { self.now.rows ≡ rows_from result.width 0 result.ends.now result.values.now }
@@ -124,6 +156,55 @@ impl LabelRows {
             values: self.values.as_slice(),
         }
     }
+}
+
+/// Whether there are kept rows, and their values end with those of a row.
+fn end_with(ends: &[usize], values: &[u32], row: &[u32]) -> bool
+    ensures yes { result ≡ true → EndsWith ends.now values.now row.now }
+    ensures no { result ≡ false → 0 < length ends.now → (front : List ℕ) → values.now ≢ front ++ row.now }
+{
+    !ends.is_empty() && values.ends_with(row)
+}
+
+/// Whether rows are kept by these ends and values.
+fn are_kept(width: usize, ends: &[usize], values: &[u32]) -> bool
+    ensures { Says result (RowsFull width ends.now values.now) }
+{
+    rise(ends)
+        && width.checked_mul(ends.len()) == Some(values.len())
+        && neighbours_differ(width, ends.len().saturating_sub(1), values)
+}
+
+/// Whether ends rise, from above 0.
+fn rise(ends: &[usize]) -> bool
+    ensures { result ≡ above_all 0 ends.now }
+{
+    let mut low = 0;
+    for end in ends {
+        if *end <= low {
+            return false;
+        }
+        low = *end;
+    }
+    true
+}
+
+/// Whether each of the first `count` rows differs from the one after it.
+fn neighbours_differ(width: usize, count: usize, values: &[u32]) -> bool
+    requires { width * count ≤ length values.now }
+    ensures { Says result (NeighboursDiffer width count values.now) }
+{
+    let mut rest = values;
+    let mut left = count;
+    'rows: while left > 0 {
+        let (row, others) = rest.split_at(width);
+        if others.starts_with(row) {
+            return false;
+        }
+        rest = others;
+        left -= 1;
+    }
+    true
 }
 
 /// Rows that are left to go through.
@@ -158,9 +239,10 @@ pub struct LabelRun<'a> {
 }
 
 impl<'a> LabelRuns<'a> {
-    /// The next rows, one or more that are equal; `None` behind the last.
+    /// The next rows that are equal: one or more, and all that follow each other. `None` after the last.
     pub fn next_run(&mut self) -> Option<LabelRun<'a>>
-        ensures { MatchOption result (self.old ≡ []) (λ run. (0 < run.rows) × (self.old ≡ replicate run.rows run.labels.now ++ self.new)) }
+        ensures run { MatchOption result (self.old ≡ []) (λ run. (0 < run.rows) × (self.old ≡ replicate run.rows run.labels.now ++ self.new)) }
+        ensures whole { IfSome result (λ run. (others : List (List ℕ)) → self.new ≢ run.labels.now ∷ others) }
     {
         let (end, ends) = self.ends.split_first()?;
         let (labels, values) = self.values.split_at(self.width);

@@ -6,7 +6,7 @@ use Rattle.pef_cert_text.proofs.printer.append_rows.Goals as goal
 
 pub loop-run-preserved : goal.loop-run-preserved
 loop-run-preserved c =
-    let parts = c.in-Some.ensures.1 in
+    let parts = c.in-Some.ensures.run.1 in
     let count = simp (length-append, length-replicate) at (ap length parts) in
     record {
       text = rows_text-more c.loop-run.at c.in-Some.run'.rows c.in-Some.run'.labels.now c.loop-run.text.items _ _ c.loop-run.runs c.next_run.new.self parts c.in_ok-append_run.ensures c.loop-run.invariant.text;

@@ -1,5 +1,5 @@
 -- The row that a turn reads is the next one.
-use Rattle.std.proofs.Common.{◌≡◌, ◌+◌, ◌-◌, ◌*◌, [], ◌∷◌, ◌++◌, List, ℕ, subst, ap, ◌∙◌, arith}
+use Rattle.std.proofs.Common.{◌≡◌, ◌+◌, ◌-◌, ◌*◌, [], ◌∷◌, ◌++◌, List, ℕ, length, length-append, subst, ap, ◌∙◌, arith}
 use Rattle.std.proofs.lemmas.Result.{err_from_is_err_and}
 use Rattle.pef_labels.specs.Rows.{LaidRows}
 use Rattle.pef_cert_text.specs.Grammar.{rows_read}
@@ -25,6 +25,7 @@ loop-at-preserved c =
       rows = ap (λ (rs : List (List ℕ)). rows_read width (c.loop-at.at + 1) (c.args.count - (c.loop-at.at + 1)) rs (left c.read_row.new.lines)) rows
           ∙ rows_read-step width c.loop-at.at c.args.count c.loop-at.labels.rows c.read_row.new.row.items (left c.loop-at.lines) (left c.read_row.new.lines) (omega arith) c.in_ok-read_row.ensures.takes
           ∙ c.loop-at.invariant.rows;
+      count = (let more = ap length rows in let sum = length-append c.loop-at.labels.rows (c.read_row.new.row.items ∷ []) in let so_far = c.loop-at.invariant.count in omega (arith, more, sum, so_far));
       width = ap (λ (l : LaidRows). l.width) pushed ∙ c.loop-at.invariant.width;
       no_more = omega (arith, c.in_ok-read_row.ensures.no_more);
     }

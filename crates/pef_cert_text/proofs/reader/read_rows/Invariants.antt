@@ -7,6 +7,7 @@ use Rattle.pef_cert_text.proofs.reader.read_rows.Given as goal
 abbrev pub invariant-loop-at : goal.invariant-loop-at
 invariant-loop-at l = record {
   rows : rows_read (l.classes * l.classes) l.at (l.count - l.at) l.labels.rows (left l.lines) ≡ rows_read (l.classes * l.classes) 0 l.count [] (left l.fn.lines);
+  count : length l.labels.rows ≡ l.at;
   width : l.labels.width ≡ l.classes * l.classes;
   no_more : length (left l.lines).text ≤ length (left l.fn.lines).text;
 }
