@@ -76,10 +76,9 @@ fn planned(
     script: &Script,
     section: u32,
 ) -> Result<Certificate, Fail> {
-    let sections = &script.parts().sections;
-    let described = sections.get(section as usize).ok_or("no such section")?;
-    assert!(rt; fixups_fit(&described.fixups));
-    Ok(plan(alloc, section, &described.fixups)?)
+    let fixups = script.fixups(section as usize).ok_or("no such section")?;
+    assert!(rt; fixups_fit(fixups));
+    Ok(plan(alloc, section, fixups)?)
 }
 
 /// Whether two certificates have the same parts.
