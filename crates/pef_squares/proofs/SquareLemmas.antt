@@ -1,9 +1,9 @@
 -- Squares as they are kept: how many there are, which stands at an index, and one more.
-use Rattle.std.proofs.Common.{◌≡◌, ℕ, zero, suc, ◌+◌, ◌-◌, ◌<◌, ◌≤◌, inl, inr, List, [], ◌∷◌, ◌++◌, length, replicate, None, Some, refl, ap, sym, ◌∙◌, arith, slice_index, slice_get, length-append, append_assoc}
+use Rattle.std.proofs.Common.{◌≡◌, ◌≢◌, ℕ, zero, suc, ◌+◌, ◌-◌, ◌<◌, ◌≤◌, inl, inr, List, [], ◌∷◌, ◌++◌, length, replicate, None, Some, refl, ap, sym, ◌∙◌, arith, slice_index, slice_get, length-append, append_assoc}
 use Rattle.std.specs.Prelude.{slice_index_or, slice_set}
 use Rattle.std.proofs.lemmas.Bool.Decides.{eqb_tells}
 use Rattle.std.proofs.lemmas.List.{append-nil, get_or-append_right, get_or-replicate, get_or_append_left, length-replicate, length-set, length_push, replicate-append-replicate}
-use Rattle.pef_squares.specs.Kept.SquaresKept.{PlaceOf, Rising, SquaresFull, last_end, squares_from}
+use Rattle.pef_squares.specs.Kept.SquaresKept.{NeighboursDiffer, PlaceOf, Rising, SquaresFull, last_end, squares_from}
 
 last_end-above : (low : ℕ) (ends : List ℕ) → Rising low ends → low ≤ last_end low ends
 last_end-above low [] up = omega arith
@@ -109,10 +109,19 @@ rising-push : (low end : ℕ) (ends : List ℕ) → Rising low ends → last_end
 rising-push low end [] up after = (after, tt)
 rising-push low end (x ∷ ends) up after = (up.0, rising-push x end ends up.1 after)
 
-pub full-push : (end : ℕ) (ends : List ℕ) (kept : List (List (List ℕ))) (q : List (List ℕ)) → SquaresFull ends kept → length (squares_from 0 ends kept) < end → SquaresFull (ends ++ end ∷ []) (kept ++ q ∷ [])
-full-push end ends kept q full after = record {
+differ-push : (kept : List (List (List ℕ))) (q : List (List ℕ)) → NeighboursDiffer kept → slice_get kept (length kept - 1) ≢ Some q → NeighboursDiffer (kept ++ q ∷ [])
+differ-push [] q differ other = tt
+differ-push (x ∷ []) q differ other = (λ same. other (ap Some same), tt)
+differ-push (x ∷ y ∷ kept) q differ other =
+    let more : length (x ∷ y ∷ kept) - 1 ≡ suc (length kept) = omega arith in
+    let fewer : length kept ≡ length (y ∷ kept) - 1 = omega arith in
+    (differ.0, differ-push (y ∷ kept) q differ.1 (λ there. other (ap (slice_get (x ∷ y ∷ kept)) more ∙ (ap (slice_get (y ∷ kept)) fewer ∙ there))))
+
+pub full-push : (end : ℕ) (ends : List ℕ) (kept : List (List (List ℕ))) (q : List (List ℕ)) → SquaresFull ends kept → length (squares_from 0 ends kept) < end → slice_get kept (length kept - 1) ≢ Some q → SquaresFull (ends ++ end ∷ []) (kept ++ q ∷ [])
+full-push end ends kept q full after other = record {
   rising = rising-push 0 end ends full.rising (let e = count_is ends kept full in omega (arith, after, e));
   full = length_push kept q ∙ (ap (λ n. n + 1) full.full ∙ sym (length_push ends end));
+  apart = differ-push kept q full.apart other;
 }
 
 pub pushed : (end : ℕ) (ends : List ℕ) (kept : List (List (List ℕ))) (q : List (List ℕ)) → SquaresFull ends kept → squares_from 0 (ends ++ end ∷ []) (kept ++ q ∷ []) ≡ squares_from 0 ends kept ++ replicate (end - length (squares_from 0 ends kept)) q
@@ -147,6 +156,7 @@ pub full-more : (end n : ℕ) (ends : List ℕ) (kept : List (List (List ℕ))) 
 full-more end n ends kept full count after = record {
   rising = rising-more 0 end n ends full.rising count (let e = count_is ends kept full in omega (arith, after, e));
   full = full.full ∙ sym (length-set ends n end);
+  apart = full.apart;
 }
 
 pub one_more : (end n : ℕ) (ends : List ℕ) (kept : List (List (List ℕ))) (q : List (List ℕ)) → SquaresFull ends kept → length ends ≡ suc n → end ≡ length (squares_from 0 ends kept) + 1 → slice_index_or kept n [] ≡ q → squares_from 0 (slice_set ends n end) kept ≡ squares_from 0 ends kept ++ q ∷ []

@@ -1,4 +1,4 @@
-ghost use Rattle.std.specs.Prelude.{◌≡◌, ◌-◌, ◌<◌, ◌++◌, ◌∷◌, [], OnErr, OnOk, length, replicate, slice_index_or};
+ghost use Rattle.std.specs.Prelude.{◌≡◌, ◌+◌, ◌-◌, ◌^◌, ◌<◌, ◌++◌, ◌∷◌, ◌↔◌, [], IsTrue, OnErr, OnOk, Some, length, slice_get, slice_index_or};
 ghost use Rattle.pef_squares.specs.Kept.SquaresKept.{PlaceOf, Rising, last_end};
 
 use crate::square::Square;
@@ -51,29 +51,16 @@ impl Squares {
     ///
     /// Where there is no memory for the square, the squares stay as they were.
     pub fn push(&mut self, square: &Square) -> Result<(), AllocError>
+        requires { length self.old + 1 < 2 ^ 64 }
         ensures ok { OnOk result (self.new ≡ self.old ++ square.now ∷ []) }
         ensures err { OnErr result (self.new ≡ self.old) }
     {
-        let end = match self.len().checked_add(1) {
-            Some(end) => end,
-            None => return Err(AllocError),
-        };
-        match self.kept.last() {
-            Some(last) if last == square => {
-                let newest = self.ends.len() - 1;
-                self.ends[newest] = end;
-                Ok(())
-            }
-            _ => self.append(end, square),
+        let end = self.len() + 1;
+        if is_last(&self.kept, square) {
+            let newest = self.ends.len() - 1;
+            self.ends[newest] = end;
+            return Ok(());
         }
-    }
-
-    /// Keeps a square of its own, that stands for all squares from here up to an end.
-    fn append(&mut self, end: usize, square: &Square) -> Result<(), AllocError>
-        requires { length self.old < end }
-        ensures ok { OnOk result (self.new ≡ self.old ++ replicate (end - length self.old) square.now) }
-        ensures err { OnErr result (self.new ≡ self.old) }
-    {
         self.ends.reserve(1)?;
         self.kept.push(*square)?;
         self.ends.push(end)?;
@@ -93,6 +80,16 @@ impl Squares {
             place_of(&self.ends, index)
         };
         &self.kept[place]
+    }
+}
+
+/// Whether the last of some squares equals a square.
+fn is_last(kept: &[Square], square: &Square) -> bool
+    ensures { IsTrue result ↔ (slice_get kept.now (length kept.now - 1) ≡ Some square.now) }
+{
+    match kept.last() {
+        Some(last) => last == square,
+        None => false,
     }
 }
 

@@ -1,5 +1,5 @@
 -- How squares are kept: each that differs from the one before it, and how many squares end with its last.
-use Rattle.std.specs.Prelude.{◌≡◌, ◌≤◌, ◌<◌, ℕ, ◌-◌, List, [], ◌∷◌, ◌++◌, length, replicate, slice_index}
+use Rattle.std.specs.Prelude.{◌≡◌, ◌≢◌, ◌≤◌, ◌<◌, ℕ, ◌-◌, List, [], ◌∷◌, ◌++◌, length, replicate, slice_index}
 
 -- the squares, from the kept ones on that begin behind so many squares
 abbrev pub squares_from : ℕ → List ℕ → List (List (List ℕ)) → List (List (List ℕ))
@@ -17,10 +17,17 @@ abbrev pub last_end : ℕ → List ℕ → ℕ
 last_end low [] = low
 last_end low (end ∷ ends) = last_end end ends
 
+-- each square differs from the one after it
+abbrev pub NeighboursDiffer : List (List (List ℕ)) → Type 0
+NeighboursDiffer [] = Unit {0}
+NeighboursDiffer (q ∷ []) = Unit {0}
+NeighboursDiffer (q ∷ r ∷ kept) = (q ≢ r) × NeighboursDiffer (r ∷ kept)
+
 -- what is true of kept squares
 pub record SquaresFull (ends : List ℕ) (kept : List (List (List ℕ))) : Type 0 where
   pub rising : Rising 0 ends
   pub full : length kept ≡ length ends
+  pub apart : NeighboursDiffer kept
 
 -- a kept square is the one at an index: the ends before it aren't behind the index, and its own is
 pub record PlaceOf (ends : List ℕ) (index place : ℕ) : Type 0 where

@@ -1,6 +1,7 @@
 use Rattle.std.proofs.Common.{◌≡◌, ◌∙◌, ◌+◌, ◌-◌, ◌++◌, ◌∷◌, List, ℕ, [], drop, length, take, refl, subst, sym, arith}
-use Rattle.std.proofs.lemmas.List.{drop_all, get_or_read}
+use Rattle.std.proofs.lemmas.List.{drop_all, get_or_read, length-drop}
 use Rattle.pef_reloc.specs.Deliveries.{index_after}
+use Rattle.pef_reloc.proofs.Laws.{fixups_fit-parts}
 use Rattle.pef_runs.specs.Ends.{EndsOf}
 use Rattle.pef_runs.specs.Tables.{SameLabels}
 use Rattle.pef_plan.specs.Kept.Tables.{Tabled}
@@ -54,6 +55,12 @@ skips_at-line-requires-clause-at c =
     fill-at c.args.fixups.now c.args.registers.now c.fixups.labels c.fixups.skips.items (c.fixups.at - 1) c.fixups.at _ _ c.state_at-state.result c.requires.fit c.requires.registers (omega (arith, t)) c.fixups.invariant.inside c.fixups.invariant.tabled
     (record { registers_are = refl; labels_are = refl; skips_are = c.deref.ensures.value })
     (record { left = e.left; parts = e.parts; others = e.others; import_index = e.import_index })
+
+pub push-requires-in-fixups : goal.push-requires-in-fixups
+push-requires-in-fixups c =
+    let few = (fixups_fit-parts c.args.fixups.now c.requires.fit).count in
+    let count = c.fixups.invariant.tabled.labels_count in
+    omega (arith, few, count, length-drop c.fixups.at c.args.fixups.now)
 
 pub fixups-preserved : goal.fixups-preserved
 fixups-preserved c =
