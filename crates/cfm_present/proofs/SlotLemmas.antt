@@ -1,31 +1,15 @@
--- Fragments in slots by their places in the store, each with its number.
-use Rattle.std.proofs.Common.{◌≡◌, ◌≢◌, ◌==◌, ◌+◌, ◌<◌, ℕ, zero, suc, Bool, true, false, List, [], ◌∷◌, ◌++◌, Option, None, Some, IfSome, cond, nat_lt, length, get_or, refl, sym, ap, ap₂, subst, ◌∙◌, inl, inr, arith}
+-- Fragments in slots by their places in the store, in the order in which they were placed.
+use Rattle.std.proofs.Common.{◌≡◌, ◌≢◌, ◌==◌, ◌<◌, ℕ, zero, suc, Bool, true, false, List, [], ◌∷◌, ◌++◌, Option, None, Some, cond, length, refl, sym, ap, ap₂, subst, ◌∙◌, inl, inr}
 use Rattle.std.specs.Borrow.{Bor}
 use Rattle.std.specs.Option.{is_some, option_copied}
 use Rattle.std.proofs.Math.ListN.{set}
-use Rattle.std.proofs.lemmas.Bool.Decides.{eqb_tells, nat_tests}
-use Rattle.std.proofs.lemmas.Bool.{cases_lt}
-use Rattle.std.proofs.lemmas.List.{append-nil, append_assoc, get_or-set_same}
-use Rattle.cfm_memory.specs.declared.place.Place.{Place}
+use Rattle.std.proofs.lemmas.Bool.Decides.{eqb_tells}
+use Rattle.std.proofs.lemmas.List.{get_or-set_other, get_or-set_same, map-append}
 use Rattle.cfm_present.specs.Fragments.{IsTaken, Present, is_present, places_of}
-use Rattle.cfm_present.specs.Kept.Slots.{AreNumbered, in_order, of_number, of_slot}
+use Rattle.cfm_present.specs.Lists.{IsOnce, has}
+use Rattle.cfm_present.specs.Kept.Slots.{AreSlots, IsRemoved, in_slot, in_slots, slot_at, slot_places}
 use Rattle.cfm_present.specs.declared.slots.Placed.{Placed}
-
--- what stands in a slot
-abbrev pub slot_at : List (Option Placed) → ℕ → Option Placed
-slot_at slots p = get_or slots p None
-
-abbrev is_of : ℕ → Option Placed → Bool
-is_of n None = false
-is_of n (Some f) = f.number == n
-
-abbrev is_below : ℕ → Option Placed → Bool
-is_below n None = false
-is_below n (Some f) = nat_lt f.number n
-
-abbrev pub slot_places : Option Placed → List Place
-slot_places None = []
-slot_places (Some f) = f.places.items
+use Rattle.cfm_present.proofs.ListLemmas.{has-first, has-later}
 
 -- fragments behind others
 pub present-append : (xs ys : List Present) (p : ℕ) → is_present (xs ++ ys) p ≡ cond (is_present xs p) true (is_present ys p)
@@ -45,308 +29,177 @@ places-append (x ∷ xs) ys p = go (x.position == p) (places-append xs ys p)
     go true same = refl
     go false same = same
 
--- one slot
-one-other : (q p : ℕ) (places : List Place) → p ≢ q → is_present ((record { position = q; places = places }) ∷ []) p ≡ false
-one-other q p places apart = elim (eqb_tells q p) [
-  | inl same ↦ absurd (apart (sym same.1))
-  | inr other ↦ rw other.0 refl
+-- numbers behind others
+has-append : (ps qs : List ℕ) (p : ℕ) → has (ps ++ qs) p ≡ cond (has ps p) true (has qs p)
+has-append [] qs p = refl
+has-append (q ∷ ps) qs p = go (q == p) (has-append ps qs p)
+  where
+    go : (b : Bool) → has (ps ++ qs) p ≡ cond (has ps p) true (has qs p) → cond b true (has (ps ++ qs) p) ≡ cond (cond b true (has ps p)) true (has qs p)
+    go true same = refl
+    go false same = same
+
+once-last : (ps : List ℕ) (p : ℕ) → IsOnce ps → has ps p ≡ false → IsOnce (ps ++ p ∷ [])
+once-last [] p once absent = (refl, tt)
+once-last (q ∷ ps) p once absent = elim (eqb_tells q p) [
+  | inl same ↦ (let wrong : true ≡ false = rw same.0 at absent in absurd (cc))
+  | inr other ↦ (
+      let later : has ps p ≡ false = rw other.0 at absent in
+      let only : has (p ∷ []) q ≡ false = elim (eqb_tells p q) [ inl same ↦ absurd (other.1 (sym same.1)) | inr apart ↦ rw apart.0 refl ] in
+      (has-append ps (p ∷ []) q ∙ ap₂ (λ a b. cond a true b) once.0 only, once-last ps p once.1 later))
 ]
 
-slot-other : (n q : ℕ) (s : Option Placed) (p : ℕ) → p ≢ q → is_present (of_slot n q s) p ≡ false
-slot-other n q None p apart = refl
-slot-other n q (Some f) p apart = go (f.number == n)
-  where
-    go : (b : Bool) → is_present (cond b ((record { position = q; places = f.places.items }) ∷ []) []) p ≡ false
-    go true = one-other q p f.places.items apart
-    go false = refl
+-- a number between others
+swapped : (a b c : Bool) → cond a true (cond b true c) ≡ cond b true (cond a true c)
+swapped true true c = refl
+swapped true false c = refl
+swapped false b c = refl
 
-same-number : (q : ℕ) → (q == q) ≡ true
-same-number q = elim (eqb_tells q q) [ inl same ↦ same.0 | inr other ↦ absurd (other.1 refl) ]
+has-between : (front back : List ℕ) (p q : ℕ) → has (front ++ p ∷ back) q ≡ cond (p == q) true (has (front ++ back) q)
+has-between [] back p q = refl
+has-between (r ∷ front) back p q = ap (λ b. cond (r == q) true b) (has-between front back p q) ∙ swapped (r == q) (p == q) (has (front ++ back) q)
 
-slot-here : (n q : ℕ) (s : Option Placed) → is_present (of_slot n q s) q ≡ is_of n s
-slot-here n q None = refl
-slot-here n q (Some f) = go (f.number == n)
-  where
-    go : (b : Bool) → is_present (cond b ((record { position = q; places = f.places.items }) ∷ []) []) q ≡ b
-    go true = rw (same-number q) refl
-    go false = refl
+-- what was between others once isn't among them
+record IsOut (p : ℕ) (ps : List ℕ) : Type 0 where
+  pub gone : has ps p ≡ false
+  pub once : IsOnce ps
 
-slot-places : (n q : ℕ) (s : Option Placed) → places_of (of_slot n q s) q ≡ cond (is_of n s) (slot_places s) []
-slot-places n q None = refl
-slot-places n q (Some f) = go (f.number == n)
-  where
-    go : (b : Bool) → places_of (cond b ((record { position = q; places = f.places.items }) ∷ []) []) q ≡ cond b f.places.items []
-    go true = rw (same-number q) refl
-    go false = refl
+once-without : (front back : List ℕ) (p : ℕ) → IsOnce (front ++ p ∷ back) → IsOut p (front ++ back)
+once-without [] back p once = record { gone = once.0; once = once.1 }
+once-without (q ∷ front) back p once =
+    let rest = once-without front back p once.1 in
+    let between : cond (p == q) true (has (front ++ back) q) ≡ false = sym (has-between front back p q) ∙ once.0 in
+    elim (eqb_tells p q) [
+      | inl same ↦ (let wrong : true ≡ false = rw same.0 at between in absurd (cc))
+      | inr other ↦ (
+          let none : has (front ++ back) q ≡ false = rw other.0 at between in
+          record {
+            gone = elim (eqb_tells q p) [ inl same ↦ absurd (other.1 (sym same.1)) | inr apart ↦ rw apart.0 rest.gone ];
+            once = (none, rest.once);
+          })
+    ]
 
--- the slots from a place on have none below it
-none-below : (n q p : ℕ) (slots : List (Option Placed)) → p < q → is_present (of_number n q slots) p ≡ false
-none-below n q p [] low = refl
-none-below n q p (s ∷ slots) low =
-    present-append (of_slot n q s) (of_number n (q + 1) slots) p
-    ∙ ap₂ (λ a b. cond a true b) (slot-other n q s p (λ e. absurd (omega (arith, e, low)))) (none-below n (q + 1) p slots (omega (arith, low)))
+-- the fragments of some places are of these
+pub seen-present : (slots : List (Option Placed)) (order : List ℕ) (p : ℕ) → is_present (in_slots slots order) p ≡ has order p
+seen-present slots [] p = refl
+seen-present slots (q ∷ order) p = ap (λ b. cond (q == p) true b) (seen-present slots order p)
 
-either-none : (b : Bool) → cond b true false ≡ b
-either-none true = refl
-either-none false = refl
-
--- the fragment of a number at a place
-number-present : (n q p i : ℕ) (slots : List (Option Placed)) → p ≡ q + i → is_present (of_number n q slots) p ≡ is_of n (slot_at slots i)
-number-present n q p i [] is = refl
-number-present n q p zero (s ∷ slots) is =
-    let here : p ≡ q = omega (arith, is) in
-    present-append (of_slot n q s) (of_number n (q + 1) slots) p
-    ∙ ap₂ (λ a b. cond a true b) (ap (is_present (of_slot n q s)) here ∙ slot-here n q s) (none-below n (q + 1) p slots (omega (arith, here)))
-    ∙ either-none (is_of n s)
-number-present n q p (suc i) (s ∷ slots) is =
-    present-append (of_slot n q s) (of_number n (q + 1) slots) p
-    ∙ ap₂ (λ a b. cond a true b) (slot-other n q s p (λ e. absurd (omega (arith, e, is)))) (number-present n (q + 1) p i slots (omega (arith, is)))
-
-places-none : (fs : List Present) (p : ℕ) → is_present fs p ≡ false → places_of fs p ≡ []
-places-none [] p none = refl
-places-none (f ∷ fs) p none = elim (eqb_tells f.position p) [
-  | inl same ↦ (let wrong : true ≡ false = rw same.0 at none in absurd (cc))
-  | inr other ↦ (let rest : is_present fs p ≡ false = rw other.0 at none in rw other.0 (places-none fs p rest))
+seen-places : (slots : List (Option Placed)) (order : List ℕ) (p : ℕ) → places_of (in_slots slots order) p ≡ cond (has order p) (slot_places (slot_at slots p)) []
+seen-places slots [] p = refl
+seen-places slots (q ∷ order) p = elim (eqb_tells q p) [
+  | inl same ↦ rw same.0 (ap (λ r. slot_places (slot_at slots r)) same.1)
+  | inr other ↦ rw other.0 (seen-places slots order p)
 ]
-
-first-or-none : (b : Bool) (ps : List Place) → cond b (cond b ps []) [] ≡ cond b ps []
-first-or-none true ps = refl
-first-or-none false ps = refl
-
-number-places : (n q p i : ℕ) (slots : List (Option Placed)) → p ≡ q + i → places_of (of_number n q slots) p ≡ cond (is_of n (slot_at slots i)) (slot_places (slot_at slots i)) []
-number-places n q p i [] is = refl
-number-places n q p zero (s ∷ slots) is =
-    let here : p ≡ q = omega (arith, is) in
-    let P : ℕ → Type 0 = λ k. places_of (of_slot n q s) k ≡ cond (is_of n s) (slot_places s) [] in
-    let rest : places_of (of_number n (q + 1) slots) p ≡ [] = places-none (of_number n (q + 1) slots) p (none-below n (q + 1) p slots (omega (arith, here))) in
-    places-append (of_slot n q s) (of_number n (q + 1) slots) p
-    ∙ ap (λ b. cond b (places_of (of_slot n q s) p) (places_of (of_number n (q + 1) slots) p)) (ap (is_present (of_slot n q s)) here ∙ slot-here n q s)
-    ∙ ap₂ (λ xs ys. cond (is_of n s) xs ys) (subst P (sym here) (slot-places n q s)) rest
-    ∙ first-or-none (is_of n s) (slot_places s)
-number-places n q p (suc i) (s ∷ slots) is =
-    places-append (of_slot n q s) (of_number n (q + 1) slots) p
-    ∙ ap (λ b. cond b (places_of (of_slot n q s) p) (places_of (of_number n (q + 1) slots) p)) (slot-other n q s p (λ e. absurd (omega (arith, e, is))))
-    ∙ number-places n (q + 1) p i slots (omega (arith, is))
-
--- the fragment at a place, of the numbers below another
-below-none : (s : Option Placed) → false ≡ is_below 0 s
-below-none None = refl
-below-none (Some f) = grind (arith, nat_tests)
-
-below-next : (m : ℕ) (s : Option Placed) → cond (is_below m s) true (is_of m s) ≡ is_below (suc m) s
-below-next m None = refl
-below-next m (Some f) = grind (arith, nat_tests)
-
-order-below : (m : ℕ) (slots : List (Option Placed)) (p : ℕ) → is_present (in_order m slots) p ≡ is_below m (slot_at slots p)
-order-below zero slots p = below-none (slot_at slots p)
-order-below (suc m) slots p =
-    present-append (in_order m slots) (of_number m 0 slots) p
-    ∙ ap₂ (λ a b. cond a true b) (order-below m slots p) (number-present m 0 p p slots (omega arith))
-    ∙ below-next m (slot_at slots p)
-
-one-of : (a b : Bool) (ps : List Place) → cond a (cond a ps []) (cond b ps []) ≡ cond (cond a true b) ps []
-one-of true b ps = refl
-one-of false b ps = refl
-
-order-places : (m : ℕ) (slots : List (Option Placed)) (p : ℕ) → places_of (in_order m slots) p ≡ cond (is_below m (slot_at slots p)) (slot_places (slot_at slots p)) []
-order-places zero slots p = ap (λ b. cond b (slot_places (slot_at slots p)) []) (below-none (slot_at slots p))
-order-places (suc m) slots p =
-    let s = slot_at slots p in
-    places-append (in_order m slots) (of_number m 0 slots) p
-    ∙ ap (λ b. cond b (places_of (in_order m slots) p) (places_of (of_number m 0 slots) p)) (order-below m slots p)
-    ∙ ap₂ (λ xs ys. cond (is_below m s) xs ys) (order-places m slots p) (number-places m 0 p p slots (omega arith))
-    ∙ one-of (is_below m s) (is_of m s) (slot_places s)
-    ∙ ap (λ b. cond b (slot_places s) []) (below-next m s)
-
--- all have numbers below the next
-pub numbered-at : (n : ℕ) (slots : List (Option Placed)) (i : ℕ) → AreNumbered n slots → IfSome (slot_at slots i) (λ f. f.number < n)
-numbered-at n [] i numbered = tt
-numbered-at n (s ∷ slots) zero numbered = numbered.0
-numbered-at n (s ∷ slots) (suc i) numbered = numbered-at n slots i numbered.1
-
-some-below : (n : ℕ) (s : Option Placed) → IfSome s (λ f. f.number < n) → is_below n s ≡ is_some s
-some-below n None low = refl
-some-below n (Some f) low = grind (arith, nat_tests)
-
-pub order-present : (n : ℕ) (slots : List (Option Placed)) (p : ℕ) → AreNumbered n slots → is_present (in_order n slots) p ≡ is_some (slot_at slots p)
-order-present n slots p numbered = order-below n slots p ∙ some-below n (slot_at slots p) (numbered-at n slots p numbered)
 
 some-places : (s : Option Placed) → cond (is_some s) (slot_places s) [] ≡ slot_places s
 some-places None = refl
 some-places (Some f) = refl
 
-pub order-lies : (n : ℕ) (slots : List (Option Placed)) (p : ℕ) → AreNumbered n slots → places_of (in_order n slots) p ≡ slot_places (slot_at slots p)
-order-lies n slots p numbered =
+pub kept-present : (slots : List (Option Placed)) (order : List ℕ) (p : ℕ) → AreSlots slots order → is_present (in_slots slots order) p ≡ is_some (slot_at slots p)
+kept-present slots order p are = seen-present slots order p ∙ are.listed p
+
+pub kept-places : (slots : List (Option Placed)) (order : List ℕ) (p : ℕ) → AreSlots slots order → places_of (in_slots slots order) p ≡ slot_places (slot_at slots p)
+kept-places slots order p are =
     let s = slot_at slots p in
-    order-places n slots p ∙ ap (λ b. cond b (slot_places s) []) (some-below n s (numbered-at n slots p numbered)) ∙ some-places s
+    seen-places slots order p ∙ ap (λ b. cond b (slot_places s) []) (are.listed p) ∙ some-places s
 
--- a slot with another content
-replaced-same : (k q p i : ℕ) (slots : List (Option Placed)) (v : Option Placed) → p ≡ q + i → of_slot k p v ≡ of_slot k p (slot_at slots i) → of_number k q (set slots i v) ≡ of_number k q slots
-replaced-same k q p i [] v is same = refl
-replaced-same k q p zero (s ∷ slots) v is same =
-    let here : p ≡ q = omega (arith, is) in
-    let P : ℕ → Type 0 = λ r. of_slot k r v ≡ of_slot k r s in
-    ap (λ xs. xs ++ of_number k (q + 1) slots) (subst P here same)
-replaced-same k q p (suc i) (s ∷ slots) v is same = ap (λ xs. of_slot k q s ++ xs) (replaced-same k (q + 1) p i slots v (omega (arith, is)) same)
+-- other slots with the same in these places
+pub seen-same : (slots slots' : List (Option Placed)) (order : List ℕ) → ((p : ℕ) → has order p ≡ true → slot_at slots p ≡ slot_at slots' p) → in_slots slots order ≡ in_slots slots' order
+seen-same slots slots' [] same = refl
+seen-same slots slots' (q ∷ order) same =
+    let here : in_slot slots q ≡ in_slot slots' q = ap (λ s. record { position = q; places = slot_places s }) (same q (has-first q order)) in
+    ap₂ (λ x (xs : List Present). x ∷ xs) here (seen-same slots slots' order (λ p there. same p (has-later q order p there)))
 
-order-same : (m : ℕ) (slots : List (Option Placed)) (p : ℕ) (v : Option Placed) → ((k : ℕ) → k < m → of_slot k p v ≡ of_slot k p (slot_at slots p)) → in_order m (set slots p v) ≡ in_order m slots
-order-same zero slots p v same = refl
-order-same (suc m) slots p v same =
-    ap₂ (λ xs ys. xs ++ ys) (order-same m slots p v (λ k low. same k (omega (arith, low)))) (replaced-same m 0 p p slots v (omega arith) (same m (omega arith)))
+-- a place that isn't among some is none of them
+apart : (order : List ℕ) (p q : ℕ) → has order p ≡ false → has order q ≡ true → q ≢ p
+apart order p q absent there same = let wrong : true ≡ false = sym there ∙ ap (has order) same ∙ absent in absurd (cc)
 
-record Around (k q p i : ℕ) (slots : List (Option Placed)) (v : Option Placed) : Type 0 where
-  pub front : List Present
-  pub back : List Present
-  pub was : of_number k q slots ≡ front ++ (of_slot k p (slot_at slots i) ++ back)
-  pub is : of_number k q (set slots i v) ≡ front ++ (of_slot k p v ++ back)
+slot-other : (slots : List (Option Placed)) (order : List ℕ) (p q : ℕ) (v : Option Placed) → has order p ≡ false → has order q ≡ true → slot_at (set slots p v) q ≡ slot_at slots q
+slot-other slots order p q v absent there = get_or-set_other slots p q v None (apart order p q absent there)
 
--- what stands behind another list
-joined : (head all front rest : List Present) → all ≡ front ++ rest → head ++ all ≡ (head ++ front) ++ rest
-joined head all front rest is = ap (λ xs. head ++ xs) is ∙ sym (append_assoc head front rest)
+not_either : (b : Bool) → cond b true false ≡ b
+not_either true = refl
+not_either false = refl
 
-around : (k q p i : ℕ) (slots : List (Option Placed)) (v : Option Placed) → p ≡ q + i → i < length slots → Around k q p i slots v
-around k q p i [] v is under = absurd (omega (arith, under))
-around k q p zero (s ∷ slots) v is under =
-    let here : q ≡ p = omega (arith, is) in
-    record {
-      front = [];
-      back = of_number k (q + 1) slots;
-      was = ap (λ r. of_slot k r s ++ of_number k (q + 1) slots) here;
-      is = ap (λ r. of_slot k r v ++ of_number k (q + 1) slots) here;
+module _ (slots : List (Option Placed)) (order : List ℕ) (p : ℕ) (f : Placed) (are : AreSlots slots order) (under : p < length slots) where
+  -- a fragment is put behind the others
+  module _ (absent : has order p ≡ false) where
+    pub put-last : in_slots (set slots p (Some f)) (order ++ p ∷ []) ≡ in_slots slots order ++ (record { position = p; places = f.places.items }) ∷ []
+    put-last =
+        let others = seen-same (set slots p (Some f)) slots order (λ q there. slot-other slots order p q (Some f) absent there) in
+        let own : in_slot (set slots p (Some f)) p ≡ record { position = p; places = f.places.items } = ap (λ s. record { position = p; places = slot_places s }) (get_or-set_same slots p (Some f) None under) in
+        map-append (in_slot (set slots p (Some f))) order (p ∷ []) ∙ ap₂ (λ (xs ys : List Present). xs ++ ys) others (ap (λ x. x ∷ []) own)
+
+    pub put-slots : AreSlots (set slots p (Some f)) (order ++ p ∷ [])
+    put-slots = record {
+      once = once-last order p are.once absent;
+      listed = λ q. has-append order (p ∷ []) q ∙ listed q;
     }
-around k q p (suc i) (s ∷ slots) v is under =
-    let a = around k (q + 1) p i slots v (omega (arith, is)) (omega (arith, under)) in
-    record {
-      front = of_slot k q s ++ a.front;
-      back = a.back;
-      was = joined (of_slot k q s) (of_number k (q + 1) slots) a.front (of_slot k p (slot_at slots i) ++ a.back) a.was;
-      is = joined (of_slot k q s) (of_number k (q + 1) (set slots i v)) a.front (of_slot k p v ++ a.back) a.is;
+      where
+        all : (b : Bool) → cond b true true ≡ true
+        all true = refl
+        all false = refl
+
+        listed : (q : ℕ) → cond (has order q) true (has (p ∷ []) q) ≡ is_some (slot_at (set slots p (Some f)) q)
+        listed q = elim (eqb_tells p q) [
+          | inl same ↦ (let P : ℕ → Type 0 = λ q. is_some (slot_at (set slots p (Some f)) q) ≡ true in
+              rw same.0 (all (has order q) ∙ sym (subst P same.1 (ap is_some (get_or-set_same slots p (Some f) None under)))))
+          | inr other ↦ rw other.0 (not_either (has order q) ∙ are.listed q ∙ ap is_some (sym (get_or-set_other slots p q (Some f) None (λ e. absurd (other.1 (sym e))))))
+        ]
+
+  -- a fragment is taken out from between the others
+  module _ (now : List ℕ) (removed : IsRemoved order now p) where
+    out : IsOut p (removed.front ++ removed.back)
+    out = once-without removed.front removed.back p (subst IsOnce removed.was are.once)
+
+    pub taken-out : slot_at slots p ≡ Some f → IsTaken (in_slots slots order) (in_slots (set slots p None) now) p f.places.items
+    taken-out here =
+        let front = in_slots slots removed.front in
+        let back = in_slots slots removed.back in
+        let own : in_slot slots p ≡ record { position = p; places = f.places.items } = ap (λ s. record { position = p; places = slot_places s }) here in
+        record {
+          front = front;
+          back = back;
+          was = ap (in_slots slots) removed.was ∙ map-append (in_slot slots) removed.front (p ∷ removed.back) ∙ ap (λ x. front ++ x ∷ back) own;
+          is = ap (in_slots (set slots p None)) removed.is
+              ∙ seen-same (set slots p None) slots (removed.front ++ removed.back) (λ q there. slot-other slots (removed.front ++ removed.back) p q None out.gone there)
+              ∙ map-append (in_slot slots) removed.front removed.back;
+          gone = seen-present (set slots p None) now p ∙ ap (λ qs. has qs p) removed.is ∙ out.gone;
+        }
+
+    pub taken-slots : AreSlots (set slots p None) now
+    taken-slots = record {
+      once = subst IsOnce (sym removed.is) out.once;
+      listed = λ q. ap (λ qs. has qs q) removed.is ∙ listed q;
     }
-
--- a slot's fragment is of its own number alone
-of-other : (k p : ℕ) (f : Placed) → f.number ≢ k → of_slot k p (Some f) ≡ []
-of-other k p f apart = elim (eqb_tells f.number k) [
-  | inl same ↦ absurd (apart same.1)
-  | inr other ↦ rw other.0 refl
-]
-
-of-own : (k p : ℕ) (f : Placed) → f.number ≡ k → of_slot k p (Some f) ≡ (record { position = p; places = f.places.items }) ∷ []
-of-own k p f own = elim (eqb_tells f.number k) [
-  | inl same ↦ rw same.0 refl
-  | inr other ↦ absurd (other.1 own)
-]
-
--- none has the next number
-none-next : (n q : ℕ) (slots : List (Option Placed)) → AreNumbered n slots → of_number n q slots ≡ []
-none-next n q [] numbered = refl
-none-next n q (None ∷ slots) numbered = none-next n (q + 1) slots numbered.1
-none-next n q (Some f ∷ slots) numbered =
-    ap₂ (λ (xs ys : List Present). xs ++ ys) (of-other n q f (λ e. absurd (omega (arith, e, numbered.0)))) (none-next n (q + 1) slots numbered.1)
-
-both-none : (xs ys : List Present) → xs ++ ys ≡ [] → (xs ≡ []) × (ys ≡ [])
-both-none [] ys none = (refl, none)
-both-none (x ∷ xs) ys none = absurd (cc)
-
--- a fragment with the next number comes last
-pub put-last : (n : ℕ) (slots : List (Option Placed)) (p : ℕ) (f : Placed) → AreNumbered n slots → p < length slots → slot_at slots p ≡ None → f.number ≡ n
-    → in_order (n + 1) (set slots p (Some f)) ≡ in_order n slots ++ (record { position = p; places = f.places.items }) ∷ []
-put-last n slots p f numbered under none own =
-    let a = around n 0 p p slots (Some f) (omega arith) under in
-    let was : a.front ++ (of_slot n p (slot_at slots p) ++ a.back) ≡ [] = sym a.was ∙ none-next n 0 slots numbered in
-    let empty : a.front ++ a.back ≡ [] = ap (λ s. a.front ++ (of_slot n p s ++ a.back)) (sym none) ∙ was in
-    let parts = both-none a.front a.back empty in
-    let one : of_number n 0 (set slots p (Some f)) ≡ (record { position = p; places = f.places.items }) ∷ [] =
-    a.is ∙ ap₂ (λ xs ys. xs ++ (of_slot n p (Some f) ++ ys)) parts.0 parts.1 ∙ append-nil (of_slot n p (Some f)) ∙ of-own n p f own in
-    let others = order-same n slots p (Some f) (λ k low. of-other k p f (λ e. absurd (omega (arith, e, own, low))) ∙ ap (of_slot k p) (sym none)) in
-    let next : n + 1 ≡ suc n = omega arith in
-    ap (λ m. in_order m (set slots p (Some f))) next ∙ ap₂ (λ (xs ys : List Present). xs ++ ys) others one
-
--- a fragment is taken out of its order
-record Split (fs now : List Present) (x : Present) : Type 0 where
-  pub front : List Present
-  pub back : List Present
-  pub was : fs ≡ front ++ x ∷ back
-  pub is : now ≡ front ++ back
-
-split : (m : ℕ) (slots : List (Option Placed)) (p : ℕ) (f : Placed) → f.number < m → p < length slots → slot_at slots p ≡ Some f
-    → Split (in_order m slots) (in_order m (set slots p None)) (record { position = p; places = f.places.items })
-split zero slots p f low under here = absurd (omega (arith, low))
-split (suc m) slots p f low under here =
-    let x : Present = record { position = p; places = f.places.items } in
-    elim (cases_lt f.number m) [
-      | inl less ↦ (
-          let s = split m slots p f less under here in
-          let rest = of_number m 0 slots in
-          let same : of_number m 0 (set slots p None) ≡ rest = replaced-same m 0 p p slots None (omega arith) (sym (ap (of_slot m p) here ∙ of-other m p f (λ e. absurd (omega (arith, e, less))))) in
-          record {
-            front = s.front;
-            back = s.back ++ rest;
-            was = ap (λ xs. xs ++ rest) s.was ∙ append_assoc s.front (x ∷ s.back) rest;
-            is = ap₂ (λ xs ys. xs ++ ys) s.is same ∙ append_assoc s.front s.back rest;
-          }
-          )
-      | inr le ↦ (
-          let own : f.number ≡ m = omega (arith, le, low) in
-          let a = around m 0 p p slots None (omega arith) under in
-          let before = in_order m slots in
-          let same : in_order m (set slots p None) ≡ before = order-same m slots p None (λ k below. sym (ap (of_slot k p) here ∙ of-other k p f (λ e. absurd (omega (arith, e, own, below))))) in
-          let was : of_number m 0 slots ≡ a.front ++ x ∷ a.back = a.was ∙ ap (λ ys. a.front ++ (ys ++ a.back)) (ap (of_slot m p) here ∙ of-own m p f own) in
-          record {
-            front = before ++ a.front;
-            back = a.back;
-            was = joined before (of_number m 0 slots) a.front (x ∷ a.back) was;
-            is = ap₂ (λ xs ys. xs ++ ys) same a.is ∙ sym (append_assoc before a.front a.back);
-          }
-          )
-    ]
-
-is-below : (n : ℕ) (s : Option Placed) (f : Placed) → s ≡ Some f → IfSome s (λ f. f.number < n) → f.number < n
-is-below n s f is low = let P : Option Placed → Type 0 = λ o. IfSome o (λ f. f.number < n) in subst P is low
-
-pub taken-out : (n : ℕ) (slots : List (Option Placed)) (p : ℕ) (f : Placed) → AreNumbered n slots → p < length slots → slot_at slots p ≡ Some f
-    → IsTaken (in_order n slots) (in_order n (set slots p None)) p f.places.items
-taken-out n slots p f numbered under here =
-    let s = split n slots p f (is-below n (slot_at slots p) f here (numbered-at n slots p numbered)) under here in
-    record {
-      front = s.front;
-      back = s.back;
-      was = s.was;
-      is = s.is;
-      gone = order-below n (set slots p None) p ∙ ap (is_below n) (get_or-set_same slots p None None under);
-    }
-
--- the numbers stay below the next
-pub numbered-set : (n : ℕ) (slots : List (Option Placed)) (i : ℕ) (v : Option Placed) → AreNumbered n slots → IfSome v (λ f. f.number < n) → AreNumbered n (set slots i v)
-numbered-set n [] i v numbered low = tt
-numbered-set n (s ∷ slots) zero v numbered low = (low, numbered.1)
-numbered-set n (s ∷ slots) (suc i) v numbered low = (numbered.0, numbered-set n slots i v numbered.1 low)
-
-more-some : (n : ℕ) (s : Option Placed) → IfSome s (λ f. f.number < n) → IfSome s (λ f. f.number < n + 1)
-more-some n None low = tt
-more-some n (Some f) low = omega (arith, low)
-
-pub numbered-more : (n : ℕ) (slots : List (Option Placed)) → AreNumbered n slots → AreNumbered (n + 1) slots
-numbered-more n [] numbered = tt
-numbered-more n (s ∷ slots) numbered = (more-some n s numbered.0, numbered-more n slots numbered.1)
+      where
+        listed : (q : ℕ) → has (removed.front ++ removed.back) q ≡ is_some (slot_at (set slots p None) q)
+        listed q = elim (eqb_tells p q) [
+          | inl same ↦ (let P : ℕ → Type 0 = λ q. has (removed.front ++ removed.back) q ≡ is_some (slot_at (set slots p None) q) in
+              subst P same.1 (out.gone ∙ sym (ap is_some (get_or-set_same slots p None None under))))
+          | inr other ↦ (
+              let between : has order q ≡ has (removed.front ++ removed.back) q = ap (λ qs. has qs q) removed.was ∙ has-between removed.front removed.back p q ∙ ap (λ b. cond b true (has (removed.front ++ removed.back) q)) other.0 in
+              sym between ∙ are.listed q ∙ ap is_some (sym (get_or-set_other slots p q None None (λ e. absurd (other.1 (sym e))))))
+        ]
 
 -- one slot more, with nothing in it
-pub numbered-grown : (n : ℕ) (slots : List (Option Placed)) → AreNumbered n slots → AreNumbered n (slots ++ None ∷ [])
-numbered-grown n [] numbered = (tt, tt)
-numbered-grown n (s ∷ slots) numbered = (numbered.0, numbered-grown n slots numbered.1)
+pub slot-grown : (slots : List (Option Placed)) (p : ℕ) → slot_at (slots ++ None ∷ []) p ≡ slot_at slots p
+slot-grown [] zero = refl
+slot-grown [] (suc p) = refl
+slot-grown (s ∷ slots) zero = refl
+slot-grown (s ∷ slots) (suc p) = slot-grown slots p
 
-number-grown : (k q : ℕ) (slots : List (Option Placed)) → of_number k q (slots ++ None ∷ []) ≡ of_number k q slots
-number-grown k q [] = refl
-number-grown k q (s ∷ slots) = ap (λ xs. of_slot k q s ++ xs) (number-grown k (q + 1) slots)
+-- slots with the same in them have the same fragments
+pub same-slots : (slots slots' : List (Option Placed)) (order : List ℕ) → ((p : ℕ) → slot_at slots' p ≡ slot_at slots p) → AreSlots slots order → AreSlots slots' order
+same-slots slots slots' order same are = record { once = are.once; listed = λ p. are.listed p ∙ ap is_some (sym (same p)) }
 
-pub order-grown : (m : ℕ) (slots : List (Option Placed)) → in_order m (slots ++ None ∷ []) ≡ in_order m slots
-order-grown zero slots = refl
-order-grown (suc m) slots = ap₂ (λ (xs ys : List Present). xs ++ ys) (order-grown m slots) (number-grown m 0 slots)
+-- an empty slot stays so
+pub slot-emptied : (slots : List (Option Placed)) (p q : ℕ) → slot_at slots p ≡ None → p < length slots → slot_at (set slots p None) q ≡ slot_at slots q
+slot-emptied slots p q none under = elim (eqb_tells q p) [
+  | inl same ↦ (let P : ℕ → Type 0 = λ q. slot_at (set slots p None) q ≡ slot_at slots q in subst P (sym same.1) (get_or-set_same slots p None None under ∙ sym none))
+  | inr other ↦ get_or-set_other slots p q None None (λ e. absurd (other.1 e))
+]
 
 -- a slot that is seen through a reference
 pub seen-some : (r : Option (Bor Placed)) → is_some r ≡ is_some (option_copied r)
 seen-some None = refl
 seen-some (Some x) = refl
-
--- an empty slot stays so
-pub order-emptied : (n : ℕ) (slots : List (Option Placed)) (p : ℕ) → slot_at slots p ≡ None → in_order n (set slots p None) ≡ in_order n slots
-order-emptied n slots p none = order-same n slots p None (λ k low. ap (of_slot k p) (sym none))

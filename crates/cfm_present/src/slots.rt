@@ -1,7 +1,8 @@
-ghost use Rattle.std.specs.Prelude.{◌≡◌, ◌<◌, ◌++◌, ℕ, length, [], ◌∷◌, false, IfOk, IfSome, None, OnOk, slice_index_or};
+ghost use Rattle.std.specs.Prelude.{◌≡◌, ◌<◌, ◌++◌, ℕ, length, [], ◌∷◌, false, true, IfOk, IfSome, None, OnOk, slice_index_or};
 ghost use Rattle.std.specs.Option.{IfNone, option_copied};
 ghost use Rattle.cfm_present.specs.Fragments.{IsTaken, is_present, new_among, places_of};
-ghost use Rattle.cfm_present.specs.Kept.Slots.{AreNumbered, HasRoom, in_order};
+ghost use Rattle.cfm_present.specs.Lists.{has};
+ghost use Rattle.cfm_present.specs.Kept.Slots.{HasRoom, IsRemoved, slot_at};
 
 use cfm_memory::Place;
 use std::alloc::{AllocError, Global};
@@ -10,8 +11,6 @@ use std::marker::Model;
 /// A fragment that has a place in memory.
 #[derive(Drop)]
 pub(crate) struct Placed {
-    /// How many were placed before it.
-    number: u64,
     /// Where its instantiated sections lie, in order.
     places: Vec<Place>,
 }
@@ -20,19 +19,20 @@ pub(crate) struct Placed {
 #[derive(Drop)]
 pub(crate) struct Slots {
     slots: Vec<Option<Placed>>,
-    /// How many were placed so far. Contracts have the fragments in the order in which they were placed.
-    next: u64,
+    /// The places of those that are present, in the order in which they were placed. Contracts have the fragments in
+    /// this order.
+    order: Vec<usize>,
 }
 
 impl Model for Slots {
-    ghost use Rattle.std.specs.Prelude.{◌-◌, ◌^◌, length};
-    ghost use Rattle.cfm_present.specs.Kept.Slots.{AreNumbered, Table, in_order};
+    ghost use Rattle.std.specs.Prelude.{◌-◌, length, vec_capacity, vec_len};
+    ghost use Rattle.cfm_present.specs.Kept.Slots.{AreSlots, Table, in_slots};
 
     ghost Value = { Table };
 
-    ghost view = { λ f. record { items = in_order f.next f.slots.items; room = length f.slots.items; left = 2 ^ 64 - 1 - f.next } };
+    ghost view = { λ f. record { items = in_slots f.slots.items f.order.items; room = length f.slots.items; left = vec_capacity f.order - vec_len f.order } };
 
-    ghost invariant = { λ f. AreNumbered f.next f.slots.items };
+    ghost invariant = { λ f. AreSlots f.slots.items f.order.items };
 }
 
 impl Slots {
@@ -42,7 +42,7 @@ impl Slots {
     {
         Slots {
             slots: Vec::new(alloc),
-            next: 0,
+            order: Vec::new(alloc),
         }
     }
 
@@ -67,14 +67,12 @@ impl Slots {
     ///
     /// # Errors
     ///
-    /// Where the machine refuses memory, or 2^64 fragments were placed.
+    /// Where the machine refuses memory.
     pub fn make_room(&mut self, position: usize) -> Result<(), AllocError>
         ensures room { OnOk result (HasRoom self.new position) }
         ensures same { self.new.items ≡ self.old.items }
     {
-        if self.next == u64::MAX {
-            return Err(AllocError);
-        }
+        self.order.reserve(1)?;
         grow(&mut self.slots, position)
     }
 
@@ -84,11 +82,10 @@ impl Slots {
         requires absent { is_present self.old.items position ≡ false }
         ensures { self.new.items ≡ self.old.items ++ (record { position = position; places = places.items }) ∷ [] }
     {
-        self.slots[position] = Some(Placed {
-            number: self.next,
-            places,
-        });
-        self.next += 1;
+        self.slots[position] = Some(Placed { places });
+        if self.order.push(position).is_err() {
+            unreachable!();
+        }
     }
 
     /// Takes out a fragment, and tells where its sections lie. `None` where it isn't present.
@@ -102,6 +99,7 @@ impl Slots {
         let Some(fragment) = self.slots[position].take() else {
             return None;
         };
+        take_out(&mut self.order, position);
         Some(fragment.places)
     }
 }
@@ -109,13 +107,25 @@ impl Slots {
 /// Makes slots up to that of a place of the store.
 fn grow(slots: &mut Vec<Option<Placed>>, position: usize) -> Result<(), AllocError>
     ensures room { OnOk result (position < length slots.new.items) }
-    ensures same { (n : ℕ) → in_order n slots.new.items ≡ in_order n slots.old.items }
-    ensures numbered { (n : ℕ) → AreNumbered n slots.old.items → AreNumbered n slots.new.items }
+    ensures same { (p : ℕ) → slot_at slots.new.items p ≡ slot_at slots.old.items p }
 {
     while slots.len() <= position {
         slots.push(None)?;
     }
     Ok(())
+}
+
+/// Takes a place of the store out of some that have it.
+fn take_out(order: &mut Vec<usize>, position: usize)
+    requires { has order.old.items position ≡ true }
+    ensures { IsRemoved order.old.items order.new.items position }
+{
+    for i in 0..order.len() {
+        if order[i] == position {
+            order.remove(i);
+            return;
+        }
+    }
 }
 
 /// What stands in the slot of a place of the store.

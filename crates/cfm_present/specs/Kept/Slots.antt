@@ -1,11 +1,14 @@
--- How the fragments that are present are kept: in slots by their places in the store, each with a number that is
--- greater than those of all that were placed before it.
-use Rattle.std.specs.Prelude.{◌<◌, ◌==◌, ◌+◌, ℕ, zero, suc, List, [], ◌∷◌, ◌++◌, Option, None, Some, IfSome, if◌then◌else◌}
+-- How the fragments that are present are kept: a slot for each place of the store, and the places of those that are
+-- present in the order in which they were placed.
+use Rattle.std.specs.Prelude.{◌≡◌, ◌<◌, ℕ, List, [], ◌∷◌, ◌++◌, Option, None, Some, map, slice_index_or}
+use Rattle.std.specs.Option.{is_some}
+use Rattle.cfm_memory.specs.declared.place.Place.{Place}
 use Rattle.cfm_present.specs.Fragments.{Present}
+use Rattle.cfm_present.specs.Lists.{IsOnce, has}
 use Rattle.cfm_present.specs.declared.slots.Placed.{Placed}
 
 -- what is seen of them: the fragments in the order in which they were placed, how many places of the store have a
--- slot, and how many numbers are left
+-- slot, and how many more fragments there is room for
 pub record Table : Type 0 where
   pub items : List Present
   pub room : ℕ
@@ -15,22 +18,30 @@ pub record Table : Type 0 where
 abbrev pub HasRoom : Table → ℕ → Type 0
 HasRoom t p = (p < t.room) × (0 < t.left)
 
--- the fragment of a slot at a place of the store, where it has the number n
-abbrev pub of_slot : ℕ → ℕ → Option Placed → List Present
-of_slot n p None = []
-of_slot n p (Some f) = if f.number == n then (record { position = p; places = f.places.items }) ∷ [] else []
+-- what is in the slot of a place of the store
+abbrev pub slot_at : List (Option Placed) → ℕ → Option Placed
+slot_at slots p = slice_index_or slots p None
 
--- the same of the slots from a place on
-abbrev pub of_number : ℕ → ℕ → List (Option Placed) → List Present
-of_number n p [] = []
-of_number n p (s ∷ slots) = of_slot n p s ++ of_number n (p + 1) slots
+abbrev pub slot_places : Option Placed → List Place
+slot_places None = []
+slot_places (Some f) = f.places.items
 
--- the fragments whose numbers are below n, in the order of these
-abbrev pub in_order : ℕ → List (Option Placed) → List Present
-in_order zero slots = []
-in_order (suc n) slots = in_order n slots ++ of_number n 0 slots
+-- the fragment of a place of the store
+abbrev pub in_slot : List (Option Placed) → ℕ → Present
+in_slot slots p = record { position = p; places = slot_places (slot_at slots p) }
 
--- all numbers are below n
-abbrev pub AreNumbered : ℕ → List (Option Placed) → Type 0
-AreNumbered n [] = Unit {0}
-AreNumbered n (s ∷ slots) = IfSome s (λ f. f.number < n) × AreNumbered n slots
+-- the fragments of some places, in the order of these
+abbrev pub in_slots : List (Option Placed) → List ℕ → List Present
+in_slots slots order = map (in_slot slots) order
+
+-- the places are those whose slots have a fragment, each once
+pub record AreSlots (slots : List (Option Placed)) (order : List ℕ) : Type 0 where
+  pub once : IsOnce order
+  pub listed : (p : ℕ) → has order p ≡ is_some (slot_at slots p)
+
+-- a place was taken out of some
+pub record IsRemoved (ps now : List ℕ) (p : ℕ) : Type 0 where
+  pub front : List ℕ
+  pub back : List ℕ
+  pub was : ps ≡ front ++ p ∷ back
+  pub is : now ≡ front ++ back

@@ -1,29 +1,49 @@
--- The fragment has the next number, so it comes last.
-use Rattle.std.proofs.Common.{◌≡◌, ◌+◌, false, None, Some, Option, arith, refl, subst, sym, ◌∙◌}
-use Rattle.std.specs.Option.{is_some}
+-- The place comes last, and its slot has the fragment.
+use Rattle.std.proofs.Common.{◌≡◌, ◌++◌, ◌∷◌, [], false, cond, List, ℕ, Ok, Err, Some, ap, refl, subst, sym, ◌∙◌}
+use Rattle.std.specs.Prelude.{Result}
+use Rattle.std.specs.Result.{is_err, is_ok}
+use Rattle.std.proofs.Math.ListN.{set}
 use Rattle.cfm_present.specs.Fragments.{is_present}
-use Rattle.cfm_present.specs.Kept.Slots.{HasRoom, Table}
+use Rattle.cfm_present.specs.Kept.Slots.{AreSlots, HasRoom, Table, in_slots}
+use Rattle.cfm_present.specs.Lists.{has}
 use Rattle.cfm_present.specs.declared.slots.Placed.{Placed}
-use Rattle.cfm_present.proofs.SlotLemmas.{numbered-more, numbered-set, order-present, put-last, slot_at}
+use Rattle.cfm_present.proofs.SlotLemmas.{put-last, put-slots, seen-present}
 use Rattle.cfm_present.proofs.slots.Slots.put.Goals as goal
 
-no-slot : (s : Option Placed) → is_some s ≡ false → s ≡ None
-no-slot None is = refl
-no-slot (Some f) is = absurd (cc)
+-- what is pushed where the push isn't refused
+pushed-ok : {A E : Type 0} (r : Result A E) (xs ys : List ℕ) → is_err r ≡ false → cond (is_ok r) xs ys ≡ xs
+pushed-ok (Ok x) xs ys is = refl
+pushed-ok (Err e) xs ys is = absurd (cc)
 
 pub invariant_of-self : goal.invariant_of-self
 invariant_of-self c =
-    let n = c.self.inside.next in
-    numbered-set (n + 1) c.self.inside.slots.items c.args.position _ (numbered-more n c.self.inside.slots.items c.self.invariant) (omega arith)
+    let slots = c.self.inside.slots.items in
+    let order = c.self.inside.order.items in
+    let p = c.args.position in
+    let f : Placed = record { places = c.args.places } in
+    let P : Table → Type 0 = λ t. is_present t.items p ≡ false in
+    let R : Table → Type 0 = λ t. HasRoom t p in
+    let none : has order p ≡ false = sym (seen-present slots order p) ∙ subst P (sym c.self.view_is) c.requires.absent in
+    let room = subst R (sym c.self.view_is) c.requires.room in
+    let e = c.is_err.ensures.value in
+    let e' = c.if-is_err.false in
+    let went : is_err c.push.result ≡ false = cc in
+    let pushed : c.push.new.self.items ≡ order ++ p ∷ [] = c.push.ensures.items ∙ pushed-ok c.push.result _ _ went in
+    let Q : List ℕ → Type 0 = λ order. AreSlots (set slots p (Some f)) order in
+    subst Q (sym pushed) (put-slots slots order p f c.self.invariant room.0 none)
 
 pub returns : goal.returns
 returns c =
-    let n = c.self.inside.next in
     let slots = c.self.inside.slots.items in
+    let order = c.self.inside.order.items in
     let p = c.args.position in
+    let f : Placed = record { places = c.args.places } in
     let P : Table → Type 0 = λ t. is_present t.items p ≡ false in
     let R : Table → Type 0 = λ t. HasRoom t p in
-    let absent = subst P (sym c.self.view_is) c.requires.absent in
+    let none : has order p ≡ false = sym (seen-present slots order p) ∙ subst P (sym c.self.view_is) c.requires.absent in
     let room = subst R (sym c.self.view_is) c.requires.room in
-    let none : slot_at slots p ≡ None = no-slot (slot_at slots p) (sym (order-present n slots p c.self.invariant) ∙ absent) in
-    rw (← c.self.view_is) (put-last n slots p _ c.self.invariant room.0 none refl)
+    let e = c.is_err.ensures.value in
+    let e' = c.if-is_err.false in
+    let went : is_err c.push.result ≡ false = cc in
+    let pushed : c.push.new.self.items ≡ order ++ p ∷ [] = c.push.ensures.items ∙ pushed-ok c.push.result _ _ went in
+    rw (← c.self.view_is) (ap (in_slots (set slots p (Some f))) pushed ∙ put-last slots order p f c.self.invariant room.0 none)
