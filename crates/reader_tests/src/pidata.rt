@@ -210,19 +210,18 @@ const COUNTS: &[(usize, &[u8], &[u8])] = &[
     (16_384, &[0x00, 0x81, 0x80, 0x00], &[0x20, 0x81, 0x80, 0x00]),
 ];
 
-fn joined(alloc: Global, parts: &[&[u8]]) -> Result<Vec<u8>, AllocError> {
-    let mut bytes = Vec::new(alloc);
-    for part in parts {
-        bytes.extend_from_slice(part)?;
-    }
+fn joined(alloc: Global, front: &[u8], part: &[u8], back: &[u8]) -> Result<Vec<u8>, AllocError> {
+    let mut bytes = Vec::from_slice(alloc, front)?;
+    bytes.extend_from_slice(part)?;
+    bytes.extend_from_slice(back)?;
     Ok(bytes)
 }
 
 /// Packs some bytes alone, and between others.
 fn test_between(rt: &impl Abort, alloc: Global, part: &[u8], packed: &[u8], other: (&[u8], &[u8])) {
     test_packed(rt, alloc, part, packed);
-    let image = joined(alloc, &[other.0, part, other.0]).expect(rt, "memory");
-    let want = joined(alloc, &[other.1, packed, other.1]).expect(rt, "memory");
+    let image = joined(alloc, other.0, part, other.0).expect(rt, "memory");
+    let want = joined(alloc, other.1, packed, other.1).expect(rt, "memory");
     test_packed(rt, alloc, &image, &want);
 }
 
@@ -234,7 +233,7 @@ fn pack_limits_of_counts(rt: HostRuntime) {
         let run = vec![in alloc; 0; count].expect(&rt, "memory");
         test_between(&rt, alloc, &run, zeros, (&[7], &[0x21, 7]));
         let bytes = vec![in alloc; 0xFF; count].expect(&rt, "memory");
-        let packed = joined(alloc, &[block, &bytes]).expect(&rt, "memory");
+        let packed = joined(alloc, block, &bytes, &[]).expect(&rt, "memory");
         test_between(&rt, alloc, &bytes, &packed, (&[0, 0, 0], &[0x03]));
     }
 }
