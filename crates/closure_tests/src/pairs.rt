@@ -13,6 +13,7 @@ const VERSIONS: &[(u32, u32, u32, u32, Fit)] = &[
     (0x8000_0000, 1, 1, 0, Fit::Fits),
     (0x8000_0000, 2, 1, 0, Fit::TooOld),
     (1, 0, 0xFFFF_FFFF, 2, Fit::TooNew),
+    (0xFFFF_FFFF, 0, 0, 0, Fit::Fits),
 ];
 
 #[test]
@@ -48,6 +49,7 @@ fn test_pairs(rt: &impl Abort, store: &Store<'_>) {
     assert!(rt; store.pair(1) == Some((b"", b"2")));
     assert!(rt; store.pair(2) == Some((b"one", b"3")));
     assert!(rt; store.pair(3).is_none());
+    assert!(rt; !store.is_full());
 }
 
 /// Tests what is found in the store.

@@ -80,7 +80,8 @@ fn packed_library(rt: HostRuntime) {
     }
 }
 
-const PASSED: &[Change] = &[(At::End(2), b"\xFF\xFD")];
+/// What makes the export of a fragment, its last, pass on import 0.
+pub(crate) const PASSED: &[Change] = &[(At::End(2), b"\xFF\xFD")];
 
 /// An import that two fragments pass on, from one to the next.
 const PASSED_ON: &[Fragment] = &[

@@ -19,3 +19,5 @@ mod readers;
 mod refused;
 #[cfg(test)]
 mod steps;
+#[cfg(test)]
+mod symbols;

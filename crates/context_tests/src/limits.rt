@@ -145,7 +145,7 @@ fn test_chain(rt: &impl Abort, context: &mut Context<'_>) {
 #[test]
 fn most_fragments(rt: HostRuntime) {
     let names = many::names(&rt, rt.alloc());
-    let containers = many::containers(&rt, rt.alloc(), false);
+    let containers = many::containers(&rt, rt.alloc(), many::Needs::Next);
     test_chain_of(&rt, rt.alloc(), &names, &containers);
 }
 

@@ -9,6 +9,17 @@ use test_links::fragments::{add, container};
 /// As many fragments as a store may have.
 pub(crate) const FRAGMENTS: usize = 256;
 
+/// Which of the fragments each of them needs.
+#[derive(Clone, Copy)]
+pub(crate) enum Needs {
+    /// The next one; the last needs none.
+    Next,
+    /// The next one, and the last needs the first.
+    NextInRing,
+    /// All.
+    All,
+}
+
 /// The script of a fragment that needs all.
 fn needing_all(rt: &impl Abort, alloc: Global) -> String {
     let mut text = String::new(alloc);
@@ -18,29 +29,29 @@ fn needing_all(rt: &impl Abort, alloc: Global) -> String {
     text
 }
 
-/// The script of a fragment that needs the next one, and whose word is the address of that one's. Behind the last one
-/// there is none, so its word is 0.
-fn needing_next(rt: &impl Abort, alloc: Global, p: usize) -> String {
-    let next = p.wrapping_add(1);
+/// The script of a fragment that needs another one, and whose word is the address of that one's. If the store has no
+/// such fragment, the word is 0.
+fn needing_next(rt: &impl Abort, alloc: Global, next: usize) -> String {
     format!(in alloc;
         "library f{next} 0 0 weak\nimport v data strong\nsection s data process 4 4\nfix s 0 import v\nexport v data s 0\n"
     ).expect(rt, "memory")
 }
 
 /// The script of a fragment.
-fn script(rt: &impl Abort, alloc: Global, p: usize, is_complete: bool) -> String {
-    if is_complete {
-        needing_all(rt, alloc)
-    } else {
-        needing_next(rt, alloc, p)
+fn script(rt: &impl Abort, alloc: Global, p: usize, needs: Needs) -> String {
+    let next = p.wrapping_add(1);
+    match needs {
+        Needs::Next => needing_next(rt, alloc, next),
+        Needs::NextInRing => needing_next(rt, alloc, next % FRAGMENTS),
+        Needs::All => needing_all(rt, alloc),
     }
 }
 
-/// The containers of all fragments, of which each needs all, or just the next one.
-pub(crate) fn containers(rt: &impl Abort, alloc: Global, is_complete: bool) -> Vec<Vec<u8>> {
+/// The containers of all fragments.
+pub(crate) fn containers(rt: &impl Abort, alloc: Global, needs: Needs) -> Vec<Vec<u8>> {
     let mut containers = Vec::new(alloc);
     for p in 0..FRAGMENTS {
-        let text = script(rt, alloc, p, is_complete);
+        let text = script(rt, alloc, p, needs);
         let bytes = container(alloc, text.as_str(), &[]).expect(rt, "a container");
         containers.push(bytes).expect(rt, "memory");
     }
@@ -73,7 +84,7 @@ pub(crate) fn store_of_all<'a>(
 
 /// Tests the closure of the first of 256 fragments.
 fn test_first(rt: &impl Abort, alloc: Global, store: &Store<'_>) {
-    assert!(rt; store.len() == FRAGMENTS);
+    assert!(rt; store.len() == FRAGMENTS && store.is_full());
     match closure(alloc, store, 0) {
         Ok(closure) => test_reversed(rt, &closure),
         Err(fault) => panic!(rt; "{fault}"),
@@ -91,16 +102,17 @@ fn test_reversed(rt: &impl Abort, closure: &Closure<'_>) {
 }
 
 /// Tests the closure of all fragments, which have these names.
-fn test_closure(rt: &impl Abort, alloc: Global, names: &[String], is_complete: bool) {
-    let containers = containers(rt, alloc, is_complete);
+fn test_closure(rt: &impl Abort, alloc: Global, names: &[String], needs: Needs) {
+    let containers = containers(rt, alloc, needs);
     let store = store_of_all(rt, alloc, names, &containers);
     test_first(rt, alloc, &store);
 }
 
-/// Each fragment needs the next one, and each needs all.
+/// Each fragment needs the next one, and each needs all. That the last one needs the first changes nothing.
 #[test]
-fn chain_and_complete_graph(rt: HostRuntime) {
+fn chain_ring_and_complete_graph(rt: HostRuntime) {
     let names = names(&rt, rt.alloc());
-    test_closure(&rt, rt.alloc(), &names, false);
-    test_closure(&rt, rt.alloc(), &names, true);
+    for needs in [Needs::Next, Needs::NextInRing, Needs::All] {
+        test_closure(&rt, rt.alloc(), &names, needs);
+    }
 }

@@ -4,7 +4,7 @@ use test_data::scripts::{LIBRARY, USER};
 use test_links::fragments::Fragment;
 
 /// Two fragments that need a library.
-const USERS: &[Fragment] = &[("A", USER, &[]), ("B", USER, &[]), ("L", LIBRARY, &[])];
+pub(crate) const USERS: &[Fragment] = &[("A", USER, &[]), ("B", USER, &[]), ("L", LIBRARY, &[])];
 
 /// A library that is shared keeps its address and its bytes until no connection needs it.
 const SHARED: &[(Step, &str)] = &[

@@ -64,6 +64,8 @@ const FIRST_FAULTS: &[(&str, (u32, usize))] = &[
     ("section d", (41, 1)),
     ("section \u{7F} data process 4 8", (41, 1)),
     ("section d data process 4 8\r\n", (41, 1)),
+    (" section d data process 4 8", (41, 1)),
+    ("section d  data process 4 8", (41, 1)),
     ("fix d 0 section d", (43, 1)),
     (
         "\n#\nsection d data process 4 8\nsection d code global 0 0",

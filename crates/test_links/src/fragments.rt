@@ -1,7 +1,7 @@
 //! Fragments from scripts, and stores of them.
 
 use crate::link_text;
-use cfm_store::{MAX_PAIRS, Store};
+use cfm_store::Store;
 use std::alloc::Global;
 use test_data::changes::{Change, change};
 
@@ -32,7 +32,7 @@ pub fn containers(alloc: Global, fragments: &[Fragment]) -> Option<Vec<Vec<u8>>>
 
 /// Adds a pair to a store. `None` where that is full, or memory is refused.
 pub fn add<'a>(store: &mut Store<'a>, name: &'a str, bytes: &'a [u8]) -> Option<()> {
-    if store.len() >= MAX_PAIRS {
+    if store.is_full() {
         return None;
     }
     store.add(name.as_bytes(), bytes).ok()

@@ -1,0 +1,269 @@
+use cfm_closure::{BindFault, StoreFault};
+use cfm_memory::MemoryFault;
+use cfm_prepare::{CloseFault, PrepareFault};
+use cfm_present::FragmentFault;
+use pef_cert_text::CertFault;
+use pef_hash::HashFault;
+use pef_listing::ListFault;
+use pef_loader::LoaderFault;
+use pef_pidata::PackFault;
+use pef_plan::PlanFault;
+use pef_ports::InputFault;
+use pef_reloc::RelocFault;
+use pef_script_text::{LineFault, ScriptFault};
+use pef_views::ViewFault;
+use pef_write::LinkFault;
+use std::alloc::Global;
+use std::fmt;
+use std::process::Abort;
+
+/// Refusals of containers.
+const VIEWS: &[(ViewFault, &str)] = &[
+    (ViewFault::TooShort, "TooShort"),
+    (ViewFault::BadTag, "BadTag"),
+    (ViewFault::BadArchitecture, "BadArchitecture"),
+    (ViewFault::BadFormatVersion, "BadFormatVersion"),
+    (ViewFault::BadSectionCounts, "BadSectionCounts"),
+    (ViewFault::SectionOutside, "SectionOutside"),
+    (ViewFault::BadSectionKind, "BadSectionKind"),
+    (ViewFault::BadSizes, "BadSizes"),
+    (ViewFault::BadAlignment, "BadAlignment"),
+    (ViewFault::NoLoader, "NoLoader"),
+];
+
+/// Refusals of loader sections.
+const LOADERS: &[(LoaderFault, &str)] = &[
+    (LoaderFault::LoaderShort, "LoaderShort"),
+    (LoaderFault::BadTableOffset, "BadTableOffset"),
+    (LoaderFault::BadName, "BadName"),
+    (LoaderFault::BadLibraryRange, "BadLibraryRange"),
+    (LoaderFault::OrphanImport, "OrphanImport"),
+    (LoaderFault::BadEntry, "BadEntry"),
+    (LoaderFault::BadRelocSection, "BadRelocSection"),
+    (LoaderFault::RelocOutside, "RelocOutside"),
+    (LoaderFault::BadExportTable, "BadExportTable"),
+    (LoaderFault::BadExportSection, "BadExportSection"),
+];
+
+/// Refusals of packed bytes.
+const PACKED: &[(PackFault, &str)] = &[
+    (PackFault::Truncated, "Truncated"),
+    (PackFault::BadOpcode, "BadOpcode"),
+    (PackFault::CountTooLarge, "CountTooLarge"),
+    (PackFault::TooLong, "TooLong"),
+    (PackFault::TooShort, "TooShort"),
+];
+
+/// Refusals of relocation programs.
+const PROGRAMS: &[(RelocFault, &str)] = &[
+    (RelocFault::BadOpcode, "BadOpcode"),
+    (RelocFault::CutInstruction, "CutInstruction"),
+    (RelocFault::RepeatTooFar, "RepeatTooFar"),
+    (RelocFault::RepeatCuts, "RepeatCuts"),
+    (RelocFault::NestedRepeat, "NestedRepeat"),
+    (RelocFault::TooManySteps, "TooManySteps"),
+    (RelocFault::WordOutside, "WordOutside"),
+    (RelocFault::ImportOutside, "ImportOutside"),
+    (RelocFault::SectionOutside, "SectionOutside"),
+    (RelocFault::OutOfMemory, "OutOfMemory"),
+];
+
+/// Refusals of a script's line.
+const LINES: &[(LineFault, &str)] = &[
+    (LineFault::BadLine, "BadLine"),
+    (LineFault::BadNumber, "BadNumber"),
+    (LineFault::UnknownName, "UnknownName"),
+    (LineFault::RepeatedName, "RepeatedName"),
+    (LineFault::OutOfOrder, "OutOfOrder"),
+    (LineFault::Overlap, "Overlap"),
+    (LineFault::OutsideSection, "OutsideSection"),
+    (LineFault::TooMany, "TooMany"),
+    (LineFault::BadKind, "BadKind"),
+];
+
+/// Refusals of scripts, with their line.
+const SCRIPTS: &[(ScriptFault, &str)] = &[
+    (
+        ScriptFault::Refused {
+            fault: LineFault::BadLine,
+            line: 1,
+        },
+        "BadLine line 1",
+    ),
+    (
+        ScriptFault::Refused {
+            fault: LineFault::BadKind,
+            line: 4_294_967_296,
+        },
+        "BadKind line 4294967296",
+    ),
+    (ScriptFault::OutOfMemory, "OutOfMemory"),
+];
+
+/// Refusals of certificates, with their line.
+const CERTIFICATES: &[(CertFault, &str)] = &[
+    (
+        CertFault::BadCertificate { line: 12 },
+        "BadCertificate line 12",
+    ),
+    (CertFault::OutOfMemory, "OutOfMemory"),
+];
+
+/// Refusals of an input.
+const INPUTS: &[(InputFault, &str)] = &[
+    (InputFault::Unreadable, "InputUnreadable"),
+    (InputFault::TooLong, "InputTooLong"),
+    (InputFault::OutOfMemory, "OutOfMemory"),
+];
+
+/// Refusals of a place in memory.
+const MEMORY: &[(MemoryFault, &str)] = &[
+    (MemoryFault::NoRoom, "NoRoom"),
+    (MemoryFault::OutOfMemory, "OutOfMemory"),
+];
+
+/// Refusals of listings.
+const LISTINGS: &[(ListFault, &str)] = &[
+    (ListFault::View(ViewFault::BadTag), "BadTag"),
+    (ListFault::Loader(LoaderFault::BadName), "BadName"),
+    (ListFault::Reloc(RelocFault::RepeatCuts), "RepeatCuts"),
+];
+
+/// Refusals of closures.
+const CLOSURES: &[(BindFault<'static>, &str)] = &[
+    (
+        BindFault::Container {
+            fragment: b"A",
+            fault: ViewFault::NoLoader,
+        },
+        "NoLoader",
+    ),
+    (
+        BindFault::Loader {
+            fragment: b"A",
+            fault: LoaderFault::BadEntry,
+        },
+        "BadEntry",
+    ),
+    (
+        BindFault::LibraryMissing {
+            fragment: b"A",
+            library: b"L",
+        },
+        "LibraryMissing",
+    ),
+    (
+        BindFault::SymbolMissing {
+            fragment: b"A",
+            library: b"L",
+            symbol: b"v",
+        },
+        "SymbolMissing",
+    ),
+    (
+        BindFault::ImplementationTooOld {
+            fragment: b"A",
+            library: b"L",
+        },
+        "ImplementationTooOld",
+    ),
+    (
+        BindFault::ImplementationTooNew {
+            fragment: b"A",
+            library: b"L",
+        },
+        "ImplementationTooNew",
+    ),
+    (
+        BindFault::ReexportLoop {
+            fragment: b"A",
+            symbol: b"v",
+        },
+        "ReexportLoop",
+    ),
+    (BindFault::InitLoop { fragment: b"A" }, "InitLoop"),
+    (BindFault::OutOfMemory, "OutOfMemory"),
+];
+
+/// Refusals of a closure's new fragments.
+const FRAGMENTS: &[(FragmentFault<'static>, &str)] = &[
+    (FragmentFault::NoRoom { fragment: b"A" }, "NoRoom"),
+    (
+        FragmentFault::Pack {
+            fragment: b"A",
+            fault: PackFault::TooLong,
+        },
+        "TooLong",
+    ),
+    (
+        FragmentFault::Reloc {
+            fragment: b"A",
+            fault: RelocFault::WordOutside,
+        },
+        "WordOutside",
+    ),
+    (FragmentFault::OutOfMemory, "OutOfMemory"),
+];
+
+/// Refusals of preparations.
+const PREPARATIONS: &[(PrepareFault<'static>, &str)] = &[
+    (PrepareFault::TooManyConnections, "TooManyConnections"),
+    (PrepareFault::RootMissing, "RootMissing"),
+    (
+        PrepareFault::Bind(BindFault::InitLoop { fragment: b"A" }),
+        "InitLoop",
+    ),
+    (
+        PrepareFault::Fragment(FragmentFault::NoRoom { fragment: b"A" }),
+        "NoRoom",
+    ),
+    (PrepareFault::OutOfMemory, "OutOfMemory"),
+];
+
+/// Tests the text of a refusal. No width changes it.
+fn test_text<F: fmt::Display>(rt: &impl Abort, alloc: Global, fault: &F, name: &str) {
+    let plain = format!(in alloc; "{fault}").expect(rt, "memory");
+    assert!(rt; plain.as_str() == name, "{name}");
+    let wide = format!(in alloc; "{fault:*>30}").expect(rt, "memory");
+    assert!(rt; wide.as_str() == name, "{name}");
+}
+
+/// Tests the texts of refusals.
+fn test_texts<F: fmt::Display>(rt: &impl Abort, alloc: Global, rows: &[(F, &str)]) {
+    for (fault, name) in rows {
+        test_text(rt, alloc, fault, name);
+    }
+}
+
+#[test]
+fn names_of_readers(rt: HostRuntime) {
+    let alloc = rt.alloc();
+    test_texts(&rt, alloc, VIEWS);
+    test_texts(&rt, alloc, LOADERS);
+    test_texts(&rt, alloc, PACKED);
+    test_texts(&rt, alloc, PROGRAMS);
+    test_texts(&rt, alloc, LISTINGS);
+    test_texts(&rt, alloc, INPUTS);
+}
+
+#[test]
+fn names_of_scripts_and_certificates(rt: HostRuntime) {
+    let alloc = rt.alloc();
+    test_texts(&rt, alloc, LINES);
+    test_texts(&rt, alloc, SCRIPTS);
+    test_texts(&rt, alloc, CERTIFICATES);
+    test_texts(&rt, alloc, &[(LinkFault::OutOfMemory, "OutOfMemory")]);
+    test_texts(&rt, alloc, &[(PlanFault::OutOfMemory, "OutOfMemory")]);
+    test_texts(&rt, alloc, &[(HashFault::OutOfMemory, "OutOfMemory")]);
+}
+
+#[test]
+fn names_of_fragments(rt: HostRuntime) {
+    let alloc = rt.alloc();
+    test_texts(&rt, alloc, CLOSURES);
+    test_texts(&rt, alloc, MEMORY);
+    test_texts(&rt, alloc, FRAGMENTS);
+    test_texts(&rt, alloc, PREPARATIONS);
+    test_texts(&rt, alloc, &[(StoreFault::OutOfMemory, "OutOfMemory")]);
+    test_texts(&rt, alloc, &[(CloseFault::BadConnection, "BadConnection")]);
+}
