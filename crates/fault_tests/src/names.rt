@@ -52,6 +52,7 @@ const PACKED: &[(PackFault, &str)] = &[
     (PackFault::CountTooLarge, "CountTooLarge"),
     (PackFault::TooLong, "TooLong"),
     (PackFault::TooShort, "TooShort"),
+    (PackFault::OutOfMemory, "OutOfMemory"),
 ];
 
 /// Refusals of relocation programs.
