@@ -4,11 +4,15 @@
 #![tactic(auto)]
 
 #[cfg(test)]
+mod compared;
+#[cfg(test)]
 mod exhaustive;
 #[cfg(test)]
 mod labels;
 #[cfg(test)]
 mod lengths;
+#[cfg(test)]
+mod looks;
 #[cfg(test)]
 mod plans;
 #[cfg(test)]
@@ -17,3 +21,5 @@ mod random;
 mod reference;
 #[cfg(test)]
 mod search;
+#[cfg(test)]
+mod worked;

@@ -5,9 +5,10 @@ ghost use Rattle.pef_reloc.specs.Fixups.{fixups_fit};
 use pef_cert::check;
 use pef_labels::Certificate;
 use pef_plan::plan;
-use pef_reloc::{Fixup, fixups_fit};
+use pef_reloc::{Base, Fixup, fixups_fit};
 use std::alloc::Global;
 use std::process::Abort;
+use test_data::lists::S1;
 
 /// The plan of fixups that fit.
 pub fn planned(rt: &impl Abort, alloc: Global, fixups: &[Fixup]) -> Certificate
@@ -30,4 +31,15 @@ fn assert_certified(rt: &impl Abort, fixups: &[Fixup], certificate: &Certificate
     assert!(rt; certificate.program_length() == length, "{first:?} ..");
     assert!(rt; certificate.section == 3);
     assert!(rt; check(fixups, certificate), "{first:?} ..");
+}
+
+/// So many fixups in a row, of two sections in turn, so many bytes apart.
+pub fn in_a_row(rt: &impl Abort, alloc: Global, count: u32, step: u32, other: Base) -> Vec<Fixup> {
+    let mut fixups = Vec::new(alloc);
+    for i in 0..count {
+        let base = if i % 2 == 0 { other } else { S1 };
+        let offset = i.wrapping_mul(step);
+        fixups.push(Fixup { offset, base }).expect(rt, "memory");
+    }
+    fixups
 }

@@ -4,25 +4,34 @@ use std::alloc::Global;
 use std::cell::Cell;
 use std::process::Abort;
 
-/// The labels of fixups, row by row, where none is left to where all are.
-pub fn plain_labels(
+/// What the plain method finds.
+#[derive(Drop)]
+pub struct PlainPlan {
+    /// The labels, row by row, where none is left to where all are.
+    pub labels: Vec<u32>,
+    /// The least length of a program.
+    pub length: u32,
+}
+
+/// The labels of fixups with these registers, and the least length.
+pub fn plain_plan(
     rt: &impl Abort,
     alloc: Global,
     fixups: &[Fixup],
     registers: &[u32],
-) -> Vec<u32> {
+) -> PlainPlan {
     let looks = Cell::new(0);
-    counted_labels(rt, alloc, fixups, registers, &looks)
+    counted_plain_plan(rt, alloc, fixups, registers, &looks)
 }
 
 /// The same, with a count of the looks: how often the value behind an end of a run is read.
-pub fn counted_labels(
+pub fn counted_plain_plan(
     rt: &impl Abort,
     alloc: Global,
     fixups: &[Fixup],
     registers: &[u32],
     looks: &Cell<u64>,
-) -> Vec<u32> {
+) -> PlainPlan {
     let classes = registers.len().wrapping_add(1);
     let mut labels = zeros(rt, alloc, classes.wrapping_mul(classes));
     let mut skips = zeros(rt, alloc, classes);
@@ -35,7 +44,8 @@ pub fn counted_labels(
         looks,
     };
     plain.add_rows(rt, alloc, &mut labels, &mut skips);
-    labels
+    let length = plain.from_start(&labels, &skips);
+    PlainPlan { labels, length }
 }
 
 fn zeros(rt: &impl Abort, alloc: Global, count: usize) -> Vec<u32> {
@@ -96,6 +106,18 @@ impl<'a> Plain<'a> {
             let at = self.fixups.len() - left - 1;
             self.add_row(rt, alloc, at, labels, skips);
         }
+    }
+
+    /// The extension at the start, from all labels and least skips.
+    fn from_start(self, labels: &[u32], skips: &[u32]) -> u32 {
+        let plain = Plain {
+            labels,
+            skips,
+            ..self
+        };
+        let c = place_of(self.registers, 0);
+        let d = place_of(self.registers, 1);
+        plain.value(0, 0, c, d)
     }
 
     /// Puts a fixup's labels and least skips behind those so far.

@@ -1,0 +1,49 @@
+//! Plans against the plain method's.
+use crate::plans::{assert_length, planned};
+use crate::reference::{number_at, plain_plan};
+use pef_labels::{Certificate, LabelRows};
+use pef_reloc::Fixup;
+use std::alloc::Global;
+use std::process::Abort;
+
+/// Compares a plan with the plain method's, and both with the least length.
+pub fn compare_with(rt: &impl Abort, alloc: Global, fixups: &[Fixup], length: u64) {
+    assert_length(rt, alloc, fixups, length);
+    compare(rt, alloc, fixups);
+}
+
+/// Compares all labels of a plan and the length of its program with the plain method's.
+pub fn compare(rt: &impl Abort, alloc: Global, fixups: &[Fixup]) {
+    let certificate = planned(rt, alloc, fixups);
+    compare_plan(rt, alloc, fixups, &certificate);
+}
+
+fn compare_plan(rt: &impl Abort, alloc: Global, fixups: &[Fixup], certificate: &Certificate) {
+    let plain = plain_plan(rt, alloc, fixups, &certificate.registers);
+    assert_same(rt, &certificate.labels, &plain.labels, fixups.len());
+    assert!(rt; certificate.program_length() == u64::from(plain.length));
+}
+
+/// Asserts that rows have these labels, of which the last row is the one where no fixup is left.
+fn assert_same(rt: &impl Abort, rows: &LabelRows, labels: &[u32], fixups: usize) {
+    let mut left = fixups;
+    let mut runs = rows.runs();
+    for _ in 0..rows.rows() {
+        if let Some(run) = runs.next_run() {
+            for _ in 0..run.rows {
+                assert_same_row(rt, run.labels, labels, left);
+                left = left.wrapping_sub(1);
+            }
+        }
+    }
+    assert!(rt; left == usize::MAX);
+}
+
+/// Asserts that a row has the labels where so many fixups are left.
+fn assert_same_row(rt: &impl Abort, row: &[u32], labels: &[u32], left: usize) {
+    let from = left.wrapping_mul(row.len());
+    for place in 0..row.len() {
+        let label = number_at(labels, from.wrapping_add(place));
+        assert!(rt; number_at(row, place) == label, "{left} {place}");
+    }
+}

@@ -1,0 +1,63 @@
+//! How often plans look at the value at an end of a run.
+ghost use Rattle.std.specs.Prelude.{◌≡◌, true};
+ghost use Rattle.pef_reloc.specs.Fixups.{fixups_fit};
+
+use crate::plans::in_a_row;
+use crate::reference::counted_plain_plan;
+use pef_plan::{Looks, counted_plan};
+use pef_reloc::{Fixup, fixups_fit};
+use std::alloc::Global;
+use std::cell::Cell;
+use std::process::Abort;
+use test_data::lists::S1;
+
+/// How many looks the plan of some fixups takes, and how many labels it has.
+fn looks_and_labels(rt: &impl Abort, alloc: Global, fixups: &[Fixup]) -> (u64, usize)
+    requires { fixups_fit fixups.now ≡ true }
+{
+    let looks = Cell::new(0);
+    let certificate = counted_plan(alloc, 1, fixups, Looks::new(&looks)).expect(rt, "a plan");
+    let labels = &certificate.labels;
+    (looks.get(), labels.rows().wrapping_mul(labels.width()))
+}
+
+/// So many words of section 1 in a row, and the looks that their plan takes. Section 1 and every other section are two
+/// classes of a register, so a square has four values.
+///
+/// For each word the values right behind it (4), a word further on where register D holds the section (2), for its
+/// labels (4) and for a skip (2) are read, and three windows take in a square (4 each): of words, of skips, of words a
+/// word apart. So do the two windows of pairs for each word but the last. That is 24 for each word, and 8 for each but
+/// the last. Then the program is read off at the first word: the end behind one word, each end of the run of words, and
+/// the one end of a run a word apart. For two words that makes 48 + 8 + 4. For 64 words it makes 1,536 + 504 + 66; and
+/// the window of skips, which has room for 63, looks once more at 63 squares as they grow old, 252 looks.
+const LOOKS: &[(u32, u64)] = &[(2, 60), (64, 2_358)];
+
+#[test]
+fn looks_of_words_in_a_row(rt: HostRuntime) {
+    for row in LOOKS {
+        let (count, wanted) = *row;
+        let fixups = in_a_row(&rt, rt.alloc(), count, 4, S1);
+        assert!(rt; fixups_fit(&fixups));
+        let (looks, _) = looks_and_labels(&rt, rt.alloc(), &fixups);
+        assert!(rt; looks == wanted, "{count} words: {looks}");
+    }
+}
+
+#[test]
+fn plan_looks_seldom(rt: HostRuntime) {
+    let fixups = in_a_row(&rt, rt.alloc(), 16_384, 4, S1);
+    assert!(rt; fixups_fit(&fixups));
+    let (looks, labels) = looks_and_labels(&rt, rt.alloc(), &fixups);
+    assert!(rt; labels == 65_540);
+    assert!(rt; 65_540 < looks && looks <= 16 * 65_540, "{looks}");
+}
+
+#[test]
+fn plain_method_looks_more_often(rt: HostRuntime) {
+    let alloc = rt.alloc();
+    let fixups = in_a_row(&rt, alloc, 16_384, 4, S1);
+    let looks = Cell::new(0);
+    let plain = counted_plain_plan(&rt, alloc, &fixups, &[1], &looks);
+    assert!(rt; plain.labels.len() == 65_540);
+    assert!(rt; looks.get() > 128 * 65_540);
+}
