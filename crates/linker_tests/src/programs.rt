@@ -8,6 +8,7 @@ use std::alloc::Global;
 use std::fmt::Write;
 use std::process::Abort;
 use test_data::labels::{VECTORS_LABELS, labels};
+use test_data::limits::FIXUPS;
 use test_data::lists::{Listed, S0, S1, S2, spelled};
 use test_links::link_text;
 
@@ -189,6 +190,52 @@ fn words_in_a_row(rt: HostRuntime) {
         let listed = words(&rt, rt.alloc(), count, from);
         test_program(&rt, rt.alloc(), &listed, halfwords, bytes);
     }
+}
+
+/// The most bytes that a section may have.
+const TOTAL: u32 = 16_777_216;
+
+/// How many of the fixups below have more than 4,096 bytes before them.
+const FAR: u32 = 4_076;
+
+/// How many halfwords the longest program has that the limits allow: three for each of 16,384 fixups, and one more for
+/// each far one.
+///
+/// A fixup takes two halfwords where its import is above 511, and no base takes more. To get to its offset takes none
+/// where it adjoins the one before, one past 4,096 bytes or fewer, and two past any more. A section has room for
+/// 16,711,680 bytes between its fixups: one before each, and 4,096 more before 4,076 of them. So no fixups take more.
+/// These don't take fewer: all are by one import, so no instruction makes two, and no move of one halfword passes more
+/// than 4,096 bytes.
+const LONGEST: u32 = 53_228;
+
+/// The lines of these fixups.
+fn push_longest(rt: &impl Abort, text: &mut String) {
+    let mut end = 0u32;
+    for i in 0..FIXUPS {
+        let gap = if i < FAR { 4097 } else { 1 };
+        let offset = end.wrapping_add(gap);
+        push_fixup(rt, text, offset, Base::Import(600));
+        end = offset.wrapping_add(4);
+    }
+    assert!(rt; end == TOTAL);
+}
+
+/// A script of two sections, of which the second has these fixups.
+fn longest_script(rt: &impl Abort, alloc: Global) -> String {
+    let mut text = String::new(alloc);
+    push_imports(rt, &mut text);
+    for (number, total) in [(0, 4), (1, TOTAL)] {
+        write!(text, "section s{number} data process 4 {total}\n").expect(rt, "memory");
+    }
+    push_longest(rt, &mut text);
+    text
+}
+
+#[test]
+fn longest_program(rt: HostRuntime) {
+    let text = longest_script(&rt, rt.alloc());
+    let linked = link_text(rt.alloc(), text.as_bytes()).expect(&rt, "a container");
+    test_linked(&rt, rt.alloc(), &linked, FIXUPS as usize, LONGEST, &[]);
 }
 
 /// Two transition vectors, side by side, of which each has the code's address and the data's.
