@@ -122,7 +122,7 @@ const FIRST: Place = Place {
     size: 8,
 };
 
-/// Whether the first instance has its bytes, and nothing is right behind it.
+/// Whether the first instance has its bytes, and nothing is placed right after it.
 fn has_first_alone(memory: &Memory) -> bool {
     memory.holds(FIRST)
         && memory.part(FIRST) == b"\0\0\0\0\0\0\0\x2A".as_slice()
@@ -130,8 +130,8 @@ fn has_first_alone(memory: &Memory) -> bool {
         && memory.at(0x0001_0010, 1).is_none()
 }
 
-/// Places twenty bytes, which come right behind the first, and once more where memory is refused, which has changed
-/// nothing. Tells whether it was.
+/// Places twenty bytes, right after the first ones, and once more if the allocation fails, which changes nothing.
+/// Returns whether it failed.
 fn place_until_answered(rt: &impl Abort, memory: &mut Memory) -> bool {
     let mut answer = memory.place(20, 4);
     let refused = answer == Err(MemoryFault::OutOfMemory);
@@ -143,7 +143,7 @@ fn place_until_answered(rt: &impl Abort, memory: &mut Memory) -> bool {
     refused
 }
 
-/// Places eight bytes of which the last is 2A, and none far behind them.
+/// Places eight bytes, of which the last is 2A, and an instance of no bytes at 00020000.
 fn place_first(rt: &impl Abort, memory: &mut Memory) {
     assert!(rt; memory.place(8, 4) == Ok(FIRST));
     assert!(rt; memory.holds(FIRST));

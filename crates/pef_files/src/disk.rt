@@ -12,8 +12,8 @@ use std::{fs, rt, str};
 
 /// A system's whole files, by their paths.
 pub trait Disk {
-    /// A call of `read_file` by a path may do this. A disk need not say more of it than that; by this name it is
-    /// told which calls a port made.
+    /// A call of `read_file` by a path may do this. A disk need not say more of it than that. The name lets a clause
+    /// say which calls a port made.
     ghost did_read: { Self → List ℕ → Result (List ℕ) ErrorKind → Type 0 } = { λ _ _ _. Unit {0} };
 
     /// The same of a call of `write_file` by a path with some bytes.
@@ -28,7 +28,7 @@ pub trait Disk {
         ensures { did_write self.now path.now bytes.now (seen (λ done. done) result) };
 }
 
-/// No clause can say what a real file gives, so a system's calls are told to do anything.
+/// No clause can say what a real file gives, so a call of the system may do anything.
 impl<R: rt::Files + AllocGlobal> Disk for R {
     fn read_file(&self, path: &str) -> io::Result<Vec<u8>> {
         fs::read(self, path)

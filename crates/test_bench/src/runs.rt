@@ -93,7 +93,7 @@ impl Outcome {
         Ok(())
     }
 
-    /// Tests that a failure of the files was counted just where one is told.
+    /// Tests that a failure of the files was counted exactly if one is reported.
     fn assert_counted(&self) -> Result<(), Fail> {
         let printed = self.printed.as_slice();
         let told = printed.starts_with(b"refused 71 ") || printed.starts_with(b"refused 72 ");
@@ -228,8 +228,8 @@ pub fn assert_cut_output(alloc: Global, handed: Handed<'_>, printed: &[u8]) -> R
     Ok(())
 }
 
-/// Runs a command with an output that takes all of a write, and fails at the first, at the second, and so on: a front of
-/// the answer goes out, though it would go on. Tells how many writes there are, behind which it ends with 0.
+/// Runs a command with an output that takes all of a write, and fails at the first, at the second, and so on: a prefix of
+/// the answer is written, though the output would go on. Returns how many writes there are when it ends with 0.
 pub fn assert_cut_writes(alloc: Global, handed: Handed<'_>, printed: &[u8]) -> Result<usize, Fail> {
     for k in 1..=MOST_WRITES {
         let handed = Handed {
