@@ -36,8 +36,8 @@ pub fn closures_agree()
     ensures agree { (pairs : List Pair) (root root' : ℕ) (c c' : Closed) (p j : ℕ) → closed_of pairs root ≡ Ok c → closed_of pairs root' ≡ Ok c' → Contains c.order p → Contains c'.order p → target_within pairs c.order p j ≡ target_within pairs c'.order p j }
 {}
 
-/// More hops than the closure of a fragment has exports are just where an export is met a second time. So a
-/// closure is refused as a loop of re-exports just where an import of its order, with the names that are told,
+/// An import needs more hops than its closure has exports exactly if an export is met a second time. So a
+/// closure is refused as a loop of re-exports exactly if an import of its order, with the names in the refusal,
 /// meets an export a second time, and no import before that one is refused.
 pub fn endless_imports()
     ensures bound { (pairs : List Pair) (order : List ℕ) (p j : ℕ) → IsComplete pairs order → Contains order p → (follow (exports_among pairs order) pairs p j ≡ None) ↔ MeetsAgain pairs (p, j) }
