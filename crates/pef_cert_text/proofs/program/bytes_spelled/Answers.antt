@@ -1,7 +1,6 @@
 -- Words that are no `-` spell halfwords.
 use Rattle.std.proofs.lemmas.Result.{err_from_is_err_and}
 use Rattle.std.proofs.Common.{Err, Ok}
-use Rattle.std.specs.Prelude.{codes}
 use Rattle.pef_cert_text.specs.Kept.Reading.{words_left}
 use Rattle.pef_cert_text.proofs.ProgramLemmas.{halfwords_say}
 use Rattle.pef_cert_text.proofs.program.bytes_spelled.Goals as goal

@@ -1,8 +1,6 @@
-use Rattle.std.proofs.Common.{◌≡◌, ◌≢◌, ◌*◌, ◌-◌, ◌≤◌, ◌∙◌, List, ℕ, drop, length, take, arith, subst, sym}
+use Rattle.std.proofs.Common.{◌≢◌, ◌∙◌, drop, length, take, arith, sym}
 use Rattle.std.proofs.lemmas.Bool.{false≢true}
 use Rattle.std.proofs.lemmas.List.{length-drop}
-use Rattle.pef_fixups.specs.Answers.{Says}
-use Rattle.pef_labels.specs.Rows.{NeighboursDiffer}
 use Rattle.pef_labels.proofs.RowLemmas.{differ_both, differ_here, differ_later, long_rows, starts_same}
 use Rattle.pef_labels.proofs.rows.neighbours_differ.Goals as goal
 

@@ -1,4 +1,4 @@
-use Rattle.std.proofs.Common.{◌≡◌, ◌≢◌, ◌<◌, ◌≤◌, ◌-◌, ◌+◌, ◌∙◌, ◌++◌, List, ℕ, suc, length, ap, arith, replicate, sym}
+use Rattle.std.proofs.Common.{◌≡◌, ◌-◌, ◌+◌, ◌∙◌, ◌++◌, suc, length, ap, arith, replicate}
 use Rattle.pef_labels.specs.Kept.RowsKept.{EndsWith}
 use Rattle.pef_labels.specs.Rows.{rows_from}
 use Rattle.pef_labels.proofs.RowLemmas.{full-more, full-push, rows-many_more, rows-pushed}
