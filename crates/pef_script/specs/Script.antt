@@ -1,17 +1,20 @@
--- What a script describes: the parts of a container, by their names and numbers. Kinds, shares, options
--- and classes have the numbers of PEFBinaryFormat.h; the language of scripts is this project's own
--- (docs/SCRIPTS.md).
-use Rattle.std.specs.Prelude.{ℕ, ℤ, ◌+◌, Bool, List, Option, length, map}
+-- What a script describes: the parts of a container, by their names and numbers. The language of scripts is
+-- this project's own (docs/SCRIPTS.md).
+use Rattle.std.specs.Prelude.{ℕ, ◌+◌, List, Option, length, map}
 use Rattle.std.specs.List.{sum_by}
+use Rattle.pef_format.specs.declared.section.SectionKind.{SectionKind}
+use Rattle.pef_format.specs.declared.section.Share.{Share}
+use Rattle.pef_format.specs.declared.symbol.LibraryOptions.{LibraryOptions}
+use Rattle.pef_format.specs.Exports.{Export}
+use Rattle.pef_format.specs.Symbols.{Import}
 use Rattle.pef_reloc.specs.declared.fixup.Fixup.{Fixup}
 use Rattle.pef_script.specs.declared.parts.Versions.{Versions}
 
--- a section's line (the fields of PEFSectionHeader): kind and share by their numbers, the alignment as an
--- exponent of two
+-- a section's line (the fields of PEFSectionHeader); the alignment is an exponent of two
 pub record DescribedHeader : Type 0 where
   pub name : List ℕ
-  pub kind : ℕ
-  pub share : ℕ
+  pub kind : SectionKind
+  pub share : Share
   pub align : ℕ
   pub total : ℕ
 
@@ -21,35 +24,20 @@ pub record DescribedSection : Type 0 where
   pub image : List ℕ
   pub fixups : List Fixup
 
--- a library to import from (PEFImportedLibrary); of the options, 80 (hex) is for one that initializes
--- before and 40 for a weak one
+-- a library to import from (PEFImportedLibrary)
 pub record DescribedLibrary : Type 0 where
   pub name : List ℕ
   pub current : ℕ
   pub old_imp : ℕ
-  pub options : ℕ
-
--- an imported symbol (PEFImportedSymbol), of a library by its number
-pub record DescribedImport : Type 0 where
-  pub name : List ℕ
-  pub class : ℕ
-  pub weak : Bool
-  pub library : ℕ
-
--- an exported symbol (PEFExportedSymbol): an offset in a section, by its number
-pub record DescribedExport : Type 0 where
-  pub name : List ℕ
-  pub class : ℕ
-  pub section : ℤ
-  pub value : ℕ
+  pub options : LibraryOptions
 
 -- a whole script; main, init and term are a section, by its number, and an offset in it
 pub record DescribedScript : Type 0 where
   pub versions : Versions
   pub libraries : List DescribedLibrary
-  pub imports : List DescribedImport
+  pub imports : List Import
   pub sections : List DescribedSection
-  pub exports : List DescribedExport
+  pub exports : List Export
   pub main : Option (ℕ × ℕ)
   pub init : Option (ℕ × ℕ)
   pub term : Option (ℕ × ℕ)

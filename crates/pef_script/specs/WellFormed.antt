@@ -1,7 +1,12 @@
 -- What is true of every script: names, limits, everything in its place (docs/SCRIPTS.md, "Lines" and "Limits").
-use Rattle.std.specs.Prelude.{◌≡◌, ℕ, ℤ, pos, negsuc, ◌<◌, ◌≤◌, ◌==◌, ◌||◌, Bool, true, List, [], ◌∷◌, Option, None, Some, length, map, slice_index}
+use Rattle.std.specs.Prelude.{◌≡◌, ℕ, ◌<◌, ◌≤◌, true, List, [], ◌∷◌, Option, None, Some, length, map, slice_index}
 use Rattle.std.specs.List.{AllByRecursion, IsDistinct, list_all}
 use Rattle.std.specs.Str.{bytes_eq}
+use Rattle.pef_format.specs.declared.export.ExportValue.{ExportValue}
+use Rattle.pef_format.specs.declared.export.ExportValue.TheVariants.{Absolute, InSection, Reexport}
+use Rattle.pef_format.specs.Exports.{Export, is_export_section, value_of}
+use Rattle.pef_format.specs.Sections.{is_instantiable, is_named_share}
+use Rattle.pef_format.specs.Symbols.{Import, is_class}
 use Rattle.pef_reloc.specs.declared.fixup.Base.{Base}
 use Rattle.pef_reloc.specs.declared.fixup.Base.TheVariants as base
 use Rattle.pef_reloc.specs.declared.fixup.Fixup.{Fixup}
@@ -9,7 +14,7 @@ use Rattle.pef_reloc.specs.Fixups.{fixups_fit, fixups_end}
 use Rattle.pef_reloc.specs.Limits.{most_imports, most_sections}
 use Rattle.pef_script.specs.Limits.{greatest_align, greatest_number, greatest_total, longest_name, most_exports, most_libraries, most_name_bytes}
 use Rattle.pef_script.specs.declared.parts.Versions.{Versions}
-use Rattle.pef_script.specs.Script.{DescribedExport, DescribedImport, DescribedLibrary, DescribedSection, DescribedScript, name_bytes}
+use Rattle.pef_script.specs.Script.{DescribedLibrary, DescribedSection, DescribedScript, name_bytes}
 use Rattle.pef_lines.specs.Words.{is_printing}
 
 -- a name has 1 to 255 bytes, each from 21 to 7E (hex)
@@ -28,15 +33,10 @@ pub record VersionsHold (v : Versions) : Type 0 where
   pub old_def : v.old_def ≤ greatest_number
   pub old_imp : v.old_imp ≤ greatest_number
 
--- the options of a library, by their bits
-abbrev pub is_options : ℕ → Bool
-is_options options = options == 0 || options == 0x40 || options == 0x80 || options == 0xC0
-
 pub record LibraryHolds (l : DescribedLibrary) : Type 0 where
   pub name : IsName l.name
   pub current : l.current ≤ greatest_number
   pub old_imp : l.old_imp ≤ greatest_number
-  pub options : is_options l.options ≡ true
 
 pub record LibrariesHold (libraries : List DescribedLibrary) : Type 0 where
   pub count : length libraries ≤ most_libraries
@@ -44,24 +44,17 @@ pub record LibrariesHold (libraries : List DescribedLibrary) : Type 0 where
   pub apart : IsDistinct bytes_eq (map (λ library. library.name) libraries)
 
 -- an import among so many libraries
-pub record ImportHolds (libraries : ℕ) (i : DescribedImport) : Type 0 where
+pub record ImportHolds (libraries : ℕ) (i : Import) : Type 0 where
   pub name : IsName i.name
-  pub class : i.class ≤ 4
+  pub class : is_class i.class ≡ true
   pub library : i.library < libraries
 
 -- imports stand library by library
-pub record ImportsHold (libraries : ℕ) (imports : List DescribedImport) : Type 0 where
+pub record ImportsHold (libraries : ℕ) (imports : List Import) : Type 0 where
   pub count : length imports ≤ most_imports
   pub each : AllByRecursion (ImportHolds libraries) imports
   pub apart : IsDistinct bytes_eq (map (λ symbol. symbol.name) imports)
   pub grouped : Rises (map (λ symbol. symbol.library) imports)
-
--- the kinds and the shares of sections, by their numbers
-abbrev pub is_kind : ℕ → Bool
-is_kind kind = kind == 0 || kind == 1 || kind == 3 || kind == 6
-
-abbrev pub is_share : ℕ → Bool
-is_share share = share == 1 || share == 4 || share == 5
 
 -- the section or the import of a base is there
 abbrev pub BaseThere : ℕ → ℕ → Base → Type 0
@@ -71,8 +64,8 @@ BaseThere sections imports (base.Import j) = j < imports
 -- a section among so many sections and imports
 pub record SectionHolds (sections imports : ℕ) (s : DescribedSection) : Type 0 where
   pub name : IsName s.header.name
-  pub kind : is_kind s.header.kind ≡ true
-  pub share : is_share s.header.share ≡ true
+  pub kind : is_instantiable s.header.kind ≡ true
+  pub share : is_named_share s.header.share ≡ true
   pub align : s.header.align ≤ greatest_align
   pub total : s.header.total ≤ greatest_total
   pub image : length s.image ≤ s.header.total
@@ -94,19 +87,21 @@ pub record PlaceHolds (totals : List ℕ) (k offset : ℕ) : Type 0 where
   pub there : k < length totals
   pub inside : offset ≤ slice_index totals k
 
--- the same of a section by its signed number
-abbrev pub SignedPlaceHolds : List ℕ → ℤ → ℕ → Type 0
-SignedPlaceHolds totals (pos k) offset = PlaceHolds totals k offset
-SignedPlaceHolds totals (negsuc n) offset = ⊥
+-- what an export stands for is there, where sections have so many bytes and there are so many imports
+abbrev pub ValueHolds : List ℕ → ℕ → ExportValue → Type 0
+ValueHolds totals imports (InSection k offset) = PlaceHolds totals k offset
+ValueHolds totals imports (Absolute value) = value ≤ greatest_number
+ValueHolds totals imports (Reexport import) = import < imports
 
-pub record ExportHolds (totals : List ℕ) (e : DescribedExport) : Type 0 where
+pub record ExportHolds (totals : List ℕ) (imports : ℕ) (e : Export) : Type 0 where
   pub name : IsName e.name
-  pub class : e.class ≤ 4
-  pub place : SignedPlaceHolds totals e.section e.value
+  pub class : is_class e.class ≡ true
+  pub section : is_export_section e.section ≡ true
+  pub value : ValueHolds totals imports (value_of e.section e.value)
 
-pub record ExportsHold (totals : List ℕ) (exports : List DescribedExport) : Type 0 where
+pub record ExportsHold (totals : List ℕ) (imports : ℕ) (exports : List Export) : Type 0 where
   pub count : length exports ≤ most_exports
-  pub each : AllByRecursion (ExportHolds totals) exports
+  pub each : AllByRecursion (ExportHolds totals imports) exports
   pub apart : IsDistinct bytes_eq (map (λ symbol. symbol.name) exports)
 
 -- an entry is in a section, where there is one
@@ -119,7 +114,7 @@ pub record ScriptHolds (s : DescribedScript) : Type 0 where
   pub libraries : LibrariesHold s.libraries
   pub imports : ImportsHold (length s.libraries) s.imports
   pub sections : SectionsHold (length s.imports) s.sections
-  pub exports : ExportsHold (totals_of s.sections) s.exports
+  pub exports : ExportsHold (totals_of s.sections) (length s.imports) s.exports
   pub main : EntryHolds (totals_of s.sections) s.main
   pub init : EntryHolds (totals_of s.sections) s.init
   pub term : EntryHolds (totals_of s.sections) s.term

@@ -11,4 +11,4 @@ mod views;
 pub use parts::{ExportData, ImportData, LibraryData, Parts, Section, SectionHeader, Versions};
 pub use script::Script;
 pub use theorems::described_bytes;
-pub use views::{ExportView, ImportView, LibraryView};
+pub use views::LibraryView;

@@ -4,6 +4,7 @@ ghost use Rattle.pef_reloc.specs.Limits.{most_imports, most_sections};
 ghost use Rattle.pef_script.specs.Limits.{most_libraries};
 
 use indexmap::IndexMap;
+use pef_format::{LibraryOptions, SectionKind, Share, SymbolClass};
 use pef_reloc::Fixup;
 use std::marker::Model;
 
@@ -19,10 +20,10 @@ pub struct Versions {
 #[derive(Clone, Copy, Debug, PartialEq, Eq)]
 pub struct SectionHeader<'a> {
     pub name: &'a [u8],
-    /// The section's kind in the container: 0 code, 1 data, 3 constants, 6 executable data.
-    pub kind: u8,
-    /// How the section is shared: 1 by process, 4 globally, 5 protected.
-    pub share: u8,
+    /// One of the kinds that may be instantiated. The image of pattern-initialized data is packed where it
+    /// is written.
+    pub kind: SectionKind,
+    pub share: Share,
     /// The alignment, as an exponent of two: at most 12.
     pub align: u8,
     /// How many bytes the section has: at most 16,777,216.
@@ -34,15 +35,13 @@ pub struct SectionHeader<'a> {
 pub struct LibraryData {
     pub current: u32,
     pub old_imp: u32,
-    /// 80 (hex) where it initializes before, 40 where it is weak.
-    pub options: u8,
+    pub options: LibraryOptions,
 }
 
 /// What a script says of an import beside its name.
 #[derive(Clone, Copy)]
 pub struct ImportData {
-    /// The symbol's class: 0 code, 1 data, 2 transition vector, 3 TOC, 4 glue.
-    pub class: u8,
+    pub class: SymbolClass,
     pub weak: bool,
     /// The number of its library.
     pub library: u32,
@@ -51,11 +50,10 @@ pub struct ImportData {
 /// What a script says of an export beside its name.
 #[derive(Clone, Copy)]
 pub struct ExportData {
-    /// The symbol's class: 0 code, 1 data, 2 transition vector, 3 TOC, 4 glue.
-    pub class: u8,
-    /// The number of its section.
+    pub class: SymbolClass,
+    /// The number of its section, or -2 for an absolute value, or -3 for an import that is passed on.
     pub section: i32,
-    /// Its offset in the section.
+    /// Its offset in the section, or its value, or the number of the import.
     pub value: u32,
 }
 

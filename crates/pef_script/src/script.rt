@@ -2,11 +2,14 @@ ghost use Rattle.std.specs.Prelude.{◌≡◌, ◌≤◌, IfSome, length, option
 ghost use Rattle.pef_reloc.specs.Fixups.{fixups_fit};
 ghost use Rattle.pef_reloc.specs.Limits.{most_imports, most_sections};
 ghost use Rattle.pef_script.specs.Limits.{most_exports, most_libraries};
-ghost use Rattle.pef_script.specs.Parts.{script_in};
-ghost use Rattle.pef_script.specs.Views.{export_in, header_in, import_in, library_in};
+ghost use Rattle.pef_script.specs.Parts.{export_of, script_in};
+ghost use Rattle.pef_format.specs.Exports.{export_seen};
+ghost use Rattle.pef_format.specs.Symbols.{import_seen};
+ghost use Rattle.pef_script.specs.Views.{header_in, library_in};
 ghost use Rattle.pef_script.specs.WellFormed.{ScriptHolds};
 
-use crate::{ExportView, ImportView, LibraryView, Parts, SectionHeader, Versions};
+use crate::{ExportData, LibraryView, Parts, SectionHeader, Versions};
+use pef_format::{ExportView, ImportView};
 use pef_reloc::Fixup;
 use std::marker::Model;
 
@@ -121,12 +124,12 @@ impl<'a> Script<'a> {
 
     /// Import `j`, or `None` past the last one.
     pub fn import(&self, j: usize) -> Option<ImportView<'a>>
-        ensures { option_map import_in result ≡ slice_get self.now.imports j }
+        ensures { option_map import_seen result ≡ slice_get self.now.imports j }
     {
         let (name, import) = self.parts.imports.get_index(j)?;
         Some(ImportView {
             name,
-            class: import.class,
+            class: import.class.code(),
             weak: import.weak,
             library: import.library,
         })
@@ -134,15 +137,10 @@ impl<'a> Script<'a> {
 
     /// Export `e`, or `None` past the last one.
     pub fn export(&self, e: usize) -> Option<ExportView<'a>>
-        ensures { option_map export_in result ≡ slice_get self.now.exports e }
+        ensures { option_map export_seen result ≡ slice_get self.now.exports e }
     {
         let (name, export) = self.parts.exports.get_index(e)?;
-        Some(ExportView {
-            name,
-            class: export.class,
-            section: export.section,
-            value: export.value,
-        })
+        Some(export_view(name, *export))
     }
 
     /// The section and offset of the main entry, where there is one.
@@ -164,5 +162,17 @@ impl<'a> Script<'a> {
         ensures { result ≡ self.now.term }
     {
         self.parts.term
+    }
+}
+
+/// An export with its name.
+fn export_view(name: &[u8], export: ExportData) -> ExportView<'_>
+    ensures { export_seen result ≡ export_of (name.entry, export) }
+{
+    ExportView {
+        name,
+        class: export.class.code(),
+        section: export.section,
+        value: export.value,
     }
 }

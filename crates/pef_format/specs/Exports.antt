@@ -1,0 +1,35 @@
+-- What the fields of an exported symbol mean (PEFExportedSymbol of PEFBinaryFormat.h; Mac OS Runtime
+-- Architectures, "PEF Structure", "Exported Symbol Table").
+use Rattle.std.specs.Prelude.{ℕ, ℤ, pos, negsuc, true, ◌==◌, ◌||◌, Bool, List, if◌then◌else◌}
+use Rattle.pef_format.specs.declared.export.ExportValue.{ExportValue}
+use Rattle.pef_format.specs.declared.export.ExportValue.TheVariants.{Absolute, InSection, Reexport}
+use Rattle.pef_format.specs.declared.export.ExportView.{ExportView}
+
+-- the sections of an absolute value (-2) and of an import that is passed on (-3)
+
+abbrev pub absolute_export : ℤ
+absolute_export = negsuc 1
+
+abbrev pub reexported_import : ℤ
+reexported_import = negsuc 2
+
+-- a section number that the format gives to exports
+abbrev pub is_export_section : ℤ → Bool
+is_export_section (pos section) = true
+is_export_section (negsuc n) = n == 1 || n == 2
+
+-- what an export stands for, by its section and its value
+abbrev pub value_of : ℤ → ℕ → ExportValue
+value_of (pos section) value = InSection section value
+value_of (negsuc n) value = if n == 1 then Absolute value else Reexport value
+
+-- an exported symbol
+pub record Export : Type 0 where
+  pub name : List ℕ
+  pub class : ℕ
+  pub section : ℤ
+  pub value : ℕ
+
+-- the symbol that a view shows
+abbrev pub export_seen : ExportView → Export
+export_seen v = record { name = v.name.now; class = v.class; section = v.section; value = v.value }

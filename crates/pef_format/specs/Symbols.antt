@@ -1,0 +1,53 @@
+-- What the codes of symbols and libraries mean (PEFImportedSymbol, PEFExportedSymbol and
+-- PEFImportedLibrary, in PEFBinaryFormat.h; Mac OS Runtime Architectures, "PEF Structure").
+use Rattle.std.specs.Prelude.{ℕ, ◌+◌, ◌==◌, not, bit_and, Bool, List, if◌then◌else◌, nat_le}
+use Rattle.pef_format.specs.declared.import.ImportView.{ImportView}
+use Rattle.pef_format.specs.declared.symbol.LibraryOptions.{LibraryOptions}
+use Rattle.pef_format.specs.declared.symbol.SymbolClass.{SymbolClass}
+use Rattle.pef_format.specs.declared.symbol.SymbolClass.TheVariants.{Code, Data, TransitionVector, Toc, Glue}
+use Rattle.pef_format.specs.declared.symbol.SymbolClass.TheVariants as class
+
+-- the code of a class (kPEFCodeSymbol and the four after it)
+abbrev pub class_code : SymbolClass → ℕ
+class_code Code = 0
+class_code Data = 1
+class_code TransitionVector = 2
+class_code Toc = 3
+class_code Glue = 4
+class_code (class.Other code) = code
+
+-- the class that a code stands for
+abbrev pub class_of : ℕ → SymbolClass
+class_of code =
+    if code == 0 then Code
+    else if code == 1 then Data
+    else if code == 2 then TransitionVector
+    else if code == 3 then Toc
+    else if code == 4 then Glue
+    else class.Other code
+
+-- the codes of the classes that the format names
+abbrev pub is_class : ℕ → Bool
+is_class code = nat_le code 4
+
+-- the byte of a library's options (kPEFInitLibBeforeMask, kPEFWeakImportLibMask)
+abbrev pub options_code : LibraryOptions → ℕ
+options_code o = (if o.init_before then 0x80 else 0) + (if o.weak then 0x40 else 0)
+
+-- the options that a byte stands for
+abbrev pub options_of : ℕ → LibraryOptions
+options_of code = record {
+  init_before = not (bit_and code 0x80 == 0);
+  weak = not (bit_and code 0x40 == 0);
+}
+
+-- an imported symbol, of a library by its number
+pub record Import : Type 0 where
+  pub name : List ℕ
+  pub class : ℕ
+  pub weak : Bool
+  pub library : ℕ
+
+-- the symbol that a view shows
+abbrev pub import_seen : ImportView → Import
+import_seen v = record { name = v.name.now; class = v.class; weak = v.weak; library = v.library }

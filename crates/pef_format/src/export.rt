@@ -1,0 +1,63 @@
+ghost use Rattle.std.specs.Prelude.{◌≡◌};
+ghost use Rattle.pef_format.specs.Exports.{value_of};
+
+use crate::layout::ABSOLUTE_EXPORT;
+use crate::symbol::SymbolClass;
+
+/// What an exported symbol stands for.
+#[derive(Clone, Copy, Debug, PartialEq, Eq)]
+pub enum ExportValue {
+    /// The address of a section plus an offset.
+    InSection { section: u32, offset: u32 },
+    /// A number.
+    Absolute(u32),
+    /// What an import of the same container stands for.
+    Reexport { import: u32 },
+}
+
+impl ExportValue {
+    /// Returns what the fields of an exported symbol stand for (sectionIndex and symbolValue of
+    /// PEFExportedSymbol). Every other negative section, which readers refuse, is taken as -3.
+    pub fn from_fields(section: i32, value: u32) -> ExportValue
+        ensures { result ≡ value_of section value }
+    {
+        match section {
+            ABSOLUTE_EXPORT => ExportValue::Absolute(value),
+            section if section < 0 => ExportValue::Reexport { import: value },
+            section => ExportValue::InSection {
+                section: section.cast_unsigned(),
+                offset: value,
+            },
+        }
+    }
+}
+
+/// An exported symbol with its name.
+#[derive(Clone, Copy, Debug, PartialEq, Eq)]
+pub struct ExportView<'a> {
+    pub name: &'a [u8],
+    /// The low four bits of the class byte.
+    pub class: u8,
+    /// The section that the value is an offset in, or [`ABSOLUTE_EXPORT`], or
+    /// [`REEXPORTED_IMPORT`](crate::layout::REEXPORTED_IMPORT): then the value is an import's index.
+    pub section: i32,
+    pub value: u32,
+}
+
+impl<'a> ExportView<'a> {
+    ghost use Rattle.pef_format.specs.Symbols.{class_of};
+
+    /// Returns what the symbol stands for.
+    pub fn value(self) -> ExportValue
+        ensures { result ≡ value_of self.entry.section self.entry.value }
+    {
+        ExportValue::from_fields(self.section, self.value)
+    }
+
+    /// Returns what the symbol is an address of.
+    pub fn class(self) -> SymbolClass
+        ensures { result ≡ class_of self.entry.class }
+    {
+        SymbolClass::from_code(self.class)
+    }
+}

@@ -1,0 +1,18 @@
+//! The vocabulary of PEF containers: what the codes of kinds, shares, classes, options and special sections
+//! mean (Mac OS Runtime Architectures, "PEF Structure"; `PEFBinaryFormat.h`).
+//!
+//! Views keep the fields as containers have them. Their meaning is told here only.
+#![tactic(auto)]
+
+mod export;
+mod import;
+pub mod layout;
+mod section;
+mod symbol;
+mod theorems;
+
+pub use export::{ExportValue, ExportView};
+pub use import::ImportView;
+pub use section::{SectionKind, Share};
+pub use symbol::{LibraryOptions, SymbolClass};
+pub use theorems::codes_agree;
