@@ -22,7 +22,7 @@ kind_code Traceback = 8
 kind_code (kind.Other code) = code
 
 -- the kind that a code stands for
-abbrev pub kind_of : ℕ → SectionKind
+unfoldable pub kind_of : ℕ → SectionKind
 kind_of code =
     if code == 0 then Code
     else if code == 1 then UnpackedData
@@ -41,25 +41,18 @@ is_instantiable Code = true
 is_instantiable UnpackedData = true
 is_instantiable PatternData = true
 is_instantiable Constant = true
-is_instantiable Loader = false
-is_instantiable Debug = false
 is_instantiable ExecutableData = true
-is_instantiable Exception = false
-is_instantiable Traceback = false
-is_instantiable (kind.Other code) = false
+is_instantiable kind = false
 
 -- pattern-initialized data: the raw bytes are the packed image
 abbrev pub is_packed : SectionKind → Bool
-is_packed Code = false
-is_packed UnpackedData = false
 is_packed PatternData = true
-is_packed Constant = false
-is_packed Loader = false
-is_packed Debug = false
-is_packed ExecutableData = false
-is_packed Exception = false
-is_packed Traceback = false
-is_packed (kind.Other code) = false
+is_packed kind = false
+
+-- imports, exports and relocations
+abbrev pub is_loader : SectionKind → Bool
+is_loader Loader = true
+is_loader kind = false
 
 -- the code of a share (kPEFProcessShare, kPEFGlobalShare, kPEFProtectedShare)
 abbrev pub share_code : Share → ℕ
@@ -69,7 +62,7 @@ share_code Protected = 5
 share_code (share.Other code) = code
 
 -- the share that a code stands for
-abbrev pub share_of : ℕ → Share
+unfoldable pub share_of : ℕ → Share
 share_of code = if code == 1 then Process else if code == 4 then Global else if code == 5 then Protected else share.Other code
 
 -- the shares that the format names
@@ -77,4 +70,4 @@ abbrev pub is_named_share : Share → Bool
 is_named_share Process = true
 is_named_share Global = true
 is_named_share Protected = true
-is_named_share (share.Other code) = false
+is_named_share share = false

@@ -17,7 +17,7 @@ class_code Glue = 4
 class_code (class.Other code) = code
 
 -- the class that a code stands for
-abbrev pub class_of : ℕ → SymbolClass
+unfoldable pub class_of : ℕ → SymbolClass
 class_of code =
     if code == 0 then Code
     else if code == 1 then Data
@@ -35,7 +35,7 @@ abbrev pub options_code : LibraryOptions → ℕ
 options_code o = (if o.init_before then 0x80 else 0) + (if o.weak then 0x40 else 0)
 
 -- the options that a byte stands for
-abbrev pub options_of : ℕ → LibraryOptions
+unfoldable pub options_of : ℕ → LibraryOptions
 options_of code = record {
   init_before = not (bit_and code 0x80 == 0);
   weak = not (bit_and code 0x40 == 0);

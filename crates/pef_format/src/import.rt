@@ -12,7 +12,7 @@ pub struct ImportView<'a> {
     /// Whether the symbol may be missing.
     pub weak: bool,
     /// The number of its library.
-    pub library: u32,
+    pub library: usize,
 }
 
 impl<'a> ImportView<'a> {

@@ -1,5 +1,5 @@
 ghost use Rattle.std.specs.Prelude.{◌≡◌};
-ghost use Rattle.pef_format.specs.Sections.{is_instantiable, is_packed, kind_code, kind_of, share_code, share_of};
+ghost use Rattle.pef_format.specs.Sections.{is_instantiable, is_loader, is_packed, kind_code, kind_of, share_code, share_of};
 
 use crate::layout::{
     CODE_SECTION, CONSTANT_SECTION, DEBUG_SECTION, EXCEPTION_SECTION, EXECUTABLE_DATA_SECTION,
@@ -34,6 +34,7 @@ pub enum SectionKind {
 
 impl SectionKind {
     /// Returns the kind that a code stands for.
+    #[tactic(auto, unfolding(crate::specs::Sections::kind_of))]
     pub fn from_code(code: u8) -> SectionKind
         ensures { result ≡ kind_of code }
     {
@@ -93,6 +94,13 @@ impl SectionKind {
     {
         matches!(self, SectionKind::PatternData)
     }
+
+    /// Whether a section of a kind has imports, exports and relocations.
+    pub fn is_loader(self) -> bool
+        ensures { result ≡ is_loader self }
+    {
+        matches!(self, SectionKind::Loader)
+    }
 }
 
 /// Who shares an instance of a section (shareKind of PEFSectionHeader).
@@ -110,6 +118,7 @@ pub enum Share {
 
 impl Share {
     /// Returns the share that a code stands for.
+    #[tactic(auto, unfolding(crate::specs::Sections::share_of))]
     pub fn from_code(code: u8) -> Share
         ensures { result ≡ share_of code }
     {

@@ -23,6 +23,7 @@ pub enum SymbolClass {
 
 impl SymbolClass {
     /// Returns the class that a code stands for.
+    #[tactic(auto, unfolding(crate::specs::Symbols::class_of))]
     pub fn from_code(code: u8) -> SymbolClass
         ensures { result ≡ class_of code }
     {
@@ -62,6 +63,7 @@ pub struct LibraryOptions {
 
 impl LibraryOptions {
     /// Returns the options that a byte stands for. Its other bits mean nothing.
+    #[tactic(auto, unfolding(crate::specs::Symbols::options_of))]
     pub fn from_code(code: u8) -> LibraryOptions
         ensures { result ≡ options_of code }
     {

@@ -6,6 +6,7 @@ ghost use Rattle.pef_format.specs.Symbols.{class_code, class_of, options_code, o
 
 /// Each code of a kind, a share or a class stands for one value, whose code it is, and each way to use a
 /// library has a code that stands for it.
+#[tactic(auto, unfolding(crate::specs::Sections::kind_of, crate::specs::Sections::share_of, crate::specs::Symbols::class_of, crate::specs::Symbols::options_of))]
 pub fn codes_agree()
     ensures kinds { (code : ℕ) → kind_code (kind_of code) ≡ code }
     ensures shares { (code : ℕ) → share_code (share_of code) ≡ code }

@@ -9,10 +9,11 @@ ghost use Rattle.pef_hash.specs.Kept.Searches.{LeadsToAll};
 
 use crate::chain::places_in;
 use crate::layout::{
-    CLASS_COUNT, CLASS_SHIFT, EXPORT_CLASS_AND_NAME_AT, EXPORT_SECTION_AT, EXPORT_SIZE,
-    EXPORT_VALUE_AT, KEY_LENGTH_SHIFT, KEY_SIZE, MOST_NAME_LENGTH, SLOT_SIZE,
+    EXPORT_CLASS_AND_NAME_AT, EXPORT_SECTION_AT, EXPORT_SIZE, EXPORT_VALUE_AT, KEY_LENGTH_SHIFT,
+    KEY_SIZE, MOST_NAME_LENGTH, SLOT_SIZE,
 };
 use crate::word::{hash_word, slot};
+use pef_format::layout::{CLASS_COUNT, CLASS_SHIFT};
 use pef_words::Cut;
 use std::ops::Range;
 

@@ -6,7 +6,7 @@ mod builder;
 mod chain;
 mod exports;
 mod fault;
-pub mod layout;
+mod layout;
 mod regular;
 mod word;
 

@@ -5,7 +5,7 @@ ghost use Rattle.pef_loader.specs.Export.{export_refusal, export_table, export_t
 
 use crate::fault::LoaderFault;
 use crate::header::LoaderHeader;
-use crate::layout::{ABSOLUTE_EXPORT, REEXPORTED_IMPORT};
+use pef_format::layout::{ABSOLUTE_EXPORT, REEXPORTED_IMPORT};
 use pef_hash::Exports;
 use pef_words::Cut;
 

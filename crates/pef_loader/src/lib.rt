@@ -13,7 +13,7 @@ mod header;
 mod import;
 mod import_reader;
 mod import_table;
-pub mod layout;
+mod layout;
 mod library;
 mod names;
 mod owner;

@@ -7,8 +7,9 @@ use crate::fault::LoaderFault;
 use crate::header::LoaderHeader;
 use crate::layout::{
     CURRENT_VERSION_AT, FIRST_IMPORTED_SYMBOL_AT, IMPORTED_SYMBOL_COUNT_AT, LIBRARY_NAME_OFFSET_AT,
-    LIBRARY_OPTIONS_AT, LIBRARY_SIZE, LOADER_HEADER_SIZE, OLD_IMP_VERSION_AT,
+    LIBRARY_OPTIONS_AT, LIBRARY_SIZE, OLD_IMP_VERSION_AT,
 };
+use pef_format::layout::LOADER_HEADER_SIZE;
 use pef_words::Cut;
 
 /// An imported library, field by field (PEFImportedLibrary).

@@ -6,8 +6,8 @@ ghost use Rattle.pef_loader.specs.Kept.Ranges.{AreInOrder, IsFirstPast, end_of, 
 use crate::header::LoaderHeader;
 use crate::layout::{
     FIRST_IMPORTED_SYMBOL_AT, IMPORTED_SYMBOL_COUNT_AT, LIBRARY_OPTIONS_AT, LIBRARY_SIZE,
-    LOADER_HEADER_SIZE,
 };
+use pef_format::layout::LOADER_HEADER_SIZE;
 use pef_words::Cut;
 use std::ops::Range;
 

@@ -131,7 +131,7 @@ impl<'a> Script<'a> {
             name,
             class: import.class.code(),
             weak: import.weak,
-            library: import.library,
+            library: import.library as usize,
         })
     }
 

@@ -1,14 +1,15 @@
 -- What is known of a section that isn't refused.
-use Rattle.std.proofs.Common.{◌≡◌, ◌≢◌, ℕ, ◌+◌, ◌<◌, ◌≤◌, Bool, true, not, List, Option, None, Some, length, drop, length-drop, length-take, inl, inr, refl, arith}
+use Rattle.std.proofs.Common.{◌≡◌, ℕ, ◌+◌, ◌<◌, ◌≤◌, Bool, true, false, not, List, Option, None, Some, length, drop, length-drop, length-take, inl, inr, refl, arith}
 use Rattle.std.specs.Prelude.{◌==◌, ◌&&◌, ◌||◌, IsTrue, nat_le, nat_lt}
 use Rattle.std.proofs.lemmas.Bool.{and_parts, eqb-true, leb-true, ltb-false, not-false, or_cases}
 use Rattle.std.specs.Option.{option_map_or}
 use Rattle.pef_words.specs.Refusals.{first_met, first_among}
 use Rattle.pef_words.proofs.Laws.Refusals.{first_unmet, none_among}
+use Rattle.pef_format.specs.Sections.{is_instantiable, is_packed, kind_of}
 use Rattle.pef_views.specs.declared.header.Header.{Header}
 use Rattle.pef_views.specs.declared.section.SectionHeader.{SectionHeader}
 use Rattle.pef_views.specs.declared.fault.ViewFault.TheVariants.{TooShort}
-use Rattle.pef_views.specs.Section.{section_at, section_tests, is_inside, is_instantiable, raw_of, sizes_fit, pattern_data_section, greatest_alignment}
+use Rattle.pef_views.specs.Section.{section_at, section_tests, is_inside, raw_of, sizes_fit, greatest_alignment}
 use Rattle.pef_views.specs.Container.{IsInstantiable, section_in, section_refusal, is_instantiated}
 
 -- a section that is there and whose tests aren't met
@@ -53,14 +54,11 @@ length-raw_of bytes s inside =
     ]
 
 -- sizes that fit, outside of pattern-initialized data
-sizes_are : (kind total unpacked packed : ℕ) → IsTrue (nat_le unpacked total && (kind == pattern_data_section || nat_le unpacked packed)) → (unpacked ≤ total) × (kind ≢ pattern_data_section → unpacked ≤ packed)
-sizes_are kind total unpacked packed fit =
-    let parts = and_parts (nat_le unpacked total) (kind == pattern_data_section || nat_le unpacked packed) fit in (
+sizes_are : (pattern : Bool) (total unpacked packed : ℕ) → IsTrue (nat_le unpacked total && (pattern || nat_le unpacked packed)) → (unpacked ≤ total) × (pattern ≡ false → unpacked ≤ packed)
+sizes_are pattern total unpacked packed fit =
+    let parts = and_parts (nat_le unpacked total) (pattern || nat_le unpacked packed) fit in (
       leb-true unpacked total parts.0,
-      λ other. elim (or_cases (kind == pattern_data_section) (nat_le unpacked packed) parts.1) [
-        | inl pattern ↦ absurd (other (eqb-true kind pattern_data_section pattern))
-        | inr enough ↦ leb-true unpacked packed enough
-      ],
+      λ other. leb-true unpacked packed (rw other at parts.1),
     )
 
 -- an instantiated section whose tests aren't met
@@ -68,10 +66,10 @@ pub unmet_instantiable : (bytes : List ℕ) (s : SectionHeader) → first_met (s
 unfolding section_tests
 unmet_instantiable bytes s none =
     let inside = first_unmet (not (is_inside s (length bytes))) _ _ none in
-    let kind = first_unmet (not (is_instantiable s.section_kind)) _ _ inside.1 in
+    let kind = first_unmet (not (is_instantiable (kind_of s.section_kind))) _ _ inside.1 in
     let sizes = first_unmet (not (sizes_fit s)) _ _ kind.1 in
     let alignment = first_unmet (nat_lt greatest_alignment s.alignment) _ _ sizes.1 in
-    let fit = sizes_are s.section_kind s.total_size s.unpacked_size s.packed_size (not-false _ sizes.0) in
+    let fit = sizes_are (is_packed (kind_of s.section_kind)) s.total_size s.unpacked_size s.packed_size (not-false _ sizes.0) in
     let whole = length-raw_of bytes s (not-false _ inside.0) in
     record {
       kind = not-false _ kind.0;

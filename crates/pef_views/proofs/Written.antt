@@ -4,10 +4,11 @@ use Rattle.std.specs.Prelude.{Ok, IsTrue}
 use Rattle.std.proofs.lemmas.Bool.{le-ltb, lt-ltb}
 use Rattle.pef_words.specs.Refusals.{first_met}
 use Rattle.pef_words.proofs.Laws.Refusals.{first_among-at, first_among-none}
+use Rattle.pef_format.specs.Sections.{is_instantiable, is_loader, kind_of}
 use Rattle.pef_views.specs.declared.header.Header.{Header}
 use Rattle.pef_views.specs.declared.section.SectionHeader.{SectionHeader}
 use Rattle.pef_views.specs.Header.{header_of, header_tests, names_from, joy, peff, pwpc, version_1}
-use Rattle.pef_views.specs.Section.{section_at, section_tests, is_inside, is_instantiable, raw_of, sizes_fit, loader_section, greatest_alignment}
+use Rattle.pef_views.specs.Section.{section_at, section_tests, is_inside, raw_of, sizes_fit, greatest_alignment}
 use Rattle.pef_views.specs.Container.{container_of, is_instantiated, loader_here, section_refusal}
 use Rattle.pef_views.proofs.Containers.{accepts}
 
@@ -18,7 +19,7 @@ header_tests-unmet h len tag_1 tag_2 architecture version counts room =
     rw (tag_1, tag_2, architecture, version, le-ltb h.section_count h.instantiated_section_count counts, le-ltb len (names_from h) room) refl
 
 -- a section none of whose tests is met
-pub section_tests-unmet : (instantiated : Bool) (s : SectionHeader) (len : ℕ) → IsTrue (is_inside s len) → (IsTrue instantiated → IsTrue (is_instantiable s.section_kind) × IsTrue (sizes_fit s) × (s.alignment ≤ greatest_alignment)) → first_met (section_tests instantiated s len) ≡ None
+pub section_tests-unmet : (instantiated : Bool) (s : SectionHeader) (len : ℕ) → IsTrue (is_inside s len) → (IsTrue instantiated → IsTrue (is_instantiable (kind_of s.section_kind)) × IsTrue (sizes_fit s) × (s.alignment ≤ greatest_alignment)) → first_met (section_tests instantiated s len) ≡ None
 unfolding section_tests
 section_tests-unmet false s len inside sound = rw inside refl
 section_tests-unmet true s len inside sound =
@@ -33,7 +34,7 @@ pub record IsWritten (bytes : List ℕ) (h : Header) (section : ℕ → SectionH
   pub sections : (i : ℕ) → i < h.section_count → section_at bytes i ≡ Some (section i)
   pub unmet : (i : ℕ) → i < h.section_count → first_met (section_tests (is_instantiated h i) (section i) (length bytes)) ≡ None
   pub more : h.instantiated_section_count < h.section_count
-  pub loader : (section h.instantiated_section_count).section_kind ≡ loader_section
+  pub loader : IsTrue (is_loader (kind_of (section h.instantiated_section_count).section_kind))
 
 -- written bytes are a container
 pub container_of-written : (bytes : List ℕ) (h : Header) (section : ℕ → SectionHeader) → IsWritten bytes h section → container_of bytes ≡ Ok (record { bytes = bytes; header = h; loader = raw_of bytes (section h.instantiated_section_count) })

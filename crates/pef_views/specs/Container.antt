@@ -1,15 +1,16 @@
 -- Which bytes are a container and what it consists of, or the first refusal (Mac OS Runtime Architectures,
 -- "PEF Structure", container header, section headers, section name table and section contents).
-use Rattle.std.specs.Prelude.{◌≡◌, ◌≢◌, ℕ, ℤ, pos, negsuc, ◌+◌, ◌≤◌, ◌==◌, Bool, List, Option, None, Some, option_map, Result, Ok, Err, IsTrue, nat_lt, length, if◌then◌else◌}
+use Rattle.std.specs.Prelude.{◌≡◌, ℕ, ℤ, pos, negsuc, ◌+◌, ◌≤◌, false, Bool, List, Option, None, Some, option_map, Result, Ok, Err, IsTrue, nat_lt, length, if◌then◌else◌}
 use Rattle.std.specs.Option.{option_map_or}
 use Rattle.pef_words.specs.Bytes.{name_at}
 use Rattle.pef_words.specs.Refusals.{◌>>=◌, first_met, first_among, unless}
+use Rattle.pef_format.specs.Sections.{is_instantiable, is_loader, is_packed, kind_of}
 use Rattle.pef_views.specs.declared.header.Header.{Header}
 use Rattle.pef_views.specs.declared.section.SectionHeader.{SectionHeader}
 use Rattle.pef_views.specs.declared.fault.ViewFault.{ViewFault}
 use Rattle.pef_views.specs.declared.fault.ViewFault.TheVariants.{TooShort, NoLoader}
 use Rattle.pef_views.specs.Header.{header_of, header_tests, names_from}
-use Rattle.pef_views.specs.Section.{section_at, section_tests, is_instantiable, raw_of, pattern_data_section, loader_section, greatest_alignment}
+use Rattle.pef_views.specs.Section.{section_at, section_tests, raw_of, greatest_alignment}
 
 -- a container: its bytes, its header and the raw bytes of its loader section
 pub record Contained : Type 0 where
@@ -30,7 +31,7 @@ section_refusal bytes h i =
 abbrev pub loader_here : List ℕ → Header → ℕ → Option (List ℕ)
 loader_here bytes h i =
     if is_instantiated h i then None
-    else section_at bytes i >>= (λ s. if s.section_kind == loader_section then Some (raw_of bytes s) else None)
+    else section_at bytes i >>= (λ s. if is_loader (kind_of s.section_kind) then Some (raw_of bytes s) else None)
 
 -- the first of the loader sections that aren't instantiated
 abbrev pub loader_of : List ℕ → Header → Option (List ℕ)
@@ -84,7 +85,7 @@ section_name_of c i = section_of c i >>= (λ s. name_in c s.header.name_offset)
 -- what every instantiated section meets: it has a kind that may be, its image fits its memory and can come of
 -- its raw bytes, and its alignment can be placed
 pub record IsInstantiable (s : Section) : Type 0 where
-  pub kind : IsTrue (is_instantiable s.header.section_kind)
+  pub kind : IsTrue (is_instantiable (kind_of s.header.section_kind))
   pub image : s.header.unpacked_size ≤ s.header.total_size
-  pub unpacked : s.header.section_kind ≢ pattern_data_section → s.header.unpacked_size ≤ length s.raw
+  pub unpacked : is_packed (kind_of s.header.section_kind) ≡ false → s.header.unpacked_size ≤ length s.raw
   pub alignment : s.header.alignment ≤ greatest_alignment

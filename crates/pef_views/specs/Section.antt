@@ -5,6 +5,7 @@ use Rattle.std.specs.Prelude.{ℕ, ◌+◌, ◌==◌, ◌&&◌, ◌||◌, Bool, 
 use Rattle.std.specs.Int.{w32}
 use Rattle.pef_words.specs.Bytes.{number_at, signed_at}
 use Rattle.pef_words.specs.Refusals.{◌>>=◌}
+use Rattle.pef_format.specs.Sections.{is_instantiable, is_packed, kind_of}
 use Rattle.pef_views.specs.Header.{section_header_from}
 use Rattle.pef_views.specs.declared.section.SectionHeader.{SectionHeader}
 use Rattle.pef_views.specs.declared.fault.ViewFault.{ViewFault}
@@ -40,21 +41,9 @@ section_at bytes i = do
 abbrev pub is_inside : SectionHeader → ℕ → Bool
 is_inside s len = s.packed_size == 0 || nat_le (s.container_offset + s.packed_size) len
 
--- the kinds of pattern-initialized data and of loader sections (kPEFPatternDataSection, kPEFLoaderSection)
-abbrev pub pattern_data_section : ℕ
-pattern_data_section = 2
-
-abbrev pub loader_section : ℕ
-loader_section = 4
-
--- the kinds that may be instantiated: code, unpacked data, pattern-initialized data, constant, executable data
--- (kPEFCodeSection, kPEFUnpackedDataSection, kPEFPatternDataSection, kPEFConstantSection, kPEFExecDataSection)
-abbrev pub is_instantiable : ℕ → Bool
-is_instantiable kind = kind == 0 || kind == 1 || kind == pattern_data_section || kind == 3 || kind == 6
-
 -- the image fits the memory, and the raw bytes of all but pattern-initialized data are enough for it
 abbrev pub sizes_fit : SectionHeader → Bool
-sizes_fit s = nat_le s.unpacked_size s.total_size && (s.section_kind == pattern_data_section || nat_le s.unpacked_size s.packed_size)
+sizes_fit s = nat_le s.unpacked_size s.total_size && (is_packed (kind_of s.section_kind) || nat_le s.unpacked_size s.packed_size)
 
 -- the greatest alignment of an instantiated section, as an exponent of two: addresses have 32 bits
 abbrev pub greatest_alignment : ℕ
@@ -63,7 +52,7 @@ greatest_alignment = 31
 -- the tests of a section, which is instantiated or isn't, in a container of some length, in order
 unfoldable pub section_tests : Bool → SectionHeader → ℕ → List (Bool × ViewFault)
 section_tests instantiated s len = (not (is_inside s len), SectionOutside)
-    ∷ (instantiated && not (is_instantiable s.section_kind), BadSectionKind)
+    ∷ (instantiated && not (is_instantiable (kind_of s.section_kind)), BadSectionKind)
     ∷ (instantiated && not (sizes_fit s), BadSizes)
     ∷ (instantiated && nat_lt greatest_alignment s.alignment, BadAlignment)
     ∷ []

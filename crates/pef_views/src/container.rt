@@ -6,7 +6,6 @@ ghost use Rattle.pef_views.specs.Container.{IsInstantiable, container_of, loader
 
 use crate::fault::ViewFault;
 use crate::header::{Header, names_at, read_header, test_header};
-use crate::layout::LOADER_SECTION;
 use crate::section::{SectionView, raw_bytes, read_section, test_section};
 use pef_words::Cut;
 
@@ -64,7 +63,7 @@ impl<'a> Container<'a> {
     pub fn section(&self, i: usize) -> Option<SectionView<'a>>
         ensures value { option_map seen result ≡ section_of (contained self.now) i }
         ensures there { IsSome result ↔ (i < (contained self.now).header.section_count) }
-        ensures raw { IfSome result (λ s. length s.raw.now ≡ s.packed_size) }
+        ensures raw { IfSome result (λ s. length s.raw.now ≡ s.header.packed_size) }
         ensures instantiated { i < (contained self.now).header.instantiated_section_count
             → IfSome result (λ s. IsInstantiable (seen s)) }
     {
@@ -72,7 +71,8 @@ impl<'a> Container<'a> {
             return None;
         }
         let header = read_section(self.cut, i)?;
-        Some(SectionView::new(header, raw_bytes(self.cut, header)))
+        let raw = raw_bytes(self.cut, header);
+        Some(SectionView { header, raw })
     }
 
     /// The raw bytes of section `i`, or `None` past the last one.
@@ -99,7 +99,7 @@ impl<'a> Container<'a> {
     pub fn section_name(&self, i: usize) -> Option<&'a [u8]>
         ensures { option_copied result ≡ section_name_of (contained self.now) i }
     {
-        let offset = usize::try_from(self.section(i)?.name_offset).ok()?;
+        let offset = usize::try_from(self.section(i)?.header.name_offset).ok()?;
         self.cut.name_at(names_at(self.header) + offset)
     }
 }
@@ -150,7 +150,7 @@ fn loader_at<'a>(cut: Cut<'a>, header: Header, i: usize) -> Option<&'a [u8]>
         return None;
     }
     let section = read_section(cut, i)?;
-    if section.section_kind != LOADER_SECTION {
+    if !section.kind().is_loader() {
         return None;
     }
     Some(raw_bytes(cut, section))

@@ -8,7 +8,7 @@
 mod container;
 mod fault;
 mod header;
-pub mod layout;
+mod layout;
 mod section;
 
 pub use container::Container;

@@ -1,16 +1,17 @@
 ghost use Rattle.std.specs.Prelude.{◌≡◌, ◌+◌, ◌^◌, ◌<◌, IsTrue, length};
 ghost use Rattle.std.specs.Result.{result_err};
 ghost use Rattle.pef_words.specs.Refusals.{first_met};
-ghost use Rattle.pef_views.specs.Section.{is_inside, is_instantiable, raw_of, section_at, section_tests, sizes_fit};
+ghost use Rattle.pef_format.specs.Sections.{kind_of, share_of};
+ghost use Rattle.pef_views.specs.Section.{is_inside, raw_of, section_at, section_tests, sizes_fit};
 
 use crate::fault::ViewFault;
 use crate::header::section_header_at;
 use crate::layout::{
-    ALIGNMENT_AT, CODE_SECTION, CONSTANT_SECTION, CONTAINER_OFFSET_AT, DEFAULT_ADDRESS_AT,
-    EXECUTABLE_DATA_SECTION, MAX_ALIGNMENT, NAME_OFFSET_AT, PACKED_SIZE_AT, PATTERN_DATA_SECTION,
-    SECTION_KIND_AT, SECTION_RESERVED_AT, SHARE_KIND_AT, TOTAL_SIZE_AT, UNPACKED_DATA_SECTION,
-    UNPACKED_SIZE_AT,
+    ALIGNMENT_AT, CONTAINER_OFFSET_AT, DEFAULT_ADDRESS_AT, NAME_OFFSET_AT, PACKED_SIZE_AT,
+    SECTION_KIND_AT, SECTION_RESERVED_AT, SHARE_KIND_AT, TOTAL_SIZE_AT, UNPACKED_SIZE_AT,
 };
+use pef_format::layout::MAX_ALIGNMENT;
+use pef_format::{SectionKind, Share};
 use pef_words::Cut;
 
 /// A section header, field by field (PEFSectionHeader).
@@ -30,50 +31,36 @@ pub struct SectionHeader {
     pub packed_size: u32,
     /// Where the raw bytes begin, counted from the container's first byte.
     pub container_offset: u32,
-    /// One of the kinds of [`layout`](crate::layout), if the section is instantiated.
+    /// The code of the section's [`kind`](Self::kind).
     pub section_kind: u8,
+    /// The code of the section's [`share`](Self::share).
     pub share_kind: u8,
     /// The memory's alignment, as an exponent of two.
     pub alignment: u8,
     pub reserved: u8,
 }
 
-/// A section: the fields of its [`SectionHeader`], and its raw bytes in the container, its contents.
-#[derive(Clone, Copy, Debug)]
-pub struct SectionView<'a> {
-    pub name_offset: i32,
-    pub default_address: u32,
-    pub total_size: u32,
-    pub unpacked_size: u32,
-    pub packed_size: u32,
-    pub container_offset: u32,
-    pub section_kind: u8,
-    pub share_kind: u8,
-    pub alignment: u8,
-    pub reserved: u8,
-    pub raw: &'a [u8],
+impl SectionHeader {
+    /// Returns what the section is for.
+    pub fn kind(self) -> SectionKind
+        ensures { result ≡ kind_of self.section_kind }
+    {
+        SectionKind::from_code(self.section_kind)
+    }
+
+    /// Returns who shares an instance of the section.
+    pub fn share(self) -> Share
+        ensures { result ≡ share_of self.share_kind }
+    {
+        Share::from_code(self.share_kind)
+    }
 }
 
-impl<'a> SectionView<'a> {
-    ghost use Rattle.pef_views.specs.Views.{seen};
-
-    pub(crate) fn new(header: SectionHeader, raw: &'a [u8]) -> SectionView<'a>
-        ensures { seen result ≡ record { header = header; raw = raw.entry.now } }
-    {
-        SectionView {
-            name_offset: header.name_offset,
-            default_address: header.default_address,
-            total_size: header.total_size,
-            unpacked_size: header.unpacked_size,
-            packed_size: header.packed_size,
-            container_offset: header.container_offset,
-            section_kind: header.section_kind,
-            share_kind: header.share_kind,
-            alignment: header.alignment,
-            reserved: header.reserved,
-            raw,
-        }
-    }
+/// A section: its header, and its raw bytes in the container, its contents.
+#[derive(Clone, Copy, Debug)]
+pub struct SectionView<'a> {
+    pub header: SectionHeader,
+    pub raw: &'a [u8],
 }
 
 /// The header of section `i`, or `None` where it passes the end.
@@ -109,7 +96,7 @@ pub(crate) fn test_section(
     if !lies_inside(section, len) {
         return Err(ViewFault::SectionOutside);
     }
-    if instantiated && !has_instantiable_kind(section) {
+    if instantiated && !section.kind().is_instantiable() {
         return Err(ViewFault::BadSectionKind);
     }
     if instantiated && !has_fitting_sizes(section) {
@@ -129,26 +116,12 @@ fn lies_inside(section: SectionHeader, len: usize) -> bool
     section.packed_size == 0 || end <= len
 }
 
-fn has_instantiable_kind(section: SectionHeader) -> bool
-    ensures { result ≡ is_instantiable section.section_kind }
-{
-    matches!(
-        section.section_kind,
-        CODE_SECTION
-            | UNPACKED_DATA_SECTION
-            | PATTERN_DATA_SECTION
-            | CONSTANT_SECTION
-            | EXECUTABLE_DATA_SECTION
-    )
-}
-
 /// Whether the image fits the memory and can come of the raw bytes. Packed data may be of any length.
 fn has_fitting_sizes(section: SectionHeader) -> bool
     ensures { result ≡ sizes_fit section }
 {
     section.unpacked_size <= section.total_size
-        && (section.section_kind == PATTERN_DATA_SECTION
-            || section.unpacked_size <= section.packed_size)
+        && (section.kind().is_packed() || section.unpacked_size <= section.packed_size)
 }
 
 /// A section's raw bytes. Where it has none and its place passes the end, they are the empty slice at

@@ -6,9 +6,9 @@ pub returns-then-section-gt-MAX_ALIGNMENT : goal.returns-then-section-gt-MAX_ALI
 unfolding section_tests
 returns-then-section-gt-MAX_ALIGNMENT c = search rules
 
-pub returns-then-not-has_instantiable_kind : goal.returns-then-not-has_instantiable_kind
+pub returns-then-not-is_instantiable : goal.returns-then-not-is_instantiable
 unfolding section_tests
-returns-then-not-has_instantiable_kind c = search rules
+returns-then-not-is_instantiable c = search rules
 
 pub returns-then-not-has_fitting_sizes : goal.returns-then-not-has_fitting_sizes
 unfolding section_tests

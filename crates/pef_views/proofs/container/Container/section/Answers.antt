@@ -6,8 +6,8 @@ use Rattle.pef_views.specs.Views.{contained, seen}
 use Rattle.pef_views.proofs.Containers.{instantiable, raw_inside, raw_whole, section_header_is}
 use Rattle.pef_views.proofs.container.Container.section.Goals as goal
 
-pub raw_bytes-requires : goal.raw_bytes-requires
-raw_bytes-requires c = raw_inside (contained c.args.self.now) c.args.i c.in_ok-header.header c.args.self.now.accepted (omega arith) (sym c.in_ok-header.ensures)
+pub raw_bytes-raw-requires : goal.raw_bytes-raw-requires
+raw_bytes-raw-requires c = raw_inside (contained c.args.self.now) c.args.i c.in_ok-header.header c.args.self.now.accepted (omega arith) (sym c.in_ok-header.ensures)
 
 pub returns-in_err-header-clause-there : goal.returns-in_err-header-clause-there
 returns-in_err-header-clause-there c =
@@ -15,8 +15,8 @@ returns-in_err-header-clause-there c =
     let nowhere = c.in_err-header.ensures ∙ here.1 in
     absurd (cc)
 
-is_seen : (c : goal.After-new) → section_in c.args.self.now.cut.bytes.now c.in_ok-header.header ≡ seen c.new.result
-is_seen c = sym (c.new.ensures ∙ (ap (λ raw. record { header = c.in_ok-header.header; raw = raw }) c.raw_bytes.ensures))
+is_seen : (c : goal.After-raw_bytes-raw) → section_in c.args.self.now.cut.bytes.now c.in_ok-header.header ≡ record { header = c.in_ok-header.header; raw = c.raw_bytes-raw.result.now }
+is_seen c = sym (ap (λ raw. record { header = c.in_ok-header.header; raw = raw }) c.raw_bytes-raw.ensures)
 
 pub returns-clause-raw : goal.returns-clause-raw
 returns-clause-raw c =
