@@ -1,7 +1,7 @@
 ghost use Rattle.std.specs.Prelude.{◌≡◌};
-ghost use Rattle.pef_format.specs.Exports.{value_of};
+ghost use Rattle.pef_format.specs.Exports.{is_export_section, value_of};
 
-use crate::layout::ABSOLUTE_EXPORT;
+use crate::layout::{ABSOLUTE_EXPORT, REEXPORTED_IMPORT};
 use crate::symbol::SymbolClass;
 
 /// What an exported symbol stands for.
@@ -32,6 +32,13 @@ impl ExportValue {
     }
 }
 
+/// Whether the format gives a section number to exports: that of a section, -2 or -3.
+pub fn is_export_section(section: i32) -> bool
+    ensures { result ≡ is_export_section section }
+{
+    section >= 0 || matches!(section, ABSOLUTE_EXPORT | REEXPORTED_IMPORT)
+}
+
 /// An exported symbol with its name.
 #[derive(Clone, Copy, Debug, PartialEq, Eq)]
 pub struct ExportView<'a> {
@@ -39,7 +46,7 @@ pub struct ExportView<'a> {
     /// The low four bits of the class byte.
     pub class: u8,
     /// The section that the value is an offset in, or [`ABSOLUTE_EXPORT`], or
-    /// [`REEXPORTED_IMPORT`](crate::layout::REEXPORTED_IMPORT): then the value is an import's index.
+    /// [`REEXPORTED_IMPORT`]: then the value is an import's index.
     pub section: i32,
     pub value: u32,
 }

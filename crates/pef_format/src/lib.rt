@@ -11,7 +11,7 @@ mod section;
 mod symbol;
 mod theorems;
 
-pub use export::{ExportValue, ExportView};
+pub use export::{ExportValue, ExportView, is_export_section};
 pub use import::ImportView;
 pub use section::{SectionKind, Share};
 pub use symbol::{LibraryOptions, SymbolClass};

@@ -21,7 +21,8 @@ use Rattle.pef_loader.specs.Header.{header_of, is_entry, tables_end}
 use Rattle.pef_loader.specs.Library.{library_at, library_refusal, library_tests, owns}
 use Rattle.pef_loader.specs.Import.{import_at, import_refusal, import_tests, owner_at, owner_of}
 use Rattle.pef_loader.specs.Reloc.{instructions_of, reloc_at, reloc_refusal, reloc_tests}
-use Rattle.pef_loader.specs.Export.{Export, export_in, export_refusal, export_table, export_tests, has_exports, has_section}
+use Rattle.pef_format.specs.Exports.{Export}
+use Rattle.pef_loader.specs.Export.{export_in, export_refusal, export_table, export_tests, has_exports, has_section}
 use Rattle.pef_loader.specs.Kept.Accepted.{IsAccepted}
 use Rattle.pef_loader.specs.Loader.{IsLoader, Loaded, export_of, fault_if, has_entries, judged, loaded_of, named_of}
 

@@ -1,8 +1,11 @@
 -- Exported symbols (Mac OS Runtime Architectures, "PEF Structure", "Exported Symbol Table";
 -- PEFExportedSymbol of PEFBinaryFormat.h).
-use Rattle.std.specs.Prelude.{ℕ, ℤ, pos, negsuc, ◌==◌, ◌||◌, ◌&&◌, Bool, not, List, [], ◌∷◌, Option, Some, drop, length, nat_lt}
+use Rattle.std.specs.Prelude.{ℕ, ℤ, true, ◌||◌, ◌&&◌, Bool, not, List, [], ◌∷◌, Option, Some, drop, length, nat_lt}
 use Rattle.std.specs.Option.{is_none, option_map_or}
 use Rattle.pef_words.specs.Refusals.{◌>>=◌, first_met}
+use Rattle.pef_format.specs.declared.export.ExportValue.{ExportValue}
+use Rattle.pef_format.specs.declared.export.ExportValue.TheVariants.{Absolute, InSection, Reexport}
+use Rattle.pef_format.specs.Exports.{Export, is_export_section, value_of}
 use Rattle.pef_hash.specs.Exports.{ExportTable, entry_of, has_table, name_of}
 use Rattle.pef_hash.specs.declared.exports.Entry.{Entry}
 use Rattle.pef_loader.specs.declared.header.LoaderHeader.{LoaderHeader}
@@ -22,10 +25,14 @@ export_table bytes h = record {
   strings = drop h.strings_offset bytes;
 }
 
--- an instantiated section, or -2 for an absolute value, or -3 for an import whose index is the value
+-- what an export stands for is there: an instantiated section, or one of the imports
+abbrev pub is_there : LoaderHeader → ℕ → ExportValue → Bool
+is_there h sections (InSection section offset) = nat_lt section sections
+is_there h sections (Absolute value) = true
+is_there h sections (Reexport import) = nat_lt import h.import_count
+
 abbrev pub has_section : LoaderHeader → ℕ → ℕ → ℤ → Bool
-has_section h sections value (pos section) = nat_lt section sections
-has_section h sections value (negsuc n) = n == 1 || (n == 2 && nat_lt value h.import_count)
+has_section h sections value section = is_export_section section && is_there h sections (value_of section value)
 
 -- the tests of export i, in order; a name passes the end also where the strings begin behind it
 unfoldable pub export_tests : List ℕ → LoaderHeader → ℕ → ℕ → Entry → List (Bool × LoaderFault)
@@ -36,13 +43,6 @@ export_tests bytes h sections i e = (nat_lt (length bytes) h.strings_offset || i
 -- the refusal of export i
 abbrev pub export_refusal : List ℕ → LoaderHeader → ℕ → ℕ → Option LoaderFault
 export_refusal bytes h sections i = option_map_or (λ e. first_met (export_tests bytes h sections i e)) (entry_of (export_table bytes h) i) (Some BadExportTable)
-
--- an export with its name
-pub record Export : Type 0 where
-  pub name : List ℕ
-  pub class : ℕ
-  pub section : ℤ
-  pub value : ℕ
 
 -- export i with its name; none past the last one
 unfoldable pub export_in : List ℕ → LoaderHeader → ℕ → Option Export

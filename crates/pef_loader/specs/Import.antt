@@ -3,6 +3,7 @@
 use Rattle.std.specs.Prelude.{ℕ, ◌+◌, ◌/◌, ◌%◌, ◌^◌, ◌==◌, Bool, List, [], ◌∷◌, Option, Some, None, nat_lt, if◌then◌else◌}
 use Rattle.std.specs.Option.{is_none, option_map_or}
 use Rattle.pef_words.specs.Bytes.{name_at, number_at}
+use Rattle.pef_format.specs.Symbols.{Import}
 use Rattle.pef_words.specs.Refusals.{◌>>=◌, first_among, first_met}
 use Rattle.pef_loader.specs.declared.header.LoaderHeader.{LoaderHeader}
 use Rattle.pef_loader.specs.declared.import.ImportEntry.{ImportEntry}
@@ -35,13 +36,6 @@ import_tests bytes h j e = (is_none (name_at bytes (h.strings_offset + e.name_of
 -- the refusal of import j
 abbrev pub import_refusal : List ℕ → LoaderHeader → ℕ → Option LoaderFault
 import_refusal bytes h j = option_map_or (λ e. first_met (import_tests bytes h j e)) (import_at bytes h j) (Some BadTableOffset)
-
--- an import with its name and library
-pub record Import : Type 0 where
-  pub name : List ℕ
-  pub class : ℕ
-  pub weak : Bool
-  pub library : ℕ
 
 -- import j with its name and its first library
 unfoldable pub import_in : List ℕ → LoaderHeader → ℕ → Option Import

@@ -9,9 +9,11 @@ use Rattle.pef_loader.specs.declared.fault.LoaderFault.{LoaderFault}
 use Rattle.pef_loader.specs.declared.fault.LoaderFault.TheVariants.{LoaderShort, BadTableOffset, BadEntry, BadExportTable}
 use Rattle.pef_loader.specs.Header.{entry_of, header_of, is_entry, tables_end}
 use Rattle.pef_loader.specs.Library.{Library, library_in, library_refusal}
-use Rattle.pef_loader.specs.Import.{Import, import_in, import_refusal}
+use Rattle.pef_format.specs.Symbols.{Import}
+use Rattle.pef_loader.specs.Import.{import_in, import_refusal}
 use Rattle.pef_loader.specs.Reloc.{reloc_in, reloc_refusal}
-use Rattle.pef_loader.specs.Export.{Export, export_in, export_refusal, export_table, has_exports}
+use Rattle.pef_format.specs.Exports.{Export}
+use Rattle.pef_loader.specs.Export.{export_in, export_refusal, export_table, has_exports}
 
 -- a loader section of a container with so many instantiated sections: its bytes and its header
 pub record Loaded : Type 0 where

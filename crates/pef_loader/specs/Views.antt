@@ -3,11 +3,7 @@ use Rattle.std.specs.Prelude.{ℕ, List}
 use Rattle.std.specs.Borrow.{Bor}
 use Rattle.pef_loader.specs.declared.tables.Loader.{Loader}
 use Rattle.pef_loader.specs.declared.library.LibraryView.{LibraryView}
-use Rattle.pef_loader.specs.declared.import.ImportView.{ImportView}
-use Rattle.pef_loader.specs.declared.export.ExportView.{ExportView}
 use Rattle.pef_loader.specs.Library.{Library}
-use Rattle.pef_loader.specs.Import.{Import}
-use Rattle.pef_loader.specs.Export.{Export}
 use Rattle.pef_loader.specs.Loader.{Loaded}
 
 -- the loader section that a view shows
@@ -16,12 +12,6 @@ loaded l = record { sections = l.sections; bytes = l.cut.bytes.now; header = l.h
 
 abbrev pub library_seen : LibraryView → Library
 library_seen v = record { name = v.name.now; current = v.current; old_imp = v.old_imp; count = v.count; first = v.first; options = v.options }
-
-abbrev pub import_seen : ImportView → Import
-import_seen v = record { name = v.name.now; class = v.class; weak = v.weak; library = v.library }
-
-abbrev pub export_seen : ExportView → Export
-export_seen v = record { name = v.name.now; class = v.class; section = v.section; value = v.value }
 
 abbrev pub reloc_seen : ℕ × Bor (List ℕ) → ℕ × List ℕ
 reloc_seen r = (r.0, r.1.now)

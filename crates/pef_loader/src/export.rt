@@ -5,22 +5,9 @@ ghost use Rattle.pef_loader.specs.Export.{export_refusal, export_table, export_t
 
 use crate::fault::LoaderFault;
 use crate::header::LoaderHeader;
-use pef_format::layout::{ABSOLUTE_EXPORT, REEXPORTED_IMPORT};
+use pef_format::{ExportValue, is_export_section};
 use pef_hash::Exports;
 use pef_words::Cut;
-
-/// An exported symbol with its name.
-#[derive(Clone, Copy, Debug)]
-pub struct ExportView<'a> {
-    pub name: &'a [u8],
-    /// The low four bits of the class byte, as [`CODE_SYMBOL`](crate::layout::CODE_SYMBOL).
-    pub class: u8,
-    /// The instantiated section that the value is an offset in, or
-    /// [`ABSOLUTE_EXPORT`](crate::layout::ABSOLUTE_EXPORT), or
-    /// [`REEXPORTED_IMPORT`](crate::layout::REEXPORTED_IMPORT): then the value is an import's index.
-    pub section: i32,
-    pub value: u32,
-}
 
 /// The bytes from an offset on, none where it passes the end.
 pub(crate) fn bytes_from<'a>(cut: Cut<'a>, offset: u32) -> &'a [u8]
@@ -71,13 +58,15 @@ pub(crate) fn test_export(
     Ok(())
 }
 
-/// Whether an export is in an instantiated section, or is absolute, or is one of the imports.
+/// Whether what an export stands for is there: an instantiated section, or an absolute value, or one of the
+/// imports.
 fn has_section(section: i32, value: u32, header: LoaderHeader, sections: u16) -> bool
     ensures { result ≡ has_section header sections value section }
 {
-    match section {
-        ABSOLUTE_EXPORT => true,
-        REEXPORTED_IMPORT => value < header.import_count,
-        _ => section >= 0 && section < i32::from(sections),
-    }
+    is_export_section(section)
+        && match ExportValue::from_fields(section, value) {
+            ExportValue::InSection { section, .. } => section < u32::from(sections),
+            ExportValue::Absolute(_) => true,
+            ExportValue::Reexport { import } => import < header.import_count,
+        }
 }

@@ -17,18 +17,6 @@ pub(crate) struct ImportEntry {
     pub name_offset: u32,
 }
 
-/// An imported symbol with its name and its library.
-#[derive(Clone, Copy, Debug)]
-pub struct ImportView<'a> {
-    pub name: &'a [u8],
-    /// The low four bits of the class byte, as [`CODE_SYMBOL`](crate::layout::CODE_SYMBOL).
-    pub class: u8,
-    /// The symbol may be missing.
-    pub weak: bool,
-    /// The first library whose imports it is among.
-    pub library: usize,
-}
-
 /// Import `j`, or `None` where it passes the end.
 #[tactic(auto, unfolding(crate::specs::Import::import_at))]
 pub(crate) fn read_import(cut: Cut<'_>, header: LoaderHeader, j: usize) -> Option<ImportEntry>

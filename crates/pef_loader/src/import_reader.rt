@@ -5,8 +5,8 @@ ghost use Rattle.pef_loader.specs.Kept.Blocks.{AreOwners};
 ghost use Rattle.pef_loader.specs.Loader.{import_of};
 
 use crate::block::OwnerBlock;
-use crate::import::ImportView;
 use crate::tables::Loader;
+use pef_format::ImportView;
 
 /// Reads the imports of a loader section, for callers that want many of them and have no memory for an
 /// [`ImportTable`](crate::ImportTable).
@@ -23,7 +23,8 @@ pub struct ImportReader<'a> {
 }
 
 impl<'a> ImportReader<'a> {
-    ghost use Rattle.pef_loader.specs.Views.{import_seen, loaded};
+    ghost use Rattle.pef_format.specs.Symbols.{import_seen};
+    ghost use Rattle.pef_loader.specs.Views.{loaded};
 
     pub fn new(loader: Loader<'a>) -> ImportReader<'a>
         ensures { result.loader ≡ loader.entry }

@@ -2,9 +2,9 @@ ghost use Rattle.std.specs.Prelude.{◌≡◌, ◌<◌, IfOk, IfSome, length, op
 ghost use Rattle.pef_loader.specs.Kept.Blocks.{AreOwners};
 ghost use Rattle.pef_loader.specs.Loader.{import_of};
 
-use crate::import::ImportView;
 use crate::painting::{NO_LIBRARY, library_in, paint_owners};
 use crate::tables::Loader;
+use pef_format::ImportView;
 use std::alloc::{AllocError, Global};
 use std::marker::Model;
 
@@ -28,7 +28,8 @@ impl<'a> Model for ImportTable<'a> {
 }
 
 impl<'a> ImportTable<'a> {
-    ghost use Rattle.pef_loader.specs.Views.{import_seen, loaded};
+    ghost use Rattle.pef_format.specs.Symbols.{import_seen};
+    ghost use Rattle.pef_loader.specs.Views.{loaded};
 
     /// The imports of a loader section. One walk over its libraries finds the library of each.
     ///

@@ -21,10 +21,8 @@ mod painting;
 mod reloc;
 mod tables;
 
-pub use export::ExportView;
 pub use fault::LoaderFault;
 pub use header::LoaderHeader;
-pub use import::ImportView;
 pub use import_reader::ImportReader;
 pub use import_table::ImportTable;
 pub use library::LibraryView;

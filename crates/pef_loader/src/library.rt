@@ -1,5 +1,6 @@
 ghost use Rattle.std.specs.Prelude.{◌≡◌, ◌+◌, ◌^◌, ◌<◌};
 ghost use Rattle.std.specs.Result.{result_err};
+ghost use Rattle.pef_format.specs.Symbols.{options_of};
 ghost use Rattle.pef_loader.specs.Kept.Names.{NamesEndAt};
 ghost use Rattle.pef_loader.specs.Library.{library_at, library_refusal, library_tests};
 
@@ -9,6 +10,7 @@ use crate::layout::{
     CURRENT_VERSION_AT, FIRST_IMPORTED_SYMBOL_AT, IMPORTED_SYMBOL_COUNT_AT, LIBRARY_NAME_OFFSET_AT,
     LIBRARY_OPTIONS_AT, LIBRARY_SIZE, OLD_IMP_VERSION_AT,
 };
+use pef_format::LibraryOptions;
 use pef_format::layout::LOADER_HEADER_SIZE;
 use pef_words::Cut;
 
@@ -35,9 +37,17 @@ pub struct LibraryView<'a> {
     pub count: u32,
     /// The first of them.
     pub first: u32,
-    /// The bits [`INIT_BEFORE`](crate::layout::INIT_BEFORE) and
-    /// [`WEAK_LIBRARY`](crate::layout::WEAK_LIBRARY).
+    /// The byte of the library's [`options`](Self::options).
     pub options: u8,
+}
+
+impl<'a> LibraryView<'a> {
+    /// Returns how the fragment uses the library.
+    pub fn options(self) -> LibraryOptions
+        ensures { result ≡ options_of self.entry.options }
+    {
+        LibraryOptions::from_code(self.options)
+    }
 }
 
 /// Library `i`, or `None` where it passes the end.

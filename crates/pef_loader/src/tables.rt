@@ -14,15 +14,16 @@ ghost use Rattle.pef_loader.specs.Reloc.{reloc_refusal};
 
 use crate::block::OwnerBlock;
 use crate::cursor::OwnerCursor;
-use crate::export::{ExportView, exports, has_exports, test_export};
+use crate::export::{exports, has_exports, test_export};
 use crate::fault::LoaderFault;
 use crate::header::{LoaderHeader, is_entry, read_header};
-use crate::import::{ImportView, read_import, test_import};
+use crate::import::{read_import, test_import};
 use crate::library::{LibraryView, read_library, test_library};
 use crate::names::names_end;
 use crate::owner::{are_in_order, owner};
 use crate::reloc::{instructions, read_reloc, test_reloc};
 use pef_format::layout::NO_SECTION;
+use pef_format::{ExportView, ImportView};
 use pef_hash::Exports;
 use pef_views::Container;
 use pef_words::Cut;
@@ -49,7 +50,9 @@ pub struct Loader<'a> {
 
 impl<'a> Loader<'a> {
     ghost use Rattle.pef_views.specs.Views.{contained};
-    ghost use Rattle.pef_loader.specs.Views.{export_seen, import_seen, library_seen, loaded, reloc_seen};
+    ghost use Rattle.pef_format.specs.Exports.{export_seen};
+    ghost use Rattle.pef_format.specs.Symbols.{import_seen};
+    ghost use Rattle.pef_loader.specs.Views.{library_seen, loaded, reloc_seen};
 
     /// The loader section of a container.
     ///
