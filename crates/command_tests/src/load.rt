@@ -16,6 +16,19 @@ const SCRIPTS: &[(&str, &str)] = &[
         "versions 1 0 0\nsection l data process 4 4\nbytes l 0000002A\nfix l 0 section l\nexport v data l 0\n",
     ),
     (
+        "layer",
+        "versions 1 0 0\nlibrary L 1 0 -\nimport v data strong\nsection p pattern process 4 4\nbytes p 00000000\nreexport v data v\nexport own data p 4\n",
+    ),
+    (
+        "layered",
+        "library P 1 0 -\nimport v data strong\nimport own data strong\nsection a data process 4 8\nfix a 4 import v\nfix a 0 import own\n",
+    ),
+    ("stub", "versions 1 0 0\nabsolute v data 0x000040B0\n"),
+    (
+        "itself",
+        "library P 1 0 -\nimport u data strong\nreexport u data u\n",
+    ),
+    (
         "weak-symbol",
         "library L 1 0 -\nimport w data weak\nsection a data process 4 4\nbytes a 00000007\nfix a 0 import w\n",
     ),
@@ -66,6 +79,28 @@ const LOADS: &[(&[&str], &[u8], u8)] = &[
         &["load", "L=fixed", "A=user"],
         b"fragment L\nsection 0 at 00010000 size 4\n00010000 0001002A\n",
         0,
+    ),
+    // a library that passes on what another one has, beside what it has itself
+    (
+        &["load", "A=layered", "P=layer", "L=library"],
+        b"fragment L\nsection 0 at 00010000 size 4\n00010000 0000002A\nfragment P\nsection 0 at 00010010 size 4\n00010010 00000000\nfragment A\nsection 0 at 00010020 size 8\n00010020 00010014 00010000\n",
+        0,
+    ),
+    // a stub of absolute values, also where it is passed on
+    (
+        &["load", "A=user", "L=stub"],
+        b"fragment L\nfragment A\nsection 0 at 00010000 size 4\n00010000 000040B0\n",
+        0,
+    ),
+    (
+        &["load", "A=layered", "P=layer", "L=stub"],
+        b"fragment L\nfragment P\nsection 0 at 00010000 size 4\n00010000 00000000\nfragment A\nsection 0 at 00010010 size 8\n00010010 00010004 000040B0\n",
+        0,
+    ),
+    (
+        &["load", "P=itself"],
+        b"refused 65 ReexportLoop in P symbol u\n",
+        1,
     ),
     (
         &["load", "A=weak-symbol", "L=library"],

@@ -26,6 +26,18 @@ const SHOWN: &[(&[u8], &[u8], u8)] = &[
         b"fragment it\nsection 0 at 00010000 size 8\n00010000 0000FFFF 00010011\nsection 1 at 00010010 size 4\n00010010 00010002\n",
         0,
     ),
+    // the image is packed where it is linked, and is the same in memory
+    (
+        b"section d pattern process 4 16\nbytes d 11223344000000080102\nfix d 4 section d\nfix d 12 section d\n",
+        b"fragment it\nsection 0 at 00010000 size 16\n00010000 11223344 00010008 01020000 00010000\n",
+        0,
+    ),
+    // contents in any order of sections and offsets
+    (
+        b"section a data process 4 8\nsection b data process 4 4\nfix b 0 section a\nfix a 4 section b\nbytes b 00000002\nfix a 0 section a\nbytes a FFFFFFFF00000001\n",
+        b"fragment it\nsection 0 at 00010000 size 8\n00010000 0000FFFF 00010011\nsection 1 at 00010010 size 4\n00010010 00010002\n",
+        0,
+    ),
     (b"section d\n", b"refused 41 BadLine line 1\n", 1),
     (
         b"section d data process 4 16777217\n",
@@ -48,7 +60,7 @@ const SHOWN: &[(&[u8], &[u8], u8)] = &[
         1,
     ),
     (
-        b"section d data process 4 8\nfix d 4 section d\nfix d 0 section d\n",
+        b"section d data process 4 8\nfix d 4 section d\nsection e data process 4 8\n",
         b"refused 45 OutOfOrder line 3\n",
         1,
     ),

@@ -1,3 +1,4 @@
+use pef_format::{LibraryOptions, SectionKind, Share};
 use pef_reloc::{Base, Fixup};
 use pef_script::Script;
 use std::alloc::Global;
@@ -52,7 +53,37 @@ const THIRD_LINES: &[(&str, u32)] = &[
     ("section e data process 4 8", 45),
     ("export e glue d 8", 0),
     ("export e glue d 9", 47),
+    ("absolute k data 0x2A", 0),
+    ("absolute k data 4294967295", 0),
+    ("absolute k data 4294967296", 42),
+    ("absolute k data", 41),
+    ("absolute k odd 0", 49),
+    ("reexport k data d", 43),
+    ("reexport k odd d", 49),
+    ("reexport k data d 0", 41),
     ("term d 8", 0),
+];
+
+/// Texts of one section, whose fixups come in any order, and the refusal: the line is the last one.
+const ANY_ORDER: &[(&str, &[&str], u32)] = &[
+    ("16", &["fix d 8 section d", "fix d 4 section d"], 0),
+    ("16", &["fix d 8 section d", "fix d 5 section d"], 46),
+    ("16", &["fix d 8 section d", "fix d 8 section d"], 46),
+    ("16", &["fix d 8 section d", "fix d 11 section d"], 46),
+    ("16", &["fix d 8 section d", "fix d 12 section d"], 0),
+    ("16", &["fix d 8 section d", "fix d 13 section d"], 47),
+    ("16", &["fix d 8 section d", "tvector d 0 d d"], 0),
+    ("16", &["fix d 8 section d", "tvector d 1 d d"], 46),
+    ("16", &["fix d 8 section d", "tvector d 4 d d"], 46),
+    ("16", &["fix d 8 section d", "tvector d 8 d d"], 46),
+    ("20", &["fix d 8 section d", "tvector d 11 d d"], 46),
+    ("20", &["fix d 8 section d", "tvector d 12 d d"], 0),
+    ("9", &["tvector d 0 d d", "fix d 3 section d"], 46),
+    ("9", &["fix d 0 section d", "tvector d 1 d d"], 46),
+    // Against an earlier line than the one before, from above and from below.
+    ("16", &["fix d 0 section d", "fix d 12 section d", "fix d 2 section d"], 46),
+    ("16", &["fix d 12 section d", "fix d 0 section d", "fix d 10 section d"], 46),
+    ("16", &["fix d 12 section d", "fix d 0 section d", "fix d 6 section d"], 0),
 ];
 
 /// Texts, and the number and the line of their refusal.
@@ -72,10 +103,6 @@ const FIRST_FAULTS: &[(&str, (u32, usize))] = &[
         (44, 4),
     ),
     (
-        "section d data process 4 8\nfix d 4 section d\nfix d 0 section d",
-        (45, 3),
-    ),
-    (
         "section d data process 4 8\nbytes d 00\nsection d odd process 13 8",
         (45, 3),
     ),
@@ -84,20 +111,22 @@ const FIRST_FAULTS: &[(&str, (u32, usize))] = &[
         (41, 3),
     ),
     (
-        "section a data process 4 4\nsection b data process 4 4\nbytes b 00\nbytes a 00",
-        (45, 4),
-    ),
-    (
         "section a data process 4 4\nsection b data process 4 4\nbytes b 00\nfix a 9 section a",
-        (45, 4),
+        (47, 4),
+    ),
+    ("absolute k data 0\nsection d data process 4 8", (45, 2)),
+    ("absolute k data 0\nabsolute k code 1", (44, 2)),
+    (
+        "section d data process 4 8\nexport k data d 0\nabsolute k data 0",
+        (44, 3),
     ),
     (
-        "section d data process 4 9\ntvector d 0 d d\nfix d 3 section d",
-        (45, 3),
+        "library L 1 0 -\nimport v data strong\nabsolute k data 0\nreexport k data v",
+        (44, 4),
     ),
     (
-        "section d data process 4 9\nfix d 0 section d\ntvector d 1 d d",
-        (46, 3),
+        "library L 1 0 -\nimport v data strong\nsection d data process 4 8\nreexport k data v\nexport k data d 9",
+        (44, 5),
     ),
     ("library L 1 0 before,weak", (49, 1)),
     ("library L 1 0 -\nlibrary L 2 0 weak", (44, 2)),
@@ -142,6 +171,25 @@ fn read_third_lines(rt: HostRuntime) {
     }
 }
 
+/// The refusal of a section `d` of so many bytes, and of some lines.
+fn refusal_of_lines(rt: &impl Abort, alloc: Global, total: &str, lines: &[&str]) -> Refusal {
+    let mut text = format!(in alloc; "section d data process 4 {total}").expect(rt, "memory");
+    for line in lines {
+        write!(text, "\n{line}").expect(rt, "memory");
+    }
+    refusal(alloc, &text)
+}
+
+#[test]
+fn read_any_order(rt: HostRuntime) {
+    for row in ANY_ORDER {
+        let (total, lines, number) = *row;
+        let wanted = if number == 0 { None } else { Some((number, lines.len() + 1)) };
+        let found = refusal_of_lines(&rt, rt.alloc(), total, lines);
+        assert!(rt; found == wanted, "{total} {}", lines[lines.len() - 1]);
+    }
+}
+
 #[test]
 fn read_first_faults(rt: HostRuntime) {
     for row in FIRST_FAULTS {
@@ -157,11 +205,15 @@ import draw tvector strong
 import size data weak
 section code code global 4 8
 section data data process 0xC 16
+section packed pattern protected 2 8
+fix data 8 import size
 bytes code 0011
 tvector data 0 code data
+bytes packed 00000000
 bytes data 00
-fix data 8 import size
 export go tvector data 0
+reexport size glue size
+absolute trap code 0xA9FF
 main data 0
 term code 4
 ";
@@ -181,7 +233,7 @@ fn versions(script: &Script) -> (u32, u32, u32) {
     (versions.current, versions.old_def, versions.old_imp)
 }
 
-fn library<'a>(script: &Script<'a>, l: usize) -> Option<(&'a [u8], u32, u32, u8)> {
+fn library<'a>(script: &Script<'a>, l: usize) -> Option<(&'a [u8], u32, u32, LibraryOptions)> {
     let library = script.library(l)?;
     Some((
         library.name,
@@ -191,13 +243,13 @@ fn library<'a>(script: &Script<'a>, l: usize) -> Option<(&'a [u8], u32, u32, u8)
     ))
 }
 
-fn import<'a>(script: &Script<'a>, j: usize) -> Option<(&'a [u8], u8, bool, u32)> {
+fn import<'a>(script: &Script<'a>, j: usize) -> Option<(&'a [u8], u8, bool, usize)> {
     let import = script.import(j)?;
     Some((import.name, import.class, import.weak, import.library))
 }
 
 /// A section: its name, its kind and share, its alignment and how many bytes it has.
-type Header<'a> = (&'a [u8], u8, u8, u8, u32);
+type Header<'a> = (&'a [u8], SectionKind, Share, u8, u32);
 
 fn section<'a>(script: &Script<'a>, k: usize) -> Option<Header<'a>> {
     let section = script.section(k)?;
@@ -216,14 +268,20 @@ fn export<'a>(script: &Script<'a>, e: usize) -> Option<(&'a [u8], u8, i32, u32)>
 }
 
 fn has_tables(script: &Script) -> bool {
-    counts(script) == (2, 2, 2, 1)
+    let both = LibraryOptions {
+        init_before: true,
+        weak: true,
+    };
+    counts(script) == (2, 2, 3, 3)
         && versions(script) == (3, 2, 1)
-        && library(script, 0) == Some((b"Tools", 5, 4, 0xC0))
+        && library(script, 0) == Some((b"Tools", 5, 4, both))
         && library(script, 2).is_none()
         && import(script, 1) == Some((b"size", 1, true, 1))
         && import(script, 2).is_none()
         && export(script, 0) == Some((b"go", 2, 1, 0))
-        && export(script, 1).is_none()
+        && export(script, 1) == Some((b"size", 4, -3, 1))
+        && export(script, 2) == Some((b"trap", 0, -2, 0xA9FF))
+        && export(script, 3).is_none()
 }
 
 fn has_sections(script: &Script) -> bool {
@@ -241,9 +299,13 @@ fn has_sections(script: &Script) -> bool {
             base: Base::Import(1),
         },
     ];
-    section(script, 1) == Some((b"data", 1, 1, 12, 16))
-        && section(script, 2).is_none()
+    let data = (b"data" as &[u8], SectionKind::UnpackedData, Share::Process, 12, 16);
+    let packed = (b"packed" as &[u8], SectionKind::PatternData, Share::Protected, 2, 8);
+    section(script, 1) == Some(data)
+        && section(script, 2) == Some(packed)
+        && section(script, 3).is_none()
         && script.image(0) == Some(&[0, 0x11])
+        && script.image(2) == Some(&[0, 0, 0, 0])
         && script.fixups(1) == Some(&data_fixups)
 }
 
@@ -267,11 +329,11 @@ fn parts(rt: HostRuntime) {
 /// The sections of the worked script, each with its image.
 const WORKED_SECTIONS: &[(Header<'static>, &[u8])] = &[
     (
-        (b"code", 0, 4, 4, 8),
+        (b"code", SectionKind::Code, Share::Global, 4, 8),
         &[0x00, 0x11, 0x22, 0x33, 0x44, 0x55, 0x66, 0x77],
     ),
     (
-        (b"data", 1, 1, 4, 16),
+        (b"data", SectionKind::UnpackedData, Share::Process, 4, 16),
         &[0, 0, 0, 0, 0, 0, 0, 0, 0, 0, 0, 4, 0, 0, 0, 0],
     ),
 ];

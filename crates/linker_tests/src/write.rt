@@ -3,6 +3,7 @@ use pef_views::Container;
 use pef_write::{LinkFault, Linked};
 use std::alloc::Global;
 use std::process::Abort;
+use test_data::changes::{At, Change, change};
 use test_data::containers::VECTORS_LEAST;
 use test_data::limits::{
     EXPORTS, FIXUPS, IMPORTS, IMPORTS_EACH, LIBRARIES, SECTIONS, Spaced, push_fixups, push_sections,
@@ -30,6 +31,29 @@ const ONE_SECTION: [u8; 188] = [
     0x00, 0x00, 0x00, 0x01, 0x00, 0x00, 0x00, 0x44, 0x00, 0x00, 0x00, 0x46, 0x00, 0x00, 0x00, 0x48,
     0x00, 0x00, 0x00, 0x00, 0x00, 0x00, 0x00, 0x00, 0x00, 0x00, 0x00, 0x00, 0x00, 0x00, 0x00, 0x01,
     0x00, 0x00, 0x00, 0x00, 0x40, 0x01, 0x00, 0x00, 0x00, 0x00, 0x00, 0x00,
+];
+
+/// The same with `pattern` for `data`: the image is packed.
+const PACKED_SCRIPT: &[u8] = b"section d pattern process 4 16
+bytes d 11223344000000080102
+fix d 0 section d
+fix d 4 section d
+";
+
+/// Its container: in `ONE_SECTION` the kind and the raw bytes are others.
+const PACKED: &[Change] = &[
+    (At::Front(64), &[0x02]),
+    (At::Front(96), &[0x24, 0x11, 0x22, 0x33, 0x44, 0x03, 0x23, 0x08, 0x01, 0x02]),
+];
+
+/// Lines after `library L 1 0 -`, `import v data strong`, `import w data weak` and `section m data process 4 4`, and
+/// the last six bytes of the container: the value and the section of the one export.
+const EXPORTED: &[(&str, [u8; 6])] = &[
+    ("export u data m 4", [0, 0, 0, 4, 0, 0]),
+    ("reexport u data v", [0, 0, 0, 0, 0xFF, 0xFD]),
+    ("reexport u data w", [0, 0, 0, 1, 0xFF, 0xFD]),
+    ("absolute u data 0x2A", [0, 0, 0, 0x2A, 0xFF, 0xFE]),
+    ("absolute u data 0xFFFFFFFF", [0xFF, 0xFF, 0xFF, 0xFF, 0xFF, 0xFE]),
 ];
 
 const WHOLE_SCRIPT: &[u8] = b"versions 3 1 2
@@ -146,6 +170,31 @@ fn test_link(rt: &impl Abort, alloc: Global, row: &Row) {
 fn linked(rt: HostRuntime) {
     for row in LINKED {
         test_link(&rt, rt.alloc(), row);
+    }
+}
+
+#[test]
+fn packed(rt: HostRuntime) {
+    let mut bytes = ONE_SECTION;
+    for (at, other) in PACKED {
+        change(&mut bytes, *at, other).expect(&rt, "a place in the container");
+    }
+    test_link(&rt, rt.alloc(), &(PACKED_SCRIPT, &bytes, &[1]));
+}
+
+/// The last six bytes of the container of the lines of `EXPORTED` with one more.
+fn last_six(rt: &impl Abort, alloc: Global, line: &str) -> Vec<u8> {
+    let text = format!(in alloc; "library L 1 0 -\nimport v data strong\nimport w data weak\nsection m data process 4 4\n{line}\n")
+        .expect(rt, "memory");
+    let linked = link_text(alloc, text.as_bytes()).expect(rt, "a container");
+    let bytes = linked.bytes();
+    Vec::from_slice(alloc, &bytes[bytes.len().saturating_sub(6)..]).expect(rt, "memory")
+}
+
+#[test]
+fn exported(rt: HostRuntime) {
+    for (line, wanted) in EXPORTED {
+        assert!(rt; last_six(&rt, rt.alloc(), line).as_slice() == wanted, "{line}");
     }
 }
 
