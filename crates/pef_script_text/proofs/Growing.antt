@@ -1,10 +1,14 @@
 -- What unmet tests say of a line, and what stays true of a script that gets one thing more.
-use Rattle.std.proofs.Common.{◌≡◌, ℕ, ℤ, pos, negsuc, ◌+◌, ◌-◌, ◌*◌, ◌<◌, ◌≤◌, ◌==◌, ◌||◌, not, Bool, true, false, cond, List, [], ◌∷◌, ◌++◌, Option, None, Some, Ok, Err, length, map, is_some, refl, subst, arith, length-append}
+use Rattle.std.proofs.Common.{◌≡◌, ℕ, ◌+◌, ◌-◌, ◌*◌, ◌<◌, ◌≤◌, ◌==◌, ◌||◌, not, Bool, true, false, cond, List, [], ◌∷◌, ◌++◌, Option, None, Some, Ok, Err, length, map, is_some, refl, subst, arith, length-append}
 use Rattle.std.specs.Prelude.{slice_set, nat_lt}
 use Rattle.std.specs.List.{AllByRecursion}
 use Rattle.std.proofs.lemmas.Bool.{ltb-false, ltb-true, lt-ltb}
 use Rattle.std.proofs.lemmas.List.{length-map, length-set, get_or_append_left, get_or-map}
 use Rattle.std.proofs.lemmas.List.Sums.{sum_by-append}
+use Rattle.pef_format.specs.declared.export.ExportValue.{ExportValue}
+use Rattle.pef_format.specs.declared.export.ExportValue.TheVariants.{Absolute, InSection, Reexport}
+use Rattle.pef_format.specs.Exports.{Export, value_of}
+use Rattle.pef_format.specs.Symbols.{Import}
 use Rattle.pef_words.specs.Refusals.{first_met}
 use Rattle.pef_words.proofs.Laws.Refusals.{first_unmet}
 use Rattle.pef_reloc.specs.declared.fixup.Base.{Base}
@@ -16,11 +20,11 @@ use Rattle.pef_reloc.proofs.Laws.{fixups_fit-more, fixups_end-append}
 use Rattle.pef_script_text.specs.declared.fault.LineFault.{LineFault}
 use Rattle.pef_script_text.specs.declared.fault.LineFault.TheVariants.{RepeatedName, OutOfOrder, Overlap, OutsideSection, TooMany}
 use Rattle.pef_script.specs.Limits.{most_name_bytes}
-use Rattle.pef_script.specs.Script.{DescribedExport, DescribedImport, DescribedLibrary, DescribedSection, bytes_of_names, name_bytes}
+use Rattle.pef_script.specs.Script.{DescribedLibrary, DescribedSection, bytes_of_names, name_bytes}
 use Rattle.pef_script_text.specs.SoFar.{ScriptSoFar, counted_name_tests, has_no_room, is_repeated, library_group, name_tests, no_section, number_of_name, section_so_far}
 use Rattle.pef_script_text.specs.Declarations.{entered_import}
 use Rattle.pef_script_text.specs.Contents.{bytes_tests, fixup_of, fixup_tests, with_contents, with_fixups}
-use Rattle.pef_script.specs.WellFormed.{BaseThere, EntryHolds, ExportHolds, ExportsHold, ImportHolds, ImportsHold, PlaceHolds, ScriptHolds, SectionHolds, SectionsHold, SignedPlaceHolds, totals_of}
+use Rattle.pef_script.specs.WellFormed.{BaseThere, EntryHolds, ExportHolds, ExportsHold, ImportHolds, ImportsHold, PlaceHolds, ScriptHolds, SectionHolds, SectionsHold, ValueHolds, totals_of}
 use Rattle.pef_words.proofs.Laws.Lists.{all-append, all-at, all-set, all-weaker}
 use Rattle.pef_script_text.proofs.Leads.{Leads, led}
 use Rattle.pef_script_text.proofs.ListLemmas.{map-set}
@@ -93,7 +97,7 @@ fixup_tests-unmet s k offset count unmet =
     let d = first_unmet (nat_lt offset (fixups_end 0 fixups)) Overlap None c.1 in
     record { room = ltb-false _ _ a.0; inside = ltb-false _ _ c.0; after = ltb-false _ _ d.0 }
 
--- places and entries, with more sections
+-- places, entries and exports, with more sections and imports
 
 place-more : (totals more : List ℕ) (k offset : ℕ) → PlaceHolds totals k offset → PlaceHolds (totals ++ more) k offset
 place-more totals more k offset place = record {
@@ -105,17 +109,23 @@ pub entry-more : (totals more : List ℕ) (entry : Option (ℕ × ℕ)) → Entr
 entry-more totals more None holds = tt
 entry-more totals more (Some entry) holds = place-more totals more entry.0 entry.1 holds
 
-export-more : (totals more : List ℕ) (e : DescribedExport) → ExportHolds totals e → ExportHolds (totals ++ more) e
-export-more totals more e holds = record { name = holds.name; class = holds.class; place = by e.section holds.place }
-  where
-    by : (section : ℤ) → SignedPlaceHolds totals section e.value → SignedPlaceHolds (totals ++ more) section e.value
-    by (pos k) place = place-more totals more k e.value place
-    by (negsuc n) place = place
+value-more : (totals more : List ℕ) (n j : ℕ) (value : ExportValue) → ValueHolds totals n value → ValueHolds (totals ++ more) (n + j) value
+value-more totals more n j (InSection k offset) place = place-more totals more k offset place
+value-more totals more n j (Absolute number) small = small
+value-more totals more n j (Reexport import) there = omega (arith, there)
 
-pub exports-more : (totals more : List ℕ) (exports : List DescribedExport) → ExportsHold totals exports → ExportsHold (totals ++ more) exports
-exports-more totals more exports holds = record {
+export-more : (totals more : List ℕ) (n j : ℕ) (e : Export) → ExportHolds totals n e → ExportHolds (totals ++ more) (n + j) e
+export-more totals more n j e holds = record {
+  name = holds.name;
+  class = holds.class;
+  section = holds.section;
+  value = value-more totals more n j (value_of e.section e.value) holds.value;
+}
+
+pub exports-more : (totals more : List ℕ) (n j : ℕ) (exports : List Export) → ExportsHold totals n exports → ExportsHold (totals ++ more) (n + j) exports
+exports-more totals more n j exports holds = record {
   count = holds.count;
-  each = all-weaker (ExportHolds totals) (ExportHolds (totals ++ more)) exports (export-more totals more) holds.each;
+  each = all-weaker (ExportHolds totals n) (ExportHolds (totals ++ more) (n + j)) exports (export-more totals more n j) holds.each;
   apart = holds.apart;
 }
 
@@ -149,7 +159,7 @@ sections-more n j sections holds =
     }
 
 -- with one more library, the imports have theirs
-pub imports-more : (n : ℕ) (imports : List DescribedImport) → ImportsHold n imports → ImportsHold (n + 1) imports
+pub imports-more : (n : ℕ) (imports : List Import) → ImportsHold n imports → ImportsHold (n + 1) imports
 imports-more n imports holds = record {
   count = holds.count;
   each = all-weaker (ImportHolds n) (ImportHolds (n + 1)) imports (λ i fits. record { name = fits.name; class = fits.class; library = omega (arith, fits.library) }) holds.each;

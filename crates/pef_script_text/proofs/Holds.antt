@@ -1,10 +1,13 @@
 -- Every line keeps what is true of the script so far.
-use Rattle.std.proofs.Common.{◌≡◌, ℕ, pos, ◌+◌, ◌-◌, ◌<◌, ◌≤◌, true, List, [], ◌∷◌, ◌++◌, None, Result, Ok, Err, length, map, refl, ap, subst, ◌∙◌, arith, length-append, append_assoc}
+use Rattle.std.proofs.Common.{◌≡◌, ℕ, Bool, ◌+◌, ◌≤◌, true, List, [], ◌∷◌, ◌++◌, None, Result, Ok, Err, length, map, refl, ap, subst, ◌∙◌, arith, length-append, append_assoc, append-nil}
 use Rattle.std.specs.Prelude.{codes, nat_lt}
 use Rattle.std.specs.List.{AllByRecursion}
 use Rattle.std.specs.Str.{bytes_eq}
 use Rattle.std.proofs.lemmas.Bool.{ltb-false}
 use Rattle.std.proofs.lemmas.List.{length-map, map-append}
+use Rattle.pef_format.specs.Exports.{Export, is_export_section, value_of}
+use Rattle.pef_format.specs.Sections.{is_instantiable, is_named_share}
+use Rattle.pef_format.specs.Symbols.{Import, is_class}
 use Rattle.pef_words.specs.Refusals.{first_met}
 use Rattle.pef_words.proofs.Laws.Refusals.{first_unmet}
 use Rattle.pef_reloc.specs.declared.fixup.Base.TheVariants as base
@@ -15,26 +18,26 @@ use Rattle.pef_script_text.specs.declared.fault.LineFault.{LineFault}
 use Rattle.pef_script_text.specs.declared.fault.LineFault.TheVariants.{BadLine, OutsideSection}
 use Rattle.pef_reloc.specs.Limits.{most_imports, most_sections}
 use Rattle.pef_script.specs.Limits.{greatest_align, greatest_number, greatest_total, most_exports, most_libraries}
-use Rattle.pef_script.specs.Script.{DescribedExport, DescribedHeader, DescribedImport, DescribedLibrary, DescribedSection, DescribedScript, bytes_of_names, export_names, import_names, library_names, section_names}
+use Rattle.pef_script.specs.Script.{DescribedHeader, DescribedLibrary, DescribedSection, DescribedScript, bytes_of_names, export_names, import_names, library_names, section_names}
 use Rattle.pef_script_text.specs.Words.{image_of, last_name, last_name_and_word, last_two_words, last_word, next_name, next_name_and_word, next_word, number_up_to}
 use Rattle.pef_script_text.specs.SoFar.{ScriptSoFar, content_group, counted_name_tests, entered, entered_once, export_group, init_group, library_group, main_group, name_tests, section_group, section_named, section_so_far, term_group, versions_group}
 use Rattle.pef_script_text.specs.Declarations.{entered_import, import_in, import_line, is_weak_word, kind_of, library_in, library_line, options_of, section_in, section_line, share_of, symbol_class_of, versions_in, versions_line}
-use Rattle.pef_script_text.specs.Contents.{base_named, bytes_in, bytes_line, bytes_tests, fix_line, fixup_in, fixup_of, fixup_tests, is_section_word, tvector_line, vector_in, with_fixups, with_image}
-use Rattle.pef_script_text.specs.Exports.{entry_in, export_in, export_line, init_line, main_line, place_tests, term_line}
+use Rattle.pef_script_text.specs.Contents.{base_named, bytes_in, bytes_line, bytes_tests, fix_line, fixup_in, fixup_of, fixup_tests, import_named, is_section_word, tvector_line, vector_in, with_fixups, with_image}
+use Rattle.pef_script_text.specs.Exports.{absolute_in, absolute_line, entry_in, export_in, export_line, init_line, main_line, place_tests, reexport_in, reexport_line, term_line, with_export}
 use Rattle.pef_lines.specs.Lines.{lines_of}
 use Rattle.pef_script_text.specs.Grammar.{LineRefusal, after_line, is_skipped, line_by_word, line_of, no_lines, read_lines, script_of}
-use Rattle.pef_script.specs.WellFormed.{ExportHolds, ImportHolds, IsName, LibraryHolds, PlaceHolds, ScriptHolds, SectionHolds, SignedPlaceHolds, VersionsHold, is_kind, is_share, totals_of}
+use Rattle.pef_script.specs.WellFormed.{ExportHolds, ExportsHold, ImportHolds, IsName, LibraryHolds, PlaceHolds, ScriptHolds, SectionHolds, ValueHolds, VersionsHold, totals_of}
 use Rattle.pef_script_text.proofs.Leads.{Leads, leads_if, leads_on, leads_then, leads_unless, led}
 use Rattle.pef_words.proofs.Laws.Lists.{all-append, all-map, all-weaker}
 use Rattle.pef_script_text.proofs.ListLemmas.{distinct-more, no_names_apart, rises-more}
-use Rattle.pef_script_text.proofs.WordLemmas.{base_named-is, class_of-is, kind_of-is, next_name_and_word-is, number_up_to-is, options_of-is, section_named-is, share_of-is}
+use Rattle.pef_script_text.proofs.WordLemmas.{base_named-is, class_of-is, import_named-is, kind_of-is, next_name_and_word-is, number_up_to-is, section_named-is, share_of-is}
 use Rattle.pef_script_text.proofs.Growing.{StateHolds, name_tests-unmet, counted_tests-unmet, bytes_tests-unmet, fixup_tests-unmet, entry-more, exports-more, section-more, sections-more, imports-more, entered_import-is, place_at, names-more, changed, at_section, fixup-more}
 
 -- what is true of a header that a line declares
 record HeaderHolds (header : DescribedHeader) : Type 0 where
   name : IsName header.name
-  kind : is_kind header.kind ≡ true
-  share : is_share header.share ≡ true
+  kind : is_instantiable header.kind ≡ true
+  share : is_named_share header.share ≡ true
   align : header.align ≤ greatest_align
   total : header.total ≤ greatest_total
 
@@ -80,7 +83,6 @@ module _ (s : ScriptSoFar) (holds : StateHolds s) (line : List ℕ) where
         name = next_name_and_word-is line library library_is;
         current = number_up_to-is greatest_number library.1 current current_is;
         old_imp = number_up_to-is greatest_number last.0 old_imp old_imp_is;
-        options = options_of-is last.1 options options_is;
       }))))))
 
   library_line-holds : Leads StateHolds (library_line s line)
@@ -109,7 +111,7 @@ module _ (s : ScriptSoFar) (holds : StateHolds s) (line : List ℕ) where
       }))
 
   -- an import is of the last library
-  abbrev IsOfLast : DescribedImport → Type 0
+  abbrev IsOfLast : Import → Type 0
   IsOfLast symbol = ImportHolds (length s.script.libraries) symbol × (symbol.library + 1 ≡ length s.script.libraries)
 
   import_in-holds : Leads IsOfLast (import_in s line)
@@ -129,23 +131,24 @@ module _ (s : ScriptSoFar) (holds : StateHolds s) (line : List ℕ) where
       leads_unless StateHolds (first_met (counted_name_tests s (import_names s.script) most_imports symbol.name)) _ (λ unmet.
       let room = (counted_tests-unmet s (import_names s.script) most_imports symbol.name [] unmet).0 in
       let imports = s.script.imports in
+      let totals = totals_of s.script.sections in
       let n = length s.script.libraries in
       let count : length (imports ++ symbol ∷ []) ≡ length imports + 1 = length-append imports (symbol ∷ []) in
-      let names : map (λ (i : DescribedImport). i.name) (imports ++ symbol ∷ []) ≡ import_names s.script ++ symbol.name ∷ [] = map-append (λ (i : DescribedImport). i.name) imports (symbol ∷ []) in
-      let libraries : map (λ (i : DescribedImport). i.library) (imports ++ symbol ∷ []) ≡ map (λ (i : DescribedImport). i.library) imports ++ symbol.library ∷ [] = map-append (λ (i : DescribedImport). i.library) imports (symbol ∷ []) in
+      let names : map (λ (i : Import). i.name) (imports ++ symbol ∷ []) ≡ import_names s.script ++ symbol.name ∷ [] = map-append (λ (i : Import). i.name) imports (symbol ∷ []) in
+      let libraries : map (λ (i : Import). i.library) (imports ++ symbol ∷ []) ≡ map (λ (i : Import). i.library) imports ++ symbol.library ∷ [] = map-append (λ (i : Import). i.library) imports (symbol ∷ []) in
       let bytes = ap bytes_of_names names ∙ names-more (import_names s.script) symbol.name in
       record {
         versions = holds.versions;
         libraries = holds.libraries;
         imports = record {
-          count = omega (arith, count, room.room, length-map imports (λ (i : DescribedImport). i.name));
+          count = omega (arith, count, room.room, length-map imports (λ (i : Import). i.name));
           each = all-append (ImportHolds n) imports (symbol ∷ []) holds.imports.each (fits.0, tt);
           apart = rw names (distinct-more (import_names s.script) symbol.name holds.imports.apart room.new);
-          grouped = rw libraries (rises-more (map (λ (i : DescribedImport). i.library) imports) symbol.library holds.imports.grouped
-              (all-map (λ (i : DescribedImport). i.library) (ImportHolds n) (λ x. x ≤ symbol.library) imports (λ i before. omega (arith, before.library, fits.1)) holds.imports.each));
+          grouped = rw libraries (rises-more (map (λ (i : Import). i.library) imports) symbol.library holds.imports.grouped
+              (all-map (λ (i : Import). i.library) (ImportHolds n) (λ x. x ≤ symbol.library) imports (λ i before. omega (arith, before.library, fits.1)) holds.imports.each));
         };
         sections = rw count (sections-more (length imports) 1 s.script.sections holds.sections);
-        exports = holds.exports;
+        exports = rw (count, ← append-nil totals) (exports-more totals [] (length imports) 1 s.script.exports holds.exports);
         main = holds.main;
         init = holds.init;
         term = holds.term;
@@ -207,7 +210,7 @@ module _ (s : ScriptSoFar) (holds : StateHolds s) (line : List ℕ) where
           ));
           apart = rw names (distinct-more (section_names s.script) header.name holds.sections.apart room.new);
         };
-        exports = rw totals (exports-more (totals_of sections) (header.total ∷ []) s.script.exports holds.exports);
+        exports = rw totals (subst (λ j. ExportsHold (totals_of sections ++ header.total ∷ []) j s.script.exports) same (exports-more (totals_of sections) (header.total ∷ []) i 0 s.script.exports holds.exports));
         main = rw totals (entry-more (totals_of sections) (header.total ∷ []) s.script.main holds.main);
         init = rw totals (entry-more (totals_of sections) (header.total ∷ []) s.script.init holds.init);
         term = rw totals (entry-more (totals_of sections) (header.total ∷ []) s.script.term holds.term);
@@ -297,36 +300,21 @@ module _ (s : ScriptSoFar) (holds : StateHolds s) (line : List ℕ) where
   tvector_line-holds : Leads StateHolds (tvector_line s line)
   tvector_line-holds = leads_on _ StateHolds (vector_in s line) _ vector_in-holds (λ v right. changed s v.0 (with_fixups (section_so_far s v.0) v.1) holds refl right)
 
-  -- an export of section e.0, whose place in it is still to be tested
-  record IsOfSection (e : ℕ × DescribedExport) : Type 0 where
-    name : IsName e.1.name
-    class : e.1.class ≤ 4
-    under : e.0 < length s.script.sections
-    section : pos e.0 ≡ e.1.section
+  -- an export that a line declares, where other tests of it are not met
+  record IsExport (tests : List (Bool × LineFault)) (e : Export) : Type 0 where
+    name : IsName e.name
+    class : is_class e.class ≡ true
+    section : is_export_section e.section ≡ true
+    value : first_met tests ≡ None → ValueHolds (totals_of s.script.sections) (length s.script.imports) (value_of e.section e.value)
 
-  export_in-holds : Leads IsOfSection (export_in s line)
-  unfolding export_in
-  export_in-holds =
-      leads_then IsOfSection (next_name_and_word line) _ (λ symbol symbol_is.
-      leads_then IsOfSection (last_name_and_word symbol.2) _ (λ place place_is.
-      leads_then IsOfSection (entered s export_group) _ (λ group group_is.
-      leads_then IsOfSection (symbol_class_of symbol.1) _ (λ class class_is.
-      leads_then IsOfSection (number_up_to greatest_number place.1) _ (λ offset offset_is.
-      leads_then IsOfSection (section_named s place.0) _ (λ k k_is.
-      record { name = next_name_and_word-is line symbol symbol_is; class = class_of-is symbol.1 class class_is; under = section_named-is s place.0 k k_is; section = refl }))))))
-
-  export_line-holds : Leads StateHolds (export_line s line)
-  export_line-holds =
-      leads_on IsOfSection StateHolds (export_in s line) _ export_in-holds (λ e fits.
-      let k = e.0 in
-      let symbol = e.1 in
-      leads_unless StateHolds (first_met (counted_name_tests s (export_names s.script) most_exports symbol.name ++ place_tests s k symbol.value)) _ (λ unmet.
-      let tests = counted_tests-unmet s (export_names s.script) most_exports symbol.name (place_tests s k symbol.value) unmet in
-      let room = tests.0 in
-      let inside = ltb-false _ _ (first_unmet (nat_lt (section_so_far s k).header.total symbol.value) OutsideSection None tests.1).0 in
+  with_export-holds : (tests : List (Bool × LineFault)) (symbol : Export) → IsExport tests symbol → Leads StateHolds (with_export s tests symbol)
+  with_export-holds tests symbol fits =
+      leads_unless StateHolds (first_met (counted_name_tests s (export_names s.script) most_exports symbol.name ++ tests)) _ (λ unmet.
+      let both = counted_tests-unmet s (export_names s.script) most_exports symbol.name tests unmet in
+      let room = both.0 in
       let exports = s.script.exports in
       let count : length (exports ++ symbol ∷ []) ≡ length exports + 1 = length-append exports (symbol ∷ []) in
-      let names : map (λ (e : DescribedExport). e.name) (exports ++ symbol ∷ []) ≡ export_names s.script ++ symbol.name ∷ [] = map-append (λ (e : DescribedExport). e.name) exports (symbol ∷ []) in
+      let names : map (λ (e : Export). e.name) (exports ++ symbol ∷ []) ≡ export_names s.script ++ symbol.name ∷ [] = map-append (λ (e : Export). e.name) exports (symbol ∷ []) in
       let bytes = ap bytes_of_names names ∙ names-more (export_names s.script) symbol.name in
       record {
         versions = holds.versions;
@@ -334,13 +322,9 @@ module _ (s : ScriptSoFar) (holds : StateHolds s) (line : List ℕ) where
         imports = holds.imports;
         sections = holds.sections;
         exports = record {
-          count = omega (arith, count, room.room, length-map exports (λ (e : DescribedExport). e.name));
-          each = all-append (ExportHolds (totals_of s.script.sections)) exports (symbol ∷ []) holds.exports.each (
-            record {
-              name = fits.name;
-              class = fits.class;
-              place = subst (λ z. SignedPlaceHolds (totals_of s.script.sections) z symbol.value) fits.section (place_at s k symbol.value fits.under inside);
-            },
+          count = omega (arith, count, room.room, length-map exports (λ (e : Export). e.name));
+          each = all-append (ExportHolds (totals_of s.script.sections) (length s.script.imports)) exports (symbol ∷ []) holds.exports.each (
+            record { name = fits.name; class = fits.class; section = fits.section; value = fits.value both.1 },
             tt,
           );
           apart = rw names (distinct-more (export_names s.script) symbol.name holds.exports.apart room.new);
@@ -349,7 +333,66 @@ module _ (s : ScriptSoFar) (holds : StateHolds s) (line : List ℕ) where
         init = holds.init;
         term = holds.term;
         names = omega (arith, bytes, room.bytes);
-      }))
+      })
+
+  -- an export of section e.0, whose place in it is still to be tested
+  abbrev IsPlaced : ℕ × Export → Type 0
+  IsPlaced e = IsExport (place_tests s e.0 e.1.value) e.1
+
+  export_in-holds : Leads IsPlaced (export_in s line)
+  unfolding export_in
+  export_in-holds =
+      leads_then IsPlaced (next_name_and_word line) _ (λ symbol symbol_is.
+      leads_then IsPlaced (last_name_and_word symbol.2) _ (λ place place_is.
+      leads_then IsPlaced (entered s export_group) _ (λ group group_is.
+      leads_then IsPlaced (symbol_class_of symbol.1) _ (λ class class_is.
+      leads_then IsPlaced (number_up_to greatest_number place.1) _ (λ offset offset_is.
+      leads_then IsPlaced (section_named s place.0) _ (λ k k_is.
+      record {
+        name = next_name_and_word-is line symbol symbol_is;
+        class = class_of-is symbol.1 class class_is;
+        section = refl;
+        value = λ unmet. place_at s k offset (section_named-is s place.0 k k_is) (ltb-false _ _ (first_unmet (nat_lt (section_so_far s k).header.total offset) OutsideSection None unmet).0);
+      }))))))
+
+  export_line-holds : Leads StateHolds (export_line s line)
+  export_line-holds = leads_on IsPlaced StateHolds (export_in s line) _ export_in-holds (λ e fits. with_export-holds (place_tests s e.0 e.1.value) e.1 fits)
+
+  reexport_in-holds : Leads (IsExport []) (reexport_in s line)
+  unfolding reexport_in
+  reexport_in-holds =
+      leads_then (IsExport []) (next_name_and_word line) _ (λ symbol symbol_is.
+      leads_then (IsExport []) (last_name symbol.2) _ (λ import_name import_name_is.
+      leads_then (IsExport []) (entered s export_group) _ (λ group group_is.
+      leads_then (IsExport []) (symbol_class_of symbol.1) _ (λ class class_is.
+      leads_then (IsExport []) (import_named s import_name) _ (λ j j_is.
+      record {
+        name = next_name_and_word-is line symbol symbol_is;
+        class = class_of-is symbol.1 class class_is;
+        section = refl;
+        value = λ unmet. import_named-is s import_name j j_is;
+      })))))
+
+  reexport_line-holds : Leads StateHolds (reexport_line s line)
+  reexport_line-holds = leads_on (IsExport []) StateHolds (reexport_in s line) _ reexport_in-holds (with_export-holds [])
+
+  absolute_in-holds : Leads (IsExport []) (absolute_in s line)
+  unfolding absolute_in
+  absolute_in-holds =
+      leads_then (IsExport []) (next_name_and_word line) _ (λ symbol symbol_is.
+      leads_then (IsExport []) (last_word symbol.2) _ (λ number number_is.
+      leads_then (IsExport []) (entered s export_group) _ (λ group group_is.
+      leads_then (IsExport []) (symbol_class_of symbol.1) _ (λ class class_is.
+      leads_then (IsExport []) (number_up_to greatest_number number) _ (λ value value_is.
+      record {
+        name = next_name_and_word-is line symbol symbol_is;
+        class = class_of-is symbol.1 class class_is;
+        section = refl;
+        value = λ unmet. number_up_to-is greatest_number number value value_is;
+      })))))
+
+  absolute_line-holds : Leads StateHolds (absolute_line s line)
+  absolute_line-holds = leads_on (IsExport []) StateHolds (absolute_in s line) _ absolute_in-holds (with_export-holds [])
 
   entry_in-holds : (group : ℕ) → Leads (λ (entry : ℕ × ℕ). PlaceHolds (totals_of s.script.sections) entry.0 entry.1) (entry_in s group line)
   unfolding entry_in
@@ -412,9 +455,11 @@ line_by_word-holds s p holds =
     leads_if StateHolds (bytes_eq p.0 (codes "fix")) (fix_line s p.1) _ (λ met. fix_line-holds s holds p.1) (λ unmet.
     leads_if StateHolds (bytes_eq p.0 (codes "tvector")) (tvector_line s p.1) _ (λ met. tvector_line-holds s holds p.1) (λ unmet.
     leads_if StateHolds (bytes_eq p.0 (codes "export")) (export_line s p.1) _ (λ met. export_line-holds s holds p.1) (λ unmet.
+    leads_if StateHolds (bytes_eq p.0 (codes "reexport")) (reexport_line s p.1) _ (λ met. reexport_line-holds s holds p.1) (λ unmet.
+    leads_if StateHolds (bytes_eq p.0 (codes "absolute")) (absolute_line s p.1) _ (λ met. absolute_line-holds s holds p.1) (λ unmet.
     leads_if StateHolds (bytes_eq p.0 (codes "main")) (main_line s p.1) _ (λ met. main_line-holds s holds p.1) (λ unmet.
     leads_if StateHolds (bytes_eq p.0 (codes "init")) (init_line s p.1) _ (λ met. init_line-holds s holds p.1) (λ unmet.
-    leads_if StateHolds (bytes_eq p.0 (codes "term")) (term_line s p.1) (Err BadLine) (λ met. term_line-holds s holds p.1) (λ unmet. tt)))))))))))
+    leads_if StateHolds (bytes_eq p.0 (codes "term")) (term_line s p.1) (Err BadLine) (λ met. term_line-holds s holds p.1) (λ unmet. tt)))))))))))))
 
 line_of-holds : (s : ScriptSoFar) (line : List ℕ) → StateHolds s → Leads StateHolds (line_of s line)
 unfolding line_of

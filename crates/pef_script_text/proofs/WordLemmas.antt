@@ -6,6 +6,14 @@ use Rattle.std.specs.List.{list_all}
 use Rattle.std.specs.Str.{bytes_eq}
 use Rattle.std.proofs.lemmas.Bool.{and_parts, ltb-false, ltb-true}
 use Rattle.std.proofs.lemmas.List.{length-map}
+use Rattle.pef_format.specs.declared.section.SectionKind.{SectionKind}
+use Rattle.pef_format.specs.declared.section.SectionKind.TheVariants as kind
+use Rattle.pef_format.specs.declared.section.Share.{Share}
+use Rattle.pef_format.specs.declared.section.Share.TheVariants as share
+use Rattle.pef_format.specs.declared.symbol.SymbolClass.{SymbolClass}
+use Rattle.pef_format.specs.declared.symbol.SymbolClass.TheVariants as class
+use Rattle.pef_format.specs.Sections.{is_instantiable, is_named_share}
+use Rattle.pef_format.specs.Symbols.{class_code, is_class}
 use Rattle.pef_reloc.specs.declared.fixup.Base.{Base}
 use Rattle.pef_reloc.specs.declared.fixup.Base.TheVariants as base
 use Rattle.pef_script_text.specs.declared.fault.LineFault.{LineFault}
@@ -18,9 +26,9 @@ use Rattle.pef_script_text.specs.Words.{named, next_name, next_name_and_word, ne
 use Rattle.pef_script.specs.Limits.{longest_name}
 use Rattle.pef_script.specs.Script.{import_names, section_names}
 use Rattle.pef_script_text.specs.SoFar.{ScriptSoFar, number_of_name, section_named}
-use Rattle.pef_script_text.specs.Declarations.{kind_of, options_of, share_of, symbol_class_of}
+use Rattle.pef_script_text.specs.Declarations.{kind_of, share_of, symbol_class_of}
 use Rattle.pef_script_text.specs.Contents.{base_named, import_named}
-use Rattle.pef_script.specs.WellFormed.{BaseThere, IsName, is_kind, is_options, is_share}
+use Rattle.pef_script.specs.WellFormed.{BaseThere, IsName}
 use Rattle.pef_script_text.proofs.Leads.{Leads, leads_if, leads_then, led}
 use Rattle.pef_script_text.proofs.ListLemmas.{position_from-under}
 
@@ -63,47 +71,37 @@ number_up_to-is greatest word n is = led (λ m. m ≤ greatest) (number_up_to gr
         inside true is = (let under = ltb-true m (greatest + 1) is in omega (arith, under))
         inside false is = tt
 
--- numbers that tables have for words
+-- what tables have for words
 
-pub options_of-is : (word : List ℕ) (options : ℕ) → options_of word ≡ Ok options → is_options options ≡ true
-options_of-is word options is = led (λ o. is_options o ≡ true) (options_of word) options is
-    (by (bytes_eq word (codes "-")) (bytes_eq word (codes "weak")) (bytes_eq word (codes "before")) (bytes_eq word (codes "weak,before")))
-  where
-    by : (a b c d : Bool) → Leads (λ o. is_options o ≡ true) (ok_or (cond a (Some 0) (cond b (Some 0x40) (cond c (Some 0x80) (cond d (Some 0xC0) None)))) BadKind)
-    by true b c d = refl
-    by false true c d = refl
-    by false false true d = refl
-    by false false false true = refl
-    by false false false false = tt
-
-pub class_of-is : (word : List ℕ) (class : ℕ) → symbol_class_of word ≡ Ok class → class ≤ 4
-class_of-is word class is = led (λ n. n ≤ 4) (symbol_class_of word) class is
+pub class_of-is : (word : List ℕ) (found : SymbolClass) → symbol_class_of word ≡ Ok found → is_class (class_code found) ≡ true
+class_of-is word found is = led (λ c. is_class (class_code c) ≡ true) (symbol_class_of word) found is
     (by (bytes_eq word (codes "code")) (bytes_eq word (codes "data")) (bytes_eq word (codes "tvector")) (bytes_eq word (codes "toc")) (bytes_eq word (codes "glue")))
   where
-    by : (a b c d e : Bool) → Leads (λ n. n ≤ 4) (ok_or (cond a (Some 0) (cond b (Some 1) (cond c (Some 2) (cond d (Some 3) (cond e (Some 4) None))))) BadKind)
-    by true b c d e = omega arith
-    by false true c d e = omega arith
-    by false false true d e = omega arith
-    by false false false true e = omega arith
-    by false false false false true = omega arith
+    by : (a b c d e : Bool) → Leads (λ c. is_class (class_code c) ≡ true) (ok_or (cond a (Some class.Code) (cond b (Some class.Data) (cond c (Some class.TransitionVector) (cond d (Some class.Toc) (cond e (Some class.Glue) None))))) BadKind)
+    by true b c d e = refl
+    by false true c d e = refl
+    by false false true d e = refl
+    by false false false true e = refl
+    by false false false false true = refl
     by false false false false false = tt
 
-pub kind_of-is : (word : List ℕ) (kind : ℕ) → kind_of word ≡ Ok kind → is_kind kind ≡ true
-kind_of-is word kind is = led (λ k. is_kind k ≡ true) (kind_of word) kind is
-    (by (bytes_eq word (codes "code")) (bytes_eq word (codes "data")) (bytes_eq word (codes "const")) (bytes_eq word (codes "exec")))
+pub kind_of-is : (word : List ℕ) (found : SectionKind) → kind_of word ≡ Ok found → is_instantiable found ≡ true
+kind_of-is word found is = led (λ k. is_instantiable k ≡ true) (kind_of word) found is
+    (by (bytes_eq word (codes "code")) (bytes_eq word (codes "data")) (bytes_eq word (codes "pattern")) (bytes_eq word (codes "const")) (bytes_eq word (codes "exec")))
   where
-    by : (a b c d : Bool) → Leads (λ k. is_kind k ≡ true) (ok_or (cond a (Some 0) (cond b (Some 1) (cond c (Some 3) (cond d (Some 6) None)))) BadKind)
-    by true b c d = refl
-    by false true c d = refl
-    by false false true d = refl
-    by false false false true = refl
-    by false false false false = tt
+    by : (a b c d e : Bool) → Leads (λ k. is_instantiable k ≡ true) (ok_or (cond a (Some kind.Code) (cond b (Some kind.UnpackedData) (cond c (Some kind.PatternData) (cond d (Some kind.Constant) (cond e (Some kind.ExecutableData) None))))) BadKind)
+    by true b c d e = refl
+    by false true c d e = refl
+    by false false true d e = refl
+    by false false false true e = refl
+    by false false false false true = refl
+    by false false false false false = tt
 
-pub share_of-is : (word : List ℕ) (share : ℕ) → share_of word ≡ Ok share → is_share share ≡ true
-share_of-is word share is = led (λ k. is_share k ≡ true) (share_of word) share is
+pub share_of-is : (word : List ℕ) (found : Share) → share_of word ≡ Ok found → is_named_share found ≡ true
+share_of-is word found is = led (λ k. is_named_share k ≡ true) (share_of word) found is
     (by (bytes_eq word (codes "process")) (bytes_eq word (codes "global")) (bytes_eq word (codes "protected")))
   where
-    by : (a b c : Bool) → Leads (λ k. is_share k ≡ true) (ok_or (cond a (Some 1) (cond b (Some 4) (cond c (Some 5) None))) BadKind)
+    by : (a b c : Bool) → Leads (λ k. is_named_share k ≡ true) (ok_or (cond a (Some share.Process) (cond b (Some share.Global) (cond c (Some share.Protected) None))) BadKind)
     by true b c = refl
     by false true c = refl
     by false false true = refl
@@ -124,7 +122,7 @@ section_named-is s name k is =
     let count : length (section_names s.script) ≡ length s.script.sections = simp length-map in
     omega (arith, under, count)
 
-import_named-is : (s : ScriptSoFar) (name : List ℕ) (j : ℕ) → import_named s name ≡ Ok j → j < length s.script.imports
+pub import_named-is : (s : ScriptSoFar) (name : List ℕ) (j : ℕ) → import_named s name ≡ Ok j → j < length s.script.imports
 import_named-is s name j is =
     let under = found_under (import_names s.script) name j is in
     let count : length (import_names s.script) ≡ length s.script.imports = simp length-map in

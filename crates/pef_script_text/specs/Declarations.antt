@@ -1,16 +1,23 @@
 -- The lines that declare versions, libraries, imports and sections, each behind its first word
--- (docs/SCRIPTS.md, "Lines"). The numbers of options, classes, kinds and shares are those of
--- PEFBinaryFormat.h.
+-- (docs/SCRIPTS.md, "Lines").
 use Rattle.std.specs.Prelude.{ℕ, true, false, ◌-◌, ◌==◌, ◌||◌, Bool, List, [], ◌∷◌, ◌++◌, Result, Ok, Err, length, codes, nat_lt, if◌then◌else◌}
 use Rattle.std.specs.Str.{bytes_eq}
 use Rattle.pef_words.specs.Refusals.{first_met, unless}
 use Rattle.pef_words.specs.Results.{◌>>=◌}
+use Rattle.pef_format.specs.declared.section.SectionKind.{SectionKind}
+use Rattle.pef_format.specs.declared.section.SectionKind.TheVariants as kind
+use Rattle.pef_format.specs.declared.section.Share.{Share}
+use Rattle.pef_format.specs.declared.section.Share.TheVariants as share
+use Rattle.pef_format.specs.declared.symbol.LibraryOptions.{LibraryOptions}
+use Rattle.pef_format.specs.declared.symbol.SymbolClass.{SymbolClass}
+use Rattle.pef_format.specs.declared.symbol.SymbolClass.TheVariants as class
+use Rattle.pef_format.specs.Symbols.{Import, class_code}
 use Rattle.pef_reloc.specs.Limits.{most_imports, most_sections}
 use Rattle.pef_script_text.specs.declared.fault.LineFault.{LineFault}
 use Rattle.pef_script_text.specs.declared.fault.LineFault.TheVariants.{OutOfOrder, BadKind}
 use Rattle.pef_script.specs.declared.parts.Versions.{Versions}
 use Rattle.pef_script.specs.Limits.{greatest_align, greatest_number, greatest_total, most_libraries}
-use Rattle.pef_script.specs.Script.{DescribedHeader, DescribedImport, DescribedLibrary, import_names, library_names, section_names}
+use Rattle.pef_script.specs.Script.{DescribedHeader, DescribedLibrary, import_names, library_names, section_names}
 use Rattle.pef_script_text.specs.SoFar.{ScriptSoFar, counted_name_tests, entered, entered_once, library_group, name_tests, section_group, versions_group, with_script, word_of}
 use Rattle.pef_script_text.specs.Words.{last_two_words, last_word, next_name_and_word, next_word, number_up_to}
 
@@ -35,8 +42,12 @@ versions_line s line = versions_in s line >>= λ versions. Ok (with_versions s v
 
 -- `library NAME CURRENT OLDIMP OPTION`
 
-abbrev pub options_of : List ℕ → Result ℕ LineFault
-options_of = word_of ((codes "-", 0) ∷ (codes "weak", 0x40) ∷ (codes "before", 0x80) ∷ (codes "weak,before", 0xC0) ∷ [])
+abbrev pub options_of : List ℕ → Result LibraryOptions LineFault
+options_of = word_of ((codes "-", record { init_before = false; weak = false })
+    ∷ (codes "weak", record { init_before = false; weak = true })
+    ∷ (codes "before", record { init_before = true; weak = false })
+    ∷ (codes "weak,before", record { init_before = true; weak = true })
+    ∷ [])
 
 -- a library with a name that is new and has room
 abbrev pub with_library : ScriptSoFar → DescribedLibrary → Result ScriptSoFar LineFault
@@ -59,8 +70,8 @@ library_line s line = library_in s line >>= with_library s
 
 -- `import NAME CLASS STRENGTH`: a symbol of the last library, of which there is one
 
-abbrev pub symbol_class_of : List ℕ → Result ℕ LineFault
-symbol_class_of = word_of ((codes "code", 0) ∷ (codes "data", 1) ∷ (codes "tvector", 2) ∷ (codes "toc", 3) ∷ (codes "glue", 4) ∷ [])
+abbrev pub symbol_class_of : List ℕ → Result SymbolClass LineFault
+symbol_class_of = word_of ((codes "code", class.Code) ∷ (codes "data", class.Data) ∷ (codes "tvector", class.TransitionVector) ∷ (codes "toc", class.Toc) ∷ (codes "glue", class.Glue) ∷ [])
 
 abbrev pub is_weak_word : List ℕ → Result Bool LineFault
 is_weak_word word = if bytes_eq word (codes "strong") then Ok false else if bytes_eq word (codes "weak") then Ok true else Err BadKind
@@ -70,30 +81,30 @@ abbrev pub entered_import : ScriptSoFar → Result ℕ LineFault
 entered_import s = if nat_lt library_group s.reached || length s.script.libraries == 0 then Err OutOfOrder else Ok (length s.script.libraries - 1)
 
 -- an import with a name that is new and has room
-abbrev pub with_import : ScriptSoFar → DescribedImport → Result ScriptSoFar LineFault
+abbrev pub with_import : ScriptSoFar → Import → Result ScriptSoFar LineFault
 with_import s symbol = unless (first_met (counted_name_tests s (import_names s.script) most_imports symbol.name))
     (Ok (with_script s library_group (record s.script { imports = s.script.imports ++ symbol ∷ [] })))
 
 -- the import that a line declares, where it may stand
-unfoldable pub import_in : ScriptSoFar → List ℕ → Result DescribedImport LineFault
+unfoldable pub import_in : ScriptSoFar → List ℕ → Result Import LineFault
 import_in s line = do
   symbol ← next_name_and_word line
   strength ← last_word symbol.2
   library ← entered_import s
   class ← symbol_class_of symbol.1
   weak ← is_weak_word strength
-  Ok (record { name = symbol.0; class = class; weak = weak; library = library })
+  Ok (record { name = symbol.0; class = class_code class; weak = weak; library = library })
 
 abbrev pub import_line : ScriptSoFar → List ℕ → Result ScriptSoFar LineFault
 import_line s line = import_in s line >>= with_import s
 
 -- `section NAME KIND SHARE ALIGN TOTAL`
 
-abbrev pub kind_of : List ℕ → Result ℕ LineFault
-kind_of = word_of ((codes "code", 0) ∷ (codes "data", 1) ∷ (codes "const", 3) ∷ (codes "exec", 6) ∷ [])
+abbrev pub kind_of : List ℕ → Result SectionKind LineFault
+kind_of = word_of ((codes "code", kind.Code) ∷ (codes "data", kind.UnpackedData) ∷ (codes "pattern", kind.PatternData) ∷ (codes "const", kind.Constant) ∷ (codes "exec", kind.ExecutableData) ∷ [])
 
-abbrev pub share_of : List ℕ → Result ℕ LineFault
-share_of = word_of ((codes "process", 1) ∷ (codes "global", 4) ∷ (codes "protected", 5) ∷ [])
+abbrev pub share_of : List ℕ → Result Share LineFault
+share_of = word_of ((codes "process", share.Process) ∷ (codes "global", share.Global) ∷ (codes "protected", share.Protected) ∷ [])
 
 -- a section with a name that is new and has room
 abbrev pub with_section : ScriptSoFar → DescribedHeader → Result ScriptSoFar LineFault

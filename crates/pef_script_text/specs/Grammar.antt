@@ -10,7 +10,7 @@ use Rattle.pef_script.specs.Script.{DescribedScript}
 use Rattle.pef_script_text.specs.SoFar.{ScriptSoFar}
 use Rattle.pef_script_text.specs.Declarations.{versions_line, library_line, import_line, section_line}
 use Rattle.pef_script_text.specs.Contents.{bytes_line, fix_line, tvector_line}
-use Rattle.pef_script_text.specs.Exports.{export_line, main_line, init_line, term_line}
+use Rattle.pef_script_text.specs.Exports.{export_line, reexport_line, absolute_line, main_line, init_line, term_line}
 use Rattle.pef_lines.specs.Lines.{lines_of}
 use Rattle.pef_script_text.specs.Words.{next_word}
 
@@ -25,6 +25,8 @@ line_by_word s p =
     else if bytes_eq p.0 (codes "fix") then fix_line s p.1
     else if bytes_eq p.0 (codes "tvector") then tvector_line s p.1
     else if bytes_eq p.0 (codes "export") then export_line s p.1
+    else if bytes_eq p.0 (codes "reexport") then reexport_line s p.1
+    else if bytes_eq p.0 (codes "absolute") then absolute_line s p.1
     else if bytes_eq p.0 (codes "main") then main_line s p.1
     else if bytes_eq p.0 (codes "init") then init_line s p.1
     else if bytes_eq p.0 (codes "term") then term_line s p.1

@@ -4,6 +4,8 @@ use Rattle.std.specs.Prelude.{ℕ, ◌+◌, not, Bool, List, [], ◌∷◌, ◌+
 use Rattle.std.specs.List.{position_from}
 use Rattle.std.specs.Option.{is_some, ok_or}
 use Rattle.std.specs.Str.{bytes_eq}
+use Rattle.pef_format.specs.declared.section.SectionKind.TheVariants.{Code}
+use Rattle.pef_format.specs.declared.section.Share.TheVariants.{Process}
 use Rattle.pef_script_text.specs.declared.fault.LineFault.{LineFault}
 use Rattle.pef_script_text.specs.declared.fault.LineFault.TheVariants.{UnknownName, RepeatedName, OutOfOrder, TooMany, BadKind}
 use Rattle.pef_script.specs.Limits.{most_name_bytes}
@@ -50,13 +52,13 @@ entered s group = if nat_lt group s.reached then Err OutOfOrder else Ok tt
 abbrev pub entered_once : ScriptSoFar → ℕ → Result (Unit {0}) LineFault
 entered_once s group = if nat_le group s.reached then Err OutOfOrder else Ok tt
 
--- the number that a table has for a word
-abbrev pub word_in : List (List ℕ × ℕ) → List ℕ → Option ℕ
+-- what a table has for a word
+abbrev pub word_in : {T : Type 0} → List (List ℕ × T) → List ℕ → Option T
 word_in [] word = None
 word_in (entry ∷ table) word = if bytes_eq word entry.0 then Some entry.1 else word_in table word
 
--- the number that a table has for a word of a kind
-abbrev pub word_of : List (List ℕ × ℕ) → List ℕ → Result ℕ LineFault
+-- what a table has for a word that has to be one of its words
+abbrev pub word_of : {T : Type 0} → List (List ℕ × T) → List ℕ → Result T LineFault
 word_of table word = ok_or (word_in table word) BadKind
 
 -- the number of the first that has a name
@@ -69,7 +71,7 @@ section_named s name = ok_or (number_of_name (section_names s.script) name) Unkn
 
 -- a section without anything
 abbrev pub no_section : DescribedSection
-no_section = record { header = record { name = []; kind = 0; share = 0; align = 0; total = 0 }; image = []; fixups = [] }
+no_section = record { header = record { name = []; kind = Code; share = Process; align = 0; total = 0 }; image = []; fixups = [] }
 
 -- section k
 abbrev pub section_so_far : ScriptSoFar → ℕ → DescribedSection

@@ -121,7 +121,7 @@ impl<'a> Reader<'a> {
 
     /// The number of the import with a name.
     #[tactic(auto, using(crate::proofs::TableLemmas::imports_seen))]
-    fn import_named(&self, name: &[u8]) -> Result<usize, LineFault>
+    pub fn import_named(&self, name: &[u8]) -> Result<usize, LineFault>
         ensures found { result ≡ import_named (so_far self.now) name.now }
         ensures below { IfOk result (λ j. j < 2 ^ 32) }
     {

@@ -5,17 +5,7 @@ ghost use Rattle.pef_script_text.specs.Declarations.{is_weak_word, kind_of, opti
 ghost use Rattle.pef_script_text.specs.SoFar.{word_of};
 
 use crate::LineFault;
-use pef_loader::layout::{
-    CODE_SYMBOL, DATA_SYMBOL, GLUE_SYMBOL, INIT_BEFORE, TOC_SYMBOL, TRANSITION_VECTOR_SYMBOL,
-    WEAK_LIBRARY,
-};
-use pef_views::layout::{
-    CODE_SECTION, CONSTANT_SECTION, EXECUTABLE_DATA_SECTION, GLOBAL_SHARE, PROCESS_SHARE,
-    PROTECTED_SHARE, UNPACKED_DATA_SECTION,
-};
-
-/// A library that has to be there, and is initialized when it may be.
-const NO_OPTIONS: u8 = 0;
+use pef_format::{LibraryOptions, SectionKind, Share, SymbolClass};
 
 /// Whether a word is this text.
 pub fn spells(word: &[u8], text: &str) -> bool
@@ -24,41 +14,48 @@ pub fn spells(word: &[u8], text: &str) -> bool
     word == text.as_bytes()
 }
 
-/// The number that a table has for a word.
-fn word_of(table: &[(&str, u8)], word: &[u8]) -> Result<u8, LineFault>
+/// What a table has for a word.
+fn word_of<T: Copy>(table: &[(&str, T)], word: &[u8]) -> Result<T, LineFault>
     ensures { result ≡ word_of (map (λ entry. (entry.0.now, entry.1)) table.now) word.now }
 {
-    for (text, number) in table {
+    for (text, value) in table {
         if spells(word, text) {
-            return Ok(*number);
+            return Ok(*value);
         }
     }
     Err(LineFault::BadKind)
 }
 
 /// A library's options.
-pub fn options_of(word: &[u8]) -> Result<u8, LineFault>
+pub fn options_of(word: &[u8]) -> Result<LibraryOptions, LineFault>
     ensures { result ≡ options_of word.now }
 {
     let options = [
-        ("-", NO_OPTIONS),
-        ("weak", WEAK_LIBRARY),
-        ("before", INIT_BEFORE),
-        ("weak,before", WEAK_LIBRARY | INIT_BEFORE),
+        ("-", options(false, false)),
+        ("weak", options(false, true)),
+        ("before", options(true, false)),
+        ("weak,before", options(true, true)),
     ];
     word_of(&options, word)
 }
 
+/// Options by whether the library is initialized before the fragment, and whether it may be missing.
+fn options(init_before: bool, weak: bool) -> LibraryOptions
+    ensures { result ≡ record { init_before = init_before; weak = weak } }
+{
+    LibraryOptions { init_before, weak }
+}
+
 /// The class of a symbol.
-pub fn class_of(word: &[u8]) -> Result<u8, LineFault>
+pub fn class_of(word: &[u8]) -> Result<SymbolClass, LineFault>
     ensures { result ≡ symbol_class_of word.now }
 {
     let classes = [
-        ("code", CODE_SYMBOL),
-        ("data", DATA_SYMBOL),
-        ("tvector", TRANSITION_VECTOR_SYMBOL),
-        ("toc", TOC_SYMBOL),
-        ("glue", GLUE_SYMBOL),
+        ("code", SymbolClass::Code),
+        ("data", SymbolClass::Data),
+        ("tvector", SymbolClass::TransitionVector),
+        ("toc", SymbolClass::Toc),
+        ("glue", SymbolClass::Glue),
     ];
     word_of(&classes, word)
 }
@@ -77,26 +74,27 @@ pub fn is_weak_word(word: &[u8]) -> Result<bool, LineFault>
 }
 
 /// The kind of a section.
-pub fn kind_of(word: &[u8]) -> Result<u8, LineFault>
+pub fn kind_of(word: &[u8]) -> Result<SectionKind, LineFault>
     ensures { result ≡ kind_of word.now }
 {
     let kinds = [
-        ("code", CODE_SECTION),
-        ("data", UNPACKED_DATA_SECTION),
-        ("const", CONSTANT_SECTION),
-        ("exec", EXECUTABLE_DATA_SECTION),
+        ("code", SectionKind::Code),
+        ("data", SectionKind::UnpackedData),
+        ("pattern", SectionKind::PatternData),
+        ("const", SectionKind::Constant),
+        ("exec", SectionKind::ExecutableData),
     ];
     word_of(&kinds, word)
 }
 
 /// How a section is shared.
-pub fn share_of(word: &[u8]) -> Result<u8, LineFault>
+pub fn share_of(word: &[u8]) -> Result<Share, LineFault>
     ensures { result ≡ share_of word.now }
 {
     let shares = [
-        ("process", PROCESS_SHARE),
-        ("global", GLOBAL_SHARE),
-        ("protected", PROTECTED_SHARE),
+        ("process", Share::Process),
+        ("global", Share::Global),
+        ("protected", Share::Protected),
     ];
     word_of(&shares, word)
 }

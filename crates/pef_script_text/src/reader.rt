@@ -121,6 +121,10 @@ impl<'a> Reader<'a> {
             self.read_tvector(rest)
         } else if spells(word, "export") {
             self.read_export(rest)
+        } else if spells(word, "reexport") {
+            self.read_reexport(rest)
+        } else if spells(word, "absolute") {
+            self.read_absolute(rest)
         } else if spells(word, "main") {
             self.read_main(rest)
         } else if spells(word, "init") {
