@@ -1,3 +1,4 @@
 pub mod Sections
 pub mod Symbols
 pub mod Exports
+pub mod Entries

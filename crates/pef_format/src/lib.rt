@@ -4,6 +4,7 @@
 //! Views keep the fields as containers have them. Their meaning is told here only.
 #![tactic(auto)]
 
+mod entry;
 mod export;
 mod import;
 pub mod layout;
@@ -11,6 +12,7 @@ mod section;
 mod symbol;
 mod theorems;
 
+pub use entry::{EntryPoint, is_entry_section};
 pub use export::{ExportValue, ExportView, is_export_section};
 pub use import::ImportView;
 pub use section::{SectionKind, Share};

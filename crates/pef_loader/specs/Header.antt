@@ -1,7 +1,9 @@
 -- The loader header, and where the tables behind it stand (Mac OS Runtime Architectures, "PEF
 -- Structure", "Loader Section"; PEFLoaderInfoHeader of PEFBinaryFormat.h).
-use Rattle.std.specs.Prelude.{ℕ, ℤ, pos, negsuc, ◌+◌, ◌*◌, ◌==◌, Bool, List, Option, Some, None, nat_lt}
+use Rattle.std.specs.Prelude.{ℕ, ℤ, true, ◌+◌, ◌*◌, ◌&&◌, Bool, List, Option, Some, nat_lt, option_map}
 use Rattle.std.specs.Int.{w32}
+use Rattle.std.specs.Option.{option_map_or}
+use Rattle.pef_format.specs.Entries.{entry_point, is_entry_section}
 use Rattle.pef_words.specs.Bytes.{number_at, signed_at}
 use Rattle.pef_words.specs.Refusals.{◌>>=◌}
 use Rattle.pef_loader.specs.declared.header.LoaderHeader.{LoaderHeader}
@@ -62,12 +64,10 @@ reloc_place h k = relocs_from h + 12 * k
 abbrev pub tables_end : LoaderHeader → ℕ
 tables_end h = reloc_place h h.reloc_count
 
--- an entry's section is -1, for no entry, or that of an instantiated section
+-- an entry point isn't there, or is in an instantiated section
 abbrev pub is_entry : ℕ → ℤ → Bool
-is_entry sections (pos section) = nat_lt section sections
-is_entry sections (negsuc n) = n == 0
+is_entry sections section = is_entry_section section && option_map_or (λ e. nat_lt e.section sections) (entry_point section 0) true
 
--- the section and offset of an entry that is there
+-- the section and offset of an entry point that is there
 abbrev pub entry_of : ℤ → ℕ → Option (ℕ × ℕ)
-entry_of (pos section) offset = Some (section, offset)
-entry_of (negsuc n) offset = None
+entry_of section offset = option_map (λ e. (e.section, e.offset)) (entry_point section offset)

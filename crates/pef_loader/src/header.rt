@@ -8,7 +8,8 @@ use crate::layout::{
     RELOC_SECTION_COUNT_AT, RELOCATION_HEADER_SIZE, TERM_OFFSET_AT, TERM_SECTION_AT,
     TOTAL_IMPORTED_SYMBOL_COUNT_AT,
 };
-use pef_format::layout::{LOADER_HEADER_SIZE, NO_SECTION};
+use pef_format::layout::LOADER_HEADER_SIZE;
+use pef_format::{EntryPoint, is_entry_section};
 use pef_words::Cut;
 
 /// The loader header, field by field (PEFLoaderInfoHeader). Offsets count from the first byte of the
@@ -93,9 +94,13 @@ pub(crate) fn read_header(cut: Cut<'_>) -> Option<LoaderHeader>
     })
 }
 
-/// Whether an entry isn't there or is in one of the instantiated sections.
+/// Whether an entry point isn't there or is in one of the instantiated sections.
 pub(crate) fn is_entry(section: i32, sections: u16) -> bool
     ensures { result ≡ is_entry sections section }
 {
-    section == NO_SECTION || (section >= 0 && section < i32::from(sections))
+    is_entry_section(section)
+        && match EntryPoint::from_fields(section, 0) {
+            Some(entry) => entry.section < u32::from(sections),
+            None => true,
+        }
 }

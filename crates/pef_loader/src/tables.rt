@@ -22,8 +22,7 @@ use crate::library::{LibraryView, read_library, test_library};
 use crate::names::names_end;
 use crate::owner::{are_in_order, owner};
 use crate::reloc::{instructions, read_reloc, test_reloc};
-use pef_format::layout::NO_SECTION;
-use pef_format::{ExportView, ImportView};
+use pef_format::{EntryPoint, ExportView, ImportView};
 use pef_hash::Exports;
 use pef_views::Container;
 use pef_words::Cut;
@@ -269,10 +268,8 @@ impl<'a> Loader<'a> {
         ensures value { result ≡ entry_of section offset }
         ensures section { IfSome result (λ e. e.0 < (loaded self.now).sections) }
     {
-        if section == NO_SECTION {
-            return None;
-        }
-        Some((section.cast_unsigned(), offset))
+        let entry = EntryPoint::from_fields(section, offset)?;
+        Some((entry.section, entry.offset))
     }
 }
 
