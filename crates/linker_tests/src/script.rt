@@ -426,6 +426,7 @@ const COUNTS: &[(&str, &str, &str, u32)] = &[
         " data s 0",
         16_383,
     ),
+    ("absolute z code 0", "absolute e", " data 0", 16_382),
 ];
 
 /// The refusal of so many lines that declare names, behind a first line.
