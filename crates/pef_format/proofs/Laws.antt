@@ -1,13 +1,15 @@
 -- What this crate offers to the proofs of others: facts of the codes, as `specs/` defines them.
-use Rattle.std.proofs.Common.{◌≡◌, ◌<◌, ◌≤◌, ℕ, true, refl, arith}
+use Rattle.std.proofs.Common.{◌≡◌, ◌<◌, ◌≤◌, ℕ, negsuc, true, refl, arith}
 use Rattle.std.specs.Prelude.{nat_le}
 use Rattle.std.proofs.lemmas.Bool.{leb-true}
+use Rattle.std.proofs.lemmas.Bool.Decides.{nat_tests}
 use Rattle.pef_format.specs.declared.section.SectionKind.{SectionKind}
 use Rattle.pef_format.specs.declared.section.SectionKind.TheVariants.{Code, UnpackedData, PatternData, Constant, Loader, Debug, ExecutableData, Exception, Traceback}
 use Rattle.pef_format.specs.declared.section.SectionKind.TheVariants as kind
 use Rattle.pef_format.specs.declared.section.Share.{Share}
 use Rattle.pef_format.specs.declared.section.Share.TheVariants.{Process, Global, Protected}
 use Rattle.pef_format.specs.declared.section.Share.TheVariants as share
+use Rattle.pef_format.specs.Exports.{is_export_section}
 use Rattle.pef_format.specs.Sections.{is_instantiable, is_named_share, kind_code, kind_of, share_code}
 use Rattle.pef_format.specs.Symbols.{is_class}
 
@@ -48,3 +50,7 @@ share-small (share.Other code) named = absurd (cc)
 -- a class with a name fits four bits
 pub class-small : (code : ℕ) → is_class code ≡ true → code < 16
 class-small code named = let least = leb-true code 4 named in omega (arith, least)
+
+-- a negative section of an export is -1 - n for a small n
+pub special-small : (n : ℕ) → is_export_section (negsuc n) ≡ true → n ≤ 2
+special-small n named = grind (arith, nat_tests)
