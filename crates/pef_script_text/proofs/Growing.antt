@@ -1,8 +1,8 @@
 -- What unmet tests say of a line, and what stays true of a script that gets one thing more.
 use Rattle.std.proofs.Common.{◌≡◌, ℕ, ◌+◌, ◌-◌, ◌*◌, ◌<◌, ◌≤◌, ◌==◌, ◌||◌, not, Bool, true, false, cond, List, [], ◌∷◌, ◌++◌, Option, None, Some, Ok, Err, length, map, is_some, refl, subst, arith, length-append}
-use Rattle.std.specs.Prelude.{slice_set, nat_lt}
+use Rattle.std.specs.Prelude.{slice_set, nat_lt, nat_le}
 use Rattle.std.specs.List.{AllByRecursion}
-use Rattle.std.proofs.lemmas.Bool.{ltb-false, ltb-true, lt-ltb}
+use Rattle.std.proofs.lemmas.Bool.{and_from, le-leb, ltb-false, ltb-true, lt-ltb}
 use Rattle.std.proofs.lemmas.List.{length-map, length-set, get_or_append_left, get_or-map}
 use Rattle.std.proofs.lemmas.List.Sums.{sum_by-append}
 use Rattle.pef_format.specs.declared.export.ExportValue.{ExportValue}
@@ -14,20 +14,21 @@ use Rattle.pef_words.proofs.Laws.Refusals.{first_unmet}
 use Rattle.pef_reloc.specs.declared.fixup.Base.{Base}
 use Rattle.pef_reloc.specs.declared.fixup.Base.TheVariants as base
 use Rattle.pef_reloc.specs.declared.fixup.Fixup.{Fixup}
-use Rattle.pef_reloc.specs.Limits.{most_fixups, most_imports, most_sections}
-use Rattle.pef_reloc.specs.Fixups.{base_fits, fixups_end}
-use Rattle.pef_reloc.proofs.Laws.{fixups_fit-more, fixups_end-append}
+use Rattle.pef_reloc.specs.Limits.{most_fixups, most_imports, most_sections, offset_limit}
+use Rattle.pef_reloc.specs.Fixups.{base_fits, fixup_fits, fixups_fit, fixups_from}
+use Rattle.pef_reloc.proofs.Laws.{fixups_fit-parts}
 use Rattle.pef_script_text.specs.declared.fault.LineFault.{LineFault}
 use Rattle.pef_script_text.specs.declared.fault.LineFault.TheVariants.{RepeatedName, OutOfOrder, Overlap, OutsideSection, TooMany}
 use Rattle.pef_script.specs.Limits.{most_name_bytes}
 use Rattle.pef_script.specs.Script.{DescribedLibrary, DescribedSection, bytes_of_names, name_bytes}
 use Rattle.pef_script_text.specs.SoFar.{ScriptSoFar, counted_name_tests, has_no_room, is_repeated, library_group, name_tests, no_section, number_of_name, section_so_far}
 use Rattle.pef_script_text.specs.Declarations.{entered_import}
-use Rattle.pef_script_text.specs.Contents.{bytes_tests, fixup_of, fixup_tests, with_contents, with_fixups}
+use Rattle.pef_script_text.specs.Contents.{bytes_tests, fixup_of, fixup_tests, with_contents, with_fixups, overlaps, placed}
 use Rattle.pef_script.specs.WellFormed.{BaseThere, EntryHolds, ExportHolds, ExportsHold, ImportHolds, ImportsHold, PlaceHolds, ScriptHolds, SectionHolds, SectionsHold, ValueHolds, totals_of}
-use Rattle.pef_words.proofs.Laws.Lists.{all-append, all-at, all-set, all-weaker}
+use Rattle.pef_words.proofs.Laws.Lists.{all-at, all-set, all-weaker}
 use Rattle.pef_script_text.proofs.Leads.{Leads, led}
 use Rattle.pef_script_text.proofs.ListLemmas.{map-set}
+use Rattle.pef_script_text.proofs.Placing.{all-placed, fixups_end-placed, fixups_from-placed, length-placed}
 
 -- what is true while a script is read
 abbrev pub StateHolds : ScriptSoFar → Type 0
@@ -75,27 +76,22 @@ counted_tests-unmet s names limit name others unmet =
 pub bytes_tests-unmet : (s : ScriptSoFar) (k count : ℕ) → first_met (bytes_tests s k count) ≡ None → length (section_so_far s k).image + count ≤ (section_so_far s k).header.total
 bytes_tests-unmet s k count unmet =
     let section = section_so_far s k in
-    let a = first_unmet (nat_lt k s.section) OutOfOrder (first_met ((nat_lt section.header.total (length section.image + count), OutsideSection) ∷ [])) unmet in
-    let b = first_unmet (nat_lt section.header.total (length section.image + count)) OutsideSection None a.1 in
-    ltb-false _ _ b.0
+    ltb-false _ _ (first_unmet (nat_lt section.header.total (length section.image + count)) OutsideSection None unmet).0
 
 -- room for more fixups
 pub record FixupRoom (section : DescribedSection) (offset count : ℕ) : Type 0 where
   pub room : length section.fixups + count ≤ most_fixups
   pub inside : offset + 4 * count ≤ section.header.total
-  pub after : fixups_end 0 section.fixups ≤ offset
+  pub free : overlaps section.fixups offset count ≡ false
 
 pub fixup_tests-unmet : (s : ScriptSoFar) (k offset count : ℕ) → first_met (fixup_tests s k offset count) ≡ None → FixupRoom (section_so_far s k) offset count
 fixup_tests-unmet s k offset count unmet =
     let section = section_so_far s k in
-    let fixups = section.fixups in
-    let third = (nat_lt section.header.total (offset + 4 * count), OutsideSection) ∷ (nat_lt offset (fixups_end 0 fixups), Overlap) ∷ [] in
-    let late = nat_lt k s.section || nat_lt (offset + 4) (fixups_end 0 fixups) in
-    let a = first_unmet (nat_lt most_fixups (length fixups + count)) TooMany (first_met ((late, OutOfOrder) ∷ third)) unmet in
-    let b = first_unmet late OutOfOrder (first_met third) a.1 in
-    let c = first_unmet (nat_lt section.header.total (offset + 4 * count)) OutsideSection (first_met ((nat_lt offset (fixups_end 0 fixups), Overlap) ∷ [])) b.1 in
-    let d = first_unmet (nat_lt offset (fixups_end 0 fixups)) Overlap None c.1 in
-    record { room = ltb-false _ _ a.0; inside = ltb-false _ _ c.0; after = ltb-false _ _ d.0 }
+    let last = (overlaps section.fixups offset count, Overlap) ∷ [] in
+    let a = first_unmet (nat_lt most_fixups (length section.fixups + count)) TooMany (first_met ((nat_lt section.header.total (offset + 4 * count), OutsideSection) ∷ last)) unmet in
+    let b = first_unmet (nat_lt section.header.total (offset + 4 * count)) OutsideSection (first_met last) a.1 in
+    let c = first_unmet (overlaps section.fixups offset count) Overlap None b.1 in
+    record { room = ltb-false _ _ a.0; inside = ltb-false _ _ b.0; free = c.0 }
 
 -- places, entries and exports, with more sections and imports
 
@@ -226,11 +222,16 @@ base_within : (m n : ℕ) (b : Base) → m ≤ most_sections → n ≤ most_impo
 base_within m n (base.Section k) few some there = let under : k < most_sections = omega (arith, there) in lt-ltb k most_sections under
 base_within m n (base.Import j) few some there = let under : j < most_imports = omega (arith, there) in lt-ltb j most_imports under
 
--- one more fixup
-pub fixup-more : (m n : ℕ) (s : DescribedSection) (offset : ℕ) (b : Base) → m ≤ most_sections → n ≤ most_imports → SectionHolds m n s → length s.fixups < most_fixups → offset + 4 ≤ s.header.total → fixups_end 0 s.fixups ≤ offset → BaseThere m n b
+-- one more fixup, which overlaps none
+pub fixup-more : (m n : ℕ) (s : DescribedSection) (offset : ℕ) (b : Base) → m ≤ most_sections → n ≤ most_imports → SectionHolds m n s → length s.fixups < most_fixups → offset + 4 ≤ s.header.total → overlaps s.fixups offset 1 ≡ false → BaseThere m n b
     → SectionHolds m n (with_fixups s (fixup_of offset b ∷ []))
-fixup-more m n s offset b few some holds room inside after there =
+unfolding fixups_fit
+fixup-more m n s offset b few some holds room inside free there =
     let f : Fixup = fixup_of offset b in
+    let before = fixups_fit-parts s.fixups holds.fixups in
+    let count : length (placed s.fixups f) ≤ most_fixups = omega (arith, length-placed s.fixups f) in
+    let end : offset + 4 ≤ offset_limit = omega (arith, holds.total, inside) in
+    let fits : fixup_fits f ≡ true = and_from (nat_le (offset + 4) offset_limit) (base_fits b) (le-leb _ _ end) (base_within m n b few some there) in
     record {
       name = holds.name;
       kind = holds.kind;
@@ -238,7 +239,7 @@ fixup-more m n s offset b few some holds room inside after there =
       align = holds.align;
       total = holds.total;
       image = holds.image;
-      fixups = fixups_fit-more s.fixups f holds.fixups room after (omega (arith, holds.total, inside)) (base_within m n b few some there);
-      inside = rw (fixups_end-append 0 s.fixups (f ∷ [])) inside;
-      bases = all-append (λ (g : Fixup). BaseThere m n g.base) s.fixups (f ∷ []) holds.bases (there, tt);
+      fixups = and_from (nat_le (length (placed s.fixups f)) most_fixups) (fixups_from 0 (placed s.fixups f)) (le-leb _ _ count) (fixups_from-placed 0 s.fixups f before.apart (omega arith) fits free);
+      inside = fixups_end-placed 0 s.header.total s.fixups f holds.inside inside;
+      bases = all-placed (λ (g : Fixup). BaseThere m n g.base) s.fixups f holds.bases there;
     }

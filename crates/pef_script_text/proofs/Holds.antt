@@ -1,5 +1,5 @@
 -- Every line keeps what is true of the script so far.
-use Rattle.std.proofs.Common.{◌≡◌, ℕ, Bool, ◌+◌, ◌≤◌, true, List, [], ◌∷◌, ◌++◌, None, Result, Ok, Err, length, map, refl, ap, subst, ◌∙◌, arith, length-append, append_assoc, append-nil}
+use Rattle.std.proofs.Common.{◌≡◌, ℕ, Bool, ◌+◌, ◌≤◌, true, List, [], ◌∷◌, ◌++◌, None, Result, Ok, Err, length, map, refl, ap, subst, ◌∙◌, arith, length-append, append-nil}
 use Rattle.std.specs.Prelude.{codes, nat_lt}
 use Rattle.std.specs.List.{AllByRecursion}
 use Rattle.std.specs.Str.{bytes_eq}
@@ -12,8 +12,7 @@ use Rattle.pef_words.specs.Refusals.{first_met}
 use Rattle.pef_words.proofs.Laws.Refusals.{first_unmet}
 use Rattle.pef_reloc.specs.declared.fixup.Base.TheVariants as base
 use Rattle.pef_reloc.specs.declared.fixup.Fixup.{Fixup}
-use Rattle.pef_reloc.specs.Fixups.{fixups_end}
-use Rattle.pef_reloc.proofs.Laws.{fixups_end-append, no_fixups_fit}
+use Rattle.pef_reloc.proofs.Laws.{no_fixups_fit}
 use Rattle.pef_script_text.specs.declared.fault.LineFault.{LineFault}
 use Rattle.pef_script_text.specs.declared.fault.LineFault.TheVariants.{BadLine, OutsideSection}
 use Rattle.pef_reloc.specs.Limits.{most_imports, most_sections}
@@ -22,13 +21,14 @@ use Rattle.pef_script.specs.Script.{DescribedHeader, DescribedLibrary, Described
 use Rattle.pef_script_text.specs.Words.{image_of, last_name, last_name_and_word, last_two_words, last_word, next_name, next_name_and_word, next_word, number_up_to}
 use Rattle.pef_script_text.specs.SoFar.{ScriptSoFar, content_group, counted_name_tests, entered, entered_once, export_group, init_group, library_group, main_group, name_tests, section_group, section_named, section_so_far, term_group, versions_group}
 use Rattle.pef_script_text.specs.Declarations.{entered_import, import_in, import_line, is_weak_word, kind_of, library_in, library_line, options_of, section_in, section_line, share_of, symbol_class_of, versions_in, versions_line}
-use Rattle.pef_script_text.specs.Contents.{base_named, bytes_in, bytes_line, bytes_tests, fix_line, fixup_in, fixup_of, fixup_tests, import_named, is_section_word, tvector_line, vector_in, with_fixups, with_image}
+use Rattle.pef_script_text.specs.Contents.{base_named, bytes_in, bytes_line, bytes_tests, fix_line, fixup_in, fixup_of, fixup_tests, import_named, is_section_word, tvector_line, vector_in, with_fixups, with_image, placed}
 use Rattle.pef_script_text.specs.Exports.{absolute_in, absolute_line, entry_in, export_in, export_line, init_line, main_line, place_tests, reexport_in, reexport_line, term_line, with_export}
 use Rattle.pef_lines.specs.Lines.{lines_of}
 use Rattle.pef_script_text.specs.Grammar.{LineRefusal, after_line, is_skipped, line_by_word, line_of, no_lines, read_lines, script_of}
 use Rattle.pef_script.specs.WellFormed.{ExportHolds, ExportsHold, ImportHolds, IsName, LibraryHolds, PlaceHolds, ScriptHolds, SectionHolds, ValueHolds, VersionsHold, totals_of}
 use Rattle.pef_script_text.proofs.Leads.{Leads, leads_if, leads_on, leads_then, leads_unless, led}
 use Rattle.pef_words.proofs.Laws.Lists.{all-append, all-map, all-weaker}
+use Rattle.pef_script_text.proofs.Placing.{apart_two, length-placed}
 use Rattle.pef_script_text.proofs.ListLemmas.{distinct-more, no_names_apart, rises-more}
 use Rattle.pef_script_text.proofs.WordLemmas.{base_named-is, class_of-is, import_named-is, kind_of-is, next_name_and_word-is, number_up_to-is, section_named-is, share_of-is}
 use Rattle.pef_script_text.proofs.Growing.{StateHolds, name_tests-unmet, counted_tests-unmet, bytes_tests-unmet, fixup_tests-unmet, entry-more, exports-more, section-more, sections-more, imports-more, entered_import-is, place_at, names-more, changed, at_section, fixup-more}
@@ -263,7 +263,7 @@ module _ (s : ScriptSoFar) (holds : StateHolds s) (line : List ℕ) where
       let section = at_section s k holds (section_named-is s place.0 k k_is) in
       let room = fixup_tests-unmet s k offset 1 unmet in
       fixup-more (length s.script.sections) (length s.script.imports) (section_so_far s k) offset target (omega (arith, holds.sections.count)) (omega (arith, holds.imports.count)) section
-      (omega (arith, room.room)) (omega (arith, room.inside)) room.after (base_named-is s is_section target_name target target_is))))))))))
+      (omega (arith, room.room)) (omega (arith, room.inside)) room.free (base_named-is s is_section target_name target target_is))))))))))
 
   fix_line-holds : Leads StateHolds (fix_line s line)
   fix_line-holds = leads_on _ StateHolds (fixup_in s line) _ fixup_in-holds (λ f right. changed s f.0 (with_fixups (section_so_far s f.0) (f.1 ∷ [])) holds refl right)
@@ -289,13 +289,10 @@ module _ (s : ScriptSoFar) (holds : StateHolds s) (line : List ℕ) where
       let some : n ≤ most_imports = omega (arith, holds.imports.count) in
       let section = section_so_far s k in
       let a = fixup_of offset (base.Section code) in
-      let b = fixup_of (offset + 4) (base.Section data_section) in
-      let first = fixup-more m n section offset (base.Section code) few some (at_section s k holds under) (omega (arith, room.room)) (omega (arith, room.inside)) room.after (section_named-is s code_name.0 code code_is) in
-      let count : length (section.fixups ++ a ∷ []) ≡ length section.fixups + 1 = length-append section.fixups (a ∷ []) in
-      let end : fixups_end 0 (section.fixups ++ a ∷ []) ≡ offset + 4 = fixups_end-append 0 section.fixups (a ∷ []) in
-      let second = fixup-more m n (with_fixups section (a ∷ [])) (offset + 4) (base.Section data_section) few some first (omega (arith, count, room.room)) (omega (arith, room.inside)) (omega (arith, end)) (section_named-is s data_name data_section data_section_is) in
-      let Q : List Fixup → Type 0 = λ fixups. SectionHolds m n (record section { fixups = fixups }) in
-      subst Q (append_assoc section.fixups (a ∷ []) (b ∷ [])) second)))))))))
+      let free = apart_two section.fixups offset (base.Section code) (base.Section data_section) room.free in
+      let first = fixup-more m n section offset (base.Section code) few some (at_section s k holds under) (omega (arith, room.room)) (omega (arith, room.inside)) free.0 (section_named-is s code_name.0 code code_is) in
+      let count : length (placed section.fixups a) ≡ length section.fixups + 1 = length-placed section.fixups a in
+      fixup-more m n (with_fixups section (a ∷ [])) (offset + 4) (base.Section data_section) few some first (omega (arith, count, room.room)) (omega (arith, room.inside)) free.1.0 (section_named-is s data_name data_section data_section_is))))))))))
 
   tvector_line-holds : Leads StateHolds (tvector_line s line)
   tvector_line-holds = leads_on _ StateHolds (vector_in s line) _ vector_in-holds (λ v right. changed s v.0 (with_fixups (section_so_far s v.0) v.1) holds refl right)

@@ -1,9 +1,10 @@
 pub mod Laws
-mod Ends
 mod Growing
 mod Holds
 mod Leads
 mod LineLemmas
 mod ListLemmas
+mod Offsets
+mod Placing
 mod TableLemmas
 mod WordLemmas

@@ -1,6 +1,7 @@
--- The lines that say what is in a section, each behind its first word (docs/SCRIPTS.md, "Lines"). They come
--- section by section.
-use Rattle.std.specs.Prelude.{ℕ, true, false, ◌+◌, ◌*◌, ◌||◌, Bool, List, [], ◌∷◌, ◌++◌, Result, Ok, Err, length, codes, nat_lt, slice_set, if◌then◌else◌}
+-- The lines that say what is in a section, each after its first word (docs/SCRIPTS.md, "Lines"). They come
+-- in any order of sections and offsets.
+use Rattle.std.specs.Prelude.{ℕ, true, false, ◌+◌, ◌*◌, ◌&&◌, Bool, List, [], ◌∷◌, ◌++◌, Result, Ok, Err, length, codes, nat_lt, slice_set, if◌then◌else◌}
+use Rattle.std.specs.List.{fold, list_any}
 use Rattle.std.specs.Option.{ok_or}
 use Rattle.std.specs.Str.{bytes_eq}
 use Rattle.pef_words.specs.Refusals.{first_met, unless}
@@ -9,9 +10,8 @@ use Rattle.pef_reloc.specs.declared.fixup.Base.{Base}
 use Rattle.pef_reloc.specs.declared.fixup.Base.TheVariants as base
 use Rattle.pef_reloc.specs.declared.fixup.Fixup.{Fixup}
 use Rattle.pef_reloc.specs.Limits.{most_fixups}
-use Rattle.pef_reloc.specs.Fixups.{fixups_end}
 use Rattle.pef_script_text.specs.declared.fault.LineFault.{LineFault}
-use Rattle.pef_script_text.specs.declared.fault.LineFault.TheVariants.{UnknownName, OutOfOrder, Overlap, OutsideSection, TooMany, BadKind}
+use Rattle.pef_script_text.specs.declared.fault.LineFault.TheVariants.{UnknownName, Overlap, OutsideSection, TooMany, BadKind}
 use Rattle.pef_script.specs.Limits.{greatest_number}
 use Rattle.pef_script.specs.Script.{DescribedSection, import_names}
 use Rattle.pef_script_text.specs.SoFar.{ScriptSoFar, content_group, entered, number_of_name, section_named, section_so_far}
@@ -21,16 +21,13 @@ use Rattle.pef_script_text.specs.Words.{image_of, last_name, last_name_and_word,
 abbrev pub with_contents : ScriptSoFar → ℕ → DescribedSection → ScriptSoFar
 with_contents s k section = record s {
   reached = content_group;
-  section = k;
   script = record s.script { sections = slice_set s.script.sections k section };
 }
 
 -- `bytes SECTION HEX`: more bytes of a section's image
 
 abbrev pub bytes_tests : ScriptSoFar → ℕ → ℕ → List (Bool × LineFault)
-bytes_tests s k count = (nat_lt k s.section, OutOfOrder)
-    ∷ (nat_lt (section_so_far s k).header.total (length (section_so_far s k).image + count), OutsideSection)
-    ∷ []
+bytes_tests s k count = (nat_lt (section_so_far s k).header.total (length (section_so_far s k).image + count), OutsideSection) ∷ []
 
 abbrev pub with_image : DescribedSection → List ℕ → DescribedSection
 with_image section bytes = record section { image = section.image ++ bytes }
@@ -47,16 +44,29 @@ bytes_in s line = do
 abbrev pub bytes_line : ScriptSoFar → List ℕ → Result ScriptSoFar LineFault
 bytes_line s line = bytes_in s line >>= λ b. Ok (with_contents s b.0 (with_image (section_so_far s b.0) b.1))
 
--- the tests of so many fixups, one behind the other, from an offset in section k
+-- a fixup's word meets so many words from an offset
+abbrev pub meets : ℕ → ℕ → Fixup → Bool
+meets offset count fixup = nat_lt offset (fixup.offset + 4) && nat_lt fixup.offset (offset + 4 * count)
+
+-- the word of one of some fixups does
+abbrev pub overlaps : List Fixup → ℕ → ℕ → Bool
+overlaps fixups offset count = list_any (meets offset count) fixups
+
+-- the tests of so many fixups, one after the other, from an offset in section k
 abbrev pub fixup_tests : ScriptSoFar → ℕ → ℕ → ℕ → List (Bool × LineFault)
 fixup_tests s k offset count = (nat_lt most_fixups (length (section_so_far s k).fixups + count), TooMany)
-    ∷ (nat_lt k s.section || nat_lt (offset + 4) (fixups_end 0 (section_so_far s k).fixups), OutOfOrder)
     ∷ (nat_lt (section_so_far s k).header.total (offset + 4 * count), OutsideSection)
-    ∷ (nat_lt offset (fixups_end 0 (section_so_far s k).fixups), Overlap)
+    ∷ (overlaps (section_so_far s k).fixups offset count, Overlap)
     ∷ []
 
+-- fixups in address order, with a new one before the first that has a greater offset
+abbrev pub placed : List Fixup → Fixup → List Fixup
+placed [] new = new ∷ []
+placed (fixup ∷ fixups) new = if nat_lt new.offset fixup.offset then new ∷ fixup ∷ fixups else fixup ∷ placed fixups new
+
+-- a section with new fixups, each in its place
 abbrev pub with_fixups : DescribedSection → List Fixup → DescribedSection
-with_fixups section fixups = record section { fixups = section.fixups ++ fixups }
+with_fixups section fixups = record section { fixups = fold placed section.fixups fixups }
 
 abbrev pub fixup_of : ℕ → Base → Fixup
 fixup_of offset base = record { offset = offset; base = base }

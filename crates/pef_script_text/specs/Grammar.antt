@@ -64,7 +64,7 @@ abbrev pub no_script : DescribedScript
 no_script = record { versions = no_versions; libraries = []; imports = []; sections = []; exports = []; main = None; init = None; term = None }
 
 abbrev pub no_lines : ScriptSoFar
-no_lines = record { script = no_script; reached = 0; section = 0 }
+no_lines = record { script = no_script; reached = 0 }
 
 -- the script that a text is, or the first refusal
 unfoldable pub script_of : List ℕ → Result DescribedScript LineRefusal

@@ -11,12 +11,10 @@ use Rattle.pef_script_text.specs.declared.fault.LineFault.TheVariants.{UnknownNa
 use Rattle.pef_script.specs.Limits.{most_name_bytes}
 use Rattle.pef_script.specs.Script.{DescribedSection, DescribedScript, name_bytes, section_names}
 
--- the parts so far, the group of the last line (0 before the first), and the number of the section that
--- the last line of contents was for
+-- the parts so far, and the group of the last line (0 before the first)
 pub record ScriptSoFar : Type 0 where
   pub script : DescribedScript
   pub reached : ℕ
-  pub section : ℕ
 
 -- the groups of lines, in their order
 

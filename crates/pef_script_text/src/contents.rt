@@ -1,9 +1,10 @@
-ghost use Rattle.std.specs.Prelude.{◌≡◌, true, ◌+◌, ◌*◌, ◌^◌, ◌<◌, [], ◌∷◌, Ok, vec_len, IfOk, OnOk};
+ghost use Rattle.std.specs.Prelude.{◌≡◌, true, ◌+◌, ◌*◌, ◌^◌, ◌<◌, [], ◌∷◌, Ok, false, vec_len, IfOk, OnOk};
 ghost use Rattle.std.specs.Result.{result_err};
 ghost use Rattle.pef_words.specs.Refusals.{first_met};
-ghost use Rattle.pef_script_text.specs.Contents.{base_named, bytes_in, bytes_line, bytes_tests, fix_line, fixup_in, fixup_of, fixup_tests, import_named, tvector_line, vector_in, with_contents, with_fixups};
+ghost use Rattle.pef_script_text.specs.Contents.{base_named, bytes_in, bytes_line, bytes_tests, fix_line, fixup_in, fixup_of, fixup_tests, import_named, overlaps, tvector_line, vector_in, with_contents, with_fixups};
 ghost use Rattle.pef_script_text.specs.SoFar.{section_so_far};
 ghost use Rattle.pef_script_text.specs.Kept.Reader.{so_far};
+ghost use Rattle.pef_script_text.specs.Kept.Sections.{AreApart};
 ghost use Rattle.pef_script_text.specs.Kept.Steps.{Steps};
 
 use crate::LineFault;
@@ -12,7 +13,6 @@ use crate::kinds::is_section_word;
 use crate::limits::{CONTENT_GROUP, MAX_NUMBER};
 use crate::numbers::read_number;
 use crate::reader::Reader;
-use crate::sections::{add_fixups, append, fixups_end};
 use crate::tables::number_of_name;
 use crate::words::{
     last_name, last_name_and_word, next_name, next_name_and_word, next_word, read_pairs,
@@ -26,10 +26,8 @@ impl<'a> Reader<'a> {
         ensures { Steps result (so_far self.new) (bytes_line (so_far self.old) line.now) }
     {
         let (k, pairs) = self.bytes_in(line)?;
-        let parts = &mut self.parts;
-        append(&mut parts.sections[k], pairs)?;
+        self.sections[k].append(pairs)?;
         self.reached = CONTENT_GROUP;
-        self.section = k;
         Ok(())
     }
 
@@ -53,7 +51,7 @@ impl<'a> Reader<'a> {
     #[tactic(auto, unfolding(crate::specs::Contents::bytes_in))]
     fn bytes_in<'l>(&self, line: &'l [u8]) -> Result<(usize, Pairs<'l>), LineFault>
         ensures bytes { result ≡ bytes_in (so_far self.now) line.now }
-        ensures below { IfOk result (λ b. b.0 < vec_len self.now.parts.sections) }
+        ensures below { IfOk result (λ b. b.0 < vec_len self.now.sections) }
     {
         let (name, digits) = last_name_and_word(line)?;
         let pairs = read_pairs(digits)?;
@@ -67,7 +65,8 @@ impl<'a> Reader<'a> {
     #[tactic(auto, unfolding(crate::specs::Contents::fixup_in))]
     fn fixup_in(&self, line: &[u8]) -> Result<(usize, Fixup), LineFault>
         ensures fixup { result ≡ fixup_in (so_far self.now) line.now }
-        ensures below { IfOk result (λ f. f.0 < vec_len self.now.parts.sections) }
+        ensures below { IfOk result (λ f. f.0 < vec_len self.now.sections) }
+        ensures apart { IfOk result (λ f. AreApart (section_so_far (so_far self.now) f.0).fixups (f.1 ∷ [])) }
     {
         let (name, offset, rest) = next_name_and_word(line)?;
         let (kind, rest) = next_word(rest)?;
@@ -82,10 +81,11 @@ impl<'a> Reader<'a> {
     }
 
     /// The fixups of the transition vector that a line has for a section, by its number, where they may stand.
-    #[tactic(auto, unfolding(crate::specs::Contents::vector_in))]
+    #[tactic(auto, using(crate::proofs::Placing::apart_two), unfolding(crate::specs::Contents::vector_in))]
     fn vector_in(&self, line: &[u8]) -> Result<(usize, [Fixup; 2]), LineFault>
         ensures fixups { result ≡ vector_in (so_far self.now) line.now }
-        ensures below { IfOk result (λ v. v.0 < vec_len self.now.parts.sections) }
+        ensures below { IfOk result (λ v. v.0 < vec_len self.now.sections) }
+        ensures apart { IfOk result (λ v. AreApart (section_so_far (so_far self.now) v.0).fixups v.1) }
     {
         let (name, offset, rest) = next_name_and_word(line)?;
         let (code, rest) = next_name(rest)?;
@@ -99,15 +99,14 @@ impl<'a> Reader<'a> {
         Ok((k, vector_fixups(offset, code, data)))
     }
 
-    /// Appends fixups to those of section `k`, which the line is for.
+    /// Adds fixups to those of section `k`, which the line is for.
     fn put_fixups(&mut self, k: usize, fixups: &[Fixup]) -> Result<(), Stop>
-        requires { k < vec_len self.old.parts.sections }
+        requires below { k < vec_len self.old.sections }
+        requires apart { AreApart (section_so_far (so_far self.old) k).fixups fixups.now }
         ensures { Steps result (so_far self.new) (Ok (with_contents (so_far self.old) k (with_fixups (section_so_far (so_far self.old) k) fixups.now))) }
     {
-        let parts = &mut self.parts;
-        add_fixups(&mut parts.sections[k], fixups)?;
+        self.sections[k].add_fixups(fixups)?;
         self.reached = CONTENT_GROUP;
-        self.section = k;
         Ok(())
     }
 
@@ -139,15 +138,12 @@ impl<'a> Reader<'a> {
         Ok(Base::Import(j as u32))
     }
 
-    /// Refuses more bytes of an earlier section, or past the section's end.
+    /// Refuses bytes past the end of section `k`.
     fn test_bytes(&self, k: usize, count: usize) -> Result<(), LineFault>
-        requires { k < vec_len self.now.parts.sections }
+        requires { k < vec_len self.now.sections }
         ensures { result_err result ≡ first_met (bytes_tests (so_far self.now) k count) }
     {
-        if k < self.section {
-            return Err(LineFault::OutOfOrder);
-        }
-        let section = &self.parts.sections[k];
+        let section = &self.sections[k];
         let total = section.header.total as usize;
         let filled = section.image.len();
         if filled > total || count > total - filled {
@@ -156,33 +152,29 @@ impl<'a> Reader<'a> {
         Ok(())
     }
 
-    /// Refuses so many fixups, one behind the other, from an offset in section `k`.
+    /// Refuses so many fixups, one after the other, from an offset in section `k`.
     fn test_fixups(&self, k: usize, offset: u32, count: u8) -> Result<(), LineFault>
-        requires { k < vec_len self.now.parts.sections }
+        requires { k < vec_len self.now.sections }
         ensures tests { result_err result ≡ first_met (fixup_tests (so_far self.now) k offset count) }
         ensures inside { OnOk result (offset + 4 * count < 2 ^ 32) }
+        ensures apart { OnOk result (overlaps (section_so_far (so_far self.now) k).fixups offset count ≡ false) }
     {
-        let section = &self.parts.sections[k];
+        let section = &self.sections[k];
         if section.fixups.len() + usize::from(count) > MAX_FIXUPS {
             return Err(LineFault::TooMany);
         }
-        let end = fixups_end(&section.fixups);
-        let offset = u64::from(offset);
-        if k < self.section || offset + u64::from(WORD) < end {
-            return Err(LineFault::OutOfOrder);
-        }
         let total = section.header.total;
-        if offset + u64::from(WORD) * u64::from(count) > u64::from(total) {
+        if u64::from(offset) + u64::from(WORD) * u64::from(count) > u64::from(total) {
             return Err(LineFault::OutsideSection);
         }
-        if offset < end {
+        if section.overlaps(offset, count) {
             return Err(LineFault::Overlap);
         }
         Ok(())
     }
 }
 
-/// The fixups of a transition vector at an offset: its words stand one behind the other.
+/// The fixups of a transition vector at an offset: its data word follows its code word.
 fn vector_fixups(offset: u32, code_base: Base, data_base: Base) -> [Fixup; 2]
     requires { offset + 4 < 2 ^ 32 }
     ensures { result ≡ fixup_of offset code_base ∷ fixup_of (offset + 4) data_base ∷ [] }

@@ -15,10 +15,10 @@ use crate::limits::{
 };
 use crate::numbers::read_number;
 use crate::reader::Reader;
-use crate::sections::section_number;
+use crate::sections::{SectionSoFar, section_number};
 use crate::tables::declare;
 use crate::words::{last_two_words, last_word, next_name_and_word, next_word};
-use pef_script::{ImportData, LibraryData, Section, SectionHeader, Versions};
+use pef_script::{ImportData, LibraryData, SectionHeader, Versions};
 
 impl<'a> Reader<'a> {
     /// `versions CURRENT OLDDEF OLDIMP`, behind its first word.
@@ -162,18 +162,14 @@ impl<'a> Reader<'a> {
     fn add_section(&mut self, header: SectionHeader<'a>) -> Result<(), Stop>
         ensures { Steps result (so_far self.new) (with_section (so_far self.old) (header_in header.entry)) }
     {
-        if section_number(&self.parts.sections, header.name).is_some() {
+        if section_number(&self.sections, header.name).is_some() {
             return Err(Stop::Refused(LineFault::RepeatedName));
         }
-        if self.parts.sections.len() >= MAX_SECTIONS {
+        if self.sections.len() >= MAX_SECTIONS {
             return Err(Stop::Refused(LineFault::TooMany));
         }
-        let parts = &mut self.parts;
-        parts.sections.push(Section {
-            header,
-            image: Vec::new(self.alloc),
-            fixups: Vec::new(self.alloc),
-        })?;
+        let section = SectionSoFar::new(self.alloc, header);
+        self.sections.push(section)?;
         self.reached = SECTION_GROUP;
         Ok(())
     }

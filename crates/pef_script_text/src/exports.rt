@@ -32,7 +32,7 @@ impl<'a> Reader<'a> {
     #[tactic(auto, unfolding(crate::specs::Exports::export_in))]
     fn export_in(&self, line: &'a [u8]) -> Result<(&'a [u8], usize, ExportData), LineFault>
         ensures export { result_map (λ e. (e.1, export_of (e.0, e.2))) result ≡ export_in (so_far self.now) line.entry.now }
-        ensures below { IfOk result (λ e. e.1 < vec_len self.now.parts.sections) }
+        ensures below { IfOk result (λ e. e.1 < vec_len self.now.sections) }
     {
         let (name, class, rest) = next_name_and_word(line)?;
         let (section, offset) = last_name_and_word(rest)?;
@@ -152,7 +152,7 @@ impl<'a> Reader<'a> {
         k: usize,
         export: ExportData,
     ) -> Result<(), Stop>
-        requires { k < vec_len self.old.parts.sections }
+        requires { k < vec_len self.old.sections }
         ensures { Steps result (so_far self.new) (with_export (so_far self.old) (place_tests (so_far self.old) k export.value) (export_of (name.entry, export))) }
     {
         self.test_name(&self.parts.exports, MAX_EXPORTS, name)?;
@@ -185,10 +185,10 @@ impl<'a> Reader<'a> {
 
     /// Refuses an offset past the end of section `k`.
     fn test_place(&self, k: usize, offset: u32) -> Result<(), LineFault>
-        requires { k < vec_len self.now.parts.sections }
+        requires { k < vec_len self.now.sections }
         ensures { result_err result ≡ first_met (place_tests (so_far self.now) k offset) }
     {
-        let section = &self.parts.sections[k];
+        let section = &self.sections[k];
         if offset > section.header.total {
             return Err(LineFault::OutsideSection);
         }

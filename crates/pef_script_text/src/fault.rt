@@ -19,7 +19,7 @@ pub enum LineFault {
     RepeatedName,
     /// The line comes after one that it has to come before.
     OutOfOrder,
-    /// A fixup's word overlaps the one before.
+    /// A fixup's word overlaps an earlier line's.
     Overlap,
     /// An image, a fixup's word or an offset passes the end of its section.
     OutsideSection,
@@ -128,6 +128,17 @@ impl fmt::Display for ScriptFault {
             ScriptFault::Refused { fault, line } => write!(f, "{fault} line {line}"),
             ScriptFault::OutOfMemory => f.write_str(self.name()),
         }
+    }
+}
+
+impl From<AllocError> for ScriptFault {
+    ghost use Rattle.std.specs.Prelude.{◌≡◌};
+    ghost use Rattle.pef_script_text.specs.declared.fault.ScriptFault.TheVariants.{OutOfMemory};
+
+    ghost from_gives = { λ _ e. e ≡ OutOfMemory };
+
+    fn from(_error: AllocError) -> ScriptFault {
+        ScriptFault::OutOfMemory
     }
 }
 

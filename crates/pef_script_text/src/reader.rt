@@ -6,32 +6,33 @@ ghost use Rattle.pef_script_text.specs.Grammar.{is_skipped, line_by_word, line_o
 ghost use Rattle.pef_script.specs.Parts.{script_in};
 ghost use Rattle.pef_script.specs.Script.{name_bytes};
 ghost use Rattle.pef_script_text.specs.Kept.Steps.{NumberedSteps, Steps};
+ghost use Rattle.pef_reloc.specs.Limits.{most_sections};
 ghost use Rattle.pef_script.specs.Limits.{most_name_bytes};
 ghost use Rattle.pef_script_text.specs.SoFar.{counted_name_tests, entered, entered_once, number_of_name, section_named};
 
 use crate::fault::Stop;
 use crate::kinds::spells;
 use crate::limits::MAX_NAME_BYTES;
-use crate::sections::section_number;
+use crate::sections::{SectionSoFar, section_number, to_sections};
 use crate::tables::number_of_name;
 use crate::words::next_word;
 use crate::{LineFault, ScriptFault};
 use indexmap::IndexMap;
 use pef_script::{Parts, Versions};
-use std::alloc::Global;
+use std::alloc::{AllocError, Global};
 
 /// A script that is read line by line.
 #[derive(Drop)]
 pub struct Reader<'a> {
     pub alloc: Global,
-    /// What was read so far.
+    /// What was read so far, without the sections.
     pub parts: Parts<'a>,
+    pub sections: Vec<SectionSoFar<'a>>,
     /// The group of the last line, 0 before the first.
     pub reached: u8,
-    /// The number of the section that the last line of contents was for.
-    pub section: usize,
     /// How many bytes the names of libraries, imports and exports have, with one more for each.
     pub names: usize,
+    ghost few: { vec_len sections ≤ most_sections },
     ghost counted: { names ≡ name_bytes (script_in parts) },
 }
 
@@ -65,17 +66,19 @@ impl<'a> Reader<'a> {
                 init: None,
                 term: None,
             },
+            sections: Vec::new(alloc),
             reached: 0,
-            section: 0,
             names: 0,
         }
     }
 
     /// What was read.
-    pub fn into_parts(self) -> Parts<'a>
-        ensures { script_in result ≡ (so_far self.entry).script }
+    pub fn into_parts(self) -> Result<Parts<'a>, AllocError>
+        ensures { IfOk result (λ parts. script_in parts ≡ (so_far self.entry).script) }
     {
-        self.parts
+        let mut parts = self.parts;
+        parts.sections = to_sections(self.alloc, self.sections)?;
+        Ok(parts)
     }
 
     /// Reads the line with a number.
@@ -159,9 +162,9 @@ impl<'a> Reader<'a> {
     /// The number of the section with a name.
     pub fn section_named(&self, name: &[u8]) -> Result<usize, LineFault>
         ensures found { result ≡ section_named (so_far self.now) name.now }
-        ensures below { IfOk result (λ k. k < vec_len self.now.parts.sections) }
+        ensures below { IfOk result (λ k. k < vec_len self.now.sections) }
     {
-        section_number(&self.parts.sections, name).ok_or(LineFault::UnknownName)
+        section_number(&self.sections, name).ok_or(LineFault::UnknownName)
     }
 
     /// Refuses a name that another one of a table has, or that passes the limits.

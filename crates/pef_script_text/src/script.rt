@@ -29,7 +29,7 @@ fn read_parts<'a>(alloc: Global, text: &'a [u8]) -> Result<Parts<'a>, ScriptFaul
 {
     let mut reader = Reader::new(alloc);
     read_lines(&mut reader, text)?;
-    Ok(reader.into_parts())
+    Ok(reader.into_parts()?)
 }
 
 /// Reads the lines of a script, numbered from 1.

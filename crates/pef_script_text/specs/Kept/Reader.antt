@@ -11,4 +11,4 @@ names_in entries = map (λ entry. entry.0.now) entries
 
 -- what a reader has so far
 abbrev pub so_far : Reader → ScriptSoFar
-so_far r = record { script = script_in r.parts; reached = r.reached; section = r.section }
+so_far r = record { script = record (script_in r.parts) { sections = r.sections.items }; reached = r.reached }

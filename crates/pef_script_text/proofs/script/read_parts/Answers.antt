@@ -14,4 +14,4 @@ returns-in_err-read_lines c =
 
 pub returns : goal.returns
 unfolding script_of
-returns c = ap (λ s. read_lines s 1 (lines_of c.args.text.now)) (sym c.new-reader.ensures) ∙ c.in_ok-read_lines.ensures ∙ ap Ok (sym c.into_parts.ensures)
+returns c = ap (λ s. read_lines s 1 (lines_of c.args.text.now)) (sym c.new-reader.ensures) ∙ c.in_ok-read_lines.ensures ∙ ap Ok (sym c.in_ok-into_parts.ensures)

@@ -1,4 +1,4 @@
--- The section at hand is section k, and neither test is met.
+-- The section at hand is section k, and has room.
 use Rattle.std.proofs.Common.{◌+◌, ◌≤◌, length, refl, ◌∙◌, arith}
 use Rattle.std.proofs.lemmas.Bool.{le-ltb}
 use Rattle.std.proofs.lemmas.List.{get_or_read}
@@ -8,6 +8,6 @@ use Rattle.pef_script_text.proofs.reader.Reader.test_bytes.Goals as goal
 pub returns : goal.returns
 returns c =
     let section = c.section.inside in
-    let here = c.section.view_is ∙ get_or_read c.args.self.now.parts.sections.items c.args.k c.index-section.result.now (omega (arith, c.args.self.now.parts.sections.ok.0)) c.index-section.ensures no_section in
+    let here = c.section.view_is ∙ get_or_read c.args.self.now.sections.items c.args.k c.index-section.result.now (omega (arith, c.args.self.now.sections.ok.0)) c.index-section.ensures no_section in
     let room : length section.image.items + c.args.count ≤ section.header.total = omega arith in
-    rw (← here, le-ltb c.args.k c.args.self.now.section c.if-k-self.false, le-ltb _ _ room) refl
+    rw (← here, le-ltb _ _ room) refl
