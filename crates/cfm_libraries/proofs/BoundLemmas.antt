@@ -4,6 +4,7 @@ use Rattle.std.specs.Prelude.{Result, nat_lt}
 use Rattle.std.specs.Option.{option_map_or}
 use Rattle.std.specs.Result.{result_unwrap_or}
 use Rattle.std.proofs.lemmas.Bool.{ltb-true}
+use Rattle.pef_format.specs.Symbols.{options_of}
 use Rattle.pef_loader.specs.Library.{Library, library_in}
 use Rattle.pef_loader.specs.Loader.{Loaded, library_of}
 use Rattle.cfm_store.specs.declared.versions.Fit.{Fit}
@@ -12,7 +13,7 @@ use Rattle.cfm_store.specs.Stores.{Pair, pair_of, place_of}
 use Rattle.cfm_store.proofs.Laws.{place_of-below, place_of-first}
 use Rattle.cfm_libraries.specs.Faults.{BindRefusal, library_missing, implementation_too_old, implementation_too_new}
 use Rattle.cfm_libraries.specs.Fragments.{Fragment, fragment_of}
-use Rattle.cfm_libraries.specs.Libraries.{absent_or, bound, bound_at, bound_by, bound_to, fit_with, is_weak, library_at}
+use Rattle.cfm_libraries.specs.Libraries.{absent_or, bound, bound_at, bound_by, bound_to, fit_with, library_at}
 use Rattle.cfm_libraries.proofs.WalkRules.{came}
 
 absent_or-none : (weak : Bool) (r : BindRefusal) (q : ℕ) → absent_or weak r ≡ Ok (Some q) → ⊥
@@ -21,11 +22,11 @@ absent_or-none false r q is = cc
 
 bound_by-place : (fit : Fit) (name : List ℕ) (l : Library) (p q : ℕ) → bound_by fit name l p ≡ Ok (Some q) → p ≡ q
 bound_by-place Fits name l p q is = cc
-bound_by-place TooOld name l p q is = absurd (absent_or-none (is_weak l) (implementation_too_old name l.name) q is)
-bound_by-place TooNew name l p q is = absurd (absent_or-none (is_weak l) (implementation_too_new name l.name) q is)
+bound_by-place TooOld name l p q is = absurd (absent_or-none (options_of l.options).weak (implementation_too_old name l.name) q is)
+bound_by-place TooNew name l p q is = absurd (absent_or-none (options_of l.options).weak (implementation_too_new name l.name) q is)
 
 bound_at-place : (pairs : List Pair) (name : List ℕ) (l : Library) (o : Option ℕ) (q : ℕ) → bound_at pairs name l o ≡ Ok (Some q) → o ≡ Some q
-bound_at-place pairs name l None q is = absurd (absent_or-none (is_weak l) (library_missing name l.name) q is)
+bound_at-place pairs name l None q is = absurd (absent_or-none (options_of l.options).weak (library_missing name l.name) q is)
 bound_at-place pairs name l (Some p) q is =
     let a = came (fragment_of pairs p) (λ f. bound_by (fit_with l f) name l p) (Some q) is in
     ap Some (bound_by-place (fit_with l a.value) name l p q a.leads)

@@ -1,8 +1,9 @@
 -- Which fragment a library entry stands for (Mac OS Runtime Architectures, "Code Fragment Manager",
 -- "Preparing a Fragment"; the options are those of PEFImportedLibrary).
-use Rattle.std.specs.Prelude.{ℕ, ◌==◌, Bool, not, bit_and, List, Option, None, Some, Result, Ok, Err, if◌then◌else◌}
+use Rattle.std.specs.Prelude.{ℕ, Bool, List, Option, None, Some, Result, Ok, Err, if◌then◌else◌}
 use Rattle.std.specs.Option.{option_map_or}
 use Rattle.std.specs.Result.{result_unwrap_or}
+use Rattle.pef_format.specs.Symbols.{options_of}
 use Rattle.pef_loader.specs.Library.{Library}
 use Rattle.pef_loader.specs.Loader.{library_of}
 use Rattle.cfm_store.specs.declared.versions.Fit.{Fit}
@@ -13,14 +14,6 @@ use Rattle.pef_words.specs.Results.{◌>>=◌}
 use Rattle.cfm_libraries.specs.Faults.{BindRefusal, library_missing, implementation_too_old, implementation_too_new}
 use Rattle.cfm_libraries.specs.Fragments.{Fragment, fragment_of}
 
--- the library may be missing: bit 40 (hex) of the options
-abbrev pub is_weak : Library → Bool
-is_weak l = not (bit_and l.options 0x40 == 0)
-
--- the library is initialized before the fragment: bit 80 (hex) of the options
-abbrev pub is_before : Library → Bool
-is_before l = not (bit_and l.options 0x80 == 0)
-
 -- a weak library is absent where any other is refused
 abbrev pub absent_or : Bool → BindRefusal → Result (Option ℕ) BindRefusal
 absent_or weak refusal = if weak then Ok None else Err refusal
@@ -28,8 +21,8 @@ absent_or weak refusal = if weak then Ok None else Err refusal
 -- the versions of the fragment that was found serve the entry, or they don't
 abbrev pub bound_by : Fit → List ℕ → Library → ℕ → Result (Option ℕ) BindRefusal
 bound_by Fits name l q = Ok (Some q)
-bound_by TooOld name l q = absent_or (is_weak l) (implementation_too_old name l.name)
-bound_by TooNew name l q = absent_or (is_weak l) (implementation_too_new name l.name)
+bound_by TooOld name l q = absent_or (options_of l.options).weak (implementation_too_old name l.name)
+bound_by TooNew name l q = absent_or (options_of l.options).weak (implementation_too_new name l.name)
 
 -- how the versions of a library entry and of the fragment that was found fit
 abbrev pub fit_with : Library → Fragment → Fit
@@ -39,7 +32,7 @@ fit_with l f = fit_of
 
 -- the fragment that was found is read, also for a weak library, and then asked for its versions
 abbrev pub bound_at : List Pair → List ℕ → Library → Option ℕ → Result (Option ℕ) BindRefusal
-bound_at pairs name l None = absent_or (is_weak l) (library_missing name l.name)
+bound_at pairs name l None = absent_or (options_of l.options).weak (library_missing name l.name)
 bound_at pairs name l (Some q) = fragment_of pairs q >>= (λ f. bound_by (fit_with l f) name l q)
 
 -- what a library entry of a fragment stands for: a fragment of the store, or nothing where it is absent

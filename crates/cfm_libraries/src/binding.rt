@@ -3,28 +3,13 @@ ghost use Rattle.pef_loader.specs.Views.{library_seen};
 ghost use Rattle.cfm_libraries.specs.Faults.{Answers};
 ghost use Rattle.cfm_libraries.specs.Kept.Views.{AreKept, AreRead};
 ghost use Rattle.cfm_libraries.specs.Views.{fragment_seen};
-ghost use Rattle.cfm_libraries.specs.Libraries.{bound, fit_with, is_before, is_weak};
+ghost use Rattle.cfm_libraries.specs.Libraries.{bound, fit_with};
 
 use crate::fault::BindFault;
 use crate::fragment::{FragmentView, read_at};
 use cfm_store::{Definition, Fit, Implementation, Store, versions_fit};
 use cfm_tables::PlaceTable;
 use pef_loader::LibraryView;
-use pef_loader::layout::{INIT_BEFORE, WEAK_LIBRARY};
-
-/// Whether a library may be missing.
-fn is_weak(library: LibraryView<'_>) -> bool
-    ensures { result ≡ is_weak (library_seen library.entry) }
-{
-    library.options & WEAK_LIBRARY != 0
-}
-
-/// Whether a library is to be initialized before the fragment that needs it.
-pub fn is_before(library: LibraryView<'_>) -> bool
-    ensures { result ≡ is_before (library_seen library.entry) }
-{
-    library.options & INIT_BEFORE != 0
-}
 
 /// How the versions of a library entry and of the fragment that was found fit.
 fn fit_with(library: LibraryView<'_>, found: FragmentView<'_>) -> Fit
@@ -65,7 +50,7 @@ pub(crate) fn bind<'a>(
     ensures read { AreRead store.now fragments.new }
     ensures kept { AreKept fragments.old fragments.new }
 {
-    let weak = is_weak(library);
+    let weak = library.options().weak;
     let q = match store.find(library.name) {
         Some(q) => q,
         None => {

@@ -12,7 +12,6 @@ mod fragment;
 mod libraries;
 mod walk;
 
-pub use binding::is_before;
 pub use bindings::Bindings;
 pub use fault::BindFault;
 pub use fragment::FragmentView;
