@@ -4,10 +4,10 @@
 use Rattle.std.specs.Prelude.{ℕ, ℤ, pos, negsuc, zero, suc, ◌+◌, Bool, List, [], ◌∷◌, ◌++◌, Option, None, Some, codes, decimal, if◌then◌else◌, length, ◌/◌}
 use Rattle.std.specs.Option.{option_map_or}
 use Rattle.std.specs.Str.{bytes_eq}
+use Rattle.pef_format.specs.Exports.{Export}
+use Rattle.pef_format.specs.Symbols.{Import}
 use Rattle.pef_views.specs.Container.{Contained, Section, section_of, section_name_of}
 use Rattle.pef_views.specs.declared.header.Header.{Header}
-use Rattle.pef_loader.specs.Export.{Export}
-use Rattle.pef_loader.specs.Import.{Import}
 use Rattle.pef_loader.specs.Library.{Library}
 use Rattle.pef_loader.specs.Loader.{Loaded, export_of, import_of, init_of, library_of, main_of, reloc_of, term_of}
 use Rattle.pef_reloc.specs.Unrolled.{instrs_of}
@@ -70,7 +70,7 @@ abbrev pub entry_text : List ℕ → Option (ℕ × ℕ) → List ℕ
 entry_text label None = []
 entry_text label (Some e) = label ++ decimal e.0 ++ codes " " ++ word_text e.1 ++ codes "\n"
 
--- the sign of a section's number, which may be -2 or -3, and the number without it
+-- the sign of a section's number, and the number without it
 abbrev pub sign_text : ℤ → List ℕ
 sign_text (pos n) = []
 sign_text (negsuc n) = codes "-"

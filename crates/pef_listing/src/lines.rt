@@ -1,8 +1,9 @@
 ghost use Rattle.std.specs.Prelude.{◌≡◌, ◌<◌, ℕ, List, None, Some};
 ghost use Rattle.std.specs.Option.{option_copied};
 ghost use Rattle.pef_views.specs.Views.{contained};
+ghost use Rattle.pef_format.specs.Symbols.{import_seen};
 ghost use Rattle.pef_loader.specs.Loader.{import_of};
-ghost use Rattle.pef_loader.specs.Views.{import_seen, loaded};
+ghost use Rattle.pef_loader.specs.Views.{loaded};
 ghost use Rattle.pef_ports.specs.Sent.{Sends};
 ghost use Rattle.pef_listing.specs.Listed.{programs_fault};
 ghost use Rattle.pef_listing.specs.Listing.{container_text, each_text, entry_text, export_lines, import_lines, library_lines, magnitude, reloc_lines, section_lines, section_name_text, sign_text, strength_text};
@@ -10,7 +11,8 @@ ghost use Rattle.pef_listing.specs.Pieces.{piece_text};
 
 use crate::instructions::print_program;
 use crate::pieces::{Piece, print_pieces};
-use pef_loader::{ExportView, ImportReader, ImportView, Loader};
+use pef_format::{ExportView, ImportView};
+use pef_loader::{ImportReader, Loader};
 use pef_ports::{Page, Sink, StreamFault};
 use pef_reloc::Program;
 use pef_views::{Container, Header};
@@ -93,6 +95,7 @@ impl<'a> Lines for Sections<'a> {
         let Some(section) = self.container.section(i) else {
             unreachable!()
         };
+        let header = section.header;
         let name = name_piece(self.container.section_name(i));
         print_pieces(
             out,
@@ -101,19 +104,19 @@ impl<'a> Lines for Sections<'a> {
                 Piece::Text(b"section "),
                 Piece::Number(i as u64),
                 Piece::Text(b" kind "),
-                Piece::Number(u64::from(section.section_kind)),
+                Piece::Number(u64::from(header.section_kind)),
                 Piece::Text(b" share "),
-                Piece::Number(u64::from(section.share_kind)),
+                Piece::Number(u64::from(header.share_kind)),
                 Piece::Text(b" align "),
-                Piece::Number(u64::from(section.alignment)),
+                Piece::Number(u64::from(header.alignment)),
                 Piece::Text(b" total "),
-                Piece::Number(u64::from(section.total_size)),
+                Piece::Number(u64::from(header.total_size)),
                 Piece::Text(b" unpacked "),
-                Piece::Number(u64::from(section.unpacked_size)),
+                Piece::Number(u64::from(header.unpacked_size)),
                 Piece::Text(b" packed "),
-                Piece::Number(u64::from(section.packed_size)),
+                Piece::Number(u64::from(header.packed_size)),
                 Piece::Text(b" default "),
-                Piece::Word(section.default_address),
+                Piece::Word(header.default_address),
                 Piece::Text(b" name "),
                 name,
                 Piece::Text(b"\n"),
