@@ -1,14 +1,14 @@
 -- What a container's instantiated sections need of memory, and what they are filled with (Mac OS Runtime
 -- Architectures, "PEF Structure", section headers: totalSize, unpackedSize, alignment; section contents;
 -- pattern-initialized data).
-use Rattle.std.specs.Prelude.{ℕ, zero, suc, ◌+◌, ◌==◌, List, [], ◌∷◌, Option, Result, Ok, if◌then◌else◌, take}
+use Rattle.std.specs.Prelude.{ℕ, zero, suc, ◌+◌, List, [], ◌∷◌, Option, Result, Ok, if◌then◌else◌, take}
 use Rattle.std.specs.Option.{option_and_then, option_map_or}
 use Rattle.std.specs.Result.{result_err, result_unwrap_or}
 use Rattle.cfm_memory.specs.Extents.{Extent}
+use Rattle.pef_format.specs.Sections.{is_packed, kind_of}
 use Rattle.pef_pidata.specs.Pattern.{pattern_text}
 use Rattle.pef_pidata.specs.declared.fault.PackFault.{PackFault}
 use Rattle.pef_views.specs.Container.{Contained, Section, section_of}
-use Rattle.pef_views.specs.Section.{pattern_data_section}
 use Rattle.pef_words.specs.Bytes.{filled}
 use Rattle.pef_words.specs.Refusals.{first_among, result_map}
 
@@ -33,7 +33,7 @@ extents_of c = extents_from c 0 c.header.instantiated_section_count
 -- and else the first of its raw bytes
 unfoldable pub image_of : Section → Result (List ℕ) PackFault
 image_of s =
-    if s.header.section_kind == pattern_data_section then pattern_text s.raw s.header.unpacked_size
+    if is_packed (kind_of s.header.section_kind) then pattern_text s.raw s.header.unpacked_size
     else Ok (take s.header.unpacked_size s.raw)
 
 -- the memory of a section before it is relocated: its image, and zeros up to its total length

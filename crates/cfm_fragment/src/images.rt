@@ -9,7 +9,6 @@ ghost use Rattle.cfm_fragment.specs.Images.{extent_at, filled_at, filled_in, fir
 
 use cfm_memory::{Memory, Place};
 use pef_pidata::{PackFault, expand};
-use pef_views::layout::PATTERN_DATA_SECTION;
 use pef_views::{Container, SectionView};
 
 /// Fills the sections at some places, all zeros, with their images, in order, up to the first that is
@@ -52,7 +51,7 @@ fn fill_section(
     section: &SectionView<'_>,
 ) -> Result<(), PackFault>
     requires section { IsInstantiable (seen section.now) }
-    requires size { place.size ≡ section.now.total_size }
+    requires size { place.size ≡ section.now.header.total_size }
     requires zeros { bytes_at memory.old.instances place.address ≡ Some (replicate place.size 0) }
     ensures refused { result_err result ≡ result_err (image_of (seen section.now)) }
     ensures here { OnOk result (bytes_at memory.new.instances place.address ≡ Some (result_unwrap_or (filled_in (seen section.now)) [])) }
@@ -68,11 +67,11 @@ fn fill_section(
 #[tactic(auto, unfolding(crate::specs::Images::image_of))]
 fn fill(memory: &mut [u8], section: &SectionView<'_>) -> Result<(), PackFault>
     requires section { IsInstantiable (seen section.now) }
-    requires size { length memory.old ≡ section.now.total_size }
+    requires size { length memory.old ≡ section.now.header.total_size }
     ensures { result_map (λ _. memory.new) result ≡ result_map (λ image. image ++ drop (length image) memory.old) (image_of (seen section.now)) }
 {
-    let len = section.unpacked_size as usize;
-    if section.section_kind == PATTERN_DATA_SECTION {
+    let len = section.header.unpacked_size as usize;
+    if section.header.kind().is_packed() {
         return expand(section.raw, &mut memory[..len]);
     }
     memory[..len].copy_from_slice(&section.raw[..len]);

@@ -51,7 +51,7 @@ fn place_each(
         let Some(section) = container.section(i) else {
             unreachable!()
         };
-        let place = memory.place(section.total_size, section.alignment)?;
+        let place = memory.place(section.header.total_size, section.header.alignment)?;
         keep(memory, places, place)?;
     }
     Ok(())

@@ -17,7 +17,7 @@ returns-in_err-place-clause-refused c =
     let at = c.loop-i in
     let container = contained c.args.container.now in
     let count : c.from-count.result ≡ c.args.container.now.header.instantiated_section_count = c.from-count.ensures ∙ ap (λ h. h.instantiated_section_count) c.header.ensures.value in
-    let is : record { size = c.in-Some.section.total_size; alignment = c.in-Some.section.alignment } ≡ extent_at container at.i = ap (λ o. option_map_or extent_in o (record { size = 0; alignment = 0 })) c.in-Some.ensures.value in
+    let is : record { size = c.in-Some.section.header.total_size; alignment = c.in-Some.section.header.alignment } ≡ extent_at container at.i = ap (λ o. option_map_or extent_in o (record { size = 0; alignment = 0 })) c.in-Some.ensures.value in
     let p = err_from_is_err_and c.from_residual.result c.from_residual.ensures.1 in
     let P : Extent → Type 0 = λ e. MayRefuse at.memory e.size e.alignment c.in_err-place.field-0.0 in
     rw (p.1, p.2) (refused_here c.in_err-place.field-0.0 container c.args.memory.now at.memory at.places.items at.i c.args.container.now.header.instantiated_section_count (omega (arith, c.loop-i-test.true, count)) at.invariant (subst P is c.in_err-place.ensures.refused))
@@ -41,7 +41,7 @@ loop-i-preserved c =
     let at = c.loop-i in
     let container = contained c.args.container.now in
     let place = c.in_ok-place.place in
-    let is : record { size = c.in-Some.section.total_size; alignment = c.in-Some.section.alignment } ≡ extent_at container at.i = ap (λ o. option_map_or extent_in o (record { size = 0; alignment = 0 })) c.in-Some.ensures.value in
+    let is : record { size = c.in-Some.section.header.total_size; alignment = c.in-Some.section.header.alignment } ≡ extent_at container at.i = ap (λ o. option_map_or extent_in o (record { size = 0; alignment = 0 })) c.in-Some.ensures.value in
     let P : Extent → Type 0 = λ e. IsPlaceFor at.memory e place in
     let placed = placed_next container c.args.memory.now at.memory at.places.items at.i place at.invariant (subst P is (record { size = c.in_ok-place.ensures.size; lowest = c.in_ok-place.ensures.lowest })) in
     let kept = c.in_ok-keep.ensures.kept in
