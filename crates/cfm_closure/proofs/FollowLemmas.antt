@@ -2,7 +2,9 @@
 use Rattle.std.proofs.Common.{◌≡◌, ℕ, zero, suc, ◌+◌, ◌-◌, ◌<◌, List, Option, None, Some, Ok, Err, refl, sym, ap, ◌∙◌, subst, arith}
 use Rattle.std.specs.Prelude.{Result}
 use Rattle.std.specs.Option.{option_and_then, option_map_or}
-use Rattle.pef_loader.specs.Export.{Export}
+use Rattle.pef_format.specs.declared.export.ExportValue.{ExportValue}
+use Rattle.pef_format.specs.declared.export.ExportValue.TheVariants.{Reexport}
+use Rattle.pef_format.specs.Exports.{Export, value_of}
 use Rattle.pef_loader.specs.Loader.{Loaded, export_of}
 use Rattle.pef_loader.proofs.Laws.{named_is}
 use Rattle.cfm_store.specs.Stores.{Pair}
@@ -13,8 +15,15 @@ use Rattle.cfm_closure.specs.Targets.{Hop, ends, follow, followed, hop, through}
 use Rattle.cfm_closure.proofs.HopLemmas.{GoesOn, goes_on}
 
 -- the import that an export passes on
+abbrev import_of_value : ExportValue → ℕ
+import_of_value (Reexport import) = import
+import_of_value value = 0
+
+abbrev import_of_export : Export → ℕ
+import_of_export e = import_of_value (value_of e.section e.value)
+
 pub passed_on : List Pair → ℕ × ℕ → ℕ
-passed_on pairs x = option_map_or (λ e. e.value) (option_and_then (λ l. export_of l x.1) (loader_at pairs x.0)) 0
+passed_on pairs x = option_map_or import_of_export (option_and_then (λ l. export_of l x.1) (loader_at pairs x.0)) 0
 
 -- what is known of a hop that goes on
 pub record Onward (pairs : List Pair) (v : ℕ × ℕ) (x w : ℕ × ℕ) : Type 0 where
@@ -28,9 +37,9 @@ onward_from pairs p j q e k is =
     let g = goes_on pairs p j q e k is in
     let n = named_is g.loader g.symbol.name e g.named in
     let passed : passed_on pairs (q, e) ≡ k =
-    ap (λ o. option_map_or (λ (x : Export). x.value) (option_and_then (λ l. export_of l e) o) 0) g.read
-    ∙ ap (λ o. option_map_or (λ (x : Export). x.value) o 0) g.there
-    ∙ g.value in
+    ap (λ o. option_map_or import_of_export (option_and_then (λ l. export_of l e) o) 0) g.read
+    ∙ ap (λ o. option_map_or import_of_export o 0) g.there
+    ∙ ap import_of_value g.value in
     let count : export_count pairs q ≡ g.loader.header.export_count = ap (λ o. option_map_or (λ (l : Loaded). l.header.export_count) o 0) g.read in
     record { goes = g; place = ap (λ k. (q, k)) (sym passed); below = let b = n.below in omega arith }
 

@@ -1,15 +1,17 @@
 -- Where a hop leads that goes on, and what many hops do.
-use Rattle.std.proofs.Common.{◌≡◌, ℕ, ◌==◌, Bool, true, false, cond, List, Option, None, Some, Ok, Err, refl, ap, ◌∙◌, subst, pos, negsuc}
-use Rattle.std.specs.Prelude.{ℤ, option_map}
+use Rattle.std.proofs.Common.{◌≡◌, ℕ, Bool, true, false, cond, List, Option, None, Some, Ok, Err, refl, ap, ◌∙◌, subst}
+use Rattle.std.specs.Prelude.{option_map}
 use Rattle.std.specs.Option.{option_and_then}
-use Rattle.pef_loader.specs.Export.{Export}
-use Rattle.pef_loader.specs.Import.{Import}
+use Rattle.pef_format.specs.declared.export.ExportValue.{ExportValue}
+use Rattle.pef_format.specs.declared.export.ExportValue.TheVariants.{InSection, Reexport}
+use Rattle.pef_format.specs.declared.export.ExportValue.TheVariants as value
+use Rattle.pef_format.specs.Exports.{Export, value_of}
+use Rattle.pef_format.specs.Symbols.{Import}
 use Rattle.pef_loader.specs.Loader.{Loaded, export_of, named_of}
 use Rattle.cfm_store.specs.Stores.{Pair, pair_of}
 use Rattle.cfm_libraries.specs.Faults.{BindRefusal, symbol_missing}
 use Rattle.cfm_libraries.specs.Fragments.{import_at, loader_at}
 use Rattle.cfm_libraries.specs.Libraries.{library_at}
-use Rattle.cfm_closure.specs.declared.targets.Target.TheVariants.{Absolute}
 use Rattle.cfm_closure.specs.Targets.{ends, exported, hop, hop_by, hop_from, hop_of, hop_to, through}
 
 -- a hop that goes on: through an export of a library's fragment that passes on an import
@@ -22,26 +24,23 @@ pub record GoesOn (pairs : List Pair) (p j q e k : ℕ) : Type 0 where
   pub named : named_of loader symbol.name ≡ Some e
   pub export : Export
   pub there : export_of loader e ≡ Some export
-  pub value : export.value ≡ k
+  pub value : value_of export.section export.value ≡ Reexport k
 
--- by the section of the export
-through_by : (q' e' value : ℕ) (section : ℤ) (q e k : ℕ) → hop_by q' e' value section ≡ through q e k → (q' ≡ q) × (e' ≡ e) × (value ≡ k)
-through_by q' e' value (pos section) q e k is = absurd (cc)
-through_by q' e' value (negsuc n) q e k is = by (n == 1) is
-  where
-    by : (b : Bool) → cond b (ends (Some (Absolute value))) (through q' e' value) ≡ through q e k → (q' ≡ q) × (e' ≡ e) × (value ≡ k)
-    by true is = absurd (cc)
-    by false is = (cc, cc, cc)
+-- by what the export stands for
+through_by : (q' e' : ℕ) (v : ExportValue) (q e k : ℕ) → hop_by q' e' v ≡ through q e k → (q' ≡ q) × (e' ≡ e) × (v ≡ Reexport k)
+through_by q' e' (InSection section offset) q e k is = absurd (cc)
+through_by q' e' (value.Absolute n) q e k is = absurd (cc)
+through_by q' e' (Reexport import) q e k is = let same : import ≡ k = cc in (cc, cc, ap (λ i. Reexport i) same)
 
 through_weak : (weak : Bool) (r : BindRefusal) (q e k : ℕ) → cond weak (Ok (ends None)) (Err r) ≡ Ok (through q e k) → ⊥
 through_weak true r q e k is = cc
 through_weak false r q e k is = cc
 
 -- by the export, if there is one
-through_to : (f l : List ℕ) (i : Import) (q' : ℕ) (o : Option (ℕ × Export)) (q e k : ℕ) → hop_to f l i q' o ≡ Ok (through q e k) → (x : ℕ × Export) × (o ≡ Some x) × (q' ≡ q) × (x.0 ≡ e) × (x.1.value ≡ k)
+through_to : (f l : List ℕ) (i : Import) (q' : ℕ) (o : Option (ℕ × Export)) (q e k : ℕ) → hop_to f l i q' o ≡ Ok (through q e k) → (x : ℕ × Export) × (o ≡ Some x) × (q' ≡ q) × (x.0 ≡ e) × (value_of x.1.section x.1.value ≡ Reexport k)
 through_to f l i q' None q e k is = absurd (through_weak i.weak (symbol_missing f l i.name) q e k is)
 through_to f l i q' (Some x) q e k is =
-    let by = through_by q' x.0 x.1.value x.1.section q e k (cc) in
+    let by = through_by q' x.0 (value_of x.1.section x.1.value) q e k (cc) in
     (x, refl, by.0, by.1, by.2)
 
 -- what is exported is the first of its name

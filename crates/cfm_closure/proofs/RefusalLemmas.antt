@@ -4,8 +4,8 @@ use Rattle.std.proofs.Common.{◌≡◌, ℕ, zero, suc, ◌+◌, ◌<◌, Bool,
 use Rattle.std.specs.Prelude.{◌⊎◌, ⊤, Result}
 use Rattle.std.specs.Option.{option_and_then, option_map_or, option_or}
 use Rattle.std.specs.Result.{result_err}
-use Rattle.pef_loader.specs.Export.{Export}
-use Rattle.pef_loader.specs.Import.{Import}
+use Rattle.pef_format.specs.Exports.{Export}
+use Rattle.pef_format.specs.Symbols.{Import, options_of}
 use Rattle.pef_loader.specs.Library.{Library}
 use Rattle.pef_loader.specs.Loader.{Loaded, library_of, loaded_of}
 use Rattle.pef_loader.specs.declared.fault.LoaderFault.{LoaderFault}
@@ -18,7 +18,7 @@ use Rattle.cfm_store.specs.Stores.{Pair, pair_of, place_of}
 use Rattle.cfm_store.proofs.Laws.{place_of-below, place_of-first}
 use Rattle.cfm_libraries.specs.Faults.{BindRefusal, implementation_too_new, implementation_too_old, init_loop, library_missing, no_container, no_loader, reexport_loop, symbol_missing}
 use Rattle.cfm_libraries.specs.Fragments.{Fragment, fragment_of, import_at, import_count, loader_at, with_container, with_loader}
-use Rattle.cfm_libraries.specs.Libraries.{absent_or, bound, bound_at, bound_by, bound_to, fit_with, is_weak, library_at}
+use Rattle.cfm_libraries.specs.Libraries.{absent_or, bound, bound_at, bound_by, bound_to, fit_with, library_at}
 use Rattle.cfm_libraries.specs.Walk.{Walked, is_marked, joining, marking, order_of, unwalked, walk, walk_at, walk_to, walks_from}
 use Rattle.cfm_libraries.proofs.Laws.{stands_for}
 use Rattle.pef_words.specs.Results.{◌>>=◌}
@@ -88,8 +88,8 @@ module _ (pairs : List Pair) (root : ℕ) where
 
     fit-binds : (fit : Fit) (name : List ℕ) (l : Library) (q : ℕ) → Binds (bound_by fit name l q)
     fit-binds Fits name l q = tt
-    fit-binds TooOld name l q = absent-binds (is_weak l) (implementation_too_old name l.name) (covers.too_old name l.name)
-    fit-binds TooNew name l q = absent-binds (is_weak l) (implementation_too_new name l.name) (covers.too_new name l.name)
+    fit-binds TooOld name l q = absent-binds (options_of l.options).weak (implementation_too_old name l.name) (covers.too_old name l.name)
+    fit-binds TooNew name l q = absent-binds (options_of l.options).weak (implementation_too_new name l.name) (covers.too_new name l.name)
 
     take-binds : (n : ℕ) (order : List ℕ) (s : Walked) → Binds (take_ready n pairs order s)
     unfolding take_ready
@@ -123,7 +123,7 @@ module _ (pairs : List Pair) (root : ℕ) where
         met q was = record { inside = place_of-below pairs l.name q was; found = inr (place_of-first pairs l.name q was) }
 
         by : (o : Option ℕ) → place_of pairs l.name ≡ o → Binds (bound_at pairs name l o)
-        by None was = absent-binds (is_weak l) (library_missing name l.name) (covers.library name l.name)
+        by None was = absent-binds (options_of l.options).weak (library_missing name l.name) (covers.library name l.name)
         by (Some q) was = binds-then (fragment_of pairs q) (λ f. bound_by (fit_with l f) name l q) (fragment-binds q (met q was)) (λ f is. fit-binds (fit_with l f) name l q)
 
     entry-binds : (p l : ℕ) → IsMet p → Binds (bound_to pairs p l)

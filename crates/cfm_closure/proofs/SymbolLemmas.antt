@@ -5,8 +5,8 @@ use Rattle.std.specs.Option.{option_and_then, option_map_or}
 use Rattle.std.proofs.lemmas.Bool.Decides.{eqb_tells}
 use Rattle.std.proofs.lemmas.List.{get_or-set_same, get_or-set_other, length-set}
 use Rattle.pef_loader.specs.Loader.{Loaded, import_of}
-use Rattle.pef_loader.specs.Views.{import_seen}
-use Rattle.pef_loader.specs.declared.import.ImportView.{ImportView}
+use Rattle.pef_format.specs.Symbols.{import_seen}
+use Rattle.pef_format.specs.declared.import.ImportView.{ImportView}
 use Rattle.cfm_store.specs.Stores.{Pair}
 use Rattle.cfm_libraries.specs.Fragments.{import_at, library_count, loader_at}
 use Rattle.cfm_closure.specs.Kept.Symbols.{AreTables, table_at}

@@ -1,12 +1,16 @@
 -- A target is in a section of a fragment of the order.
-use Rattle.std.proofs.Common.{◌≡◌, ℕ, zero, suc, ◌==◌, Bool, true, false, cond, List, Option, None, Some, Ok, Err, refl, sym, ap, ◌∙◌, subst, ℤ, pos, negsuc, Contains}
+use Rattle.std.proofs.Common.{◌≡◌, ℕ, zero, suc, Bool, true, false, cond, List, Option, None, Some, Ok, Err, refl, sym, ap, ◌∙◌, subst, Contains}
 use Rattle.std.specs.Prelude.{Result, option_map, IsTrue}
 use Rattle.std.specs.Option.{option_and_then, option_map_or}
-use Rattle.std.proofs.lemmas.Bool.{ltb-true}
+use Rattle.std.proofs.lemmas.Bool.{and_parts, ltb-true}
+use Rattle.pef_format.specs.declared.export.ExportValue.{ExportValue}
+use Rattle.pef_format.specs.declared.export.ExportValue.TheVariants.{InSection, Reexport}
+use Rattle.pef_format.specs.declared.export.ExportValue.TheVariants as value
+use Rattle.pef_format.specs.Exports.{Export, is_export_section, value_of}
+use Rattle.pef_format.specs.Symbols.{Import}
 use Rattle.pef_views.specs.Container.{Contained, container_of}
 use Rattle.pef_views.specs.declared.fault.ViewFault.{ViewFault}
-use Rattle.pef_loader.specs.Export.{Export, has_section}
-use Rattle.pef_loader.specs.Import.{Import}
+use Rattle.pef_loader.specs.Export.{has_section, is_there}
 use Rattle.pef_loader.specs.Loader.{Loaded, export_of, loaded_of, named_of}
 use Rattle.pef_loader.specs.declared.fault.LoaderFault.{LoaderFault}
 use Rattle.pef_loader.proofs.Laws.{loaded_of-ok, named_there}
@@ -43,16 +47,14 @@ fragment-sound pairs p f is = container-sound (pair_of pairs p).name (container_
 module _ (pairs : List Pair) (order : List ℕ) (complete : IsComplete pairs order) where
   -- an export in a section of a fragment of the order
   in_section : (q : ℕ) (f : Fragment) (e : ℕ) (x : Export) (t : Option Target) → Contains order q → fragment_of pairs q ≡ Ok f → IsTrue (has_section f.loader.header f.loader.sections x.value x.section)
-      → hop_by q e x.value x.section ≡ ends t → LiesInside pairs order t
-  in_section q f e x t there read has is = by x.section has is
+      → hop_by q e (value_of x.section x.value) ≡ ends t → LiesInside pairs order t
+  in_section q f e x t there read has is =
+      let stands = and_parts (is_export_section x.section) (is_there f.loader.header f.loader.sections (value_of x.section x.value)) has in
+      by (value_of x.section x.value) stands.1 is
     where
-      absolute : (b : Bool) → cond b (ends (Some (Absolute x.value))) (through q e x.value) ≡ ends t → LiesInside pairs order t
-      absolute true is = let same : Some (Absolute x.value) ≡ t = cc in subst (LiesInside pairs order) same tt
-      absolute false is = absurd (cc)
-
-      by : (section : ℤ) → IsTrue (has_section f.loader.header f.loader.sections x.value section) → hop_by q e x.value section ≡ ends t → LiesInside pairs order t
-      by (pos s) has is =
-          let same : Some (At q s x.value) ≡ t = cc in
+      by : (v : ExportValue) → IsTrue (is_there f.loader.header f.loader.sections v) → hop_by q e v ≡ ends t → LiesInside pairs order t
+      by (InSection s offset) has is =
+          let same : Some (At q s offset) ≡ t = cc in
           subst (LiesInside pairs order) same (record {
             member = there;
             place = (complete.members q there).place;
@@ -60,7 +62,8 @@ module _ (pairs : List Pair) (order : List ℕ) (complete : IsComplete pairs ord
             read = loader_at-is pairs q f read;
             below = ltb-true s f.loader.sections has;
           })
-      by (negsuc n) has is = absolute (n == 1) is
+      by (value.Absolute n) has is = let same : Some (Absolute n) ≡ t = cc in subst (LiesInside pairs order) same tt
+      by (Reexport import) has is = absurd (cc)
 
   -- what is exported, or nothing
   in_exported : (p q : ℕ) (f : Fragment) (i : Import) (t : Option Target) → Contains order q → fragment_of pairs q ≡ Ok f
@@ -80,7 +83,7 @@ module _ (pairs : List Pair) (order : List ℕ) (complete : IsComplete pairs ord
       found (Some e) was is =
           let named = named_there f.loader i.name e (fragment-sound pairs q f read).loader was in
           let hops : Option Export → Result Hop BindRefusal = λ o. hop_to (pair_of pairs p).name (pair_of pairs q).name i q (option_map (λ x. (e, x)) o) in
-          let at : ◌≡◌ {A = Result Hop BindRefusal} (Ok (hop_by q e named.0.value named.0.section)) (Ok (ends t)) = ap hops (sym named.1) ∙ is in
+          let at : ◌≡◌ {A = Result Hop BindRefusal} (Ok (hop_by q e (value_of named.0.section named.0.value))) (Ok (ends t)) = ap hops (sym named.1) ∙ is in
           in_section q f e named.0 t there read named.3 (cc)
 
   hop-inside : (p j : ℕ) (t : Option Target) → Contains order p → hop pairs p j ≡ Ok (ends t) → LiesInside pairs order t

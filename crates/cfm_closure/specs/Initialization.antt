@@ -3,19 +3,20 @@
 use Rattle.std.specs.Prelude.{ℕ, zero, suc, not, ◌&&◌, Bool, List, [], ◌∷◌, length, Option, None, Some, Result, Ok, Err, if◌then◌else◌}
 use Rattle.std.specs.Option.{is_none, option_and_then}
 use Rattle.pef_words.specs.Refusals.{first_among}
+use Rattle.pef_format.specs.Symbols.{options_of}
 use Rattle.pef_loader.specs.Library.{Library}
 use Rattle.pef_loader.specs.Loader.{library_of}
 use Rattle.cfm_store.specs.Stores.{Pair, pair_of}
 use Rattle.cfm_libraries.specs.Faults.{BindRefusal, init_loop}
 use Rattle.cfm_libraries.specs.Fragments.{library_count, loader_at}
-use Rattle.cfm_libraries.specs.Libraries.{is_before, library_at}
+use Rattle.cfm_libraries.specs.Libraries.{library_at}
 use Rattle.cfm_libraries.specs.Walk.{Walked, is_marked, joining, marking, unwalked}
 
 -- the fragment that is to be initialized before the one in a place, by library entry l; none where the entry
 -- asks for no such order, or its library is absent
 abbrev pub before_at : List Pair → ℕ → ℕ → Option Library → Option ℕ
 before_at pairs p l None = None
-before_at pairs p l (Some library) = if is_before library then library_at pairs p l else None
+before_at pairs p l (Some library) = if (options_of library.options).init_before then library_at pairs p l else None
 
 abbrev pub before_of : List Pair → ℕ → ℕ → Option ℕ
 before_of pairs p l = before_at pairs p l (option_and_then (λ x. library_of x l) (loader_at pairs p))

@@ -1,4 +1,4 @@
--- Imports that lead to imports, through exports that pass them on (PEFExportedSymbol, section -3).
+-- Imports that lead to imports, through exports that pass them on (PEFExportedSymbol).
 use Rattle.std.specs.Prelude.{◌≡◌, ℕ, zero, suc, ◌<◌, List, Option, None, Some, Result, Ok, Err}
 use Rattle.std.specs.Option.{option_and_then}
 use Rattle.cfm_store.specs.Stores.{Pair}

@@ -1,10 +1,12 @@
--- What an import means (Mac OS Runtime Architectures, "Code Fragment Manager", "Resolving Imports"; the
--- sections of exports are those of PEFExportedSymbol).
-use Rattle.std.specs.Prelude.{ℕ, ℤ, pos, negsuc, zero, suc, ◌==◌, List, [], length, Option, None, Some, option_map, Result, Ok, Err, if◌then◌else◌}
+-- What an import means (Mac OS Runtime Architectures, "Code Fragment Manager", "Resolving Imports").
+use Rattle.std.specs.Prelude.{ℕ, zero, suc, List, [], length, Option, None, Some, option_map, Result, Ok, Err, if◌then◌else◌}
 use Rattle.std.specs.List.{range_with_len, sum_by}
 use Rattle.std.specs.Option.{option_and_then, option_map_or}
-use Rattle.pef_loader.specs.Export.{Export}
-use Rattle.pef_loader.specs.Import.{Import}
+use Rattle.pef_format.specs.declared.export.ExportValue.{ExportValue}
+use Rattle.pef_format.specs.declared.export.ExportValue.TheVariants.{InSection, Reexport}
+use Rattle.pef_format.specs.declared.export.ExportValue.TheVariants as value
+use Rattle.pef_format.specs.Exports.{Export, value_of}
+use Rattle.pef_format.specs.Symbols.{Import}
 use Rattle.pef_loader.specs.Loader.{Loaded, export_of, named_of}
 use Rattle.cfm_store.specs.Stores.{Pair, pair_of}
 use Rattle.cfm_libraries.specs.Faults.{BindRefusal, reexport_loop, symbol_missing}
@@ -18,10 +20,11 @@ pub data Hop : Type 0 where
   ends : Option Target → Hop
   through : ℕ → ℕ → ℕ → Hop
 
--- an export in a section, an absolute one (-2), or one that passes on the import that its value names (-3)
-abbrev pub hop_by : ℕ → ℕ → ℕ → ℤ → Hop
-hop_by q e value (pos section) = ends (Some (At q section value))
-hop_by q e value (negsuc n) = if n == 1 then ends (Some (Absolute value)) else through q e value
+-- an export in a section, an absolute one, or one that passes on an import
+abbrev pub hop_by : ℕ → ℕ → ExportValue → Hop
+hop_by q e (InSection section offset) = ends (Some (At q section offset))
+hop_by q e (value.Absolute n) = ends (Some (Absolute n))
+hop_by q e (Reexport import) = through q e import
 
 -- the first export of a name, with its index
 abbrev pub exported : List ℕ → Loaded → Option (ℕ × Export)
@@ -30,7 +33,7 @@ exported name l = option_and_then (λ e. option_map (λ x. (e, x)) (export_of l 
 -- a name that isn't exported is no target for a weak import, and a refusal for any other
 abbrev pub hop_to : List ℕ → List ℕ → Import → ℕ → Option (ℕ × Export) → Result Hop BindRefusal
 hop_to fragment library i q None = if i.weak then Ok (ends None) else Err (symbol_missing fragment library i.name)
-hop_to fragment library i q (Some x) = Ok (hop_by q x.0 x.1.value x.1.section)
+hop_to fragment library i q (Some x) = Ok (hop_by q x.0 (value_of x.1.section x.1.value))
 
 -- an import of an absent library has no target
 abbrev pub hop_from : List Pair → ℕ → Import → Option ℕ → Result Hop BindRefusal

@@ -1,6 +1,7 @@
 ghost use Rattle.std.specs.Prelude.{◌<◌, Contains, None, IfOk, IsTrue};
-ghost use Rattle.pef_loader.specs.Export.{has_section};
-ghost use Rattle.pef_loader.specs.Views.{import_seen, loaded};
+ghost use Rattle.pef_format.specs.Symbols.{import_seen};
+ghost use Rattle.pef_loader.specs.Export.{is_there};
+ghost use Rattle.pef_loader.specs.Views.{loaded};
 ghost use Rattle.cfm_closure.specs.Targets.{hop, hop_by, hop_to};
 ghost use Rattle.cfm_closure.specs.Kept.Hops.{HasHop, IsHop, LeadsTo, StaysInside, StaysBelow};
 ghost use Rattle.cfm_closure.specs.Kept.Symbols.{AreSymbolsOf};
@@ -8,8 +9,8 @@ ghost use Rattle.cfm_closure.specs.Kept.Symbols.{AreSymbolsOf};
 use crate::symbols::Symbols;
 use crate::targets::Target;
 use cfm_libraries::{BindFault, Bindings};
-use pef_loader::layout::{ABSOLUTE_EXPORT, REEXPORTED_IMPORT};
-use pef_loader::{ExportView, ImportView, Loader};
+use pef_format::{ExportValue, ImportView};
+use pef_loader::Loader;
 
 /// Where an import leads at once.
 #[derive(Clone, Copy)]
@@ -23,22 +24,22 @@ pub(crate) enum Hop {
 
 /// Where an export of a fragment leads: into a section, to an absolute value, or to the import that it
 /// passes on.
-fn export_hop(fragment: usize, loader: Loader<'_>, e: usize, export: ExportView<'_>) -> Hop
-    requires { IsTrue (has_section (loaded loader).header (loaded loader).sections export.value export.section) }
-    ensures answer { IsHop result (hop_by fragment e export.entry.value export.entry.section) }
+fn export_hop(fragment: usize, loader: Loader<'_>, e: usize, value: ExportValue) -> Hop
+    requires { IsTrue (is_there (loaded loader).header (loaded loader).sections value) }
+    ensures answer { IsHop result (hop_by fragment e value) }
     ensures below { StaysBelow (loaded loader.entry).header.import_count result }
 {
-    match export.section {
-        ABSOLUTE_EXPORT => Hop::Ends(Some(Target::Absolute(export.value))),
-        REEXPORTED_IMPORT => Hop::Through {
+    match value {
+        ExportValue::InSection { section, offset } => Hop::Ends(Some(Target::At {
             fragment,
-            import: export.value as usize,
-        },
-        section => Hop::Ends(Some(Target::At {
-            fragment,
-            section: section.cast_unsigned(),
-            offset: export.value,
+            section,
+            offset,
         })),
+        ExportValue::Absolute(value) => Hop::Ends(Some(Target::Absolute(value))),
+        ExportValue::Reexport { import } => Hop::Through {
+            fragment,
+            import: import as usize,
+        },
     }
 }
 
@@ -49,7 +50,7 @@ fn export_hop_at(fragment: usize, loader: Loader<'_>, e: usize) -> Hop
     ensures below { StaysBelow (loaded loader.entry).header.import_count result }
 {
     match loader.export(e) {
-        Some(export) => export_hop(fragment, loader, e, export),
+        Some(export) => export_hop(fragment, loader, e, export.value()),
         None => unreachable!(),
     }
 }

@@ -6,7 +6,7 @@ ghost use Rattle.cfm_libraries.specs.Walk.{joining, marking};
 ghost use Rattle.cfm_closure.specs.Initialization.{awaits, before_of, first_left, init_order_of, is_ready, next_ready, taken_all};
 ghost use Rattle.cfm_closure.specs.Kept.Taken.{IsFresh, IsTaking, taken_of};
 
-use cfm_libraries::{BindFault, Bindings, is_before};
+use cfm_libraries::{BindFault, Bindings};
 use std::alloc::{AllocError, Global};
 
 /// The order of initialization, as far as it has come.
@@ -29,7 +29,7 @@ fn before<'a>(bindings: &Bindings<'a>, p: usize, l: usize) -> Option<usize>
 {
     match bindings.fragment(p).loader.library(l) {
         Some(library) => {
-            if is_before(library) {
+            if library.options().init_before {
                 bindings.library(p, l)
             } else {
                 None

@@ -1,6 +1,6 @@
 -- Where the code's hops lead.
 use Rattle.std.specs.Prelude.{◌≡◌, ℕ, ◌<◌, List, Some, Result, Ok, Err, Contains}
-use Rattle.pef_loader.specs.Export.{Export}
+use Rattle.pef_format.specs.Exports.{Export, value_of}
 use Rattle.pef_loader.specs.Loader.{Loaded, export_of}
 use Rattle.cfm_store.specs.Stores.{Pair}
 use Rattle.cfm_libraries.specs.declared.fault.BindFault.{BindFault}
@@ -17,7 +17,7 @@ IsHop (code.Through q k) h = (e : ℕ) × (h ≡ through q e k)
 
 -- the hop by an export of a fragment
 abbrev pub HasHop : ℕ → Loaded → ℕ → CodeHop → Type 0
-HasHop q l e h = (x : Export) × (export_of l e ≡ Some x) × IsHop h (hop_by q e x.value x.section)
+HasHop q l e h = (x : Export) × (export_of l e ≡ Some x) × IsHop h (hop_by q e (value_of x.section x.value))
 
 -- an answer is the hop, or the refusal
 abbrev pub LeadsTo : Result CodeHop BindFault → Result Hop BindRefusal → Type 0

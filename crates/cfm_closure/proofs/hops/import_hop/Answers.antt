@@ -1,6 +1,6 @@
 -- A missing symbol is told by its fragment, library and name.
 use Rattle.std.proofs.Common.{subst, sym}
-use Rattle.pef_loader.specs.Views.{import_seen}
+use Rattle.pef_format.specs.Symbols.{import_seen}
 use Rattle.cfm_libraries.specs.Views.{fragment_seen}
 use Rattle.cfm_closure.specs.Kept.Hops.{LeadsTo}
 use Rattle.cfm_closure.proofs.HopFacts.{hop-missing}
