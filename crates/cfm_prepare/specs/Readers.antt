@@ -1,7 +1,10 @@
 -- What a context tells of its connections: the sections of their roots, and where their fragments are entered
 -- (Mac OS Runtime Architectures, "Code Fragment Manager", "Finding Symbols").
-use Rattle.std.specs.Prelude.{ℕ, ◌==◌, ℤ, pos, negsuc, List, Option, None, Some, if◌then◌else◌, option_map}
+use Rattle.std.specs.Prelude.{ℕ, List, Option, None, Some, if◌then◌else◌, option_map}
 use Rattle.std.specs.Option.{option_and_then}
+use Rattle.pef_format.specs.declared.export.ExportValue.{ExportValue}
+use Rattle.pef_format.specs.declared.export.ExportValue.TheVariants.{Absolute, InSection, Reexport}
+use Rattle.pef_format.specs.Exports.{value_of}
 use Rattle.pef_loader.specs.Loader.{export_of, init_of, main_of, named_of, term_of}
 use Rattle.cfm_store.specs.Stores.{Pair}
 use Rattle.cfm_libraries.specs.Fragments.{loader_at}
@@ -18,16 +21,17 @@ use Rattle.cfm_prepare.specs.Contexts.{ContextState, Open, open_of}
 abbrev pub root_section : ContextState → ℕ → ℕ → Option (ℕ × List ℕ)
 root_section s number i = option_and_then (λ o. section_present s.memory s.present o.root i) (open_of s.connections number)
 
--- the address of an export of a fragment, by its value and its section: in a section, an absolute number, or
--- that of the import that it passes on
-abbrev pub export_address : List Pair → List Present → ℕ → ℕ → ℤ → ℕ
-export_address pairs all p value (pos section) = target_address all (Some (At p section value))
-export_address pairs all p value (negsuc n) = if n == 1 then value else import_address pairs all p value
+-- the address of an export of a fragment: in a section, an absolute number, or that of the import that it
+-- passes on
+abbrev pub export_address : List Pair → List Present → ℕ → ExportValue → ℕ
+export_address pairs all p (InSection section offset) = target_address all (Some (At p section offset))
+export_address pairs all p (Absolute number) = number
+export_address pairs all p (Reexport import) = import_address pairs all p import
 
 -- the address of the first export of a name, of a connection's root
 abbrev pub symbol_address : List Present → Open → List ℕ → Option ℕ
 symbol_address all o name =
-    option_map (λ x. export_address o.closed.pairs all o.root x.value x.section)
+    option_map (λ x. export_address o.closed.pairs all o.root (value_of x.section x.value))
     (option_and_then (λ l. option_and_then (export_of l) (named_of l name)) (loader_at o.closed.pairs o.root))
 
 -- the address of the main entry of a connection's root

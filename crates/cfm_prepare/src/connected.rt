@@ -1,5 +1,5 @@
 ghost use Rattle.std.specs.Prelude.{◌≡◌, Contains, IsTrue, Some};
-ghost use Rattle.pef_loader.specs.Export.{has_section};
+ghost use Rattle.pef_loader.specs.Export.{is_there};
 ghost use Rattle.pef_loader.specs.Views.{loaded};
 ghost use Rattle.cfm_libraries.specs.Fragments.{loader_at};
 ghost use Rattle.cfm_present.specs.Lists.{IsOnce, has};
@@ -8,8 +8,8 @@ ghost use Rattle.cfm_prepare.specs.Readers.{entries_of, export_address, main_add
 use cfm_closure::Closure;
 use cfm_fragment::{Entries, find_entries, section_address};
 use cfm_present::Fragments;
-use pef_loader::layout::{ABSOLUTE_EXPORT, REEXPORTED_IMPORT};
-use pef_loader::{ExportView, Loader};
+use pef_format::ExportValue;
+use pef_loader::Loader;
 use std::marker::Model;
 
 /// An open connection.
@@ -73,30 +73,24 @@ impl<'a> Connected<'a> {
         let loader = self.closure.loader(self.root);
         let index = loader.export_named(name)?;
         let export = loader.export(index)?;
-        Some(self.export_address(fragments, &loader, export))
+        Some(self.export_address(fragments, &loader, export.value()))
     }
 
     /// The address of an export of the root.
-    fn export_address(
-        &self,
-        fragments: &Fragments,
-        loader: &Loader<'_>,
-        export: ExportView<'_>,
-    ) -> u32
+    fn export_address(&self, fragments: &Fragments, loader: &Loader<'_>, value: ExportValue) -> u32
         requires loader { loader_at self.now.closed.pairs self.now.root ≡ Some (loaded loader.now) }
-        requires section { IsTrue (has_section (loaded loader.now).header (loaded loader.now).sections export.value export.section) }
-        ensures { result ≡ export_address self.now.closed.pairs fragments.now.present self.now.root export.entry.value export.entry.section }
+        requires there { IsTrue (is_there (loaded loader.now).header (loaded loader.now).sections value) }
+        ensures { result ≡ export_address self.now.closed.pairs fragments.now.present self.now.root value }
     {
-        match export.section {
-            ABSOLUTE_EXPORT => export.value,
-            REEXPORTED_IMPORT => {
-                let target = self.closure.target(self.root, export.value as usize);
-                fragments.target_address(target)
-            }
-            section => {
+        match value {
+            ExportValue::InSection { section, offset } => {
                 let places = fragments.places(self.root);
-                let address = section_address(places, section.cast_unsigned());
-                address.wrapping_add(export.value)
+                section_address(places, section).wrapping_add(offset)
+            }
+            ExportValue::Absolute(number) => number,
+            ExportValue::Reexport { import } => {
+                let target = self.closure.target(self.root, import as usize);
+                fragments.target_address(target)
             }
         }
     }
