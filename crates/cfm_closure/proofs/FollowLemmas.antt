@@ -14,7 +14,7 @@ use Rattle.cfm_closure.specs.Reexports.{MeetsAgain, hops, met, next_of}
 use Rattle.cfm_closure.specs.Targets.{Hop, ends, follow, followed, hop, through}
 use Rattle.cfm_closure.proofs.HopLemmas.{GoesOn, goes_on}
 
--- the import that an export passes on
+-- the import that a value passes on, 0 for any other value
 abbrev import_of_value : ExportValue → ℕ
 import_of_value (Reexport import) = import
 import_of_value value = 0
@@ -22,6 +22,7 @@ import_of_value value = 0
 abbrev import_of_export : Export → ℕ
 import_of_export e = import_of_value (value_of e.section e.value)
 
+-- the import that an export passes on
 pub passed_on : List Pair → ℕ × ℕ → ℕ
 passed_on pairs x = option_map_or import_of_export (option_and_then (λ l. export_of l x.1) (loader_at pairs x.0)) 0
 

@@ -49,8 +49,8 @@ module _ (pairs : List Pair) (order : List ℕ) (complete : IsComplete pairs ord
   in_section : (q : ℕ) (f : Fragment) (e : ℕ) (x : Export) (t : Option Target) → Contains order q → fragment_of pairs q ≡ Ok f → IsTrue (has_section f.loader.header f.loader.sections x.value x.section)
       → hop_by q e (value_of x.section x.value) ≡ ends t → LiesInside pairs order t
   in_section q f e x t there read has is =
-      let stands = and_parts (is_export_section x.section) (is_there f.loader.header f.loader.sections (value_of x.section x.value)) has in
-      by (value_of x.section x.value) stands.1 is
+      let parts = and_parts (is_export_section x.section) (is_there f.loader.header f.loader.sections (value_of x.section x.value)) has in
+      by (value_of x.section x.value) parts.1 is
     where
       by : (v : ExportValue) → IsTrue (is_there f.loader.header f.loader.sections v) → hop_by q e v ≡ ends t → LiesInside pairs order t
       by (InSection s offset) has is =

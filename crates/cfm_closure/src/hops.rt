@@ -35,7 +35,7 @@ fn export_hop(fragment: usize, loader: Loader<'_>, e: usize, value: ExportValue)
             section,
             offset,
         })),
-        ExportValue::Absolute(value) => Hop::Ends(Some(Target::Absolute(value))),
+        ExportValue::Absolute(number) => Hop::Ends(Some(Target::Absolute(number))),
         ExportValue::Reexport { import } => Hop::Through {
             fragment,
             import: import as usize,
