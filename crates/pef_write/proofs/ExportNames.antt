@@ -10,8 +10,8 @@ use Rattle.pef_hash.proofs.Laws.{count_before-past, slot_words-at}
 use Rattle.pef_hash.proofs.Laws.{ordered_name}
 use Rattle.pef_hash.proofs.Laws.{least_power-most}
 use Rattle.pef_hash.proofs.Laws.{length-in_slots}
-use Rattle.pef_script.specs.Script.{DescribedExport, DescribedScript}
-use Rattle.pef_script.specs.Script.{export_names}
+use Rattle.pef_format.specs.Exports.{Export}
+use Rattle.pef_script.specs.Script.{DescribedScript, export_names}
 use Rattle.pef_write.proofs.Listing.{finished, mapped-all, none_past}
 use Rattle.pef_script.specs.Limits.{longest_name}
 
@@ -71,7 +71,7 @@ places_below names k d under =
 -- .. and so of an export
 pub order_below : (s : DescribedScript) → All (λ e. e < length s.exports) (built (export_names s)).order
 order_below s =
-    let count : length (export_names s) ≡ length s.exports = length-map s.exports (λ (symbol : DescribedExport). symbol.name) in
+    let count : length (export_names s) ≡ length s.exports = length-map s.exports (λ (symbol : Export). symbol.name) in
     rw (← count) (places_below (export_names s))
 
 -- slot words and keys have 32 bits

@@ -1,30 +1,30 @@
--- The tables and the parts of a script fit: their numbers fit their fields, and the container is small.
+-- The tables and the sections of a script fit: their numbers fit their fields, and the container is small.
 -- What bounds them are the limits of scripts.
-use Rattle.std.proofs.Common.{◌≡◌, ◌∙◌, ℕ, suc, zero, ◌+◌, ◌*◌, ◌==◌, ◌^◌, ◌<◌, ◌≤◌, true, List, [], ◌∷◌, ◌++◌, Option, None, Some, ℤ, pos, negsuc, length, map, get_or, length-append, append-nil, refl, ap, arith, IsTrue}
-use Rattle.std.specs.Prelude.{nat_lt}
-use Rattle.std.specs.Int.{w16, cast_unsigned}
+use Rattle.std.proofs.Common.{◌≡◌, ◌∙◌, ℕ, suc, zero, ◌+◌, ◌*◌, ◌==◌, ◌^◌, ◌<◌, ◌≤◌, true, List, [], ◌∷◌, ◌++◌, Option, None, Some, ℤ, pos, negsuc, length, map, get_or, length-append, append-nil, refl, ap, arith}
+use Rattle.std.specs.Int.{w16}
+use Rattle.std.specs.Prelude.{Bool, FitsSigned, false, if◌then◌else◌, nat_lt}
 use Rattle.std.specs.List.{All, AllByRecursion, flat_map}
 use Rattle.std.proofs.Math.Nat.{pow-le-pow_right}
-use Rattle.std.proofs.lemmas.Bool.Decides.{nat_tests}
 use Rattle.std.proofs.lemmas.Grind.{flat_map-append}
 use Rattle.std.proofs.lemmas.List.{length-map}
 use Rattle.std.proofs.lemmas.List.Concat.{length-flat_map}
 use Rattle.std.proofs.lemmas.List.Elements.{All-cons, All-map}
 use Rattle.std.proofs.lemmas.List.Sums.{count_by-le-length, sum_by-cons, sum_by-le}
 use Rattle.pef_hash.specs.Build.{built}
-use Rattle.pef_loader.specs.Export.{Export}
-use Rattle.pef_loader.specs.Import.{Import}
+use Rattle.pef_format.specs.declared.export.ExportValue.TheVariants.{Absolute, Reexport}
+use Rattle.pef_format.specs.declared.symbol.LibraryOptions.{LibraryOptions}
+use Rattle.pef_format.specs.Exports.{Export, is_export_section, value_of}
+use Rattle.pef_format.specs.Symbols.{Import, options_code}
+use Rattle.pef_format.proofs.Laws.{class-small, share-small, special-small}
 use Rattle.pef_reloc.specs.declared.fixup.Fixup.{Fixup}
 use Rattle.pef_reloc.specs.declared.instr.Instr.{Instr}
 use Rattle.pef_reloc.specs.Instrs.{spelled}
 use Rattle.pef_reloc.specs.Limits.{most_fixups, offset_limit}
-use Rattle.pef_script.specs.Script.{DescribedExport, DescribedImport, DescribedLibrary, DescribedScript, DescribedSection, bytes_of_names, export_names}
-use Rattle.pef_script.specs.WellFormed.{EntryHolds, ExportHolds, ImportHolds, LibraryHolds, ScriptHolds, SectionHolds, SignedPlaceHolds, is_kind, is_options, is_share, totals_of}
+use Rattle.pef_script.specs.Script.{DescribedLibrary, DescribedScript, DescribedSection, bytes_of_names, export_names}
+use Rattle.pef_script.specs.WellFormed.{EntryHolds, ExportHolds, ImportHolds, LibraryHolds, ScriptHolds, SectionHolds, ValueHolds, totals_of}
 use Rattle.pef_words.proofs.Laws.Lists.{all-at}
-use Rattle.pef_views.specs.Section.{is_instantiable}
 use Rattle.pef_reloc.proofs.Laws.{length-spelled}
-use Rattle.pef_write.specs.Containers.{DescribedPart}
-use Rattle.pef_write.specs.Linked.{AreProgramsFor, IsProgramFor, exports_at, libraries_from, linked_export, linked_import, linked_library, linked_loader, linked_parts, linked_tables, no_export, part_of, program_of, programs_from, script_tables}
+use Rattle.pef_write.specs.Linked.{AreProgramsFor, IsProgramFor, exports_at, libraries_from, linked_library, linked_loader, linked_tables, no_export, program_of, programs_from, script_tables}
 use Rattle.pef_write.specs.Loaders.{LoaderTables, ProgramEntry, program_bytes, strings_of, written_loader, zero_ended}
 use Rattle.pef_write.specs.Kept.Fits.{AreWritable, EntryFits, ExportFits, IsWritable, LibraryFits, ProgramFits, TablesFit}
 use Rattle.pef_write.proofs.Containers.{container_size}
@@ -45,25 +45,31 @@ entry_fits sections n j None each few holds = (omega arith, omega arith)
 entry_fits sections n j (Some entry) each few holds =
     (omega (arith, holds.there, length-map sections (λ (section : DescribedSection). section.header.total)), omega (arith, holds.inside, totals_small n j sections entry.0 each))
 
-options_small : (options : ℕ) → is_options options ≡ true → options < 2 ^ 8
-options_small options is = grind (arith, nat_tests)
+options_small : (options : LibraryOptions) → options_code options < 2 ^ 8
+options_small o = by o.init_before o.weak
+  where
+    by : (before weak : Bool) → (if before then 0x80 else 0) + (if weak then 0x40 else 0) < 2 ^ 8
+    by true true = omega arith
+    by true false = omega arith
+    by false true = omega arith
+    by false false = omega arith
 
-libraries_fit : (imports : List DescribedImport) (k : ℕ) (libraries : List DescribedLibrary) → length imports < 2 ^ 32 → AllByRecursion LibraryHolds libraries → All LibraryFits (libraries_from imports k libraries)
+libraries_fit : (imports : List Import) (k : ℕ) (libraries : List DescribedLibrary) → length imports < 2 ^ 32 → AllByRecursion LibraryHolds libraries → All LibraryFits (libraries_from imports k libraries)
 libraries_fit imports k [] few each = λ i d under. absurd (omega arith)
 libraries_fit imports k (l ∷ libraries) few each =
     let holds = each.0 in
     All-cons LibraryFits (linked_library imports k l) (libraries_from imports (k + 1) libraries) (record {
       old_imp = omega (arith, holds.old_imp);
       current = omega (arith, holds.current);
-      count = omega (arith, count_by-le-length (λ (i : DescribedImport). i.library == k) imports);
-      first = omega (arith, count_by-le-length (λ (i : DescribedImport). nat_lt i.library k) imports);
-      options = options_small l.options holds.options;
+      count = omega (arith, count_by-le-length (λ (i : Import). i.library == k) imports);
+      first = omega (arith, count_by-le-length (λ (i : Import). nat_lt i.library k) imports);
+      options = options_small l.options;
     }) (libraries_fit imports (k + 1) libraries few each.1)
 
-imports_fit : (n : ℕ) (imports : List DescribedImport) → AllByRecursion (ImportHolds n) imports → All (λ (i : Import). i.class < 16) (map linked_import imports)
+imports_fit : (n : ℕ) (imports : List Import) → AllByRecursion (ImportHolds n) imports → All (λ (i : Import). i.class < 16) imports
 imports_fit n [] each = λ i d under. absurd (omega arith)
 imports_fit n (i ∷ imports) each =
-    All-cons (λ (i : Import). i.class < 16) (linked_import i) (map linked_import imports) (omega (arith, each.0.class)) (imports_fit n imports each.1)
+    All-cons (λ (i : Import). i.class < 16) i imports (class-small i.class each.0.class) (imports_fit n imports each.1)
 
 -- the programs of at most 2^16 sections
 one_fits : (k : ℕ) (s : DescribedSection) (instrs : List Instr) (others : List ProgramEntry) → k < 2 ^ 16 → All ProgramFits others → All ProgramFits (program_of k s.fixups instrs ++ others)
@@ -107,42 +113,43 @@ programs_size n m j k (s ∷ sections) (instrs ∷ programs) each are =
     )
 
 -- exports at places fit their fields, and have short names
-value_small : (totals : List ℕ) (section : ℤ) (value : ℕ) → ((k : ℕ) → get_or totals k 0 < 2 ^ 32) → SignedPlaceHolds totals section value → value < 2 ^ 32
-value_small totals (pos k) value small holds = omega (arith, holds.inside, small k)
-value_small totals (negsuc k) value small holds = absurd holds
+value_small : (totals : List ℕ) (imports : ℕ) (section : ℤ) (value : ℕ) → ((k : ℕ) → get_or totals k 0 < 2 ^ 32) → imports < 2 ^ 32 → ValueHolds totals imports (value_of section value) → value < 2 ^ 32
+value_small totals imports (pos k) value small few holds = omega (arith, holds.inside, small k)
+value_small totals imports (negsuc n) value small few holds = by (n == 1) holds
+  where
+    by : (absolute : Bool) → ValueHolds totals imports (if absolute then Absolute value else Reexport value) → value < 2 ^ 32
+    by true holds = omega (arith, holds)
+    by false holds = omega (arith, holds)
 
-section_small : (totals : List ℕ) (section : ℤ) (value : ℕ) → length totals < 2 ^ 15 → SignedPlaceHolds totals section value → cast_unsigned w16 section < 2 ^ 16
-section_small totals (pos k) value few holds = omega (arith, holds.there)
-section_small totals (negsuc k) value few holds = absurd holds
+-- its section has 16 bits
+pub section_fits : (totals : List ℕ) (imports : ℕ) (section : ℤ) (value : ℕ) → length totals < 2 ^ 15 → is_export_section section ≡ true → ValueHolds totals imports (value_of section value) → FitsSigned w16 section
+section_fits totals imports (pos k) value few named holds = omega (arith, holds.there)
+section_fits totals imports (negsuc n) value few named holds = (let small = special-small n named in omega (arith, small))
 
-exports_fit : (totals : List ℕ) (exports : List DescribedExport) (order : List ℕ) → length totals < 2 ^ 15 → ((k : ℕ) → get_or totals k 0 < 2 ^ 32) → AllByRecursion (ExportHolds totals) exports → All (λ e. e < length exports) order → All ExportFits (exports_at exports order)
-exports_fit totals exports order few small each below =
-    All-map ExportFits (λ e. linked_export (get_or exports e no_export)) order
+exports_fit : (totals : List ℕ) (imports : ℕ) (exports : List Export) (order : List ℕ) → length totals < 2 ^ 15 → imports < 2 ^ 32 → ((k : ℕ) → get_or totals k 0 < 2 ^ 32) → AllByRecursion (ExportHolds totals imports) exports → All (λ e. e < length exports) order → All ExportFits (exports_at exports order)
+exports_fit totals imports exports order few less small each below =
+    All-map ExportFits (λ e. get_or exports e no_export) order
     (λ k d under. let e = get_or exports (get_or order k d) no_export in
-    let holds = all-at (ExportHolds totals) exports (get_or order k d) no_export each (below k d under) in
-    record { class = omega (arith, holds.class); value = value_small totals e.section e.value small holds.place; section = section_small totals e.section e.value few holds.place })
+    let holds = all-at (ExportHolds totals imports) exports (get_or order k d) no_export each (below k d under) in
+    record { class = class-small e.class holds.class; value = value_small totals imports e.section e.value small less holds.value; section = section_fits totals imports e.section e.value few holds.section holds.value })
 
-names_short : (totals : List ℕ) (exports : List DescribedExport) → AllByRecursion (ExportHolds totals) exports → All (λ name. length name ≤ longest_name) (map (λ symbol. symbol.name) exports)
-names_short totals [] each = λ k d under. absurd (omega arith)
-names_short totals (e ∷ exports) each =
-    All-cons (λ (name : List ℕ). length name ≤ longest_name) e.name (map (λ symbol. symbol.name) exports) each.0.name.most (names_short totals exports each.1)
+names_short : (totals : List ℕ) (imports : ℕ) (exports : List Export) → AllByRecursion (ExportHolds totals imports) exports → All (λ name. length name ≤ longest_name) (map (λ symbol. symbol.name) exports)
+names_short totals imports [] each = λ k d under. absurd (omega arith)
+names_short totals imports (e ∷ exports) each =
+    All-cons (λ (name : List ℕ). length name ≤ longest_name) e.name (map (λ symbol. symbol.name) exports) each.0.name.most (names_short totals imports exports each.1)
 
-export_names-size : (totals : List ℕ) (exports : List DescribedExport) (order : List ℕ) → AllByRecursion (ExportHolds totals) exports → All (λ e. e < length exports) order
+export_names-size : (totals : List ℕ) (imports : ℕ) (exports : List Export) (order : List ℕ) → AllByRecursion (ExportHolds totals imports) exports → All (λ e. e < length exports) order
     → length (flat_map (λ e. e.name) (exports_at exports order)) ≤ length order * longest_name
-export_names-size totals exports order each below =
-    let short = All-map (λ (e : Export). length e.name ≤ longest_name) (λ e. linked_export (get_or exports e no_export)) order
-    (λ k d under. (all-at (ExportHolds totals) exports (get_or order k d) no_export each (below k d under)).name.most) in
-    omega (arith, length-flat_map (λ (e : Export). e.name) (exports_at exports order), sum_by-le (λ (e : Export). length e.name) longest_name (exports_at exports order) short, length-map order (λ e. linked_export (get_or exports e no_export)))
+export_names-size totals imports exports order each below =
+    let short = All-map (λ (e : Export). length e.name ≤ longest_name) (λ e. get_or exports e no_export) order
+    (λ k d under. (all-at (ExportHolds totals imports) exports (get_or order k d) no_export each (below k d under)).name.most) in
+    omega (arith, length-flat_map (λ (e : Export). e.name) (exports_at exports order), sum_by-le (λ (e : Export). length e.name) longest_name (exports_at exports order) short, length-map order (λ e. get_or exports e no_export))
 
 -- the names in the string table are those of the script
 
-pub library_names-are : (imports : List DescribedImport) (k : ℕ) (libraries : List DescribedLibrary) → map (λ l. l.name) (libraries_from imports k libraries) ≡ map (λ library. library.name) libraries
+pub library_names-are : (imports : List Import) (k : ℕ) (libraries : List DescribedLibrary) → map (λ l. l.name) (libraries_from imports k libraries) ≡ map (λ library. library.name) libraries
 library_names-are imports k [] = refl
 library_names-are imports k (l ∷ libraries) = ap (λ names. l.name ∷ names) (library_names-are imports (k + 1) libraries)
-
-pub import_names-are : (imports : List DescribedImport) → map (λ i. i.name) (map linked_import imports) ≡ map (λ symbol. symbol.name) imports
-import_names-are [] = refl
-import_names-are (i ∷ imports) = ap (λ names. i.name ∷ names) (import_names-are imports)
 
 length-zero_ended : (names : List (List ℕ)) → length (zero_ended names) ≡ bytes_of_names names
 length-zero_ended [] = refl
@@ -150,7 +157,7 @@ length-zero_ended (name ∷ names) =
     omega (arith, length-append (name ++ 0 ∷ []) (zero_ended names), length-append name (0 ∷ []), sum_by-cons (λ (n : List ℕ). length n + 1) name names, length-zero_ended names)
 
 -- as many libraries as in the script
-pub length-libraries : (imports : List DescribedImport) (k : ℕ) (libraries : List DescribedLibrary) → length (libraries_from imports k libraries) ≡ length libraries
+pub length-libraries : (imports : List Import) (k : ℕ) (libraries : List DescribedLibrary) → length (libraries_from imports k libraries) ≡ length libraries
 length-libraries imports k [] = refl
 length-libraries imports k (l ∷ libraries) = ap suc (length-libraries imports (k + 1) libraries)
 
@@ -158,7 +165,7 @@ length-libraries imports k (l ∷ libraries) = ap suc (length-libraries imports 
 pub length-exports : (s : DescribedScript) → length (exports_at s.exports (built (export_names s)).order) ≡ length s.exports
 length-exports s =
     let order = (built (export_names s)).order in
-    length-map order (λ e. linked_export (get_or s.exports e no_export)) ∙ length-order (export_names s) ∙ length-map s.exports (λ (symbol : DescribedExport). symbol.name)
+    length-map order (λ e. get_or s.exports e no_export) ∙ length-order (export_names s) ∙ length-map s.exports (λ (symbol : Export). symbol.name)
 
 power_at_most : (power : ℕ) → power ≤ 16 → 2 ^ power ≤ 2 ^ 16
 power_at_most power small = pow-le-pow_right {n = 2} (omega arith) small
@@ -176,11 +183,11 @@ unfolding script_tables
 table_sizes s programs holds few short =
     let t = script_tables s programs in
     let names = export_names s in
-    let count : length names ≡ length s.exports = length-map s.exports (λ (symbol : DescribedExport). symbol.name) in
+    let count : length names ≡ length s.exports = length-map s.exports (λ (symbol : Export). symbol.name) in
     let order = (built names).order in
     let libraries = ap (λ names. length (zero_ended names)) (library_names-are s.imports 0 s.libraries) ∙ length-zero_ended (map (λ library. library.name) s.libraries) in
-    let imports = ap (λ names. length (zero_ended names)) (import_names-are s.imports) ∙ length-zero_ended (map (λ symbol. symbol.name) s.imports) in
-    let exports = export_names-size (totals_of s.sections) s.exports order holds.exports.each (order_below s) in
+    let imports = length-zero_ended (map (λ symbol. symbol.name) s.imports) in
+    let exports = export_names-size (totals_of s.sections) (length s.imports) s.exports order holds.exports.each (order_below s) in
     let all = three_lists (zero_ended (map (λ l. l.name) t.libraries)) (zero_ended (map (λ i. i.name) t.imports)) (flat_map (λ (e : Export). e.name) t.exports) in
     let strings : length (strings_of t) < 2 ^ 24 = omega (arith, all, libraries, imports, exports, holds.names, holds.exports.count, length-order names, count) in
     record {
@@ -198,7 +205,6 @@ table_sizes s programs holds few short =
         length-written_loader t,
         length-table_fields t,
         length-libraries s.imports 0 s.libraries,
-        length-map s.imports linked_import,
         length-slots names,
         power_at_most (built names).power (power_small names),
         length-keys names,
@@ -217,7 +223,7 @@ unfolding script_tables
 tables_fit s programs holds are =
     let sections = holds.sections in
     let names = export_names s in
-    let count : length names ≡ length s.exports = length-map s.exports (λ (symbol : DescribedExport). symbol.name) in
+    let count : length names ≡ length s.exports = length-map s.exports (λ (symbol : Export). symbol.name) in
     let few : length s.sections < 2 ^ 15 = omega (arith, sections.count) in
     let sizes = sizes_of s programs holds are in
     record {
@@ -229,51 +235,43 @@ tables_fit s programs holds are =
       programs = programs_fit (length s.sections) 0 s.sections programs (omega (arith, few)) are;
       power = omega (arith, power_small names);
       slots = slots_small names (omega (arith, count, holds.exports.count));
-      keys = keys_small names (names_short (totals_of s.sections) s.exports holds.exports.each);
-      exports = exports_fit (totals_of s.sections) s.exports (built names).order (omega (arith, few, length-map s.sections (λ (section : DescribedSection). section.header.total))) (λ k. totals_small (length s.sections) (length s.imports) s.sections k sections.each) holds.exports.each (order_below s);
+      keys = keys_small names (names_short (totals_of s.sections) (length s.imports) s.exports holds.exports.each);
+      exports = exports_fit (totals_of s.sections) (length s.imports) s.exports (built names).order (omega (arith, few, length-map s.sections (λ (section : DescribedSection). section.header.total))) (omega (arith, holds.imports.count)) (λ k. totals_small (length s.sections) (length s.imports) s.sections k sections.each) holds.exports.each (order_below s);
       strings = sizes.strings;
       size = omega (arith, sizes.loader);
     }
 
--- the parts of a script
+-- the sections of a script
 
-kind_instantiable : (k : ℕ) → is_kind k ≡ true → IsTrue (is_instantiable k)
-kind_instantiable k is = grind (arith, nat_tests)
-
-share_small : (k : ℕ) → is_share k ≡ true → k < 256
-share_small k is = grind (arith, nat_tests)
-
-part_writable : (n j : ℕ) (s : DescribedSection) → SectionHolds n j s → IsWritable (part_of s)
-part_writable n j s holds = record {
-  kind = kind_instantiable s.header.kind holds.kind;
-  share = share_small s.header.share holds.share;
+section_writable : (n j : ℕ) (s : DescribedSection) → SectionHolds n j s → IsWritable s
+section_writable n j s holds = record {
+  kind = holds.kind;
+  share = share-small s.header.share holds.share;
   align = omega (arith, holds.align);
   total = omega (arith, holds.total);
   image = holds.image;
 }
 
-parts_writable : (n j : ℕ) (sections : List DescribedSection) → AllByRecursion (SectionHolds n j) sections → All IsWritable (map part_of sections)
-parts_writable n j [] each = λ k d under. absurd (omega arith)
-parts_writable n j (s ∷ sections) each =
-    All-cons IsWritable (part_of s) (map part_of sections) (part_writable n j s each.0) (parts_writable n j sections each.1)
+sections_writable : (n j : ℕ) (sections : List DescribedSection) → AllByRecursion (SectionHolds n j) sections → All IsWritable sections
+sections_writable n j [] each = λ k d under. absurd (omega arith)
+sections_writable n j (s ∷ sections) each = All-cons IsWritable s sections (section_writable n j s each.0) (sections_writable n j sections each.1)
 
 -- an image is no longer than fixups reach
-images_small : (n j : ℕ) (sections : List DescribedSection) → AllByRecursion (SectionHolds n j) sections → All (λ (p : DescribedPart). length p.image ≤ offset_limit) (map part_of sections)
+pub images_small : (n j : ℕ) (sections : List DescribedSection) → AllByRecursion (SectionHolds n j) sections → All (λ (s : DescribedSection). length s.image ≤ offset_limit) sections
 images_small n j [] each = λ k d under. absurd (omega arith)
 images_small n j (s ∷ sections) each =
-    All-cons (λ (p : DescribedPart). length p.image ≤ offset_limit) (part_of s) (map part_of sections) (omega (arith, each.0.image, each.0.total)) (images_small n j sections each.1)
+    All-cons (λ (s : DescribedSection). length s.image ≤ offset_limit) s sections (omega (arith, each.0.image, each.0.total)) (images_small n j sections each.1)
 
-pub parts_fit : (s : DescribedScript) (programs : List (List Instr)) → ScriptHolds s → AreProgramsFor (length s.sections) s.sections programs → AreWritable s.versions (linked_parts s) (linked_loader s programs)
+pub sections_fit : (s : DescribedScript) (programs : List (List Instr)) → ScriptHolds s → AreProgramsFor (length s.sections) s.sections programs → AreWritable s.versions s.sections (linked_loader s programs)
 unfolding linked_loader
-parts_fit s programs holds are =
+sections_fit s programs holds are =
     let n = length s.sections in
     let j = length s.imports in
-    let count : length (linked_parts s) ≡ n = length-map s.sections part_of in
     record {
       current = omega (arith, holds.versions.current);
       old_def = omega (arith, holds.versions.old_def);
       old_imp = omega (arith, holds.versions.old_imp);
-      count = omega (arith, count, holds.sections.count);
-      each = parts_writable n j s.sections holds.sections.each;
-      size = container_size s.versions (linked_parts s) (linked_loader s programs) (omega (arith, count, holds.sections.count)) (images_small n j s.sections holds.sections.each) (sizes_of s programs holds are).loader;
+      count = omega (arith, holds.sections.count);
+      each = sections_writable n j s.sections holds.sections.each;
+      size = container_size s.versions s.sections (linked_loader s programs) holds.sections.count (images_small n j s.sections holds.sections.each) (sizes_of s programs holds are).loader;
     }

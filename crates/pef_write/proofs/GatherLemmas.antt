@@ -1,15 +1,14 @@
 -- What is gathered of a script for its loader section: the entries, the strings and the export table.
-use Rattle.std.proofs.Common.{◌≡◌, ◌∙◌, ℕ, ◌+◌, ◌<◌, ◌^◌, List, [], ◌++◌, length, map, length-append, sym, ap, ap₂, arith}
+use Rattle.std.proofs.Common.{◌≡◌, ◌∙◌, ℕ, ◌+◌, ◌<◌, ◌^◌, List, [], ◌++◌, length, map, length-append, refl, sym, ap, ap₂, arith}
 use Rattle.pef_hash.specs.Build.{built}
-use Rattle.pef_script.specs.Script.{DescribedScript}
-use Rattle.pef_script.specs.Script.{export_names, import_names, library_names}
+use Rattle.pef_script.specs.Script.{DescribedScript, export_names, import_names, library_names}
 use Rattle.pef_write.specs.declared.field.Field.TheVariants.{Word}
 use Rattle.pef_write.specs.Fields.{spelled}
-use Rattle.pef_write.specs.Linked.{exports_at, libraries_from, linked_import, script_tables}
+use Rattle.pef_write.specs.Linked.{exports_at, libraries_from, script_tables}
 use Rattle.pef_write.specs.Loaders.{ProgramEntry, entry_fields, export_fields, export_names_from, import_fields, import_names_from, library_fields, program_bytes, program_fields, strings_of, table_fields, written_loader, zero_ended}
 use Rattle.pef_write.specs.Kept.Pieces.{names_before, names_in_order}
 use Rattle.pef_write.proofs.Fields.{in_three}
-use Rattle.pef_write.proofs.Fitting.{import_names-are, library_names-are}
+use Rattle.pef_write.proofs.Fitting.{library_names-are}
 use Rattle.pef_write.proofs.Loaders.{length-written_loader}
 
 module _ (s : DescribedScript) (programs : List ProgramEntry) where
@@ -20,7 +19,7 @@ module _ (s : DescribedScript) (programs : List ProgramEntry) where
 
   own_imports : zero_ended (import_names s) ≡ zero_ended (map (λ i. i.name) (script_tables s programs).imports)
   unfolding script_tables
-  own_imports = ap zero_ended (sym (import_names-are s.imports))
+  own_imports = refl
 
   -- the three kinds of names, one behind the other, are the strings
   pub strings_are : names_before s ++ names_in_order s ≡ strings_of (script_tables s programs)
@@ -36,13 +35,13 @@ module _ (s : DescribedScript) (programs : List ProgramEntry) where
   programs_room fits = omega (arith, fits, length-written_loader (script_tables s programs))
 
   -- the entries, where the names of imports stand behind those of libraries
-  pub entries_are : (strings first second third : List ℕ) → strings ≡ [] ++ zero_ended (library_names s) → first ≡ [] ++ spelled (library_fields 0 (libraries_from s.imports 0 s.libraries)) → second ≡ first ++ spelled (import_fields (length strings) (map linked_import s.imports))
+  pub entries_are : (strings first second third : List ℕ) → strings ≡ [] ++ zero_ended (library_names s) → first ≡ [] ++ spelled (library_fields 0 (libraries_from s.imports 0 s.libraries)) → second ≡ first ++ spelled (import_fields (length strings) s.imports)
       → third ≡ second ++ spelled (program_fields 0 programs) → third ≡ spelled (entry_fields (script_tables s programs))
   unfolding script_tables
   entries_are strings first second third names a b c =
       let from = ap length names ∙ own_libraries in
-      in_three [] (library_fields 0 (libraries_from s.imports 0 s.libraries)) (import_fields (import_names_from (script_tables s programs)) (map linked_import s.imports)) (program_fields 0 programs) first second third
-      a (b ∙ ap (λ n. first ++ spelled (import_fields n (map linked_import s.imports))) from) c
+      in_three [] (library_fields 0 (libraries_from s.imports 0 s.libraries)) (import_fields (import_names_from (script_tables s programs)) s.imports) (program_fields 0 programs) first second third
+      a (b ∙ ap (λ n. first ++ spelled (import_fields n s.imports)) from) c
 
   -- the export table, where the names of exports stand behind those of libraries and imports
   pub table_is : (strings first second third : List ℕ) → strings ≡ names_before s → first ≡ [] ++ spelled (map Word (built (export_names s)).slots)

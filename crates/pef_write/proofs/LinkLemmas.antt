@@ -8,7 +8,7 @@ use Rattle.pef_script.specs.Script.{DescribedScript}
 use Rattle.pef_write.specs.Linked.{AreProgramsFor, linked_bytes, linked_loader, linked_tables, script_tables}
 use Rattle.pef_write.specs.Kept.Encoded.{AreEncoded, HasCertificates, HasRoom, container_with, nonempty_from}
 use Rattle.pef_write.proofs.Certificates.{certified_programs}
-use Rattle.pef_write.proofs.Fitting.{parts_fit, sizes_of}
+use Rattle.pef_write.proofs.Fitting.{sections_fit, sizes_of}
 use Rattle.pef_write.proofs.Listing.{map-twice}
 use Rattle.pef_write.proofs.Programs.{length-programs, own_programs-are}
 
@@ -38,7 +38,7 @@ module _ (s : DescribedScript) (certificates : List Certified) (bytes : List (Li
 
   container_fits : length (linked_bytes s (programs_of certificates)) < 2 ^ 32
   unfolding linked_bytes
-  container_fits = (parts_fit s (programs_of certificates) e.has.holds programs_for).size
+  container_fits = (sections_fit s (programs_of certificates) e.has.holds programs_for).size
 
   -- programs are few, and there is room for them
   pub has_room : HasRoom s bytes

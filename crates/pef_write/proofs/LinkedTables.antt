@@ -1,7 +1,8 @@
 -- What is true of the tables of a script: names end before a zero byte, each import is of its own library,
 -- and the export table has its keys.
-use Rattle.std.proofs.Common.{◌≡◌, ◌≢◌, ◌∙◌, ℕ, suc, zero, ℤ, pos, negsuc, ◌+◌, ◌/◌, ◌^◌, ◌<◌, ◌≤◌, true, List, [], ◌∷◌, ◌++◌, Option, None, Some, length, map, get_or, slice_get, ap, arith}
-use Rattle.std.specs.Prelude.{IfSome, nat_lt}
+use Rattle.std.proofs.Common.{◌≡◌, ◌≢◌, ◌∙◌, ℕ, suc, zero, ◌+◌, ◌/◌, ◌^◌, ◌<◌, ◌≤◌, true, List, [], ◌∷◌, ◌++◌, Option, None, Some, length, map, get_or, slice_get, refl, ap, arith}
+use Rattle.std.specs.Prelude.{FitsSigned, IfSome, nat_lt}
+use Rattle.std.specs.Int.{w16}
 use Rattle.std.specs.List.{All, AllByRecursion, AllZip, list_all, position_from}
 use Rattle.std.proofs.lemmas.Bool.{and_parts, le-leb, le-ltb, lt-ltb}
 use Rattle.std.proofs.lemmas.Iterator.Adapters.{position_from-zero}
@@ -10,24 +11,26 @@ use Rattle.std.proofs.lemmas.List.Elements.{All-cons, All-map}
 use Rattle.std.proofs.lemmas.List.Sums.{count_by-le-length}
 use Rattle.pef_hash.specs.Build.{built, keys_at}
 use Rattle.pef_hash.specs.Word.{hash_word}
-use Rattle.pef_loader.specs.Export.{Export}
-use Rattle.pef_loader.specs.Import.{Import}
+use Rattle.pef_format.specs.declared.export.ExportValue.{ExportValue}
+use Rattle.pef_format.specs.declared.export.ExportValue.TheVariants.{Absolute, InSection, Reexport}
+use Rattle.pef_format.specs.Exports.{Export, value_of}
+use Rattle.pef_format.specs.Symbols.{Import}
+use Rattle.pef_loader.specs.declared.header.LoaderHeader.{LoaderHeader}
+use Rattle.pef_loader.specs.Export.{has_section, is_there}
 use Rattle.pef_loader.specs.Library.{Library}
 use Rattle.pef_reloc.specs.declared.fixup.Fixup.{Fixup}
 use Rattle.pef_reloc.specs.declared.instr.Instr.{Instr}
 use Rattle.pef_reloc.specs.Instrs.{spelled}
-use Rattle.pef_script.specs.Script.{DescribedExport, DescribedImport, DescribedLibrary, DescribedScript, DescribedSection}
-use Rattle.pef_script.specs.Script.{export_names}
+use Rattle.pef_script.specs.Script.{DescribedLibrary, DescribedScript, DescribedSection, export_names}
 use Rattle.pef_lines.specs.Words.{is_printing}
-use Rattle.pef_script.specs.WellFormed.{EntryHolds, ExportHolds, ImportHolds, LibraryHolds, Rises, ScriptHolds, SignedPlaceHolds, totals_of}
+use Rattle.pef_script.specs.WellFormed.{EntryHolds, ExportHolds, ImportHolds, LibraryHolds, Rises, ScriptHolds, ValueHolds, totals_of}
 use Rattle.pef_words.proofs.Laws.Lists.{all-at, all-get}
-use Rattle.pef_write.specs.Linked.{AreProgramsFor, exports_at, libraries_from, linked_export, linked_import, linked_library, linked_tables, no_export, program_of, programs_from, script_tables}
+use Rattle.pef_write.specs.Linked.{AreProgramsFor, exports_at, libraries_from, linked_library, linked_tables, no_export, program_of, programs_from, script_tables}
 use Rattle.pef_write.specs.Loaders.{ProgramEntry}
-use Rattle.pef_write.specs.Kept.Tables.{AreTables, IsBelow, first_owner, has_import}
+use Rattle.pef_write.specs.Kept.Tables.{AreTables, first_owner, has_import, header_read}
 use Rattle.pef_write.proofs.Counts.{before-next, counted-found, past-found}
 use Rattle.pef_write.proofs.ExportNames.{length-slots, order_below, power_small}
-use Rattle.pef_write.proofs.Fitting.{tables_fit}
-use Rattle.pef_write.proofs.Listing.{gotten}
+use Rattle.pef_write.proofs.Fitting.{section_fits, tables_fit}
 
 -- a name has no zero byte
 no_zero : (name : List ℕ) → list_all is_printing name ≡ true → All (λ b. b ≢ 0) name
@@ -40,25 +43,25 @@ no_zero (b ∷ name) printing =
     printing_some zero printing = absurd (cc)
     printing_some (suc b) printing = λ is. absurd (omega arith)
 
-library_names-end : (imports : List DescribedImport) (k : ℕ) (libraries : List DescribedLibrary) → AllByRecursion LibraryHolds libraries → All (λ (l : Library). All (λ b. b ≢ 0) l.name) (libraries_from imports k libraries)
+library_names-end : (imports : List Import) (k : ℕ) (libraries : List DescribedLibrary) → AllByRecursion LibraryHolds libraries → All (λ (l : Library). All (λ b. b ≢ 0) l.name) (libraries_from imports k libraries)
 library_names-end imports k [] each = λ i d under. absurd (omega arith)
 library_names-end imports k (l ∷ libraries) each =
     All-cons (λ (l : Library). All (λ b. b ≢ 0) l.name) (linked_library imports k l) (libraries_from imports (k + 1) libraries) (no_zero l.name each.0.name.bytes) (library_names-end imports (k + 1) libraries each.1)
 
-import_names-end : (n : ℕ) (imports : List DescribedImport) → AllByRecursion (ImportHolds n) imports → All (λ (i : Import). All (λ b. b ≢ 0) i.name) (map linked_import imports)
+import_names-end : (n : ℕ) (imports : List Import) → AllByRecursion (ImportHolds n) imports → All (λ (i : Import). All (λ b. b ≢ 0) i.name) imports
 import_names-end n [] each = λ i d under. absurd (omega arith)
 import_names-end n (i ∷ imports) each =
-    All-cons (λ (i : Import). All (λ b. b ≢ 0) i.name) (linked_import i) (map linked_import imports) (no_zero i.name each.0.name.bytes) (import_names-end n imports each.1)
+    All-cons (λ (i : Import). All (λ b. b ≢ 0) i.name) i imports (no_zero i.name each.0.name.bytes) (import_names-end n imports each.1)
 
 -- a library's imports are there
-ranges_inside : (imports : List DescribedImport) (k : ℕ) (libraries : List DescribedLibrary) → All (λ (l : Library). l.first + l.count ≤ length imports) (libraries_from imports k libraries)
+ranges_inside : (imports : List Import) (k : ℕ) (libraries : List DescribedLibrary) → All (λ (l : Library). l.first + l.count ≤ length imports) (libraries_from imports k libraries)
 ranges_inside imports k [] = λ i d under. absurd (omega arith)
 ranges_inside imports k (l ∷ libraries) =
     All-cons (λ (l : Library). l.first + l.count ≤ length imports) (linked_library imports k l) (libraries_from imports (k + 1) libraries)
-    (omega (arith, before-next k imports, count_by-le-length (λ (i : DescribedImport). nat_lt i.library (k + 1)) imports)) (ranges_inside imports (k + 1) libraries)
+    (omega (arith, before-next k imports, count_by-le-length (λ (i : Import). nat_lt i.library (k + 1)) imports)) (ranges_inside imports (k + 1) libraries)
 
 -- imports stand library by library, so the first library that has an import is its own
-owner-from : (imports : List DescribedImport) (k at : ℕ) (libraries : List DescribedLibrary) (i j : ℕ) (x : DescribedImport) → Rises (map (λ symbol. symbol.library) imports) → slice_get imports j ≡ Some x → x.library ≡ k + i → i < length libraries
+owner-from : (imports : List Import) (k at : ℕ) (libraries : List DescribedLibrary) (i j : ℕ) (x : Import) → Rises (map (λ symbol. symbol.library) imports) → slice_get imports j ≡ Some x → x.library ≡ k + i → i < length libraries
     → position_from (has_import j) at (libraries_from imports k libraries) ≡ Some (at + i)
 owner-from imports k at [] i j x rises there own under = absurd (omega arith)
 owner-from imports k at (l ∷ libraries) zero j x rises there own under =
@@ -75,17 +78,15 @@ owner-from imports k at (l ∷ libraries) (suc i) j x rises there own under =
     rw (le-leb other.first j low, le-ltb j (other.first + other.count) (omega (arith, past, before-next k imports)))
     (owner-from imports (k + 1) (at + 1) libraries i j x rises there (omega (arith, own)) (omega (arith, under)) ∙ ap Some e)
 
-own_library : (s : DescribedScript) (j : ℕ) (i : Import) → ScriptHolds s → slice_get (map linked_import s.imports) j ≡ Some i → first_owner (libraries_from s.imports 0 s.libraries) j ≡ Some i.library
+own_library : (s : DescribedScript) (j : ℕ) (i : Import) → ScriptHolds s → slice_get s.imports j ≡ Some i → first_owner (libraries_from s.imports 0 s.libraries) j ≡ Some i.library
 own_library s j i holds there =
-    let found = gotten linked_import s.imports j i there in
-    let x = found.0 in
-    let inside = (all-get (ImportHolds (length s.libraries)) s.imports j x holds.imports.each found.1).library in
-    let e : 0 + x.library ≡ x.library = omega arith in
+    let inside = (all-get (ImportHolds (length s.libraries)) s.imports j i holds.imports.each there).library in
+    let e : 0 + i.library ≡ i.library = omega arith in
     position_from-zero (has_import j) (libraries_from s.imports 0 s.libraries)
-    ∙ owner-from s.imports 0 0 s.libraries x.library j x holds.imports.grouped found.1 (omega arith) inside
-    ∙ ap Some e ∙ ap (λ (y : Import). Some y.library) found.2
+    ∙ owner-from s.imports 0 0 s.libraries i.library j i holds.imports.grouped there (omega arith) inside
+    ∙ ap Some e
 
--- entries, programs and exports are of sections that are there
+-- entries and programs are of sections that are there, and what exports stand for is there
 
 entry_there : (sections : List DescribedSection) (entry : Option (ℕ × ℕ)) → EntryHolds (totals_of sections) entry → IfSome entry (λ e. e.0 < length sections)
 entry_there sections None holds = tt
@@ -105,25 +106,24 @@ programs_there m n k (s ∷ sections) [] few are = absurd are
 programs_there m n k (s ∷ sections) (instrs ∷ programs) few are =
     one_there n k s instrs (programs_from (k + 1) sections programs) (omega arith) (programs_there m n (k + 1) sections programs (omega arith) are.1)
 
-export_there : (totals : List ℕ) (section : ℤ) (value : ℕ) → SignedPlaceHolds totals section value → IsBelow (length totals) section
-export_there totals (pos k) value holds = holds.there
-export_there totals (negsuc k) value holds = absurd holds
+-- the section of an export has 16 bits
+pub export_fits : (s : DescribedScript) (e : ℕ) (x : Export) → ScriptHolds s → slice_get s.exports e ≡ Some x → FitsSigned w16 x.section
+export_fits s e x holds found =
+    let own = all-get (ExportHolds (totals_of s.sections) (length s.imports)) s.exports e x holds.exports.each found in
+    section_fits (totals_of s.sections) (length s.imports) x.section x.value (omega (arith, length-map s.sections (λ (section : DescribedSection). section.header.total), holds.sections.count)) own.section own.value
 
--- .. whose number has few bits
-below_more : (n m : ℕ) (section : ℤ) → n ≤ m → IsBelow n section → IsBelow m section
-below_more n m (pos k) few below = omega (arith, few, below)
-below_more n m (negsuc k) few below = absurd below
+value_there : (h : LoaderHeader) (totals : List ℕ) (sections : ℕ) (value : ExportValue) → length totals ≡ sections → ValueHolds totals h.import_count value → is_there h sections value ≡ true
+value_there h totals sections (InSection section offset) same holds = lt-ltb section sections (omega (arith, same, holds.there))
+value_there h totals sections (Absolute value) same holds = refl
+value_there h totals sections (Reexport import) same holds = lt-ltb import h.import_count holds
 
-pub export_below : (s : DescribedScript) (e : ℕ) (x : DescribedExport) → ScriptHolds s → slice_get s.exports e ≡ Some x → IsBelow (2 ^ 15) x.section
-export_below s e x holds found =
-    let place = (all-get (ExportHolds (totals_of s.sections)) s.exports e x holds.exports.each found).place in
-    below_more (length (totals_of s.sections)) (2 ^ 15) x.section (omega (arith, length-map s.sections (λ (section : DescribedSection). section.header.total), holds.sections.count)) (export_there (totals_of s.sections) x.section x.value place)
-
-exports_there : (totals : List ℕ) (exports : List DescribedExport) (order : List ℕ) → AllByRecursion (ExportHolds totals) exports → All (λ e. e < length exports) order → All (λ (e : Export). IsBelow (length totals) e.section) (exports_at exports order)
-exports_there totals exports order each below =
-    All-map (λ (e : Export). IsBelow (length totals) e.section) (λ e. linked_export (get_or exports e no_export)) order
+exports_there : (h : LoaderHeader) (totals : List ℕ) (sections : ℕ) (exports : List Export) (order : List ℕ) → length totals ≡ sections → AllByRecursion (ExportHolds totals h.import_count) exports → All (λ e. e < length exports) order
+    → All (λ (e : Export). has_section h sections e.value e.section ≡ true) (exports_at exports order)
+exports_there h totals sections exports order same each below =
+    All-map (λ (e : Export). has_section h sections e.value e.section ≡ true) (λ e. get_or exports e no_export) order
     (λ k d under. let e = get_or exports (get_or order k d) no_export in
-    export_there totals e.section e.value (all-at (ExportHolds totals) exports (get_or order k d) no_export each (below k d under)).place)
+    let holds = all-at (ExportHolds totals h.import_count) exports (get_or order k d) no_export each (below k d under) in
+    rw (holds.section, value_there h totals sections (value_of e.section e.value) same holds.value) refl)
 
 -- a key has the length of its export's name
 
@@ -131,15 +131,15 @@ hash_length : (name : List ℕ) → hash_word name / 2 ^ 16 ≡ length name
 unfolding hash_word
 hash_length name = omega arith
 
-key_here : (exports : List DescribedExport) (i : ℕ) → i < length exports → get_or (map hash_word (map (λ symbol. symbol.name) exports)) i 0 / 2 ^ 16 ≡ length (linked_export (get_or exports i no_export)).name
+key_here : (exports : List Export) (i : ℕ) → i < length exports → get_or (map hash_word (map (λ symbol. symbol.name) exports)) i 0 / 2 ^ 16 ≡ length (get_or exports i no_export).name
 key_here exports i under =
     let names = map (λ symbol. symbol.name) exports in
-    let inside : i < length names = omega (arith, under, length-map exports (λ (symbol : DescribedExport). symbol.name)) in
+    let inside : i < length names = omega (arith, under, length-map exports (λ (symbol : Export). symbol.name)) in
     let word = get_or-map hash_word names i [] 0 inside in
-    let name = get_or-map (λ (symbol : DescribedExport). symbol.name) exports i no_export [] under in
+    let name = get_or-map (λ (symbol : Export). symbol.name) exports i no_export [] under in
     ap (λ w. w / 2 ^ 16) word ∙ hash_length (get_or names i []) ∙ ap length name
 
-keys_at_places : (exports : List DescribedExport) (order : List ℕ) → All (λ e. e < length exports) order
+keys_at_places : (exports : List Export) (order : List ℕ) → All (λ e. e < length exports) order
     → AllZip (λ key (e : Export). key / 2 ^ 16 ≡ length e.name) (map (λ i. get_or (map hash_word (map (λ symbol. symbol.name) exports)) i 0) order) (exports_at exports order)
 keys_at_places exports [] below = tt
 keys_at_places exports (i ∷ order) below =
@@ -156,8 +156,6 @@ unfolding script_tables
 are_sound s programs holds are =
     let names = export_names s in
     let totals : length (totals_of s.sections) ≡ length s.sections = length-map s.sections (λ (section : DescribedSection). section.header.total) in
-    let imports : length (map linked_import s.imports) ≡ length s.imports = length-map s.imports linked_import in
-    let exports = exports_there (totals_of s.sections) s.exports (built names).order holds.exports.each (order_below s) in
     record {
       fit = tables_fit s programs holds are;
       few = omega (arith, holds.sections.count);
@@ -166,11 +164,11 @@ are_sound s programs holds are =
       term = entry_there s.sections s.term holds.term;
       library_names = library_names-end s.imports 0 s.libraries holds.libraries.each;
       import_names = import_names-end (length s.libraries) s.imports holds.imports.each;
-      ranges = rw imports (ranges_inside s.imports 0 s.libraries);
+      ranges = ranges_inside s.imports 0 s.libraries;
       owned = λ j i there. own_library s j i holds there;
       programs = programs_there (length s.sections) (length s.sections) 0 s.sections programs (omega arith) are;
       power = omega (arith, power_small names);
       slots = length-slots names;
       keys = keys_match s;
-      exports = rw (← totals) exports;
+      exports = exports_there (header_read (linked_tables s programs)) (totals_of s.sections) (length s.sections) s.exports (built names).order totals holds.exports.each (order_below s);
     }

@@ -42,9 +42,3 @@ zip-length R [] [] each = refl
 zip-length R [] (y ∷ ys) each = absurd each
 zip-length R (x ∷ xs) [] each = absurd each
 zip-length R (x ∷ xs) (y ∷ ys) each = ap suc (zip-length R xs ys each.1)
-
--- what is found of a mapped list is that of an element
-pub gotten : {A B : Type 0} (f : A → B) (xs : List A) (n : ℕ) (y : B) → slice_get (map f xs) n ≡ Some y → (x : A) × (slice_get xs n ≡ Some x) × (f x ≡ y)
-gotten f [] n y there = absurd (cc)
-gotten f (x ∷ xs) zero y there = (x, refl, cc)
-gotten f (x ∷ xs) (suc n) y there = gotten f xs n y there

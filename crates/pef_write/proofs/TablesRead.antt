@@ -1,7 +1,7 @@
 -- What is written for tables is read as a loader section with these tables: no entry is refused, and each
 -- is read back.
-use Rattle.std.proofs.Common.{◌≡◌, ◌∙◌, ℕ, suc, ℤ, pos, negsuc, ◌+◌, ◌*◌, ◌/◌, ◌%◌, ◌^◌, ◌==◌, ◌<◌, ◌≤◌, Bool, true, false, cond, inl, inr, List, [], ◌∷◌, Option, None, Some, length, drop, get_or, eq-eqb, refl, sym, subst, arith}
-use Rattle.std.specs.Prelude.{IfSome, Ok, slice_get}
+use Rattle.std.proofs.Common.{◌≡◌, ◌∙◌, ℕ, suc, ◌+◌, ◌*◌, ◌/◌, ◌%◌, ◌^◌, ◌==◌, ◌<◌, ◌≤◌, Bool, true, false, cond, inl, inr, List, [], ◌∷◌, Option, None, Some, length, drop, get_or, eq-eqb, refl, sym, subst, arith}
+use Rattle.std.specs.Prelude.{FitsSigned, IfSome, Ok, slice_get}
 use Rattle.std.specs.Int.{w16, w32, cast_signed, cast_unsigned}
 use Rattle.std.specs.List.{position, position_from}
 use Rattle.std.specs.Option.{option_map, option_or}
@@ -13,9 +13,11 @@ use Rattle.std.proofs.lemmas.Option.{get_or_from_slice_get, slice_get_cases, sli
 use Rattle.pef_words.specs.Bytes.{name_at}
 use Rattle.pef_words.specs.Refusals.{first_among}
 use Rattle.pef_hash.specs.Exports.{entry_at, entry_of, key_of, name_of, slot_word_of}
-use Rattle.pef_loader.specs.Export.{Export, export_in, export_refusal, export_table, export_tests, has_exports}
+use Rattle.pef_format.specs.Exports.{Export}
+use Rattle.pef_format.specs.Symbols.{Import}
+use Rattle.pef_loader.specs.Export.{export_in, export_refusal, export_table, export_tests, has_exports, has_section}
 use Rattle.pef_loader.specs.Header.{entry_of as header_entry, header_of, is_entry, tables_end}
-use Rattle.pef_loader.specs.Import.{Import, import_at, import_in, import_refusal, import_tests, owner_at, owner_of}
+use Rattle.pef_loader.specs.Import.{import_at, import_in, import_refusal, import_tests, owner_at, owner_of}
 use Rattle.pef_loader.specs.Library.{Library, library_at, library_in, library_refusal, library_tests}
 use Rattle.pef_loader.specs.Loader.{export_of, import_of, init_of, library_of, loaded_of, main_of, reloc_of, term_of}
 use Rattle.pef_loader.specs.Reloc.{instructions_of, reloc_at, reloc_in, reloc_refusal, reloc_tests}
@@ -25,7 +27,7 @@ use Rattle.pef_write.specs.Fields.{spelled}
 use Rattle.pef_write.specs.Loaders.{LoaderTables, ProgramEntry, class_byte, entry_offset, entry_section, export_entry, header_fields, import_entry, library_entry, programs_from, relocation_entry, strings_from, strings_of, table_fields, written_loader}
 use Rattle.pef_write.specs.ReadBack.{program_read}
 use Rattle.pef_write.specs.Kept.Fits.{Reads}
-use Rattle.pef_write.specs.Kept.Tables.{AreTables, HasNoZero, IsBelow, has_import, header_read, loaded_tables, section_read}
+use Rattle.pef_write.specs.Kept.Tables.{AreTables, HasNoZero, has_import, header_read, loaded_tables, section_read}
 use Rattle.pef_write.proofs.Fields.{reads-at}
 use Rattle.pef_write.proofs.Loaders.{length-table_fields, length-written_loader}
 use Rattle.pef_write.proofs.Listing.{zip-at, zip-length}
@@ -96,11 +98,6 @@ import-if t bytes j at i class small r =
     let first = rw here at r.0 in
     rw (first, word-class i.weak i.class at class small, word-weak i.weak i.class at class small, word-offset (class_byte i.weak i.class) at small) refl
 
--- the number of a section that is there is read from its 16 bits
-section-read : (sections : ℕ) (z : ℤ) → sections < 2 ^ 15 → IsBelow sections z → cast_signed w16 (cast_unsigned w16 z) ≡ z
-section-read sections (pos k) few below = to_z-of_z w16 (pos k) (omega (arith, below))
-section-read sections (negsuc n) few below = absurd below
-
 export-if : (bytes : List ℕ) (from at : ℕ) (e : Export) → e.class < 16 → at < 2 ^ 24 → cast_signed w16 (cast_unsigned w16 e.section) ≡ e.section → Reads bytes from 0 (export_entry at e)
     → entry_at bytes from ≡ Some (record { class = e.class; name_offset = at; value = e.value; section = e.section })
 unfolding entry_at
@@ -117,11 +114,6 @@ reloc-if t bytes i at p r =
     let here : from + 0 ≡ from = omega arith in
     let first = rw here at r.0 in
     rw (first, r.1.1.0, r.1.1.1.0) refl
-
--- a section that is there is one
-section-below : (sections : ℕ) (z : ℤ) → IsBelow sections z → (k : ℕ) × (z ≡ pos k) × (k < sections)
-section-below sections (pos k) below = (k, refl, below)
-section-below sections (negsuc n) below = absurd below
 
 module _ (sections : ℕ) (t : LoaderTables) (a : AreTables sections t) where
   -- library i is read, and so is its name
@@ -211,7 +203,7 @@ module _ (sections : ℕ) (t : LoaderTables) (a : AreTables sections t) where
       let strings = a.fit.strings in
       let inside = stands-inside (strings_of t) e.name (export_name_at t k) (export-name-stands t k e there) in
       let class = all-at (λ (e : Export). e.class < 16) t.exports k e (λ k d under. (a.fit.exports k d under).class) there in
-      let section = section-read sections e.section a.few (all-at (λ (e : Export). IsBelow sections e.section) t.exports k e a.exports there) in
+      let section = to_z-of_z w16 e.section (all-at (λ (e : Export). FitsSigned w16 e.section) t.exports k e (λ k d under. (a.fit.exports k d under).section) there) in
       let r = reads-at (spelled (table_fields t)) (4 * length t.slots + 4 * length t.keys + 10 * k) 0 (4 * 2 ^ t.power + 4 * length t.exports + 10 * k) 0 (export_entry (export_name_at t k) e) (omega arith) (export_reads t a.fit k e there) in
       let entry = export-if (spelled (table_fields t)) (4 * 2 ^ t.power + 4 * length t.exports + 10 * k) (export_name_at t k) e class (omega arith) section r in
       rw (lt-ltb k (length t.exports) (slice_get_within t.exports k e there), table-behind t, entry) refl
@@ -229,9 +221,9 @@ module _ (sections : ℕ) (t : LoaderTables) (a : AreTables sections t) where
   export_accepted : (k : ℕ) (e : Export) → slice_get t.exports k ≡ Some e → export_refusal (written_loader t) (header_read t) sections k ≡ None
   unfolding export_tests
   export_accepted k e there =
-      let below = section-below sections e.section (all-at (λ (e : Export). IsBelow sections e.section) t.exports k e a.exports there) in
+      let section = all-at (λ (e : Export). has_section (header_read t) sections e.value e.section ≡ true) t.exports k e a.exports there in
       let inside = stands-inside (written_loader t) (strings_of t) (strings_from t) (strings-stand t) in
-      rw (export_there k e there, le-ltb (length (written_loader t)) (strings_from t) (omega arith), export_named k e there, below.1, lt-ltb below.0 sections below.2) refl
+      rw (export_there k e there, le-ltb (length (written_loader t)) (strings_from t) (omega arith), export_named k e there, section) refl
 
   -- the export table is whole
   table_whole : has_exports (written_loader t) (header_read t) ≡ true

@@ -1,11 +1,11 @@
 -- What stands where in a written loader section.
 use Rattle.std.proofs.Common.{◌≡◌, ℕ, suc, ◌+◌, ◌*◌, ◌-◌, ◌<◌, ◌≤◌, ◌^◌, List, [], ◌∷◌, ◌++◌, Some, length, take, drop, map, replicate, length-append, append-nil, sym, subst, arith}
-use Rattle.std.specs.Prelude.{Bool, true, false, slice_get}
-use Rattle.std.specs.Int.{next_multiple_of}
+use Rattle.std.specs.Prelude.{Bool, true, false, ℤ, pos, negsuc, FitsSigned, slice_get}
+use Rattle.std.specs.Int.{w16, cast_unsigned, next_multiple_of}
 use Rattle.std.specs.List.{All, flat_map}
 use Rattle.std.proofs.lemmas.List.{drop_at}
-use Rattle.pef_loader.specs.Export.{Export}
-use Rattle.pef_loader.specs.Import.{Import}
+use Rattle.pef_format.specs.Exports.{Export}
+use Rattle.pef_format.specs.Symbols.{Import}
 use Rattle.pef_loader.specs.Library.{Library}
 use Rattle.pef_write.specs.declared.field.Field.TheVariants.{Word}
 use Rattle.pef_write.specs.Fields.{padded, spelled}
@@ -61,6 +61,10 @@ fit-words (w ∷ words) each =
     let own = each 0 w (omega arith) in
     (omega arith, fit-words words (λ k d under. each (suc k) d (omega arith)))
 
+half_small : (section : ℤ) → FitsSigned w16 section → cast_unsigned w16 section < 2 ^ 16
+half_small (pos k) half = omega (arith, half)
+half_small (negsuc n) half = omega (arith, half)
+
 fit-exports : (at limit : ℕ) (exports : List Export) → All ExportFits exports → at + length (flat_map (λ e. e.name) exports) ≤ limit → limit < 2 ^ 24 → AllFit (export_fields at exports)
 unfolding export_fields
 fit-exports at limit [] each inside small = tt
@@ -68,7 +72,7 @@ fit-exports at limit (e ∷ exports) each inside small =
     let own = each 0 e (omega arith) in
     let class = own.class in
     let value = own.value in
-    let section = own.section in
+    let section = half_small e.section own.section in
     let joined = length-append e.name (flat_map (λ e. e.name) exports) in
     let later = fit-exports (at + length e.name) limit exports (λ k d under. each (suc k) d (omega arith)) (omega arith) small in
     (omega arith, (omega arith, (omega arith, later)))

@@ -1,24 +1,29 @@
 -- A written container is read back as what was written.
 use Rattle.std.proofs.Common.{◌≡◌, ◌∙◌, ℕ, zero, suc, ◌+◌, ◌*◌, ◌-◌, ◌<◌, ◌≤◌, ◌^◌, Bool, true, false, List, [], ◌∷◌, ◌++◌, None, Some, length, take, replicate, get_or, length-append, append_assoc, refl, sym, ap, subst, inl, inr, arith}
-use Rattle.std.specs.Prelude.{Ok, IsTrue, ◌==◌, nat_lt, slice_get}
+use Rattle.std.specs.Prelude.{Ok, IsTrue, ◌==◌, ◌||◌, if◌then◌else◌, nat_le, nat_lt, slice_get}
 use Rattle.std.specs.Int.{w32, cast_signed, cast_unsigned, next_multiple_of}
 use Rattle.std.specs.List.{All}
 use Rattle.std.proofs.Math.Bool.{or-true}
 use Rattle.std.proofs.Math.Dec.{leb-suc-suc}
 use Rattle.std.proofs.lemmas.Bool.{le-leb, lt-ltb}
-use Rattle.std.proofs.lemmas.Bool.Decides.{leb_tells, nat_tests}
+use Rattle.std.proofs.lemmas.Bool.Decides.{leb_tells}
 use Rattle.std.proofs.lemmas.List.{drop_at, take_all, take_at}
 use Rattle.std.proofs.lemmas.Option.{slice_get-get_or, slice_get_past}
 use Rattle.pef_words.specs.Refusals.{first_met}
+use Rattle.pef_format.specs.Sections.{is_instantiable, is_loader, is_packed, kind_code, kind_of}
+use Rattle.pef_format.specs.declared.section.SectionKind.{SectionKind}
+use Rattle.pef_format.proofs.Laws.{kind-again, kind-small}
+use Rattle.pef_pidata.specs.Packing.{packed_of}
 use Rattle.pef_views.specs.declared.header.Header.{Header}
 use Rattle.pef_views.specs.declared.section.SectionHeader.{SectionHeader}
 use Rattle.pef_views.specs.Header.{header_of}
-use Rattle.pef_views.specs.Section.{section_at, section_tests, is_inside, is_instantiable, raw_of, sizes_fit}
+use Rattle.pef_views.specs.Section.{section_at, section_tests, is_inside, raw_of as raw_in, sizes_fit}
 use Rattle.pef_views.specs.Container.{Section, container_of, section_of}
 use Rattle.pef_views.proofs.Laws.{IsWritten, container_of-written, header_tests-unmet, section_tests-unmet}
 use Rattle.pef_script.specs.declared.parts.Versions.{Versions}
+use Rattle.pef_script.specs.Script.{DescribedSection}
 use Rattle.pef_write.specs.Fields.{padded, spelled}
-use Rattle.pef_write.specs.Containers.{DescribedPart, data_from, header_fields, laid_out, loader_header, part_header, raw_data, section_fields, spelled_headers, written_container, written_header, written_sections}
+use Rattle.pef_write.specs.Containers.{data_from, header_fields, laid_out, loader_header, raw_data, raw_of, section_fields, section_header, spelled_headers, written_container, written_header, written_sections}
 use Rattle.pef_write.specs.Kept.Fits.{AllFit, AreWritable, IsWritable, Reads}
 use Rattle.pef_write.specs.Kept.Tables.{ReadsBack, contained_in}
 use Rattle.pef_write.proofs.Fields.{inward, length-padded, outward, reads}
@@ -88,7 +93,7 @@ header_at (s ∷ sections) (suc i) under =
 record IsSound (bytes : List ℕ) (instantiated : Bool) (s : Section) : Type 0 where
   fields : AllFit (section_fields s.header)
   name : cast_signed w32 (cast_unsigned w32 s.header.name_offset) ≡ s.header.name_offset
-  raw : raw_of bytes s.header ≡ s.raw
+  raw : raw_in bytes s.header ≡ s.raw
   unmet : first_met (section_tests instantiated s.header (length bytes)) ≡ None
 
 inside_if : (s : SectionHeader) (len : ℕ) → s.container_offset + s.packed_size ≤ len → IsTrue (is_inside s len)
@@ -108,157 +113,161 @@ loader_sound before loader small =
       unmet = section_tests-unmet false (loader_header (length loader) (length before)) (length (before ++ loader)) (inside_if (loader_header (length loader) (length before)) (length (before ++ loader)) (omega arith)) (λ h. absurd (cc));
     }
 
--- the kinds of instantiated sections are bytes
-kind_fits : (kind : ℕ) → IsTrue (is_instantiable kind) → kind < 256
-kind_fits kind is = grind (arith, nat_tests)
+-- the raw bytes are packed, or no fewer than those of the image
+enough_raw : (packed : Bool) (image : List ℕ) → (packed || nat_le (length image) (length (if packed then packed_of image else image))) ≡ true
+enough_raw true image = refl
+enough_raw false image = le-leb (length image) (length image) (omega arith)
 
-sizes_if : (s : SectionHeader) → s.unpacked_size ≤ s.total_size → s.unpacked_size ≡ s.packed_size → IsTrue (sizes_fit s)
-sizes_if s image same =
-    let enough = le-leb s.unpacked_size s.packed_size (omega arith) in
-    rw (le-leb s.unpacked_size s.total_size image, enough, or-true (s.section_kind == 2)) refl
+sizes_if : (s : DescribedSection) (at : ℕ) → is_instantiable s.header.kind ≡ true → length s.image ≤ s.header.total → IsTrue (sizes_fit (section_header s at))
+sizes_if s at named image =
+    rw (le-leb (length s.image) s.header.total image, kind-again s.header.kind named) (enough_raw (is_packed s.header.kind) s.image)
 
--- a part's section, with its image in its place
-part_sound : (before rest : List ℕ) (p : DescribedPart) → IsWritable p → length (before ++ (padded 16 p.image ++ rest)) < 2 ^ 32 → IsSound (before ++ (padded 16 p.image ++ rest)) true (record { header = part_header p (length before); raw = p.image })
+kind_if : (kind : SectionKind) → is_instantiable kind ≡ true → IsTrue (is_instantiable (kind_of (kind_code kind)))
+kind_if kind named = rw (kind-again kind named) named
+
+-- a section of a script, with its raw bytes in their place
+section_sound : (before rest : List ℕ) (s : DescribedSection) → IsWritable s → length (before ++ (padded 16 (raw_of s) ++ rest)) < 2 ^ 32 → IsSound (before ++ (padded 16 (raw_of s) ++ rest)) true (record { header = section_header s (length before); raw = raw_of s })
 unfolding section_fields padded
-part_sound before rest p writable small =
-    let zeros : List ℕ = replicate (next_multiple_of (length p.image) 16 - length p.image) 0 in
-    let joined = length-append before (padded 16 p.image ++ rest) in
-    let inner = length-append (padded 16 p.image) rest in
-    let whole = length-padded 16 p.image in
+section_sound before rest s writable small =
+    let own = raw_of s in
+    let zeros : List ℕ = replicate (next_multiple_of (length own) 16 - length own) 0 in
+    let joined = length-append before (padded 16 own ++ rest) in
+    let inner = length-append (padded 16 own) rest in
+    let whole = length-padded 16 own in
     let total = writable.total in
     let image = writable.image in
     let align = writable.align in
     let share = writable.share in
-    let kind = kind_fits p.kind writable.kind in
-    let header = part_header p (length before) in
-    let len = length (before ++ (padded 16 p.image ++ rest)) in
+    let kind = kind-small s.header.kind writable.kind in
+    let header = section_header s (length before) in
+    let len = length (before ++ (padded 16 own ++ rest)) in
     record {
       fields = (omega arith, (omega arith, (omega arith, (omega arith, (omega arith, (omega arith, (omega arith, (omega arith, (omega arith, (omega arith, tt))))))))));
       name = refl;
-      raw = ap (take (length p.image)) (drop_at before (padded 16 p.image ++ rest) (length before) refl ∙ append_assoc p.image zeros rest) ∙ take_at p.image (zeros ++ rest) (length p.image) refl;
-      unmet = section_tests-unmet true header len (inside_if header len (omega arith)) (λ h. (writable.kind, sizes_if header image refl, align));
+      raw = ap (take (length own)) (drop_at before (padded 16 own ++ rest) (length before) refl ∙ append_assoc own zeros rest) ∙ take_at own (zeros ++ rest) (length own) refl;
+      unmet = section_tests-unmet true header len (inside_if header len (omega arith)) (λ h. (kind_if s.header.kind writable.kind, sizes_if s (length before) writable.kind image, align));
     }
 
 -- what is known of each section
-sections_sound : (before : List ℕ) (parts : List DescribedPart) (loader : List ℕ) (i : ℕ) (instantiated : Bool) → All IsWritable parts → length (before ++ raw_data parts loader) < 2 ^ 32 → i < length parts + 1 → instantiated ≡ nat_lt i (length parts)
-    → IsSound (before ++ raw_data parts loader) instantiated (get_or (laid_out (length before) parts loader) i no_section)
+sections_sound : (before : List ℕ) (sections : List DescribedSection) (loader : List ℕ) (i : ℕ) (instantiated : Bool) → All IsWritable sections → length (before ++ raw_data sections loader) < 2 ^ 32 → i < length sections + 1 → instantiated ≡ nat_lt i (length sections)
+    → IsSound (before ++ raw_data sections loader) instantiated (get_or (laid_out (length before) sections loader) i no_section)
 unfolding laid_out raw_data
 sections_sound before [] loader zero instantiated each small under is =
     let P : Bool → Type 0 = λ b. IsSound (before ++ loader) b (record { header = loader_header (length loader) (length before); raw = loader }) in
     subst P (sym is) (loader_sound before loader small)
 sections_sound before [] loader (suc i) instantiated each small under is = absurd (omega arith)
-sections_sound before (p ∷ parts) loader zero instantiated each small under is =
-    let P : Bool → Type 0 = λ b. IsSound (before ++ (padded 16 p.image ++ raw_data parts loader)) b (record { header = part_header p (length before); raw = p.image }) in
-    subst P (sym (is ∙ lt-ltb 0 (length (p ∷ parts)) (omega arith))) (part_sound before (raw_data parts loader) p (each 0 p (omega arith)) small)
-sections_sound before (p ∷ parts) loader (suc i) instantiated each small under is =
-    let assoc : (before ++ padded 16 p.image) ++ raw_data parts loader ≡ before ++ (padded 16 p.image ++ raw_data parts loader) = append_assoc before (padded 16 p.image) (raw_data parts loader) in
-    let size : length (before ++ padded 16 p.image) ≡ length before + next_multiple_of (length p.image) 16 = length-append before (padded 16 p.image) ∙ ap (λ n. length before + n) (length-padded 16 p.image) in
+sections_sound before (s ∷ sections) loader zero instantiated each small under is =
+    let P : Bool → Type 0 = λ b. IsSound (before ++ (padded 16 (raw_of s) ++ raw_data sections loader)) b (record { header = section_header s (length before); raw = raw_of s }) in
+    subst P (sym (is ∙ lt-ltb 0 (length (s ∷ sections)) (omega arith))) (section_sound before (raw_data sections loader) s (each 0 s (omega arith)) small)
+sections_sound before (s ∷ sections) loader (suc i) instantiated each small under is =
+    let assoc : (before ++ padded 16 (raw_of s)) ++ raw_data sections loader ≡ before ++ (padded 16 (raw_of s) ++ raw_data sections loader) = append_assoc before (padded 16 (raw_of s)) (raw_data sections loader) in
+    let size : length (before ++ padded 16 (raw_of s)) ≡ length before + next_multiple_of (length (raw_of s)) 16 = length-append before (padded 16 (raw_of s)) ∙ ap (λ n. length before + n) (length-padded 16 (raw_of s)) in
     let small' = rw (← assoc) at small in
-    let later = sections_sound (before ++ padded 16 p.image) parts loader i instantiated (λ k d lt. each (suc k) d (omega arith)) small' (omega arith) (is ∙ leb-suc-suc (suc i) (length parts)) in
-    let P : List ℕ → Type 0 = λ bytes. IsSound bytes instantiated (get_or (laid_out (length (before ++ padded 16 p.image)) parts loader) i no_section) in
-    let Q : ℕ → Type 0 = λ at. IsSound (before ++ (padded 16 p.image ++ raw_data parts loader)) instantiated (get_or (laid_out at parts loader) i no_section) in
+    let later = sections_sound (before ++ padded 16 (raw_of s)) sections loader i instantiated (λ k d lt. each (suc k) d (omega arith)) small' (omega arith) (is ∙ leb-suc-suc (suc i) (length sections)) in
+    let P : List ℕ → Type 0 = λ bytes. IsSound bytes instantiated (get_or (laid_out (length (before ++ padded 16 (raw_of s))) sections loader) i no_section) in
+    let Q : ℕ → Type 0 = λ at. IsSound (before ++ (padded 16 (raw_of s) ++ raw_data sections loader)) instantiated (get_or (laid_out at sections loader) i no_section) in
     subst Q size (subst P assoc later)
 
 -- the last section is the loader section
-last_is : (at : ℕ) (parts : List DescribedPart) (loader : List ℕ) → let s = get_or (laid_out at parts loader) (length parts) no_section in (s.header.section_kind ≡ 4) × (s.raw ≡ loader)
-unfolding laid_out
+last_is : (at : ℕ) (sections : List DescribedSection) (loader : List ℕ) → let s = get_or (laid_out at sections loader) (length sections) no_section in IsTrue (is_loader (kind_of s.header.section_kind)) × (s.raw ≡ loader)
+unfolding laid_out kind_of
 last_is at [] loader = (refl, refl)
-last_is at (p ∷ parts) loader = last_is (at + next_multiple_of (length p.image) 16) parts loader
+last_is at (s ∷ sections) loader = last_is (at + next_multiple_of (length (raw_of s)) 16) sections loader
 
 -- the zeros behind all headers
-abbrev front_zeros : Versions → List DescribedPart → List ℕ → List ℕ
-front_zeros v parts loader = replicate (next_multiple_of (length (fronts v parts loader)) 16 - length (fronts v parts loader)) 0
+abbrev front_zeros : Versions → List DescribedSection → List ℕ → List ℕ
+front_zeros v sections loader = replicate (next_multiple_of (length (fronts v sections loader)) 16 - length (fronts v sections loader)) 0
 
 -- what is said of all written sections
-module _ (v : Versions) (parts : List DescribedPart) (loader : List ℕ) (w : AreWritable v parts loader) where
-  count : length (written_sections parts loader) ≡ length parts + 1
+module _ (v : Versions) (sections : List DescribedSection) (loader : List ℕ) (w : AreWritable v sections loader) where
+  count : length (written_sections sections loader) ≡ length sections + 1
   unfolding written_sections
-  count = length-laid_out (data_from (length parts)) parts loader
+  count = length-laid_out (data_from (length sections)) sections loader
 
-  many : (i : ℕ) → i < length parts + 1 → i < length (written_sections parts loader)
+  many : (i : ℕ) → i < length sections + 1 → i < length (written_sections sections loader)
   many i under = omega (arith, count)
 
-  few : (i : ℕ) → length parts + 1 ≤ i → length (written_sections parts loader) ≤ i
+  few : (i : ℕ) → length sections + 1 ≤ i → length (written_sections sections loader) ≤ i
   few i past = omega (arith, count)
 
-  sound : (i : ℕ) (instantiated : Bool) → i < length parts + 1 → instantiated ≡ nat_lt i (length parts) → IsSound (written_container v parts loader) instantiated (get_or (written_sections parts loader) i no_section)
+  sound : (i : ℕ) (instantiated : Bool) → i < length sections + 1 → instantiated ≡ nat_lt i (length sections) → IsSound (written_container v sections loader) instantiated (get_or (written_sections sections loader) i no_section)
   unfolding written_container written_sections
   sound i instantiated under is =
-      let here = sections_sound (padded 16 (fronts v parts loader)) parts loader i instantiated w.each w.size under is in
-      let Q : ℕ → Type 0 = λ at. IsSound (padded 16 (fronts v parts loader) ++ raw_data parts loader) instantiated (get_or (laid_out at parts loader) i no_section) in
-      subst Q (length-front v parts loader) here
+      let here = sections_sound (padded 16 (fronts v sections loader)) sections loader i instantiated w.each w.size under is in
+      let Q : ℕ → Type 0 = λ at. IsSound (padded 16 (fronts v sections loader) ++ raw_data sections loader) instantiated (get_or (laid_out at sections loader) i no_section) in
+      subst Q (length-front v sections loader) here
 
-  header_there : header_of (written_container v parts loader) ≡ Some (written_header v (length parts))
+  header_there : header_of (written_container v sections loader) ≡ Some (written_header v (length sections))
   unfolding written_container padded header_fields
   header_there =
-      let h = written_header v (length parts) in
+      let h = written_header v (length sections) in
       let current = w.current in
       let old_def = w.old_def in
       let old_imp = w.old_imp in
       let count = w.count in
       let fits : AllFit (header_fields h) = (omega arith, (omega arith, (omega arith, (omega arith, (omega arith, (omega arith, (omega arith, (omega arith, (omega arith, (omega arith, (omega arith, tt))))))))))) in
-      let all = outward (spelled (header_fields h)) (spelled_headers (written_sections parts loader)) (front_zeros v parts loader) (raw_data parts loader) in
+      let all = outward (spelled (header_fields h)) (spelled_headers (written_sections sections loader)) (front_zeros v sections loader) (raw_data sections loader) in
       let P : List ℕ → Type 0 = λ bytes. Reads bytes 0 0 (header_fields h) in
-      header_if (written_container v parts loader) h (subst P (sym all) (reads [] (spelled_headers (written_sections parts loader) ++ (front_zeros v parts loader ++ raw_data parts loader)) (header_fields h) fits))
+      header_if (written_container v sections loader) h (subst P (sym all) (reads [] (spelled_headers (written_sections sections loader) ++ (front_zeros v sections loader ++ raw_data sections loader)) (header_fields h) fits))
 
-  section_there : (i : ℕ) → i < length parts + 1 → section_at (written_container v parts loader) i ≡ Some (get_or (written_sections parts loader) i no_section).header
+  section_there : (i : ℕ) → i < length sections + 1 → section_at (written_container v sections loader) i ≡ Some (get_or (written_sections sections loader) i no_section).header
   unfolding written_container padded
   section_there i under =
-      let h = written_header v (length parts) in
-      let s = get_or (written_sections parts loader) i no_section in
-      let here = sound i (nat_lt i (length parts)) under refl in
-      let place = header_at (written_sections parts loader) i (many i under) in
-      let zeros = front_zeros v parts loader in
-      let raw = raw_data parts loader in
-      let all : written_container v parts loader ≡ (spelled (header_fields h) ++ place.front) ++ (spelled (section_fields s.header) ++ (place.back ++ (zeros ++ raw))) =
-      outward (spelled (header_fields h)) (spelled_headers (written_sections parts loader)) zeros raw
+      let h = written_header v (length sections) in
+      let s = get_or (written_sections sections loader) i no_section in
+      let here = sound i (nat_lt i (length sections)) under refl in
+      let place = header_at (written_sections sections loader) i (many i under) in
+      let zeros = front_zeros v sections loader in
+      let raw = raw_data sections loader in
+      let all : written_container v sections loader ≡ (spelled (header_fields h) ++ place.front) ++ (spelled (section_fields s.header) ++ (place.back ++ (zeros ++ raw))) =
+      outward (spelled (header_fields h)) (spelled_headers (written_sections sections loader)) zeros raw
       ∙ ap (λ z. spelled (header_fields h) ++ (z ++ (zeros ++ raw))) place.is
       ∙ inward (spelled (header_fields h)) place.front (spelled (section_fields s.header)) place.back (zeros ++ raw) in
       let far : length (spelled (header_fields h) ++ place.front) ≡ 40 + 28 * i = omega (arith, length-append (spelled (header_fields h)) place.front, length-header h, place.place) in
       let P : List ℕ → Type 0 = λ bytes. Reads bytes (40 + 28 * i) 0 (section_fields s.header) in
       let Q : ℕ → Type 0 = λ at. Reads ((spelled (header_fields h) ++ place.front) ++ (spelled (section_fields s.header) ++ (place.back ++ (zeros ++ raw)))) at 0 (section_fields s.header) in
       let found = reads (spelled (header_fields h) ++ place.front) (place.back ++ (zeros ++ raw)) (section_fields s.header) here.fields in
-      section_if (written_container v parts loader) i s.header here.name (subst P (sym all) (subst Q far found))
+      section_if (written_container v sections loader) i s.header here.name (subst P (sym all) (subst Q far found))
 
-  whole : data_from (length parts) + length (raw_data parts loader) ≡ length (written_container v parts loader)
-  whole = sym (length-written_container v parts loader)
+  whole : data_from (length sections) + length (raw_data sections loader) ≡ length (written_container v sections loader)
+  whole = sym (length-written_container v sections loader)
 
-  written : IsWritten (written_container v parts loader) (written_header v (length parts)) (λ i. (get_or (written_sections parts loader) i no_section).header)
+  written : IsWritten (written_container v sections loader) (written_header v (length sections)) (λ i. (get_or (written_sections sections loader) i no_section).header)
   unfolding written_sections
   written = record {
     header = header_there;
-    tests = header_tests-unmet (written_header v (length parts)) (length (written_container v parts loader)) refl refl refl refl (omega arith) (omega (arith, whole));
+    tests = header_tests-unmet (written_header v (length sections)) (length (written_container v sections loader)) refl refl refl refl (omega arith) (omega (arith, whole));
     sections = section_there;
-    unmet = λ i under. (sound i (nat_lt i (length parts)) under refl).unmet;
+    unmet = λ i under. (sound i (nat_lt i (length sections)) under refl).unmet;
     more = omega arith;
-    loader = (last_is (data_from (length parts)) parts loader).0;
+    loader = (last_is (data_from (length sections)) sections loader).0;
   }
 
   -- written bytes are the container of what was written
-  pub container_of-parts : container_of (written_container v parts loader) ≡ Ok (contained_in v parts loader)
+  pub container_of-sections : container_of (written_container v sections loader) ≡ Ok (contained_in v sections loader)
   unfolding written_sections
-  container_of-parts =
-      let raw = (sound (length parts) (nat_lt (length parts) (length parts)) (omega arith) refl).raw ∙ (last_is (data_from (length parts)) parts loader).1 in
-      container_of-written (written_container v parts loader) (written_header v (length parts)) (λ i. (get_or (written_sections parts loader) i no_section).header) written
-      ∙ ap (λ loader'. Ok (record (contained_in v parts loader) { loader = loader' })) raw
+  container_of-sections =
+      let raw = (sound (length sections) (nat_lt (length sections) (length sections)) (omega arith) refl).raw ∙ (last_is (data_from (length sections)) sections loader).1 in
+      container_of-written (written_container v sections loader) (written_header v (length sections)) (λ i. (get_or (written_sections sections loader) i no_section).header) written
+      ∙ ap (λ loader'. Ok (record (contained_in v sections loader) { loader = loader' })) raw
 
-  -- .. and its sections are the parts, then the loader section
-  pub section_of-parts : (i : ℕ) → section_of (contained_in v parts loader) i ≡ slice_get (written_sections parts loader) i
+  -- .. and its sections are those, then the loader section
+  pub section_of-sections : (i : ℕ) → section_of (contained_in v sections loader) i ≡ slice_get (written_sections sections loader) i
   unfolding section_of
-  section_of-parts i = elim (leb_tells (suc i) (length parts + 1)) [
+  section_of-sections i = elim (leb_tells (suc i) (length sections + 1)) [
     | inl below ↦
-        let under : i < length parts + 1 = omega arith in
-        let here = sound i (nat_lt i (length parts)) under refl in
-        let s = get_or (written_sections parts loader) i no_section in
-        rw (below.0, section_there i under, slice_get-get_or (written_sections parts loader) i no_section (many i under)) (ap (λ raw. Some (record s { raw = raw })) here.raw)
+        let under : i < length sections + 1 = omega arith in
+        let here = sound i (nat_lt i (length sections)) under refl in
+        let s = get_or (written_sections sections loader) i no_section in
+        rw (below.0, section_there i under, slice_get-get_or (written_sections sections loader) i no_section (many i under)) (ap (λ raw. Some (record s { raw = raw })) here.raw)
     | inr past ↦
-        let none = slice_get_past (written_sections parts loader) i (few i (omega arith)) in
+        let none = slice_get_past (written_sections sections loader) i (few i (omega arith)) in
         rw (past.0, none) refl
   ]
 
 -- what is written is read back
-pub reads_back : (v : Versions) (parts : List DescribedPart) (loader bytes : List ℕ) → bytes ≡ written_container v parts loader → AreWritable v parts loader → ReadsBack v parts loader bytes
-reads_back v parts loader bytes is w = record {
-  container = ap container_of is ∙ container_of-parts v parts loader w;
-  sections = section_of-parts v parts loader w;
+pub reads_back : (v : Versions) (sections : List DescribedSection) (loader bytes : List ℕ) → bytes ≡ written_container v sections loader → AreWritable v sections loader → ReadsBack v sections loader bytes
+reads_back v sections loader bytes is w = record {
+  container = ap container_of is ∙ container_of-sections v sections loader w;
+  sections = section_of-sections v sections loader w;
 }

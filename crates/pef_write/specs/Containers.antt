@@ -1,23 +1,20 @@
 -- Which bytes are written for some sections and a loader section (Mac OS Runtime Architectures, "PEF
 -- Structure"). Where the raw bytes lie, and which optional fields are left empty, is this project's own
 -- choice.
-use Rattle.std.specs.Prelude.{◌≡◌, ℕ, ◌+◌, ◌*◌, negsuc, Some, List, [], ◌∷◌, ◌++◌, length}
+use Rattle.std.specs.Prelude.{◌≡◌, ℕ, ◌+◌, ◌*◌, negsuc, Some, List, [], ◌∷◌, ◌++◌, length, if◌then◌else◌}
 use Rattle.std.specs.Int.{w32, cast_unsigned, next_multiple_of}
+use Rattle.pef_format.specs.declared.section.SectionKind.TheVariants as kind
+use Rattle.pef_format.specs.declared.section.Share.TheVariants as share
+use Rattle.pef_format.specs.Sections.{is_packed, kind_code, share_code}
+use Rattle.pef_pidata.specs.Packing.{packed_of}
 use Rattle.pef_script.specs.declared.parts.Versions.{Versions}
+use Rattle.pef_script.specs.Script.{DescribedSection}
 use Rattle.pef_views.specs.declared.header.Header.{Header}
 use Rattle.pef_views.specs.declared.section.SectionHeader.{SectionHeader}
 use Rattle.pef_views.specs.Container.{Contained, Section, section_of}
 use Rattle.pef_write.specs.declared.field.Field.{Field}
 use Rattle.pef_write.specs.declared.field.Field.TheVariants.{Byte, Half, Word}
 use Rattle.pef_write.specs.Fields.{padded, spelled}
-
--- an instantiated section without a name: what its header says of it, and its image
-pub record DescribedPart : Type 0 where
-  pub kind : ℕ
-  pub share : ℕ
-  pub align : ℕ
-  pub total : ℕ
-  pub image : List ℕ
 
 -- the fields of the container header, in order (PEFContainerHeader of PEFBinaryFormat.h)
 unfoldable pub header_fields : Header → List Field
@@ -65,18 +62,22 @@ written_header v n = record {
   reserved = 0;
 }
 
--- the header of a part whose image lies at a place: no name, and the raw bytes are the image
-abbrev pub part_header : DescribedPart → ℕ → SectionHeader
-part_header p at = record {
+-- the raw bytes of a section: its image, packed if its kind is
+abbrev pub raw_of : DescribedSection → List ℕ
+raw_of s = if is_packed s.header.kind then packed_of s.image else s.image
+
+-- the header of a section whose raw bytes lie at a place. It has no name there
+abbrev pub section_header : DescribedSection → ℕ → SectionHeader
+section_header s at = record {
   name_offset = negsuc 0;
   default_address = 0;
-  total_size = p.total;
-  unpacked_size = length p.image;
-  packed_size = length p.image;
+  total_size = s.header.total;
+  unpacked_size = length s.image;
+  packed_size = length (raw_of s);
   container_offset = at;
-  section_kind = p.kind;
-  share_kind = p.share;
-  alignment = p.align;
+  section_kind = kind_code s.header.kind;
+  share_kind = share_code s.header.share;
+  alignment = s.header.align;
   reserved = 0;
 }
 
@@ -89,45 +90,46 @@ loader_header n at = record {
   unpacked_size = 0;
   packed_size = n;
   container_offset = at;
-  section_kind = 4;
-  share_kind = 4;
+  section_kind = kind_code kind.Loader;
+  share_kind = share_code share.Global;
   alignment = 4;
   reserved = 0;
 }
 
--- the sections, where the first lies at a place and each later one at the next multiple of 16 behind
--- the one before it
-unfoldable pub laid_out : ℕ → List DescribedPart → List ℕ → List Section
+-- the sections, where the first lies at a place and each later one at the next multiple of 16 after the one
+-- before it
+unfoldable pub laid_out : ℕ → List DescribedSection → List ℕ → List Section
 laid_out at [] loader = record { header = loader_header (length loader) at; raw = loader } ∷ []
-laid_out at (p ∷ parts) loader =
-    record { header = part_header p at; raw = p.image } ∷ laid_out (at + next_multiple_of (length p.image) 16) parts loader
+laid_out at (s ∷ sections) loader =
+    record { header = section_header s at; raw = raw_of s } ∷ laid_out (at + next_multiple_of (length (raw_of s)) 16) sections loader
 
 -- the headers of some sections, one after the other
 unfoldable pub spelled_headers : List Section → List ℕ
 spelled_headers [] = []
 spelled_headers (s ∷ sections) = spelled (section_fields s.header) ++ spelled_headers sections
 
--- the raw bytes: the images with zeros up to a multiple of 16 behind each, then the loader section
-unfoldable pub raw_data : List DescribedPart → List ℕ → List ℕ
+-- the raw bytes: those of the sections, with zeros up to a multiple of 16 after each, then the loader section
+unfoldable pub raw_data : List DescribedSection → List ℕ → List ℕ
 raw_data [] loader = loader
-raw_data (p ∷ parts) loader = padded 16 p.image ++ raw_data parts loader
+raw_data (s ∷ sections) loader = padded 16 (raw_of s) ++ raw_data sections loader
 
--- where the raw bytes of n parts begin: behind the container header of 40 bytes and n + 1 section headers
+-- where the raw bytes of n sections begin: after the container header of 40 bytes and n + 1 section headers
 -- of 28 bytes each
 abbrev pub data_from : ℕ → ℕ
 data_from n = next_multiple_of (40 + 28 * (n + 1)) 16
 
--- the sections of a container of some parts and a loader section
-unfoldable pub written_sections : List DescribedPart → List ℕ → List Section
-written_sections parts loader = laid_out (data_from (length parts)) parts loader
+-- the sections of a container: these, then a loader section
+unfoldable pub written_sections : List DescribedSection → List ℕ → List Section
+written_sections sections loader = laid_out (data_from (length sections)) sections loader
 
 -- all headers, then the raw bytes from the next multiple of 16 on
-unfoldable pub written_container : Versions → List DescribedPart → List ℕ → List ℕ
-written_container v parts loader =
-    padded 16 (spelled (header_fields (written_header v (length parts))) ++ spelled_headers (written_sections parts loader))
-    ++ raw_data parts loader
+unfoldable pub written_container : Versions → List DescribedSection → List ℕ → List ℕ
+written_container v sections loader =
+    padded 16 (spelled (header_fields (written_header v (length sections))) ++ spelled_headers (written_sections sections loader))
+    ++ raw_data sections loader
 
--- section k of a container is a part: its header says what the part does, and its raw bytes are the image
-pub record IsPart (c : Contained) (k : ℕ) (p : DescribedPart) : Type 0 where
+-- section k of a container is this one: its header says what the script does, and its raw bytes are those of
+-- the image
+pub record IsSection (c : Contained) (k : ℕ) (s : DescribedSection) : Type 0 where
   pub at : ℕ
-  pub is : section_of c k ≡ Some (record { header = part_header p at; raw = p.image })
+  pub is : section_of c k ≡ Some (record { header = section_header s at; raw = raw_of s })

@@ -6,18 +6,17 @@ use Rattle.std.specs.List.{count_by}
 use Rattle.pef_labels.specs.Certified.{Certified}
 use Rattle.pef_cert.specs.Valid.{Valid, labels_of}
 use Rattle.pef_hash.specs.Build.{built}
-use Rattle.pef_loader.specs.Export.{Export}
-use Rattle.pef_loader.specs.Import.{Import}
+use Rattle.pef_format.specs.Exports.{Export}
+use Rattle.pef_format.specs.Symbols.{Import, options_code}
 use Rattle.pef_loader.specs.Library.{Library}
 use Rattle.pef_plan.specs.Exact.{Exact}
 use Rattle.pef_reloc.specs.declared.fixup.Fixup.{Fixup}
 use Rattle.pef_reloc.specs.declared.instr.Instr.{Instr}
 use Rattle.pef_reloc.specs.Instrs.{program_length, spelled}
 use Rattle.pef_reloc.specs.Steps.{Makes, is_flat, names_below}
-use Rattle.pef_script.specs.Script.{DescribedExport, DescribedImport, DescribedLibrary, DescribedScript, DescribedSection}
-use Rattle.pef_script.specs.Script.{export_names}
+use Rattle.pef_script.specs.Script.{DescribedLibrary, DescribedScript, DescribedSection, export_names}
 use Rattle.pef_script.specs.WellFormed.{ScriptHolds}
-use Rattle.pef_write.specs.Containers.{DescribedPart, written_container}
+use Rattle.pef_write.specs.Containers.{written_container}
 use Rattle.pef_write.specs.Loaders.{LoaderTables, ProgramEntry, written_loader}
 
 -- instructions that are a program for some fixups among so many sections: without a repeat, they make
@@ -48,28 +47,21 @@ AreCertified k [] (c ∷ certificates) = ⊥
 AreCertified k (s ∷ sections) [] = ⊥
 AreCertified k (s ∷ sections) (c ∷ certificates) = IsCertified k s.fixups c × AreCertified (k + 1) sections certificates
 
--- the part of the container that a section becomes
-abbrev pub part_of : DescribedSection → DescribedPart
-part_of s = record { kind = s.header.kind; share = s.header.share; align = s.header.align; total = s.header.total; image = s.image }
-
 -- library k with its imports: how many of them are its own, and how many are of the libraries before it
-abbrev pub linked_library : List DescribedImport → ℕ → DescribedLibrary → Library
+abbrev pub linked_library : List Import → ℕ → DescribedLibrary → Library
 linked_library imports k l = record {
   name = l.name;
   current = l.current;
   old_imp = l.old_imp;
   count = count_by (λ i. i.library == k) imports;
   first = count_by (λ i. nat_lt i.library k) imports;
-  options = l.options;
+  options = options_code l.options;
 }
 
 -- libraries, numbered from a number on
-abbrev pub libraries_from : List DescribedImport → ℕ → List DescribedLibrary → List Library
+abbrev pub libraries_from : List Import → ℕ → List DescribedLibrary → List Library
 libraries_from imports k [] = []
 libraries_from imports k (l ∷ libraries) = linked_library imports k l ∷ libraries_from imports (k + 1) libraries
-
-abbrev pub linked_import : DescribedImport → Import
-linked_import i = record { name = i.name; class = i.class; weak = i.weak; library = i.library }
 
 -- the relocation program of section k, where it has fixups
 abbrev pub program_of : ℕ → List Fixup → List Instr → List ProgramEntry
@@ -81,16 +73,13 @@ abbrev pub programs_from : ℕ → List DescribedSection → List (List Instr) �
 programs_from k (s ∷ sections) (instrs ∷ programs) = program_of k s.fixups instrs ++ programs_from (k + 1) sections programs
 programs_from k sections programs = []
 
-abbrev pub linked_export : DescribedExport → Export
-linked_export e = record { name = e.name; class = e.class; section = e.section; value = e.value }
-
 -- what stands for an export past the last one
-abbrev pub no_export : DescribedExport
+abbrev pub no_export : Export
 no_export = record { name = []; class = 0; section = pos 0; value = 0 }
 
 -- the exports at some places, in the order of the places
-abbrev pub exports_at : List DescribedExport → List ℕ → List Export
-exports_at exports order = map (λ e. linked_export (slice_index_or exports e no_export)) order
+abbrev pub exports_at : List Export → List ℕ → List Export
+exports_at exports order = map (λ e. slice_index_or exports e no_export) order
 
 -- the tables of the loader section of a script, with some relocation programs; keys and exports are in
 -- the order of the export table
@@ -100,7 +89,7 @@ script_tables s programs = record {
   init = s.init;
   term = s.term;
   libraries = libraries_from s.imports 0 s.libraries;
-  imports = map linked_import s.imports;
+  imports = s.imports;
   programs = programs;
   power = (built (export_names s)).power;
   slots = (built (export_names s)).slots;
@@ -116,13 +105,9 @@ linked_tables s programs = script_tables s (programs_from 0 s.sections programs)
 unfoldable pub linked_loader : DescribedScript → List (List Instr) → List ℕ
 linked_loader s programs = written_loader (linked_tables s programs)
 
--- the parts of the container of a script
-abbrev pub linked_parts : DescribedScript → List DescribedPart
-linked_parts s = map part_of s.sections
-
 -- the container of a script, with programs for its sections
 unfoldable pub linked_bytes : DescribedScript → List (List Instr) → List ℕ
-linked_bytes s programs = written_container s.versions (linked_parts s) (linked_loader s programs)
+linked_bytes s programs = written_container s.versions s.sections (linked_loader s programs)
 
 -- what was linked: the container, and for each section the length of its program, in halfwords, and the
 -- certificate that none is shorter

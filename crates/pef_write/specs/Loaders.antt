@@ -4,8 +4,8 @@
 use Rattle.std.specs.Prelude.{ℕ, ◌+◌, ◌*◌, ◌/◌, ◌^◌, Bool, true, false, List, [], ◌∷◌, ◌++◌, Option, None, Some, length, map}
 use Rattle.std.specs.Int.{w16, cast_unsigned, next_multiple_of}
 use Rattle.std.specs.List.{flat_map}
-use Rattle.pef_loader.specs.Export.{Export}
-use Rattle.pef_loader.specs.Import.{Import}
+use Rattle.pef_format.specs.Exports.{Export}
+use Rattle.pef_format.specs.Symbols.{Import}
 use Rattle.pef_loader.specs.Library.{Library}
 use Rattle.pef_write.specs.declared.field.Field.{Field}
 use Rattle.pef_write.specs.declared.field.Field.TheVariants.{Byte, Half, Word}

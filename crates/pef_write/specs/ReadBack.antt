@@ -2,17 +2,17 @@
 -- "PEF Structure"), with programs that relocate the sections as their fixups say.
 use Rattle.std.specs.Prelude.{◌≡◌, ◌≢◌, ℕ, ◌+◌, List, None, Ok, Some, length, map, option_map, slice_get, slice_index_or}
 use Rattle.std.specs.Option.{option_and_then}
+use Rattle.pef_format.specs.Exports.{Export}
 use Rattle.pef_hash.specs.Build.{built}
 use Rattle.pef_loader.specs.Loader.{Loaded, export_of, import_of, init_of, library_of, loaded_of, main_of, named_of, reloc_of, term_of}
 use Rattle.pef_reloc.specs.Applied.{Addresses, applied, relocated}
 use Rattle.pef_reloc.specs.declared.instr.Instr.{Instr}
 use Rattle.pef_reloc.specs.Steps.{add}
 use Rattle.pef_reloc.specs.Unrolled.{program_fault}
-use Rattle.pef_script.specs.Script.{DescribedExport, DescribedScript, DescribedSection}
-use Rattle.pef_script.specs.Script.{export_names}
+use Rattle.pef_script.specs.Script.{DescribedScript, DescribedSection, export_names}
 use Rattle.pef_views.specs.Container.{Contained, container_of, section_of}
-use Rattle.pef_write.specs.Containers.{IsPart, loader_header}
-use Rattle.pef_write.specs.Linked.{IsLinked, LinkedContainer, linked_export, linked_import, linked_library, no_export, part_of, programs_from}
+use Rattle.pef_write.specs.Containers.{IsSection, loader_header}
+use Rattle.pef_write.specs.Linked.{IsLinked, LinkedContainer, linked_library, no_export, programs_from}
 use Rattle.pef_write.specs.Loaders.{ProgramEntry}
 
 -- a container with a script's versions and sections, and its loader section behind these
@@ -22,7 +22,7 @@ pub record HasSections (s : DescribedScript) (c : Contained) : Type 0 where
   pub old_imp : c.header.old_imp_version ≡ s.versions.old_imp
   pub instantiated : c.header.instantiated_section_count ≡ length s.sections
   pub count : c.header.section_count ≡ length s.sections + 1
-  pub each : (k : ℕ) (section : DescribedSection) → slice_get s.sections k ≡ Some section → IsPart c k (part_of section)
+  pub each : (k : ℕ) (section : DescribedSection) → slice_get s.sections k ≡ Some section → IsSection c k section
   pub loader : (at : ℕ) × (section_of c (length s.sections) ≡ Some (record { header = loader_header (length c.loader) at; raw = c.loader }))
 
 -- a relocation program as it is read: its section and its instructions
@@ -40,13 +40,13 @@ pub record HasTables (s : DescribedScript) (programs : List (List Instr)) (l : L
   pub library_count : l.header.library_count ≡ length s.libraries
   pub libraries : (k : ℕ) → library_of l k ≡ option_map (linked_library s.imports k) (slice_get s.libraries k)
   pub import_count : l.header.import_count ≡ length s.imports
-  pub imports : (j : ℕ) → import_of l j ≡ option_map linked_import (slice_get s.imports j)
+  pub imports : (j : ℕ) → import_of l j ≡ slice_get s.imports j
   pub reloc_count : l.header.reloc_count ≡ length (programs_from 0 s.sections programs)
   pub relocs : (i : ℕ) → reloc_of l i ≡ option_map program_read (slice_get (programs_from 0 s.sections programs) i)
   pub export_count : l.header.export_count ≡ length s.exports
-  pub exports : (k : ℕ) → export_of l k ≡ option_map (λ e. linked_export (slice_index_or s.exports e no_export)) (slice_get (built (export_names s)).order k)
-  pub named : (e : ℕ) (export : DescribedExport) → slice_get s.exports e ≡ Some export → option_and_then (export_of l) (named_of l export.name) ≡ Some (linked_export export)
-  pub unnamed : (name : List ℕ) → ((e : ℕ) (export : DescribedExport) → slice_get s.exports e ≡ Some export → export.name ≢ name) → named_of l name ≡ None
+  pub exports : (k : ℕ) → export_of l k ≡ option_map (λ e. slice_index_or s.exports e no_export) (slice_get (built (export_names s)).order k)
+  pub named : (e : ℕ) (export : Export) → slice_get s.exports e ≡ Some export → option_and_then (export_of l) (named_of l export.name) ≡ Some export
+  pub unnamed : (name : List ℕ) → ((e : ℕ) (export : Export) → slice_get s.exports e ≡ Some export → export.name ≢ name) → named_of l name ≡ None
 
 -- the bytes of a linked container are never refused, and these are its container and its loader section
 pub record IsReadBack (s : DescribedScript) (l : LinkedContainer) (linked : IsLinked s l) : Type 0 where

@@ -1,15 +1,14 @@
-ghost use Rattle.std.specs.Prelude.{◌≡◌, ◌+◌, ◌*◌, ◌-◌, ◌++◌, ◌<◌, ◌^◌, OnOk, IfOk, length, map};
+ghost use Rattle.std.specs.Prelude.{◌≡◌, ◌+◌, ◌*◌, ◌-◌, ◌++◌, ◌<◌, ◌^◌, OnOk, IfOk, length};
 ghost use Rattle.pef_write.specs.Fields.{padded, spelled};
-ghost use Rattle.pef_write.specs.Containers.{data_from, header_fields, loader_header, part_header, raw_data, section_fields, spelled_headers, written_container, written_header, written_sections};
-ghost use Rattle.pef_write.specs.Kept.Views.{described};
+ghost use Rattle.pef_write.specs.Containers.{data_from, header_fields, loader_header, raw_data, section_fields, section_header, spelled_headers, written_container, written_header, written_sections};
 
 use crate::field::{Field, put_fields};
-use crate::parts::Part;
-use pef_script::Versions;
-use pef_views::layout::{
-    CONTAINER_HEADER_SIZE, FORMAT_VERSION, GLOBAL_SHARE, LOADER_SECTION, NO_NAME, POWERPC,
-    SECTION_HEADER_SIZE, TAG_1, TAG_2,
+use crate::sections::RawSection;
+use pef_format::layout::{
+    CONTAINER_HEADER_SIZE, FORMAT_VERSION, NO_NAME, POWERPC, SECTION_HEADER_SIZE, TAG_1, TAG_2,
 };
+use pef_format::{SectionKind, Share};
+use pef_script::Versions;
 use pef_views::{Header, SectionHeader};
 use std::alloc::{AllocError, Global};
 
@@ -19,31 +18,31 @@ const DATA_ALIGNMENT: usize = 16;
 /// The alignment that a loader section's header states, as an exponent of two.
 const LOADER_ALIGNMENT: u8 = 4;
 
-/// The container of `parts`, in their order, and of a loader section behind them.
+/// The container of `sections`, in their order, and of a loader section after them.
 ///
 /// It has no time stamp. All raw bytes begin at a multiple of [`DATA_ALIGNMENT`].
 pub(crate) fn write_container(
     alloc: Global,
     versions: Versions,
-    parts: &[Part<'_>],
+    sections: &[RawSection<'_>],
     loader: &[u8],
 ) -> Result<Vec<u8>, AllocError>
-    requires count { length parts.now + 1 < 2 ^ 16 }
-    requires fits { length (written_container versions (map described parts.now) loader.now) < 2 ^ 32 }
-    ensures { IfOk result (λ bytes. bytes.items ≡ written_container versions (map described parts.now) loader.now) }
+    requires count { length sections.now + 1 < 2 ^ 16 }
+    requires fits { length (written_container versions sections.now loader.now) < 2 ^ 32 }
+    ensures { IfOk result (λ bytes. bytes.items ≡ written_container versions sections.now loader.now) }
 {
-    let mut out = Vec::with_capacity(alloc, container_length(parts, loader))?;
-    put_headers(&mut out, versions, parts, loader)?;
+    let mut out = Vec::with_capacity(alloc, container_length(sections, loader))?;
+    put_headers(&mut out, versions, sections, loader)?;
     let data_from = out.len().next_multiple_of(DATA_ALIGNMENT);
     out.resize(data_from, 0)?;
-    for part in parts {
-        put_padded(&mut out, part.image)?;
+    for section in sections {
+        put_padded(&mut out, section.bytes())?;
     }
     out.extend_from_slice(loader)?;
     Ok(out)
 }
 
-/// Where the raw bytes of `count` parts and of a loader section begin.
+/// Where the raw bytes of `count` sections and of a loader section begin.
 fn data_from(count: usize) -> usize
     requires { count + 1 < 2 ^ 16 }
     ensures { result ≡ data_from count }
@@ -51,15 +50,15 @@ fn data_from(count: usize) -> usize
     (CONTAINER_HEADER_SIZE + SECTION_HEADER_SIZE * (count + 1)).next_multiple_of(DATA_ALIGNMENT)
 }
 
-/// The length of the container of `parts` and of a loader section.
-fn container_length(parts: &[Part<'_>], loader: &[u8]) -> usize
-    requires count { length parts.now + 1 < 2 ^ 16 }
-    requires fits { data_from (length parts.now) + length (raw_data (map described parts.now) loader.now) < 2 ^ 32 }
-    ensures { result ≡ data_from (length parts.now) + length (raw_data (map described parts.now) loader.now) }
+/// The length of the container of `sections` and of a loader section.
+fn container_length(sections: &[RawSection<'_>], loader: &[u8]) -> usize
+    requires count { length sections.now + 1 < 2 ^ 16 }
+    requires fits { data_from (length sections.now) + length (raw_data sections.now loader.now) < 2 ^ 32 }
+    ensures { result ≡ data_from (length sections.now) + length (raw_data sections.now loader.now) }
 {
-    let mut at = data_from(parts.len());
-    for part in parts {
-        at += part.image.len().next_multiple_of(DATA_ALIGNMENT);
+    let mut at = data_from(sections.len());
+    for section in sections {
+        at += section.bytes().len().next_multiple_of(DATA_ALIGNMENT);
     }
     at + loader.len()
 }
@@ -68,32 +67,32 @@ fn container_length(parts: &[Part<'_>], loader: &[u8]) -> usize
 fn put_headers(
     out: &mut Vec<u8>,
     versions: Versions,
-    parts: &[Part<'_>],
+    sections: &[RawSection<'_>],
     loader: &[u8],
 ) -> Result<(), AllocError>
-    requires count { length parts.now + 1 < 2 ^ 16 }
-    requires fits { data_from (length parts.now) + length (raw_data (map described parts.now) loader.now) < 2 ^ 32 }
-    ensures { OnOk result (out.new.items ≡ out.old.items ++ (spelled (header_fields (written_header versions (length parts.now))) ++ spelled_headers (written_sections (map described parts.now) loader.now))) }
+    requires count { length sections.now + 1 < 2 ^ 16 }
+    requires fits { data_from (length sections.now) + length (raw_data sections.now loader.now) < 2 ^ 32 }
+    ensures { OnOk result (out.new.items ≡ out.old.items ++ (spelled (header_fields (written_header versions (length sections.now))) ++ spelled_headers (written_sections sections.now loader.now))) }
 {
-    let header = container_header(versions, parts.len() as u16);
+    let header = container_header(versions, sections.len() as u16);
     put_fields(out, &header_fields(header))?;
-    put_section_headers(out, parts, loader)
+    put_section_headers(out, sections, loader)
 }
 
-/// Appends the headers of `parts` and of the loader section.
+/// Appends the headers of `sections` and of the loader section.
 fn put_section_headers(
     out: &mut Vec<u8>,
-    parts: &[Part<'_>],
+    sections: &[RawSection<'_>],
     loader: &[u8],
 ) -> Result<(), AllocError>
-    requires count { length parts.now + 1 < 2 ^ 16 }
-    requires fits { data_from (length parts.now) + length (raw_data (map described parts.now) loader.now) < 2 ^ 32 }
-    ensures { OnOk result (out.new.items ≡ out.old.items ++ spelled_headers (written_sections (map described parts.now) loader.now)) }
+    requires count { length sections.now + 1 < 2 ^ 16 }
+    requires fits { data_from (length sections.now) + length (raw_data sections.now loader.now) < 2 ^ 32 }
+    ensures { OnOk result (out.new.items ≡ out.old.items ++ spelled_headers (written_sections sections.now loader.now)) }
 {
-    let mut at = data_from(parts.len());
-    for part in parts {
-        put_fields(out, &section_fields(part_header(*part, at as u32)))?;
-        at += part.image.len().next_multiple_of(DATA_ALIGNMENT);
+    let mut at = data_from(sections.len());
+    for section in sections {
+        put_fields(out, &section_fields(section_header(section, at as u32)))?;
+        at += section.bytes().len().next_multiple_of(DATA_ALIGNMENT);
     }
     put_fields(
         out,
@@ -101,7 +100,7 @@ fn put_section_headers(
     )
 }
 
-/// Appends `bytes` and zeros behind them, up to a multiple of [`DATA_ALIGNMENT`].
+/// Appends `bytes` and zeros after them, up to a multiple of [`DATA_ALIGNMENT`].
 #[tactic(auto, unfolding(crate::specs::Fields::padded))]
 fn put_padded(out: &mut Vec<u8>, bytes: &[u8]) -> Result<(), AllocError>
     requires { length bytes.now < 2 ^ 32 }
@@ -112,7 +111,7 @@ fn put_padded(out: &mut Vec<u8>, bytes: &[u8]) -> Result<(), AllocError>
     out.resize(out.len() + zeros, 0)
 }
 
-/// The header of a container of `count` parts and a loader section.
+/// The header of a container of `count` sections and a loader section.
 fn container_header(versions: Versions, count: u16) -> Header
     requires { count + 1 < 2 ^ 16 }
     ensures { result ≡ written_header versions count }
@@ -132,21 +131,21 @@ fn container_header(versions: Versions, count: u16) -> Header
     }
 }
 
-/// The header of a part whose image lies at `at`.
-fn part_header(part: Part<'_>, at: u32) -> SectionHeader
-    requires { length part.image.now < 2 ^ 32 }
-    ensures { result ≡ part_header (described part.entry) at }
+/// The header of a section whose raw bytes lie at `at`.
+fn section_header(section: &RawSection<'_>, at: u32) -> SectionHeader
+    ensures { result ≡ section_header section.now at }
 {
+    let header = section.header();
     SectionHeader {
         name_offset: NO_NAME,
         default_address: 0,
-        total_size: part.total,
-        unpacked_size: part.image.len() as u32,
-        packed_size: part.image.len() as u32,
+        total_size: header.total,
+        unpacked_size: section.image_len() as u32,
+        packed_size: section.bytes().len() as u32,
         container_offset: at,
-        section_kind: part.kind,
-        share_kind: part.share,
-        alignment: part.align,
+        section_kind: header.kind.code(),
+        share_kind: header.share.code(),
+        alignment: header.align,
         reserved: 0,
     }
 }
@@ -162,8 +161,8 @@ fn loader_header(len: u32, at: u32) -> SectionHeader
         unpacked_size: 0,
         packed_size: len,
         container_offset: at,
-        section_kind: LOADER_SECTION,
-        share_kind: GLOBAL_SHARE,
+        section_kind: SectionKind::Loader.code(),
+        share_kind: Share::Global.code(),
         alignment: LOADER_ALIGNMENT,
         reserved: 0,
     }

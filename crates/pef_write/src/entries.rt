@@ -1,19 +1,21 @@
-ghost use Rattle.std.specs.Prelude.{◌≡◌, ◌+◌, ◌++◌, ◌<◌, ◌≤◌, ◌^◌, ℕ, List, [], ◌∷◌, OnOk, length, map, nat_lt};
+ghost use Rattle.std.specs.Prelude.{◌≡◌, ◌+◌, ◌++◌, ◌<◌, ◌≤◌, ◌^◌, [], ◌∷◌, FitsSigned, OnOk, length, nat_lt};
+ghost use Rattle.std.specs.Int.{w16};
 ghost use Rattle.std.specs.List.{All, count_by, flat_map};
+ghost use Rattle.pef_format.specs.Exports.{export_seen};
+ghost use Rattle.pef_format.specs.Symbols.{import_seen, options_code};
 ghost use Rattle.pef_script.specs.Script.{import_names, library_names};
-ghost use Rattle.pef_script.specs.Views.{export_in, import_in};
 ghost use Rattle.pef_script.specs.WellFormed.{ScriptHolds};
 ghost use Rattle.pef_write.specs.Fields.{spelled};
-ghost use Rattle.pef_write.specs.Linked.{exports_at, libraries_from, linked_export, linked_import};
+ghost use Rattle.pef_write.specs.Linked.{exports_at, libraries_from};
 ghost use Rattle.pef_write.specs.Loaders.{class_byte, export_entry, export_fields, import_entry, import_fields, library_entry, library_fields, zero_ended};
-ghost use Rattle.pef_write.specs.Kept.Tables.{IsBelow};
 
 use crate::fault::LinkFault;
 use crate::field::{Field, put_fields};
-use pef_loader::layout::{CLASS_SHIFT, WEAK_IMPORT};
-use pef_script::{ExportView, ImportView, LibraryView, Script};
+use pef_format::layout::{CLASS_SHIFT, WEAK_IMPORT};
+use pef_format::{ExportView, ImportView};
+use pef_script::{LibraryView, Script};
 
-/// The byte behind the name of a library or an import.
+/// The byte after the name of a library or an import.
 const NAME_END: u8 = 0;
 
 /// What a class byte counts for in a word of class and name offset.
@@ -33,7 +35,7 @@ pub(crate) fn put_libraries(
     let mut k = 0;
     let mut first = 0;
     'libraries: while let Some(library) = script.library(k) {
-        let end = imports_end(script, k as u32, first);
+        let end = imports_end(script, k, first);
         let at = strings.len() as u32;
         let entry = library_entry(library, at, first as u32, (end - first) as u32);
         put_entry(out, strings, &entry, library.name)?;
@@ -45,7 +47,7 @@ pub(crate) fn put_libraries(
 
 /// Where the imports of library `l` end, and those of later libraries begin. Those of earlier ones
 /// end at `from`.
-fn imports_end(script: &Script<'_>, l: u32, from: usize) -> usize
+fn imports_end(script: &Script<'_>, l: usize, from: usize) -> usize
     requires holds { ScriptHolds script.now }
     requires from { from ≤ count_by (λ i. nat_lt i.library (l + 1)) script.now.imports }
     ensures { result ≡ count_by (λ i. nat_lt i.library (l + 1)) script.now.imports }
@@ -68,7 +70,7 @@ pub(crate) fn put_imports(
 ) -> Result<(), LinkFault>
     requires holds { ScriptHolds script.now }
     requires strings { length strings.old.items + length (zero_ended (import_names script.now)) < 2 ^ 24 }
-    ensures entries { OnOk result (out.new.items ≡ out.old.items ++ spelled (import_fields (length strings.old.items) (map linked_import script.now.imports))) }
+    ensures entries { OnOk result (out.new.items ≡ out.old.items ++ spelled (import_fields (length strings.old.items) script.now.imports)) }
     ensures names { OnOk result (strings.new.items ≡ strings.old.items ++ zero_ended (import_names script.now)) }
 {
     let mut j = 0;
@@ -123,7 +125,7 @@ pub(crate) fn put_exports(
 /// The fields of a library whose name stands at `at`, and whose imports are `count` ones from number
 /// `first` on (PEFImportedLibrary).
 fn library_entry(library: LibraryView<'_>, at: u32, first: u32, count: u32) -> [Field; 8]
-    ensures { result ≡ library_entry at (record { name = library.entry.name.now; current = library.entry.current; old_imp = library.entry.old_imp; count = count; first = first; options = library.entry.options }) }
+    ensures { result ≡ library_entry at (record { name = library.entry.name.now; current = library.entry.current; old_imp = library.entry.old_imp; count = count; first = first; options = options_code library.entry.options }) }
 {
     [
         Field::Word(at),
@@ -131,7 +133,7 @@ fn library_entry(library: LibraryView<'_>, at: u32, first: u32, count: u32) -> [
         Field::Word(library.current),
         Field::Word(count),
         Field::Word(first),
-        Field::Byte(library.options),
+        Field::Byte(library.options.code()),
         Field::Byte(0),
         Field::Half(0),
     ]
@@ -139,9 +141,9 @@ fn library_entry(library: LibraryView<'_>, at: u32, first: u32, count: u32) -> [
 
 /// The fields of an import whose name stands at `at` (PEFImportedSymbol).
 fn import_entry(import: ImportView<'_>, at: u32) -> [Field; 1]
-    requires class { import.class ≤ 4 }
+    requires class { import.class < 16 }
     requires at { at < 2 ^ 24 }
-    ensures { result ≡ import_entry at (linked_import (import_in import.entry)) }
+    ensures { result ≡ import_entry at (import_seen import.entry) }
 {
     let class = class_byte(import.weak, import.class);
     [Field::Word(u32::from(class) * CLASS_UNIT + at)]
@@ -149,7 +151,7 @@ fn import_entry(import: ImportView<'_>, at: u32) -> [Field; 1]
 
 /// The class byte of an import.
 fn class_byte(weak: bool, class: u8) -> u8
-    requires { class ≤ 4 }
+    requires { class < 16 }
     ensures { result ≡ class_byte weak class }
 {
     if weak { class + WEAK_IMPORT } else { class }
@@ -157,10 +159,10 @@ fn class_byte(weak: bool, class: u8) -> u8
 
 /// The fields of an export whose name stands at `at` (PEFExportedSymbol).
 fn export_entry(export: ExportView<'_>, at: u32) -> [Field; 3]
-    requires class { export.class ≤ 4 }
-    requires section { IsBelow (2 ^ 15) export.section }
+    requires class { export.class < 16 }
+    requires section { FitsSigned w16 export.section }
     requires at { at < 2 ^ 24 }
-    ensures { result ≡ export_entry at (linked_export (export_in export.entry)) }
+    ensures { result ≡ export_entry at (export_seen export.entry) }
 {
     [
         Field::Word(u32::from(export.class) * CLASS_UNIT + at),

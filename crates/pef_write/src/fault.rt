@@ -1,6 +1,7 @@
 ghost use Rattle.std.specs.Prelude.{◌≡◌, codes};
 
 use pef_hash::HashFault;
+use pef_pidata::PackFault;
 use pef_plan::PlanFault;
 use std::alloc::{AllocError, AllocFailed};
 use std::fmt;
@@ -57,6 +58,12 @@ impl<T: Drop> From<AllocFailed<T>> for LinkFault {
 
 impl From<HashFault> for LinkFault {
     fn from(_error: HashFault) -> LinkFault {
+        LinkFault::OutOfMemory
+    }
+}
+
+impl From<PackFault> for LinkFault {
+    fn from(_error: PackFault) -> LinkFault {
         LinkFault::OutOfMemory
     }
 }

@@ -13,9 +13,9 @@ mod fault;
 mod field;
 mod linking;
 mod loader;
-mod parts;
 mod program;
 mod relocations;
+mod sections;
 mod theorems;
 
 pub use fault::LinkFault;

@@ -5,9 +5,9 @@ ghost use Rattle.pef_write.specs.Kept.Encoded.{HasRoom, container_with};
 use crate::container::write_container;
 use crate::fault::LinkFault;
 use crate::loader::write_loader;
-use crate::parts::parts;
 use crate::program::{certificates, programs};
 use crate::relocations::section_programs;
+use crate::sections::raw_sections;
 use pef_labels::Certificate;
 use pef_script::Script;
 use std::alloc::Global;
@@ -99,7 +99,7 @@ fn container(alloc: Global, script: &Script<'_>, programs: &[Vec<u8>]) -> Result
         let own = section_programs(alloc, programs)?;
         write_loader(alloc, script, &own)?
     };
-    let parts = parts(alloc, script)?;
+    let sections = raw_sections(alloc, script)?;
     let versions = script.versions();
-    Ok(write_container(alloc, versions, &parts, &loader)?)
+    Ok(write_container(alloc, versions, &sections, &loader)?)
 }

@@ -15,8 +15,8 @@ use crate::export_table::export_table;
 use crate::fault::LinkFault;
 use crate::field::{Field, put_fields};
 use crate::relocations::{SectionProgram, programs_len, put_programs, put_relocations};
+use pef_format::layout::{LOADER_HEADER_SIZE, NO_SECTION};
 use pef_hash::Table;
-use pef_loader::layout::{LOADER_HEADER_SIZE, NO_SECTION};
 use pef_script::Script;
 use std::alloc::{AllocError, Global};
 

@@ -5,7 +5,7 @@ ghost use Rattle.pef_write.specs.Kept.Encoded.{nonempty_from};
 ghost use Rattle.pef_write.specs.Kept.Views.{program_entry};
 
 use crate::field::{Field, put_fields};
-use pef_loader::layout::HALFWORD_SIZE;
+use pef_format::layout::HALFWORD_SIZE;
 use std::alloc::{AllocError, Global};
 
 /// The relocation program of a section.

@@ -5,7 +5,7 @@ use Rattle.pef_reloc.specs.Instrs.{spelled}
 use Rattle.pef_script.specs.Script.{DescribedScript}
 use Rattle.pef_script.specs.WellFormed.{ScriptHolds}
 use Rattle.pef_write.specs.Containers.{written_container}
-use Rattle.pef_write.specs.Linked.{AreCertified, linked_parts, script_tables}
+use Rattle.pef_write.specs.Linked.{AreCertified, script_tables}
 use Rattle.pef_write.specs.Loaders.{ProgramEntry, strings_of, written_loader}
 
 -- a program that has bytes, with its section's number
@@ -34,7 +34,7 @@ abbrev pub loader_with : DescribedScript → List (List ℕ) → List ℕ
 loader_with s programs = written_loader (script_tables s (nonempty_from 0 programs))
 
 abbrev pub container_with : DescribedScript → List (List ℕ) → List ℕ
-container_with s programs = written_container s.versions (linked_parts s) (loader_with s programs)
+container_with s programs = written_container s.versions s.sections (loader_with s programs)
 
 -- a script that was read, and programs for which there is room
 pub record HasRoom (s : DescribedScript) (programs : List (List ℕ)) : Type 0 where

@@ -1,14 +1,15 @@
 -- Which numbers fit the fields that they are written to, and where fields are read.
-use Rattle.std.specs.Prelude.{◌≡◌, ℕ, ◌+◌, ◌%◌, ◌^◌, ◌<◌, ◌≤◌, IsTrue, Some, List, [], ◌∷◌, length, Option}
-use Rattle.std.specs.Int.{w16, cast_unsigned}
+use Rattle.std.specs.Prelude.{◌≡◌, ℕ, ◌+◌, ◌%◌, ◌^◌, ◌<◌, ◌≤◌, true, FitsSigned, Some, List, [], ◌∷◌, length, Option}
+use Rattle.std.specs.Int.{w16}
 use Rattle.std.specs.List.{All}
-use Rattle.pef_loader.specs.Export.{Export}
+use Rattle.pef_format.specs.Exports.{Export}
+use Rattle.pef_format.specs.Sections.{is_instantiable, share_code}
 use Rattle.pef_loader.specs.Library.{Library}
 use Rattle.pef_script.specs.declared.parts.Versions.{Versions}
-use Rattle.pef_views.specs.Section.{is_instantiable}
+use Rattle.pef_script.specs.Script.{DescribedSection}
 use Rattle.pef_words.specs.Bytes.{number_at}
 use Rattle.pef_write.specs.declared.field.Field.{Field}
-use Rattle.pef_write.specs.Containers.{DescribedPart, written_container}
+use Rattle.pef_write.specs.Containers.{written_container}
 use Rattle.pef_write.specs.Fields.{value, width}
 use Rattle.pef_write.specs.Loaders.{LoaderTables, ProgramEntry, entry_offset, entry_section, strings_of, written_loader}
 
@@ -23,22 +24,22 @@ Reads bytes from off [] = Unit {0}
 Reads bytes from off (field ∷ fields) =
     (number_at (width field) bytes (from + off) ≡ Some (value field)) × Reads bytes from (off + width field) fields
 
--- a part that a container can have
-pub record IsWritable (p : DescribedPart) : Type 0 where
-  pub kind : IsTrue (is_instantiable p.kind)
-  pub share : p.share < 256
-  pub align : p.align ≤ 31
-  pub total : p.total < 2 ^ 32
-  pub image : length p.image ≤ p.total
+-- a section that a container can have
+pub record IsWritable (s : DescribedSection) : Type 0 where
+  pub kind : is_instantiable s.header.kind ≡ true
+  pub share : share_code s.header.share < 256
+  pub align : s.header.align ≤ 31
+  pub total : s.header.total < 2 ^ 32
+  pub image : length s.image ≤ s.header.total
 
--- versions, parts and a loader section that are a container's
-pub record AreWritable (v : Versions) (parts : List DescribedPart) (loader : List ℕ) : Type 0 where
+-- versions, sections and a loader section that are a container's
+pub record AreWritable (v : Versions) (sections : List DescribedSection) (loader : List ℕ) : Type 0 where
   pub current : v.current < 2 ^ 32
   pub old_def : v.old_def < 2 ^ 32
   pub old_imp : v.old_imp < 2 ^ 32
-  pub count : length parts + 1 < 2 ^ 16
-  pub each : All IsWritable parts
-  pub size : length (written_container v parts loader) < 2 ^ 32
+  pub count : length sections + 1 < 2 ^ 16
+  pub each : All IsWritable sections
+  pub size : length (written_container v sections loader) < 2 ^ 32
 
 -- an entry that fits its fields
 abbrev pub EntryFits : Option (ℕ × ℕ) → Type 0
@@ -56,11 +57,11 @@ pub record ProgramFits (p : ProgramEntry) : Type 0 where
   pub section : p.section < 2 ^ 16
   pub even : length p.bytes % 2 ≡ 0
 
--- an export, whose class has four bits
+-- an export, whose class has four bits, and whose section has 16
 pub record ExportFits (e : Export) : Type 0 where
   pub class : e.class < 16
   pub value : e.value < 2 ^ 32
-  pub section : cast_unsigned w16 e.section < 2 ^ 16
+  pub section : FitsSigned w16 e.section
 
 -- tables whose numbers fit their fields; a class has four bits, and offsets of imports' and exports' names
 -- have 24

@@ -1,37 +1,38 @@
 -- Tables that are a loader section's, and what they are read as.
-use Rattle.std.specs.Prelude.{◌≡◌, ◌≢◌, ℕ, ℤ, pos, negsuc, ◌+◌, ◌/◌, ◌^◌, ◌<◌, ◌≤◌, ◌&&◌, Bool, Option, None, Some, IfSome, List, Ok, length, nat_le, nat_lt, slice_get}
+use Rattle.std.specs.Prelude.{◌≡◌, ◌≢◌, ℕ, ℤ, pos, negsuc, ◌+◌, ◌/◌, ◌^◌, ◌<◌, ◌≤◌, ◌&&◌, Bool, true, Option, None, Some, IfSome, List, Ok, length, nat_le, nat_lt, slice_get}
 use Rattle.std.specs.List.{All, AllZip, position}
 use Rattle.std.specs.Str.{bytes_eq}
+use Rattle.pef_format.specs.Exports.{Export}
+use Rattle.pef_format.specs.Symbols.{Import}
 use Rattle.pef_loader.specs.declared.header.LoaderHeader.{LoaderHeader}
-use Rattle.pef_loader.specs.Export.{Export}
-use Rattle.pef_loader.specs.Import.{Import}
+use Rattle.pef_loader.specs.Export.{has_section}
 use Rattle.pef_loader.specs.Library.{Library}
 use Rattle.pef_loader.specs.Loader.{Loaded}
 use Rattle.pef_reloc.specs.declared.instr.Instr.{Instr}
 use Rattle.pef_script.specs.declared.parts.Versions.{Versions}
-use Rattle.pef_script.specs.Script.{DescribedScript}
+use Rattle.pef_script.specs.Script.{DescribedScript, DescribedSection}
 use Rattle.pef_views.specs.Container.{Contained, container_of, section_of}
-use Rattle.pef_write.specs.Containers.{DescribedPart, written_container, written_header, written_sections}
-use Rattle.pef_write.specs.Linked.{linked_loader, linked_parts}
+use Rattle.pef_write.specs.Containers.{written_container, written_header, written_sections}
+use Rattle.pef_write.specs.Linked.{linked_loader}
 use Rattle.pef_write.specs.Loaders.{LoaderTables, entry_offset, exports_from, programs_from, strings_from, written_loader}
 use Rattle.pef_write.specs.Kept.Fits.{TablesFit}
 
--- the container of versions, parts and a loader section
-abbrev pub contained_in : Versions → List DescribedPart → List ℕ → Contained
-contained_in v parts loader = record {
-  bytes = written_container v parts loader;
-  header = written_header v (length parts);
+-- the container of versions, sections and a loader section
+abbrev pub contained_in : Versions → List DescribedSection → List ℕ → Contained
+contained_in v sections loader = record {
+  bytes = written_container v sections loader;
+  header = written_header v (length sections);
   loader = loader;
 }
 
 -- the container of a script, with programs for its sections
 abbrev pub linked_container : DescribedScript → List (List Instr) → Contained
-linked_container s programs = contained_in s.versions (linked_parts s) (linked_loader s programs)
+linked_container s programs = contained_in s.versions s.sections (linked_loader s programs)
 
--- what is read of bytes: the header, the loader section, and each section with its image
-pub record ReadsBack (v : Versions) (parts : List DescribedPart) (loader : List ℕ) (bytes : List ℕ) : Type 0 where
-  pub container : container_of bytes ≡ Ok (contained_in v parts loader)
-  pub sections : (k : ℕ) → section_of (contained_in v parts loader) k ≡ slice_get (written_sections parts loader) k
+-- what is read of bytes: the header, the loader section, and each section with its raw bytes
+pub record ReadsBack (v : Versions) (own : List DescribedSection) (loader : List ℕ) (bytes : List ℕ) : Type 0 where
+  pub container : container_of bytes ≡ Ok (contained_in v own loader)
+  pub sections : (k : ℕ) → section_of (contained_in v own loader) k ≡ slice_get (written_sections own loader) k
 
 -- a name without a zero byte
 abbrev pub HasNoZero : List ℕ → Type 0
@@ -48,30 +49,6 @@ first_owner libraries j = position (has_import j) libraries
 -- the first of some exports that has a name
 abbrev pub first_named : List Export → List ℕ → Option ℕ
 first_named exports name = position (λ e. bytes_eq e.name name) exports
-
--- an export is in one of so many sections
-abbrev pub IsBelow : ℕ → ℤ → Type 0
-IsBelow sections (pos section) = section < sections
-IsBelow sections (negsuc n) = ⊥
-
--- tables that are a loader section of a container with so many sections: names end before a zero byte,
--- each import is of the first library that has it, entries, programs and exports are in sections that are
--- there, and the export table has its slots, and for each export a key with the length of its name
-pub record AreTables (sections : ℕ) (t : LoaderTables) : Type 0 where
-  pub fit : TablesFit t
-  pub few : sections < 2 ^ 15
-  pub main : IfSome t.main (λ entry. entry.0 < sections)
-  pub init : IfSome t.init (λ entry. entry.0 < sections)
-  pub term : IfSome t.term (λ entry. entry.0 < sections)
-  pub library_names : All (λ l. HasNoZero l.name) t.libraries
-  pub import_names : All (λ i. HasNoZero i.name) t.imports
-  pub ranges : All (λ l. l.first + l.count ≤ length t.imports) t.libraries
-  pub owned : (j : ℕ) (i : Import) → slice_get t.imports j ≡ Some i → first_owner t.libraries j ≡ Some i.library
-  pub programs : All (λ p. p.section < sections) t.programs
-  pub power : t.power ≤ 30
-  pub slots : length t.slots ≡ 2 ^ t.power
-  pub keys : AllZip (λ key e. key / 2 ^ 16 ≡ length e.name) t.keys t.exports
-  pub exports : All (λ e. IsBelow sections e.section) t.exports
 
 -- an entry's section as it is read, and -1 where it is absent
 abbrev pub section_read : Option (ℕ × ℕ) → ℤ
@@ -96,6 +73,26 @@ header_read t = record {
   export_power = t.power;
   export_count = length t.exports;
 }
+
+-- tables that are a loader section of a container with so many sections: names end before a zero byte,
+-- each import is of the first library that has it, entries and programs are in sections that are there, what an
+-- export stands for is there, and the export table has its slots, and for each export a key with the length of
+-- its name
+pub record AreTables (sections : ℕ) (t : LoaderTables) : Type 0 where
+  pub fit : TablesFit t
+  pub few : sections < 2 ^ 15
+  pub main : IfSome t.main (λ entry. entry.0 < sections)
+  pub init : IfSome t.init (λ entry. entry.0 < sections)
+  pub term : IfSome t.term (λ entry. entry.0 < sections)
+  pub library_names : All (λ l. HasNoZero l.name) t.libraries
+  pub import_names : All (λ i. HasNoZero i.name) t.imports
+  pub ranges : All (λ l. l.first + l.count ≤ length t.imports) t.libraries
+  pub owned : (j : ℕ) (i : Import) → slice_get t.imports j ≡ Some i → first_owner t.libraries j ≡ Some i.library
+  pub programs : All (λ p. p.section < sections) t.programs
+  pub power : t.power ≤ 30
+  pub slots : length t.slots ≡ 2 ^ t.power
+  pub keys : AllZip (λ key e. key / 2 ^ 16 ≡ length e.name) t.keys t.exports
+  pub exports : All (λ e. has_section (header_read t) sections e.value e.section ≡ true) t.exports
 
 -- the loader section that is read, of a container with so many instantiated sections
 abbrev pub loaded_tables : ℕ → LoaderTables → Loaded

@@ -1,16 +1,16 @@
 -- One entry and one name more are written, and at the end none is left.
 use Rattle.std.proofs.Common.{◌≡◌, ◌∙◌, ◌+◌, ◌<◌, ◌≤◌, ◌^◌, ◌++◌, get_or, length, length-append, ap, sym, arith}
 use Rattle.std.proofs.lemmas.Option.{get_or_from_slice_get}
-use Rattle.pef_script.specs.Script.{DescribedExport}
-use Rattle.pef_script.specs.Views.{export_in}
+use Rattle.pef_format.specs.Exports.{Export, export_seen}
+use Rattle.pef_format.proofs.Laws.{class-small}
 use Rattle.pef_script.specs.WellFormed.{ExportHolds, totals_of}
 use Rattle.pef_words.proofs.Laws.Lists.{all-get}
 use Rattle.pef_write.specs.Fields.{spelled}
-use Rattle.pef_write.specs.Linked.{linked_export, no_export}
+use Rattle.pef_write.specs.Linked.{no_export}
 use Rattle.pef_write.specs.Loaders.{export_entry}
 use Rattle.pef_write.proofs.EntrySteps.{export-here, export_names-end, export_names-here, export_names_at, exports-end, within}
 use Rattle.pef_write.proofs.Fields.{none_left, one_more}
-use Rattle.pef_write.proofs.LinkedTables.{export_below}
+use Rattle.pef_write.proofs.LinkedTables.{export_fits}
 use Rattle.pef_write.proofs.entries.put_exports.Goals as goal
 
 pub overflow_cast-len : goal.overflow_cast-len
@@ -26,12 +26,12 @@ export_entry-requires-clause-at c =
 pub export_entry-requires-clause-class : goal.export_entry-requires-clause-class
 export_entry-requires-clause-class c =
     let s = c.args.script.now in
-    (all-get (ExportHolds (totals_of s.sections)) s.exports (get_or c.args.order.now c.loop-place.place-index 0) (export_in c.in-Some.export) c.requires.holds.exports.each (sym c.in-Some.ensures)).class
+    class-small (export_seen c.in-Some.export).class (all-get (ExportHolds (totals_of s.sections) (length s.imports)) s.exports (get_or c.args.order.now c.loop-place.place-index 0) (export_seen c.in-Some.export) c.requires.holds.exports.each (sym c.in-Some.ensures)).class
 
 pub export_entry-requires-clause-section : goal.export_entry-requires-clause-section
 export_entry-requires-clause-section c =
     let s = c.args.script.now in
-    export_below s (get_or c.args.order.now c.loop-place.place-index 0) (export_in c.in-Some.export) c.requires.holds (sym c.in-Some.ensures)
+    export_fits s (get_or c.args.order.now c.loop-place.place-index 0) (export_seen c.in-Some.export) c.requires.holds (sym c.in-Some.ensures)
 
 pub loop-place-preserved : goal.loop-place-preserved
 loop-place-preserved c =
@@ -39,13 +39,13 @@ loop-place-preserved c =
     let order = c.args.order.now in
     let i = c.loop-place.place-index in
     let under : i < length order = omega arith in
-    let e = export_in c.in-Some.export in
+    let e = export_seen c.in-Some.export in
     let place = get_or order i 0 in
     let there : get_or s.exports place no_export ≡ e = get_or_from_slice_get s.exports place e no_export (sym c.in-Some.ensures) in
     let at : c.len.result ≡ length c.loop-place.strings.items = omega arith in
-    let name = c.in_ok-extend_from_slice.ensures.items ∙ ap (λ (x : DescribedExport). c.loop-place.strings.items ++ x.name) (sym there) in
+    let name = c.in_ok-extend_from_slice.ensures.items ∙ ap (λ (x : Export). c.loop-place.strings.items ++ x.name) (sym there) in
     let size : length c.extend_from_slice.new.self.items ≡ length c.loop-place.strings.items + length (get_or s.exports place no_export).name = ap length name ∙ length-append c.loop-place.strings.items _ in
-    let entry = c.in_ok-put_fields.ensures ∙ ap (λ f. c.loop-place.out.items ++ spelled f) (c.export_entry.ensures ∙ ap (λ n. export_entry n (linked_export e)) at ∙ ap (λ (x : DescribedExport). export_entry (length c.loop-place.strings.items) (linked_export x)) (sym there)) in
+    let entry = c.in_ok-put_fields.ensures ∙ ap (λ f. c.loop-place.out.items ++ spelled f) (c.export_entry.ensures ∙ ap (λ n. export_entry n e) at ∙ ap (λ (x : Export). export_entry (length c.loop-place.strings.items) x) (sym there)) in
     record {
       names = one_more c.loop-place.strings.items _ c.extend_from_slice.new.self.items _ _ _ name (export_names-here s.exports order i under) c.loop-place.invariant.names;
       entries = rw size (one_more c.loop-place.out.items _ c.put_fields.new.out.items _ _ _ entry (export-here (length c.loop-place.strings.items) s.exports order i under) c.loop-place.invariant.entries);

@@ -1,7 +1,7 @@
 -- What is written and what is left make the whole.
 use Rattle.std.proofs.Common.{◌≡◌, ◌++◌, drop, length}
 use Rattle.std.specs.List.{flat_map}
-use Rattle.pef_loader.specs.Export.{Export}
+use Rattle.pef_format.specs.Exports.{Export}
 use Rattle.pef_write.specs.Fields.{spelled}
 use Rattle.pef_write.specs.Linked.{exports_at}
 use Rattle.pef_write.specs.Loaders.{export_fields}

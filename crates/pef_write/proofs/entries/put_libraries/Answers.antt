@@ -2,6 +2,7 @@
 -- begin.
 use Rattle.std.proofs.Common.{◌≡◌, ◌∙◌, ℕ, ◌-◌, ◌^◌, ◌++◌, length, refl, ap, ap₂, sym, arith}
 use Rattle.std.proofs.lemmas.Option.{slice_get_within}
+use Rattle.pef_format.specs.Symbols.{options_code}
 use Rattle.pef_loader.specs.Library.{Library}
 use Rattle.pef_script.specs.Script.{DescribedLibrary}
 use Rattle.pef_script.specs.Views.{library_in}
@@ -16,10 +17,6 @@ use Rattle.pef_write.proofs.entries.put_libraries.Goals as goal
 
 pub libraries-init : goal.libraries-init
 libraries-init c = record { first = sym (none_before c.args.script.now.imports); names = refl; entries = refl }
-
-pub overflow_cast-k : goal.overflow_cast-k
-overflow_cast-k c =
-    omega (arith, slice_get_within c.args.script.now.libraries c.libraries.k (library_in c.in-Some.library) (sym c.in-Some.ensures), c.requires.holds.libraries.count)
 
 pub imports_end-end-requires-clause-from : goal.imports_end-end-requires-clause-from
 imports_end-end-requires-clause-from c = from_within c.libraries.first c.libraries.k c.args.script.now.imports c.libraries.invariant.first
@@ -51,7 +48,7 @@ libraries-preserved c =
     let first : c.libraries.first ≡ count_before k imports = c.libraries.invariant.first in
     let count : c.imports_end-end.result - c.libraries.first ≡ count_of k imports = omega (arith, c.imports_end-end.ensures, first, before-next k imports) in
     let size = longer c.libraries.strings.items l.name c.put_entry.new.strings.items c.in_ok-put_entry.ensures.name in
-    let read : ℕ → ℕ → Library = λ count first. record { name = l.name; current = l.current; old_imp = l.old_imp; count = count; first = first; options = l.options } in
+    let read : ℕ → ℕ → Library = λ count first. record { name = l.name; current = l.current; old_imp = l.old_imp; count = count; first = first; options = options_code l.options } in
     let at : c.len-at.result ≡ length c.libraries.strings.items = omega arith in
     let fields = c.library_entry-entry.ensures ∙ ap (λ n. library_entry n (read (c.imports_end-end.result - c.libraries.first) c.libraries.first)) at ∙ ap₂ (λ n m. library_entry (length c.libraries.strings.items) (read n m)) count first in
     let entry = c.in_ok-put_entry.ensures.entry ∙ ap (λ f. c.libraries.out.items ++ spelled f) fields in

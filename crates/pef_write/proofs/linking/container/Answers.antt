@@ -5,7 +5,7 @@ use Rattle.pef_script.specs.declared.parts.Versions.{Versions}
 use Rattle.pef_write.specs.Containers.{written_container}
 use Rattle.pef_write.specs.Linked.{script_tables}
 use Rattle.pef_write.specs.Loaders.{strings_of, written_loader}
-use Rattle.pef_write.specs.Kept.Views.{described, program_entry}
+use Rattle.pef_write.specs.Kept.Views.{program_entry}
 use Rattle.pef_write.proofs.linking.container.Goals as goal
 
 pub section_programs-requires : goal.section_programs-requires
@@ -25,13 +25,13 @@ pub write_container-requires-clause-fits : goal.write_container-requires-clause-
 write_container-requires-clause-fits c =
     let own = ap (map program_entry) c.deref.ensures.value ∙ c.in_ok-own.ensures in
     let loader = c.deref-3.ensures.value ∙ c.in_ok-loader.ensures ∙ ap (λ programs. written_loader (script_tables c.args.script.now programs)) own in
-    let parts = ap (map described) c.deref-2.ensures.value ∙ c.in_ok-parts.ensures in
-    let whole = ap (λ (versions : Versions). written_container versions (map described c.deref-2.result.now) c.deref-3.result.now) c.versions-versions.ensures ∙ ap₂ (written_container c.args.script.now.versions) parts loader in
+    let sections = c.deref-2.ensures.value ∙ c.in_ok-sections.ensures in
+    let whole = ap (λ (versions : Versions). written_container versions c.deref-2.result.now c.deref-3.result.now) c.versions-versions.ensures ∙ ap₂ (written_container c.args.script.now.versions) sections loader in
     omega (arith, ap length whole, c.requires.container)
 
 pub returns : goal.returns
 returns c =
     let own = ap (map program_entry) c.deref.ensures.value ∙ c.in_ok-own.ensures in
     let loader = c.deref-3.ensures.value ∙ c.in_ok-loader.ensures ∙ ap (λ programs. written_loader (script_tables c.args.script.now programs)) own in
-    let parts = ap (map described) c.deref-2.ensures.value ∙ c.in_ok-parts.ensures in
-    c.in_ok-write_container.ensures ∙ ap (λ (versions : Versions). written_container versions (map described c.deref-2.result.now) c.deref-3.result.now) c.versions-versions.ensures ∙ ap₂ (written_container c.args.script.now.versions) parts loader
+    let sections = c.deref-2.ensures.value ∙ c.in_ok-sections.ensures in
+    c.in_ok-write_container.ensures ∙ ap (λ (versions : Versions). written_container versions c.deref-2.result.now c.deref-3.result.now) c.versions-versions.ensures ∙ ap₂ (written_container c.args.script.now.versions) sections loader

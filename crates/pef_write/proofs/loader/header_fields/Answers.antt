@@ -3,7 +3,7 @@ use Rattle.std.proofs.Common.{◌≡◌, ◌∙◌, length, map, refl, sym, ap}
 use Rattle.std.proofs.lemmas.List.{length-map}
 use Rattle.pef_hash.specs.Build.{built}
 use Rattle.pef_script.specs.Script.{export_names}
-use Rattle.pef_write.specs.Linked.{exports_at, libraries_from, linked_import, script_tables}
+use Rattle.pef_write.specs.Linked.{exports_at, libraries_from, script_tables}
 use Rattle.pef_write.specs.Loaders.{entry_offset, entry_section, header_fields}
 use Rattle.pef_write.specs.Kept.Views.{program_entry}
 use Rattle.pef_write.proofs.Fitting.{length-exports, length-libraries}
@@ -17,7 +17,7 @@ returns c =
     let init = c.entry_numbers-init.ensures ∙ ap (λ e. (entry_section e, entry_offset e)) c.init.ensures in
     let term = c.entry_numbers-term.ensures ∙ ap (λ e. (entry_section e, entry_offset e)) c.term.ensures in
     let libraries : c.libraries.result ≡ length (libraries_from s.imports 0 s.libraries) = c.libraries.ensures.count ∙ sym (length-libraries s.imports 0 s.libraries) in
-    let imports : c.imports.result ≡ length (map linked_import s.imports) = c.imports.ensures.count ∙ sym (length-map s.imports linked_import) in
+    let imports : c.imports.result ≡ length s.imports = c.imports.ensures.count in
     let programs : length c.args.pieces.programs.now ≡ length (map program_entry c.args.pieces.programs.now) = sym (length-map c.args.pieces.programs.now program_entry) in
     let exports : c.exports.result ≡ length (exports_at s.exports (built (export_names s)).order) = c.exports.ensures.count ∙ sym (length-exports s) in
     rw (ap (λ p. p.0) main, ap (λ p. p.1) main, ap (λ p. p.0) init, ap (λ p. p.1) init, ap (λ p. p.0) term, ap (λ p. p.1) term, libraries, imports, exports, programs, c.requires.places.programs, c.requires.places.strings, c.requires.places.exports, c.requires.pieces.power) refl

@@ -2,7 +2,7 @@
 use Rattle.std.proofs.Common.{◌∙◌, ◌<◌, ◌++◌, length, map, ap, ap₂, subst, sym, arith}
 use Rattle.std.specs.List.{All, flat_map}
 use Rattle.pef_hash.specs.Build.{BuiltTable}
-use Rattle.pef_loader.specs.Export.{Export}
+use Rattle.pef_format.specs.Exports.{Export}
 use Rattle.pef_write.specs.declared.field.Field.TheVariants.{Word}
 use Rattle.pef_write.specs.Fields.{spelled}
 use Rattle.pef_write.specs.Linked.{exports_at}
