@@ -3,6 +3,7 @@ mod LinesRead
 mod PartsRead
 mod PrintLemmas
 mod ProgramLemmas
+mod RangeLemmas
 mod ReadLemmas
 mod ReadsBack
 mod RoundLemmas

@@ -1,10 +1,10 @@
 -- What is read is what is printed: what each line says.
-use Rattle.std.proofs.Common.{◌≡◌, ℕ, zero, suc, ◌+◌, ◌*◌, ◌-◌, ◌/◌, ◌%◌, ◌<◌, ◌≤◌, ◌==◌, ◌&&◌, Bool, true, false, cond, List, [], ◌∷◌, ◌++◌, Option, None, Some, length, slice_index, refl, sym, ap, ap₂, ◌∙◌, subst, arith}
-use Rattle.std.specs.Prelude.{codes, decimal, nat_le, option_map}
+use Rattle.std.proofs.Common.{◌≡◌, ◌≢◌, ℕ, zero, suc, ◌+◌, ◌*◌, ◌-◌, ◌/◌, ◌%◌, ◌<◌, ◌≤◌, ◌==◌, ◌&&◌, Bool, not, true, false, cond, List, [], ◌∷◌, ◌++◌, Option, None, Some, length, slice_index, refl, sym, ap, ap₂, ◌∙◌, subst, arith}
+use Rattle.std.specs.Prelude.{codes, decimal, nat_le, nat_lt, option_map}
 use Rattle.std.specs.List.{AllByRecursion}
 use Rattle.std.specs.Option.{is_none}
 use Rattle.std.specs.Str.{bytes_eq}
-use Rattle.std.proofs.lemmas.Bool.{eqb-true, leb-true, le-ltb, lt-ltb, and_parts}
+use Rattle.std.proofs.lemmas.Bool.{eqb-true, leb-true, le-ltb, lt-ltb, ltb-true, and_parts}
 use Rattle.pef_cert.specs.Valid.{rises}
 use Rattle.pef_lines.specs.Numbers.{decimal_number}
 use Rattle.pef_ports.specs.Text.{hex_digit, hex_text}
@@ -16,9 +16,12 @@ use Rattle.pef_reloc.proofs.Laws.{instrs_of-fit, length-spelled, some_length, sp
 use Rattle.pef_words.specs.Refusals.{◌>>=◌}
 use Rattle.pef_cert_text.specs.declared.fields.Head.{Head}
 use Rattle.pef_cert_text.specs.declared.fields.Head.TheVariants.{Section, End}
-use Rattle.pef_cert_text.specs.Lines.{bytes_spelled, fixups_line, head_line, length_line, most_text_fixups, most_text_registers, number_line, program_in, program_line, registers_in, registers_line, row_line, version_line}
-use Rattle.pef_cert_text.specs.Printed.{IsNumber, IsRow, halfword_words, number_words, program_words, words_text}
-use Rattle.pef_cert_text.specs.Words.{behind, bytes_in, digit_in, ended, first_of, halfword_in, halfwords_in, none_left, numbers_in, provided, words_of}
+use Rattle.pef_cert_text.specs.declared.fields.Version.{Version}
+use Rattle.pef_cert_text.specs.declared.fields.Version.TheVariants.{One, Two}
+use Rattle.pef_cert_text.specs.Lines.{Range, bytes_spelled, fixups_line, head_line, length_line, most_text_fixups, most_text_registers, number_line, program_in, program_line, range_line, registers_in, registers_line, row_line, version_line}
+use Rattle.pef_cert_text.specs.Printed.{IsNumber, IsRow, halfword_words, number_words, program_words, version_word, words_text}
+use Rattle.pef_cert_text.specs.Words.{behind, bytes_in, digit_in, ended, first_number, first_of, halfword_in, halfwords_in, none_left, numbers_in, provided, words_of}
+use Rattle.pef_cert_text.proofs.RangeLemmas.{labels_differ}
 use Rattle.pef_cert_text.proofs.RoundLemmas.{ArePairs}
 use Rattle.pef_cert_text.proofs.WordsRead.{decimal_number-is, first_of-some, is_word, line-is, none_left-true, numbers_in-are, provided-some, then_some}
 
@@ -49,9 +52,19 @@ length_line-is line n is = number_line-is (codes "length") line n is
 
 -- the lines that begin and end
 
-pub version_line-is : (line : List ℕ) (n : ℕ) → version_line line ≡ Some n → line ≡ codes "pefcert" ++ words_text (codes "1" ∷ [])
+pub version_line-is : (line : List ℕ) (version : Version) → version_line line ≡ Some version → line ≡ codes "pefcert" ++ words_text (version_word version ∷ [])
 unfolding version_line
-version_line-is line n is = is_word line (codes "pefcert 1") (provided-some (bytes_eq line (codes "pefcert 1")) 1 n is).0
+version_line-is line version is = by (bytes_eq line (codes "pefcert 1")) refl (bytes_eq line (codes "pefcert 2")) refl is
+  where
+    by : (one : Bool) → bytes_eq line (codes "pefcert 1") ≡ one → (two : Bool) → bytes_eq line (codes "pefcert 2") ≡ two
+        → cond one (Some One) (cond two (Some Two) None) ≡ Some version → line ≡ codes "pefcert" ++ words_text (version_word version ∷ [])
+    by true first two second is =
+        let same : One ≡ version = cc in
+        subst (λ (v : Version). line ≡ codes "pefcert" ++ words_text (version_word v ∷ [])) same (is_word line (codes "pefcert 1") first)
+    by false first true second is =
+        let same : Two ≡ version = cc in
+        subst (λ (v : Version). line ≡ codes "pefcert" ++ words_text (version_word v ∷ [])) same (is_word line (codes "pefcert 2") second)
+    by false first false second is = absurd (cc)
 
 -- the line that a head stands for
 abbrev pub HeadText : Head → List ℕ → Type 0
@@ -136,6 +149,53 @@ row_line-is width at line row is =
       text = line-is line (codes "at") words (decimal at ∷ number_words labels) begins are;
       wide = record { wide = eqb-true (length labels) width tests.1; numbers = q.1 };
     })))))
+
+-- the number of the first word, and what stands behind it
+first_number-is : (words : List (List ℕ)) (x : ℕ × List (List ℕ)) → first_number words ≡ Some x → (words ≡ decimal x.0 ∷ x.1) × IsNumber x.0
+first_number-is words x is =
+    then_some (first_of words) (λ first. decimal_number first.0 >>= λ number. Some (number, first.1)) x is (λ first found rest.
+    then_some (decimal_number first.0) (λ number. Some (number, first.1)) x rest (λ number spelled made.
+    let same : (number, first.1) ≡ x = cc in
+    let q = decimal_number-is first.0 number spelled in
+    subst (λ (p : ℕ × List (List ℕ)). (words ≡ decimal p.0 ∷ p.1) × IsNumber p.0) same (first_of-some words first found ∙ ap (λ (w : List ℕ). w ∷ first.1) q.0, q.1)))
+
+pub record RangeText (width count at : ℕ) (before line : List ℕ) (range : Range) : Type 0 where
+  pub text : line ≡ codes "at" ++ words_text (decimal range.first ∷ decimal range.last ∷ number_words range.labels)
+  pub first : range.first ≡ at
+  pub forward : at ≤ range.last
+  pub inside : range.last < count
+  pub wide : IsRow width range.labels
+  pub other : range.labels ≢ before
+
+pub range_line-is : (width count at : ℕ) (before line : List ℕ) (range : Range) → range_line width count at before line ≡ Some range → RangeText width count at before line range
+unfolding range_line
+range_line-is width count at before line range is =
+    then_some (behind (codes "at") (words_of line)) (λ words. first_number words >>= λ first. first_number first.1 >>= λ last. numbers_in last.1 >>= λ labels. provided (first.0 == at && nat_le at last.0 && nat_lt last.0 count && length labels == width && not (bytes_eq labels before)) (record { first = first.0; last = last.0; labels = labels })) range is (λ words begins rest.
+    then_some (first_number words) (λ first. first_number first.1 >>= λ last. numbers_in last.1 >>= λ labels. provided (first.0 == at && nat_le at last.0 && nat_lt last.0 count && length labels == width && not (bytes_eq labels before)) (record { first = first.0; last = last.0; labels = labels })) range rest (λ first first_said others.
+    then_some (first_number first.1) (λ last. numbers_in last.1 >>= λ labels. provided (first.0 == at && nat_le at last.0 && nat_lt last.0 count && length labels == width && not (bytes_eq labels before)) (record { first = first.0; last = last.0; labels = labels })) range others (λ last last_said more.
+    then_some (numbers_in last.1) (λ labels. provided (first.0 == at && nat_le at last.0 && nat_lt last.0 count && length labels == width && not (bytes_eq labels before)) (record { first = first.0; last = last.0; labels = labels })) range more (λ labels said tested.
+    let p = provided-some (first.0 == at && nat_le at last.0 && nat_lt last.0 count && length labels == width && not (bytes_eq labels before)) (record { first = first.0; last = last.0; labels = labels }) range tested in
+    let t4 = and_parts (first.0 == at && nat_le at last.0 && nat_lt last.0 count && length labels == width) (not (bytes_eq labels before)) p.0 in
+    let t3 = and_parts (first.0 == at && nat_le at last.0 && nat_lt last.0 count) (length labels == width) t4.0 in
+    let t2 = and_parts (first.0 == at && nat_le at last.0) (nat_lt last.0 count) t3.0 in
+    let t1 = and_parts (first.0 == at) (nat_le at last.0) t2.0 in
+    let differ : bytes_eq labels before ≡ false = not-true (bytes_eq labels before) t4.1 in
+    let f = first_number-is words first first_said in
+    let l = first_number-is first.1 last last_said in
+    let q = numbers_in-are last.1 labels said in
+    let are : words ≡ decimal first.0 ∷ decimal last.0 ∷ number_words labels = f.0 ∙ ap (λ (ws : List (List ℕ)). decimal first.0 ∷ ws) (l.0 ∙ ap (λ (ws : List (List ℕ)). decimal last.0 ∷ ws) q.0) in
+    subst (RangeText width count at before line) p.1 (record {
+      text = line-is line (codes "at") words (decimal first.0 ∷ decimal last.0 ∷ number_words labels) begins are;
+      first = eqb-true first.0 at t1.0;
+      forward = leb-true at last.0 t1.1;
+      inside = ltb-true last.0 count t2.1;
+      wide = record { wide = eqb-true (length labels) width t3.1; numbers = q.1 };
+      other = labels_differ labels before differ;
+    })))))
+  where
+    not-true : (b : Bool) → not b ≡ true → b ≡ false
+    not-true true is = absurd (cc)
+    not-true false is = refl
 
 -- programs
 

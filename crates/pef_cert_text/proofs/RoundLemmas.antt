@@ -1,20 +1,23 @@
 -- What is printed is read again: programs, registers and labels.
-use Rattle.std.proofs.Common.{◌≡◌, ℕ, zero, suc, ◌+◌, ◌*◌, ◌/◌, ◌%◌, ◌^◌, ◌<◌, ◌≤◌, ◌&&◌, Bool, true, false, List, [], ◌∷◌, ◌++◌, Option, None, Some, Result, Ok, cond, length, refl, sym, ap, ◌∙◌, append_assoc, arith, eq-eqb, nat_eq}
+use Rattle.std.proofs.Common.{◌≡◌, ◌≢◌, ℕ, zero, suc, ◌+◌, ◌*◌, ◌/◌, ◌%◌, ◌^◌, ◌-◌, ◌<◌, ◌≤◌, ◌==◌, ◌&&◌, Bool, true, false, List, [], ◌∷◌, ◌++◌, Option, None, Some, Result, Ok, cond, length, replicate, refl, sym, ap, ◌∙◌, subst, append_assoc, arith, eq-eqb, nat_eq}
 use Rattle.std.specs.Prelude.{codes, decimal, nat_lt}
 use Rattle.std.specs.List.{AllByRecursion}
 use Rattle.std.specs.Str.{bytes_eq}
-use Rattle.std.proofs.lemmas.Bool.{and_from, le-leb, lt-ltb}
-use Rattle.std.proofs.lemmas.List.{append-nil}
+use Rattle.std.proofs.lemmas.Bool.{and_from, le-leb, lt-ltb, ne_eqb}
+use Rattle.std.proofs.lemmas.List.{append-nil, length-append, length-replicate}
 use Rattle.pef_cert.specs.Valid.{rises}
 use Rattle.pef_ports.specs.Text.{hex_digit, hex_text}
 use Rattle.pef_reloc.specs.declared.instr.Instr.{Instr}
 use Rattle.pef_reloc.specs.Instrs.{halfword_bytes, halfwords_of, instrs_fit, program_length, spelled}
 use Rattle.pef_reloc.specs.Unrolled.{program_fault}
 use Rattle.pef_reloc.proofs.Laws.{instrs_of-spelled, spelled-nothing, spelled-one, some_length, length-spelled}
-use Rattle.pef_cert_text.specs.Grammar.{Left, rows_read}
-use Rattle.pef_cert_text.specs.Lines.{bytes_spelled, most_text_registers, number_line, program_line, registers_in, registers_line, row_line}
-use Rattle.pef_cert_text.specs.Printed.{IsNumber, IsRow, halfword_words, line_text, number_words, program_words, rows_text, words_text}
+use Rattle.pef_cert_text.specs.Grammar.{Left, labels_read, last_labels, range_rows, ranges_read, rows_read}
+use Rattle.pef_cert_text.specs.Lines.{Range, bytes_spelled, most_text_registers, number_line, program_line, range_line, registers_in, registers_line, row_line}
+use Rattle.pef_cert_text.specs.Printed.{IsNumber, IsRow, halfword_words, labels_text, line_text, number_words, program_words, range_text, ranges_of, ranges_text, rows_text, words_text}
 use Rattle.pef_cert_text.specs.Words.{digit_in, halfword_in, halfwords_in, none_left, numbers_in}
+use Rattle.pef_cert_text.specs.declared.fields.Version.{Version}
+use Rattle.pef_cert_text.specs.declared.fields.Version.TheVariants.{One, Two}
+use Rattle.pef_cert_text.proofs.RangeLemmas.{Split, last_labels-more, other_labels, ranges_of-run, split}
 use Rattle.pef_cert_text.proofs.TextLemmas.{above, all_above, decimal-above, decimal-no_star, decimal_number-decimal, line_read-line, words_of-words}
 
 -- numbers
@@ -57,6 +60,23 @@ row_line-text width at row small is =
       numbers_in-words row is.numbers,
       eq-eqb at at refl,
       eq-eqb (length row) width is.wide,
+    ) refl
+
+pub range_line-text : (width count at last : ℕ) (before row : List ℕ) → at ≤ last → last < count → count ≤ 2 ^ 32 → IsRow width row → row ≢ before
+    → range_line width count at before (codes "at" ++ words_text (decimal at ∷ decimal last ∷ number_words row)) ≡ Some (record { first = at; last = last; labels = row })
+unfolding range_line
+range_line-text width count at last before row forward inside small is other =
+    rw (
+      words_of-words (decimal at) (decimal last ∷ number_words row) (decimal-above at (omega (arith, forward, inside, small)))
+          (and_from (above 0x20 (decimal last)) (all_above 0x20 (number_words row)) (decimal-above last (omega (arith, inside, small))) (numbers-above row is.numbers)),
+      decimal_number-decimal at (omega (arith, forward, inside, small)),
+      decimal_number-decimal last (omega (arith, inside, small)),
+      numbers_in-words row is.numbers,
+      eq-eqb at at refl,
+      le-leb at last forward,
+      lt-ltb last count inside,
+      eq-eqb (length row) width is.wide,
+      other_labels row before other,
     ) refl
 
 -- programs
@@ -174,3 +194,66 @@ rows_read-text width at before (row ∷ rows) number rest all small =
     let others = rows_read-text width (at + 1) (before ++ row ∷ []) rows (number + 1) rest all.1 (omega arith) in
     let whole = append_assoc before (row ∷ []) rows in
     record { number = others.number; is = rw (parts, line) (others.is ∙ ap (λ (rs : List (List ℕ)). Ok (rs, record { number = others.number; text = rest })) whole) }
+
+-- what is true of all of some rows in a row is true of the last of them
+all-behind : {A : Type 0} (P : A → Type 0) (xs ys : List A) → AllByRecursion P (xs ++ ys) → AllByRecursion P ys
+all-behind P [] ys all = all
+all-behind P (x ∷ xs) ys all = all-behind P xs ys all.1
+
+-- ranges
+ranges_read-text : (most width count : ℕ) (before rows : List (List ℕ)) (number : ℕ) (rest : List ℕ) → AllByRecursion (IsRow width) rows → length before + length rows ≡ count → count ≤ 2 ^ 32 → length rows < most
+    → ((others : List (List ℕ)) → rows ≢ last_labels before ∷ others)
+    → Behind (ranges_read width count most before (record { number = number; text = ranges_text (ranges_of (length before) rows) ++ rest })) (before ++ rows) rest
+ranges_read-text zero width count before rows number rest all whole small enough apart = absurd (omega (arith, enough))
+ranges_read-text (suc most) width count before [] number rest all whole small enough apart =
+    let ended : (length before == count) ≡ true = eq-eqb (length before) count (omega (arith, whole)) in
+    record { number = number; is = rw ended (ap (λ (rs : List (List ℕ)). Ok (rs, record { number = number; text = rest })) (sym (append-nil before))) }
+ranges_read-text (suc most) width count before (row ∷ rows) number rest all whole small enough apart =
+    let s : Split row rows = split row rows in
+    let one : suc s.n ≡ s.n + 1 = omega arith in
+    let run : Range = record { first = length before; last = length before + s.n; labels = row } in
+    let front = replicate (suc s.n) row in
+    let next = before ++ front in
+    let long = length-replicate (suc s.n) row in
+    let sum : length next ≡ length before + s.n + 1 = (let whole = length-append before front in omega (arith, whole, long)) in
+    let parts : row ∷ rows ≡ front ++ s.others = ap (λ (rs : List (List ℕ)). row ∷ rs) s.parts in
+    let count_is : length (row ∷ rows) ≡ suc s.n + length s.others = (let whole = length-append front s.others in omega (arith, ap length parts, whole, long)) in
+    let tail = ranges_text (ranges_of (length next) s.others) ++ rest in
+    let ranges : ranges_of (length before) (row ∷ rows) ≡ run ∷ ranges_of (length next) s.others =
+    ap (ranges_of (length before)) parts ∙ ranges_of-run s.n (length before) row s.others s.apart ∙ ap (λ (m : ℕ). run ∷ ranges_of m s.others) (sym sum) in
+    let text : ranges_text (ranges_of (length before) (row ∷ rows)) ++ rest ≡ range_text run ++ tail =
+    ap (λ (rs : List Range). ranges_text rs ++ rest) ranges ∙ append_assoc (range_text run) (ranges_text (ranges_of (length next) s.others)) rest in
+    let more : (length before == count) ≡ false = ne_eqb (length before) count (λ same. omega (arith, whole, same)) in
+    let inside : length before + s.n < count = omega (arith, whole, count_is) in
+    let words = decimal (length before) ∷ decimal (length before + s.n) ∷ number_words row in
+    let line = line_read-line (range_line width count (length before) (last_labels before)) number (codes "at") words tail run refl
+    (and_from (above 0x20 (decimal (length before))) (all_above 0x20 (decimal (length before + s.n) ∷ number_words row)) (decimal-above (length before) (omega (arith, inside, small)))
+    (and_from (above 0x20 (decimal (length before + s.n))) (all_above 0x20 (number_words row)) (decimal-above (length before + s.n) (omega (arith, inside, small))) (numbers-above row (all.0).numbers)))
+    (range_line-text width count (length before) (length before + s.n) (last_labels before) row (omega arith) inside small all.0 (λ is. apart rows (ap (λ (r : List ℕ). r ∷ rows) is))) in
+    let grown : range_rows run ≡ front = (let e : length before + s.n - length before + 1 ≡ suc s.n = omega arith in ap (λ (m : ℕ). replicate m row) e) in
+    let last : last_labels next ≡ row = ap (λ (m : ℕ). last_labels (before ++ replicate m row)) one ∙ last_labels-more before s.n row in
+    let others = ranges_read-text most width count next s.others (number + 1) rest
+    (all-behind (IsRow width) front s.others (subst (AllByRecursion (IsRow width)) parts all)) (omega (arith, whole, count_is, sum)) small (omega (arith, enough, count_is))
+    (λ more is. s.apart more (is ∙ ap (λ (r : List ℕ). r ∷ more) last)) in
+    record {
+      number = others.number;
+      is = ap (λ (t : List ℕ). ranges_read width count (suc most) before (record { number = number; text = t })) text
+          ∙ rw (more, line) (ap (λ (rs : List (List ℕ)). ranges_read width count most (before ++ rs) (record { number = number + 1; text = tail })) grown
+          ∙ others.is
+          ∙ ap (λ (rs : List (List ℕ)). Ok (rs, record { number = others.number; text = rest })) (append_assoc before front s.others ∙ ap (λ (rs : List (List ℕ)). before ++ rs) (sym parts)));
+    }
+
+-- rows in a version
+pub labels_read-text : (version : Version) (width : ℕ) (rows : List (List ℕ)) (number : ℕ) (rest : List ℕ) → 0 < width → AllByRecursion (IsRow width) rows → length rows < 2 ^ 32
+    → Behind (labels_read version width (length rows) (record { number = number; text = labels_text version rows ++ rest })) rows rest
+labels_read-text One width rows number rest some all small = rows_read-text width 0 [] rows number rest all (omega (arith, small))
+labels_read-text Two width rows number rest some all small =
+    ranges_read-text (length rows + 1) width (length rows) [] rows number rest all (omega arith) (omega (arith, small)) (omega arith) (some_labels width rows some all)
+  where
+    -- the first row has a label
+    some_labels : (width : ℕ) (rows : List (List ℕ)) → 0 < width → AllByRecursion (IsRow width) rows → (others : List (List ℕ)) → rows ≢ [] ∷ others
+    some_labels width [] some all others is = absurd (cc)
+    some_labels width (row ∷ rows) some all others is =
+        let first : row ≡ [] = cc in
+        let wide = (all.0).wide in
+        absurd (omega (arith, some, wide, ap length first))

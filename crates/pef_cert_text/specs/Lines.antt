@@ -1,6 +1,6 @@
 -- What each line of a text of certificates says (docs/FORMATS.md, "Texts of certificates"), and nothing where it breaks
 -- a rule by itself or against the lines before it.
-use Rattle.std.specs.Prelude.{ℕ, ◌*◌, ◌==◌, ◌&&◌, Bool, List, [], ◌∷◌, Option, None, Some, codes, length, nat_le, option_map, if◌then◌else◌}
+use Rattle.std.specs.Prelude.{ℕ, ◌*◌, ◌==◌, ◌&&◌, Bool, List, [], ◌∷◌, Option, None, Some, codes, length, nat_le, nat_lt, not, option_map, if◌then◌else◌}
 use Rattle.std.specs.Option.{is_none}
 use Rattle.std.specs.Str.{bytes_eq}
 use Rattle.pef_cert.specs.Valid.{rises}
@@ -10,7 +10,9 @@ use Rattle.pef_reloc.specs.Unrolled.{instrs_of, program_fault}
 use Rattle.pef_words.specs.Refusals.{◌>>=◌}
 use Rattle.pef_cert_text.specs.declared.fields.Head.{Head}
 use Rattle.pef_cert_text.specs.declared.fields.Head.TheVariants.{Section, End}
-use Rattle.pef_cert_text.specs.Words.{behind, ended, first_of, halfwords_in, numbers_in, provided, words_of}
+use Rattle.pef_cert_text.specs.declared.fields.Version.{Version}
+use Rattle.pef_cert_text.specs.declared.fields.Version.TheVariants.{One, Two}
+use Rattle.pef_cert_text.specs.Words.{behind, ended, first_number, first_of, halfwords_in, numbers_in, provided, words_of}
 
 -- the most fixups that the text of a certificate is for, and the most sections that count as values of a register in it
 abbrev pub most_text_fixups : ℕ
@@ -19,9 +21,12 @@ most_text_fixups = 65536
 abbrev pub most_text_registers : ℕ
 most_text_registers = 16
 
--- `pefcert 1`: the version
-unfoldable pub version_line : List ℕ → Option ℕ
-version_line line = provided (bytes_eq line (codes "pefcert 1")) 1
+-- `pefcert 1` or `pefcert 2`: the version
+unfoldable pub version_line : List ℕ → Option Version
+version_line line =
+    if bytes_eq line (codes "pefcert 1") then Some One
+    else if bytes_eq line (codes "pefcert 2") then Some Two
+    else None
 
 -- `NAME NUMBER`
 unfoldable pub number_line : List ℕ → List ℕ → Option ℕ
@@ -82,7 +87,7 @@ registers_line line = do
   registers ← registers_in words
   provided (rises registers && nat_le (length registers) most_text_registers) registers
 
--- `at I L ..`: the index that is wanted, and so many labels
+-- version 1, `at I L ..`: the index that is wanted, and so many labels
 unfoldable pub row_line : ℕ → ℕ → List ℕ → Option (List ℕ)
 row_line width at line = do
   words ← behind (codes "at") (words_of line)
@@ -90,3 +95,22 @@ row_line width at line = do
   number ← decimal_number index.0
   labels ← numbers_in index.1
   provided (number == at && length labels == width) labels
+
+-- version 2, `at I J L ..`: equal rows
+
+-- the indices of the first and of the last one, and the labels of each
+pub record Range : Type 0 where
+  pub first : ℕ
+  pub last : ℕ
+  pub labels : List ℕ
+
+-- the indices that are wanted, from one on and below the number of rows, and so many labels, which differ from those
+-- before
+unfoldable pub range_line : ℕ → ℕ → ℕ → List ℕ → List ℕ → Option Range
+range_line width count at before line = do
+  words ← behind (codes "at") (words_of line)
+  first ← first_number words
+  last ← first_number first.1
+  labels ← numbers_in last.1
+  provided (first.0 == at && nat_le at last.0 && nat_lt last.0 count && length labels == width && not (bytes_eq labels before))
+      (record { first = first.0; last = last.0; labels = labels })

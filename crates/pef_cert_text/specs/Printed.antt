@@ -1,14 +1,17 @@
 -- How certificates are printed (docs/FORMATS.md, "Texts of certificates"), and which can be.
-use Rattle.std.specs.Prelude.{◌≡◌, ℕ, ◌+◌, ◌-◌, ◌^◌, ◌<◌, ◌≤◌, true, List, [], ◌∷◌, ◌++◌, None, codes, decimal, length}
+use Rattle.std.specs.Prelude.{◌≡◌, ℕ, ◌+◌, ◌-◌, ◌^◌, ◌<◌, ◌≤◌, true, List, [], ◌∷◌, ◌++◌, None, codes, decimal, length, if◌then◌else◌}
 use Rattle.std.specs.List.{AllByRecursion}
+use Rattle.std.specs.Str.{bytes_eq}
 use Rattle.pef_labels.specs.Certified.{Certified}
 use Rattle.pef_cert.specs.Valid.{rises}
 use Rattle.pef_ports.specs.Text.{hex_text}
 use Rattle.pef_reloc.specs.declared.instr.Instr.{Instr}
 use Rattle.pef_reloc.specs.Instrs.{instrs_fit, program_length, spelled}
 use Rattle.pef_reloc.specs.Unrolled.{program_fault}
+use Rattle.pef_cert_text.specs.declared.fields.Version.{Version}
+use Rattle.pef_cert_text.specs.declared.fields.Version.TheVariants.{One, Two}
 use Rattle.pef_cert_text.specs.Grammar.{row_width}
-use Rattle.pef_cert_text.specs.Lines.{most_text_fixups, most_text_registers}
+use Rattle.pef_cert_text.specs.Lines.{Range, most_text_fixups, most_text_registers}
 
 -- words behind the first, each behind a space
 abbrev pub words_text : List (List ℕ) → List ℕ
@@ -35,27 +38,62 @@ abbrev pub program_words : List Instr → List (List ℕ)
 program_words [] = codes "-" ∷ []
 program_words (instr ∷ instrs) = halfword_words (spelled (instr ∷ instrs))
 
--- the lines of labels, from an index on
+-- version 1: the lines of labels, from an index on
 abbrev pub rows_text : ℕ → List (List ℕ) → List ℕ
 rows_text at [] = []
 rows_text at (row ∷ rows) = line_text (codes "at") (decimal at ∷ number_words row) ++ rows_text (at + 1) rows
 
+-- version 2: rows from an index on as ranges, of which no two neighbours have the same labels
+
+-- a row in front of the ranges of the others
+abbrev pub with_row : ℕ → List ℕ → List Range → List Range
+with_row at row [] = record { first = at; last = at; labels = row } ∷ []
+with_row at row (range ∷ ranges) =
+    if bytes_eq row range.labels then record { first = at; last = range.last; labels = row } ∷ ranges
+    else record { first = at; last = at; labels = row } ∷ range ∷ ranges
+
+abbrev pub ranges_of : ℕ → List (List ℕ) → List Range
+ranges_of at [] = []
+ranges_of at (row ∷ rows) = with_row at row (ranges_of (at + 1) rows)
+
+-- the line of a range
+abbrev pub range_text : Range → List ℕ
+range_text range = line_text (codes "at") (decimal range.first ∷ decimal range.last ∷ number_words range.labels)
+
+abbrev pub ranges_text : List Range → List ℕ
+ranges_text [] = []
+ranges_text (range ∷ ranges) = range_text range ++ ranges_text ranges
+
+-- the lines of labels
+abbrev pub labels_text : Version → List (List ℕ) → List ℕ
+labels_text One rows = rows_text 0 rows
+labels_text Two rows = ranges_text (ranges_of 0 rows)
+
 -- the lines of a certificate
-unfoldable pub certificate_text : Certified → List ℕ
-certificate_text c = line_text (codes "section") (decimal c.section ∷ [])
+unfoldable pub certificate_text : Version → Certified → List ℕ
+certificate_text version c = line_text (codes "section") (decimal c.section ∷ [])
     ++ line_text (codes "fixups") (decimal (length c.labels - 1) ∷ [])
     ++ line_text (codes "length") (decimal (program_length c.program) ∷ [])
     ++ line_text (codes "program") (program_words c.program)
     ++ line_text (codes "registers") (number_words c.registers ++ codes "*" ∷ [])
-    ++ rows_text 0 c.labels
+    ++ labels_text version c.labels
 
-abbrev pub each_text : List Certified → List ℕ
-each_text [] = []
-each_text (c ∷ certificates) = certificate_text c ++ each_text certificates
+abbrev pub each_text : Version → List Certified → List ℕ
+each_text version [] = []
+each_text version (c ∷ certificates) = certificate_text version c ++ each_text version certificates
 
--- the text of some certificates
+-- the number of a version
+abbrev pub version_word : Version → List ℕ
+version_word One = codes "1"
+version_word Two = codes "2"
+
+-- the text of some certificates in a version
+unfoldable pub versioned_text : Version → List Certified → List ℕ
+versioned_text version certificates = line_text (codes "pefcert") (version_word version ∷ []) ++ each_text version certificates ++ line_text (codes "end") []
+
+-- what is printed of some certificates
 unfoldable pub certificates_text : List Certified → List ℕ
-certificates_text certificates = line_text (codes "pefcert") (codes "1" ∷ []) ++ each_text certificates ++ line_text (codes "end") []
+certificates_text certificates = versioned_text Two certificates
 
 -- a number of 32 bits
 abbrev pub IsNumber : ℕ → Type 0

@@ -34,6 +34,13 @@ none_left (word ∷ words) = false
 abbrev pub ended : {A : Type 0} → List (List ℕ) → A → Option A
 ended words x = provided (none_left words) x
 
+-- the number that the first word spells, and the words behind it
+abbrev pub first_number : List (List ℕ) → Option (ℕ × List (List ℕ))
+first_number words = do
+  first ← first_of words
+  number ← decimal_number first.0
+  Some (number, first.1)
+
 -- the numbers that all words spell
 abbrev pub numbers_in : List (List ℕ) → Option (List ℕ)
 numbers_in [] = Some []

@@ -16,13 +16,25 @@ pub enum Head {
     End,
 }
 
-/// The version of the line `pefcert 1`.
+/// A version of texts.
+#[derive(Clone, Copy)]
+pub enum Version {
+    /// Each row of labels has a line.
+    One,
+    /// Equal neighbouring rows have one line.
+    Two,
+}
+
+/// The version of the line `pefcert N`.
 #[tactic(auto, unfolding(crate::specs::Lines::version_line))]
-pub fn version_line(line: &[u8]) -> Option<u32>
+pub fn version_line(line: &[u8]) -> Option<Version>
     ensures { result ≡ version_line line.now }
 {
     if line == b"pefcert 1".as_slice() {
-        return Some(1);
+        return Some(Version::One);
+    }
+    if line == b"pefcert 2".as_slice() {
+        return Some(Version::Two);
     }
     None
 }

@@ -1,7 +1,8 @@
-//! The text of certificates, version 1: a certificate for each section of a script, line by line.
+//! The text of certificates: a certificate for each section of a script, line by line.
 //!
-//! [`read`] takes a text, and says the first line that breaks a rule; [`print`] gives the text of
-//! certificates. Each list of certificates has one text, and each text at most one list.
+//! [`read`] takes a text in version 1 or 2, and says the first line that breaks a rule; [`print`] gives the
+//! text of certificates in version 2, where equal neighbouring rows of labels have one line. In each version
+//! a list of certificates has one text, and each text has at most one list.
 #![tactic(auto)]
 
 mod fault;

@@ -1,7 +1,7 @@
-ghost use Rattle.std.specs.Prelude.{◌≡◌, ◌≤◌, ◌++◌, option_map, vec_len, IfOk, OnOk};
+ghost use Rattle.std.specs.Prelude.{◌≡◌, ◌<◌, ◌≤◌, ◌++◌, option_map, vec_len, IfOk, OnOk};
 ghost use Rattle.pef_words.specs.Refusals.{result_map};
 ghost use Rattle.pef_cert_text.specs.Kept.Reading.{Says, words_left};
-ghost use Rattle.pef_cert_text.specs.Lines.{registers_in, registers_line, row_line};
+ghost use Rattle.pef_cert_text.specs.Lines.{range_line, registers_in, registers_line, row_line};
 ghost use Rattle.pef_cert_text.specs.Words.{numbers_in};
 
 use crate::CertFault;
@@ -88,4 +88,50 @@ pub fn row_line(line: Line<'_>, width: usize, at: u32, row: &mut Vec<u32>) -> Re
         return Err(line.fault());
     }
     Ok(())
+}
+
+/// What a range has to be.
+#[derive(Clone, Copy)]
+pub struct WantedRange<'a> {
+    /// The index of its first row.
+    pub first: u32,
+    /// How many rows there are in all.
+    pub count: u32,
+    /// How many labels a row has.
+    pub width: usize,
+    /// The labels of the row before it, which differ from its own; none at the first row.
+    pub before: &'a [u32],
+}
+
+/// Makes a row of the labels of an `at` line of version 2, and gives the index of its last row.
+#[tactic(auto, unfolding(crate::specs::Lines::range_line))]
+pub fn range_line(
+    line: Line<'_>,
+    wanted: WantedRange<'_>,
+    row: &mut Vec<u32>,
+) -> Result<u32, CertFault>
+    ensures range { Says (result_map (λ last. record { first = wanted.entry.first; last = last; labels = row.new.items }) result) line.entry.number (range_line wanted.entry.width wanted.entry.count wanted.entry.first wanted.entry.before.now line.entry.bytes.now) }
+    ensures wide { OnOk result (vec_len row.new ≡ wanted.entry.width) }
+    ensures forward { IfOk result (λ last. wanted.entry.first ≤ last) }
+    ensures inside { IfOk result (λ last. last < wanted.entry.count) }
+{
+    row.clear();
+    let mut words = Words::new(line.bytes);
+    let Some(()) = words.expect(b"at") else {
+        return Err(line.fault());
+    };
+    let Some(first) = words.next_number() else {
+        return Err(line.fault());
+    };
+    let Some(last) = words.next_number() else {
+        return Err(line.fault());
+    };
+    append_numbers(line, words, row)?;
+    if first != wanted.first || last < first || last >= wanted.count {
+        return Err(line.fault());
+    }
+    if row.len() != wanted.width || row.as_slice() == wanted.before {
+        return Err(line.fault());
+    }
+    Ok(last)
 }

@@ -1,11 +1,12 @@
-ghost use Rattle.std.specs.Prelude.{◌≡◌, ◌+◌, ◌*◌, ◌^◌, ◌<◌, ◌∷◌, ◌++◌, [], codes, decimal, length, replicate, true, IfOk, Ok, OnOk};
+ghost use Rattle.std.specs.Prelude.{◌≡◌, ◌+◌, ◌-◌, ◌^◌, ◌<◌, ◌∷◌, ◌++◌, [], codes, decimal, length, true, IfOk, Ok, OnOk};
 ghost use Rattle.std.specs.List.{AllByRecursion};
 ghost use Rattle.std.specs.Option.{option_to_list};
 ghost use Rattle.std.specs.Result.{IfErr};
 ghost use Rattle.byteorder.specs.Endian.{big_bytes};
 ghost use Rattle.pef_reloc.specs.Instrs.{halfword_bytes, instrs_fit, spelled};
 ghost use Rattle.pef_cert_text.specs.declared.fault.CertFault.TheVariants.{OutOfMemory};
-ghost use Rattle.pef_cert_text.specs.Printed.{Printable, certificate_text, certificates_text, each_text, halfword_words, line_text, number_words, program_words, rows_text, words_text};
+ghost use Rattle.pef_cert_text.specs.declared.fields.Version.TheVariants.{Two};
+ghost use Rattle.pef_cert_text.specs.Printed.{Printable, certificate_text, certificates_text, each_text, halfword_words, labels_text, line_text, number_words, program_words, range_text, words_text};
 
 use crate::CertFault;
 use itoa::Buffer;
@@ -108,32 +109,24 @@ fn append_registers(text: &mut Vec<u8>, registers: &[u32]) -> Result<(), AllocEr
     Ok(())
 }
 
-/// Appends the line of a row of labels.
-fn append_row(text: &mut Vec<u8>, at: usize, labels: &[u32]) -> Result<(), AllocError>
-    ensures { OnOk result (text.new.items ≡ text.old.items ++ line_text (codes "at") (decimal at ∷ number_words labels.now)) }
+/// Appends the line of equal rows, from an index on.
+fn append_run(text: &mut Vec<u8>, at: usize, run: LabelRun<'_>) -> Result<(), AllocError>
+    requires some { 0 < run.rows }
+    requires room { at + run.rows < 2 ^ 64 }
+    ensures { OnOk result (text.new.items ≡ text.old.items ++ range_text (record { first = at; last = at + run.entry.rows - 1; labels = run.entry.labels.now })) }
 {
     text.extend_from_slice(b"at")?;
     append_number(text, at)?;
-    append_numbers(text, labels)?;
+    append_number(text, at + run.rows - 1)?;
+    append_numbers(text, run.labels)?;
     text.push(b'\n')?;
     Ok(())
 }
 
-/// Appends the lines of equal rows, from an index on.
-fn append_run(text: &mut Vec<u8>, at: usize, run: LabelRun<'_>) -> Result<(), AllocError>
-    requires { at + run.rows < 2 ^ 64 }
-    ensures { OnOk result (text.new.items ≡ text.old.items ++ rows_text at (replicate run.entry.rows run.entry.labels.now)) }
-{
-    for i in 0..run.rows {
-        append_row(text, at + i, run.labels)?;
-    }
-    Ok(())
-}
-
-/// Appends the lines of labels.
-fn append_rows(text: &mut Vec<u8>, labels: &LabelRows) -> Result<(), AllocError>
+/// Appends the lines of labels, one for equal neighbours.
+fn append_labels(text: &mut Vec<u8>, labels: &LabelRows) -> Result<(), AllocError>
     requires { length labels.now.rows < 2 ^ 32 }
-    ensures { OnOk result (text.new.items ≡ text.old.items ++ rows_text 0 labels.now.rows) }
+    ensures { OnOk result (text.new.items ≡ text.old.items ++ labels_text Two labels.now.rows) }
 {
     let mut runs = labels.runs();
     let mut at = 0;
@@ -148,7 +141,7 @@ fn append_rows(text: &mut Vec<u8>, labels: &LabelRows) -> Result<(), AllocError>
 #[tactic(auto, unfolding(crate::specs::Printed::certificate_text))]
 fn append_certificate(text: &mut Vec<u8>, certificate: &Certificate) -> Result<(), AllocError>
     requires { Printable certificate.now }
-    ensures { OnOk result (text.new.items ≡ text.old.items ++ certificate_text certificate.now) }
+    ensures { OnOk result (text.new.items ≡ text.old.items ++ certificate_text Two certificate.now) }
 {
     let labels = &certificate.labels;
     append_field(text, b"section", certificate.section as usize)?;
@@ -156,13 +149,13 @@ fn append_certificate(text: &mut Vec<u8>, certificate: &Certificate) -> Result<(
     append_field(text, b"length", certificate.program_length() as usize)?;
     append_program(text, &certificate.program)?;
     append_registers(text, &certificate.registers)?;
-    append_rows(text, labels)
+    append_labels(text, labels)
 }
 
 /// Appends the lines of certificates.
 fn append_certificates(text: &mut Vec<u8>, certificates: &[Certificate]) -> Result<(), AllocError>
     requires { AllByRecursion Printable certificates.now }
-    ensures { OnOk result (text.new.items ≡ text.old.items ++ each_text certificates.now) }
+    ensures { OnOk result (text.new.items ≡ text.old.items ++ each_text Two certificates.now) }
 {
     for certificate in certificates {
         append_certificate(text, certificate)?;
@@ -170,19 +163,19 @@ fn append_certificates(text: &mut Vec<u8>, certificates: &[Certificate]) -> Resu
     Ok(())
 }
 
-/// Prints certificates, which can be read again.
+/// Prints certificates in version 2, so that they can be read again.
 ///
 /// # Errors
 ///
 /// `OutOfMemory` alone.
-#[tactic(auto, unfolding(crate::specs::Printed::certificates_text))]
+#[tactic(auto, unfolding(crate::specs::Printed::certificates_text, crate::specs::Printed::versioned_text))]
 pub fn print(alloc: Global, certificates: &[Certificate]) -> Result<Vec<u8>, CertFault>
     requires { AllByRecursion Printable certificates.now }
     ensures text { IfOk result (λ text. text.items ≡ certificates_text certificates.now) }
     ensures memory { IfErr result (λ fault. fault ≡ OutOfMemory) }
 {
     let mut text = Vec::new(alloc);
-    text.extend_from_slice(b"pefcert 1\n")?;
+    text.extend_from_slice(b"pefcert 2\n")?;
     append_certificates(&mut text, certificates)?;
     text.extend_from_slice(b"end\n")?;
     Ok(text)

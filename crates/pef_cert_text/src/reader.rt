@@ -1,22 +1,23 @@
 ghost use Rattle.std.specs.Prelude.{◌≡◌, ◌+◌, ◌*◌, ◌<◌, ◌≤◌, [], length, vec_len, IfOk, OnOk};
 ghost use Rattle.std.specs.List.{AllByRecursion};
 ghost use Rattle.pef_words.specs.Refusals.{result_map};
-ghost use Rattle.pef_cert_text.specs.Grammar.{certificate_read, certificates_of, line_read, rows_read};
+ghost use Rattle.pef_cert_text.specs.Grammar.{certificate_read, certificates_of, labels_read, line_read, ranges_read, rows_read};
 ghost use Rattle.pef_cert_text.specs.Kept.Reading.{Takes, left};
-ghost use Rattle.pef_cert_text.specs.Lines.{fixups_line, head_line, length_line, program_line, registers_line, row_line, version_line};
+ghost use Rattle.pef_cert_text.specs.Lines.{fixups_line, head_line, length_line, program_line, range_line, registers_line, row_line, version_line};
 ghost use Rattle.pef_cert_text.specs.Printed.{Printable};
 ghost use Rattle.pef_cert_text.specs.Views.{ReadsAs};
 
 use crate::CertFault;
-use crate::fields::{Head, fixups_line, head_line, length_line, version_line};
+use crate::fields::{Head, Version, fixups_line, head_line, length_line, version_line};
 use crate::lines::Lines;
-use crate::numbers::{registers_line, row_line};
+use crate::numbers::{WantedRange, range_line, registers_line, row_line};
 use crate::program::program_line;
 use pef_labels::{Certificate, LabelRows};
 use pef_reloc::Instr;
 use std::alloc::Global;
+use std::mem;
 
-/// Reads the certificates of a text, in time linear in it.
+/// Reads the certificates of a text in version 1 or 2, in time linear in it.
 ///
 /// # Errors
 ///
@@ -27,13 +28,13 @@ pub fn read(alloc: Global, text: &[u8]) -> Result<Vec<Certificate>, CertFault>
     ensures printable { IfOk result (λ v. AllByRecursion Printable v.items) }
 {
     let mut lines = Lines::new(text);
-    read_version(&mut lines)?;
+    let version = read_version(&mut lines)?;
     let mut certificates = Vec::new(alloc);
     'certificates: loop {
         match read_head(&mut lines)? {
             Head::End => break,
             Head::Section(section) => {
-                let certificate = read_certificate(alloc, &mut lines, section)?;
+                let certificate = read_certificate(alloc, &mut lines, version, section)?;
                 certificates.push(certificate)?;
             }
         }
@@ -46,7 +47,7 @@ pub fn read(alloc: Global, text: &[u8]) -> Result<Vec<Certificate>, CertFault>
 
 /// Reads the line of the version.
 #[tactic(auto, using(crate::proofs::ReadLemmas::line_missing, crate::proofs::ReadLemmas::line_taken))]
-fn read_version(lines: &mut Lines<'_>) -> Result<u32, CertFault>
+fn read_version(lines: &mut Lines<'_>) -> Result<Version, CertFault>
     ensures takes { Takes result (left lines.new) (line_read version_line (left lines.old)) }
     ensures less { OnOk result (length (left lines.new).text + 1 ≤ length (left lines.old).text) }
 {
@@ -73,16 +74,21 @@ fn read_head(lines: &mut Lines<'_>) -> Result<Head, CertFault>
 fn read_certificate(
     alloc: Global,
     lines: &mut Lines<'_>,
+    version: Version,
     section: u32,
 ) -> Result<Certificate, CertFault>
-    ensures takes { Takes result (left lines.new) (certificate_read section (left lines.old)) }
+    ensures takes { Takes result (left lines.new) (certificate_read version section (left lines.old)) }
     ensures no_more { length (left lines.new).text ≤ length (left lines.old).text }
 {
     let fixups = read_fixups(lines)?;
     let halfwords = read_length(lines)?;
     let program = read_program(alloc, lines, halfwords)?;
     let registers = read_registers(alloc, lines)?;
-    let labels = read_rows(alloc, lines, registers.len() + 1, fixups + 1)?;
+    let classes = registers.len() + 1;
+    let labels = match version {
+        Version::One => read_rows(alloc, lines, classes, fixups + 1)?,
+        Version::Two => read_ranges(alloc, lines, classes, fixups + 1)?,
+    };
     Ok(Certificate {
         section,
         program,
@@ -145,7 +151,7 @@ fn read_registers(alloc: Global, lines: &mut Lines<'_>) -> Result<Vec<u32>, Cert
     registers_line(alloc, line)
 }
 
-/// Reads so many lines of labels, for so many classes.
+/// Reads so many lines of labels of version 1, for so many classes.
 fn read_rows(
     alloc: Global,
     lines: &mut Lines<'_>,
@@ -161,6 +167,37 @@ fn read_rows(
     for at in 0..count {
         read_row(lines, classes * classes, at, &mut row)?;
         labels.push(&row)?;
+    }
+    Ok(labels)
+}
+
+/// Reads ranges of labels up to so many rows, for so many classes.
+fn read_ranges(
+    alloc: Global,
+    lines: &mut Lines<'_>,
+    classes: usize,
+    count: u32,
+) -> Result<LabelRows, CertFault>
+    requires few { classes ≤ 17 }
+    ensures takes { Takes (result_map (λ labels. labels.rows) result) (left lines.new) (ranges_read (classes * classes) count (count + 1) [] (left lines.old)) }
+    ensures no_more { length (left lines.new).text ≤ length (left lines.old).text }
+{
+    let width = classes * classes;
+    let mut labels = LabelRows::new(alloc, width);
+    let mut before = Vec::new(alloc);
+    let mut row = Vec::new(alloc);
+    let mut first = 0;
+    'rows: while first < count {
+        let wanted = WantedRange {
+            first,
+            count,
+            width,
+            before: &before,
+        };
+        let last = read_range(lines, wanted, &mut row)?;
+        labels.push_many(&row, (last - first + 1) as usize)?;
+        mem::swap(&mut before, &mut row);
+        first = last + 1;
     }
     Ok(labels)
 }
@@ -181,4 +218,23 @@ fn read_row(
         return Err(lines.fault());
     };
     row_line(line, width, at, row)
+}
+
+/// Makes a row of the labels of the next line, which is a range, and gives the index of its last row.
+#[tactic(auto, using(crate::proofs::ReadLemmas::line_missing, crate::proofs::ReadLemmas::line_taken))]
+fn read_range(
+    lines: &mut Lines<'_>,
+    wanted: WantedRange<'_>,
+    row: &mut Vec<u32>,
+) -> Result<u32, CertFault>
+    ensures takes { Takes (result_map (λ last. record { first = wanted.entry.first; last = last; labels = row.new.items }) result) (left lines.new) (line_read (range_line wanted.entry.width wanted.entry.count wanted.entry.first wanted.entry.before.now) (left lines.old)) }
+    ensures wide { OnOk result (vec_len row.new ≡ wanted.entry.width) }
+    ensures forward { IfOk result (λ last. wanted.entry.first ≤ last) }
+    ensures inside { IfOk result (λ last. last < wanted.entry.count) }
+    ensures no_more { length (left lines.new).text ≤ length (left lines.old).text }
+{
+    let Some(line) = lines.next_line() else {
+        return Err(lines.fault());
+    };
+    range_line(line, wanted, row)
 }

@@ -1,25 +1,28 @@
 //! Laws of the definitions. The functions do nothing.
-ghost use Rattle.std.specs.Prelude.{◌≡◌, ◌^◌, ◌<◌, ℕ, List, Ok, true};
+ghost use Rattle.std.specs.Prelude.{◌≡◌, ◌⊎◌, ◌^◌, ◌<◌, ℕ, List, Ok, true};
 ghost use Rattle.std.specs.List.{AllByRecursion};
 ghost use Rattle.pef_labels.specs.Certified.{Certified};
 ghost use Rattle.pef_cert.specs.Valid.{Valid};
+ghost use Rattle.pef_cert_text.specs.declared.fields.Version.{Version};
+ghost use Rattle.pef_cert_text.specs.declared.fields.Version.TheVariants.{One};
 ghost use Rattle.pef_cert_text.specs.Grammar.{certificates_of};
-ghost use Rattle.pef_cert_text.specs.Printed.{Printable, certificates_text};
+ghost use Rattle.pef_cert_text.specs.Printed.{Printable, certificates_text, versioned_text};
 ghost use Rattle.pef_reloc.specs.Fixups.{fixups_fit};
 ghost use Rattle.pef_reloc.specs.declared.fixup.Fixup.{Fixup};
 
-/// What is printed of certificates is read as these.
-#[tactic(auto, using(crate::proofs::ReadsBack::reads_back))]
+/// What is printed of certificates is read as these, and so is their text in any version.
+#[tactic(auto, using(crate::proofs::ReadsBack::reads_back, crate::proofs::ReadsBack::version_reads_back))]
 pub fn printed_texts()
-    ensures { (certificates : List Certified) → AllByRecursion Printable certificates → certificates_of (certificates_text certificates) ≡ Ok certificates }
+    ensures versions { (version : Version) (certificates : List Certified) → AllByRecursion Printable certificates → certificates_of (versioned_text version certificates) ≡ Ok certificates }
+    ensures printed { (certificates : List Certified) → AllByRecursion Printable certificates → certificates_of (certificates_text certificates) ≡ Ok certificates }
 {}
 
-/// What is read of a text can be printed, and the text is what is printed of it. So a list of certificates
-/// has one text, and a text at most one list.
+/// What is read of a text can be printed, and the text is what is printed of it, or its text in version 1. So a
+/// list of certificates has one text in each version, and a text at most one list.
 #[tactic(auto, using(crate::proofs::TextsRead::read_can_be_printed, crate::proofs::TextsRead::read_text_is))]
 pub fn read_texts()
     ensures printable { (text : List ℕ) (certificates : List Certified) → certificates_of text ≡ Ok certificates → AllByRecursion Printable certificates }
-    ensures text { (text : List ℕ) (certificates : List Certified) → certificates_of text ≡ Ok certificates → text ≡ certificates_text certificates }
+    ensures text { (text : List ℕ) (certificates : List Certified) → certificates_of text ≡ Ok certificates → (text ≡ certificates_text certificates) ⊎ (text ≡ versioned_text One certificates) }
 {}
 
 /// A certificate that is valid for fixups that fit can be printed, where its section is a number of 32 bits.

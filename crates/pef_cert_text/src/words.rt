@@ -1,8 +1,8 @@
 ghost use Rattle.std.specs.Prelude.{◌≡◌, option_map};
 ghost use Rattle.pef_cert_text.specs.Kept.Reading.{words_left};
-ghost use Rattle.pef_cert_text.specs.Words.{behind, first_of, none_left, words_of};
+ghost use Rattle.pef_cert_text.specs.Words.{behind, first_number, first_of, none_left, words_of};
 
-use pef_lines::cut_at;
+use pef_lines::{cut_at, decimal_number};
 
 /// The words that are left of a line.
 #[derive(Clone, Copy)]
@@ -43,6 +43,13 @@ impl<'a> Words<'a> {
                 Some(rest)
             }
         }
+    }
+
+    /// Takes the next word, and gives the number that it spells.
+    pub fn next_number(&mut self) -> Option<u32>
+        ensures { option_map (λ number. (number, words_left self.new)) result ≡ first_number (words_left self.old) }
+    {
+        decimal_number(self.next_word()?)
     }
 
     /// Takes the next word where it is the one that is wanted.

@@ -1,13 +1,14 @@
 -- What the reader's types show, and what its steps say.
-use Rattle.std.specs.Prelude.{◌≡◌, ℕ, ◌+◌, ◌<◌, length, List, [], Option, None, Some, Result, Ok, Err}
+use Rattle.std.specs.Prelude.{◌≡◌, ℕ, ◌+◌, ◌<◌, ◌≤◌, length, List, [], Option, None, Some, Result, Ok, Err}
 use Rattle.std.specs.Option.{ok_or, option_copied}
 use Rattle.pef_labels.specs.Certified.{Certified}
 use Rattle.pef_lines.specs.Lines.{cut_at}
 use Rattle.pef_cert_text.specs.declared.fault.CertFault.{CertFault}
+use Rattle.pef_cert_text.specs.declared.fields.Version.{Version}
 use Rattle.pef_cert_text.specs.declared.lines.Line.{Line}
 use Rattle.pef_cert_text.specs.declared.lines.Lines.{Lines}
 use Rattle.pef_cert_text.specs.declared.words.Words.{Words}
-use Rattle.pef_cert_text.specs.Grammar.{Left, certificates_of, certificates_read}
+use Rattle.pef_cert_text.specs.Grammar.{Left, certificates_of, certificates_read, ranges_read}
 use Rattle.pef_cert_text.specs.Views.{FailsAs, ReadsAs}
 use Rattle.pef_cert_text.specs.Words.{words_of}
 
@@ -39,7 +40,14 @@ NextLine None old new = (cut_at 0x0A old.text ≡ None) × (new ≡ old)
 NextLine (Some line) old new = (line.number ≡ old.number) × (cut_at 0x0A old.text ≡ Some (line.bytes.now, new.text)) × (new.number ≡ old.number + 1)
 
 -- behind some certificates of a text so much is left, which makes those of the whole
-pub record Going (text : List ℕ) (certificates : List Certified) (behind : Left) : Type 0 where
+pub record Going (version : Version) (text : List ℕ) (certificates : List Certified) (behind : Left) : Type 0 where
   pub most : ℕ
   pub more : length behind.text < most
-  pub whole : certificates_read most certificates behind ≡ certificates_of text
+  pub whole : certificates_read version most certificates behind ≡ certificates_of text
+
+-- behind some rows of ranges so much is left, which makes the rows of all
+pub record RangesGoing (width count : ℕ) (rows : List (List ℕ)) (behind old : Left) : Type 0 where
+  pub most : ℕ
+  pub few : length rows ≤ count
+  pub more : count < most + length rows
+  pub whole : ranges_read width count most rows behind ≡ ranges_read width count (count + 1) [] old

@@ -4,7 +4,7 @@ use Rattle.pef_cert_text.proofs.reader.read.Given as goal
 
 -- the certificates so far and those of the lines that are left are all
 abbrev pub invariant-certificates : goal.invariant-certificates
-invariant-certificates l = Going l.text l.certificates.items (left l.lines)
+invariant-certificates l = Going l.version l.text l.certificates.items (left l.lines)
 
 abbrev pub decreases-certificates : goal.decreases-certificates
 decreases-certificates l = length (left l.lines).text

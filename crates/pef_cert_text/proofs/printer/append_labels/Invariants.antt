@@ -1,11 +1,12 @@
 use Rattle.std.proofs.Common.{◌≡◌, ◌+◌, ◌++◌, length}
-use Rattle.pef_cert_text.specs.Printed.{rows_text}
-use Rattle.pef_cert_text.proofs.printer.append_rows.Given as goal
+use Rattle.pef_cert_text.specs.declared.fields.Version.TheVariants.{Two}
+use Rattle.pef_cert_text.specs.Printed.{labels_text, ranges_of, ranges_text}
+use Rattle.pef_cert_text.proofs.printer.append_labels.Given as goal
 
 -- the rows that are left complete the text
 abbrev pub invariant-loop-run : goal.invariant-loop-run
 invariant-loop-run l = record {
-  text : l.text.items ++ rows_text l.at l.runs ≡ l.fn.text.items ++ rows_text 0 l.labels.rows;
+  text : l.text.items ++ ranges_text (ranges_of l.at l.runs) ≡ l.fn.text.items ++ labels_text Two l.labels.rows;
   count : l.at + length l.runs ≡ length l.labels.rows;
 }
 
