@@ -5,6 +5,8 @@
 #[cfg(test)]
 mod fixture;
 #[cfg(test)]
+mod format;
+#[cfg(test)]
 mod hash;
 #[cfg(test)]
 mod loader;

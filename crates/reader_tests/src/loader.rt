@@ -1,9 +1,6 @@
 use crate::fixture::refused_loader;
-use pef_loader::layout::{
-    ABSOLUTE_EXPORT, CODE_SYMBOL, DATA_SYMBOL, GLUE_SYMBOL, INIT_BEFORE, REEXPORTED_IMPORT,
-    TOC_SYMBOL, TRANSITION_VECTOR_SYMBOL, WEAK_LIBRARY,
-};
-use pef_loader::{ImportReader, ImportTable, ImportView, Loader, LoaderHeader};
+use pef_format::{ExportValue, ImportView, LibraryOptions, SymbolClass};
+use pef_loader::{ImportReader, ImportTable, Loader, LoaderHeader};
 use pef_views::Container;
 use std::alloc::Global;
 use std::process::Abort;
@@ -27,20 +24,6 @@ const LIBRARIES: [u8; 195] = [
     0x82, 0x00, 0x00, 0x06, 0x14, 0x00, 0x00, 0x08, 0x4C, 0x00, 0x4D, 0x00, 0x76, 0x00, 0x77, 0x00,
     0x78, 0x79, 0x00,
 ];
-
-#[test]
-fn values_of_fields(rt: HostRuntime) {
-    let classes = [
-        CODE_SYMBOL,
-        DATA_SYMBOL,
-        TRANSITION_VECTOR_SYMBOL,
-        TOC_SYMBOL,
-        GLUE_SYMBOL,
-    ];
-    assert!(rt; classes == [0, 1, 2, 3, 4]);
-    assert!(rt; (INIT_BEFORE, WEAK_LIBRARY) == (0x80, 0x40));
-    assert!(rt; (ABSOLUTE_EXPORT, REEXPORTED_IMPORT) == (-2, -3));
-}
 
 /// Words at some places, and the number of the refusal.
 type Refused = (&'static [(usize, u32)], Option<u32>);
@@ -164,12 +147,12 @@ fn test_relocs(rt: &impl Abort, loader: &Loader<'_>) {
     assert!(rt; loader.reloc(1).is_none());
 }
 
-/// An export: its name, its class, its section and its value.
-type Exported<'a> = (&'a [u8], u8, i32, u32);
+/// An export: its name, its class and its value.
+type Exported<'a> = (&'a [u8], SymbolClass, ExportValue);
 
 fn exported<'a>(loader: &Loader<'a>, i: usize) -> Option<Exported<'a>> {
     let export = loader.export(i)?;
-    Some((export.name, export.class, export.section, export.value))
+    Some((export.name, export.class(), export.value()))
 }
 
 /// Where `main`, `init` and `term` stand: a section and an offset.
@@ -186,7 +169,11 @@ fn relocs_exports_and_entries(rt: HostRuntime) {
     assert!(rt; counts(&loader) == [0, 0, 1, 1]);
     test_header(&rt, loader.header());
     test_relocs(&rt, &loader);
-    let export = (&GO[230..232], TRANSITION_VECTOR_SYMBOL, 1, 0);
+    let value = ExportValue::InSection {
+        section: 1,
+        offset: 0,
+    };
+    let export = (&GO[230..232], SymbolClass::TransitionVector, value);
     assert!(rt; exported(&loader, 0) == Some(export));
     assert!(rt; exported(&loader, 1).is_none());
     assert!(rt; entries(&loader) == (Some((1, 0)), None, None));
@@ -204,7 +191,8 @@ const OTHER_ENTRIES: &[(usize, u32)] = &[
 
 fn test_other_entries(rt: &impl Abort, loader: &Loader<'_>) {
     assert!(rt; entries(loader) == (None, Some((0, 4)), Some((1, 12))));
-    let export = (&GO[230..232], TRANSITION_VECTOR_SYMBOL, ABSOLUTE_EXPORT, 0);
+    let value = ExportValue::Absolute(0);
+    let export = (&GO[230..232], SymbolClass::TransitionVector, value);
     assert!(rt; exported(loader, 0) == Some(export));
 }
 
@@ -244,12 +232,19 @@ fn exports_named(rt: HostRuntime) {
 
 /// A library: its name, its version and the oldest implementation, how many imports it has and the first of
 /// them, and its options.
-type Needed<'a> = (&'a [u8], u32, u32, u32, u32, u8);
+type Needed<'a> = (&'a [u8], u32, u32, u32, u32, LibraryOptions);
 
-const NEEDED: &[Needed<'static>] = &[
-    (b"L", 5, 3, 2, 0, WEAK_LIBRARY),
-    (b"M", 1, 0, 2, 1, INIT_BEFORE),
-];
+const WEAK: LibraryOptions = LibraryOptions {
+    init_before: false,
+    weak: true,
+};
+
+const FIRST: LibraryOptions = LibraryOptions {
+    init_before: true,
+    weak: false,
+};
+
+const NEEDED: &[Needed<'static>] = &[(b"L", 5, 3, 2, 0, WEAK), (b"M", 1, 0, 2, 1, FIRST)];
 
 fn needed<'a>(loader: &Loader<'a>, i: usize) -> Option<Needed<'a>> {
     let library = loader.library(i)?;
@@ -259,7 +254,7 @@ fn needed<'a>(loader: &Loader<'a>, i: usize) -> Option<Needed<'a>> {
         library.old_imp,
         library.count,
         library.first,
-        library.options,
+        library.options(),
     ))
 }
 
@@ -272,18 +267,18 @@ fn test_libraries(rt: &impl Abort, loader: &Loader<'_>) {
 }
 
 /// An import: its name and its class, whether it is weak, and its library.
-type Imported<'a> = (&'a [u8], u8, bool, usize);
+type Imported<'a> = (&'a [u8], SymbolClass, bool, usize);
 
 /// Import 1 is in both ranges, and belongs to the first.
 const IMPORTED: &[Imported<'static>] = &[
-    (b"v", DATA_SYMBOL, false, 0),
-    (b"w", TRANSITION_VECTOR_SYMBOL, true, 0),
-    (b"xy", GLUE_SYMBOL, false, 1),
+    (b"v", SymbolClass::Data, false, 0),
+    (b"w", SymbolClass::TransitionVector, true, 0),
+    (b"xy", SymbolClass::Glue, false, 1),
 ];
 
 fn imported<'a>(import: Option<ImportView<'a>>) -> Option<Imported<'a>> {
     let import = import?;
-    Some((import.name, import.class, import.weak, import.library))
+    Some((import.name, import.class(), import.weak, import.library))
 }
 
 /// Tests an import, or that there is none.

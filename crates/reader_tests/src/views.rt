@@ -1,6 +1,6 @@
 use crate::fixture::refused_container;
-use pef_views::layout::{DEBUG_SECTION, EXCEPTION_SECTION, TRACEBACK_SECTION};
-use pef_views::{Container, Header, SectionView};
+use pef_format::SectionKind;
+use pef_views::{Container, Header, SectionHeader};
 use std::process::Abort;
 use test_data::changes::with_words;
 use test_data::containers::VECTORS_BYTES as BYTES;
@@ -127,27 +127,27 @@ const SECTIONS: &[Fields] = &[
     ),
 ];
 
-fn fields(section: &SectionView<'_>) -> Fields {
+fn fields(header: SectionHeader) -> Fields {
     let words = [
-        section.default_address,
-        section.total_size,
-        section.unpacked_size,
-        section.packed_size,
-        section.container_offset,
+        header.default_address,
+        header.total_size,
+        header.unpacked_size,
+        header.packed_size,
+        header.container_offset,
     ];
     let bytes = [
-        section.section_kind,
-        section.share_kind,
-        section.alignment,
-        section.reserved,
+        header.section_kind,
+        header.share_kind,
+        header.alignment,
+        header.reserved,
     ];
-    (section.name_offset, words, bytes)
+    (header.name_offset, words, bytes)
 }
 
 fn test_sections(rt: &impl Abort, container: &Container<'_>) {
     for (i, wanted) in SECTIONS.iter().enumerate() {
         let section = container.section(i).expect(rt, "a section");
-        assert!(rt; fields(&section) == *wanted, "section {i}");
+        assert!(rt; fields(section.header) == *wanted, "section {i}");
         assert!(rt; Some(section.raw) == container.raw(i), "section {i}");
     }
     assert!(rt; container.section(3).is_none());
@@ -161,18 +161,18 @@ fn section(rt: HostRuntime) {
 }
 
 /// Kinds of sections that aren't instantiated, and a word of a section header with each.
-const OTHER_KINDS: &[(u8, u32)] = &[
-    (DEBUG_SECTION, 0x0504_0400),
-    (EXCEPTION_SECTION, 0x0704_0400),
-    (TRACEBACK_SECTION, 0x0804_0400),
+const OTHER_KINDS: &[(SectionKind, u32)] = &[
+    (SectionKind::Debug, 0x0504_0400),
+    (SectionKind::Exception, 0x0704_0400),
+    (SectionKind::Traceback, 0x0804_0400),
 ];
 
 /// Tests the kind of section 3, which is behind those that are instantiated.
-fn test_kind(rt: &impl Abort, bytes: &[u8], kind: u8) {
+fn test_kind(rt: &impl Abort, bytes: &[u8], kind: SectionKind) {
     let container = Container::read(bytes).expect(rt, "a container");
     assert!(rt; container.header().instantiated_section_count == 2);
     let section = container.section(3).expect(rt, "a section");
-    assert!(rt; section.section_kind == kind);
+    assert!(rt; section.header.kind() == kind);
 }
 
 #[test]
@@ -188,7 +188,7 @@ fn not_instantiated(rt: HostRuntime) {
             &rt,
             "a changed container",
         );
-        assert!(rt; refused_container(&bytes) == Some(7), "kind {kind}");
+        assert!(rt; refused_container(&bytes) == Some(7), "word {word}");
     }
 }
 
