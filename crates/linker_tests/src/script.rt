@@ -81,9 +81,33 @@ const ANY_ORDER: &[(&str, &[&str], u32)] = &[
     ("9", &["tvector d 0 d d", "fix d 3 section d"], 46),
     ("9", &["fix d 0 section d", "tvector d 1 d d"], 46),
     // Against an earlier line than the one before, from above and from below.
-    ("16", &["fix d 0 section d", "fix d 12 section d", "fix d 2 section d"], 46),
-    ("16", &["fix d 12 section d", "fix d 0 section d", "fix d 10 section d"], 46),
-    ("16", &["fix d 12 section d", "fix d 0 section d", "fix d 6 section d"], 0),
+    (
+        "16",
+        &[
+            "fix d 0 section d",
+            "fix d 12 section d",
+            "fix d 2 section d",
+        ],
+        46,
+    ),
+    (
+        "16",
+        &[
+            "fix d 12 section d",
+            "fix d 0 section d",
+            "fix d 10 section d",
+        ],
+        46,
+    ),
+    (
+        "16",
+        &[
+            "fix d 12 section d",
+            "fix d 0 section d",
+            "fix d 6 section d",
+        ],
+        0,
+    ),
 ];
 
 /// Texts, and the number and the line of their refusal.
@@ -184,7 +208,11 @@ fn refusal_of_lines(rt: &impl Abort, alloc: Global, total: &str, lines: &[&str])
 fn read_any_order(rt: HostRuntime) {
     for row in ANY_ORDER {
         let (total, lines, number) = *row;
-        let wanted = if number == 0 { None } else { Some((number, lines.len() + 1)) };
+        let wanted = if number == 0 {
+            None
+        } else {
+            Some((number, lines.len() + 1))
+        };
         let found = refusal_of_lines(&rt, rt.alloc(), total, lines);
         assert!(rt; found == wanted, "{total} {}", lines[lines.len() - 1]);
     }
@@ -299,8 +327,20 @@ fn has_sections(script: &Script) -> bool {
             base: Base::Import(1),
         },
     ];
-    let data = (b"data" as &[u8], SectionKind::UnpackedData, Share::Process, 12, 16);
-    let packed = (b"packed" as &[u8], SectionKind::PatternData, Share::Protected, 2, 8);
+    let data = (
+        b"data" as &[u8],
+        SectionKind::UnpackedData,
+        Share::Process,
+        12,
+        16,
+    );
+    let packed = (
+        b"packed" as &[u8],
+        SectionKind::PatternData,
+        Share::Protected,
+        2,
+        8,
+    );
     section(script, 1) == Some(data)
         && section(script, 2) == Some(packed)
         && section(script, 3).is_none()

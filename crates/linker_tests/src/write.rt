@@ -43,7 +43,10 @@ fix d 4 section d
 /// Its container: in `ONE_SECTION` the kind and the raw bytes are others.
 const PACKED: &[Change] = &[
     (At::Front(64), &[0x02]),
-    (At::Front(96), &[0x24, 0x11, 0x22, 0x33, 0x44, 0x03, 0x23, 0x08, 0x01, 0x02]),
+    (
+        At::Front(96),
+        &[0x24, 0x11, 0x22, 0x33, 0x44, 0x03, 0x23, 0x08, 0x01, 0x02],
+    ),
 ];
 
 /// Lines after `library L 1 0 -`, `import v data strong`, `import w data weak` and `section m data process 4 4`, and
@@ -53,7 +56,10 @@ const EXPORTED: &[(&str, [u8; 6])] = &[
     ("reexport u data v", [0, 0, 0, 0, 0xFF, 0xFD]),
     ("reexport u data w", [0, 0, 0, 1, 0xFF, 0xFD]),
     ("absolute u data 0x2A", [0, 0, 0, 0x2A, 0xFF, 0xFE]),
-    ("absolute u data 0xFFFFFFFF", [0xFF, 0xFF, 0xFF, 0xFF, 0xFF, 0xFE]),
+    (
+        "absolute u data 0xFFFFFFFF",
+        [0xFF, 0xFF, 0xFF, 0xFF, 0xFF, 0xFE],
+    ),
 ];
 
 const WHOLE_SCRIPT: &[u8] = b"versions 3 1 2
@@ -179,13 +185,15 @@ fn packed(rt: HostRuntime) {
     for (at, other) in PACKED {
         change(&mut bytes, *at, other).expect(&rt, "a place in the container");
     }
-    test_link(&rt, rt.alloc(), &(PACKED_SCRIPT, &bytes, &[1]));
+    let linked = link_text(rt.alloc(), PACKED_SCRIPT).expect(&rt, "a container");
+    test_linked(&rt, &linked, &bytes, &[1]);
 }
 
 /// The last six bytes of the container of the lines of `EXPORTED` with one more.
 fn last_six(rt: &impl Abort, alloc: Global, line: &str) -> Vec<u8> {
-    let text = format!(in alloc; "library L 1 0 -\nimport v data strong\nimport w data weak\nsection m data process 4 4\n{line}\n")
-        .expect(rt, "memory");
+    let text = format!(in alloc;
+        "library L 1 0 -\nimport v data strong\nimport w data weak\nsection m data process 4 4\n{line}\n"
+    ).expect(rt, "memory");
     let linked = link_text(alloc, text.as_bytes()).expect(rt, "a container");
     let bytes = linked.bytes();
     Vec::from_slice(alloc, &bytes[bytes.len().saturating_sub(6)..]).expect(rt, "memory")
@@ -194,7 +202,10 @@ fn last_six(rt: &impl Abort, alloc: Global, line: &str) -> Vec<u8> {
 #[test]
 fn exported(rt: HostRuntime) {
     for (line, wanted) in EXPORTED {
-        assert!(rt; last_six(&rt, rt.alloc(), line).as_slice() == wanted, "{line}");
+        assert!(rt;
+            last_six(&rt, rt.alloc(), line).as_slice() == wanted.as_slice(),
+            "{line}"
+        );
     }
 }
 
