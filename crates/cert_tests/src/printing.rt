@@ -1,10 +1,26 @@
-use crate::texts::{LARGE_NUMBERS, NOTHING, ONE_SECTION, TWO_SECTIONS};
+use crate::texts::{
+    LARGE_NUMBERS, LARGE_NUMBERS_RANGES, MOST_ROWS_RANGES, NOTHING, NOTHING_RANGES, ONE_SECTION,
+    ONE_SECTION_RANGES, TWO_SECTIONS, TWO_SECTIONS_RANGES, WORDS, WORDS_RANGES,
+};
 use pef_cert_text::{print, read};
 use std::alloc::Global;
 use std::fmt::Write;
 use std::process::Abort;
 
-const TEXTS: &[&str] = &[TWO_SECTIONS, NOTHING, ONE_SECTION, LARGE_NUMBERS];
+/// Texts in either version, and what is printed of what is read of them.
+const TEXTS: &[(&str, &str)] = &[
+    (TWO_SECTIONS, TWO_SECTIONS_RANGES),
+    (TWO_SECTIONS_RANGES, TWO_SECTIONS_RANGES),
+    (NOTHING, NOTHING_RANGES),
+    (NOTHING_RANGES, NOTHING_RANGES),
+    (ONE_SECTION, ONE_SECTION_RANGES),
+    (ONE_SECTION_RANGES, ONE_SECTION_RANGES),
+    (WORDS, WORDS_RANGES),
+    (WORDS_RANGES, WORDS_RANGES),
+    (LARGE_NUMBERS, LARGE_NUMBERS_RANGES),
+    (LARGE_NUMBERS_RANGES, LARGE_NUMBERS_RANGES),
+    (MOST_ROWS_RANGES, MOST_ROWS_RANGES),
+];
 
 /// What is printed of what is read of a text.
 fn read_and_printed(rt: &impl Abort, alloc: Global, text: &str) -> Vec<u8> {
@@ -12,12 +28,12 @@ fn read_and_printed(rt: &impl Abort, alloc: Global, text: &str) -> Vec<u8> {
     print(alloc, &certificates).expect(rt, "a text")
 }
 
-/// What is read of a text is printed as that text.
 #[test]
 fn printed_again(rt: HostRuntime) {
-    for text in TEXTS {
-        let printed = read_and_printed(&rt, rt.alloc(), *text);
-        assert!(rt; printed.as_slice() == text.as_bytes(), "{text}");
+    for row in TEXTS {
+        let (text, want) = *row;
+        let printed = read_and_printed(&rt, rt.alloc(), text);
+        assert!(rt; printed.as_slice() == want.as_bytes(), "{text}");
     }
 }
 
@@ -26,7 +42,7 @@ fn most_fixups(rt: &impl Abort, alloc: Global) -> String {
     let mut text = String::new(alloc);
     push_head(rt, &mut text);
     for i in 0..=65_536u32 {
-        writeln!(text, "at {i} {i}").expect(rt, "memory");
+        writeln!(text, "at {i} {i} {i}").expect(rt, "memory");
     }
     text.push_str("end\n").expect(rt, "memory");
     text
@@ -34,7 +50,7 @@ fn most_fixups(rt: &impl Abort, alloc: Global) -> String {
 
 /// The lines before the rows.
 fn push_head(rt: &impl Abort, text: &mut String) {
-    text.push_str("pefcert 1\nsection 0\nfixups 65536\nlength 65536\nprogram")
+    text.push_str("pefcert 2\nsection 0\nfixups 65536\nlength 65536\nprogram")
         .expect(rt, "memory");
     for _ in 0..65_536 {
         text.push_str(" 4000").expect(rt, "memory");

@@ -1,4 +1,4 @@
-use crate::texts::TWO_SECTIONS;
+use crate::texts::{MOST_ROWS_RANGES, TWO_SECTIONS, TWO_SECTIONS_RANGES};
 use pef_cert_text::read;
 use pef_labels::Certificate;
 use pef_reloc::Instr;
@@ -50,8 +50,18 @@ fn assert_labels(rt: &impl Abort, alloc: Global, certificates: &[Certificate]) {
 
 #[test]
 fn labels_in_rows(rt: HostRuntime) {
-    let certificates = read(rt.alloc(), TWO_SECTIONS.as_bytes()).expect(&rt, "certificates");
-    assert_labels(&rt, rt.alloc(), &certificates);
+    for text in [TWO_SECTIONS, TWO_SECTIONS_RANGES] {
+        let certificates = read(rt.alloc(), text.as_bytes()).expect(&rt, "certificates");
+        assert_labels(&rt, rt.alloc(), &certificates);
+    }
+}
+
+/// A range of few bytes may have as many rows as there may be.
+#[test]
+fn most_rows(rt: HostRuntime) {
+    let certificates = read(rt.alloc(), MOST_ROWS_RANGES.as_bytes()).expect(&rt, "certificates");
+    assert!(rt; certificates.len() == 1);
+    assert!(rt; has(&certificates[0], 0, &[], &[], 65_537));
 }
 
 /// Texts behind `pefcert 1`, and the number of the line that is refused, or `None` where the text is read.
@@ -147,11 +157,16 @@ const TEXTS: &[(&str, Option<usize>)] = &[
         "section 0\nfixups 1\nlength 0\nprogram -\nregisters *\nat 0 0\nat 0 0\n",
         Some(8),
     ),
+    // ranges
+    (
+        "section 0\nfixups 1\nlength 0\nprogram -\nregisters *\nat 0 1 0\n",
+        Some(7),
+    ),
 ];
 
-/// The line of a refusal of these lines behind `pefcert 1`.
-fn refused_line_behind(rt: &impl Abort, alloc: Global, lines: &str) -> Option<usize> {
-    let mut text = String::from_str(alloc, "pefcert 1\n").expect(rt, "memory");
+/// The line of a refusal of these lines behind others.
+fn refused_line_behind(rt: &impl Abort, alloc: Global, before: &str, lines: &str) -> Option<usize> {
+    let mut text = String::from_str(alloc, before).expect(rt, "memory");
     text.push_str(lines).expect(rt, "memory");
     refused_line(rt, alloc, &text)
 }
@@ -160,8 +175,96 @@ fn refused_line_behind(rt: &impl Abort, alloc: Global, lines: &str) -> Option<us
 fn lines(rt: HostRuntime) {
     for row in TEXTS {
         let (lines, line) = *row;
-        let refused = refused_line_behind(&rt, rt.alloc(), lines);
+        let refused = refused_line_behind(&rt, rt.alloc(), "pefcert 1\n", lines);
         assert!(rt; refused == line, "{lines}");
+    }
+}
+
+/// The lines before the ranges of a certificate with three fixups, of which the last is line 6.
+const BEFORE_RANGES: &str =
+    "pefcert 2\nsection 2\nfixups 3\nlength 2\nprogram 6402 4202\nregisters 2 *\n";
+
+/// Lines behind these, and the number of the line that is refused, or `None` where the text is read.
+const RANGES: &[(&str, Option<usize>)] = &[
+    (
+        "at 0 1 1 1 1 2\nat 2 2 1 1 1 1\nat 3 3 0 0 0 0\nend\n",
+        None,
+    ),
+    ("at 0 3 0 0 0 0\nend\n", None),
+    // equal neighbours
+    (
+        "at 0 0 1 1 1 2\nat 1 1 1 1 1 2\nat 2 2 1 1 1 1\nat 3 3 0 0 0 0\nend\n",
+        Some(8),
+    ),
+    ("at 0 2 0 0 0 0\nat 3 3 0 0 0 0\nend\n", Some(8)),
+    // equal ranges that aren't neighbours
+    (
+        "at 0 0 1 1 1 1\nat 1 2 0 0 0 0\nat 3 3 1 1 1 1\nend\n",
+        None,
+    ),
+    // a range that ends before it begins
+    (
+        "at 0 1 1 1 1 2\nat 2 1 1 1 1 1\nat 2 3 0 0 0 0\nend\n",
+        Some(8),
+    ),
+    // a gap, and an index twice
+    ("at 0 1 1 1 1 2\nat 3 3 0 0 0 0\nend\n", Some(8)),
+    (
+        "at 0 1 1 1 1 2\nat 1 2 1 1 1 1\nat 3 3 0 0 0 0\nend\n",
+        Some(8),
+    ),
+    ("at 0 1 1 1 1 2\nat 0 3 1 1 1 1\nend\n", Some(8)),
+    // the first range doesn't begin at 0
+    ("at 1 3 0 0 0 0\nend\n", Some(7)),
+    // the last one ends above the number of fixups, and below it
+    ("at 0 4 0 0 0 0\nend\n", Some(7)),
+    ("at 0 1 1 1 1 2\nat 2 4 0 0 0 0\nend\n", Some(8)),
+    ("at 0 2 0 0 0 0\nend\n", Some(8)),
+    ("at 0 2 0 0 0 0\n", Some(8)),
+    ("end\n", Some(7)),
+    // a range behind the last one
+    ("at 0 3 0 0 0 0\nat 4 4 1 1 1 1\nend\n", Some(8)),
+    // rows of version 1
+    (
+        "at 0 1 1 1 2\nat 1 1 1 1 2\nat 2 1 1 1 1\nat 3 0 0 0 0\nend\n",
+        Some(7),
+    ),
+    // other numbers of labels, and words that are none
+    ("at 0 3 0 0 0\nend\n", Some(7)),
+    ("at 0 3 0 0 0 0 0\nend\n", Some(7)),
+    ("at 0\nend\n", Some(7)),
+    ("at\nend\n", Some(7)),
+    ("at 0 03 0 0 0 0\nend\n", Some(7)),
+    ("at 0  3 0 0 0 0\nend\n", Some(7)),
+    ("at 0 4294967296 0 0 0 0\nend\n", Some(7)),
+    ("at 0 3 0 0 0 4294967296\nend\n", Some(7)),
+    ("at 0 3 0 0 0 4294967295\nend\n", None),
+];
+
+#[test]
+fn ranges(rt: HostRuntime) {
+    for row in RANGES {
+        let (lines, line) = *row;
+        let refused = refused_line_behind(&rt, rt.alloc(), BEFORE_RANGES, lines);
+        assert!(rt; refused == line, "{lines}");
+    }
+}
+
+/// Lines behind `pefcert 2`, of which the last is refused, and its number.
+const LIMITS: &[(&str, usize)] = &[
+    ("section 0\nfixups 65537\n", 3),
+    (
+        "section 0\nfixups 0\nlength 0\nprogram -\nregisters 0 1 2 3 4 5 6 7 8 9 10 11 12 13 14 15 16 *\n",
+        6,
+    ),
+];
+
+#[test]
+fn limits(rt: HostRuntime) {
+    for row in LIMITS {
+        let (lines, line) = *row;
+        let refused = refused_line_behind(&rt, rt.alloc(), "pefcert 2\n", lines);
+        assert!(rt; refused == Some(line), "{lines}");
     }
 }
 
@@ -173,7 +276,9 @@ const WHOLE_TEXTS: &[(&str, Option<usize>)] = &[
     ("pefcert 01\nend\n", Some(1)),
     ("pefcert 1 \nend\n", Some(1)),
     ("pefcert 1\r\nend\n", Some(1)),
+    ("pefcert 0\nend\n", Some(1)),
     ("pefcert 1\nend\n", None),
+    ("pefcert 2\nend\n", None),
 ];
 
 #[test]

@@ -11,11 +11,17 @@ const WORDS: [&str; 2] = ["distances", "a"];
 /// Scripts, what is printed of them, and the status.
 const PRINTED: &[(&[u8], &[u8], u8)] = &[
     (VECTORS, VECTORS_CERTIFIED, 0),
-    (b"", b"pefcert 1\nend\n", 0),
+    (b"", b"pefcert 2\nend\n", 0),
     // sections without fixups, of which one has no byte
     (
         b"section c code global 4 8\nsection d data process 4 0\n",
-        b"pefcert 1\nsection 0\nfixups 0\nlength 0\nprogram -\nregisters *\nat 0 0\nsection 1\nfixups 0\nlength 0\nprogram -\nregisters *\nat 0 0\nend\n",
+        b"pefcert 2\nsection 0\nfixups 0\nlength 0\nprogram -\nregisters *\nat 0 0 0\nsection 1\nfixups 0\nlength 0\nprogram -\nregisters *\nat 0 0 0\nend\n",
+        0,
+    ),
+    // two imports in turn, of which both rows are equal
+    (
+        b"library l 0 0 -\nimport i data strong\nimport j data strong\nsection a data process 4 8\nfix a 0 import i\nfix a 4 import j\n",
+        b"pefcert 2\nsection 0\nfixups 2\nlength 1\nprogram 4A01\nregisters *\nat 0 1 1\nat 2 2 0\nend\n",
         0,
     ),
     (b"section d\n", b"refused 41 BadLine line 1\n", 1),

@@ -50,10 +50,10 @@ pub const VECTORS_LINKED: &[u8] = b"linked 250 bytes\nsection 0 length 0\nsectio
 
 /// Certificates for its sections.
 pub const VECTORS_CERTIFIED: &[u8] = b"\
-      pefcert 1\nsection 0\nfixups 0\nlength 0\nprogram -\nregisters *\nat 0 0\n\
+      pefcert 2\nsection 0\nfixups 0\nlength 0\nprogram -\nregisters *\nat 0 0 0\n\
       section 1\nfixups 4\nlength 1\nprogram 4601\nregisters 0 1 *\n\
-      at 0 2 1 2 3 2 3 3 2 3\nat 1 3 2 3 2 3 3 3 3 3\nat 2 2 1 2 2 2 2 2 2 2\n\
-      at 3 1 1 1 1 1 1 1 1 1\nat 4 0 0 0 0 0 0 0 0 0\nend\n";
+      at 0 0 2 1 2 3 2 3 3 2 3\nat 1 1 3 2 3 2 3 3 3 3 3\nat 2 2 2 1 2 2 2 2 2 2 2\n\
+      at 3 3 1 1 1 1 1 1 1 1 1\nat 4 4 0 0 0 0 0 0 0 0 0\nend\n";
 
 /// A library with one export.
 pub const LIBRARY: &str =
