@@ -1,11 +1,10 @@
 -- A container that was linked of a script, placed, filled and relocated with any addresses of its imports' targets,
 -- has the memory that the script describes under these; and nothing of it is refused.
-use Rattle.std.proofs.Common.{◌≡◌, ℕ, suc, ◌+◌, ◌<◌, ◌==◌, true, false, List, [], ◌∷◌, None, Some, get_or, length, map, option_map, inl, inr, refl, sym, ap, ap₂, subst, ◌∙◌, arith}
+use Rattle.std.proofs.Common.{◌≡◌, ℕ, suc, ◌+◌, ◌<◌, ◌^◌, Bool, true, false, List, [], ◌∷◌, None, Some, get_or, length, map, option_map, take, refl, sym, ap, ap₂, subst, ◌∙◌, arith}
 use Rattle.std.specs.List.{slice_get}
 use Rattle.std.specs.Option.{option_and_then, option_map_or}
-use Rattle.std.specs.Prelude.{Ok}
+use Rattle.std.specs.Prelude.{Ok, if◌then◌else◌}
 use Rattle.std.specs.Result.{result_err, result_unwrap_or}
-use Rattle.std.proofs.lemmas.Bool.Decides.{eqb_tells}
 use Rattle.std.proofs.lemmas.List.{length-map, take_all}
 use Rattle.std.proofs.lemmas.Option.{slice_get-get_or}
 use Rattle.cfm_memory.specs.Extents.{ArePlaced}
@@ -14,7 +13,14 @@ use Rattle.cfm_memory.specs.declared.place.Place.{Place}
 use Rattle.cfm_memory.proofs.Laws.{length-placed}
 use Rattle.cfm_fragment.specs.Images.{extent_at, extent_in, extents_from, extents_of, filled_at, filled_in, first_image_refusal, image_of, image_refusal}
 use Rattle.cfm_fragment.specs.Prepared.{addresses_at, first_reloc_refusal, prepared_at}
+use Rattle.pef_format.specs.declared.section.SectionKind.TheVariants as kind
+use Rattle.pef_format.specs.declared.section.Share.TheVariants as share
+use Rattle.pef_format.specs.Sections.{is_packed}
+use Rattle.pef_format.proofs.Laws.{kind-again}
 use Rattle.pef_loader.specs.Loader.{Loaded, reloc_of}
+use Rattle.pef_pidata.specs.Packing.{packed_of}
+use Rattle.pef_pidata.specs.Pattern.{pattern_text}
+use Rattle.pef_pidata.proofs.Laws.{packed-expands}
 use Rattle.pef_reloc.specs.declared.instr.Instr.{Instr}
 use Rattle.pef_reloc.specs.Additions.{AreInside}
 use Rattle.pef_reloc.specs.Applied.{Addresses, Done, address_of}
@@ -24,32 +30,32 @@ use Rattle.pef_reloc.proofs.Laws.{count-length, fixups_fit-parts}
 use Rattle.pef_reloc.proofs.Laws.Headers.{program-described, programs-sound, refusal-of}
 use Rattle.pef_script.specs.Described.{described_at, described_memory}
 use Rattle.pef_script.specs.Script.{DescribedScript, DescribedSection}
-use Rattle.pef_script.specs.WellFormed.{SectionHolds, is_kind}
+use Rattle.pef_script.specs.WellFormed.{SectionHolds}
 use Rattle.pef_views.specs.Container.{Contained}
 use Rattle.pef_words.specs.Bytes.{filled}
 use Rattle.pef_words.specs.Refusals.{result_map}
 use Rattle.pef_words.proofs.Laws.Images.{length-filled}
 use Rattle.pef_words.proofs.Laws.Lists.{all-get}
 use Rattle.pef_words.proofs.Laws.Refusals.{first_among-none}
-use Rattle.pef_write.specs.Containers.{part_header}
-use Rattle.pef_write.specs.Linked.{IsLinked, IsProgramFor, LinkedContainer, part_of, programs_from}
+use Rattle.pef_write.specs.Containers.{raw_of, section_header}
+use Rattle.pef_write.specs.Linked.{IsLinked, IsProgramFor, LinkedContainer, programs_from}
 use Rattle.pef_write.specs.ReadBack.{program_read}
 use Rattle.pef_write.proofs.Laws.{section_programs}
 use Rattle.pef_prepared.specs.Now.{described_extent, described_extents}
 use Rattle.pef_prepared.proofs.LinkedLemmas.{IsContainerOf}
 use Rattle.pef_prepared.proofs.ProgramLemmas.{Owns, fixups_inside, owns_program, section_made}
 
--- a section of a script is never packed
-not_packed : (kind : ℕ) → is_kind kind ≡ true → (kind == 2) ≡ false
-not_packed kind holds = elim (eqb_tells kind 2) [
-  | inl same ↦ (let packed : is_kind 2 ≡ true = subst (λ n. is_kind n ≡ true) same.1 holds in absurd (cc))
-  | inr other ↦ other.0
-]
+-- raw bytes are packed, and expand to the image, or are the image
+raw_expands : (packed : Bool) (image : List ℕ) → length image < 2 ^ 32
+    → let raw = if packed then packed_of image else image in
+    (if packed then pattern_text raw (length image) else Ok (take (length image) raw)) ≡ Ok image
+raw_expands true image small = packed-expands image small
+raw_expands false image small = ap Ok (take_all (length image) image (omega arith))
 
--- so its image is its raw bytes
-image_whole : (s : DescribedSection) (at : ℕ) → is_kind s.header.kind ≡ true → image_of (record { header = part_header (part_of s) at; raw = s.image }) ≡ Ok s.image
+-- so the image of a section of a script comes of its raw bytes
+image_whole : (m n : ℕ) (s : DescribedSection) (at : ℕ) → SectionHolds m n s → image_of (record { header = section_header s at; raw = raw_of s }) ≡ Ok s.image
 unfolding image_of
-image_whole s at holds = rw (not_packed s.header.kind holds) (ap Ok (take_all (length s.image) s.image (omega arith)))
+image_whole m n s at holds = rw (kind-again s.header.kind holds.kind) (raw_expands (is_packed s.header.kind) s.image (omega (arith, holds.image, holds.total)))
 
 -- extents that a script's sections need, where each section of a container is one of the script
 extents_same : (c : Contained) (sections : List DescribedSection) (from : ℕ) → ((k : ℕ) (s : DescribedSection) → slice_get sections k ≡ Some s → extent_at c (from + k) ≡ described_extent s)
@@ -83,12 +89,12 @@ module _ (script : DescribedScript) (k : LinkedContainer) (linked : IsLinked scr
   filled_is i s there =
       let part = of.sections.each i s there in
       ap (λ o. option_map_or (λ t. result_unwrap_or (filled_in t) []) o []) part.is
-      ∙ ap (λ r. result_unwrap_or (result_map (λ (image : List ℕ). filled image s.header.total) r) []) (image_whole s part.at (held i s there).kind)
+      ∙ ap (λ r. result_unwrap_or (result_map (λ (image : List ℕ). filled image s.header.total) r) []) (image_whole (length script.sections) (length script.imports) s part.at (held i s there))
 
   image_sound : (i : ℕ) (s : DescribedSection) → slice_get script.sections i ≡ Some s → image_refusal c i ≡ None
   image_sound i s there =
       let part = of.sections.each i s there in
-      ap (option_and_then (λ t. result_err (image_of t))) part.is ∙ ap result_err (image_whole s part.at (held i s there).kind)
+      ap (option_and_then (λ t. result_err (image_of t))) part.is ∙ ap result_err (image_whole (length script.sections) (length script.imports) s part.at (held i s there))
 
   -- section i is made what the script describes
   made : (a : Addresses) → AreAddresses script a → (i : ℕ) (s : DescribedSection) → slice_get script.sections i ≡ Some s
@@ -112,7 +118,7 @@ module _ (script : DescribedScript) (k : LinkedContainer) (linked : IsLinked scr
 
   pub prepared_is : (a : Addresses) → AreAddresses script a → (i : ℕ) → i < length script.sections → prepared_at c l a i ≡ described_at (address_of a) script i
   prepared_is a there_are i under =
-      let d : DescribedSection = record { header = record { name = []; kind = 0; share = 0; align = 0; total = 0 }; image = []; fixups = [] } in
+      let d : DescribedSection = record { header = record { name = []; kind = kind.Code; share = share.Process; align = 0; total = 0 }; image = []; fixups = [] } in
       let s = get_or script.sections i d in
       let there = slice_get-get_or script.sections i d under in
       ap (λ (m : List ℕ). (relocated_by a i (reloc_of l) 0 l.header.reloc_count m).memory) (filled_is i s there)
@@ -140,7 +146,7 @@ module _ (script : DescribedScript) (k : LinkedContainer) (linked : IsLinked scr
 
   pub images_sound : first_image_refusal c c.header.instantiated_section_count ≡ None
   images_sound =
-      let d : DescribedSection = record { header = record { name = []; kind = 0; share = 0; align = 0; total = 0 }; image = []; fixups = [] } in
+      let d : DescribedSection = record { header = record { name = []; kind = kind.Code; share = share.Process; align = 0; total = 0 }; image = []; fixups = [] } in
       first_among-none (image_refusal c) 0 c.header.instantiated_section_count
       (λ i low high. image_sound i (get_or script.sections i d) (slice_get-get_or script.sections i d (omega (arith, high, of.sections.instantiated))))
 
