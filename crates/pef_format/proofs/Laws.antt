@@ -1,6 +1,5 @@
 -- What this crate offers to the proofs of others: facts of the codes, as `specs/` defines them.
 use Rattle.std.proofs.Common.{◌≡◌, ◌<◌, ◌≤◌, ℕ, negsuc, true, refl, arith}
-use Rattle.std.specs.Prelude.{nat_le}
 use Rattle.std.proofs.lemmas.Bool.{leb-true}
 use Rattle.std.proofs.lemmas.Bool.Decides.{nat_tests}
 use Rattle.pef_format.specs.declared.section.SectionKind.{SectionKind}

@@ -2,7 +2,7 @@
 use Rattle.std.proofs.Common.{◌≡◌, ◌≤◌, ◌∙◌, ap, refl, subst, sym, arith, length}
 use Rattle.std.proofs.lemmas.Bool.{le-ltb}
 use Rattle.pef_views.specs.Container.{IsInstantiable, Section, section_in, section_of}
-use Rattle.pef_views.specs.Views.{contained, seen}
+use Rattle.pef_views.specs.Views.{contained}
 use Rattle.pef_views.proofs.Containers.{instantiable, raw_inside, raw_whole, section_header_is}
 use Rattle.pef_views.proofs.container.Container.section.Goals as goal
 
