@@ -1,7 +1,7 @@
 //! The vocabulary of PEF containers: what the codes of kinds, shares, classes, options and special sections
 //! mean (Mac OS Runtime Architectures, "PEF Structure"; `PEFBinaryFormat.h`).
 //!
-//! Views keep the fields as containers have them. Their meaning is told here only.
+//! Views keep the fields as containers have them. Only this crate says what they mean.
 #![tactic(auto)]
 
 mod entry;
