@@ -64,7 +64,7 @@ fn most_rows(rt: HostRuntime) {
     assert!(rt; has(&certificates[0], 0, &[], &[], 65_537));
 }
 
-/// Texts behind `pefcert 1`, and the number of the line that is refused, or `None` where the text is read.
+/// Texts after `pefcert 1`, and the number of the line that is refused, or `None` where the text is read.
 const TEXTS: &[(&str, Option<usize>)] = &[
     ("end\n", None),
     ("", Some(2)),
@@ -164,8 +164,8 @@ const TEXTS: &[(&str, Option<usize>)] = &[
     ),
 ];
 
-/// The line of a refusal of these lines behind others.
-fn refused_line_behind(rt: &impl Abort, alloc: Global, before: &str, lines: &str) -> Option<usize> {
+/// The line of a refusal of these lines after others.
+fn refused_line_after(rt: &impl Abort, alloc: Global, before: &str, lines: &str) -> Option<usize> {
     let mut text = String::from_str(alloc, before).expect(rt, "memory");
     text.push_str(lines).expect(rt, "memory");
     refused_line(rt, alloc, &text)
@@ -175,7 +175,7 @@ fn refused_line_behind(rt: &impl Abort, alloc: Global, before: &str, lines: &str
 fn lines(rt: HostRuntime) {
     for row in TEXTS {
         let (lines, line) = *row;
-        let refused = refused_line_behind(&rt, rt.alloc(), "pefcert 1\n", lines);
+        let refused = refused_line_after(&rt, rt.alloc(), "pefcert 1\n", lines);
         assert!(rt; refused == line, "{lines}");
     }
 }
@@ -184,7 +184,7 @@ fn lines(rt: HostRuntime) {
 const BEFORE_RANGES: &str =
     "pefcert 2\nsection 2\nfixups 3\nlength 2\nprogram 6402 4202\nregisters 2 *\n";
 
-/// Lines behind these, and the number of the line that is refused, or `None` where the text is read.
+/// Lines after these, and the number of the line that is refused, or `None` where the text is read.
 const RANGES: &[(&str, Option<usize>)] = &[
     (
         "at 0 1 1 1 1 2\nat 2 2 1 1 1 1\nat 3 3 0 0 0 0\nend\n",
@@ -222,7 +222,7 @@ const RANGES: &[(&str, Option<usize>)] = &[
     ("at 0 2 0 0 0 0\nend\n", Some(8)),
     ("at 0 2 0 0 0 0\n", Some(8)),
     ("end\n", Some(7)),
-    // a range behind the last one
+    // a range after the last one
     ("at 0 3 0 0 0 0\nat 4 4 1 1 1 1\nend\n", Some(8)),
     // rows of version 1
     (
@@ -245,12 +245,12 @@ const RANGES: &[(&str, Option<usize>)] = &[
 fn ranges(rt: HostRuntime) {
     for row in RANGES {
         let (lines, line) = *row;
-        let refused = refused_line_behind(&rt, rt.alloc(), BEFORE_RANGES, lines);
+        let refused = refused_line_after(&rt, rt.alloc(), BEFORE_RANGES, lines);
         assert!(rt; refused == line, "{lines}");
     }
 }
 
-/// Lines behind `pefcert 2`, of which the last is refused, and its number.
+/// Lines after `pefcert 2`, of which the last is refused, and its number.
 const LIMITS: &[(&str, usize)] = &[
     ("section 0\nfixups 65537\n", 3),
     (
@@ -263,7 +263,7 @@ const LIMITS: &[(&str, usize)] = &[
 fn limits(rt: HostRuntime) {
     for row in LIMITS {
         let (lines, line) = *row;
-        let refused = refused_line_behind(&rt, rt.alloc(), "pefcert 2\n", lines);
+        let refused = refused_line_after(&rt, rt.alloc(), "pefcert 2\n", lines);
         assert!(rt; refused == Some(line), "{lines}");
     }
 }

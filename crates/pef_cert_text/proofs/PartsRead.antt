@@ -150,7 +150,7 @@ row_line-is width at line row is =
       wide = record { wide = eqb-true (length labels) width tests.1; numbers = q.1 };
     })))))
 
--- the number of the first word, and what stands behind it
+-- the number of the first word, and the words after it
 first_number-is : (words : List (List ℕ)) (x : ℕ × List (List ℕ)) → first_number words ≡ Some x → (words ≡ decimal x.0 ∷ x.1) × IsNumber x.0
 first_number-is words x is =
     then_some (first_of words) (λ first. decimal_number first.0 >>= λ number. Some (number, first.1)) x is (λ first found rest.

@@ -132,7 +132,7 @@ ranges-fail fault width count first rows before behind old going at before_is un
     subst (FailsAs fault) (sym step ∙ going.whole)
     (fails_step fault (line_read (range_line width count (length rows) (last_labels rows)) behind) others (subst (FailsAs fault) (sym (next_range width count first rows before behind at before_is)) is))
 
--- behind the last one these are all
+-- after the last one these are all
 pub ranges-end : (width count : ℕ) (rows : List (List ℕ)) (behind old : Left) → RangesGoing width count rows behind old → count ≤ length rows → ranges_read width count (count + 1) [] old ≡ Ok (rows, behind)
 ranges-end width count rows behind old going whole =
     let few = going.few in

@@ -54,7 +54,7 @@ rows_read-are width at (suc n) before old new all is =
       wide = (t.wide, others.wide);
     }))
 
--- rows of ranges, behind those that were read before, of which the first of the others is no equal of the last one
+-- rows of ranges, after those that were read before; the first of them differs from the last of those
 record RangesText (width count : ℕ) (before : List (List ℕ)) (old : Left) (all : List (List ℕ)) (new : Left) : Type 0 where
   more : List (List ℕ)
   are : all ≡ before ++ more
@@ -75,7 +75,7 @@ all_equal : (width n : ℕ) (row : List ℕ) (others : List (List ℕ)) → IsRo
 all_equal width zero row others is all = all
 all_equal width (suc n) row others is all = (is, all_equal width n row others is all)
 
--- a range, and others behind it
+-- a range, and others after it
 ranges-one : (width count : ℕ) (before : List (List ℕ)) (old next new : Left) (all : List (List ℕ)) (range : Range) (line : List ℕ) → RangeText width count (length before) (last_labels before) line range
     → old.text ≡ line ++ 0x0A ∷ next.text → RangesText width count (before ++ range_rows range) next all new → RangesText width count before old all new
 ranges-one width count before old next new all range line t parts others =

@@ -34,7 +34,7 @@ none_left (word ∷ words) = false
 abbrev pub ended : {A : Type 0} → List (List ℕ) → A → Option A
 ended words x = provided (none_left words) x
 
--- the number that the first word spells, and the words behind it
+-- the number that the first word spells, and the words after it
 abbrev pub first_number : List (List ℕ) → Option (ℕ × List (List ℕ))
 first_number words = do
   first ← first_of words

@@ -45,7 +45,7 @@ pub record Going (version : Version) (text : List ℕ) (certificates : List Cert
   pub more : length behind.text < most
   pub whole : certificates_read version most certificates behind ≡ certificates_of text
 
--- behind some rows of ranges so much is left, which makes the rows of all
+-- after some rows of ranges so much is left, which makes the rows of all
 pub record RangesGoing (width count : ℕ) (rows : List (List ℕ)) (behind old : Left) : Type 0 where
   pub most : ℕ
   pub few : length rows ≤ count
