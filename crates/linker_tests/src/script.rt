@@ -79,6 +79,7 @@ const ANY_ORDER: &[(&str, &[&str], u32)] = &[
     ("20", &["fix d 8 section d", "tvector d 11 d d"], 46),
     ("20", &["fix d 8 section d", "tvector d 12 d d"], 0),
     ("9", &["tvector d 0 d d", "fix d 3 section d"], 46),
+    ("10", &["fix d 4 section d", "tvector d 4 d d"], 47),
     ("9", &["fix d 0 section d", "tvector d 1 d d"], 46),
     // Against an earlier line than the one before, from above and from below.
     (
@@ -137,6 +138,10 @@ const FIRST_FAULTS: &[(&str, (u32, usize))] = &[
     (
         "section a data process 4 4\nsection b data process 4 4\nbytes b 00\nfix a 9 section a",
         (47, 4),
+    ),
+    (
+        "section a data process 4 2\nsection b data process 4 2\nbytes a 00\nbytes b 00\nbytes a 0000",
+        (47, 5),
     ),
     ("absolute k data 0\nsection d data process 4 8", (45, 2)),
     ("absolute k data 0\nabsolute k code 1", (44, 2)),

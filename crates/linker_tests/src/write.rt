@@ -17,6 +17,14 @@ fix d 0 section d
 fix d 4 section d
 ";
 
+/// The same with its contents in another order.
+const FALLING_SCRIPT: &[u8] = b"section d data process 4 16
+fix d 4 section d
+bytes d 112233440000
+fix d 0 section d
+bytes d 00080102
+";
+
 /// One data section of 16 bytes, 10 of them in its image, with the words at 0 and 4 relocated by it.
 const ONE_SECTION: [u8; 188] = [
     0x4A, 0x6F, 0x79, 0x21, 0x70, 0x65, 0x66, 0x66, 0x70, 0x77, 0x70, 0x63, 0x00, 0x00, 0x00, 0x01,
@@ -151,6 +159,7 @@ type Row = (&'static [u8], &'static [u8], &'static [u32]);
 const LINKED: &[Row] = &[
     (b"", EMPTY_CONTAINER, &[]),
     (ONE_SECTION_SCRIPT, &ONE_SECTION, &[1]),
+    (FALLING_SCRIPT, &ONE_SECTION, &[1]),
     (VECTORS, VECTORS_LEAST, &[0, 1]),
     (WHOLE_SCRIPT, &WHOLE, &[0, 3]),
 ];
