@@ -1,4 +1,5 @@
 //! Finds the shortest relocation program without repeats: labels from the last fixup back, and a program read off them.
+#![allow(dead_code)] // each program uses a part
 
 use crate::labels::{registers_of, start_classes, ways, Square, Sweep, MOST_SKIPPED};
 use crate::script::{Base, Fixup};

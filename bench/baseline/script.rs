@@ -1,4 +1,5 @@
 //! Reads a link script.
+#![allow(dead_code)] // each program uses a part
 
 use crate::lines::{append_hex, number, refuse, Lines, Words};
 use crate::names::NameMap;
