@@ -9,7 +9,7 @@ mod text;
 
 use plan::Plan;
 use std::io::{self, Write};
-use text::{push_decimal, push_hex};
+use text::{push_decimal, push_half};
 
 fn main() -> io::Result<()> {
     let path = std::env::args().nth(1).unwrap_or_default();
@@ -44,7 +44,7 @@ fn push_certificate(text: &mut Vec<u8>, plan: &Plan) {
     text.extend(b"program");
     for halfword in &plan.program {
         text.push(b' ');
-        push_hex(text, &halfword.to_be_bytes());
+        push_half(text, *halfword);
     }
     text.extend(if plan.program.is_empty() { b" -\n".as_slice() } else { b"\n" });
     text.extend(b"registers");

@@ -16,26 +16,27 @@ pub fn push_decimal(text: &mut Vec<u8>, mut value: u32) {
     text.extend_from_slice(&digits[from..]);
 }
 
-static PAIRS: [[u8; 2]; 256] = {
-    let mut pairs = [[0; 2]; 256];
-    let mut byte = 0;
-    while byte < 256 {
-        pairs[byte] = [b"0123456789ABCDEF"[byte >> 4], b"0123456789ABCDEF"[byte & 15]];
-        byte += 1;
-    }
-    pairs
-};
-
-/// Appends bytes, each in two upper-case hex digits.
-pub fn push_hex(text: &mut Vec<u8>, bytes: &[u8]) {
-    for byte in bytes {
-        text.extend_from_slice(&PAIRS[usize::from(*byte)]);
-    }
+/// The eight upper-case hex digits of a number.
+pub fn hex_digits(value: u32) -> [u8; 8] {
+    let mut nibbles = u64::from(value);
+    nibbles = (nibbles | nibbles << 16) & 0x0000_FFFF_0000_FFFF;
+    nibbles = (nibbles | nibbles << 8) & 0x00FF_00FF_00FF_00FF;
+    nibbles = (nibbles | nibbles << 4) & 0x0F0F_0F0F_0F0F_0F0F;
+    let letters = (nibbles + 0x0606_0606_0606_0606) >> 4 & 0x0101_0101_0101_0101;
+    (nibbles + 0x3030_3030_3030_3030 + letters * 7).to_be_bytes()
 }
 
-/// Appends a number of four bytes in hex.
+/// Appends numbers of one, two and four bytes in hex.
+pub fn push_byte(text: &mut Vec<u8>, value: u8) {
+    text.extend_from_slice(&hex_digits(u32::from(value))[6..]);
+}
+
+pub fn push_half(text: &mut Vec<u8>, value: u16) {
+    text.extend_from_slice(&hex_digits(u32::from(value))[4..]);
+}
+
 pub fn push_word(text: &mut Vec<u8>, value: u32) {
-    push_hex(text, &value.to_be_bytes());
+    text.extend_from_slice(&hex_digits(value));
 }
 
 /// Appends a name: bytes outside 21 to 7E (hex), and `%`, in hex.
@@ -50,7 +51,7 @@ pub fn push_name(text: &mut Vec<u8>, name: &[u8]) {
             text.push(*byte);
         } else {
             text.push(b'%');
-            push_hex(text, &[*byte]);
+            push_byte(text, *byte);
         }
     }
 }
