@@ -186,30 +186,45 @@ impl<'a, const R: usize> Sweep<'a, R> {
         }
     }
 
-    /// The extension at a position before the fixup `place`.
-    pub fn extension(&self, place: usize, position: u32, c: usize, d: usize) -> u32 {
-        let label = self.labels[place][c][d];
-        let Some(fixup) = self.fixups.get(place) else { return 0 };
-        let (plain, skip) = ways(position, fixup.offset);
+    /// What a position adds to the labels of the fixup `place`, and what it adds to skips, with the class of their
+    /// section. None behind the last fixup, where all is 0.
+    fn ways(&self, place: usize, position: u32) -> Option<(u32, Option<(u32, usize)>)> {
+        let (plain, skip) = ways(position, self.fixups.get(place)?.offset);
         let class = usize::from(self.classes[place]);
-        match skip.filter(|_| class < R) {
-            None => plain + label,
-            Some(more) => (plain + label).min(more + self.skips[place][c] + u32::from(d != class)),
-        }
+        Some((plain, skip.filter(|_| class < R).map(|more| (more, class))))
     }
 
-    /// The same for all classes.
-    fn extensions(&self, place: usize, position: u32) -> Square<R> {
-        let labels = self.labels[place];
-        let Some(fixup) = self.fixups.get(place) else { return labels };
-        let (plain, skip) = ways(position, fixup.offset);
-        let class = usize::from(self.classes[place]);
-        let mut square = labels.map(|line| line.map(|label| label + plain));
-        if let Some(more) = skip.filter(|_| class < R) {
+    /// The extension at a position near the fixup `place`.
+    pub fn extension(&self, place: usize, position: u32, c: usize, d: usize) -> u32 {
+        let Some((plain, skip)) = self.ways(place, position) else { return 0 };
+        let label = plain + self.labels[place][c][d];
+        skip.map_or(label, |(more, class)| label.min(more + self.skips[place][c] + u32::from(d != class)))
+    }
+
+    /// The same for all classes of C.
+    fn column(&self, place: usize, position: u32, d: usize) -> [u32; R] {
+        let Some((plain, skip)) = self.ways(place, position) else { return [0; R] };
+        let mut column = [0; R];
+        for (value, line) in column.iter_mut().zip(&self.labels[place]) {
+            *value = line[d] + plain;
+        }
+        if let Some((more, class)) = skip {
+            let more = more + u32::from(d != class);
+            column = column.least(self.skips[place].map(|skip| skip + more));
+        }
+        column
+    }
+
+    /// The same for all classes of C and D.
+    fn square(&self, place: usize, position: u32) -> Square<R> {
+        let Some((plain, skip)) = self.ways(place, position) else { return [[0; R]; R] };
+        let mut square = self.labels[place];
+        square.as_flattened_mut().iter_mut().for_each(|label| *label += plain);
+        if let Some((more, class)) = skip {
             for (line, skip) in square.iter_mut().zip(self.skips[place]) {
                 let set = more + skip + 1;
                 line[class] = line[class].min(set - 1);
-                *line = line.map(|value| value.min(set));
+                line.iter_mut().for_each(|value| *value = set.min(*value));
             }
         }
         square
@@ -218,7 +233,7 @@ impl<'a, const R: usize> Sweep<'a, R> {
     /// The least that one adding instruction at the fixup leads to, for all classes. Asks labels after it alone.
     pub fn direct(&mut self, place: usize) -> Square<R> {
         let fixup = self.fixups[place];
-        let four = self.extensions(place + 1, fixup.offset + 4);
+        let four = self.square(place + 1, fixup.offset + 4);
         match fixup.base {
             Base::Import(import) => self.direct_import(place, import, four),
             Base::Section(_) => self.direct_section(place, four),
@@ -257,7 +272,7 @@ impl<'a, const R: usize> Sweep<'a, R> {
             self.spaced.clear();
         }
         let eight = self.fixups[place].offset + 8;
-        self.spaced.push(std::array::from_fn(|c| self.extension(place + 1, eight, c, class)));
+        self.spaced.push(self.column(place + 1, eight, class));
         column = column.least(self.spaced.least());
         for (line, value) in direct.iter_mut().zip(column) {
             line[class] = line[class].min(value.saturating_add(1));
@@ -294,7 +309,7 @@ impl<'a, const R: usize> Sweep<'a, R> {
         let mut least = [u32::MAX; R];
         for count in 1..=MOST_SKIPPED.min(usize::from(self.runs[place].words)) {
             let end = self.fixups[place + count - 1].offset + 4;
-            least = least.least(std::array::from_fn(|c| self.extension(place + count, end, c, class)));
+            least = least.least(self.column(place + count, end, class));
         }
         self.skips[place] = least.map(|value| value + 1);
     }
