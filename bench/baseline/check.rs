@@ -18,9 +18,17 @@ fn main() -> io::Result<ExitCode> {
     let paths: Vec<String> = std::env::args().skip(1).collect();
     let (text, certificates) = (fs::read(&paths[0])?, fs::read(&paths[1])?);
     let script = script::read(&text);
-    let mut reader = Reader { lines: Lines::new(&certificates), version: 1 };
+    let mut reader = Reader {
+        lines: Lines::new(&certificates),
+        version: 1,
+    };
     let (mut answer, mut count, mut all) = (String::new(), 0, true);
-    let verdicts = reader.verdicts(|section| script.sections.get(section).map_or(&[], |section| &section.fixups));
+    let verdicts = reader.verdicts(|section| {
+        script
+            .sections
+            .get(section)
+            .map_or(&[], |section| &section.fixups)
+    });
     for (number, verdict) in verdicts.unwrap_or_else(|| refuse(reader.lines.number)) {
         all &= verdict.is_some();
         count += usize::from(number == count);
@@ -33,7 +41,11 @@ fn main() -> io::Result<ExitCode> {
         (answer, all) = ("refused 52 SectionsDiffer\n".to_string(), false);
     }
     io::stdout().write_all(answer.as_bytes())?;
-    Ok(if all { ExitCode::SUCCESS } else { ExitCode::FAILURE })
+    Ok(if all {
+        ExitCode::SUCCESS
+    } else {
+        ExitCode::FAILURE
+    })
 }
 
 /// The certificates of a text. Each is judged when its rows were read.
@@ -61,8 +73,13 @@ impl<'a> Reader<'a> {
     }
 
     /// The number of each certificate's section, and its program's length where the certificate is valid.
-    fn verdicts<'s>(&mut self, fixups: impl Fn(usize) -> &'s [Fixup]) -> Option<Vec<(usize, Option<usize>)>> {
-        self.version = self.number(b"pefcert").filter(|version| [1, 2].contains(version))?;
+    fn verdicts<'s>(
+        &mut self,
+        fixups: impl Fn(usize) -> &'s [Fixup],
+    ) -> Option<Vec<(usize, Option<usize>)>> {
+        self.version = self
+            .number(b"pefcert")
+            .filter(|version| [1, 2].contains(version))?;
         let mut verdicts = Vec::new();
         loop {
             let mut words = Words::new(self.lines.next()?);
@@ -88,7 +105,11 @@ impl<'a> Reader<'a> {
         let program = program.filter(|program| program.len() == length)?;
         let words = self.words(b"registers")?;
         let registers: Option<Vec<u32>> = words.filter(|word| *word != b"*").map(decimal).collect();
-        Some(Claim { fixups, program, registers: registers? })
+        Some(Claim {
+            fixups,
+            program,
+            registers: registers?,
+        })
     }
 
     fn rows<const R: usize>(&mut self, fixups: usize) -> Option<Vec<Square<R>>> {
@@ -96,7 +117,11 @@ impl<'a> Reader<'a> {
         while rows.len() <= fixups {
             let mut rest = self.lines.next()?.strip_prefix(b"at")?;
             let from = take_number(&mut rest)? as usize;
-            let to = if self.version == 2 { take_number(&mut rest)? as usize } else { from };
+            let to = if self.version == 2 {
+                take_number(&mut rest)? as usize
+            } else {
+                from
+            };
             let mut row = [[0; R]; R];
             for label in row.as_flattened_mut() {
                 *label = take_number(&mut rest)?;
@@ -123,7 +148,11 @@ fn take_number(rest: &mut &[u8]) -> Option<u32> {
     let digits = rest.strip_prefix(b" ")?;
     let mut value = 0u64;
     let mut count = 0;
-    while let Some(digit) = digits.get(count).map(|byte| byte.wrapping_sub(b'0')).filter(|digit| *digit < 10) {
+    while let Some(digit) = digits
+        .get(count)
+        .map(|byte| byte.wrapping_sub(b'0'))
+        .filter(|digit| *digit < 10)
+    {
         value = value * 10 + u64::from(digit);
         count += 1;
         if count > 10 {
@@ -138,7 +167,10 @@ fn take_number(rest: &mut &[u8]) -> Option<u32> {
 /// Whether the certificate whose rows follow is valid for the fixups.
 fn judge<const R: usize>(reader: &mut Reader, claim: &Claim, fixups: &[Fixup]) -> Option<bool> {
     let labels = reader.rows::<R>(claim.fixups)?;
-    if claim.fixups != fixups.len() || claim.registers != registers_of(fixups) || !makes(fixups, &claim.program) {
+    if claim.fixups != fixups.len()
+        || claim.registers != registers_of(fixups)
+        || !makes(fixups, &claim.program)
+    {
         return Some(false);
     }
     let mut sweep = Sweep::new(fixups, &claim.registers, labels);
@@ -148,16 +180,21 @@ fn judge<const R: usize>(reader: &mut Reader, claim: &Claim, fixups: &[Fixup]) -
 
 fn is_feasible<const R: usize>(sweep: &mut Sweep<R>) -> bool {
     let end = sweep.fixups.len();
-    sweep.labels[end] == [[0; R]; R] && (0..end).rev().all(|place| {
-        let direct = sweep.direct(place);
-        let labels = &sweep.labels[place];
-        let falls = labels.as_flattened().iter().zip(direct.as_flattened()).all(|(label, end)| label <= end);
-        let holds = falls && sets_hold(labels);
-        if holds {
-            sweep.keep_skips(place);
-        }
-        holds
-    })
+    sweep.labels[end] == [[0; R]; R]
+        && (0..end).rev().all(|place| {
+            let direct = sweep.direct(place);
+            let labels = &sweep.labels[place];
+            let falls = labels
+                .as_flattened()
+                .iter()
+                .zip(direct.as_flattened())
+                .all(|(label, end)| label <= end);
+            let holds = falls && sets_hold(labels);
+            if holds {
+                sweep.keep_skips(place);
+            }
+            holds
+        })
 }
 
 /// Whether two labels with one register different differ by at most 1.
@@ -172,12 +209,22 @@ fn sets_hold<const R: usize>(labels: &Square<R>) -> bool {
         }
         holds &= high - low <= 1;
     }
-    holds && least.iter().zip(greatest).all(|(least, greatest)| greatest - least <= 1)
+    holds
+        && least
+            .iter()
+            .zip(greatest)
+            .all(|(least, greatest)| greatest - least <= 1)
 }
 
 /// Whether a program has no repeats and makes the fixups, each once and in order.
 fn makes(fixups: &[Fixup], program: &[u16]) -> bool {
-    let mut machine = Machine { rest: fixups, position: 0, import: 0, c: 0, d: 1 };
+    let mut machine = Machine {
+        rest: fixups,
+        position: 0,
+        import: 0,
+        c: 0,
+        d: 1,
+    };
     let mut rest = program;
     while let Some(instruction) = instructions::read(rest) {
         if !machine.step(instruction) {
@@ -242,7 +289,9 @@ impl Machine<'_> {
     }
 
     fn add(&mut self, base: Base) -> bool {
-        let Some((fixup, rest)) = self.rest.split_first() else { return false };
+        let Some((fixup, rest)) = self.rest.split_first() else {
+            return false;
+        };
         let holds = fixup.offset == self.position && fixup.base == base;
         self.rest = rest;
         self.position += 4;

@@ -47,16 +47,31 @@ impl<'a> Container<'a> {
             return None;
         }
         let field = |at| word_at(bytes, at);
-        let (count, instantiated) = (usize::from(half_at(bytes, 32)?), usize::from(half_at(bytes, 34)?));
+        let (count, instantiated) = (
+            usize::from(half_at(bytes, 32)?),
+            usize::from(half_at(bytes, 34)?),
+        );
         let names = 40 + 28 * count;
-        let sections: Option<Vec<_>> = (0..count).map(|place| section(bytes, 40 + 28 * place, names)).collect();
+        let sections: Option<Vec<_>> = (0..count)
+            .map(|place| section(bytes, 40 + 28 * place, names))
+            .collect();
         let [date, olddef, oldimp, current] = [field(16)?, field(20)?, field(24)?, field(28)?];
-        let sections = sections.filter(|sections| sections.get(..instantiated).is_some_and(can_be_filled))?;
-        Some(Container { date, olddef, oldimp, current, sections, instantiated })
+        let sections =
+            sections.filter(|sections| sections.get(..instantiated).is_some_and(can_be_filled))?;
+        Some(Container {
+            date,
+            olddef,
+            oldimp,
+            current,
+            sections,
+            instantiated,
+        })
     }
 
     pub fn loader(&self) -> Option<Loader<'a>> {
-        let loader = self.sections[self.instantiated..].iter().find(|section| section.kind == 4)?;
+        let loader = self.sections[self.instantiated..]
+            .iter()
+            .find(|section| section.kind == 4)?;
         Loader::read(loader.raw, self.instantiated)
     }
 }
@@ -64,17 +79,35 @@ impl<'a> Container<'a> {
 fn section(bytes: &[u8], at: usize, names: usize) -> Option<Section<'_>> {
     let field = |place: usize| word_at(bytes, at + 4 * place);
     let name = field(0)? as i32;
-    let name = usize::try_from(name).ok().and_then(|offset| name_at(bytes, names + offset));
+    let name = usize::try_from(name)
+        .ok()
+        .and_then(|offset| name_at(bytes, names + offset));
     let (packed, place) = (field(4)? as usize, field(5)? as usize);
-    let raw = if packed == 0 { &[] } else { bytes.get(place..place + packed)? };
+    let raw = if packed == 0 {
+        &[]
+    } else {
+        bytes.get(place..place + packed)?
+    };
     let &[kind, share, align, _] = bytes.get(at + 24..)?.first_chunk()?;
-    Some(Section { name, address: field(1)?, total: field(2)?, unpacked: field(3)?, raw, kind, share, align })
+    Some(Section {
+        name,
+        address: field(1)?,
+        total: field(2)?,
+        unpacked: field(3)?,
+        raw,
+        kind,
+        share,
+        align,
+    })
 }
 
 fn can_be_filled(sections: &[Section]) -> bool {
     sections.iter().all(|section| {
         let holds = section.kind == 2 || section.raw.len() >= section.unpacked as usize;
-        holds && [0, 1, 2, 3, 6].contains(&section.kind) && section.unpacked <= section.total && section.align < 32
+        holds
+            && [0, 1, 2, 3, 6].contains(&section.kind)
+            && section.unpacked <= section.total
+            && section.align < 32
     })
 }
 
@@ -132,20 +165,40 @@ impl<'a> Loader<'a> {
         let imports_at = 56 + 24 * library_count;
         let headers_at = imports_at + 4 * import_count;
         bytes.get(..headers_at + 12 * header_count)?;
-        let libraries: Option<Vec<_>> =
-            (0..library_count).map(|place| library(bytes, 56 + 24 * place, strings)).collect();
-        let programs: Option<Vec<_>> =
-            (0..header_count).map(|place| program(bytes, headers_at + 12 * place, instructions)).collect();
-        let keys_at = if export_count == 0 { 0 } else { slots + (4usize << power) };
+        let libraries: Option<Vec<_>> = (0..library_count)
+            .map(|place| library(bytes, 56 + 24 * place, strings))
+            .collect();
+        let programs: Option<Vec<_>> = (0..header_count)
+            .map(|place| program(bytes, headers_at + 12 * place, instructions))
+            .collect();
+        let keys_at = if export_count == 0 {
+            0
+        } else {
+            slots + (4usize << power)
+        };
         bytes.get(..keys_at + 14 * export_count)?;
         let (libraries, programs) = (libraries?, programs?);
-        Some(Loader { bytes, strings, imports_at, keys_at, libraries, import_count, export_count, programs, entries })
+        Some(Loader {
+            bytes,
+            strings,
+            imports_at,
+            keys_at,
+            libraries,
+            import_count,
+            export_count,
+            programs,
+            entries,
+        })
     }
 
     pub fn import(&self, place: usize) -> Option<Import<'a>> {
         let word = word_at(self.bytes, self.imports_at + 4 * place)?;
         let name = name_at(self.bytes, self.strings + (word & 0xFF_FFFF) as usize)?;
-        Some(Import { name, class: (word >> 24) as u8 & 15, is_weak: word >> 31 == 1 })
+        Some(Import {
+            name,
+            class: (word >> 24) as u8 & 15,
+            is_weak: word >> 31 == 1,
+        })
     }
 
     pub fn export(&self, place: usize) -> Option<Export<'a>> {
@@ -155,7 +208,12 @@ impl<'a> Loader<'a> {
         let name = self.strings + (word & 0xFF_FFFF) as usize;
         let name = self.bytes.get(name..name + length)?;
         let section = half_at(self.bytes, at + 8)? as i16;
-        Some(Export { name, class: (word >> 24) as u8 & 15, section, value: word_at(self.bytes, at + 4)? })
+        Some(Export {
+            name,
+            class: (word >> 24) as u8 & 15,
+            section,
+            value: word_at(self.bytes, at + 4)?,
+        })
     }
 
     /// For each import the first library whose range has it.
@@ -164,7 +222,10 @@ impl<'a> Loader<'a> {
         // Leads past imports that have an owner.
         let mut next: Vec<u32> = (0..=self.import_count as u32).collect();
         for (library, owner) in self.libraries.iter().zip(0..) {
-            let end = library.first.checked_add(library.count).filter(|end| *end as usize <= self.import_count)?;
+            let end = library
+                .first
+                .checked_add(library.count)
+                .filter(|end| *end as usize <= self.import_count)?;
             let mut import = first_free(&mut next, library.first);
             while import < end {
                 owners[import as usize] = owner;
@@ -172,7 +233,10 @@ impl<'a> Loader<'a> {
                 import = first_free(&mut next, import + 1);
             }
         }
-        owners.iter().all(|owner| *owner != u32::MAX).then_some(owners)
+        owners
+            .iter()
+            .all(|owner| *owner != u32::MAX)
+            .then_some(owners)
     }
 }
 
@@ -189,12 +253,25 @@ fn library(bytes: &[u8], at: usize, strings: usize) -> Option<Library<'_>> {
     let field = |place: usize| word_at(bytes, at + 4 * place);
     let name = name_at(bytes, strings + field(0)? as usize)?;
     let options = *bytes.get(at + 20)?;
-    Some(Library { name, oldimp: field(1)?, current: field(2)?, count: field(3)?, first: field(4)?, options })
+    Some(Library {
+        name,
+        oldimp: field(1)?,
+        current: field(2)?,
+        count: field(3)?,
+        first: field(4)?,
+        options,
+    })
 }
 
 fn program(bytes: &[u8], at: usize, instructions: usize) -> Option<(u16, Vec<u16>)> {
     let from = instructions + word_at(bytes, at + 8)? as usize;
     let count = word_at(bytes, at + 4)? as usize;
     let halfwords = bytes.get(from..from + 2 * count)?.as_chunks::<2>().0;
-    Some((half_at(bytes, at)?, halfwords.iter().map(|half| u16::from_be_bytes(*half)).collect()))
+    Some((
+        half_at(bytes, at)?,
+        halfwords
+            .iter()
+            .map(|half| u16::from_be_bytes(*half))
+            .collect(),
+    ))
 }

@@ -46,7 +46,11 @@ fn push_certificate(text: &mut Vec<u8>, plan: &Plan) {
         text.push(b' ');
         push_half(text, *halfword);
     }
-    text.extend(if plan.program.is_empty() { b" -\n".as_slice() } else { b"\n" });
+    text.extend(if plan.program.is_empty() {
+        b" -\n".as_slice()
+    } else {
+        b"\n"
+    });
     text.extend(b"registers");
     for register in &plan.registers {
         push_number(text, *register);
@@ -80,7 +84,10 @@ fn push_rows(text: &mut Vec<u8>, plan: &Plan, output: &mut impl Write) -> io::Re
 fn ranges(mut rows: &[u32], width: usize) -> impl Iterator<Item = &[u32]> {
     std::iter::from_fn(move || {
         let first = rows.get(..width)?;
-        let count = rows.chunks_exact(width).take_while(|row| *row == first).count();
+        let count = rows
+            .chunks_exact(width)
+            .take_while(|row| *row == first)
+            .count();
         let (range, rest) = rows.split_at(count * width);
         rows = rest;
         Some(range)

@@ -9,7 +9,9 @@ pub struct Table {
 }
 
 fn hash_word(name: &[u8]) -> u32 {
-    let hash = name.iter().fold(0i32, |hash, byte| (hash << 1).wrapping_sub(hash >> 16) ^ i32::from(*byte));
+    let hash = name.iter().fold(0i32, |hash, byte| {
+        (hash << 1).wrapping_sub(hash >> 16) ^ i32::from(*byte)
+    });
     (name.len() as u32) << 16 | (hash ^ hash >> 16) as u32 & 0xFFFF
 }
 
@@ -35,5 +37,10 @@ pub fn build<'a>(names: impl ExactSizeIterator<Item = &'a [u8]>) -> Table {
         order[*slot as usize] = place as u32;
         *slot += 1;
     }
-    Table { power, slots, keys, order }
+    Table {
+        power,
+        slots,
+        keys,
+        order,
+    }
 }

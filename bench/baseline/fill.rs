@@ -41,10 +41,17 @@ fn expand(packed: &[u8], length: usize, total: usize) -> Option<Vec<u8>> {
             }
             opcode @ 3..=4 => {
                 let (custom, parts) = (argument(&mut rest)?, argument(&mut rest)?);
-                let spelled = custom.checked_add(count)?.checked_mul(parts)?.checked_add(count)?;
+                let spelled = custom
+                    .checked_add(count)?
+                    .checked_mul(parts)?
+                    .checked_add(count)?;
                 grown(&image, spelled, length)?;
                 let zeros = vec![0; if opcode == 4 { count } else { 0 }];
-                let common = if opcode == 4 { &zeros } else { take(&mut rest, count)? };
+                let common = if opcode == 4 {
+                    &zeros
+                } else {
+                    take(&mut rest, count)?
+                };
                 for _ in 0..parts {
                     image.extend_from_slice(common);
                     image.extend_from_slice(take(&mut rest, custom)?);
@@ -59,7 +66,10 @@ fn expand(packed: &[u8], length: usize, total: usize) -> Option<Vec<u8>> {
 
 /// The image's length with so many bytes more, if they aren't too many.
 fn grown(image: &[u8], count: usize, length: usize) -> Option<usize> {
-    image.len().checked_add(count).filter(|grown| *grown <= length)
+    image
+        .len()
+        .checked_add(count)
+        .filter(|grown| *grown <= length)
 }
 
 fn take<'a>(rest: &mut &'a [u8], count: usize) -> Option<&'a [u8]> {

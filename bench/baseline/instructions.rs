@@ -37,13 +37,30 @@ pub fn read(rest: &[u16]) -> Option<Instruction> {
     use Kind::*;
     let word = u32::from(*rest.first()?);
     let (low, units) = (word & 511, (word & 511) + 1);
-    let small = |kind, first| Some(Instruction { kind, first, second: 0, halfwords: 1 });
+    let small = |kind, first| {
+        Some(Instruction {
+            kind,
+            first,
+            second: 0,
+            halfwords: 1,
+        })
+    };
     let large = |kind, mask: u32| {
         let first = (word & mask) << 16 | u32::from(*rest.get(1)?);
-        Some(Instruction { kind, first, second: 0, halfwords: 2 })
+        Some(Instruction {
+            kind,
+            first,
+            second: 0,
+            halfwords: 2,
+        })
     };
     match word >> 9 {
-        0x00..=0x1F => Some(Instruction { kind: BySectDWithSkip, first: word >> 6, second: word & 63, halfwords: 1 }),
+        0x00..=0x1F => Some(Instruction {
+            kind: BySectDWithSkip,
+            first: word >> 6,
+            second: word & 63,
+            halfwords: 1,
+        }),
         0x20 => small(BySectC, units),
         0x21 => small(BySectD, units),
         0x22 => small(TVector12, units),
@@ -55,13 +72,19 @@ pub fn read(rest: &[u16]) -> Option<Instruction> {
         0x32 => small(SmSetSectD, low),
         0x33 => small(SmBySection, low),
         0x40..=0x47 => small(IncrPosition, (word & 4095) + 1),
-        0x48..=0x4F => {
-            Some(Instruction { kind: SmRepeat, first: (word >> 8 & 15) + 1, second: (word & 255) + 1, halfwords: 1 })
-        }
+        0x48..=0x4F => Some(Instruction {
+            kind: SmRepeat,
+            first: (word >> 8 & 15) + 1,
+            second: (word & 255) + 1,
+            halfwords: 1,
+        }),
         0x50 | 0x51 => large(SetPosition, 0x3FF),
         0x52 | 0x53 => large(LgByImport, 0x3FF),
-        0x58 | 0x59 => large(LgRepeat, 63)
-            .map(|repeat| Instruction { first: (word >> 6 & 15) + 1, second: repeat.first, ..repeat }),
+        0x58 | 0x59 => large(LgRepeat, 63).map(|repeat| Instruction {
+            first: (word >> 6 & 15) + 1,
+            second: repeat.first,
+            ..repeat
+        }),
         0x5A => match word >> 6 & 7 {
             0 => large(LgBySection, 63),
             1 => large(LgSetSectC, 63),

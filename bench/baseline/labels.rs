@@ -60,7 +60,11 @@ struct Window<T> {
 
 impl<T: Least> Window<T> {
     fn new() -> Self {
-        Window { newer: Vec::new(), newer_least: T::GREATEST, older: Vec::new() }
+        Window {
+            newer: Vec::new(),
+            newer_least: T::GREATEST,
+            older: Vec::new(),
+        }
     }
 
     fn clear(&mut self) {
@@ -86,7 +90,9 @@ impl<T: Least> Window<T> {
     }
 
     fn least(&self) -> T {
-        self.older.last().map_or(self.newer_least, |older| self.newer_least.least(*older))
+        self.older
+            .last()
+            .map_or(self.newer_least, |older| self.newer_least.least(*older))
     }
 }
 
@@ -114,8 +120,18 @@ fn runs_of(fixups: &[Fixup]) -> Vec<Runs> {
     }
     for place in (0..fixups.len()).rev() {
         let [next, second] = [runs[place + 1], runs[place + 2]];
-        let more = |goes_on: bool, rest: u16| if goes_on { (rest + 1).min(MOST_UNITS as u16) } else { 1 };
-        let gap = |from: usize| fixups.get(from + 1).map_or(0, |fixup| fixup.offset - fixups[from].offset);
+        let more = |goes_on: bool, rest: u16| {
+            if goes_on {
+                (rest + 1).min(MOST_UNITS as u16)
+            } else {
+                1
+            }
+        };
+        let gap = |from: usize| {
+            fixups
+                .get(from + 1)
+                .map_or(0, |fixup| fixup.offset - fixups[from].offset)
+        };
         let base = |place: usize| fixups.get(place).map(|fixup| fixup.base);
         let after = gap(place);
         let run = &mut runs[place];
@@ -129,9 +145,12 @@ fn runs_of(fixups: &[Fixup]) -> Vec<Runs> {
                 run.words = more(same && after == 4, next.words);
                 run.spaced = more(same && after == 8, next.spaced);
                 if after == 4 && matches!(base(place + 1), Some(Base::Section(_))) {
-                    let again = base(place + 2) == base(place) && base(place + 3) == base(place + 1);
+                    let again =
+                        base(place + 2) == base(place) && base(place + 3) == base(place + 1);
                     let again = again && gap(place + 2) == 4;
-                    run.pairs = [4, 8].map(|apart| again && gap(place + 1) == apart).map(u16::from);
+                    run.pairs = [4, 8]
+                        .map(|apart| again && gap(place + 1) == apart)
+                        .map(u16::from);
                     run.pairs = [0, 1].map(|kind| more(run.pairs[kind] == 1, second.pairs[kind]));
                 }
             }
@@ -140,13 +159,14 @@ fn runs_of(fixups: &[Fixup]) -> Vec<Runs> {
     runs
 }
 
-/// What a position before a fixup adds to the label, and to a skip where one can count.
+/// What a position adds to the label of a fixup, and to a skip where one can count. The distance from a position past
+/// it wraps, and is above all others.
 pub fn ways(position: u32, offset: u32) -> (u32, Option<u32>) {
     match offset.wrapping_sub(position) {
         0 => (0, None),
         distance @ 4..=1020 if distance % 4 == 0 => (1, Some(0)),
         1..=4096 => (1, None),
-        4097..=5116 if position < offset => (2, Some(1)),
+        4097..=5116 => (2, Some(1)),
         _ => (2, None),
     }
 }
@@ -170,7 +190,10 @@ pub struct Sweep<'a, const R: usize> {
 impl<'a, const R: usize> Sweep<'a, R> {
     pub fn new(fixups: &'a [Fixup], registers: &[u32], labels: Vec<Square<R>>) -> Self {
         let class = |fixup: &Fixup| match fixup.base {
-            Base::Section(section) => registers.iter().position(|register| *register == section).unwrap_or(R) as u8,
+            Base::Section(section) => registers
+                .iter()
+                .position(|register| *register == section)
+                .unwrap_or(R) as u8,
             Base::Import(_) => R as u8,
         };
         Sweep {
@@ -181,7 +204,10 @@ impl<'a, const R: usize> Sweep<'a, R> {
             skips: vec![[0; R]; fixups.len()],
             words: Window::new(),
             spaced: Window::new(),
-            pairs: [[Window::new(), Window::new()], [Window::new(), Window::new()]],
+            pairs: [
+                [Window::new(), Window::new()],
+                [Window::new(), Window::new()],
+            ],
             imports: Window::new(),
         }
     }
@@ -196,14 +222,20 @@ impl<'a, const R: usize> Sweep<'a, R> {
 
     /// The extension at a position near the fixup `place`.
     pub fn extension(&self, place: usize, position: u32, c: usize, d: usize) -> u32 {
-        let Some((plain, skip)) = self.ways(place, position) else { return 0 };
+        let Some((plain, skip)) = self.ways(place, position) else {
+            return 0;
+        };
         let label = plain + self.labels[place][c][d];
-        skip.map_or(label, |(more, class)| label.min(more + self.skips[place][c] + u32::from(d != class)))
+        skip.map_or(label, |(more, class)| {
+            label.min(more + self.skips[place][c] + u32::from(d != class))
+        })
     }
 
     /// The same for all classes of C.
     fn column(&self, place: usize, position: u32, d: usize) -> [u32; R] {
-        let Some((plain, skip)) = self.ways(place, position) else { return [0; R] };
+        let Some((plain, skip)) = self.ways(place, position) else {
+            return [0; R];
+        };
         let mut column = [0; R];
         for (value, line) in column.iter_mut().zip(&self.labels[place]) {
             *value = line[d] + plain;
@@ -217,9 +249,14 @@ impl<'a, const R: usize> Sweep<'a, R> {
 
     /// The same for all classes of C and D.
     fn square(&self, place: usize, position: u32) -> Square<R> {
-        let Some((plain, skip)) = self.ways(place, position) else { return [[0; R]; R] };
+        let Some((plain, skip)) = self.ways(place, position) else {
+            return [[0; R]; R];
+        };
         let mut square = self.labels[place];
-        square.as_flattened_mut().iter_mut().for_each(|label| *label += plain);
+        square
+            .as_flattened_mut()
+            .iter_mut()
+            .for_each(|label| *label += plain);
         if let Some((more, class)) = skip {
             for (line, skip) in square.iter_mut().zip(self.skips[place]) {
                 let set = more + skip + 1;
@@ -301,7 +338,8 @@ impl<'a, const R: usize> Sweep<'a, R> {
 
     /// Keeps what skips to the fixup lead to, where the fixup before doesn't end there. Its labels are in place.
     pub fn keep_skips(&mut self, place: usize) {
-        let ends_before = place > 0 && self.fixups[place - 1].offset + 4 == self.fixups[place].offset;
+        let ends_before =
+            place > 0 && self.fixups[place - 1].offset + 4 == self.fixups[place].offset;
         let class = usize::from(self.classes[place]);
         if ends_before || class == R {
             return;
@@ -328,5 +366,10 @@ pub fn registers_of(fixups: &[Fixup]) -> Vec<u32> {
 
 /// The classes of the registers at the start: of sections 0 and 1.
 pub fn start_classes(registers: &[u32]) -> [usize; 2] {
-    [0, 1].map(|section| registers.iter().position(|register| *register == section).unwrap_or(registers.len()))
+    [0, 1].map(|section| {
+        registers
+            .iter()
+            .position(|register| *register == section)
+            .unwrap_or(registers.len())
+    })
 }

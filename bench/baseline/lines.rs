@@ -16,7 +16,10 @@ pub struct Lines<'a> {
 
 impl<'a> Lines<'a> {
     pub fn new(text: &'a [u8]) -> Self {
-        Lines { rest: text, number: 0 }
+        Lines {
+            rest: text,
+            number: 0,
+        }
     }
 }
 
@@ -25,7 +28,11 @@ impl<'a> Iterator for Lines<'a> {
 
     fn next(&mut self) -> Option<&'a [u8]> {
         let whole = self.rest;
-        let taken = self.rest.skip_until(b'\n').ok().filter(|taken| *taken > 0)?;
+        let taken = self
+            .rest
+            .skip_until(b'\n')
+            .ok()
+            .filter(|taken| *taken > 0)?;
         self.number += 1;
         let line = &whole[..taken];
         Some(line.strip_suffix(b"\n").unwrap_or(line))

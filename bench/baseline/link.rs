@@ -15,8 +15,11 @@ fn main() -> io::Result<()> {
     let paths: Vec<String> = std::env::args().skip(1).collect();
     let text = fs::read(&paths[0])?;
     let script = script::read(&text);
-    let programs: Vec<Vec<u16>> =
-        script.sections.iter().map(|section| plan::plan(&section.fixups, false).program).collect();
+    let programs: Vec<Vec<u16>> = script
+        .sections
+        .iter()
+        .map(|section| plan::plan(&section.fixups, false).program)
+        .collect();
     let length = write(&script, &programs, &paths[1])?;
     let mut answer = format!("linked {length} bytes\n");
     for (place, program) in programs.iter().enumerate() {
@@ -48,9 +51,16 @@ impl Bytes {
 }
 
 fn write(script: &Script, programs: &[Vec<u16>], path: &str) -> io::Result<usize> {
-    let packed: Vec<Option<Vec<u8>>> =
-        script.sections.iter().map(|section| (section.kind == 2).then(|| pack(&section.image))).collect();
-    let raw = |place: usize| packed[place].as_deref().unwrap_or(&script.sections[place].image);
+    let packed: Vec<Option<Vec<u8>>> = script
+        .sections
+        .iter()
+        .map(|section| (section.kind == 2).then(|| pack(&section.image)))
+        .collect();
+    let raw = |place: usize| {
+        packed[place]
+            .as_deref()
+            .unwrap_or(&script.sections[place].image)
+    };
     let loader = loader_section(script, programs);
     let count = script.sections.len();
     let mut header = container_header(script);
@@ -84,8 +94,17 @@ fn container_header(script: &Script) -> Bytes {
 }
 
 fn section_header(header: &mut Bytes, section: &Section, packed: usize, place: usize) {
-    header.words([u32::MAX, 0, section.total, section.image.len() as u32, packed as u32, place as u32]);
-    header.0.extend([section.kind, section.share, section.align, 0]);
+    header.words([
+        u32::MAX,
+        0,
+        section.total,
+        section.image.len() as u32,
+        packed as u32,
+        place as u32,
+    ]);
+    header
+        .0
+        .extend([section.kind, section.share, section.align, 0]);
 }
 
 /// Runs of three zeros and more as a count, and what is between as it is.
@@ -122,7 +141,11 @@ fn push_count(packed: &mut Vec<u8>, opcode: u8, count: usize) {
         return;
     }
     packed.push(opcode);
-    for shift in (1..5).rev().map(|place| 7 * place).filter(|shift| count >> shift > 0) {
+    for shift in (1..5)
+        .rev()
+        .map(|place| 7 * place)
+        .filter(|shift| count >> shift > 0)
+    {
         packed.push(0x80 | (count >> shift) as u8);
     }
     packed.push(count as u8 & 0x7F);
@@ -131,7 +154,10 @@ fn push_count(packed: &mut Vec<u8>, opcode: u8, count: usize) {
 fn loader_section(script: &Script, programs: &[Vec<u16>]) -> Vec<u8> {
     let exports = &script.exports;
     let table = export_table::build(exports.iter().map(|export| export.name));
-    let headers = programs.iter().filter(|program| !program.is_empty()).count();
+    let headers = programs
+        .iter()
+        .filter(|program| !program.is_empty())
+        .count();
     let halfwords: usize = programs.iter().map(Vec::len).sum();
     let instructions = 56 + 24 * script.libraries.len() + 4 * script.imports.len() + 12 * headers;
     let strings = instructions + 2 * halfwords;
@@ -141,7 +167,9 @@ fn loader_section(script: &Script, programs: &[Vec<u16>]) -> Vec<u8> {
     let exported: usize = exports.iter().map(|export| export.name.len()).sum();
     let slots = round_up(strings + zero_ended + exported, 4);
 
-    let mut bytes = Bytes(Vec::with_capacity(slots + 4 * table.slots.len() + 14 * exports.len()));
+    let mut bytes = Bytes(Vec::with_capacity(
+        slots + 4 * table.slots.len() + 14 * exports.len(),
+    ));
     for entry in script.entries {
         bytes.words(entry.map_or([u32::MAX, 0], |(section, offset)| [section, offset]));
     }
@@ -174,7 +202,13 @@ fn loader_section(script: &Script, programs: &[Vec<u16>]) -> Vec<u8> {
 fn imported(bytes: &mut Bytes, script: &Script) {
     let (mut name, mut first) = (0, 0);
     for library in &script.libraries {
-        bytes.words([name, library.oldimp, library.current, library.imports, first]);
+        bytes.words([
+            name,
+            library.oldimp,
+            library.current,
+            library.imports,
+            first,
+        ]);
         bytes.word(u32::from(library.options) << 24);
         name += library.name.len() as u32 + 1;
         first += library.imports;
@@ -187,11 +221,20 @@ fn imported(bytes: &mut Bytes, script: &Script) {
 
 fn relocations(bytes: &mut Bytes, programs: &[Vec<u16>]) {
     let mut first = 0;
-    for (section, program) in programs.iter().enumerate().filter(|(_, program)| !program.is_empty()) {
+    for (section, program) in programs
+        .iter()
+        .enumerate()
+        .filter(|(_, program)| !program.is_empty())
+    {
         bytes.half(section as u16);
         bytes.half(0);
         bytes.words([program.len() as u32, first]);
         first += 2 * program.len() as u32;
     }
-    bytes.0.extend(programs.iter().flatten().flat_map(|halfword| halfword.to_be_bytes()));
+    bytes.0.extend(
+        programs
+            .iter()
+            .flatten()
+            .flat_map(|halfword| halfword.to_be_bytes()),
+    );
 }

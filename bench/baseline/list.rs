@@ -23,8 +23,16 @@ fn listing(bytes: &[u8]) -> Option<Vec<u8>> {
     let container = Container::read(bytes)?;
     let loader = container.loader()?;
     let mut text = Vec::new();
-    push_numbers(&mut text, "container", &[("current", container.current), ("olddef", container.olddef)]);
-    push_numbers(&mut text, "", &[("oldimp", container.oldimp), ("date", container.date)]);
+    push_numbers(
+        &mut text,
+        "container",
+        &[("current", container.current), ("olddef", container.olddef)],
+    );
+    push_numbers(
+        &mut text,
+        "",
+        &[("oldimp", container.oldimp), ("date", container.date)],
+    );
     text.push(b'\n');
     for (section, place) in container.sections.iter().zip(0..) {
         push_section(&mut text, section, place);
@@ -40,7 +48,14 @@ fn listing(bytes: &[u8]) -> Option<Vec<u8>> {
         }
     }
     for (section, program) in &loader.programs {
-        push_numbers(&mut text, "reloc", &[("section", u32::from(*section)), ("halfwords", program.len() as u32)]);
+        push_numbers(
+            &mut text,
+            "reloc",
+            &[
+                ("section", u32::from(*section)),
+                ("halfwords", program.len() as u32),
+            ],
+        );
         text.push(b'\n');
         push_program(&mut text, program)?;
     }
@@ -64,9 +79,17 @@ fn push_numbers(text: &mut Vec<u8>, first: &str, numbers: &[(&str, u32)]) {
 fn push_section(text: &mut Vec<u8>, section: &Section, place: u32) {
     text.extend(b"section ");
     push_decimal(text, place);
-    let codes = [("kind", section.kind), ("share", section.share), ("align", section.align)];
+    let codes = [
+        ("kind", section.kind),
+        ("share", section.share),
+        ("align", section.align),
+    ];
     push_numbers(text, "", &codes.map(|(word, code)| (word, u32::from(code))));
-    let sizes = [("total", section.total), ("unpacked", section.unpacked), ("packed", section.raw.len() as u32)];
+    let sizes = [
+        ("total", section.total),
+        ("unpacked", section.unpacked),
+        ("packed", section.raw.len() as u32),
+    ];
     push_numbers(text, "", &sizes);
     text.extend(b" default ");
     push_word(text, section.address);
@@ -83,7 +106,11 @@ fn push_imported(text: &mut Vec<u8>, loader: &Loader) -> Option<()> {
     for library in &loader.libraries {
         text.extend(b"library ");
         push_name(text, library.name);
-        push_numbers(text, "", &[("current", library.current), ("oldimp", library.oldimp)]);
+        push_numbers(
+            text,
+            "",
+            &[("current", library.current), ("oldimp", library.oldimp)],
+        );
         text.extend(b" options ");
         push_byte(text, library.options);
         text.push(b'\n');
@@ -99,7 +126,11 @@ fn push_imported(text: &mut Vec<u8>, loader: &Loader) -> Option<()> {
         push_name(text, loader.libraries[owner as usize].name);
         text.extend_from_slice(b" class ");
         push_decimal(text, u32::from(import.class));
-        text.extend_from_slice(if import.is_weak { b" weak\n" } else { b" strong\n" });
+        text.extend_from_slice(if import.is_weak {
+            b" weak\n"
+        } else {
+            b" strong\n"
+        });
     }
     Some(())
 }
@@ -108,7 +139,11 @@ fn push_export(text: &mut Vec<u8>, export: &Export) {
     text.extend_from_slice(b"export ");
     push_name(text, export.name);
     push_numbers(text, "", &[("class", u32::from(export.class))]);
-    text.extend_from_slice(if export.section < 0 { b" section -" } else { b" section " });
+    text.extend_from_slice(if export.section < 0 {
+        b" section -"
+    } else {
+        b" section "
+    });
     push_decimal(text, u32::from(export.section.unsigned_abs()));
     text.extend_from_slice(b" value ");
     push_word(text, export.value);
@@ -154,7 +189,10 @@ fn push_instruction(text: &mut Vec<u8>, instruction: Instruction) {
     };
     text.extend_from_slice(word.as_bytes());
     push_decimal(text, instruction.first);
-    if matches!(instruction.kind, Kind::BySectDWithSkip | Kind::SmRepeat | Kind::LgRepeat) {
+    if matches!(
+        instruction.kind,
+        Kind::BySectDWithSkip | Kind::SmRepeat | Kind::LgRepeat
+    ) {
         text.push(b' ');
         push_decimal(text, instruction.second);
     }

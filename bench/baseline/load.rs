@@ -15,9 +15,14 @@ use text::{hex_digits, push_byte, push_decimal, push_name, push_word};
 
 fn main() -> io::Result<()> {
     let words: Vec<String> = std::env::args().skip(1).collect();
-    let pairs: Vec<(&str, &str)> = words.iter().filter_map(|word| word.split_once('=')).collect();
-    let files: io::Result<Vec<(&str, Vec<u8>)>> =
-        pairs.iter().map(|(name, path)| Ok((*name, std::fs::read(path)?))).collect();
+    let pairs: Vec<(&str, &str)> = words
+        .iter()
+        .filter_map(|word| word.split_once('='))
+        .collect();
+    let files: io::Result<Vec<(&str, Vec<u8>)>> = pairs
+        .iter()
+        .map(|(name, path)| Ok((*name, std::fs::read(path)?)))
+        .collect();
     let files = files?;
     let answered = load(&files).unwrap_or_else(|| {
         eprintln!("the fragments can't be loaded");
@@ -42,7 +47,11 @@ struct Fragment<'a> {
 #[derive(Clone, Copy)]
 enum Target {
     Absolute(u32),
-    Inside { fragment: u16, section: u16, value: u32 },
+    Inside {
+        fragment: u16,
+        section: u16,
+        value: u32,
+    },
 }
 
 /// A section in memory.
@@ -62,11 +71,15 @@ fn load<'a>(files: &'a [(&'a str, Vec<u8>)]) -> Option<Loaded<'a>> {
     let first = closure.place(files.first()?.0)?;
     closure.walk(first)?;
     let mut fragments = closure.in_order();
-    let most: usize = fragments.iter().map(|fragment| fragment.loader.export_count).sum();
+    let most: usize = fragments
+        .iter()
+        .map(|fragment| fragment.loader.export_count)
+        .sum();
     for place in 0..fragments.len() {
         let owners = fragments[place].loader.owners()?;
-        let targets: Option<Vec<_>> =
-            (0..owners.len()).map(|import| target(&mut fragments, most, (place, import, owners[import]))).collect();
+        let targets: Option<Vec<_>> = (0..owners.len())
+            .map(|import| target(&mut fragments, most, (place, import, owners[import])))
+            .collect();
         fragments[place].targets = targets?;
     }
     let initialization = initialization(&fragments)?;
@@ -77,7 +90,11 @@ fn load<'a>(files: &'a [(&'a str, Vec<u8>)]) -> Option<Loaded<'a>> {
         }
     }
     relocate(&fragments, &mut memory)?;
-    Some(Loaded { fragments, initialization, memory })
+    Some(Loaded {
+        fragments,
+        initialization,
+        memory,
+    })
 }
 
 /// The fragments that were met, by their places in the store.
@@ -94,11 +111,18 @@ impl<'a> Closure<'a> {
         for ((name, _), place) in files.iter().zip(0..) {
             places.entry(name.as_bytes()).or_insert(place);
         }
-        Closure { files, places, met: files.iter().map(|_| None).collect(), order: Vec::new() }
+        Closure {
+            files,
+            places,
+            met: files.iter().map(|_| None).collect(),
+            order: Vec::new(),
+        }
     }
 
     fn place(&self, name: &str) -> Option<usize> {
-        self.places.get(name.as_bytes()).map(|place| *place as usize)
+        self.places
+            .get(name.as_bytes())
+            .map(|place| *place as usize)
     }
 
     fn read(&mut self, place: usize) -> Option<()> {
@@ -106,7 +130,14 @@ impl<'a> Closure<'a> {
         let container = Container::read(bytes)?;
         let loader = container.loader()?;
         let bound = Vec::with_capacity(loader.libraries.len());
-        self.met[place] = Some(Fragment { name, container, loader, bound, targets: Vec::new(), exports: None });
+        self.met[place] = Some(Fragment {
+            name,
+            container,
+            loader,
+            bound,
+            targets: Vec::new(),
+            exports: None,
+        });
         Some(())
     }
 
@@ -117,7 +148,8 @@ impl<'a> Closure<'a> {
         let count = self.met[place].as_ref()?.loader.libraries.len();
         for entry in 0..count {
             let library = &self.met[place].as_ref()?.loader.libraries[entry];
-            let (is_weak, oldimp, current) = (library.options & 0x40 != 0, library.oldimp, library.current);
+            let (is_weak, oldimp, current) =
+                (library.options & 0x40 != 0, library.oldimp, library.current);
             let mut found = self.places.get(library.name).copied();
             if let Some(other) = found {
                 let other = other as usize;
@@ -148,8 +180,16 @@ impl<'a> Closure<'a> {
         for (at, place) in self.order.iter().enumerate() {
             places[*place] = at as u32;
         }
-        let mut fragments: Vec<Fragment> = self.order.iter().filter_map(|place| self.met[*place].take()).collect();
-        for bound in fragments.iter_mut().flat_map(|fragment| &mut fragment.bound).flatten() {
+        let mut fragments: Vec<Fragment> = self
+            .order
+            .iter()
+            .filter_map(|place| self.met[*place].take())
+            .collect();
+        for bound in fragments
+            .iter_mut()
+            .flat_map(|fragment| &mut fragment.bound)
+            .flatten()
+        {
             *bound = places[*bound as usize];
         }
         fragments
@@ -169,7 +209,9 @@ fn target(fragments: &mut [Fragment], most: usize, from: (usize, usize, u32)) ->
     let (mut place, mut import, mut owner) = from;
     for _ in 0..=most {
         let symbol = fragments[place].loader.import(import)?;
-        let Some(library) = fragments[place].bound[owner as usize] else { return Some(Target::Absolute(0)) };
+        let Some(library) = fragments[place].bound[owner as usize] else {
+            return Some(Target::Absolute(0));
+        };
         let library = library as usize;
         let Some(found) = find(&mut fragments[library], symbol.name)? else {
             return symbol.is_weak.then_some(Target::Absolute(0));
@@ -180,11 +222,18 @@ fn target(fragments: &mut [Fragment], most: usize, from: (usize, usize, u32)) ->
             -3 => (place, import) = (library, export.value as usize),
             section => {
                 let (fragment, section) = (library as u16, section as u16);
-                return Some(Target::Inside { fragment, section, value: export.value });
+                return Some(Target::Inside {
+                    fragment,
+                    section,
+                    value: export.value,
+                });
             }
         }
         let libraries = &fragments[place].loader.libraries;
-        owner = libraries.iter().position(|library| (import as u32).wrapping_sub(library.first) < library.count)? as u32;
+        owner = libraries
+            .iter()
+            .position(|library| (import as u32).wrapping_sub(library.first) < library.count)?
+            as u32;
     }
     None
 }
@@ -195,7 +244,9 @@ fn find(fragment: &mut Fragment, name: &[u8]) -> Option<Option<u32>> {
         let count = fragment.loader.export_count;
         let mut exports = NameMap::with_capacity_and_hasher(count, Default::default());
         for place in 0..count {
-            exports.entry(fragment.loader.export(place)?.name).or_insert(place as u32);
+            exports
+                .entry(fragment.loader.export(place)?.name)
+                .or_insert(place as u32);
         }
         fragment.exports = Some(exports);
     }
@@ -210,7 +261,9 @@ fn initialization(fragments: &[Fragment]) -> Option<Vec<usize>> {
         let next = fragments.iter().enumerate().position(|(place, fragment)| {
             let mut libraries = fragment.loader.libraries.iter().zip(&fragment.bound);
             !taken[place]
-                && libraries.all(|(library, bound)| library.options & 0x80 == 0 || bound.is_none_or(|b| taken[b as usize]))
+                && libraries.all(|(library, bound)| {
+                    library.options & 0x80 == 0 || bound.is_none_or(|b| taken[b as usize])
+                })
         });
         taken[next?] = true;
         order.extend(next);
@@ -237,7 +290,10 @@ fn place_sections(fragments: &[Fragment]) -> Option<Vec<Vec<Instance>>> {
             });
             used.insert(gap.unwrap_or(used.len()), (address, address + size));
             let address = Some(address).filter(|address| address + size <= 0x1000_0000)? as u32;
-            instances.push(Instance { address, bytes: Vec::new() });
+            instances.push(Instance {
+                address,
+                bytes: Vec::new(),
+            });
         }
         memory.push(instances);
     }
@@ -259,18 +315,27 @@ impl Addresses for Known<'_> {
     fn import(&self, number: u32) -> Option<u32> {
         Some(match *self.targets.get(number as usize)? {
             Target::Absolute(address) => address,
-            Target::Inside { fragment, section, value } => {
-                self.all[usize::from(fragment)].get(usize::from(section))?.wrapping_add(value)
-            }
+            Target::Inside {
+                fragment,
+                section,
+                value,
+            } => self.all[usize::from(fragment)]
+                .get(usize::from(section))?
+                .wrapping_add(value),
         })
     }
 }
 
 fn relocate(fragments: &[Fragment], memory: &mut [Vec<Instance>]) -> Option<()> {
-    let addresses = |instances: &Vec<Instance>| instances.iter().map(|instance| instance.address).collect();
+    let addresses =
+        |instances: &Vec<Instance>| instances.iter().map(|instance| instance.address).collect();
     let all: Vec<Vec<u32>> = memory.iter().map(addresses).collect();
     for (place, fragment) in fragments.iter().enumerate() {
-        let known = Known { sections: &all[place], targets: &fragment.targets, all: &all };
+        let known = Known {
+            sections: &all[place],
+            targets: &fragment.targets,
+            all: &all,
+        };
         for (section, program) in &fragment.loader.programs {
             let bytes = &mut memory[place].get_mut(usize::from(*section))?.bytes;
             Machine::new(bytes, &known).run(program)?;
@@ -303,14 +368,21 @@ impl Loaded<'_> {
 
     fn push_entry(&self, text: &mut Vec<u8>, word: &str, place: usize, entry: usize) {
         let fragment = &self.fragments[place];
-        let Some((section, offset)) = fragment.loader.entries[entry] else { return };
+        let Some((section, offset)) = fragment.loader.entries[entry] else {
+            return;
+        };
         text.extend(word.as_bytes());
         text.push(b' ');
         if entry != 0 {
             push_name(text, fragment.name.as_bytes());
             text.push(b' ');
         }
-        push_word(text, self.memory[place][section as usize].address.wrapping_add(offset));
+        push_word(
+            text,
+            self.memory[place][section as usize]
+                .address
+                .wrapping_add(offset),
+        );
         text.push(b'\n');
     }
 }
@@ -326,13 +398,22 @@ fn push_heading(text: &mut Vec<u8>, number: u32, instance: &Instance) {
 }
 
 /// Lines of sixteen bytes. What is long goes out at once.
-fn print_memory(text: &mut Vec<u8>, instance: &Instance, output: &mut impl Write) -> io::Result<()> {
+fn print_memory(
+    text: &mut Vec<u8>,
+    instance: &Instance,
+    output: &mut impl Write,
+) -> io::Result<()> {
     let mut address = instance.address;
     let (lines, rest) = instance.bytes.as_chunks::<16>();
     for bytes in lines {
         let mut line = [b' '; 45];
         line[..8].copy_from_slice(&hex_digits(address));
-        for (word, digits) in bytes.as_chunks::<4>().0.iter().zip(line[8..44].as_chunks_mut::<9>().0) {
+        for (word, digits) in bytes
+            .as_chunks::<4>()
+            .0
+            .iter()
+            .zip(line[8..44].as_chunks_mut::<9>().0)
+        {
             digits[1..].copy_from_slice(&hex_digits(u32::from_be_bytes(*word)));
         }
         line[44] = b'\n';

@@ -20,7 +20,14 @@ pub struct Machine<'a, A> {
 impl<'a, A: Addresses> Machine<'a, A> {
     pub fn new(memory: &'a mut [u8], addresses: &'a A) -> Self {
         let [c, d] = [0, 1].map(|section| addresses.section(section).unwrap_or(0));
-        Machine { memory, addresses, position: 0, import: 0, c, d }
+        Machine {
+            memory,
+            addresses,
+            position: 0,
+            import: 0,
+            c,
+            d,
+        }
     }
 
     /// Does a program, if it is a good one.
@@ -36,7 +43,9 @@ impl<'a, A: Addresses> Machine<'a, A> {
             if matches!(instruction.kind, Kind::SmRepeat | Kind::LgRepeat) {
                 let block = reach(&read[..place], instruction.first as usize)?;
                 for _ in 0..instruction.second {
-                    block.iter().try_for_each(|instruction| self.step(*instruction))?;
+                    block
+                        .iter()
+                        .try_for_each(|instruction| self.step(*instruction))?;
                 }
             } else {
                 self.step(*instruction)?;
@@ -61,8 +70,14 @@ impl<'a, A: Addresses> Machine<'a, A> {
             Kind::ImportRun => (0..number).try_for_each(|_| self.import(self.import)),
             Kind::SmByImport | Kind::LgByImport => self.import(number),
             Kind::SmBySection | Kind::LgBySection => self.add(self.addresses.section(number)?),
-            Kind::SmSetSectC | Kind::LgSetSectC => self.addresses.section(number).map(|address| self.c = address),
-            Kind::SmSetSectD | Kind::LgSetSectD => self.addresses.section(number).map(|address| self.d = address),
+            Kind::SmSetSectC | Kind::LgSetSectC => self
+                .addresses
+                .section(number)
+                .map(|address| self.c = address),
+            Kind::SmSetSectD | Kind::LgSetSectD => self
+                .addresses
+                .section(number)
+                .map(|address| self.d = address),
             Kind::IncrPosition => {
                 self.position += number as usize;
                 Some(())
@@ -77,7 +92,9 @@ impl<'a, A: Addresses> Machine<'a, A> {
 
     fn units(&mut self, count: u32, addresses: &[u32], gap: usize) -> Option<()> {
         for _ in 0..count {
-            addresses.iter().try_for_each(|address| self.add(*address))?;
+            addresses
+                .iter()
+                .try_for_each(|address| self.add(*address))?;
             self.position += gap;
         }
         Some(())
@@ -90,7 +107,9 @@ impl<'a, A: Addresses> Machine<'a, A> {
 
     fn add(&mut self, address: u32) -> Option<()> {
         let word: &mut [u8; 4] = self.memory.get_mut(self.position..)?.first_chunk_mut()?;
-        *word = u32::from_be_bytes(*word).wrapping_add(address).to_be_bytes();
+        *word = u32::from_be_bytes(*word)
+            .wrapping_add(address)
+            .to_be_bytes();
         self.position += 4;
         Some(())
     }

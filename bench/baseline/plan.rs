@@ -14,7 +14,10 @@ pub struct Plan {
 
 pub fn plan(fixups: &[Fixup], keeps_labels: bool) -> Plan {
     let registers = registers_of(fixups);
-    with_classes!(registers.len() + 1, plan_classes(fixups, registers, keeps_labels))
+    with_classes!(
+        registers.len() + 1,
+        plan_classes(fixups, registers, keeps_labels)
+    )
 }
 
 fn plan_classes<const R: usize>(fixups: &[Fixup], registers: Vec<u32>, keeps_labels: bool) -> Plan {
@@ -25,8 +28,16 @@ fn plan_classes<const R: usize>(fixups: &[Fixup], registers: Vec<u32>, keeps_lab
         sweep.keep_skips(place);
     }
     let program = Reading::new(&sweep, &registers).program();
-    let labels = if keeps_labels { sweep.labels.into_flattened().into_flattened() } else { Vec::new() };
-    Plan { program, registers, labels }
+    let labels = if keeps_labels {
+        sweep.labels.into_flattened().into_flattened()
+    } else {
+        Vec::new()
+    };
+    Plan {
+        program,
+        registers,
+        labels,
+    }
 }
 
 /// The least with registers set before: each costs one halfword.
@@ -62,7 +73,15 @@ struct Reading<'a, const R: usize> {
 impl<'a, const R: usize> Reading<'a, R> {
     fn new(sweep: &'a Sweep<'a, R>, registers: &'a [u32]) -> Self {
         let [c, d] = start_classes(registers);
-        Reading { sweep, registers, place: 0, position: 0, c, d, program: Vec::new() }
+        Reading {
+            sweep,
+            registers,
+            place: 0,
+            position: 0,
+            c,
+            d,
+            program: Vec::new(),
+        }
     }
 
     fn program(mut self) -> Vec<u16> {
@@ -103,7 +122,12 @@ impl<'a, const R: usize> Reading<'a, R> {
             }
             Base::Section(section) => {
                 let [c, d] = [self.c == class, self.d == class];
-                let pair = c && self.sweep.classes.get(self.place + 1).is_some_and(|next| usize::from(*next) == self.d);
+                let pair = c
+                    && self
+                        .sweep
+                        .classes
+                        .get(self.place + 1)
+                        .is_some_and(|next| usize::from(*next) == self.d);
                 self.adds(0x4200, units(d, runs.words), 1, 4)
                     || self.adds(0x4000, units(c, runs.words), 1, 4)
                     || self.adds(0x4600, units(pair, runs.pairs[0]), 2, 4)
@@ -116,10 +140,13 @@ impl<'a, const R: usize> Reading<'a, R> {
 
     fn adds_large(&mut self, import: u32) -> bool {
         let position = self.position + 4;
-        let rest = self.sweep.extension(self.place + 1, position, self.c, self.d);
+        let rest = self
+            .sweep
+            .extension(self.place + 1, position, self.c, self.d);
         let holds = 2 + rest == self.sweep.labels[self.place][self.c][self.d];
         if holds {
-            self.program.extend([0xA400 + (import >> 16) as u16, import as u16]);
+            self.program
+                .extend([0xA400 + (import >> 16) as u16, import as u16]);
             (self.place, self.position) = (self.place + 1, position);
         }
         holds
@@ -150,16 +177,21 @@ impl<'a, const R: usize> Reading<'a, R> {
 
     fn move_on(&mut self, offset: u32) {
         let (plain, skip) = ways(self.position, offset);
-        let value = self.sweep.extension(self.place, self.position, self.c, self.d);
+        let value = self
+            .sweep
+            .extension(self.place, self.position, self.c, self.d);
         if value == plain + self.sweep.labels[self.place][self.c][self.d] {
             if plain == 1 {
-                self.program.push(0x8000 + (offset - self.position - 1) as u16);
+                self.program
+                    .push(0x8000 + (offset - self.position - 1) as u16);
             } else {
-                self.program.extend([0xA000 + (offset >> 16) as u16, offset as u16]);
+                self.program
+                    .extend([0xA000 + (offset >> 16) as u16, offset as u16]);
             }
             self.position = offset;
         } else if skip == Some(1) {
-            self.program.push(0x8000 + (offset - 1020 - self.position - 1) as u16);
+            self.program
+                .push(0x8000 + (offset - 1020 - self.position - 1) as u16);
             self.position = offset - 1020;
         } else {
             self.skip(offset);
@@ -176,7 +208,9 @@ impl<'a, const R: usize> Reading<'a, R> {
         for count in (1..=most).rev() {
             let place = self.place + count;
             let position = self.sweep.fixups[place - 1].offset + 4;
-            if 1 + self.sweep.extension(place, position, self.c, self.d) == self.sweep.skips[self.place][self.c] {
+            if 1 + self.sweep.extension(place, position, self.c, self.d)
+                == self.sweep.skips[self.place][self.c]
+            {
                 self.program.push(words << 6 | count as u16);
                 (self.place, self.position) = (place, position);
                 return;

@@ -81,7 +81,10 @@ pub fn read(text: &[u8]) -> Script<'_> {
         if !fixups.is_sorted_by_key(|fixup| fixup.offset) {
             fixups.sort_unstable_by_key(|fixup| fixup.offset);
         }
-        if fixups.windows(2).any(|two| two[1].offset - two[0].offset < 4) {
+        if fixups
+            .windows(2)
+            .any(|two| two[1].offset - two[0].offset < 4)
+        {
             refuse(0);
         }
     }
@@ -116,7 +119,10 @@ impl<'a> Reader<'a> {
 
     /// The number of a section. There are few, so they are gone through.
     fn section_number(&self, name: &[u8]) -> Option<u32> {
-        self.sections.iter().position(|section| *section == name).map(|place| place as u32)
+        self.sections
+            .iter()
+            .position(|section| *section == name)
+            .map(|place| place as u32)
     }
 
     fn fix(&mut self, words: &mut Words<'a>) -> Option<()> {
@@ -163,7 +169,13 @@ impl<'a> Reader<'a> {
             _ => return None,
         };
         let place = self.script.libraries.len() as u32;
-        self.script.libraries.push(Library { name, current, oldimp, options, imports: 0 });
+        self.script.libraries.push(Library {
+            name,
+            current,
+            oldimp,
+            options,
+            imports: 0,
+        });
         is_new(&mut self.libraries, name, place)
     }
 
@@ -177,7 +189,10 @@ impl<'a> Reader<'a> {
         };
         self.script.libraries.last_mut()?.imports += 1;
         let place = self.script.imports.len() as u32;
-        self.script.imports.push(Import { name, class: class | weak });
+        self.script.imports.push(Import {
+            name,
+            class: class | weak,
+        });
         is_new(&mut self.imports, name, place)
     }
 
@@ -200,7 +215,14 @@ impl<'a> Reader<'a> {
         let (align, total) = (number(words.next()?)? as u8, number(words.next()?)?);
         let is_new = self.section_number(name).is_none();
         self.sections.push(name);
-        self.script.sections.push(Section { kind, share, align, total, image: Vec::new(), fixups: Vec::new() });
+        self.script.sections.push(Section {
+            kind,
+            share,
+            align,
+            total,
+            image: Vec::new(),
+            fixups: Vec::new(),
+        });
         is_new.then_some(())
     }
 
@@ -208,21 +230,36 @@ impl<'a> Reader<'a> {
         let name = words.next()?;
         let class = class(words.next()?)?;
         let (section, value) = self.place(words)?;
-        self.add_export(Export { name, class, section: section as i16, value })
+        self.add_export(Export {
+            name,
+            class,
+            section: section as i16,
+            value,
+        })
     }
 
     fn reexport(&mut self, words: &mut Words<'a>) -> Option<()> {
         let name = words.next()?;
         let class = class(words.next()?)?;
         let value = *self.imports.get(words.next()?)?;
-        self.add_export(Export { name, class, section: -3, value })
+        self.add_export(Export {
+            name,
+            class,
+            section: -3,
+            value,
+        })
     }
 
     fn absolute(&mut self, words: &mut Words<'a>) -> Option<()> {
         let name = words.next()?;
         let class = class(words.next()?)?;
         let value = number(words.next()?)?;
-        self.add_export(Export { name, class, section: -2, value })
+        self.add_export(Export {
+            name,
+            class,
+            section: -2,
+            value,
+        })
     }
 
     fn add_export(&mut self, export: Export<'a>) -> Option<()> {
