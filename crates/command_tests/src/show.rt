@@ -38,6 +38,21 @@ const SHOWN: &[(&[u8], &[u8], u8)] = &[
         b"fragment it\nsection 0 at 00010000 size 8\n00010000 0000FFFF 00010011\nsection 1 at 00010010 size 4\n00010010 00010002\n",
         0,
     ),
+    (
+        b"section d data process 4 16\nfix d 8 section d\ntvector d 0 d d\n",
+        b"fragment it\nsection 0 at 00010000 size 16\n00010000 00010000 00010000 00010000 00000000\n",
+        0,
+    ),
+    (
+        b"section d data process 4 16\nfix d 8 section d\nfix d 5 section d\n",
+        b"refused 46 Overlap line 3\n",
+        1,
+    ),
+    (
+        b"section d data process 4 16\nfix d 8 section d\ntvector d 4 d d\n",
+        b"refused 46 Overlap line 3\n",
+        1,
+    ),
     (b"section d\n", b"refused 41 BadLine line 1\n", 1),
     (
         b"section d data process 4 16777217\n",
