@@ -1,3 +1,3 @@
 pub mod Laws
-mod SquareLemmas
+mod TableLemmas
 mod WindowLemmas

@@ -1,4 +1,3 @@
 pub mod Kept
-pub mod Limits
-pub mod Squares
+pub mod Tables
 pub mod Windows

@@ -1,12 +1,10 @@
-//! Squares of labels: a number for each pair of classes of the two registers.
+//! Rows of numbers in tables, and windows of the newest rows with the least number at each place.
 #![tactic(auto)]
 
 mod looks;
-mod square;
-mod squares;
+mod table;
 mod window;
 
 pub use looks::Looks;
-pub use square::{Line, MAX_CLASSES, Square};
-pub use squares::Squares;
+pub use table::Table;
 pub use window::Window;

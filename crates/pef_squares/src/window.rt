@@ -1,76 +1,107 @@
-ghost use Rattle.std.specs.Prelude.{◌≡◌, ◌+◌, ◌-◌, ◌<◌, ◌≤◌, ◌⊎◌, ◌++◌, ◌∷◌, ℕ, [], List, OnOk, min, reverse, slice_index, take, vec_len};
-ghost use Rattle.pef_squares.specs.Windows.{BestOf, LesserOf, LowSquare, OlderOf, WindowOf};
-ghost use Rattle.pef_squares.specs.Limits.{most_classes};
+ghost use Rattle.std.specs.Prelude.{◌≡◌, ◌+◌, ◌-◌, ◌^◌, ◌<◌, ◌⊎◌, ◌++◌, ◌∷◌, ℕ, [], List, OnOk, length, min, reverse, slice_index, take};
+ghost use Rattle.pef_squares.specs.Windows.{BestOf, LesserOf, OlderOf, WindowOf};
 
 use crate::looks::Looks;
-use crate::square::{Line, MAX_CLASSES, Square};
+use crate::table::Table;
 use std::alloc::{AllocError, Global};
+use std::marker::Model;
 
-/// The newest squares of numbers, up to so many, of which the least is at hand at each pair of classes.
+/// The newest rows of numbers, up to so many, of which the least is at hand at each place.
 ///
-/// They stand in two parts. The newer squares are kept as they came. In place of each older square stands
-/// the least of it and of those between it and the newer ones: so the oldest can go, and what is kept for
-/// the others stays right.
+/// They are kept in two parts. The newer rows are kept as they came. In place of each older row is the least
+/// of it and of those between it and the newer ones: so the oldest can go, and what is kept for the others
+/// stays right.
 #[derive(Debug, Drop)]
 pub struct Window {
-    classes: usize,
+    width: usize,
     limit: usize,
-    /// What is kept for the older squares, the oldest last.
-    older: Vec<Square>,
-    /// The newer squares, the newest last.
-    newer: Vec<Square>,
-    /// The least of the newer squares.
-    low: Square,
+    /// What is kept for the older rows, the oldest last.
+    older: Table,
+    /// The newer rows, the newest last.
+    newer: Table,
+    /// The least of the newer rows.
+    low: Vec<u32>,
+}
+
+impl Model for Window {
+    ghost use Rattle.pef_squares.specs.Windows.{Windowed};
+    ghost use Rattle.pef_squares.specs.Kept.{WindowFull};
+
+    ghost Value = { Windowed };
+
+    ghost view = { λ w. record { width = w.width; limit = w.limit; older = w.older.rows; newer = w.newer.rows; low = w.low.items } };
+
+    ghost invariant = { λ w. WindowFull w.width w.limit w.older w.newer w.low.items };
 }
 
 impl Window {
-    /// A window of no squares, which can have up to so many.
-    pub fn new(alloc: Global, classes: usize, limit: usize) -> Window
-        requires few { classes ≤ most_classes }
-        requires some { 0 < limit }
-        ensures { WindowOf classes limit [] result }
+    /// A window of no rows of a width, which can have up to so many.
+    pub fn new(alloc: Global, width: usize, limit: usize) -> Window
+        requires { 0 < limit }
+        ensures { WindowOf width limit [] result }
     {
         Window {
-            classes,
+            width,
             limit,
-            older: Vec::new(alloc),
-            newer: Vec::new(alloc),
-            low: [[0; MAX_CLASSES]; MAX_CLASSES],
+            older: Table::new(alloc, width),
+            newer: Table::new(alloc, width),
+            low: Vec::new(alloc),
         }
     }
 
-    /// Lets all squares go.
+    /// Lets all rows go.
     pub fn clear(&mut self)
-        ensures few { self.new.classes ≡ self.old.classes }
-        ensures gone { (classes limit : ℕ) (squares : List (List (List ℕ))) → WindowOf classes limit squares self.old → WindowOf classes limit [] self.new }
+        ensures width { self.new.width ≡ self.old.width }
+        ensures gone { (width limit : ℕ) (rows : List (List ℕ)) → WindowOf width limit rows self.old → WindowOf width limit [] self.new }
     {
         self.older.clear();
         self.newer.clear();
     }
 
-    /// Takes one more square in, and lets the oldest go where there are too many. Its numbers are looked at
-    /// as it comes, and once more as it grows old; the least that is kept is no look.
+    /// Takes one more row in, and lets the oldest go if there are too many. Its numbers are looked at as it
+    /// comes, and once more as it grows old; the least that is kept is no look.
     ///
     /// # Errors
     ///
-    /// There is no memory for the square. Nothing is known of the window then.
-    pub fn add(&mut self, square: &Square, looks: Looks<'_>) -> Result<(), AllocError>
-        requires few { self.old.classes ≤ most_classes }
-        ensures { OnOk result ((classes limit : ℕ) (squares : List (List (List ℕ))) → WindowOf classes limit squares self.old → WindowOf classes limit (square.now ∷ take (limit - 1) squares) self.new) }
+    /// There is no memory for the row. Nothing is known of the window then.
+    pub fn add(&mut self, row: &[u32], looks: Looks<'_>) -> Result<(), AllocError>
+        requires { length row.now ≡ self.old.width }
+        ensures { OnOk result ((width limit : ℕ) (rows : List (List ℕ)) → WindowOf width limit rows self.old → WindowOf width limit (row.now ∷ take (limit - 1) rows) self.new) }
     {
         self.make_room(looks)?;
-        self.low = self.with_newer(square, looks);
-        self.newer.push(*square)?;
+        looks.add(row.len() as u64);
+        self.lower_to(row)?;
+        self.newer.push(row)?;
         Ok(())
     }
 
-    /// Lets the oldest square go where there are as many as there can be.
-    fn make_room(&mut self, looks: Looks<'_>) -> Result<(), AllocError>
-        requires few { self.old.classes ≤ most_classes }
-        ensures few { self.new.classes ≡ self.old.classes }
-        ensures room { OnOk result ((classes limit : ℕ) (squares : List (List (List ℕ))) → WindowOf classes limit squares self.old → WindowOf classes limit (take (limit - 1) squares) self.new) }
+    /// Lowers the least of the newer rows to that of one more.
+    fn lower_to(&mut self, row: &[u32]) -> Result<(), AllocError>
+        requires { length row.now ≡ self.old.width }
+        ensures width { self.new.width ≡ self.old.width }
+        ensures limit { self.new.limit ≡ self.old.limit }
+        ensures older { self.new.older ≡ self.old.older }
+        ensures newer { self.new.newer ≡ self.old.newer }
+        ensures wide { OnOk result (length self.new.low ≡ self.old.width) }
+        ensures first { OnOk result (length self.old.newer ≡ 0 → self.new.low ≡ row.now) }
+        ensures lesser { OnOk result (0 < length self.old.newer → LesserOf self.old.width self.old.low row.now self.new.low) }
     {
-        if self.older.len() + self.newer.len() < self.limit {
+        if self.newer.rows() == 0 {
+            self.low.clear();
+            self.low.extend_from_slice(row)?;
+        } else {
+            lower(&mut self.low, row);
+        }
+        Ok(())
+    }
+
+    /// Lets the oldest row go if there are as many as there can be.
+    fn make_room(&mut self, looks: Looks<'_>) -> Result<(), AllocError>
+        ensures width { self.new.width ≡ self.old.width }
+        ensures free { OnOk result (length self.new.older + length self.new.newer < self.new.limit) }
+        ensures room { OnOk result ((width limit : ℕ) (rows : List (List ℕ)) → WindowOf width limit rows self.old → WindowOf width limit (take (limit - 1) rows) self.new) }
+    {
+        if self.older.rows() + self.newer.rows() < self.limit {
             return Ok(());
         }
         self.age(looks)?;
@@ -78,118 +109,81 @@ impl Window {
         Ok(())
     }
 
-    /// Sees to it that there are older squares, where there are squares.
+    /// Sees to it that there are older rows, if there are rows.
     fn age(&mut self, looks: Looks<'_>) -> Result<(), AllocError>
-        requires few { self.old.classes ≤ most_classes }
-        ensures few { self.new.classes ≡ self.old.classes }
-        ensures same { OnOk result ((classes limit : ℕ) (squares : List (List (List ℕ))) → WindowOf classes limit squares self.old → WindowOf classes limit squares self.new) }
-        ensures some { OnOk result ((vec_len self.new.newer ≡ 0) ⊎ (0 < vec_len self.new.older)) }
+        ensures width { self.new.width ≡ self.old.width }
+        ensures limit { self.new.limit ≡ self.old.limit }
+        ensures count { length self.new.older + length self.new.newer ≡ length self.old.older + length self.old.newer }
+        ensures same { OnOk result ((width limit : ℕ) (rows : List (List ℕ)) → WindowOf width limit rows self.old → WindowOf width limit rows self.new) }
+        ensures some { OnOk result ((length self.new.newer ≡ 0) ⊎ (0 < length self.new.older)) }
     {
-        if !self.older.is_empty() {
+        if self.older.rows() > 0 || self.newer.rows() == 0 {
             return Ok(());
         }
-        age_all(&mut self.older, &mut self.newer, self.classes, looks)
+        age_all(&mut self.older, &mut self.newer, &mut self.low, looks)
     }
 
-    /// The least of the newer squares and of one more.
-    fn with_newer(&self, square: &Square, looks: Looks<'_>) -> Square
-        requires few { self.now.classes ≤ most_classes }
-        ensures { (classes limit : ℕ) (squares : List (List (List ℕ))) → WindowOf classes limit squares self.now → LowSquare classes (square.now ∷ reverse self.now.newer.items) result }
+    /// The least of a number and of 1 more than each of the rows at a place.
+    pub fn best(&self, first: u64, place: usize) -> u64
+        requires { place < self.now.width }
+        ensures { (width limit : ℕ) (rows : List (List ℕ)) → WindowOf width limit rows self.now → BestOf first rows place result }
     {
-        if self.newer.is_empty() {
-            only(square, self.classes, looks)
-        } else {
-            lesser(square, &self.low, self.classes, looks)
-        }
-    }
-
-    /// The least of a number and of 1 more than each of the squares at a pair of classes.
-    pub fn best(&self, first: u64, c: usize, d: usize) -> u64
-        requires c { c < most_classes }
-        requires d { d < most_classes }
-        ensures { (classes limit : ℕ) (squares : List (List (List ℕ))) → WindowOf classes limit squares self.now → c < classes → d < classes → BestOf first squares c d result }
-    {
-        let best = older_best(&self.older, first, c, d);
-        if self.newer.is_empty() {
+        let best = self.older_best(first, place);
+        if self.newer.rows() == 0 {
             best
         } else {
-            best.min(1 + u64::from(self.low[c][d]))
+            best.min(1 + u64::from(self.low[place]))
+        }
+    }
+
+    /// The least of a number and of 1 more than each of the older rows at a place.
+    fn older_best(&self, first: u64, place: usize) -> u64
+        requires { place < self.now.width }
+        ensures { (width : ℕ) (rows : List (List ℕ)) → OlderOf width rows self.now.older → place < width → BestOf first rows place result }
+    {
+        match self.older.last() {
+            Some(low) => first.min(1 + u64::from(low[place])),
+            None => first,
         }
     }
 }
 
-/// The least of a number and of 1 more than each of some older squares at a pair of classes.
-fn older_best(older: &[Square], first: u64, c: usize, d: usize) -> u64
-    requires c { c < most_classes }
-    requires d { d < most_classes }
-    ensures { (classes : ℕ) (squares : List (List (List ℕ))) → OlderOf classes squares older.now → c < classes → d < classes → BestOf first squares c d result }
-{
-    match older.last() {
-        Some(low) => first.min(1 + u64::from(low[c][d])),
-        None => first,
-    }
-}
-
-/// Makes newer squares older ones, the newest first.
+/// Makes newer rows older ones, the newest first. Their least so far is in `low`.
 fn age_all(
-    older: &mut Vec<Square>,
-    newer: &mut Vec<Square>,
-    classes: usize,
+    older: &mut Table,
+    newer: &mut Table,
+    low: &mut [u32],
     looks: Looks<'_>,
 ) -> Result<(), AllocError>
-    requires few { classes ≤ most_classes }
-    requires none { older.old.items ≡ [] }
-    ensures none { OnOk result (newer.new.items ≡ []) }
-    ensures older { OnOk result (OlderOf classes (reverse newer.old.items) older.new.items) }
+    requires none { older.old.rows ≡ [] }
+    requires width { older.old.width ≡ newer.old.width }
+    requires low { length low.old ≡ newer.old.width }
+    requires room { length newer.old.rows < 2 ^ 64 }
+    ensures older_width { older.new.width ≡ older.old.width }
+    ensures newer_width { newer.new.width ≡ newer.old.width }
+    ensures count { length older.new.rows + length newer.new.rows ≡ length newer.old.rows }
+    ensures none { OnOk result (newer.new.rows ≡ []) }
+    ensures older { OnOk result (OlderOf newer.old.width (reverse newer.old.rows) older.new.rows) }
 {
-    while let Some(square) = newer.pop() {
-        let low = with_older(older, &square, classes, looks);
+    if let Some(newest) = newer.last() {
+        low.copy_from_slice(newest);
+    }
+    'rows: while let Some(row) = newer.last() {
+        looks.add(row.len() as u64);
+        lower(low, row);
         older.push(low)?;
+        newer.pop();
     }
     Ok(())
 }
 
-/// What is kept for one more older square.
-fn with_older(older: &[Square], square: &Square, classes: usize, looks: Looks<'_>) -> Square
-    requires few { classes ≤ most_classes }
-    ensures { (squares : List (List (List ℕ))) → OlderOf classes squares older.now → LowSquare classes (squares ++ square.now ∷ []) result }
+/// Lowers each number to that of a row, if it is less.
+fn lower(low: &mut [u32], row: &[u32])
+    requires { length row.now ≡ length low.old }
+    ensures len { length low.new ≡ length low.old }
+    ensures lesser { LesserOf (length row.now) low.old row.now low.new }
 {
-    match older.last() {
-        Some(low) => lesser(low, square, classes, looks),
-        None => only(square, classes, looks),
+    for i in 0..row.len() {
+        low[i] = low[i].min(row[i]);
     }
-}
-
-/// The least of a square alone, which is looked at.
-fn only(square: &Square, classes: usize, looks: Looks<'_>) -> Square
-    requires few { classes ≤ most_classes }
-    ensures { result ≡ square.now }
-{
-    looks.add((classes * classes) as u64);
-    *square
-}
-
-/// The lesser of two squares at each pair of classes: of a kept one, and of one that is looked at.
-fn lesser(one: &Square, other: &Square, classes: usize, looks: Looks<'_>) -> Square
-    requires few { classes ≤ most_classes }
-    ensures { LesserOf classes one.now other.now result }
-{
-    let mut square = [[0; MAX_CLASSES]; MAX_CLASSES];
-    for c in 0..classes {
-        square[c] = lesser_line(&one[c], &other[c], classes, looks);
-    }
-    square
-}
-
-/// The same of two lines at each class.
-fn lesser_line(one: &Line, other: &Line, classes: usize, looks: Looks<'_>) -> Line
-    requires few { classes ≤ most_classes }
-    ensures { (d : ℕ) → d < classes → slice_index result d ≡ min (slice_index one.now d) (slice_index other.now d) }
-{
-    let mut line = [0; MAX_CLASSES];
-    for d in 0..classes {
-        looks.add(1);
-        line[d] = one[d].min(other[d]);
-    }
-    line
 }

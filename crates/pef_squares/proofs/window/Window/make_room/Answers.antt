@@ -1,10 +1,14 @@
-use Rattle.std.proofs.Common.{◌∙◌, ◌-◌, ap, arith, inl, inr, refl, sym, take}
-use Rattle.pef_squares.proofs.WindowLemmas.{window-full, window-pop}
+use Rattle.std.proofs.Common.{◌∙◌, ap, arith, refl}
+use Rattle.pef_squares.proofs.WindowLemmas.{window-pop}
 use Rattle.pef_squares.proofs.window.Window.make_room.Goals as goal
 
 pub returns-clause-room : goal.returns-clause-room
-returns-clause-room c = λ classes limit squares w.
-    let full = c.if-len-self.false in
-    let one = c.len.ensures in
-    let two = c.len-2.ensures in
-    window-pop classes limit squares c.age.new.self _ (c.in_ok-age.ensures.same classes limit squares w) (window-full classes limit squares c.args.self.now w (omega (arith, full, one, two))) (elim c.in_ok-age.ensures.some [ inl none ↦ inl (sym c.age.new.self.newer.ok.0 ∙ none) | inr more ↦ inr (let same = c.age.new.self.older.ok.0 in omega (arith, more, same)) ]) refl refl refl refl (c.pop.ensures.rest ∙ ap (λ n. take (n - 1) c.age.new.self.older.items) c.age.new.self.older.ok.0)
+returns-clause-room c = λ width limit rows w.
+    let i = c.self-2.invariant in
+    let within = i.within in
+    let count = rw (← c.self-2.view_is, ← c.self.view_is) at c.in_ok-age.ensures.count in
+    let same_limit = rw (← c.self-2.view_is, ← c.self.view_is) at c.in_ok-age.ensures.limit in
+    let full = c.if-rows-self.false in
+    let one = c.rows.ensures in
+    let two = c.rows-2.ensures in
+    window-pop width limit rows _ _ (rw (← c.self-2.view_is) at (c.in_ok-age.ensures.same width limit rows w)) i.some (omega (arith, within, full, count, same_limit, one, two)) (rw (← c.self-2.view_is) at c.in_ok-age.ensures.some) refl refl refl refl (ap (λ t. t.rows) c.pop.ensures)
