@@ -25,11 +25,11 @@ pub record RunBest (k : Known) (h : Here) (r : Run) (first value : ℕ) : Type 0
   pub one : (l : Labels) → Agrees l k h.others.now → (value ≡ first) ⊎ EndOf l r h h.place.position value
   pub ends : (l : Labels) (low : ℕ) → Agrees l k h.others.now → low ≤ value → Ends l r h h.place.position low
 
-run_best : (k : Known) (h : Here) (r kept : Run) (m first value : ℕ) (squares : List (List (List ℕ))) → HereOf k h → h.place.position ≡ h.first.offset → RunOf k.registers.now r h.place h.place.position → ((j : ℕ) → units kept j h.first.offset m ≡ units r j h.first.offset h.place.import_index) → stride kept ≡ stride r
-    → ((l : Labels) → Agrees l k h.others.now → EndRows l kept (limit r) (h.first ∷ h.others.now) h.first.offset m h.place.c h.place.d squares) → BestOf first squares h.place.c h.place.d value → RunBest k h r first value
-run_best k h r kept m first value squares here at of same wide rows best = record {
+run_best : (k : Known) (h : Here) (r kept : Run) (m first value : ℕ) (rows : List (List ℕ)) → HereOf k h → h.place.position ≡ h.first.offset → RunOf k.registers.now r h.place h.place.position → ((j : ℕ) → units kept j h.first.offset m ≡ units r j h.first.offset h.place.import_index) → stride kept ≡ stride r
+    → ((l : Labels) → Agrees l k h.others.now → EndRows l kept (limit r) (h.first ∷ h.others.now) h.first.offset m h.place.c h.place.d rows) → BestOf first rows h.place.c h.place.d value → RunBest k h r first value
+run_best k h r kept m first value rows here at of same wide rows best = record {
   better = best.first_is;
-  led = λ led. best-led k h r first value squares of led best end;
+  led = λ led. best-led k h r first value rows of led best end;
   one = λ l agrees. elim best.one [
     | inl is ↦ inl is
     | inr one ↦ inr (end l agrees one)
@@ -38,19 +38,19 @@ run_best k h r kept m first value squares here at of same wide rows best = recor
       subst (λ (p : ℕ). EndsFrom l r low (limit r) h.place.left.now p h.place.import_index h.place.c h.place.d) (sym at)
       (subst (λ (fs : List Fixup). EndsFrom l r low (limit r) fs h.first.offset h.place.import_index h.place.c h.place.d) (sym here.parts)
       (ends_as l kept r low (limit r) (h.first ∷ h.others.now) h.first.offset m h.place.import_index h.place.c h.place.d same wide
-      (best_ends l kept low (limit r) (h.first ∷ h.others.now) h.first.offset m h.place.c h.place.d squares (rows l agrees) (each-lower 1 value low squares h.place.c h.place.d best.each least))));
+      (best_ends l kept low (limit r) (h.first ∷ h.others.now) h.first.offset m h.place.c h.place.d rows (rows l agrees) (each-lower 1 value low rows h.place.c h.place.d best.each least))));
 }
   where
-    end : (l : Labels) → Agrees l k h.others.now → IsOne 1 value squares h.place.c h.place.d → EndOf l r h h.place.position value
+    end : (l : Labels) → Agrees l k h.others.now → IsOne 1 value rows h.place.c h.place.d → EndOf l r h h.place.position value
     end l agrees one =
         subst (λ (p : ℕ). EndAmong l r (limit r) h.place.left.now p h.place.import_index h.place.c h.place.d value) (sym at)
         (subst (λ (fs : List Fixup). EndAmong l r (limit r) fs h.first.offset h.place.import_index h.place.c h.place.d value) (sym here.parts)
         (end_as l kept r (limit r) (h.first ∷ h.others.now) h.first.offset m h.place.import_index h.place.c h.place.d value same wide
-        (best_end l kept value (limit r) (h.first ∷ h.others.now) h.first.offset m h.place.c h.place.d squares (rows l agrees) one)))
+        (best_end l kept value (limit r) (h.first ∷ h.others.now) h.first.offset m h.place.c h.place.d rows (rows l agrees) one)))
 
 -- what a window says of the best at a place's classes
 abbrev pub Bests : Window → Here → ℕ → ℕ → Type 0
-Bests w h first value = (count limit : ℕ) (squares : List (List (List ℕ))) → WindowOf count limit squares w → h.place.c < count → h.place.d < count → BestOf first squares h.place.c h.place.d value
+Bests w h first value = (count limit : ℕ) (rows : List (List ℕ)) → WindowOf count limit rows w → h.place.c < count → h.place.d < count → BestOf first rows h.place.c h.place.d value
 
 under_c : (l : Labels) (k : Known) (h : Here) → HereOf k h → Agrees l k h.others.now → h.place.c < classes l
 under_c l k h here agrees = let e = ap length agrees.same.registers_are in let u = here.c in omega (arith, e, u)
@@ -62,61 +62,61 @@ under_d l k h here agrees = let e = ap length agrees.same.registers_are in let u
 class_d : (l : Labels) (k : Known) (h : Here) (section : ℕ) → Agrees l k h.others.now → Holds k.registers.now section h.place.d → h.place.d ≡ class_of l.registers section
 class_d l k h section agrees holds = sym (ap (λ rs. class_of rs section) agrees.same.registers_are ∙ holds.0)
 
-word_rows : (k : Known) (h : Here) (section : ℕ) (squares : List (List (List ℕ))) (l : Labels) → HereOf k h → h.first.base ≡ Section section → Agrees l k h.others.now → WordsKept l (h.first ∷ h.others.now) squares → EndRows l (WordsOfD section) 512 (h.first ∷ h.others.now) h.first.offset 0 h.place.c h.place.d squares
-word_rows k h section squares l here base agrees kept =
-    subst (λ (b : Base). WordsAt l h.first.offset (h.first ∷ h.others.now) squares b) base kept h.place.c h.place.d (under_c l k h here agrees) (under_d l k h here agrees)
+word_rows : (k : Known) (h : Here) (section : ℕ) (rows : List (List ℕ)) (l : Labels) → HereOf k h → h.first.base ≡ Section section → Agrees l k h.others.now → WordsKept l (h.first ∷ h.others.now) rows → EndRows l (WordsOfD section) 512 (h.first ∷ h.others.now) h.first.offset 0 h.place.c h.place.d rows
+word_rows k h section rows l here base agrees kept =
+    subst (λ (b : Base). WordsAt l h.first.offset (h.first ∷ h.others.now) rows b) base kept h.place.c h.place.d (under_c l k h here agrees) (under_d l k h here agrees)
 
-words_c_best : (k : Known) (h : Here) (section first value : ℕ) (w : Window) → HereOf k h → h.place.position ≡ h.first.offset → RunOf k.registers.now (WordsOfC section) h.place h.place.position → h.first.base ≡ Section section → Holding (λ l. Agrees l k h.others.now) (length k.registers.now + 1) 512 (λ l squares. WordsKept l (h.first ∷ h.others.now) squares) w → Bests w h first value → RunBest k h (WordsOfC section) first value
+words_c_best : (k : Known) (h : Here) (section first value : ℕ) (w : Window) → HereOf k h → h.place.position ≡ h.first.offset → RunOf k.registers.now (WordsOfC section) h.place h.place.position → h.first.base ≡ Section section → Holding (λ l. Agrees l k h.others.now) (length k.registers.now + 1) 512 (λ l rows. WordsKept l (h.first ∷ h.others.now) rows) w → Bests w h first value → RunBest k h (WordsOfC section) first value
 words_c_best k h section first value w here at of base held bests =
-    run_best k h (WordsOfC section) (WordsOfD section) 0 first value held.squares here at of (as_c section h.first.offset h.place.import_index) refl
-    (λ l agrees. word_rows k h section held.squares l here base agrees (held.kept l agrees))
-    (bests (length k.registers.now + 1) 512 held.squares held.is here.c here.d)
+    run_best k h (WordsOfC section) (WordsOfD section) 0 first value held.rows here at of (as_c section h.first.offset h.place.import_index) refl
+    (λ l agrees. word_rows k h section held.rows l here base agrees (held.kept l agrees))
+    (bests (length k.registers.now + 1) 512 held.rows held.is here.c here.d)
 
-words_d_best : (k : Known) (h : Here) (section first value : ℕ) (w : Window) → HereOf k h → h.place.position ≡ h.first.offset → RunOf k.registers.now (WordsOfD section) h.place h.place.position → h.first.base ≡ Section section → Holding (λ l. Agrees l k h.others.now) (length k.registers.now + 1) 512 (λ l squares. WordsKept l (h.first ∷ h.others.now) squares) w → Bests w h first value → RunBest k h (WordsOfD section) first value
+words_d_best : (k : Known) (h : Here) (section first value : ℕ) (w : Window) → HereOf k h → h.place.position ≡ h.first.offset → RunOf k.registers.now (WordsOfD section) h.place h.place.position → h.first.base ≡ Section section → Holding (λ l. Agrees l k h.others.now) (length k.registers.now + 1) 512 (λ l rows. WordsKept l (h.first ∷ h.others.now) rows) w → Bests w h first value → RunBest k h (WordsOfD section) first value
 words_d_best k h section first value w here at of base held bests =
-    run_best k h (WordsOfD section) (WordsOfD section) 0 first value held.squares here at of (as_d section h.first.offset h.place.import_index) refl
-    (λ l agrees. word_rows k h section held.squares l here base agrees (held.kept l agrees))
-    (bests (length k.registers.now + 1) 512 held.squares held.is here.c here.d)
+    run_best k h (WordsOfD section) (WordsOfD section) 0 first value held.rows here at of (as_d section h.first.offset h.place.import_index) refl
+    (λ l agrees. word_rows k h section held.rows l here base agrees (held.kept l agrees))
+    (bests (length k.registers.now + 1) 512 held.rows held.is here.c here.d)
 
-skips_best : (k : Known) (h : Here) (words section first value : ℕ) (w : Window) → HereOf k h → h.place.position ≡ h.first.offset → RunOf k.registers.now (Skip words section) h.place h.place.position → h.first.base ≡ Section section → Holding (λ l. Agrees l k h.others.now) (length k.registers.now + 1) 63 (λ l squares. SkipsKept l (h.first ∷ h.others.now) squares) w → Bests w h first value → RunBest k h (Skip words section) first value
+skips_best : (k : Known) (h : Here) (words section first value : ℕ) (w : Window) → HereOf k h → h.place.position ≡ h.first.offset → RunOf k.registers.now (Skip words section) h.place h.place.position → h.first.base ≡ Section section → Holding (λ l. Agrees l k h.others.now) (length k.registers.now + 1) 63 (λ l rows. SkipsKept l (h.first ∷ h.others.now) rows) w → Bests w h first value → RunBest k h (Skip words section) first value
 skips_best k h words section first value w here at of base held bests =
-    run_best k h (Skip words section) (WordsOfD section) 0 first value held.squares here at of (as_skip words section h.first.offset h.place.import_index) refl
-    (λ l agrees. subst (λ (b : Base). SkipsAt l h.first.offset (h.first ∷ h.others.now) held.squares b) base (held.kept l agrees) h.place.c h.place.d (under_c l k h here agrees) (under_d l k h here agrees))
-    (bests (length k.registers.now + 1) 63 held.squares held.is here.c here.d)
+    run_best k h (Skip words section) (WordsOfD section) 0 first value held.rows here at of (as_skip words section h.first.offset h.place.import_index) refl
+    (λ l agrees. subst (λ (b : Base). SkipsAt l h.first.offset (h.first ∷ h.others.now) held.rows b) base (held.kept l agrees) h.place.c h.place.d (under_c l k h here agrees) (under_d l k h here agrees))
+    (bests (length k.registers.now + 1) 63 held.rows held.is here.c here.d)
 
-spaced_best : (k : Known) (h : Here) (section first value : ℕ) (w : Window) → HereOf k h → h.place.position ≡ h.first.offset → RunOf k.registers.now (Spaced section) h.place h.place.position → h.first.base ≡ Section section → Holds k.registers.now section h.place.d → Holding (λ l. Agrees l k h.others.now) (length k.registers.now + 1) 512 (λ l squares. SpacedKept l (h.first ∷ h.others.now) squares) w → Bests w h first value → RunBest k h (Spaced section) first value
+spaced_best : (k : Known) (h : Here) (section first value : ℕ) (w : Window) → HereOf k h → h.place.position ≡ h.first.offset → RunOf k.registers.now (Spaced section) h.place h.place.position → h.first.base ≡ Section section → Holds k.registers.now section h.place.d → Holding (λ l. Agrees l k h.others.now) (length k.registers.now + 1) 512 (λ l rows. SpacedKept l (h.first ∷ h.others.now) rows) w → Bests w h first value → RunBest k h (Spaced section) first value
 spaced_best k h section first value w here at of base holds held bests =
-    run_best k h (Spaced section) (Spaced section) 0 first value held.squares here at of (as_spaced section h.first.offset h.place.import_index) refl
-    (λ l agrees. subst (λ (b : Base). SpacedAt l h.first.offset (h.first ∷ h.others.now) held.squares b) base (held.kept l agrees) h.place.c h.place.d (under_c l k h here agrees) (class_d l k h section agrees holds))
-    (bests (length k.registers.now + 1) 512 held.squares held.is here.c here.d)
+    run_best k h (Spaced section) (Spaced section) 0 first value held.rows here at of (as_spaced section h.first.offset h.place.import_index) refl
+    (λ l agrees. subst (λ (b : Base). SpacedAt l h.first.offset (h.first ∷ h.others.now) held.rows b) base (held.kept l agrees) h.place.c h.place.d (under_c l k h here agrees) (class_d l k h section agrees holds))
+    (bests (length k.registers.now + 1) 512 held.rows held.is here.c here.d)
 
-pair_rows : (l : Labels) (f : Fixup) (others : List Fixup) (j s c d : ℕ) (squares : List (List (List ℕ))) → f.base ≡ Section j → NextBase (Section s) others → PairsKept l (f ∷ others) squares → c < classes l → d < classes l → EndRows l (Pairs j s) 512 (f ∷ others) f.offset 0 c d squares
-pair_rows l f [] j s c d squares base next kept under_c under_d = absurd next
-pair_rows l f (g ∷ rest) j s c d squares base next kept under_c under_d =
-    subst (λ (b : Base). PairsAt l f.offset (f ∷ g ∷ rest) squares (Section j) b) next (subst (λ (b : Base). PairsAt l f.offset (f ∷ g ∷ rest) squares b g.base) base kept) c d under_c under_d
+pair_rows : (l : Labels) (f : Fixup) (others : List Fixup) (j s c d : ℕ) (rows : List (List ℕ)) → f.base ≡ Section j → NextBase (Section s) others → PairsKept l (f ∷ others) rows → c < classes l → d < classes l → EndRows l (Pairs j s) 512 (f ∷ others) f.offset 0 c d rows
+pair_rows l f [] j s c d rows base next kept under_c under_d = absurd next
+pair_rows l f (g ∷ rest) j s c d rows base next kept under_c under_d =
+    subst (λ (b : Base). PairsAt l f.offset (f ∷ g ∷ rest) rows (Section j) b) next (subst (λ (b : Base). PairsAt l f.offset (f ∷ g ∷ rest) rows b g.base) base kept) c d under_c under_d
 
-far_pair_rows : (l : Labels) (f : Fixup) (others : List Fixup) (j s c d : ℕ) (squares : List (List (List ℕ))) → f.base ≡ Section j → NextBase (Section s) others → FarPairsKept l (f ∷ others) squares → c < classes l → d ≡ class_of l.registers s → EndRows l (SpacedPairs j s) 512 (f ∷ others) f.offset 0 c d squares
-far_pair_rows l f [] j s c d squares base next kept under_c is_d = absurd next
-far_pair_rows l f (g ∷ rest) j s c d squares base next kept under_c is_d =
-    subst (λ (b : Base). FarPairsAt l f.offset (f ∷ g ∷ rest) squares (Section j) b) next (subst (λ (b : Base). FarPairsAt l f.offset (f ∷ g ∷ rest) squares b g.base) base kept) c d under_c is_d
+far_pair_rows : (l : Labels) (f : Fixup) (others : List Fixup) (j s c d : ℕ) (rows : List (List ℕ)) → f.base ≡ Section j → NextBase (Section s) others → FarPairsKept l (f ∷ others) rows → c < classes l → d ≡ class_of l.registers s → EndRows l (SpacedPairs j s) 512 (f ∷ others) f.offset 0 c d rows
+far_pair_rows l f [] j s c d rows base next kept under_c is_d = absurd next
+far_pair_rows l f (g ∷ rest) j s c d rows base next kept under_c is_d =
+    subst (λ (b : Base). FarPairsAt l f.offset (f ∷ g ∷ rest) rows (Section j) b) next (subst (λ (b : Base). FarPairsAt l f.offset (f ∷ g ∷ rest) rows b g.base) base kept) c d under_c is_d
 
-pairs_best : (k : Known) (h : Here) (j s first value : ℕ) (w : Window) → HereOf k h → h.place.position ≡ h.first.offset → RunOf k.registers.now (Pairs j s) h.place h.place.position → h.first.base ≡ Section j → NextBase (Section s) h.others.now → Holding (λ l. Agrees l k h.others.now) (length k.registers.now + 1) 512 (λ l squares. PairsKept l (h.first ∷ h.others.now) squares) w → Bests w h first value → RunBest k h (Pairs j s) first value
+pairs_best : (k : Known) (h : Here) (j s first value : ℕ) (w : Window) → HereOf k h → h.place.position ≡ h.first.offset → RunOf k.registers.now (Pairs j s) h.place h.place.position → h.first.base ≡ Section j → NextBase (Section s) h.others.now → Holding (λ l. Agrees l k h.others.now) (length k.registers.now + 1) 512 (λ l rows. PairsKept l (h.first ∷ h.others.now) rows) w → Bests w h first value → RunBest k h (Pairs j s) first value
 pairs_best k h j s first value w here at of base next held bests =
-    run_best k h (Pairs j s) (Pairs j s) 0 first value held.squares here at of (as_pairs j s h.first.offset h.place.import_index) refl
-    (λ l agrees. pair_rows l h.first h.others.now j s h.place.c h.place.d held.squares base next (held.kept l agrees) (under_c l k h here agrees) (under_d l k h here agrees))
-    (bests (length k.registers.now + 1) 512 held.squares held.is here.c here.d)
+    run_best k h (Pairs j s) (Pairs j s) 0 first value held.rows here at of (as_pairs j s h.first.offset h.place.import_index) refl
+    (λ l agrees. pair_rows l h.first h.others.now j s h.place.c h.place.d held.rows base next (held.kept l agrees) (under_c l k h here agrees) (under_d l k h here agrees))
+    (bests (length k.registers.now + 1) 512 held.rows held.is here.c here.d)
 
-far_pairs_best : (k : Known) (h : Here) (j s first value : ℕ) (w : Window) → HereOf k h → h.place.position ≡ h.first.offset → RunOf k.registers.now (SpacedPairs j s) h.place h.place.position → h.first.base ≡ Section j → NextBase (Section s) h.others.now → Holds k.registers.now s h.place.d → Holding (λ l. Agrees l k h.others.now) (length k.registers.now + 1) 512 (λ l squares. FarPairsKept l (h.first ∷ h.others.now) squares) w → Bests w h first value → RunBest k h (SpacedPairs j s) first value
+far_pairs_best : (k : Known) (h : Here) (j s first value : ℕ) (w : Window) → HereOf k h → h.place.position ≡ h.first.offset → RunOf k.registers.now (SpacedPairs j s) h.place h.place.position → h.first.base ≡ Section j → NextBase (Section s) h.others.now → Holds k.registers.now s h.place.d → Holding (λ l. Agrees l k h.others.now) (length k.registers.now + 1) 512 (λ l rows. FarPairsKept l (h.first ∷ h.others.now) rows) w → Bests w h first value → RunBest k h (SpacedPairs j s) first value
 far_pairs_best k h j s first value w here at of base next holds held bests =
-    run_best k h (SpacedPairs j s) (SpacedPairs j s) 0 first value held.squares here at of (as_far j s h.first.offset h.place.import_index) refl
-    (λ l agrees. far_pair_rows l h.first h.others.now j s h.place.c h.place.d held.squares base next (held.kept l agrees) (under_c l k h here agrees) (class_d l k h s agrees holds))
-    (bests (length k.registers.now + 1) 512 held.squares held.is here.c here.d)
+    run_best k h (SpacedPairs j s) (SpacedPairs j s) 0 first value held.rows here at of (as_far j s h.first.offset h.place.import_index) refl
+    (λ l agrees. far_pair_rows l h.first h.others.now j s h.place.c h.place.d held.rows base next (held.kept l agrees) (under_c l k h here agrees) (class_d l k h s agrees holds))
+    (bests (length k.registers.now + 1) 512 held.rows held.is here.c here.d)
 
-imports_best : (k : Known) (h : Here) (import first value : ℕ) (w : Window) → HereOf k h → h.place.position ≡ h.first.offset → RunOf k.registers.now Imports h.place h.place.position → h.first.base ≡ Import import → import ≡ h.place.import_index → Holding (λ l. Agrees l k h.others.now) (length k.registers.now + 1) 512 (λ l squares. WordsKept l (h.first ∷ h.others.now) squares) w → Bests w h first value → RunBest k h Imports first value
+imports_best : (k : Known) (h : Here) (import first value : ℕ) (w : Window) → HereOf k h → h.place.position ≡ h.first.offset → RunOf k.registers.now Imports h.place h.place.position → h.first.base ≡ Import import → import ≡ h.place.import_index → Holding (λ l. Agrees l k h.others.now) (length k.registers.now + 1) 512 (λ l rows. WordsKept l (h.first ∷ h.others.now) rows) w → Bests w h first value → RunBest k h Imports first value
 imports_best k h import first value w here at of base next held bests =
-    run_best k h Imports Imports import first value held.squares here at of (λ j. ap (λ m. units Imports j h.first.offset m) next) refl
-    (λ l agrees. subst (λ (b : Base). WordsAt l h.first.offset (h.first ∷ h.others.now) held.squares b) base (held.kept l agrees) h.place.c h.place.d (under_c l k h here agrees) (under_d l k h here agrees))
-    (bests (length k.registers.now + 1) 512 held.squares held.is here.c here.d)
+    run_best k h Imports Imports import first value held.rows here at of (λ j. ap (λ m. units Imports j h.first.offset m) next) refl
+    (λ l agrees. subst (λ (b : Base). WordsAt l h.first.offset (h.first ∷ h.others.now) held.rows b) base (held.kept l agrees) h.place.c h.place.d (under_c l k h here agrees) (under_d l k h here agrees))
+    (bests (length k.registers.now + 1) 512 held.rows held.is here.c here.d)
 
 by_run : (k : Known) (h : Here) (r : Run) (first value : ℕ) (e : RunEnds) → HereOf k h → h.place.position ≡ h.first.offset → RunOf k.registers.now r h.place h.place.position → RunBegins r h.place.import_index h.first.base h.others.now → EndsAt k h.others.now (h.first ∷ h.others.now) e → Bests (window_of e r) h first value → RunBest k h r first value
 by_run k h (WordsOfC section) first value e here at of begins ends bests = words_c_best k h section first value e.words here at of begins ends.words bests

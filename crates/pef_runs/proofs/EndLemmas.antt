@@ -30,17 +30,17 @@ extension-there l registers q s same at =
     ∙ ap₂ (λ c d. extension l q.left.now q.position c d) (ap (λ rs. class_of rs s.c) same ∙ at.c) (ap (λ rs. class_of rs s.d) same ∙ at.d)
 
 -- fewer of them
-end_rows-take : (l : Labels) (r : Run) (n k : ℕ) (fixups : List Fixup) (p m c d : ℕ) (squares : List (List (List ℕ))) → EndRows l r n fixups p m c d squares → k ≤ n → EndRows l r k fixups p m c d (take k squares)
-end_rows-take l r n zero fixups p m c d squares e few = inl refl
-end_rows-take l r n (suc k) fixups p m c d [] (inl none) few = absurd (omega (arith, none, few))
-end_rows-take l r n (suc k) fixups p m c d [] (inr none) few = inr none
-end_rows-take l r n (suc k) fixups p m c d (q ∷ qs) e few =
-    (k, e.1, refl, e.3, e.4, end_rows-take l r e.0 k e.1 (p + stride r) (m + imports r) c d qs e.5 (let count = e.2 in omega (arith, count, few)))
+end_rows-take : (l : Labels) (r : Run) (n k : ℕ) (fixups : List Fixup) (p m c d i : ℕ) (rows : List (List ℕ)) → EndRows l r n fixups p m c d i rows → k ≤ n → EndRows l r k fixups p m c d (take k rows)
+end_rows-take l r n zero fixups p m c d i rows e few = inl refl
+end_rows-take l r n (suc k) fixups p m c d i [] (inl none) few = absurd (omega (arith, none, few))
+end_rows-take l r n (suc k) fixups p m c d i [] (inr none) few = inr none
+end_rows-take l r n (suc k) fixups p m c d i (q ∷ qs) e few =
+    (k, e.1, refl, e.3, e.4, end_rows-take l r e.0 k e.1 (p + stride r) (m + imports r) c d i qs e.5 (let count = e.2 in omega (arith, count, few)))
 
 -- one more end
-pub end_rows-more : (l : Labels) (r : Run) (n : ℕ) (fixups rest : List Fixup) (p m c d : ℕ) (square : List (List ℕ)) (squares : List (List (List ℕ))) → 0 < n → fixups ≡ unit r p m ++ rest → number_in square c d ≡ extension l rest (p + stride r) c d → EndRows l r n rest (p + stride r) (m + imports r) c d squares → EndRows l r n fixups p m c d (square ∷ take (n - 1) squares)
-end_rows-more l r n fixups rest p m c d square squares some parts is e =
-    (n - 1, rest, omega (arith, some), parts, is, end_rows-take l r n (n - 1) rest (p + stride r) (m + imports r) c d squares e (omega arith))
+pub end_rows-more : (l : Labels) (r : Run) (n : ℕ) (fixups rest : List Fixup) (p m c d i : ℕ) (row : List ℕ) (rows : List (List ℕ)) → 0 < n → fixups ≡ unit r p m ++ rest → slice_index row i ≡ extension l rest (p + stride r) c d → EndRows l r n rest (p + stride r) (m + imports r) c d i rows → EndRows l r n fixups p m c d i (row ∷ take (n - 1) rows)
+end_rows-more l r n fixups rest p m c d i row rows some parts is e =
+    (n - 1, rest, omega (arith, some), parts, is, end_rows-take l r n (n - 1) rest (p + stride r) (m + imports r) c d i rows e (omega arith))
 
 -- the first end, and later ones
 ends-first : (l : Labels) (r : Run) (value n : ℕ) (fixups rest : List Fixup) (p m c d : ℕ) → fixups ≡ unit r p m ++ rest → value ≤ 1 + extension l rest (p + stride r) c d → EndsFrom l r value n rest (p + stride r) (m + imports r) c d → EndsFrom l r value (suc n) fixups p m c d
@@ -65,18 +65,18 @@ ends-first l r value n fixups rest p m c d parts low ends (suc j) left under is 
     omega (arith, e, value_same)
 
 -- a value that is at most 1 more than each
-pub best_ends : (l : Labels) (r : Run) (value n : ℕ) (fixups : List Fixup) (p m c d : ℕ) (squares : List (List (List ℕ))) → EndRows l r n fixups p m c d squares → AtMostEach 1 value squares c d → EndsFrom l r value n fixups p m c d
-best_ends l r value n fixups p m c d [] (inl none) low = λ j left under is. absurd (omega (arith, under, none))
-best_ends l r value n fixups p m c d [] (inr none) low = no_ends l r value n p m c d fixups none
-best_ends l r value n fixups p m c d (q ∷ qs) e low =
+pub best_ends : (l : Labels) (r : Run) (value n : ℕ) (fixups : List Fixup) (p m c d i : ℕ) (rows : List (List ℕ)) → EndRows l r n fixups p m c d i rows → AtMostEach 1 value rows i → EndsFrom l r value n fixups p m c d
+best_ends l r value n fixups p m c d i [] (inl none) low = λ j left under is. absurd (omega (arith, under, none))
+best_ends l r value n fixups p m c d i [] (inr none) low = no_ends l r value n p m c d fixups none
+best_ends l r value n fixups p m c d i (q ∷ qs) e low =
     subst (λ (k : ℕ). EndsFrom l r value k fixups p m c d) (sym e.2)
     (ends-first l r value e.0 fixups e.1 p m c d e.3 (let first = low.0 in let is = e.4 in omega (arith, first, is))
-    (best_ends l r value e.0 e.1 (p + stride r) (m + imports r) c d qs e.5 low.1))
+    (best_ends l r value e.0 e.1 (p + stride r) (m + imports r) c d i qs e.5 low.1))
 
 -- and one that is 1 more than one of them
-pub best_end : (l : Labels) (r : Run) (value n : ℕ) (fixups : List Fixup) (p m c d : ℕ) (squares : List (List (List ℕ))) → EndRows l r n fixups p m c d squares → IsOne 1 value squares c d → EndAmong l r n fixups p m c d value
-best_end l r value n fixups p m c d [] e none = absurd none
-best_end l r value n fixups p m c d (q ∷ qs) e (inl is) =
+pub best_end : (l : Labels) (r : Run) (value n : ℕ) (fixups : List Fixup) (p m c d i : ℕ) (rows : List (List ℕ)) → EndRows l r n fixups p m c d i rows → IsOne 1 value rows i → EndAmong l r n fixups p m c d value
+best_end l r value n fixups p m c d i [] e none = absurd none
+best_end l r value n fixups p m c d i (q ∷ qs) e (inl is) =
     let u : List Fixup = unit r p m in
     let end : p + stride r ≡ p + stride r * 1 = omega arith in
     record {
@@ -86,9 +86,9 @@ best_end l r value n fixups p m c d (q ∷ qs) e (inl is) =
       parts = e.3 ∙ sym (ap (λ fs. fs ++ e.1) (units-more r 0 p m) ∙ (append_assoc u (units r 0 (p + stride r) (m + imports r)) e.1 ∙ ap (λ fs. u ++ (fs ++ e.1)) (units-none r (p + stride r) (m + imports r))));
       is = is ∙ ap (λ n. 1 + n) (e.4 ∙ ap (λ x. extension l e.1 x c d) end);
     }
-best_end l r value n fixups p m c d (q ∷ qs) e (inr o) =
+best_end l r value n fixups p m c d i (q ∷ qs) e (inr o) =
     let u : List Fixup = unit r p m in
-    let a = best_end l r value e.0 e.1 (p + stride r) (m + imports r) c d qs e.5 o in
+    let a = best_end l r value e.0 e.1 (p + stride r) (m + imports r) c d i qs e.5 o in
     let more : List Fixup = units r (suc a.more) (p + stride r) (m + imports r) in
     let sum = mul-add (stride r) (suc a.more) 1 in
     let one : suc a.more + 1 ≡ suc (suc a.more) = omega arith in
@@ -172,31 +172,31 @@ chosen-led k h x chosen l s agrees at =
     }
 
 -- the better of a value and of the ends of a run
-pub best-led : (k : Known) (h : Here) (r : Run) (first value : ℕ) (squares : List (List (List ℕ))) → RunOf k.registers.now r h.place h.place.position → Led k h first → BestOf first squares h.place.c h.place.d value → ((l : Labels) → Agrees l k h.others.now → IsOne 1 value squares h.place.c h.place.d → EndAmong l r (limit r) h.place.left.now h.place.position h.place.import_index h.place.c h.place.d value) → Led k h value
-best-led k h r first value squares of led best ends l s agrees at =
+pub best-led : (k : Known) (h : Here) (r : Run) (first value : ℕ) (rows : List (List ℕ)) → RunOf k.registers.now r h.place h.place.position → Led k h first → BestOf first rows h.place.c h.place.d value → ((l : Labels) → Agrees l k h.others.now → IsOne 1 value rows h.place.c h.place.d → EndAmong l r (limit r) h.place.left.now h.place.position h.place.import_index h.place.c h.place.d value) → Led k h value
+best-led k h r first value rows of led best ends l s agrees at =
     elim best.one [
       | inl same ↦ subst (λ (v : ℕ). LeadsWithin l s h.place.left.now v) (sym same) (led l s agrees at)
       | inr one ↦ end_led k h r value l s of agrees.same.registers_are at (ends l agrees one)
     ]
 
 -- a window that is brought to a place where no run begins, to a run of one unit, and to a longer one
-pub brought-none : (r : Run) (count limit : ℕ) (start : Place) (squares : List (List (List ℕ))) (square : List (List ℕ)) (w : Window) → WindowOf count limit [] w → ((left : List Fixup) → start.left.now ≡ unit r start.position start.import_index ++ left → ⊥) → Brought r count limit start.left.now start.position start.import_index squares square w
-brought-none r count limit start squares square w is none = record { now = []; is = is; ends = λ l c d on behind. inr none }
+pub brought-none : (r : Run) (count limit : ℕ) (start : Place) (rows : List (List ℕ)) (row : List ℕ) (w : Window) → WindowOf count limit [] w → ((left : List Fixup) → start.left.now ≡ unit r start.position start.import_index ++ left → ⊥) → Brought r count limit start.left.now start.position start.import_index rows row w
+brought-none r count limit start rows row w is none = record { now = []; is = is; ends = λ l c d on behind. inr none }
 
-pub brought-one : (r : Run) (count limit : ℕ) (start next : Place) (squares : List (List (List ℕ))) (square : List (List ℕ)) (w : Window) → Next r start next → ((left : List Fixup) → next.left.now ≡ unit r next.position next.import_index ++ left → ⊥) → WindowOf count limit (square ∷ take (limit - 1) []) w → Brought r count limit start.left.now start.position start.import_index squares square w
-brought-one r count limit start next squares square w n none is = record {
-  now = square ∷ take (limit - 1) [];
+pub brought-one : (r : Run) (count limit : ℕ) (start next : Place) (rows : List (List ℕ)) (row : List ℕ) (w : Window) → Next r start next → ((left : List Fixup) → next.left.now ≡ unit r next.position next.import_index ++ left → ⊥) → WindowOf count limit (row ∷ take (limit - 1) []) w → Brought r count limit start.left.now start.position start.import_index rows row w
+brought-one r count limit start next rows row w n none is = record {
+  now = row ∷ take (limit - 1) [];
   is = is;
   ends = λ l c d on behind.
-      end_rows-more l r limit start.left.now next.left.now start.position start.import_index c d square [] is.some n.left (behind next.left.now n.left)
+      end_rows-more l r limit start.left.now next.left.now start.position start.import_index c d row [] is.some n.left (behind next.left.now n.left)
       (inr (λ left parts. none left (parts ∙ ap₂ (λ x y. unit r x y ++ left) (sym n.position) (sym n.import_index))));
 }
 
-pub brought-more : (r : Run) (count limit : ℕ) (start next last : Place) (squares : List (List (List ℕ))) (square : List (List ℕ)) (w : Window) → Next r start next → Next r next last → WindowOf count limit (square ∷ take (limit - 1) squares) w → Brought r count limit start.left.now start.position start.import_index squares square w
-brought-more r count limit start next last squares square w n more is = record {
-  now = square ∷ take (limit - 1) squares;
+pub brought-more : (r : Run) (count limit : ℕ) (start next last : Place) (rows : List (List ℕ)) (row : List ℕ) (w : Window) → Next r start next → Next r next last → WindowOf count limit (row ∷ take (limit - 1) rows) w → Brought r count limit start.left.now start.position start.import_index rows row w
+brought-more r count limit start next last rows row w n more is = record {
+  now = row ∷ take (limit - 1) rows;
   is = is;
   ends = λ l c d on behind.
-      end_rows-more l r limit start.left.now next.left.now start.position start.import_index c d square squares is.some n.left (behind next.left.now n.left)
+      end_rows-more l r limit start.left.now next.left.now start.position start.import_index c d i row rows is.some n.left (behind next.left.now n.left)
       (on next.left.now last.left.now n.left (more.left ∙ ap₂ (λ x y. unit r x y ++ last.left.now) n.position n.import_index));
 }

@@ -19,11 +19,11 @@ use Rattle.pef_runs.specs.Tables.{Agrees}
 use Rattle.pef_squares.specs.Windows.{WindowOf}
 
 -- what a call that brings a window to a place says of it
-abbrev pub Brings : Run → Place → List (List ℕ) → Window → Window → Type 0
-Brings r start square old new = (count limit : ℕ) (squares : List (List (List ℕ))) → WindowOf count limit squares old → Brought r count limit start.left.now start.position start.import_index squares square new
+abbrev pub Brings : Run → Place → List ℕ → Window → Window → Type 0
+Brings r start row old new = (count limit : ℕ) (rows : List (List ℕ)) → WindowOf count limit rows old → Brought r count limit start.left.now start.position start.import_index rows row new
 
-abbrev pub BringsMaybe : Option Run → Place → List (List ℕ) → Window → Window → Type 0
-BringsMaybe r start square old new = (count limit : ℕ) (squares : List (List (List ℕ))) → WindowOf count limit squares old → BroughtMaybe r count limit start.left.now start.position start.import_index squares square new
+abbrev pub BringsMaybe : Option Run → Place → List ℕ → Window → Window → Type 0
+BringsMaybe r start row old new = (count limit : ℕ) (rows : List (List ℕ)) → WindowOf count limit rows old → BroughtMaybe r count limit start.left.now start.position start.import_index rows row new
 
 -- a place where a run begins at a fixup
 pub record StartAt (f : Fixup) (rest : List Fixup) (start : Place) : Type 0 where
@@ -31,11 +31,11 @@ pub record StartAt (f : Fixup) (rest : List Fixup) (start : Place) : Type 0 wher
   pub position : start.position ≡ f.offset
   pub import_index : start.import_index ≡ base_import f.base
 
-started : (f : Fixup) (rest : List Fixup) (start : Place) (r : Run) (count limit : ℕ) (squares : List (List (List ℕ))) (square : List (List ℕ)) (w : Window) → StartAt f rest start → Brought r count limit start.left.now start.position start.import_index squares square w → Brought r count limit (f ∷ rest) f.offset (base_import f.base) squares square w
-started f rest start r count limit squares square w at b =
-    subst (λ (m : ℕ). Brought r count limit (f ∷ rest) f.offset m squares square w) at.import_index
-    (subst (λ (p : ℕ). Brought r count limit (f ∷ rest) p start.import_index squares square w) at.position
-    (subst (λ (fs : List Fixup). Brought r count limit fs start.position start.import_index squares square w) at.left b))
+started : (f : Fixup) (rest : List Fixup) (start : Place) (r : Run) (count limit : ℕ) (rows : List (List ℕ)) (row : List ℕ) (w : Window) → StartAt f rest start → Brought r count limit start.left.now start.position start.import_index rows row w → Brought r count limit (f ∷ rest) f.offset (base_import f.base) rows row w
+started f rest start r count limit rows row w at b =
+    subst (λ (m : ℕ). Brought r count limit (f ∷ rest) f.offset m rows row w) at.import_index
+    (subst (λ (p : ℕ). Brought r count limit (f ∷ rest) p start.import_index rows row w) at.position
+    (subst (λ (fs : List Fixup). Brought r count limit fs start.position start.import_index rows row w) at.left b))
 
 tail_same : (f g : Fixup) (rest left : List Fixup) → f ∷ rest ≡ g ∷ left → rest ≡ left
 tail_same f g rest left e = cc
@@ -43,166 +43,166 @@ tail_same f g rest left e = cc
 tail_two : (f g h : Fixup) (rest left : List Fixup) → f ∷ rest ≡ g ∷ h ∷ left → rest ≡ h ∷ left
 tail_two f g h rest left e = cc
 
-words_go : (l : Labels) (f : Fixup) (rest : List Fixup) (count : ℕ) (b : Base) (squares : List (List (List ℕ))) (square : List (List ℕ)) (w : Window) → WordsKept l rest squares → NearKept l (f ∷ rest) square → (br : Brought (words_run b) count 512 (f ∷ rest) f.offset (base_import b) squares square w) → WordsAt l f.offset (f ∷ rest) br.now b
-words_go l f rest count (Section k) squares square w kept near br = λ c d under_c under_d.
+words_go : (l : Labels) (f : Fixup) (rest : List Fixup) (count : ℕ) (b : Base) (rows : List (List ℕ)) (row : List ℕ) (w : Window) → WordsKept l rest rows → NearKept l (f ∷ rest) row → (br : Brought (words_run b) count 512 (f ∷ rest) f.offset (base_import b) rows row w) → WordsAt l f.offset (f ∷ rest) br.now b
+words_go l f rest count (Section k) rows row w kept near br = λ c d under_c under_d.
     br.ends l c d
     (λ left more parts on.
     let same = tail_same f (added f.offset (Section k)) rest left parts in
     let there : rest ≡ added (f.offset + 4) (Section k) ∷ more = same ∙ on in
-    subst (λ (fs : List Fixup). EndRows l (WordsOfD k) 512 fs (f.offset + 4) 0 c d squares) (sym on)
-    (subst (λ (fs : List Fixup). WordsKept l fs squares) there kept c d under_c under_d))
+    subst (λ (fs : List Fixup). EndRows l (WordsOfD k) 512 fs (f.offset + 4) 0 c d rows) (sym on)
+    (subst (λ (fs : List Fixup). WordsKept l fs rows) there kept c d under_c under_d))
     (λ left parts. near c d under_c under_d ∙ ap (λ fs. extension l fs (f.offset + 4) c d) (tail_same f (added f.offset (Section k)) rest left parts))
-words_go l f rest count (Import i) squares square w kept near br = λ c d under_c under_d.
+words_go l f rest count (Import i) rows row w kept near br = λ c d under_c under_d.
     br.ends l c d
     (λ left more parts on.
     let same = tail_same f (added f.offset (Import i)) rest left parts in
     let there : rest ≡ added (f.offset + 4) (Import (i + 1)) ∷ more = same ∙ on in
-    subst (λ (fs : List Fixup). EndRows l Imports 512 fs (f.offset + 4) (i + 1) c d squares) (sym on)
-    (subst (λ (fs : List Fixup). WordsKept l fs squares) there kept c d under_c under_d))
+    subst (λ (fs : List Fixup). EndRows l Imports 512 fs (f.offset + 4) (i + 1) c d rows) (sym on)
+    (subst (λ (fs : List Fixup). WordsKept l fs rows) there kept c d under_c under_d))
     (λ left parts. near c d under_c under_d ∙ ap (λ fs. extension l fs (f.offset + 4) c d) (tail_same f (added f.offset (Import i)) rest left parts))
 
-skips_go : (l : Labels) (f : Fixup) (rest : List Fixup) (count k : ℕ) (squares : List (List (List ℕ))) (square : List (List ℕ)) (w : Window) → SkipsKept l rest squares → NearKept l (f ∷ rest) square → (br : Brought (WordsOfD k) count 63 (f ∷ rest) f.offset 0 squares square w) → SkipsAt l f.offset (f ∷ rest) br.now (Section k)
-skips_go l f rest count k squares square w kept near br = λ c d under_c under_d.
+skips_go : (l : Labels) (f : Fixup) (rest : List Fixup) (count k : ℕ) (rows : List (List ℕ)) (row : List ℕ) (w : Window) → SkipsKept l rest rows → NearKept l (f ∷ rest) row → (br : Brought (WordsOfD k) count 63 (f ∷ rest) f.offset 0 rows row w) → SkipsAt l f.offset (f ∷ rest) br.now (Section k)
+skips_go l f rest count k rows row w kept near br = λ c d under_c under_d.
     br.ends l c d
     (λ left more parts on.
     let same = tail_same f (added f.offset (Section k)) rest left parts in
     let there : rest ≡ added (f.offset + 4) (Section k) ∷ more = same ∙ on in
-    subst (λ (fs : List Fixup). EndRows l (WordsOfD k) 63 fs (f.offset + 4) 0 c d squares) (sym on)
-    (subst (λ (fs : List Fixup). SkipsKept l fs squares) there kept c d under_c under_d))
+    subst (λ (fs : List Fixup). EndRows l (WordsOfD k) 63 fs (f.offset + 4) 0 c d rows) (sym on)
+    (subst (λ (fs : List Fixup). SkipsKept l fs rows) there kept c d under_c under_d))
     (λ left parts. near c d under_c under_d ∙ ap (λ fs. extension l fs (f.offset + 4) c d) (tail_same f (added f.offset (Section k)) rest left parts))
 
-spaced_go : (l : Labels) (f : Fixup) (rest : List Fixup) (count k : ℕ) (squares : List (List (List ℕ))) (square : List (List ℕ)) (w : Window) → SpacedKept l rest squares → FarAt l f.offset rest square (Section k) → (br : Brought (Spaced k) count 512 (f ∷ rest) f.offset 0 squares square w) → SpacedAt l f.offset (f ∷ rest) br.now (Section k)
-spaced_go l f rest count k squares square w kept far br = λ c d under_c is_d.
+spaced_go : (l : Labels) (f : Fixup) (rest : List Fixup) (count k : ℕ) (rows : List (List ℕ)) (row : List ℕ) (w : Window) → SpacedKept l rest rows → FarAt l f.offset rest row (Section k) → (br : Brought (Spaced k) count 512 (f ∷ rest) f.offset 0 rows row w) → SpacedAt l f.offset (f ∷ rest) br.now (Section k)
+spaced_go l f rest count k rows row w kept far br = λ c d under_c is_d.
     br.ends l c d
     (λ left more parts on.
     let same = tail_same f (added f.offset (Section k)) rest left parts in
     let there : rest ≡ added (f.offset + 8) (Section k) ∷ more = same ∙ on in
-    subst (λ (fs : List Fixup). EndRows l (Spaced k) 512 fs (f.offset + 8) 0 c d squares) (sym on)
-    (subst (λ (fs : List Fixup). SpacedKept l fs squares) there kept c d under_c is_d))
+    subst (λ (fs : List Fixup). EndRows l (Spaced k) 512 fs (f.offset + 8) 0 c d rows) (sym on)
+    (subst (λ (fs : List Fixup). SpacedKept l fs rows) there kept c d under_c is_d))
     (λ left parts. far c d under_c is_d ∙ ap (λ fs. extension l fs (f.offset + 8) c d) (tail_same f (added f.offset (Section k)) rest left parts))
 
-pairs_go : (l : Labels) (f : Fixup) (rest : List Fixup) (count j k : ℕ) (squares : List (List (List ℕ))) (square : List (List ℕ)) (w : Window) → PairsKept l (rest_of rest) squares → NearKept l rest square → (br : Brought (Pairs j k) count 512 (f ∷ rest) f.offset 0 squares square w) → (c d : ℕ) → c < classes l → d < classes l → EndRows l (Pairs j k) 512 (f ∷ rest) f.offset 0 c d br.now
-pairs_go l f rest count j k squares square w kept near br c d under_c under_d =
+pairs_go : (l : Labels) (f : Fixup) (rest : List Fixup) (count j k : ℕ) (rows : List (List ℕ)) (row : List ℕ) (w : Window) → PairsKept l (rest_of rest) rows → NearKept l rest row → (br : Brought (Pairs j k) count 512 (f ∷ rest) f.offset 0 rows row w) → (c d : ℕ) → c < classes l → d < classes l → EndRows l (Pairs j k) 512 (f ∷ rest) f.offset 0 c d br.now
+pairs_go l f rest count j k rows row w kept near br c d under_c under_d =
     br.ends l c d
     (λ left more parts on.
     let same = tail_two f (added f.offset (Section j)) (added (f.offset + 4) (Section k)) rest left parts in
     let there : rest_of rest ≡ added (f.offset + 8) (Section j) ∷ added (f.offset + 8 + 4) (Section k) ∷ more = ap rest_of same ∙ on in
-    subst (λ (fs : List Fixup). EndRows l (Pairs j k) 512 fs (f.offset + 8) 0 c d squares) (sym on)
-    (subst (λ (fs : List Fixup). PairsKept l fs squares) there kept c d under_c under_d))
+    subst (λ (fs : List Fixup). EndRows l (Pairs j k) 512 fs (f.offset + 8) 0 c d rows) (sym on)
+    (subst (λ (fs : List Fixup). PairsKept l fs rows) there kept c d under_c under_d))
     (λ left parts.
     let same = tail_two f (added f.offset (Section j)) (added (f.offset + 4) (Section k)) rest left parts in
     let end : f.offset + 4 + 4 ≡ f.offset + 8 = omega arith in
-    subst (λ (fs : List Fixup). NearKept l fs square) same near c d under_c under_d ∙ ap (λ p. extension l left p c d) end)
+    subst (λ (fs : List Fixup). NearKept l fs row) same near c d under_c under_d ∙ ap (λ p. extension l left p c d) end)
 
-far_pairs_go : (l : Labels) (f : Fixup) (rest : List Fixup) (count j k : ℕ) (squares : List (List (List ℕ))) (square : List (List ℕ)) (w : Window) → FarPairsKept l (rest_of rest) squares → FarKept l rest square → (br : Brought (SpacedPairs j k) count 512 (f ∷ rest) f.offset 0 squares square w) → (c d : ℕ) → c < classes l → d ≡ class_of l.registers k → EndRows l (SpacedPairs j k) 512 (f ∷ rest) f.offset 0 c d br.now
-far_pairs_go l f rest count j k squares square w kept far br c d under_c is_d =
+far_pairs_go : (l : Labels) (f : Fixup) (rest : List Fixup) (count j k : ℕ) (rows : List (List ℕ)) (row : List ℕ) (w : Window) → FarPairsKept l (rest_of rest) rows → FarKept l rest row → (br : Brought (SpacedPairs j k) count 512 (f ∷ rest) f.offset 0 rows row w) → (c d : ℕ) → c < classes l → d ≡ class_of l.registers k → EndRows l (SpacedPairs j k) 512 (f ∷ rest) f.offset 0 c d br.now
+far_pairs_go l f rest count j k rows row w kept far br c d under_c is_d =
     br.ends l c d
     (λ left more parts on.
     let same = tail_two f (added f.offset (Section j)) (added (f.offset + 4) (Section k)) rest left parts in
     let there : rest_of rest ≡ added (f.offset + 12) (Section j) ∷ added (f.offset + 12 + 4) (Section k) ∷ more = ap rest_of same ∙ on in
-    subst (λ (fs : List Fixup). EndRows l (SpacedPairs j k) 512 fs (f.offset + 12) 0 c d squares) (sym on)
-    (subst (λ (fs : List Fixup). FarPairsKept l fs squares) there kept c d under_c is_d))
+    subst (λ (fs : List Fixup). EndRows l (SpacedPairs j k) 512 fs (f.offset + 12) 0 c d rows) (sym on)
+    (subst (λ (fs : List Fixup). FarPairsKept l fs rows) there kept c d under_c is_d))
     (λ left parts.
     let same = tail_two f (added f.offset (Section j)) (added (f.offset + 4) (Section k)) rest left parts in
     let end : f.offset + 4 + 8 ≡ f.offset + 12 = omega arith in
-    subst (λ (fs : List Fixup). FarKept l fs square) same far c d under_c is_d ∙ ap (λ p. extension l left p c d) end)
+    subst (λ (fs : List Fixup). FarKept l fs row) same far c d under_c is_d ∙ ap (λ p. extension l left p c d) end)
 
 -- the windows of words, and of those of one section
-pub words_brought : (P : Labels → Type 0) (count : ℕ) (f : Fixup) (rest : List Fixup) (start : Place) (square : List (List ℕ)) (old new : Window) → StartAt f rest start → Holding P count 512 (λ l squares. WordsKept l rest squares) old → ((l : Labels) → P l → NearKept l (f ∷ rest) square) → Brings (words_run f.base) start square old new → Holding P count 512 (λ l squares. WordsKept l (f ∷ rest) squares) new
-words_brought P count f rest start square old new at held near brings =
-    let b = started f rest start (words_run f.base) count 512 held.squares square new at (brings count 512 held.squares held.is) in
-    record { squares = b.now; is = b.is; kept = λ l holds. words_go l f rest count f.base held.squares square new (held.kept l holds) (near l holds) b }
+pub words_brought : (P : Labels → Type 0) (count : ℕ) (f : Fixup) (rest : List Fixup) (start : Place) (row : List ℕ) (old new : Window) → StartAt f rest start → Holding P count 512 (λ l rows. WordsKept l rest rows) old → ((l : Labels) → P l → NearKept l (f ∷ rest) row) → Brings (words_run f.base) start row old new → Holding P count 512 (λ l rows. WordsKept l (f ∷ rest) rows) new
+words_brought P count f rest start row old new at held near brings =
+    let b = started f rest start (words_run f.base) count 512 held.rows row new at (brings count 512 held.rows held.is) in
+    record { rows = b.now; is = b.is; kept = λ l holds. words_go l f rest count f.base held.rows row new (held.kept l holds) (near l holds) b }
 
-started_section : (f : Fixup) (rest : List Fixup) (start : Place) (r : Run) (k count limit : ℕ) (squares : List (List (List ℕ))) (square : List (List ℕ)) (w : Window) → StartAt f rest start → f.base ≡ Section k → Brought r count limit start.left.now start.position start.import_index squares square w → Brought r count limit (f ∷ rest) f.offset 0 squares square w
-started_section f rest start r k count limit squares square w at base b =
-    subst (λ (m : ℕ). Brought r count limit (f ∷ rest) f.offset m squares square w) (ap base_import base) (started f rest start r count limit squares square w at b)
+started_section : (f : Fixup) (rest : List Fixup) (start : Place) (r : Run) (k count limit : ℕ) (rows : List (List ℕ)) (row : List ℕ) (w : Window) → StartAt f rest start → f.base ≡ Section k → Brought r count limit start.left.now start.position start.import_index rows row w → Brought r count limit (f ∷ rest) f.offset 0 rows row w
+started_section f rest start r k count limit rows row w at base b =
+    subst (λ (m : ℕ). Brought r count limit (f ∷ rest) f.offset m rows row w) (ap base_import base) (started f rest start r count limit rows row w at b)
 
-pub skips_brought : (P : Labels → Type 0) (count k : ℕ) (f : Fixup) (rest : List Fixup) (start : Place) (square : List (List ℕ)) (old new : Window) → StartAt f rest start → f.base ≡ Section k → Holding P count 63 (λ l squares. SkipsKept l rest squares) old → ((l : Labels) → P l → NearKept l (f ∷ rest) square) → Brings (WordsOfD k) start square old new → Holding P count 63 (λ l squares. SkipsKept l (f ∷ rest) squares) new
-skips_brought P count k f rest start square old new at base held near brings =
-    let b = started_section f rest start (WordsOfD k) k count 63 held.squares square new at base (brings count 63 held.squares held.is) in
-    record { squares = b.now; is = b.is; kept = λ l holds. subst (λ (x : Base). SkipsAt l f.offset (f ∷ rest) b.now x) (sym base) (skips_go l f rest count k held.squares square new (held.kept l holds) (near l holds) b) }
+pub skips_brought : (P : Labels → Type 0) (count k : ℕ) (f : Fixup) (rest : List Fixup) (start : Place) (row : List ℕ) (old new : Window) → StartAt f rest start → f.base ≡ Section k → Holding P count 63 (λ l rows. SkipsKept l rest rows) old → ((l : Labels) → P l → NearKept l (f ∷ rest) row) → Brings (WordsOfD k) start row old new → Holding P count 63 (λ l rows. SkipsKept l (f ∷ rest) rows) new
+skips_brought P count k f rest start row old new at base held near brings =
+    let b = started_section f rest start (WordsOfD k) k count 63 held.rows row new at base (brings count 63 held.rows held.is) in
+    record { rows = b.now; is = b.is; kept = λ l holds. subst (λ (x : Base). SkipsAt l f.offset (f ∷ rest) b.now x) (sym base) (skips_go l f rest count k held.rows row new (held.kept l holds) (near l holds) b) }
 
-pub spaced_brought : (P : Labels → Type 0) (count k : ℕ) (f : Fixup) (rest : List Fixup) (start : Place) (square : List (List ℕ)) (old new : Window) → StartAt f rest start → f.base ≡ Section k → Holding P count 512 (λ l squares. SpacedKept l rest squares) old → ((l : Labels) → P l → FarAt l f.offset rest square (Section k)) → Brings (Spaced k) start square old new → Holding P count 512 (λ l squares. SpacedKept l (f ∷ rest) squares) new
-spaced_brought P count k f rest start square old new at base held far brings =
-    let b = started_section f rest start (Spaced k) k count 512 held.squares square new at base (brings count 512 held.squares held.is) in
-    record { squares = b.now; is = b.is; kept = λ l holds. subst (λ (x : Base). SpacedAt l f.offset (f ∷ rest) b.now x) (sym base) (spaced_go l f rest count k held.squares square new (held.kept l holds) (far l holds) b) }
+pub spaced_brought : (P : Labels → Type 0) (count k : ℕ) (f : Fixup) (rest : List Fixup) (start : Place) (row : List ℕ) (old new : Window) → StartAt f rest start → f.base ≡ Section k → Holding P count 512 (λ l rows. SpacedKept l rest rows) old → ((l : Labels) → P l → FarAt l f.offset rest row (Section k)) → Brings (Spaced k) start row old new → Holding P count 512 (λ l rows. SpacedKept l (f ∷ rest) rows) new
+spaced_brought P count k f rest start row old new at base held far brings =
+    let b = started_section f rest start (Spaced k) k count 512 held.rows row new at base (brings count 512 held.rows held.is) in
+    record { rows = b.now; is = b.is; kept = λ l holds. subst (λ (x : Base). SpacedAt l f.offset (f ∷ rest) b.now x) (sym base) (spaced_go l f rest count k held.rows row new (held.kept l holds) (far l holds) b) }
 
 -- where a fixup has an import, these begin no run
-pub skips_import : (P : Labels → Type 0) (count i : ℕ) (f : Fixup) (rest : List Fixup) (w : Window) → f.base ≡ Import i → Holding P count 63 (λ l squares. SkipsKept l rest squares) w → Holding P count 63 (λ l squares. SkipsKept l (f ∷ rest) squares) w
-skips_import P count i f rest w base held = record { squares = held.squares; is = held.is; kept = λ l holds. subst (λ (x : Base). SkipsAt l f.offset (f ∷ rest) held.squares x) (sym base) tt }
+pub skips_import : (P : Labels → Type 0) (count i : ℕ) (f : Fixup) (rest : List Fixup) (w : Window) → f.base ≡ Import i → Holding P count 63 (λ l rows. SkipsKept l rest rows) w → Holding P count 63 (λ l rows. SkipsKept l (f ∷ rest) rows) w
+skips_import P count i f rest w base held = record { rows = held.rows; is = held.is; kept = λ l holds. subst (λ (x : Base). SkipsAt l f.offset (f ∷ rest) held.rows x) (sym base) tt }
 
-pub spaced_import : (P : Labels → Type 0) (count i : ℕ) (f : Fixup) (rest : List Fixup) (w : Window) → f.base ≡ Import i → Holding P count 512 (λ l squares. SpacedKept l rest squares) w → Holding P count 512 (λ l squares. SpacedKept l (f ∷ rest) squares) w
-spaced_import P count i f rest w base held = record { squares = held.squares; is = held.is; kept = λ l holds. subst (λ (x : Base). SpacedAt l f.offset (f ∷ rest) held.squares x) (sym base) tt }
+pub spaced_import : (P : Labels → Type 0) (count i : ℕ) (f : Fixup) (rest : List Fixup) (w : Window) → f.base ≡ Import i → Holding P count 512 (λ l rows. SpacedKept l rest rows) w → Holding P count 512 (λ l rows. SpacedKept l (f ∷ rest) rows) w
+spaced_import P count i f rest w base held = record { rows = held.rows; is = held.is; kept = λ l holds. subst (λ (x : Base). SpacedAt l f.offset (f ∷ rest) held.rows x) (sym base) tt }
 
-pub far_import : (l : Labels) (i : ℕ) (f : Fixup) (rest : List Fixup) (square : List (List ℕ)) → f.base ≡ Import i → FarKept l (f ∷ rest) square
-far_import l i f rest square base = subst (λ (x : Base). FarAt l f.offset rest square x) (sym base) tt
+pub far_import : (l : Labels) (i : ℕ) (f : Fixup) (rest : List Fixup) (row : List ℕ) → f.base ≡ Import i → FarKept l (f ∷ rest) row
+far_import l i f rest row base = subst (λ (x : Base). FarAt l f.offset rest row x) (sym base) tt
 
-pub far_section : (l : Labels) (k : ℕ) (f : Fixup) (rest : List Fixup) (square : List (List ℕ)) → f.base ≡ Section k → FarAt l f.offset rest square (Section k) → FarKept l (f ∷ rest) square
-far_section l k f rest square base is = subst (λ (x : Base). FarAt l f.offset rest square x) (sym base) is
+pub far_section : (l : Labels) (k : ℕ) (f : Fixup) (rest : List Fixup) (row : List ℕ) → f.base ≡ Section k → FarAt l f.offset rest row (Section k) → FarKept l (f ∷ rest) row
+far_section l k f rest row base is = subst (λ (x : Base). FarAt l f.offset rest row x) (sym base) is
 
 -- the windows of pairs
-pairs_here : (P : Labels → Type 0) (count : ℕ) (f : Fixup) (rest : List Fixup) (b : Base) (squares : List (List (List ℕ))) (square : List (List ℕ)) (w : Window) → f.base ≡ b → ((l : Labels) → P l → PairsKept l (rest_of rest) squares) → ((l : Labels) → P l → NearKept l rest square) → BroughtMaybe (pairs_run (sections_of b rest)) count 512 (f ∷ rest) f.offset (base_import b) squares square w → Holding P count 512 (λ l now. PairsKept l (f ∷ rest) now) w
-pairs_here P count f [] (Section j) squares square w base kept near br = record { squares = squares; is = br; kept = λ l holds. tt }
-pairs_here P count f [] (Import i) squares square w base kept near br = record { squares = squares; is = br; kept = λ l holds. tt }
-pairs_here P count f (g ∷ rest) (Import i) squares square w base kept near br = record {
-  squares = squares;
+pairs_here : (P : Labels → Type 0) (count : ℕ) (f : Fixup) (rest : List Fixup) (b : Base) (rows : List (List ℕ)) (row : List ℕ) (w : Window) → f.base ≡ b → ((l : Labels) → P l → PairsKept l (rest_of rest) rows) → ((l : Labels) → P l → NearKept l rest row) → BroughtMaybe (pairs_run (sections_of b rest)) count 512 (f ∷ rest) f.offset (base_import b) rows row w → Holding P count 512 (λ l now. PairsKept l (f ∷ rest) now) w
+pairs_here P count f [] (Section j) rows row w base kept near br = record { rows = rows; is = br; kept = λ l holds. tt }
+pairs_here P count f [] (Import i) rows row w base kept near br = record { rows = rows; is = br; kept = λ l holds. tt }
+pairs_here P count f (g ∷ rest) (Import i) rows row w base kept near br = record {
+  rows = rows;
   is = br;
-  kept = λ l holds. subst (λ (x : Base). PairsAt l f.offset (f ∷ g ∷ rest) squares x g.base) (sym base) tt;
+  kept = λ l holds. subst (λ (x : Base). PairsAt l f.offset (f ∷ g ∷ rest) rows x g.base) (sym base) tt;
 }
-pairs_here P count f (g ∷ rest) (Section j) squares square w base kept near br = go g.base refl br
+pairs_here P count f (g ∷ rest) (Section j) rows row w base kept near br = go g.base refl br
   where
-    go : (x : Base) → g.base ≡ x → BroughtMaybe (pairs_run (second_of j x)) count 512 (f ∷ g ∷ rest) f.offset 0 squares square w → Holding P count 512 (λ l now. PairsKept l (f ∷ g ∷ rest) now) w
+    go : (x : Base) → g.base ≡ x → BroughtMaybe (pairs_run (second_of j x)) count 512 (f ∷ g ∷ rest) f.offset 0 rows row w → Holding P count 512 (λ l now. PairsKept l (f ∷ g ∷ rest) now) w
     go (Import i) next b = record {
-      squares = squares;
+      rows = rows;
       is = b;
-      kept = λ l holds. subst (λ (x : Base). PairsAt l f.offset (f ∷ g ∷ rest) squares x g.base) (sym base) (subst (λ (x : Base). PairsAt l f.offset (f ∷ g ∷ rest) squares (Section j) x) (sym next) tt);
+      kept = λ l holds. subst (λ (x : Base). PairsAt l f.offset (f ∷ g ∷ rest) rows x g.base) (sym base) (subst (λ (x : Base). PairsAt l f.offset (f ∷ g ∷ rest) rows (Section j) x) (sym next) tt);
     }
     go (Section k) next b = record {
-      squares = b.now;
+      rows = b.now;
       is = b.is;
       kept = λ l holds. subst (λ (x : Base). PairsAt l f.offset (f ∷ g ∷ rest) b.now x g.base) (sym base) (subst (λ (x : Base). PairsAt l f.offset (f ∷ g ∷ rest) b.now (Section j) x) (sym next)
-          (pairs_go l f (g ∷ rest) count j k squares square w (kept l holds) (near l holds) b));
+          (pairs_go l f (g ∷ rest) count j k rows row w (kept l holds) (near l holds) b));
     }
 
-far_pairs_here : (P : Labels → Type 0) (count : ℕ) (f : Fixup) (rest : List Fixup) (b : Base) (squares : List (List (List ℕ))) (square : List (List ℕ)) (w : Window) → f.base ≡ b → ((l : Labels) → P l → FarPairsKept l (rest_of rest) squares) → ((l : Labels) → P l → FarKept l rest square) → BroughtMaybe (far_pairs_run (sections_of b rest)) count 512 (f ∷ rest) f.offset (base_import b) squares square w → Holding P count 512 (λ l now. FarPairsKept l (f ∷ rest) now) w
-far_pairs_here P count f [] (Section j) squares square w base kept far br = record { squares = squares; is = br; kept = λ l holds. tt }
-far_pairs_here P count f [] (Import i) squares square w base kept far br = record { squares = squares; is = br; kept = λ l holds. tt }
-far_pairs_here P count f (g ∷ rest) (Import i) squares square w base kept far br = record {
-  squares = squares;
+far_pairs_here : (P : Labels → Type 0) (count : ℕ) (f : Fixup) (rest : List Fixup) (b : Base) (rows : List (List ℕ)) (row : List ℕ) (w : Window) → f.base ≡ b → ((l : Labels) → P l → FarPairsKept l (rest_of rest) rows) → ((l : Labels) → P l → FarKept l rest row) → BroughtMaybe (far_pairs_run (sections_of b rest)) count 512 (f ∷ rest) f.offset (base_import b) rows row w → Holding P count 512 (λ l now. FarPairsKept l (f ∷ rest) now) w
+far_pairs_here P count f [] (Section j) rows row w base kept far br = record { rows = rows; is = br; kept = λ l holds. tt }
+far_pairs_here P count f [] (Import i) rows row w base kept far br = record { rows = rows; is = br; kept = λ l holds. tt }
+far_pairs_here P count f (g ∷ rest) (Import i) rows row w base kept far br = record {
+  rows = rows;
   is = br;
-  kept = λ l holds. subst (λ (x : Base). FarPairsAt l f.offset (f ∷ g ∷ rest) squares x g.base) (sym base) tt;
+  kept = λ l holds. subst (λ (x : Base). FarPairsAt l f.offset (f ∷ g ∷ rest) rows x g.base) (sym base) tt;
 }
-far_pairs_here P count f (g ∷ rest) (Section j) squares square w base kept far br = go g.base refl br
+far_pairs_here P count f (g ∷ rest) (Section j) rows row w base kept far br = go g.base refl br
   where
-    go : (x : Base) → g.base ≡ x → BroughtMaybe (far_pairs_run (second_of j x)) count 512 (f ∷ g ∷ rest) f.offset 0 squares square w → Holding P count 512 (λ l now. FarPairsKept l (f ∷ g ∷ rest) now) w
+    go : (x : Base) → g.base ≡ x → BroughtMaybe (far_pairs_run (second_of j x)) count 512 (f ∷ g ∷ rest) f.offset 0 rows row w → Holding P count 512 (λ l now. FarPairsKept l (f ∷ g ∷ rest) now) w
     go (Import i) next b = record {
-      squares = squares;
+      rows = rows;
       is = b;
-      kept = λ l holds. subst (λ (x : Base). FarPairsAt l f.offset (f ∷ g ∷ rest) squares x g.base) (sym base) (subst (λ (x : Base). FarPairsAt l f.offset (f ∷ g ∷ rest) squares (Section j) x) (sym next) tt);
+      kept = λ l holds. subst (λ (x : Base). FarPairsAt l f.offset (f ∷ g ∷ rest) rows x g.base) (sym base) (subst (λ (x : Base). FarPairsAt l f.offset (f ∷ g ∷ rest) rows (Section j) x) (sym next) tt);
     }
     go (Section k) next b = record {
-      squares = b.now;
+      rows = b.now;
       is = b.is;
       kept = λ l holds. subst (λ (x : Base). FarPairsAt l f.offset (f ∷ g ∷ rest) b.now x g.base) (sym base) (subst (λ (x : Base). FarPairsAt l f.offset (f ∷ g ∷ rest) b.now (Section j) x) (sym next)
-          (far_pairs_go l f (g ∷ rest) count j k squares square w (kept l holds) (far l holds) b));
+          (far_pairs_go l f (g ∷ rest) count j k rows row w (kept l holds) (far l holds) b));
     }
 
-started_maybe : (f : Fixup) (rest : List Fixup) (start : Place) (r : Option Run) (count limit : ℕ) (squares : List (List (List ℕ))) (square : List (List ℕ)) (w : Window) → StartAt f rest start → BroughtMaybe r count limit start.left.now start.position start.import_index squares square w → BroughtMaybe r count limit (f ∷ rest) f.offset (base_import f.base) squares square w
-started_maybe f rest start None count limit squares square w at b = b
-started_maybe f rest start (Some r) count limit squares square w at b = started f rest start r count limit squares square w at b
+started_maybe : (f : Fixup) (rest : List Fixup) (start : Place) (r : Option Run) (count limit : ℕ) (rows : List (List ℕ)) (row : List ℕ) (w : Window) → StartAt f rest start → BroughtMaybe r count limit start.left.now start.position start.import_index rows row w → BroughtMaybe r count limit (f ∷ rest) f.offset (base_import f.base) rows row w
+started_maybe f rest start None count limit rows row w at b = b
+started_maybe f rest start (Some r) count limit rows row w at b = started f rest start r count limit rows row w at b
 
-pub pairs_brought : (P : Labels → Type 0) (count : ℕ) (f : Fixup) (rest : List Fixup) (start : Place) (square : List (List ℕ)) (old new : InTurn) → StartAt f rest start → HoldingTwo P count PairsKept rest old → ((l : Labels) → P l → NearKept l rest square) → new.next ≡ old.here → BringsMaybe (pairs_run (sections_of f.base rest)) start square old.next new.here → HoldingTwo P count PairsKept (f ∷ rest) new
-pairs_brought P count f rest start square old new at held near same brings = record {
-  here = pairs_here P count f rest f.base held.next.squares square new.here refl held.next.kept near
-      (started_maybe f rest start (pairs_run (sections_of f.base rest)) count 512 held.next.squares square new.here at (brings count 512 held.next.squares held.next.is));
-  next = subst (λ (w : Window). Holding P count 512 (λ l squares. PairsKept l rest squares) w) (sym same) held.here;
+pub pairs_brought : (P : Labels → Type 0) (count : ℕ) (f : Fixup) (rest : List Fixup) (start : Place) (row : List ℕ) (old new : InTurn) → StartAt f rest start → HoldingTwo P count PairsKept rest old → ((l : Labels) → P l → NearKept l rest row) → new.next ≡ old.here → BringsMaybe (pairs_run (sections_of f.base rest)) start row old.next new.here → HoldingTwo P count PairsKept (f ∷ rest) new
+pairs_brought P count f rest start row old new at held near same brings = record {
+  here = pairs_here P count f rest f.base held.next.rows row new.here refl held.next.kept near
+      (started_maybe f rest start (pairs_run (sections_of f.base rest)) count 512 held.next.rows row new.here at (brings count 512 held.next.rows held.next.is));
+  next = subst (λ (w : Window). Holding P count 512 (λ l rows. PairsKept l rest rows) w) (sym same) held.here;
 }
 
-pub far_pairs_brought : (P : Labels → Type 0) (count : ℕ) (f : Fixup) (rest : List Fixup) (start : Place) (square : List (List ℕ)) (old new : InTurn) → StartAt f rest start → HoldingTwo P count FarPairsKept rest old → ((l : Labels) → P l → FarKept l rest square) → new.next ≡ old.here → BringsMaybe (far_pairs_run (sections_of f.base rest)) start square old.next new.here → HoldingTwo P count FarPairsKept (f ∷ rest) new
-far_pairs_brought P count f rest start square old new at held far same brings = record {
-  here = far_pairs_here P count f rest f.base held.next.squares square new.here refl held.next.kept far
-      (started_maybe f rest start (far_pairs_run (sections_of f.base rest)) count 512 held.next.squares square new.here at (brings count 512 held.next.squares held.next.is));
-  next = subst (λ (w : Window). Holding P count 512 (λ l squares. FarPairsKept l rest squares) w) (sym same) held.here;
+pub far_pairs_brought : (P : Labels → Type 0) (count : ℕ) (f : Fixup) (rest : List Fixup) (start : Place) (row : List ℕ) (old new : InTurn) → StartAt f rest start → HoldingTwo P count FarPairsKept rest old → ((l : Labels) → P l → FarKept l rest row) → new.next ≡ old.here → BringsMaybe (far_pairs_run (sections_of f.base rest)) start row old.next new.here → HoldingTwo P count FarPairsKept (f ∷ rest) new
+far_pairs_brought P count f rest start row old new at held far same brings = record {
+  here = far_pairs_here P count f rest f.base held.next.rows row new.here refl held.next.kept far
+      (started_maybe f rest start (far_pairs_run (sections_of f.base rest)) count 512 held.next.rows row new.here at (brings count 512 held.next.rows held.next.is));
+  next = subst (λ (w : Window). Holding P count 512 (λ l rows. FarPairsKept l rest rows) w) (sym same) held.here;
 }
 
 -- all windows, at a fixup with a section and at one with an import
@@ -240,8 +240,8 @@ import_passed k a import start old new base at e pairs_next pairs far_next far_p
     let count : ℕ = length k.registers.now + 1 in
     record {
       words = words_brought P count a.first a.others.now start new.near old.words new.words at e.words near words;
-      skips = skips_import P count import a.first a.others.now new.skips base (subst (λ (w : Window). Holding P count 63 (λ l squares. SkipsKept l a.others.now squares) w) (sym skips) e.skips);
-      spaced = spaced_import P count import a.first a.others.now new.spaced base (subst (λ (w : Window). Holding P count 512 (λ l squares. SpacedKept l a.others.now squares) w) (sym spaced) e.spaced);
+      skips = skips_import P count import a.first a.others.now new.skips base (subst (λ (w : Window). Holding P count 63 (λ l rows. SkipsKept l a.others.now rows) w) (sym skips) e.skips);
+      spaced = spaced_import P count import a.first a.others.now new.spaced base (subst (λ (w : Window). Holding P count 512 (λ l rows. SpacedKept l a.others.now rows) w) (sym spaced) e.spaced);
       pairs = pairs_brought P count a.first a.others.now start old.near old.pairs new.pairs at e.pairs e.near pairs_next pairs;
       far_pairs = far_pairs_brought P count a.first a.others.now start old.far old.far_pairs new.far_pairs at e.far_pairs e.far far_next far_pairs;
       near = near;
@@ -249,21 +249,21 @@ import_passed k a import start old new base at e pairs_next pairs far_next far_p
     }
 
 -- for labels of which more is known
-holding-map : (P Q : Labels → Type 0) (count n : ℕ) (Kept : Labels → List (List (List ℕ)) → Type 0) (w : Window) → ((l : Labels) → Q l → P l) → Holding P count n Kept w → Holding Q count n Kept w
-holding-map P Q count n Kept w to h = record { squares = h.squares; is = h.is; kept = λ l q. h.kept l (to l q) }
+holding-map : (P Q : Labels → Type 0) (count n : ℕ) (Kept : Labels → List (List ℕ) → Type 0) (w : Window) → ((l : Labels) → Q l → P l) → Holding P count n Kept w → Holding Q count n Kept w
+holding-map P Q count n Kept w to h = record { rows = h.rows; is = h.is; kept = λ l q. h.kept l (to l q) }
 
 pub ends-map : (P Q : Labels → Type 0) (count : ℕ) (fixups : List Fixup) (e : RunEnds) → ((l : Labels) → Q l → P l) → EndsOf P count fixups e → EndsOf Q count fixups e
 ends-map P Q count fixups e to ends = record {
-  words = holding-map P Q count 512 (λ l squares. WordsKept l fixups squares) e.words to ends.words;
-  skips = holding-map P Q count 63 (λ l squares. SkipsKept l fixups squares) e.skips to ends.skips;
-  spaced = holding-map P Q count 512 (λ l squares. SpacedKept l fixups squares) e.spaced to ends.spaced;
+  words = holding-map P Q count 512 (λ l rows. WordsKept l fixups rows) e.words to ends.words;
+  skips = holding-map P Q count 63 (λ l rows. SkipsKept l fixups rows) e.skips to ends.skips;
+  spaced = holding-map P Q count 512 (λ l rows. SpacedKept l fixups rows) e.spaced to ends.spaced;
   pairs = record {
-    here = holding-map P Q count 512 (λ l squares. PairsKept l fixups squares) e.pairs.here to ends.pairs.here;
-    next = holding-map P Q count 512 (λ l squares. PairsKept l (rest_of fixups) squares) e.pairs.next to ends.pairs.next;
+    here = holding-map P Q count 512 (λ l rows. PairsKept l fixups rows) e.pairs.here to ends.pairs.here;
+    next = holding-map P Q count 512 (λ l rows. PairsKept l (rest_of fixups) rows) e.pairs.next to ends.pairs.next;
   };
   far_pairs = record {
-    here = holding-map P Q count 512 (λ l squares. FarPairsKept l fixups squares) e.far_pairs.here to ends.far_pairs.here;
-    next = holding-map P Q count 512 (λ l squares. FarPairsKept l (rest_of fixups) squares) e.far_pairs.next to ends.far_pairs.next;
+    here = holding-map P Q count 512 (λ l rows. FarPairsKept l fixups rows) e.far_pairs.here to ends.far_pairs.here;
+    next = holding-map P Q count 512 (λ l rows. FarPairsKept l (rest_of fixups) rows) e.far_pairs.next to ends.far_pairs.next;
   };
   near = λ l q. ends.near l (to l q);
   far = λ l q. ends.far l (to l q);

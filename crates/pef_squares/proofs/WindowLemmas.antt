@@ -193,6 +193,7 @@ window-pop width limit rows w v o some sum older width_is limit_is newer low ite
     record {
       width_is = width_is ∙ o.width_is;
       limit_is = limit_is ∙ same;
+      some = o.some;
       older = take (length w.older - 1) o.older;
       parts = ap (λ xs. take (limit - 1) xs) o.parts
           ∙ (ap (λ n. take n (reverse w.newer ++ o.older)) size
@@ -219,6 +220,7 @@ window-add width limit rows w v row o width_is limit_is older newer first lesser
     record {
       width_is = width_is ∙ o.width_is;
       limit_is = limit_is ∙ o.limit_is;
+      some = o.some;
       older = o.older;
       parts = ap (λ xs. row ∷ xs) o.parts ∙ ap (λ xs. xs ++ o.older) (sym turned);
       older_is = subst (λ (xs : List (List ℕ)). OlderOf width o.older xs) (sym older) o.older_is;
@@ -241,6 +243,7 @@ window-aged width limit rows w v o none width_is limit_is newer older =
     record {
       width_is = width_is ∙ o.width_is;
       limit_is = limit_is ∙ o.limit_is;
+      some = o.some;
       older = rows;
       parts = ap (λ xs. reverse xs ++ rows) (sym newer);
       older_is = subst (λ (xs : List (List ℕ)). OlderOf width xs v.older) (sym whole) (subst (λ (n : ℕ). OlderOf n (reverse w.newer) v.older) o.width_is older);

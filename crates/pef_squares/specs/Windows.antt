@@ -41,6 +41,7 @@ pub record Windowed : Type 0 where
 pub record WindowOf (width limit : ℕ) (rows : List (List ℕ)) (w : Windowed) : Type 0 where
   pub width_is : w.width ≡ width
   pub limit_is : w.limit ≡ limit
+  pub some : 0 < limit
   pub older : List (List ℕ)
   pub parts : rows ≡ reverse w.newer ++ older
   pub older_is : OlderOf width older w.older
