@@ -93,3 +93,53 @@ fn rows_from_what_is_kept(rt: HostRuntime) {
         assert_kept(&rt, rt.alloc(), *row);
     }
 }
+
+/// A width, rows of that width, and the same rows with the last first.
+type Turned = (usize, &'static [&'static [u32]], &'static [&'static [u32]]);
+
+const TURNED: &[Turned] = &[
+    (2, &[], &[]),
+    (2, &[&[1, 2]], &[&[1, 2]]),
+    (2, ROWS, &[&[1, 2], &[0, 0], &[1, 2], &[1, 2]]),
+    (
+        1,
+        &[&[5], &[5], &[6], &[7], &[7], &[7]],
+        &[&[7], &[7], &[7], &[6], &[5], &[5]],
+    ),
+    (0, &[&[], &[], &[]], &[&[], &[], &[]]),
+];
+
+/// Rows of a width, in this order.
+fn rows_of(rt: &impl Abort, alloc: Global, width: usize, labels: &[&[u32]]) -> LabelRows {
+    let mut rows = LabelRows::new(alloc, width);
+    for row in labels {
+        push(rt, &mut rows, *row);
+    }
+    rows
+}
+
+/// Tests whether each row is the wanted one at its index.
+fn assert_rows(rt: &impl Abort, rows: &LabelRows, want: &[&[u32]]) {
+    assert!(rt; rows.rows() == want.len());
+    for (index, row) in want.iter().enumerate() {
+        assert!(rt; rows.row(index) == *row, "{want:?} at {index}");
+    }
+}
+
+#[test]
+fn rows_at_their_indices(rt: HostRuntime) {
+    for (width, rows, _) in TURNED {
+        assert_rows(&rt, &rows_of(&rt, rt.alloc(), *width, rows), rows);
+    }
+}
+
+#[test]
+fn rows_with_the_last_first(rt: HostRuntime) {
+    for (width, rows, reversed) in TURNED {
+        let turned = rows_of(&rt, rt.alloc(), *width, rows)
+            .reversed(rt.alloc())
+            .expect(&rt, "memory");
+        assert!(rt; turned.width() == *width);
+        assert_rows(&rt, &turned, reversed);
+    }
+}

@@ -7,3 +7,5 @@ pub use Rattle.pef_labels.proofs.RowLemmas.{rows-some}
 pub use Rattle.pef_labels.proofs.RowLemmas.{end_before, end_before-suc, end_before-zero}
 -- the row at a place, by the kept row that it belongs to
 pub use Rattle.pef_labels.proofs.RowLemmas.{rows-at}
+-- each row has the width
+pub use Rattle.pef_labels.proofs.RowLemmas.{rows-wide}

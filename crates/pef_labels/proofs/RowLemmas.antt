@@ -1,14 +1,14 @@
 -- Rows of labels as they are kept: how many there are, where one stands, and one more.
-use Rattle.std.proofs.Common.{◌≡◌, ◌≢◌, ◌==◌, Bool, false, eqb, ℕ, zero, suc, ◌+◌, ◌-◌, ◌*◌, ◌<◌, ◌≤◌, true, nat_lt, List, [], ◌∷◌, ◌++◌, length, take, drop, replicate, None, Some, refl, ap, sym, ◌∙◌, subst, arith, slice_index, slice_get, length-append, append_assoc}
-use Rattle.std.specs.Prelude.{slice_index_or, slice_set}
-use Rattle.std.proofs.lemmas.Bool.{ltb-true, lt-ltb, and_from, and_parts}
-use Rattle.std.proofs.lemmas.Bool.Decides.{Decides-eqb}
+use Rattle.std.proofs.Common.{◌≡◌, ◌≢◌, ◌==◌, Bool, false, eqb, inl, inr, ℕ, zero, suc, ◌+◌, ◌-◌, ◌*◌, ◌<◌, ◌≤◌, true, nat_lt, List, [], ◌∷◌, ◌++◌, length, take, drop, replicate, None, Some, refl, ap, sym, ◌∙◌, subst, arith, slice_index, slice_get, length-append, append_assoc}
+use Rattle.std.specs.Prelude.{reverse, slice_index_or, slice_set}
+use Rattle.std.proofs.lemmas.Bool.{ltb-false, ltb-true, lt-ltb, and_from, and_parts}
+use Rattle.std.proofs.lemmas.Bool.Decides.{Decides-eqb, eqb_tells}
 use Rattle.std.proofs.lemmas.Slice.Eq.{slice_eq-Decides}
 use Rattle.std.specs.Cmp.Lexicographic.{pointwise}
 use Rattle.std.proofs.Math.Path.{ap₂}
 use Rattle.pef_fixups.specs.Answers.{Says}
-use Rattle.std.proofs.lemmas.List.{append-nil, length-set, drop-append-le, drop-drop, drop_all, drop_at, length_push, length-take-le, get_or-append_right, get_or-replicate, get_or_append_left, length-drop, length-replicate, take-append-le, take_all, take-append-drop, nil_from_length}
-use Rattle.pef_labels.specs.Kept.RowsKept.{EndsWith, RunsFull}
+use Rattle.std.proofs.lemmas.List.{append-nil, length-set, drop-append-le, drop-drop, drop_all, drop_at, length_push, length-take-le, get_or-append_right, get_or-replicate, get_or_append_left, length-drop, length-replicate, take-append-le, take_all, take-append-drop, nil_from_length, reverse-append}
+use Rattle.pef_labels.specs.Kept.RowsKept.{EndsWith, PlaceOf, RunsFull}
 use Rattle.pef_labels.specs.Rows.{NeighboursDiffer, RowsFull, rows_from}
 use Rattle.pef_labels.specs.Rising.{above_all}
 
@@ -101,6 +101,37 @@ rows-at w low (end ∷ ends) values (suc q) j up under after before =
     ∙ (ap (λ n. slice_index_or (rows_from w end ends (drop w values)) n []) rest
     ∙ (rows-at w end ends (drop w values) q j both.1 (omega arith) after before
     ∙ ap (take w) (drop-drop (q * w) w values ∙ ap (λ n. drop n values) start)))
+
+-- each row has the width
+wide_from : (w low : ℕ) (ends values : List ℕ) (j : ℕ) → length values ≡ w * length ends → j < length (rows_from w low ends values) → length (slice_index_or (rows_from w low ends values) j []) ≡ w
+wide_from w low [] values j full under = absurd (omega arith)
+wide_from w low (end ∷ ends) values j full under = go (nat_lt j (end - low)) refl (λ i before. wide_from w end ends (drop w values) i others before)
+  where
+    row : List ℕ
+    row = take w values
+
+    long : w ≤ length values
+    long = omega (arith, full)
+
+    others : length (drop w values) ≡ w * length ends
+    others = omega (arith, full, length-drop w values)
+
+    many : length (replicate (end - low) row) ≡ end - low
+    many = length-replicate (end - low) row
+
+    go : (b : Bool) → b ≡ nat_lt j (end - low) → ((i : ℕ) → i < length (rows_from w end ends (drop w values)) → length (slice_index_or (rows_from w end ends (drop w values)) i []) ≡ w) → length (slice_index_or (rows_from w low (end ∷ ends) values) j []) ≡ w
+    go true here later =
+        let inside = ltb-true j (end - low) (sym here) in
+        ap length (get_or_append_left (replicate (end - low) row) (rows_from w end ends (drop w values)) [] j (omega (arith, inside, many)) ∙ get_or-replicate (end - low) j row [] inside)
+        ∙ length-take-le w values long
+    go false past later =
+        let after = ltb-false j (end - low) (sym past) in
+        ap length (get_or-append_right (replicate (end - low) row) (rows_from w end ends (drop w values)) (end - low) j [] many after)
+        ∙ later (j - (end - low))
+        (omega (arith, under, after, many, length-append (replicate (end - low) row) (rows_from w end ends (drop w values))))
+
+pub rows-wide : (w : ℕ) (ends values : List ℕ) → RowsFull w ends values → (j : ℕ) → j < length (rows_from w 0 ends values) → length (slice_index_or (rows_from w 0 ends values) j []) ≡ w
+rows-wide w ends values full j under = wide_from w 0 ends values j full.full under
 
 -- so many and more of a row
 replicate_more : (m n : ℕ) (row : List ℕ) → replicate (m + n) row ≡ replicate m row ++ replicate n row
@@ -301,3 +332,159 @@ long_rows w (suc left) n some long = let less : w * (suc left - 1) ≡ w * left 
 pub some_there : (n : ℕ) → (n == 0) ≡ false → 0 < n
 some_there zero none = absurd (cc)
 some_there (suc n) none = omega arith
+
+-- the end of the last kept row
+last_end-at : (low : ℕ) (ends : List ℕ) → 0 < length ends → slice_index ends (length ends - 1) ≡ last_end low ends
+unfolding last_end
+last_end-at low [] some = absurd (omega (arith, some))
+last_end-at low (x ∷ []) some = refl
+last_end-at low (x ∷ y ∷ ends) some =
+    let same : length (x ∷ y ∷ ends) - 1 ≡ suc (length ends) = omega arith in
+    let again : length (y ∷ ends) - 1 ≡ length ends = omega arith in
+    ap (slice_index (x ∷ y ∷ ends)) same ∙ (ap (slice_index (y ∷ ends)) (sym again) ∙ last_end-at x (y ∷ ends) (omega arith))
+
+-- all ends but the last are below it
+before_last : (low : ℕ) (ends : List ℕ) (k : ℕ) → above_all low ends ≡ true → k + 1 < length ends → slice_index ends k < last_end low ends
+unfolding last_end
+before_last low [] k up under = absurd (omega (arith, under))
+before_last low (x ∷ []) k up under = absurd (omega (arith, under))
+before_last low (x ∷ y ∷ ends) zero up under =
+    let both = and_parts (nat_lt x y) (above_all y ends) (and_parts (nat_lt low x) (above_all x (y ∷ ends)) up).1 in
+    let first = ltb-true x y both.0 in
+    let later = last_end-above y ends both.1 in
+    omega (arith, first, later)
+before_last low (x ∷ y ∷ ends) (suc k) up under =
+    before_last x (y ∷ ends) k (and_parts (nat_lt low x) (above_all x (y ∷ ends)) up).1 (omega (arith, under))
+
+-- where there is a row, one is kept
+pub ends_some : (w : ℕ) (ends values : List ℕ) (index : ℕ) → index < length (rows_from w 0 ends values) → 0 < length ends
+ends_some w [] values index inside = absurd (omega (arith, inside))
+ends_some w (x ∷ ends) values index inside = omega arith
+
+-- the last kept row is the one at the last index
+pub newest_placed : (w : ℕ) (ends values : List ℕ) (index : ℕ) → RowsFull w ends values → index + 1 ≡ length (rows_from w 0 ends values) → PlaceOf ends index (length ends - 1)
+newest_placed w ends values index full last =
+    let some = ends_some w ends values index (omega (arith, last)) in
+    let count = last_is w ends values full in
+    record {
+      under = omega (arith, some);
+      before = λ k below. let less = before_last 0 ends k full.rising (omega (arith, below)) in omega (arith, less, last, count);
+      here = (let e = last_end-at 0 ends some in omega (arith, e, last, count));
+    }
+
+-- ends that rise don't fall
+rising-above : (low : ℕ) (ends : List ℕ) (k d : ℕ) → above_all low ends ≡ true → k < length ends → low ≤ slice_index_or ends k d
+rising-above low [] k d up under = absurd (omega (arith, under))
+rising-above low (x ∷ ends) zero d up under = let first = ltb-true low x (and_parts (nat_lt low x) (above_all x ends) up).0 in omega (arith, first)
+rising-above low (x ∷ ends) (suc k) d up under =
+    let both = and_parts (nat_lt low x) (above_all x ends) up in
+    let first = ltb-true low x both.0 in
+    let later = rising-above x ends k d both.1 (omega (arith, under)) in
+    omega (arith, first, later)
+
+pub rising-sorted : (low : ℕ) (ends : List ℕ) → above_all low ends ≡ true → (i j d : ℕ) → i ≤ j → j < length ends → slice_index_or ends i d ≤ slice_index_or ends j d
+rising-sorted low [] up i j d order under = absurd (omega (arith, under))
+rising-sorted low (x ∷ ends) up zero zero d order under = omega arith
+rising-sorted low (x ∷ ends) up zero (suc j) d order under = rising-above x ends j d (and_parts (nat_lt low x) (above_all x ends) up).1 (omega (arith, under))
+rising-sorted low (x ∷ ends) up (suc i) zero d order under = absurd (omega (arith, order))
+rising-sorted low (x ∷ ends) up (suc i) (suc j) d order under = rising-sorted x ends (and_parts (nat_lt low x) (above_all x ends) up).1 i j d (omega (arith, order)) (omega (arith, under))
+
+-- the first end after an index
+pub placed : (w : ℕ) (ends values : List ℕ) (index place : ℕ) → RowsFull w ends values → index < length (rows_from w 0 ends values) → place ≤ length ends → ((k : ℕ) → k < length ends → k < place → slice_index ends k ≤ index) → ((k : ℕ) → k < length ends → place ≤ k → index < slice_index ends k) → PlaceOf ends index place
+placed w ends values index place full inside bound before after = record { under = there; before = λ k below. before k (omega (arith, below, there)) below; here = after place there (omega arith) }
+  where
+    there : place < length ends
+    there =
+        elim (eqb_tells place (length ends)) [
+          | inl same ↦
+              (let more = ends_some w ends values index inside in
+              let same = same.1 in
+              let last = before (length ends - 1) (omega (arith, more)) (omega (arith, more, same)) in
+              let is = last_end-at 0 ends more in
+              let count = last_is w ends values full in
+              absurd (omega (arith, last, is, inside, count)))
+          | inr other ↦ (let apart = other.1 in omega (arith, bound, apart))
+        ]
+
+-- the row at an index, by the place of its kept row
+before_place : (ends : List ℕ) (index place : ℕ) → PlaceOf ends index place → end_before 0 ends place ≤ index
+before_place ends index zero at = let none = end_before-zero 0 ends in omega (arith, none)
+before_place ends index (suc k) at =
+    let under = at.under in
+    let is = end_before-suc 0 ends k (omega (arith, under)) in
+    let before = at.before k (omega arith) in
+    omega (arith, is, before)
+
+pub row-placed : (w : ℕ) (ends values : List ℕ) (index place : ℕ) → RowsFull w ends values → PlaceOf ends index place → take w (drop (place * w) values) ≡ slice_index_or (rows_from w 0 ends values) index []
+row-placed w ends values index place full at =
+    let same : index - 0 ≡ index = omega arith in
+    sym (rows-at w 0 ends values place index full.rising at.under (before_place ends index place at) at.here)
+    ∙ ap (λ n. slice_index_or (rows_from w 0 ends values) n []) same
+
+-- how many rows there are before a kept one, and which come with it
+taken-count : (w low : ℕ) (ends values : List ℕ) (k : ℕ) → above_all low ends ≡ true → k ≤ length ends → length (rows_from w low (take k ends) values) + low ≡ end_before low ends k
+unfolding end_before
+taken-count w low ends values zero up under = omega arith
+taken-count w low [] values (suc k) up under = absurd (omega (arith, under))
+taken-count w low (end ∷ ends) values (suc k) up under =
+    let both = and_parts (nat_lt low end) (above_all end ends) up in
+    let first = ltb-true low end both.0 in
+    let later = taken-count w end ends (drop w values) k both.1 (omega (arith, under)) in
+    omega (arith, first, later, length-append (replicate (end - low) (take w values)) (rows_from w end (take k ends) (drop w values)), length-replicate (end - low) (take w values))
+
+taken-more : (w low : ℕ) (ends values : List ℕ) (k : ℕ) → k < length ends → rows_from w low (take (suc k) ends) values ≡ rows_from w low (take k ends) values ++ replicate (slice_index ends k - end_before low ends k) (take w (drop (k * w) values))
+unfolding end_before
+taken-more w low [] values k under = absurd (omega (arith, under))
+taken-more w low (end ∷ ends) values zero under =
+    let start : zero * w ≡ 0 = omega arith in
+    append-nil (replicate (end - low) (take w values)) ∙ ap (λ n. replicate (end - low) (take w (drop n values))) (sym start)
+taken-more w low (end ∷ ends) values (suc k) under =
+    let start : w + k * w ≡ suc k * w = omega arith in
+    let many = slice_index ends k - end_before end ends k in
+    let row : take w (drop (k * w) (drop w values)) ≡ take w (drop (suc k * w) values) = ap (take w) (drop-drop (k * w) w values ∙ ap (λ n. drop n values) start) in
+    ap (λ rows. replicate (end - low) (take w values) ++ rows) (taken-more w end ends (drop w values) k (omega (arith, under)) ∙ ap (λ r. rows_from w end (take k ends) (drop w values) ++ replicate many r) row)
+    ∙ sym (append_assoc (replicate (end - low) (take w values)) (rows_from w end (take k ends) (drop w values)) (replicate many (take w (drop (suc k * w) values))))
+
+-- how many rows there are up to a kept one, by its end
+pub taken-some : (w k : ℕ) (ends values : List ℕ) → RowsFull w ends values → k < length ends → slice_index ends k ≡ length (rows_from w 0 (take (suc k) ends) values)
+taken-some w k ends values full under =
+    let count = taken-count w 0 ends values (suc k) full.rising (omega (arith, under)) in
+    let is = end_before-suc 0 ends k under in
+    omega (arith, count, is)
+
+-- equal rows are the same backwards
+replicate_last : (n : ℕ) (row : List ℕ) → replicate n row ++ row ∷ [] ≡ row ∷ replicate n row
+replicate_last zero row = refl
+replicate_last (suc n) row = ap (λ rows. row ∷ rows) (replicate_last n row)
+
+reverse_replicate : (n : ℕ) (row : List ℕ) → reverse (replicate n row) ≡ replicate n row
+reverse_replicate zero row = refl
+reverse_replicate (suc n) row =
+    reverse-append (row ∷ []) (replicate n row)
+    ∙ (ap (λ rows. rows ++ row ∷ []) (reverse_replicate n row)
+    ∙ replicate_last n row)
+
+-- a kept row more makes the rows no fewer
+pub taken-up : (w k left : ℕ) (ends values : List ℕ) → suc k ≡ left → k < length ends → length (rows_from w 0 (take k ends) values) ≤ length (rows_from w 0 (take left ends) values)
+taken-up w k left ends values next under =
+    let before = rows_from w 0 (take k ends) values in
+    let many = slice_index ends k - end_before 0 ends k in
+    let row = take w (drop (k * w) values) in
+    let sum : length (rows_from w 0 (take left ends) values) ≡ length (before ++ replicate many row) = ap (λ n. length (rows_from w 0 (take n ends) values)) (sym next) ∙ ap length (taken-more w 0 ends values k under) in
+    omega (arith, sum, length-append before (replicate many row))
+
+-- one step of the reversal: the rows before, followed by the reverse of the pushed ones, are still all rows
+pub reverse-more : (w k left n : ℕ) (ends values : List ℕ) (rows all : List (List ℕ)) → RowsFull w ends values → suc k ≡ left → k < length ends → n ≡ length (rows_from w 0 (take left ends) values) - length (rows_from w 0 (take k ends) values) → rows_from w 0 (take left ends) values ++ reverse rows ≡ all → rows_from w 0 (take k ends) values ++ reverse (rows ++ replicate n (take w (drop (k * w) values))) ≡ all
+reverse-more w k left n ends values rows all full next under many is =
+    let row = take w (drop (k * w) values) in
+    let before = rows_from w 0 (take k ends) values in
+    let taken : rows_from w 0 (take (suc k) ends) values ≡ rows_from w 0 (take left ends) values = ap (λ m. rows_from w 0 (take m ends) values) next in
+    let longer = ap length taken in
+    let here = taken-some w k ends values full under in
+    let count = taken-count w 0 ends values k full.rising (omega (arith, under)) in
+    let same : n ≡ slice_index ends k - end_before 0 ends k = omega (arith, many, here, count, longer) in
+    ap (λ rs. before ++ rs) (reverse-append rows (replicate n row) ∙ ap (λ rs. rs ++ reverse rows) (reverse_replicate n row))
+    ∙ (sym (append_assoc before (replicate n row) (reverse rows))
+    ∙ (ap (λ m. (before ++ replicate m row) ++ reverse rows) same
+    ∙ (ap (λ rs. rs ++ reverse rows) (sym (taken-more w 0 ends values k under) ∙ taken)
+    ∙ is)))

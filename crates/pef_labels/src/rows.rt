@@ -1,5 +1,5 @@
-ghost use Rattle.std.specs.Prelude.{◌≡◌, ◌≢◌, ◌↔◌, ℕ, ◌+◌, ◌*◌, ◌^◌, ◌<◌, ◌≤◌, ◌++◌, IfSome, IsSome, List, MatchOption, OnErr, OnOk, [], ◌∷◌, false, length, replicate, true};
-ghost use Rattle.pef_labels.specs.Kept.RowsKept.{EndsWith};
+ghost use Rattle.std.specs.Prelude.{◌≡◌, ◌≢◌, ◌↔◌, ℕ, ◌+◌, ◌*◌, ◌^◌, ◌<◌, ◌≤◌, ◌++◌, IfOk, IfSome, IsSome, List, MatchOption, OnErr, OnOk, [], ◌∷◌, drop, false, length, replicate, reverse, slice_index_or, take, true};
+ghost use Rattle.pef_labels.specs.Kept.RowsKept.{EndsWith, PlaceOf};
 ghost use Rattle.pef_fixups.specs.Answers.{Says};
 ghost use Rattle.pef_labels.specs.Rising.{above_all};
 ghost use Rattle.pef_labels.specs.Rows.{NeighboursDiffer, RowsFull, rows_from};
@@ -144,6 +144,43 @@ impl LabelRows {
         }
     }
 
+    /// The row at an index. The newest is at hand; another takes steps by the logarithm of how many are kept.
+    pub fn row(&self, index: usize) -> &[u32]
+        requires { index < length self.now.rows }
+        ensures is { result.now ≡ slice_index_or self.now.rows index [] }
+        ensures wide { length result.now ≡ self.now.width }
+    {
+        let kept = self.kept();
+        let newest = self.rows() - 1;
+        let place = if index == newest {
+            kept.ends.len() - 1
+        } else {
+            kept.place_of(index)
+        };
+        kept.row(place)
+    }
+
+    /// The same rows, the last first.
+    ///
+    /// # Errors
+    ///
+    /// There is no memory for them.
+    pub fn reversed(&self, alloc: Global) -> Result<LabelRows, AllocError>
+        ensures { IfOk result (λ rows. rows ≡ record { width = self.now.width; rows = reverse self.now.rows }) }
+    {
+        let kept = self.kept();
+        let mut rows = LabelRows::new(alloc, kept.width);
+        let mut left = kept.ends.len();
+        let mut end = self.rows();
+        'kept: while left > 0 {
+            left -= 1;
+            let start = kept.rows_before(left);
+            rows.push_many(kept.row(left), end - start)?;
+            end = start;
+        }
+        Ok(rows)
+    }
+
     /// The rows as they are kept, of which no two neighbours are equal.
     pub fn kept(&self) -> KeptRows<'_>
         ensures width { result.width ≡ self.now.width }
@@ -155,6 +192,41 @@ impl LabelRows {
             ends: self.ends.as_slice(),
             values: self.values.as_slice(),
         }
+    }
+}
+
+impl<'a> KeptRows<'a> {
+    /// The place of the kept row that the row at an index equals.
+    fn place_of(self, index: usize) -> usize
+        requires full { RowsFull self.width self.ends.now self.values.now }
+        requires inside { index < length (rows_from self.width 0 self.ends.now self.values.now) }
+        ensures { PlaceOf self.entry.ends.now index result }
+    {
+        self.ends.partition_point(|end| *end <= index)
+    }
+
+    /// How many rows there are before those that equal a kept one.
+    fn rows_before(self, place: usize) -> usize
+        requires full { RowsFull self.width self.ends.now self.values.now }
+        requires inside { place ≤ length self.ends.now }
+        ensures { result ≡ length (rows_from self.entry.width 0 (take place self.entry.ends.now) self.entry.values.now) }
+    {
+        match place.checked_sub(1) {
+            Some(before) => self.ends[before],
+            None => 0,
+        }
+    }
+
+    /// A kept row.
+    fn row(self, place: usize) -> &'a [u32]
+        requires full { RowsFull self.width self.ends.now self.values.now }
+        requires inside { place < length self.ends.now }
+        ensures is { result.now ≡ take self.entry.width (drop (place * self.entry.width) self.entry.values.now) }
+        ensures wide { length result.now ≡ self.entry.width }
+    {
+        let (_, rest) = self.values.split_at(place * self.width);
+        let (row, _) = rest.split_at(self.width);
+        row
     }
 }
 

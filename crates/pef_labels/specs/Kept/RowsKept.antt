@@ -1,5 +1,5 @@
--- Rows that are left to go through, as they are kept.
-use Rattle.std.specs.Prelude.{◌≡◌, ◌<◌, ℕ, ◌-◌, ◌*◌, ◌++◌, true, List, length}
+-- Rows as they are kept: those that are left to go through, those at an end, and the one at an index.
+use Rattle.std.specs.Prelude.{◌≡◌, ◌<◌, ◌≤◌, ℕ, ◌-◌, ◌*◌, ◌++◌, true, List, length, slice_index}
 use Rattle.pef_labels.specs.Rising.{above_all}
 use Rattle.pef_labels.specs.Rows.{NeighboursDiffer}
 
@@ -14,3 +14,9 @@ pub record EndsWith (ends values row : List ℕ) : Type 0 where
   pub some : 0 < length ends
   pub front : List ℕ
   pub is : values ≡ front ++ row
+
+-- a kept row is the one at an index: the ends before it aren't after the index, and its own is
+pub record PlaceOf (ends : List ℕ) (index place : ℕ) : Type 0 where
+  pub under : place < length ends
+  pub before : (k : ℕ) → k < place → slice_index ends k ≤ index
+  pub here : index < slice_index ends place
