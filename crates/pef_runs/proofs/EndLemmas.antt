@@ -1,5 +1,5 @@
 -- The ends of runs in windows: how they are kept from fixup to fixup, and what follows for a value.
-use Rattle.std.proofs.Common.{◌≡◌, ℕ, zero, suc, ◌+◌, ◌-◌, ◌*◌, ◌<◌, ◌≤◌, inl, inr, List, [], ◌∷◌, ◌++◌, take, refl, ap, ap₂, sym, ◌∙◌, subst, arith}
+use Rattle.std.proofs.Common.{◌≡◌, ℕ, zero, suc, ◌+◌, ◌-◌, ◌*◌, ◌<◌, ◌≤◌, inl, inr, List, [], ◌∷◌, ◌++◌, take, slice_index, refl, ap, ap₂, sym, ◌∙◌, subst, arith}
 use Rattle.std.proofs.lemmas.List.{append_assoc, append_cancel_left}
 use Rattle.std.proofs.Math.Nat.{mul-add}
 use Rattle.pef_reloc.specs.declared.fixup.Fixup.{Fixup}
@@ -12,15 +12,13 @@ use Rattle.pef_runs.specs.declared.place.Here.{Here}
 use Rattle.pef_runs.specs.declared.place.Choice.{Choice}
 use Rattle.pef_runs.specs.declared.runs.Run.{Run}
 use Rattle.pef_runs.specs.declared.runs.Run.TheVariants.{WordsOfC, WordsOfD, Spaced, Pairs, SpacedPairs, Skip}
-use Rattle.pef_squares.specs.declared.window.Window.{Window}
 use Rattle.pef_runs.specs.Ends.{Brought, EndRows}
 use Rattle.pef_runs.specs.Runs.{EndAmong, EndsFrom, RunOf, imports, limit, run_instr, stride, unit, units}
 use Rattle.pef_runs.specs.Leads.{LeadsWithin}
 use Rattle.pef_runs.specs.Places.{Chosen, InPlace, Led, extension_in}
 use Rattle.pef_runs.specs.Kept.Runs.{Next}
-use Rattle.pef_squares.specs.Squares.{number_in}
 use Rattle.pef_runs.specs.Tables.{Agrees}
-use Rattle.pef_squares.specs.Windows.{AtMostEach, BestOf, IsOne, WindowOf}
+use Rattle.pef_squares.specs.Windows.{AtMostEach, BestOf, IsOne, WindowOf, Windowed}
 use Rattle.pef_runs.proofs.RunFacts.{no_ends, run-adds, run-flat, run-next, run-one, units-more, units-none, units_c, units_d, units_far, units_pairs, units_skip, units_spaced}
 
 -- the extension at a state in a place
@@ -30,7 +28,7 @@ extension-there l registers q s same at =
     ∙ ap₂ (λ c d. extension l q.left.now q.position c d) (ap (λ rs. class_of rs s.c) same ∙ at.c) (ap (λ rs. class_of rs s.d) same ∙ at.d)
 
 -- fewer of them
-end_rows-take : (l : Labels) (r : Run) (n k : ℕ) (fixups : List Fixup) (p m c d i : ℕ) (rows : List (List ℕ)) → EndRows l r n fixups p m c d i rows → k ≤ n → EndRows l r k fixups p m c d (take k rows)
+end_rows-take : (l : Labels) (r : Run) (n k : ℕ) (fixups : List Fixup) (p m c d i : ℕ) (rows : List (List ℕ)) → EndRows l r n fixups p m c d i rows → k ≤ n → EndRows l r k fixups p m c d i (take k rows)
 end_rows-take l r n zero fixups p m c d i rows e few = inl refl
 end_rows-take l r n (suc k) fixups p m c d i [] (inl none) few = absurd (omega (arith, none, few))
 end_rows-take l r n (suc k) fixups p m c d i [] (inr none) few = inr none
@@ -172,31 +170,31 @@ chosen-led k h x chosen l s agrees at =
     }
 
 -- the better of a value and of the ends of a run
-pub best-led : (k : Known) (h : Here) (r : Run) (first value : ℕ) (rows : List (List ℕ)) → RunOf k.registers.now r h.place h.place.position → Led k h first → BestOf first rows h.place.c h.place.d value → ((l : Labels) → Agrees l k h.others.now → IsOne 1 value rows h.place.c h.place.d → EndAmong l r (limit r) h.place.left.now h.place.position h.place.import_index h.place.c h.place.d value) → Led k h value
-best-led k h r first value rows of led best ends l s agrees at =
+pub best-led : (k : Known) (h : Here) (r : Run) (first value i : ℕ) (rows : List (List ℕ)) → RunOf k.registers.now r h.place h.place.position → Led k h first → BestOf first rows i value → ((l : Labels) → Agrees l k h.others.now → IsOne 1 value rows i → EndAmong l r (limit r) h.place.left.now h.place.position h.place.import_index h.place.c h.place.d value) → Led k h value
+best-led k h r first value i rows of led best ends l s agrees at =
     elim best.one [
       | inl same ↦ subst (λ (v : ℕ). LeadsWithin l s h.place.left.now v) (sym same) (led l s agrees at)
       | inr one ↦ end_led k h r value l s of agrees.same.registers_are at (ends l agrees one)
     ]
 
 -- a window that is brought to a place where no run begins, to a run of one unit, and to a longer one
-pub brought-none : (r : Run) (count limit : ℕ) (start : Place) (rows : List (List ℕ)) (row : List ℕ) (w : Window) → WindowOf count limit [] w → ((left : List Fixup) → start.left.now ≡ unit r start.position start.import_index ++ left → ⊥) → Brought r count limit start.left.now start.position start.import_index rows row w
-brought-none r count limit start rows row w is none = record { now = []; is = is; ends = λ l c d on behind. inr none }
+pub brought-none : (r : Run) (count limit : ℕ) (start : Place) (rows : List (List ℕ)) (row : List ℕ) (w : Windowed) → WindowOf count limit [] w → ((left : List Fixup) → start.left.now ≡ unit r start.position start.import_index ++ left → ⊥) → Brought r count limit start.left.now start.position start.import_index rows row w
+brought-none r count limit start rows row w is none = record { now = []; is = is; ends = λ l c d i on behind. inr none }
 
-pub brought-one : (r : Run) (count limit : ℕ) (start next : Place) (rows : List (List ℕ)) (row : List ℕ) (w : Window) → Next r start next → ((left : List Fixup) → next.left.now ≡ unit r next.position next.import_index ++ left → ⊥) → WindowOf count limit (row ∷ take (limit - 1) []) w → Brought r count limit start.left.now start.position start.import_index rows row w
+pub brought-one : (r : Run) (count limit : ℕ) (start next : Place) (rows : List (List ℕ)) (row : List ℕ) (w : Windowed) → Next r start next → ((left : List Fixup) → next.left.now ≡ unit r next.position next.import_index ++ left → ⊥) → WindowOf count limit (row ∷ take (limit - 1) []) w → Brought r count limit start.left.now start.position start.import_index rows row w
 brought-one r count limit start next rows row w n none is = record {
   now = row ∷ take (limit - 1) [];
   is = is;
-  ends = λ l c d on behind.
-      end_rows-more l r limit start.left.now next.left.now start.position start.import_index c d row [] is.some n.left (behind next.left.now n.left)
+  ends = λ l c d i on behind.
+      end_rows-more l r limit start.left.now next.left.now start.position start.import_index c d i row [] is.some n.left (behind next.left.now n.left)
       (inr (λ left parts. none left (parts ∙ ap₂ (λ x y. unit r x y ++ left) (sym n.position) (sym n.import_index))));
 }
 
-pub brought-more : (r : Run) (count limit : ℕ) (start next last : Place) (rows : List (List ℕ)) (row : List ℕ) (w : Window) → Next r start next → Next r next last → WindowOf count limit (row ∷ take (limit - 1) rows) w → Brought r count limit start.left.now start.position start.import_index rows row w
+pub brought-more : (r : Run) (count limit : ℕ) (start next last : Place) (rows : List (List ℕ)) (row : List ℕ) (w : Windowed) → Next r start next → Next r next last → WindowOf count limit (row ∷ take (limit - 1) rows) w → Brought r count limit start.left.now start.position start.import_index rows row w
 brought-more r count limit start next last rows row w n more is = record {
   now = row ∷ take (limit - 1) rows;
   is = is;
-  ends = λ l c d on behind.
+  ends = λ l c d i on behind.
       end_rows-more l r limit start.left.now next.left.now start.position start.import_index c d i row rows is.some n.left (behind next.left.now n.left)
       (on next.left.now last.left.now n.left (more.left ∙ ap₂ (λ x y. unit r x y ++ last.left.now) n.position n.import_index));
 }

@@ -13,35 +13,35 @@ value-end l [] p c d none = sym (extension-end l p c d)
 value-end l (f ∷ fixups) p c d none = absurd (omega (arith, none))
 
 -- the extension at a fixup, from its label
-pub value-here : (l : Labels) (k : Known) (f : Fixup) (rest : List Fixup) (left p c d x : ℕ) → length (f ∷ rest) ≡ left → Agrees l k (f ∷ rest) → c < length k.registers.now + 1 → d < length k.registers.now + 1 → p ≡ f.offset → x ≡ label_in k.labels.now left c d → x ≡ extension l (f ∷ rest) p c d
+pub value-here : (l : Labels) (k : Known) (f : Fixup) (rest : List Fixup) (left p c d x : ℕ) → length (f ∷ rest) ≡ left → Agrees l k (f ∷ rest) → c < length k.registers.now + 1 → d < length k.registers.now + 1 → p ≡ f.offset → x ≡ label_in (length k.registers.now + 1) k.labels.now.rows left c d → x ≡ extension l (f ∷ rest) p c d
 value-here l k f rest left p c d x count agrees under_c under_d here is =
-    is ∙ ap (λ n. label_in k.labels.now n c d) (sym count)
+    is ∙ ap (λ n. label_in (length k.registers.now + 1) k.labels.now.rows n c d) (sym count)
     ∙ sym (agrees.same.label_is (length (f ∷ rest)) c d (omega arith) under_c under_d)
     ∙ sym (extension-here l f rest p c d here)
 
 -- and away from it
-pub value-away : (l : Labels) (k : Known) (f : Fixup) (rest : List Fixup) (left p c d x y : ℕ) (o : Option ℕ) → length (f ∷ rest) ≡ left → Agrees l k (f ∷ rest) → c < length k.registers.now + 1 → d < length k.registers.now + 1 → p ≢ f.offset → x ≡ label_in k.labels.now left c d → o ≡ offer_at l f rest c d → y ≡ moved_value (f.offset - p) x o → y ≡ extension l (f ∷ rest) p c d
+pub value-away : (l : Labels) (k : Known) (f : Fixup) (rest : List Fixup) (left p c d x y : ℕ) (o : Option ℕ) → length (f ∷ rest) ≡ left → Agrees l k (f ∷ rest) → c < length k.registers.now + 1 → d < length k.registers.now + 1 → p ≢ f.offset → x ≡ label_in (length k.registers.now + 1) k.labels.now.rows left c d → o ≡ offer_at l f rest c d → y ≡ moved_value (f.offset - p) x o → y ≡ extension l (f ∷ rest) p c d
 value-away l k f rest left p c d x y o count agrees under_c under_d away is offer value =
-    let label : x ≡ l.label (length (f ∷ rest)) c d = is ∙ ap (λ n. label_in k.labels.now n c d) (sym count) ∙ sym (agrees.same.label_is (length (f ∷ rest)) c d (omega arith) under_c under_d) in
+    let label : x ≡ l.label (length (f ∷ rest)) c d = is ∙ ap (λ n. label_in (length k.registers.now + 1) k.labels.now.rows n c d) (sym count) ∙ sym (agrees.same.label_is (length (f ∷ rest)) c d (omega arith) under_c under_d) in
     value ∙ ap₂ (moved_value (f.offset - p)) label offer ∙ sym (extension-away l f rest p c d away)
 
 -- the least offer from the table
-pub offer-section_kept : (l : Labels) (k : Known) (f : Fixup) (rest : List Fixup) (left c d section n y : ℕ) → length (f ∷ rest) ≡ left → Agrees l k (f ∷ rest) → c < length k.registers.now + 1 → d < length k.registers.now + 1 → f.base ≡ Section section → n ≡ change d (class_of k.registers.now section) → y ≡ skip_in k.skips.now left c → Some (n + y) ≡ offer_at l f rest c d
+pub offer-section_kept : (l : Labels) (k : Known) (f : Fixup) (rest : List Fixup) (left c d section n y : ℕ) → length (f ∷ rest) ≡ left → Agrees l k (f ∷ rest) → c < length k.registers.now + 1 → d < length k.registers.now + 1 → f.base ≡ Section section → n ≡ change d (class_of k.registers.now section) → y ≡ skip_in k.skips.now.rows left c → Some (n + y) ≡ offer_at l f rest c d
 offer-section_kept l k f rest left c d section n y count agrees under_c under_d base first second =
     let regs = agrees.same.registers_are in
-    offer-kept_section l f rest c d (skip_in k.skips.now (length (f ∷ rest)) c) section n y base
+    offer-kept_section l f rest c d (skip_in k.skips.now.rows (length (f ∷ rest)) c) section n y base
     (agrees.offers.0 c d (subst (λ rs. c < length rs + 1) (sym regs) under_c) (subst (λ rs. d < length rs + 1) (sym regs) under_d))
     (first ∙ ap (λ rs. change d (class_of rs section)) (sym regs))
-    (second ∙ ap (λ m. skip_in k.skips.now m c) (sym count))
+    (second ∙ ap (λ m. skip_in k.skips.now.rows m c) (sym count))
 
 pub offer-import_kept : (l : Labels) (k : Known) (f : Fixup) (rest : List Fixup) (left c d import : ℕ) → length (f ∷ rest) ≡ left → Agrees l k (f ∷ rest) → c < length k.registers.now + 1 → d < length k.registers.now + 1 → f.base ≡ Import import → None ≡ offer_at l f rest c d
 offer-import_kept l k f rest left c d import count agrees under_c under_d base =
     let regs = agrees.same.registers_are in
-    offer-kept_import l f rest c d (skip_in k.skips.now (length (f ∷ rest)) c) import base
+    offer-kept_import l f rest c d (skip_in k.skips.now.rows (length (f ∷ rest)) c) import base
     (agrees.offers.0 c d (subst (λ rs. c < length rs + 1) (sym regs) under_c) (subst (λ rs. d < length rs + 1) (sym regs) under_d))
 
 -- where fewer are left
-pub same_fewer : (l : Labels) (registers : List ℕ) (labels : List (List (List ℕ))) (most m : ℕ) → SameLabels l registers labels most → m ≤ most → SameLabels l registers labels m
+pub same_fewer : (l : Labels) (registers : List ℕ) (labels : List (List ℕ)) (most m : ℕ) → SameLabels l registers labels most → m ≤ most → SameLabels l registers labels m
 same_fewer l registers labels most m same low = record {
   registers_are = same.registers_are;
   label_is = λ left c d under. same.label_is left c d (omega (arith, under, low));
@@ -51,7 +51,7 @@ pub agrees-behind : (l : Labels) (k : Known) (made left : List Fixup) → Agrees
 agrees-behind l k [] left a = a
 agrees-behind l k (f ∷ made) left a =
     agrees-behind l k made left (record {
-      same = same_fewer l k.registers.now k.labels.now (length (f ∷ (made ++ left))) (length (made ++ left)) a.same (omega arith);
+      same = same_fewer l k.registers.now k.labels.now.rows (length (f ∷ (made ++ left))) (length (made ++ left)) a.same (omega arith);
       offers = a.offers.1;
     })
 
@@ -66,6 +66,8 @@ pub shaped_fewer : (k : Known) (most m : ℕ) → Shaped k most → m ≤ most �
 shaped_fewer k most m s low = record {
   few = s.few;
   count = (let n = s.count in omega (arith, n));
+  labels_wide = s.labels_wide;
+  skips_wide = s.skips_wide;
   labels = (let n = s.labels in omega (arith, n));
   skips = (let n = s.skips in omega (arith, n));
   label_small = λ left c d under. s.label_small left c d (omega (arith, under, low));

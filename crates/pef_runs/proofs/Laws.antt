@@ -12,5 +12,7 @@ pub use Rattle.pef_runs.proofs.RunFacts.{one_goes}
 pub use Rattle.pef_runs.proofs.EndLemmas.{chosen-led}
 -- windows for labels of which more is known
 pub use Rattle.pef_runs.proofs.EndsKept.{ends-map}
--- one more place of a line or of a square is filled
-pub use Rattle.pef_runs.proofs.LineLemmas.{line-set, square-set}
+-- one more place of a line is filled
+pub use Rattle.pef_runs.proofs.LineLemmas.{line-set}
+-- places of pairs of classes, and one more that is filled
+pub use Rattle.pef_runs.proofs.PlaceLemmas.{Filled, class_under, filled-set, next_along, next_line, place_under, same_place}

@@ -4,4 +4,5 @@ mod EndLemmas
 mod EndsKept
 mod KnownLemmas
 mod LineLemmas
+mod PlaceLemmas
 mod RunFacts

@@ -1,6 +1,6 @@
--- Lines and squares that are filled place by place.
-use Rattle.std.proofs.Common.{ℕ, ◌+◌, ◌<◌, inl, inr, List, [], length, slice_index, sym, subst, arith}
-use Rattle.std.specs.Prelude.{slice_index_or, slice_set}
+-- Lines that are filled place by place.
+use Rattle.std.proofs.Common.{ℕ, ◌+◌, ◌<◌, inl, inr, List, length, slice_index, sym, subst, arith}
+use Rattle.std.specs.Prelude.{slice_set}
 use Rattle.std.proofs.lemmas.Bool.Decides.{eqb_tells}
 use Rattle.std.proofs.lemmas.List.{get_or-set_other, get_or-set_same}
 
@@ -10,11 +10,4 @@ line-set P line i x inside are is j under =
     elim (eqb_tells j i) [
       | inl same ↦ subst (λ (y : ℕ). P y (slice_index (slice_set line i x) y)) (sym same.1) (subst (λ (v : ℕ). P i v) (sym (get_or-set_same line i x 0 inside)) is)
       | inr other ↦ (let apart = other.1 in subst (λ (v : ℕ). P j v) (sym (get_or-set_other line i j x 0 other.1)) (are j (omega (arith, under))))
-    ]
-
-pub square-set : (P : ℕ → List ℕ → Type 0) (square : List (List ℕ)) (i : ℕ) (x : List ℕ) → i < length square → ((j : ℕ) → j < i → P j (slice_index_or square j [])) → P i x → (j : ℕ) → j < i + 1 → P j (slice_index_or (slice_set square i x) j [])
-square-set P square i x inside are is j under =
-    elim (eqb_tells j i) [
-      | inl same ↦ subst (λ (y : ℕ). P y (slice_index_or (slice_set square i x) y [])) (sym same.1) (subst (λ (v : List ℕ). P i v) (sym (get_or-set_same square i x [] inside)) is)
-      | inr other ↦ (let apart = other.1 in subst (λ (v : List ℕ). P j v) (sym (get_or-set_other square i j x [] other.1)) (are j (omega (arith, under))))
     ]

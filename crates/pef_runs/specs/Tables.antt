@@ -28,6 +28,11 @@ pub record Shaped (k : Known) (most : ℕ) : Type 0 where
   pub label_small : (left c d : ℕ) → left ≤ most → c < length k.registers.now + 1 → d < length k.registers.now + 1 → label_in (length k.registers.now + 1) k.labels.now.rows left c d ≤ 4 * left
   pub skip_small : (left c : ℕ) → left ≤ most → c < length k.registers.now + 1 → skip_in k.skips.now.rows left c ≤ 4 * left
 
+-- a row of labels where so many fixups are left
+pub record IsRow (k : Known) (left : ℕ) (row : List ℕ) : Type 0 where
+  pub is : row ≡ slice_index_or k.labels.now.rows left []
+  pub wide : length row ≡ (length k.registers.now + 1) * (length k.registers.now + 1)
+
 -- a table has the least skip of each class of C, where some fixups are left, and at each of them
 abbrev pub OffersAre : Labels → List (List ℕ) → Fixup → List Fixup → Type 0
 OffersAre l skips f rest = (c d : ℕ) → c < classes l → d < classes l → OfferIs l f rest c d (skip_in skips (length (f ∷ rest)) c) f.base

@@ -1,22 +1,19 @@
-ghost use Rattle.std.specs.Prelude.{◌≡◌, ◌+◌, ◌*◌, ◌^◌, ◌<◌, ◌≤◌, ◌∷◌, ◌⊎◌, [], ℕ, List, OnOk, length, slice_index, slice_index_or};
-ghost use Rattle.pef_cert.specs.Extension.{extension};
+ghost use Rattle.std.specs.Prelude.{◌≡◌, ◌+◌, ◌*◌, ◌^◌, ◌<◌, ◌≤◌, ◌∷◌, ◌⊎◌, [], ℕ, IfOk, List, OnOk, length};
 ghost use Rattle.pef_cert.specs.Labels.{Labels};
 ghost use Rattle.pef_runs.specs.Places.{AtOf, HereOf, Led};
 ghost use Rattle.pef_runs.specs.Runs.{EndOf, Ends, RunBegins, RunOf};
-ghost use Rattle.pef_runs.specs.Ends.{Brought, BroughtMaybe, EndsAt, EndsOf, FarAt, NearKept, base_import, far_pairs_run, pairs_run, sections_of, window_of, words_run};
+ghost use Rattle.pef_runs.specs.Ends.{Brought, BroughtMaybe, EndsAt, EndsOf, FarAt, Holding, NearKept, PairBehind, SkipsKept, SpacedKept, base_import, far_pairs_run, pairs_run, place_in, sections_of, window_of, words_run};
 ghost use Rattle.pef_runs.specs.Tables.{Agrees};
 ghost use Rattle.pef_squares.specs.Windows.{WindowOf};
 ghost use Rattle.pef_reloc.specs.declared.fixup.Base.TheVariants.{Section};
-ghost use Rattle.pef_reloc.specs.Limits.{most_imports};
-ghost use Rattle.pef_squares.specs.Limits.{most_classes};
+ghost use Rattle.pef_reloc.specs.Limits.{most_imports, most_sections};
 
 use crate::known::Known;
 use crate::place::{At, Here, Place};
 use crate::runs::{MAX_RUN, MAX_SKIP_RUN, Run};
 use pef_cert::class_of;
-use pef_fixups::WORD;
 use pef_reloc::{Base, Fixup};
-use pef_squares::{Line, Looks, MAX_CLASSES, Square, Window};
+use pef_squares::{Looks, Window, zeros};
 use std::alloc::{AllocError, Global};
 use std::mem;
 
@@ -24,20 +21,22 @@ use std::mem;
 /// follows as the tables are filled from the last fixup back.
 #[derive(Drop)]
 pub struct RunEnds {
-    /// Words of a section, or imports.
+    /// Words of a section, or imports: for each pair of classes.
     words: Window,
-    /// As many words as a skip adds to.
+    /// As many words as a skip adds to: by the class of register C, where D holds the section.
     skips: Window,
-    /// Words a word apart.
+    /// Words a word apart: likewise.
     spaced: Window,
-    /// Pairs of two sections.
+    /// Pairs of two sections, which the registers hold.
     pairs: InTurn,
     /// Such pairs, a word apart.
     far_pairs: InTurn,
-    /// What lies right behind the fixup.
-    near: Square,
-    /// What lies a word further on, where register D holds the fixup's section.
-    far: Square,
+    /// What lies right behind the fixup, for each pair of classes.
+    near: Vec<u32>,
+    /// The column of it where register D holds the fixup's section.
+    column: Vec<u32>,
+    /// What lies a word further on, where register D holds the fixup's section: by the class of C.
+    far: Vec<u32>,
 }
 
 /// Two windows of runs that go on at each second fixup.
@@ -51,19 +50,33 @@ struct InTurn {
 
 impl RunEnds {
     /// Behind all fixups, where no run begins, with so many classes.
-    pub fn new(alloc: Global, classes: usize) -> RunEnds
-        requires { classes ≤ most_classes }
-        ensures { EndsOf (λ l. Unit {0}) classes [] result }
+    ///
+    /// # Errors
+    ///
+    /// `AllocError`, where a growth of memory was refused.
+    pub fn new(alloc: Global, classes: usize) -> Result<RunEnds, AllocError>
+        requires some { 0 < classes }
+        requires few { classes ≤ most_sections + 1 }
+        ensures { IfOk result (λ ends. EndsOf (λ l. Unit {0}) classes [] ends) }
     {
-        RunEnds {
-            words: Window::new(alloc, classes, MAX_RUN as usize),
+        let pairs = classes * classes;
+        Ok(RunEnds {
+            words: Window::new(alloc, pairs, MAX_RUN as usize),
             skips: Window::new(alloc, classes, MAX_SKIP_RUN as usize),
             spaced: Window::new(alloc, classes, MAX_RUN as usize),
-            pairs: InTurn::new(alloc, classes),
-            far_pairs: InTurn::new(alloc, classes),
-            near: [[0; MAX_CLASSES]; MAX_CLASSES],
-            far: [[0; MAX_CLASSES]; MAX_CLASSES],
-        }
+            pairs: InTurn::new(alloc),
+            far_pairs: InTurn::new(alloc),
+            near: zeros(alloc, pairs)?,
+            column: zeros(alloc, classes)?,
+            far: zeros(alloc, classes)?,
+        })
+    }
+
+    /// What lies right behind the fixup, for each pair of classes.
+    pub fn near(&self) -> &[u32]
+        ensures { result.now ≡ self.now.near.items }
+    {
+        &self.near
     }
 
     /// Goes on to the fixup before, whose tables are not filled yet.
@@ -78,21 +91,64 @@ impl RunEnds {
     {
         let start = at.start();
         let looks = known.looks;
-        self.pairs.pass(pairs_at(at), start, &self.near, looks)?;
-        self.far_pairs
-            .pass(far_pairs_at(at), start, &self.far, looks)?;
-        self.near = known.square_behind(at);
-        let words = words_at(at.first.base);
-        bring(&mut self.words, words, start, &self.near, looks)?;
+        let (near, far) = self.behind_pair(known, at);
+        self.pairs.pass(pairs_at(at), start, &[near], looks)?;
+        self.far_pairs.pass(far_pairs_at(at), start, &[far], looks)?;
+        known.fill_behind(at, &mut self.near);
+        bring(&mut self.words, words_at(at.first.base), start, &self.near, looks)?;
         match at.first.base {
             Base::Section(section) => {
-                self.far = known.square_beyond(at, section);
-                let words = Run::WordsOfD(section);
-                bring(&mut self.skips, words, start, &self.near, looks)?;
-                let spaced = Run::Spaced(section);
-                bring(&mut self.spaced, spaced, start, &self.far, looks)
+                self.pass_section(known, at, section)?;
+                Ok(())
             }
             Base::Import(_) => Ok(()),
+        }
+    }
+
+    /// Brings the windows to a fixup that only begin at one with a section.
+    fn pass_section(&mut self, known: Known<'_>, at: At<'_>, section: u32) -> Result<(), AllocError>
+        requires at { AtOf known at }
+        requires base { at.first.base ≡ Section section }
+        requires near_len { length self.old.near.items ≡ (length known.registers.now + 1) * (length known.registers.now + 1) }
+        requires column_len { length self.old.column.items ≡ length known.registers.now + 1 }
+        requires far_len { length self.old.far.items ≡ length known.registers.now + 1 }
+        requires near { (l : Labels) → Agrees l known at.others.now → NearKept l (at.first ∷ at.others.now) self.old.near.items }
+        requires skips { Holding (λ l. Agrees l known at.others.now) (length known.registers.now + 1) 63 (λ l rows. SkipsKept l at.others.now rows) self.old.skips }
+        requires spaced { Holding (λ l. Agrees l known at.others.now) (length known.registers.now + 1) 512 (λ l rows. SpacedKept l at.others.now rows) self.old.spaced }
+        ensures words { self.new.words ≡ self.old.words }
+        ensures pairs { self.new.pairs ≡ self.old.pairs }
+        ensures far_pairs { self.new.far_pairs ≡ self.old.far_pairs }
+        ensures same_near { self.new.near.items ≡ self.old.near.items }
+        ensures column_len { length self.new.column.items ≡ length known.entry.registers.now + 1 }
+        ensures far_len { length self.new.far.items ≡ length known.entry.registers.now + 1 }
+        ensures far { (l : Labels) → Agrees l known.entry at.entry.others.now → FarAt l at.entry.first.offset at.entry.others.now self.new.far.items (Section section) }
+        ensures skips { OnOk result (Holding (λ l. Agrees l known.entry at.entry.others.now) (length known.entry.registers.now + 1) 63 (λ l rows. SkipsKept l (at.entry.first ∷ at.entry.others.now) rows) self.new.skips) }
+        ensures spaced { OnOk result (Holding (λ l. Agrees l known.entry at.entry.others.now) (length known.entry.registers.now + 1) 512 (λ l rows. SpacedKept l (at.entry.first ∷ at.entry.others.now) rows) self.new.spaced) }
+    {
+        let start = at.start();
+        let looks = known.looks;
+        known.copy_column(&self.near, class_of(known.registers, section), &mut self.column);
+        known.fill_beyond(at, section, &mut self.far);
+        bring(&mut self.skips, Run::WordsOfD(section), start, &self.column, looks)?;
+        bring(&mut self.spaced, Run::Spaced(section), start, &self.far, looks)?;
+        Ok(())
+    }
+
+    /// What lies right behind the pair of a fixup and the next, and a word further on, where the registers hold
+    /// their sections.
+    fn behind_pair(&self, known: Known<'_>, at: At<'_>) -> (u32, u32)
+        requires at { AtOf known at }
+        requires ends { EndsAt known at.others.now at.others.now self.now }
+        ensures near { (l : Labels) → Agrees l known.entry at.entry.others.now → PairBehind l 4 at.entry.others.now (sections_of at.entry.first.base at.entry.others.now) result.0 }
+        ensures far { (l : Labels) → Agrees l known.entry at.entry.others.now → PairBehind l 8 at.entry.others.now (sections_of at.entry.first.base at.entry.others.now) result.1 }
+    {
+        match sections_at(at) {
+            Some((first, second)) => {
+                let c = class_of(known.registers, first);
+                let d = class_of(known.registers, second);
+                (self.near[known.place(c, d)], self.far[c])
+            }
+            None => (0, 0),
         }
     }
 
@@ -108,7 +164,8 @@ impl RunEnds {
         ensures attained { (l : Labels) → Agrees l known.entry here.entry.others.now → (result ≡ first) ⊎ EndOf l run here.entry here.entry.place.position result }
         ensures ends { (l : Labels) (value : ℕ) → Agrees l known.entry here.entry.others.now → value ≤ result → Ends l run here.entry here.entry.place.position value }
     {
-        self.window(run).best(first, here.place.c, here.place.d)
+        let place = place_in(run, known, here.place.c, here.place.d);
+        self.window(run).best(first, place)
     }
 
     /// The window of a run.
@@ -125,15 +182,28 @@ impl RunEnds {
     }
 }
 
+/// The place of a pair of classes in the rows of a run's window.
+fn place_in(run: Run, known: Known<'_>, c: usize, d: usize) -> usize
+    requires few { length known.registers.now ≤ most_sections }
+    requires c { c < length known.registers.now + 1 }
+    requires d { d < length known.registers.now + 1 }
+    ensures { result ≡ place_in (length known.entry.registers.now + 1) run c d }
+{
+    match run {
+        Run::WordsOfC(_) | Run::WordsOfD(_) | Run::Imports => known.place(c, d),
+        Run::Spaced(_) | Run::Skip { .. } => c,
+        Run::Pairs { .. } | Run::SpacedPairs { .. } => 0,
+    }
+}
+
 impl InTurn {
-    fn new(alloc: Global, classes: usize) -> InTurn
-        requires { classes ≤ most_classes }
-        ensures here { WindowOf classes 512 [] result.here }
-        ensures next { WindowOf classes 512 [] result.next }
+    fn new(alloc: Global) -> InTurn
+        ensures here { WindowOf 1 512 [] result.here }
+        ensures next { WindowOf 1 512 [] result.next }
     {
         InTurn {
-            here: Window::new(alloc, classes, MAX_RUN as usize),
-            next: Window::new(alloc, classes, MAX_RUN as usize),
+            here: Window::new(alloc, 1, MAX_RUN as usize),
+            next: Window::new(alloc, 1, MAX_RUN as usize),
         }
     }
 
@@ -142,19 +212,19 @@ impl InTurn {
         &mut self,
         run: Option<Run>,
         start: Place<'_>,
-        square: &Square,
+        row: &[u32],
         looks: Looks<'_>,
     ) -> Result<(), AllocError>
-        requires here { self.old.here.classes ≤ most_classes }
-        requires next { self.old.next.classes ≤ most_classes }
+        requires next { self.old.next.width ≡ 1 }
+        requires row { length row.now ≡ 1 }
         requires position { start.position ≤ 2 ^ 24 }
         requires import_index { start.import_index ≤ most_imports }
         ensures next { OnOk result (self.new.next ≡ self.old.here) }
-        ensures here { OnOk result ((classes limit : ℕ) (squares : List (List (List ℕ))) → WindowOf classes limit squares self.old.next → BroughtMaybe run classes limit start.entry.left.now start.entry.position start.entry.import_index squares square.now self.new.here) }
+        ensures here { OnOk result ((width limit : ℕ) (rows : List (List ℕ)) → WindowOf width limit rows self.old.next → BroughtMaybe run width limit start.entry.left.now start.entry.position start.entry.import_index rows row.now self.new.here) }
     {
         mem::swap(&mut self.here, &mut self.next);
         match run {
-            Some(run) => bring(&mut self.here, run, start, square, looks),
+            Some(run) => bring(&mut self.here, run, start, row, looks),
             None => Ok(()),
         }
     }
@@ -165,13 +235,13 @@ fn bring(
     window: &mut Window,
     run: Run,
     start: Place<'_>,
-    square: &Square,
+    row: &[u32],
     looks: Looks<'_>,
 ) -> Result<(), AllocError>
-    requires few { window.old.classes ≤ most_classes }
+    requires row { length row.now ≡ window.old.width }
     requires position { start.position ≤ 2 ^ 24 }
     requires import_index { start.import_index ≤ most_imports }
-    ensures { OnOk result ((classes limit : ℕ) (squares : List (List (List ℕ))) → WindowOf classes limit squares window.old → Brought run classes limit start.entry.left.now start.entry.position start.entry.import_index squares square.now window.new) }
+    ensures { OnOk result ((width limit : ℕ) (rows : List (List ℕ)) → WindowOf width limit rows window.old → Brought run width limit start.entry.left.now start.entry.position start.entry.import_index rows row.now window.new) }
 {
     let next = match run.next(start) {
         Some(next) => next,
@@ -181,10 +251,10 @@ fn bring(
         }
     };
     match run.next(next) {
-        Some(_) => window.add(square, looks),
+        Some(_) => window.add(row, looks),
         None => {
             window.clear();
-            window.add(square, looks)
+            window.add(row, looks)
         }
     }
 }
@@ -261,64 +331,5 @@ fn second_section(first: u32, others: &[Fixup]) -> Option<(u32, u32)>
             Base::Import(_) => None,
         },
         None => None,
-    }
-}
-
-impl<'a> Known<'a> {
-    /// The extension right behind a fixup.
-    fn square_behind(self, at: At<'a>) -> Square
-        requires { AtOf self at }
-        ensures { (l : Labels) → Agrees l self.entry at.entry.others.now → NearKept l (at.entry.first ∷ at.entry.others.now) result }
-    {
-        let row = self.row(at.others.len());
-        let mut square = [[0; MAX_CLASSES]; MAX_CLASSES];
-        for c in 0..self.classes() {
-            square[c] = self.line_behind(at, row, c);
-        }
-        square
-    }
-
-    /// The same with register C in a class.
-    fn line_behind(self, at: At<'a>, row: &Square, c: usize) -> Line
-        requires at { AtOf self at }
-        requires row { row.now ≡ slice_index_or self.labels.now (length at.others.now) [] }
-        requires c { c < length self.registers.now + 1 }
-        ensures { (l : Labels) (d : ℕ) → Agrees l self.entry at.entry.others.now → d < length self.entry.registers.now + 1 → slice_index result d ≡ extension l at.entry.others.now (at.entry.first.offset + 4) c d }
-    {
-        let position = u64::from(at.first.offset) + WORD;
-        let mut line = [0; MAX_CLASSES];
-        for d in 0..self.classes() {
-            line[d] = self.value_in(row, at.others, position, c, d) as u32;
-        }
-        line
-    }
-
-    /// The extension a word further on, where register D holds the fixup's section.
-    fn square_beyond(self, at: At<'a>, section: u32) -> Square
-        requires at { AtOf self at }
-        requires base { at.first.base ≡ Section section }
-        ensures { (l : Labels) → Agrees l self.entry at.entry.others.now → FarAt l at.entry.first.offset at.entry.others.now result (Section section) }
-    {
-        let class = class_of(self.registers, section);
-        let row = self.row(at.others.len());
-        let mut square = [[0; MAX_CLASSES]; MAX_CLASSES];
-        for c in 0..self.classes() {
-            square[c] = self.line_beyond(at, row, c, class);
-        }
-        square
-    }
-
-    /// The same with register C in a class, at the class of register D.
-    fn line_beyond(self, at: At<'a>, row: &Square, c: usize, d: usize) -> Line
-        requires at { AtOf self at }
-        requires row { row.now ≡ slice_index_or self.labels.now (length at.others.now) [] }
-        requires c { c < length self.registers.now + 1 }
-        requires d { d < length self.registers.now + 1 }
-        ensures { (l : Labels) → Agrees l self.entry at.entry.others.now → slice_index result d ≡ extension l at.entry.others.now (at.entry.first.offset + 8) c d }
-    {
-        let position = u64::from(at.first.offset) + 2 * WORD;
-        let mut line = [0; MAX_CLASSES];
-        line[d] = self.value_in(row, at.others, position, c, d) as u32;
-        line
     }
 }

@@ -1,13 +1,19 @@
-ghost use Rattle.std.specs.Prelude.{◌≡◌, ◌+◌, ◌*◌, ◌<◌, ◌≤◌, ◌∷◌, [], IfSome, List, length, slice_index_or};
+ghost use Rattle.std.specs.Prelude.{◌≡◌, ◌+◌, ◌*◌, ◌<◌, ◌≤◌, ◌∷◌, [], ℕ, IfSome, List, length, slice_index};
 ghost use Rattle.pef_cert.specs.Extension.{extension, offer_at};
 ghost use Rattle.pef_cert.specs.Labels.{Labels};
-ghost use Rattle.pef_runs.specs.Tables.{Agrees, Shaped};
+ghost use Rattle.pef_runs.specs.Ends.{FarAt, NearKept};
+ghost use Rattle.pef_runs.specs.Places.{AtOf};
+ghost use Rattle.pef_runs.specs.Tables.{Agrees, IsRow, Shaped, place_of};
+ghost use Rattle.pef_reloc.specs.declared.fixup.Base.TheVariants.{Section};
 ghost use Rattle.pef_reloc.specs.declared.fixup.Fixup.{Fixup};
 ghost use Rattle.pef_reloc.specs.Limits.{most_sections};
 
+use crate::place::At;
 use pef_cert::{change, class_of, moved_value};
+use pef_fixups::WORD;
+use pef_labels::LabelRows;
 use pef_reloc::{Base, Fixup};
-use pef_squares::{Line, Looks, Square, Squares};
+use pef_squares::{Looks, Table};
 
 /// What is known of the states at some fixups: tables that are filled from the last fixup back. Numbers
 /// of a table are in halfwords.
@@ -16,17 +22,17 @@ pub struct Known<'a> {
     /// The sections that the fixups use, rising. A section's class is its place among them; all others are
     /// of the class behind.
     pub registers: &'a [u32],
-    /// The labels, by how many fixups are left.
-    pub labels: &'a Squares,
+    /// The labels, by how many fixups are left: rows by the class of register C, and in it by that of D.
+    pub labels: &'a LabelRows,
     /// The least that a skip at the next fixup leads to, by how many fixups are left and by the class of
     /// register C.
-    pub skips: &'a [Line],
+    pub skips: &'a Table,
     /// Counts how often a value is read.
     pub looks: Looks<'a>,
 }
 
 impl<'a> Known<'a> {
-    /// How many classes of sections there are: at most nine.
+    /// How many classes of sections there are.
     pub fn classes(self) -> usize
         requires { length self.registers.now ≤ most_sections }
         ensures { result ≡ length self.entry.registers.now + 1 }
@@ -34,12 +40,23 @@ impl<'a> Known<'a> {
         self.registers.len() + 1
     }
 
-    /// The labels where so many fixups are left: lines by the class of register C, in each the classes of D.
-    pub fn row(self, left: usize) -> &'a Square
-        requires { Shaped self left }
-        ensures { result.now ≡ slice_index_or self.entry.labels.now left [] }
+    /// The place of a class of C and a class of D in a row.
+    pub fn place(self, c: usize, d: usize) -> usize
+        requires few { length self.registers.now ≤ most_sections }
+        requires c { c < length self.registers.now + 1 }
+        requires d { d < length self.registers.now + 1 }
+        ensures is { result ≡ place_of (length self.entry.registers.now + 1) c d }
+        ensures inside { result < (length self.entry.registers.now + 1) * (length self.entry.registers.now + 1) }
     {
-        self.labels.square(left)
+        c * self.classes() + d
+    }
+
+    /// The labels where so many fixups are left.
+    pub fn row(self, left: usize) -> &'a [u32]
+        requires { Shaped self left }
+        ensures { IsRow self.entry left result.now }
+    {
+        self.labels.row(left)
     }
 
     /// The extension in halfwords where these fixups are left, at a position in bytes and in classes of the
@@ -55,8 +72,8 @@ impl<'a> Known<'a> {
     }
 
     /// The same from the labels where these are left.
-    pub fn value_in(self, row: &Square, rest: &[Fixup], position: u64, c: usize, d: usize) -> u64
-        requires row { row.now ≡ slice_index_or self.labels.now (length rest.now) [] }
+    pub fn value_in(self, row: &[u32], rest: &[Fixup], position: u64, c: usize, d: usize) -> u64
+        requires row { IsRow self (length rest.now) row.now }
         requires shaped { Shaped self (length rest.now) }
         requires c { c < length self.registers.now + 1 }
         requires d { d < length self.registers.now + 1 }
@@ -73,21 +90,21 @@ impl<'a> Known<'a> {
     /// The same where so many are left, of which this is the first.
     fn value_before(
         self,
-        row: &Square,
+        row: &[u32],
         left: usize,
         first: Fixup,
         position: u64,
         c: usize,
         d: usize,
     ) -> u64
-        requires row { row.now ≡ slice_index_or self.labels.now left [] }
+        requires row { IsRow self left row.now }
         requires shaped { Shaped self left }
         requires c { c < length self.registers.now + 1 }
         requires d { d < length self.registers.now + 1 }
         ensures is { (l : Labels) (rest : List Fixup) → length (first ∷ rest) ≡ left → Agrees l self.entry (first ∷ rest) → result ≡ extension l (first ∷ rest) position c d }
         ensures small { result ≤ 4 * left + 2 }
     {
-        let label = row[c][d];
+        let label = row[self.place(c, d)];
         let offset = u64::from(first.offset);
         if position == offset {
             return u64::from(label);
@@ -107,10 +124,60 @@ impl<'a> Known<'a> {
         match base {
             Base::Section(section) => {
                 let change = change(d, class_of(self.registers, section));
-                let skip = self.skips[left][c];
+                let skip = self.skips.row(left)[c];
                 Some(change + u64::from(skip))
             }
             Base::Import(_) => None,
+        }
+    }
+
+    /// Fills in the extension right behind a fixup, for each pair of classes.
+    pub fn fill_behind(self, at: At<'_>, near: &mut [u32])
+        requires at { AtOf self at }
+        requires len { length near.old ≡ (length self.registers.now + 1) * (length self.registers.now + 1) }
+        ensures len { length near.new ≡ length near.old }
+        ensures is { (l : Labels) → Agrees l self.entry at.entry.others.now → NearKept l (at.entry.first ∷ at.entry.others.now) near.new }
+    {
+        let position = u64::from(at.first.offset) + WORD;
+        let row = self.row(at.others.len());
+        let classes = self.classes();
+        let (mut c, mut d) = (0, 0);
+        'places: for place in 0..near.len() {
+            near[place] = self.value_in(row, at.others, position, c, d) as u32;
+            d += 1;
+            if d == classes {
+                (c, d) = (c + 1, 0);
+            }
+        }
+    }
+
+    /// Fills in the extension a word further on where register D holds the fixup's section, by the class of C.
+    pub fn fill_beyond(self, at: At<'_>, section: u32, far: &mut [u32])
+        requires at { AtOf self at }
+        requires base { at.first.base ≡ Section section }
+        requires len { length far.old ≡ length self.registers.now + 1 }
+        ensures len { length far.new ≡ length far.old }
+        ensures is { (l : Labels) → Agrees l self.entry at.entry.others.now → FarAt l at.entry.first.offset at.entry.others.now far.new (Section section) }
+    {
+        let position = u64::from(at.first.offset) + 2 * WORD;
+        let row = self.row(at.others.len());
+        let class = class_of(self.registers, section);
+        'classes: for c in 0..far.len() {
+            far[c] = self.value_in(row, at.others, position, c, class) as u32;
+        }
+    }
+
+    /// Copies the numbers of a row with register D in a class, by the class of C.
+    pub fn copy_column(self, row: &[u32], class: usize, column: &mut [u32])
+        requires few { length self.registers.now ≤ most_sections }
+        requires class { class < length self.registers.now + 1 }
+        requires row { length row.now ≡ (length self.registers.now + 1) * (length self.registers.now + 1) }
+        requires len { length column.old ≡ length self.registers.now + 1 }
+        ensures len { length column.new ≡ length column.old }
+        ensures is { (c : ℕ) → c < length self.entry.registers.now + 1 → slice_index column.new c ≡ slice_index row.now (place_of (length self.entry.registers.now + 1) c class) }
+    {
+        'classes: for c in 0..column.len() {
+            column[c] = row[self.place(c, class)];
         }
     }
 }

@@ -4,7 +4,9 @@
 mod looks;
 mod table;
 mod window;
+mod zeros;
 
 pub use looks::Looks;
 pub use table::Table;
 pub use window::Window;
+pub use zeros::zeros;
