@@ -25,14 +25,14 @@ use Rattle.pef_runs.specs.declared.ends.RunEnds.{RunEnds}
 use Rattle.pef_runs.specs.Ends.{EndsAt, EndsOf}
 use Rattle.pef_runs.specs.Places.{AtOf, Counts}
 use Rattle.pef_plan.specs.Kept.Rows.{RowOf, SkipsOf}
-use Rattle.pef_squares.specs.Squares.{number_in}
-use Rattle.pef_runs.specs.Tables.{Agrees, OffersAre, OffersFrom, SameLabels, Shaped, label_in, skip_in}
-use Rattle.pef_plan.specs.Kept.Tables.{Tabled}
+use Rattle.pef_runs.specs.Tables.{Agrees, OffersAre, OffersFrom, SameLabels, Shaped, label_in, number_in, place_of, skip_in}
+use Rattle.pef_labels.specs.Rows.{LaidRows}
+use Rattle.pef_words.proofs.Laws.Lists.{all-append}
+use Rattle.pef_plan.specs.Kept.Tables.{Tabled, TablesOf}
 use Rattle.pef_runs.specs.Leads.{LeadsWithin}
 use Rattle.pef_plan.specs.Reached.{ReachedAt}
 use Rattle.pef_runs.proofs.Laws.{ends-map}
 use Rattle.pef_reloc.specs.Limits.{most_imports, most_sections}
-use Rattle.pef_squares.specs.Limits.{most_classes}
 
 counts-one : (rs : List ℕ) (b : Base) → RegisteredBase rs b → Counts rs b
 counts-one rs (Section k) is = is
@@ -70,21 +70,21 @@ index-small [] m fit small = small
 index-small (f ∷ fs) m fit small = index-small fs (index_past f.base m) fit.1 (past_small f.base m (fixup_fits-parts f fit.0).base small)
 
 -- labels of a longer table are those of the shorter
-pub same_before : (l : Labels) (rs : List ℕ) (labels : List (List (List ℕ))) (row : List (List ℕ)) (n : ℕ) → length labels ≡ n + 1 → SameLabels l rs (labels ++ row ∷ []) (suc n) → SameLabels l rs labels n
+pub same_before : (l : Labels) (rs : List ℕ) (labels : List (List ℕ)) (row : List ℕ) (n : ℕ) → length labels ≡ n + 1 → SameLabels l rs (labels ++ row ∷ []) (suc n) → SameLabels l rs labels n
 same_before l rs labels row n count same = record {
   registers_are = same.registers_are;
   label_is = λ left c d under under_c under_d.
       same.label_is left c d (omega (arith, under)) under_c under_d
-      ∙ ap (λ square. number_in square c d) (get_or-append labels (row ∷ []) [] left (omega (arith, count, under)));
+      ∙ ap (λ square. number_in (length rs + 1) square c d) (get_or-append labels (row ∷ []) [] left (omega (arith, count, under)));
 }
 
 -- and of one more are those of the row
-pub same_last : (l : Labels) (rs : List ℕ) (labels : List (List (List ℕ))) (row : List (List ℕ)) (n c d : ℕ) → length labels ≡ n + 1 → SameLabels l rs (labels ++ row ∷ []) (suc n) → c < length rs + 1 → d < length rs + 1 → l.label (suc n) c d ≡ number_in row c d
+pub same_last : (l : Labels) (rs : List ℕ) (labels : List (List ℕ)) (row : List ℕ) (n c d : ℕ) → length labels ≡ n + 1 → SameLabels l rs (labels ++ row ∷ []) (suc n) → c < length rs + 1 → d < length rs + 1 → l.label (suc n) c d ≡ number_in (length rs + 1) row c d
 same_last l rs labels row n c d count same under_c under_d =
     let there : suc n ≡ length labels = omega (arith, count) in
     same.label_is (suc n) c d (omega arith) under_c under_d
-    ∙ (ap (λ m. label_in (labels ++ row ∷ []) m c d) there
-    ∙ ap (λ square. number_in square c d) (get_or-append_seam labels row [] []))
+    ∙ (ap (λ m. label_in (length rs + 1) (labels ++ row ∷ []) m c d) there
+    ∙ ap (λ square. number_in (length rs + 1) square c d) (get_or-append_seam labels row [] []))
 
 offers_before : (l : Labels) (skips : List (List ℕ)) (line : List ℕ) (fs : List Fixup) → length fs < length skips → OffersFrom l skips fs → OffersFrom l (skips ++ line ∷ []) fs
 offers_before l skips line [] count offers = tt
@@ -94,16 +94,16 @@ offers_before l skips line (f ∷ rest) count offers = (
 )
 
 -- labels that are those of a row, at its fixup
-record RowLabels (l : Labels) (k : Known) (a : At) (row : List (List ℕ)) : Type 0 where
+record RowLabels (l : Labels) (k : Known) (a : At) (row : List ℕ) : Type 0 where
   agrees : Agrees l k a.others.now
   numbers : Numbers l
   row_is : RowOf k a row
-  is : (c d : ℕ) → c < classes l → d < classes l → l.label (length (a.first ∷ a.others.now)) c d ≡ number_in row c d
+  is : (c d : ℕ) → c < classes l → d < classes l → l.label (length (a.first ∷ a.others.now)) c d ≡ number_in (length k.registers.now + 1) row c d
 
 under_same : (l : Labels) (k : Known) (c : ℕ) → l.registers ≡ k.registers.now → c < classes l → c < length k.registers.now + 1
 under_same l k c same under = let e = ap length same in omega (arith, e, under)
 
-row_feasible : (l : Labels) (k : Known) (a : At) (row : List (List ℕ)) → RowLabels l k a row → FeasibleAt l a.import_index a.first a.others.now
+row_feasible : (l : Labels) (k : Known) (a : At) (row : List ℕ) → RowLabels l k a row → FeasibleAt l a.import_index a.first a.others.now
 row_feasible l k a row r =
     let same = r.agrees.same.registers_are in
     let closed = r.row_is.closed in
@@ -123,10 +123,10 @@ row_feasible l k a row r =
       adds = λ c d under_c under_d.
           let low = closed.below c d (under_same l k c same under_c) (under_same l k d same under_d) in
           let here = r.is c d under_c under_d in
-          (r.row_is.direct_is c (under_same l k c same under_c) d (under_same l k d same under_d)).least l (l.label (length (a.first ∷ a.others.now)) c d) r.agrees (omega (arith, low, here));
+          (r.row_is.direct_is c d (under_same l k c same under_c) (under_same l k d same under_d)).least l (l.label (length (a.first ∷ a.others.now)) c d) r.agrees (omega (arith, low, here));
     })
 
-row_reached : (l : Labels) (k : Known) (a : At) (row : List (List ℕ)) → RowLabels l k a row → ReachedAt l a.import_index a.first a.others.now
+row_reached : (l : Labels) (k : Known) (a : At) (row : List ℕ) → RowLabels l k a row → ReachedAt l a.import_index a.first a.others.now
 row_reached l k a row r s at =
     let same = r.agrees.same.registers_are in
     let c : ℕ = class_of l.registers s.c in
@@ -138,7 +138,7 @@ row_reached l k a row r s at =
     elim (r.row_is.closed.from c d (under_same l k c same under_c) (under_same l k d same under_d)) [
       | inl direct ↦
           subst (λ (n : ℕ). LeadsWithin l s (a.first ∷ a.others.now) n) (sym (here ∙ (label ∙ direct)))
-          ((r.row_is.direct_is c (under_same l k c same under_c) d (under_same l k d same under_d)).led l s r.agrees at refl refl)
+          ((r.row_is.direct_is c d (under_same l k c same under_c) (under_same l k d same under_d)).led l s r.agrees at refl refl)
       | inr set ↦ elim set [
         | inl by_c ↦
             (let under_e : by_c.0 < classes l = (let e = ap length same in let u = by_c.1 in omega (arith, e, u)) in
@@ -181,31 +181,32 @@ line_offers l k a line index c d (Section section) world agrees skips counts bas
 line_offers l k a line index c d (Import import) world agrees skips counts base under = offer-import l a.first a.others.now c d import base
 
 -- tables with a row more
-pub record RowMore (rs : List ℕ) (k : Known) (a : At) (labels : List (List (List ℕ))) (skips : List (List ℕ)) (row : List (List ℕ)) (line : List ℕ) : Type 0 where
+pub record RowMore (rs : List ℕ) (k : Known) (a : At) (labels : List (List ℕ)) (skips : List (List ℕ)) (row : List ℕ) (line : List ℕ) : Type 0 where
   pub at : AtOf k a
   pub registers_are : k.registers.now ≡ rs
-  pub labels_are : k.labels.now ≡ labels
-  pub skips_are : k.skips.now ≡ skips
+  pub labels_are : k.labels.now.rows ≡ labels
+  pub skips_are : k.skips.now.rows ≡ skips
   pub row_is : RowOf k a row
   pub line_is : SkipsOf k a line
 
-row_agrees : (l : Labels) (rs : List ℕ) (labels : List (List (List ℕ))) (skips : List (List ℕ)) (k : Known) (a : At) (row : List (List ℕ)) (line : List ℕ) (index : ℕ) → Tabled rs labels skips index a.others.now → RowMore rs k a labels skips row line → SameLabels l rs labels (length a.others.now) → Agrees l k a.others.now
+row_agrees : (l : Labels) (rs : List ℕ) (labels : List (List ℕ)) (skips : List (List ℕ)) (k : Known) (a : At) (row : List ℕ) (line : List ℕ) (index : ℕ) → Tabled rs labels skips index a.others.now → RowMore rs k a labels skips row line → SameLabels l rs labels (length a.others.now) → Agrees l k a.others.now
 row_agrees l rs labels skips k a row line index t m same = record {
-  same = subst (λ (xs : List ℕ). SameLabels l xs k.labels.now (length a.others.now)) (sym m.registers_are) (subst (λ (xs : List (List (List ℕ))). SameLabels l rs xs (length a.others.now)) (sym m.labels_are) same);
+  same = subst (λ (xs : List ℕ). SameLabels l xs k.labels.now.rows (length a.others.now)) (sym m.registers_are) (subst (λ (xs : List (List ℕ)). SameLabels l rs xs (length a.others.now)) (sym m.labels_are) same);
   offers = subst (λ (xs : List (List ℕ)). OffersFrom l xs a.others.now) (sym m.skips_are) (t.offers l same);
 }
 
-row_labels : (l : Labels) (rs : List ℕ) (labels : List (List (List ℕ))) (skips : List (List ℕ)) (k : Known) (a : At) (row : List (List ℕ)) (line : List ℕ) (index : ℕ) → Tabled rs labels skips index a.others.now → RowMore rs k a labels skips row line → Numbers l → SameLabels l rs (labels ++ row ∷ []) (suc (length a.others.now)) → RowLabels l k a row
+row_labels : (l : Labels) (rs : List ℕ) (labels : List (List ℕ)) (skips : List (List ℕ)) (k : Known) (a : At) (row : List ℕ) (line : List ℕ) (index : ℕ) → Tabled rs labels skips index a.others.now → RowMore rs k a labels skips row line → Numbers l → SameLabels l rs (labels ++ row ∷ []) (suc (length a.others.now)) → RowLabels l k a row
 row_labels l rs labels skips k a row line index t m numbers same = record {
   agrees = row_agrees l rs labels skips k a row line index t m (same_before l rs labels row (length a.others.now) t.labels_count same);
   numbers = numbers;
   row_is = m.row_is;
   is = λ c d under_c under_d.
       let e = ap length same.registers_are in
-      same_last l rs labels row (length a.others.now) c d t.labels_count same (omega (arith, e, under_c)) (omega (arith, e, under_d));
+      same_last l rs labels row (length a.others.now) c d t.labels_count same (omega (arith, e, under_c)) (omega (arith, e, under_d))
+      ∙ ap (λ xs. number_in (length xs + 1) row c d) (sym m.registers_are);
 }
 
-row_offers : (l : Labels) (rs : List ℕ) (labels : List (List (List ℕ))) (skips : List (List ℕ)) (k : Known) (a : At) (row : List (List ℕ)) (line : List ℕ) (index : ℕ) → Tabled rs labels skips index a.others.now → RowMore rs k a labels skips row line → Numbers l → SameLabels l rs (labels ++ row ∷ []) (suc (length a.others.now)) → OffersAre l (skips ++ line ∷ []) a.first a.others.now
+row_offers : (l : Labels) (rs : List ℕ) (labels : List (List ℕ)) (skips : List (List ℕ)) (k : Known) (a : At) (row : List ℕ) (line : List ℕ) (index : ℕ) → Tabled rs labels skips index a.others.now → RowMore rs k a labels skips row line → Numbers l → SameLabels l rs (labels ++ row ∷ []) (suc (length a.others.now)) → OffersAre l (skips ++ line ∷ []) a.first a.others.now
 row_offers l rs labels skips k a row line index t m numbers same c d under_c under_d =
     let before = same_before l rs labels row (length a.others.now) t.labels_count same in
     let agrees = row_agrees l rs labels skips k a row line index t m before in
@@ -219,14 +220,14 @@ row_offers l rs labels skips k a row line index t m numbers same c d under_c und
     subst (λ (x : ℕ). OfferIs l a.first a.others.now c d x a.first.base) (sym value)
     (line_offers l k a line index c d a.first.base world agrees m.line_is counts.0 refl under_c)
 
-label_small_more : (rs : List ℕ) (labels : List (List (List ℕ))) (skips : List (List ℕ)) (k : Known) (a : At) (row : List (List ℕ)) (line : List ℕ) (index left c d : ℕ) → Tabled rs labels skips index a.others.now → RowMore rs k a labels skips row line → left ≤ suc (length a.others.now) → c < length rs + 1 → d < length rs + 1 → label_in (labels ++ row ∷ []) left c d ≤ 4 * left
+label_small_more : (rs : List ℕ) (labels : List (List ℕ)) (skips : List (List ℕ)) (k : Known) (a : At) (row : List ℕ) (line : List ℕ) (index left c d : ℕ) → Tabled rs labels skips index a.others.now → RowMore rs k a labels skips row line → left ≤ suc (length a.others.now) → c < length rs + 1 → d < length rs + 1 → label_in (length rs + 1) (labels ++ row ∷ []) left c d ≤ 4 * left
 label_small_more rs labels skips k a row line index left c d t m under under_c under_d =
     let count = t.labels_count in
     elim (eqb_tells left (suc (length a.others.now))) [
       | inr other ↦
           (let apart = other.1 in
           let before : left ≤ length a.others.now = omega (arith, apart, under) in
-          let same = ap (λ square. number_in square c d) (get_or-append labels (row ∷ []) [] left (omega (arith, before, count))) in
+          let same = ap (λ square. number_in (length rs + 1) square c d) (get_or-append labels (row ∷ []) [] left (omega (arith, before, count))) in
           let low = t.label_small left c d before under_c under_d in
           omega (arith, same, low))
       | inl last ↦
@@ -234,14 +235,15 @@ label_small_more rs labels skips k a row line index left c d t m under under_c u
           let in_c : c < length k.registers.now + 1 = omega (arith, e, under_c) in
           let in_d : d < length k.registers.now + 1 = omega (arith, e, under_d) in
           let low = m.row_is.closed.below c d in_c in_d in
-          let small = (m.row_is.direct_is c in_c d in_d).small in
+          let small = (m.row_is.direct_is c d in_c in_d).small in
+          let wide = ap (λ xs. number_in (length xs + 1) row c d) m.registers_are in
           let is = last.1 in
           let there : left ≡ length labels = omega (arith, is, count) in
-          let same = ap (λ n. label_in (labels ++ row ∷ []) n c d) there ∙ ap (λ square. number_in square c d) (get_or-append_seam labels row [] []) in
-          omega (arith, same, low, small, is))
+          let same = ap (λ n. label_in (length rs + 1) (labels ++ row ∷ []) n c d) there ∙ ap (λ square. number_in (length rs + 1) square c d) (get_or-append_seam labels row [] []) in
+          omega (arith, same, low, small, is, wide))
     ]
 
-skip_small_more : (rs : List ℕ) (labels : List (List (List ℕ))) (skips : List (List ℕ)) (k : Known) (a : At) (row : List (List ℕ)) (line : List ℕ) (index left c : ℕ) → Tabled rs labels skips index a.others.now → RowMore rs k a labels skips row line → left ≤ suc (length a.others.now) → c < length rs + 1 → skip_in (skips ++ line ∷ []) left c ≤ 4 * left
+skip_small_more : (rs : List ℕ) (labels : List (List ℕ)) (skips : List (List ℕ)) (k : Known) (a : At) (row : List ℕ) (line : List ℕ) (index left c : ℕ) → Tabled rs labels skips index a.others.now → RowMore rs k a labels skips row line → left ≤ suc (length a.others.now) → c < length rs + 1 → skip_in (skips ++ line ∷ []) left c ≤ 4 * left
 skip_small_more rs labels skips k a row line index left c t m under under_c =
     let count = t.skips_count in
     elim (eqb_tells left (suc (length a.others.now))) [
@@ -260,7 +262,7 @@ skip_small_more rs labels skips k a row line index left c t m under under_c =
           omega (arith, same, small, is))
     ]
 
-tabled-next : (rs : List ℕ) (labels : List (List (List ℕ))) (skips : List (List ℕ)) (k : Known) (a : At) (row : List (List ℕ)) (line : List ℕ) (index : ℕ) → Tabled rs labels skips (index_past a.first.base index) a.others.now → RowMore rs k a labels skips row line → a.import_index ≡ index → ((l : Labels) → l.registers ≡ rs → Numbers l) → Tabled rs (labels ++ row ∷ []) (skips ++ line ∷ []) index (a.first ∷ a.others.now)
+tabled-next : (rs : List ℕ) (labels : List (List ℕ)) (skips : List (List ℕ)) (k : Known) (a : At) (row : List ℕ) (line : List ℕ) (index : ℕ) → Tabled rs labels skips (index_past a.first.base index) a.others.now → RowMore rs k a labels skips row line → a.import_index ≡ index → ((l : Labels) → l.registers ≡ rs → Numbers l) → Tabled rs (labels ++ row ∷ []) (skips ++ line ∷ []) index (a.first ∷ a.others.now)
 tabled-next rs labels skips k a row line index t m here numbers = record {
   labels_count = (let count = t.labels_count in let sum = length-append labels (row ∷ []) in omega (arith, count, sum));
   skips_count = (let count = t.skips_count in let sum = length-append skips (line ∷ []) in omega (arith, count, sum));
@@ -268,7 +270,7 @@ tabled-next rs labels skips k a row line index t m here numbers = record {
   skip_small = λ left c. skip_small_more rs labels skips k a row line (index_past a.first.base index) left c t m;
   last = λ c d under_c under_d.
       let count = t.labels_count in
-      ap (λ square. number_in square c d) (get_or-append labels (row ∷ []) [] 0 (omega (arith, count))) ∙ t.last c d under_c under_d;
+      ap (λ square. number_in (length rs + 1) square c d) (get_or-append labels (row ∷ []) [] 0 (omega (arith, count))) ∙ t.last c d under_c under_d;
   feasible = λ l same. (
     subst (λ (n : ℕ). FeasibleAt l n a.first a.others.now) here (row_feasible l k a row (row_labels l rs labels skips k a row line (index_past a.first.base index) t m (numbers l same.registers_are) same)),
     t.feasible l (same_before l rs labels row (length a.others.now) t.labels_count same),
@@ -309,12 +311,14 @@ pub record StateAt (fixups : List Fixup) (at : ℕ) (a : At) : Type 0 where
   pub import_index : a.import_index ≡ index_after (take at fixups) 0
 
 -- the tables are those that are known there
-pub record KnownOf (k : Known) (rs : List ℕ) (labels : List (List (List ℕ))) (skips : List (List ℕ)) : Type 0 where
+pub record KnownOf (k : Known) (rs : List ℕ) (labels : List (List ℕ)) (skips : List (List ℕ)) : Type 0 where
   pub registers_are : k.registers.now ≡ rs
-  pub labels_are : k.labels.now ≡ labels
-  pub skips_are : k.skips.now ≡ skips
+  pub labels_are : k.labels.now.rows ≡ labels
+  pub skips_are : k.skips.now.rows ≡ skips
+  pub labels_wide : k.labels.now.width ≡ (length rs + 1) * (length rs + 1)
+  pub skips_wide : k.skips.now.width ≡ length rs + 1
 
-pub known_shaped : (fixups : List Fixup) (rs : List ℕ) (labels : List (List (List ℕ))) (skips : List (List ℕ)) (k : Known) (index : ℕ) (rest : List Fixup) → fixups_fit fixups ≡ true → RegistersOf fixups rs → length rest ≤ length fixups → Tabled rs labels skips index rest → KnownOf k rs labels skips → Shaped k (length rest)
+pub known_shaped : (fixups : List Fixup) (rs : List ℕ) (labels : List (List ℕ)) (skips : List (List ℕ)) (k : Known) (index : ℕ) (rest : List Fixup) → fixups_fit fixups ≡ true → RegistersOf fixups rs → length rest ≤ length fixups → Tabled rs labels skips index rest → KnownOf k rs labels skips → Shaped k (length rest)
 known_shaped fixups rs labels skips k index rest fit right few t known =
     let regs = known.registers_are in
     let e = ap length regs in
@@ -323,17 +327,20 @@ known_shaped fixups rs labels skips k index rest fit right few t known =
       count = (let low = (fixups_fit-parts fixups fit).count in omega (arith, few, low));
       labels = (let count = t.labels_count in let same = ap length known.labels_are in omega (arith, count, same));
       skips = (let count = t.skips_count in let same = ap length known.skips_are in omega (arith, count, same));
+      labels_wide = known.labels_wide ∙ ap (λ xs. (length xs + 1) * (length xs + 1)) (sym regs);
+      skips_wide = known.skips_wide ∙ ap (λ xs. length xs + 1) (sym regs);
       label_small = λ left c d under under_c under_d.
           let low = t.label_small left c d under (omega (arith, e, under_c)) (omega (arith, e, under_d)) in
-          let same = ap (λ ls. label_in ls left c d) known.labels_are in
-          omega (arith, low, same);
+          let same = ap (λ ls. label_in (length rs + 1) ls left c d) known.labels_are in
+          let wide = ap (λ xs. label_in (length xs + 1) k.labels.now.rows left c d) regs in
+          omega (arith, low, same, wide);
       skip_small = λ left c under under_c.
           let low = t.skip_small left c under (omega (arith, e, under_c)) in
           let same = ap (λ ls. skip_in ls left c) known.skips_are in
           omega (arith, low, same);
     }
 
-pub fill-at : (fixups : List Fixup) (rs : List ℕ) (labels : List (List (List ℕ))) (skips : List (List ℕ)) (at n index : ℕ) (k : Known) (a : At) → fixups_fit fixups ≡ true → RegistersOf fixups rs → n ≡ at + 1 → n ≤ length fixups → Tabled rs labels skips index (drop n fixups) → KnownOf k rs labels skips → StateAt fixups at a → AtOf k a
+pub fill-at : (fixups : List Fixup) (rs : List ℕ) (labels : List (List ℕ)) (skips : List (List ℕ)) (at n index : ℕ) (k : Known) (a : At) → fixups_fit fixups ≡ true → RegistersOf fixups rs → n ≡ at + 1 → n ≤ length fixups → Tabled rs labels skips index (drop n fixups) → KnownOf k rs labels skips → StateAt fixups at a → AtOf k a
 fill-at fixups rs labels skips at n index k a fit right step inside t known state =
     let rest : drop n fixups ≡ a.others.now = ap (λ m. drop m fixups) step ∙ sym state.others in
     let fewer = length-drop n fixups in
@@ -354,7 +361,7 @@ first_is fixups at a under state =
     let same : slice_index_or fixups at a.first ≡ a.first = cc in
     index_behind fixups at a.first under ∙ ap (λ (f : Fixup). index_past f.base (index_after (take at fixups) 0)) same
 
-pub fill-next : (fixups : List Fixup) (rs : List ℕ) (labels : List (List (List ℕ))) (skips : List (List ℕ)) (at n : ℕ) (k : Known) (a : At) (row : List (List ℕ)) (line : List ℕ) → fixups_fit fixups ≡ true → RegistersOf fixups rs → n ≡ at + 1 → n ≤ length fixups → Tabled rs labels skips (index_after (take n fixups) 0) (drop n fixups) → KnownOf k rs labels skips → StateAt fixups at a → RowOf k a row → SkipsOf k a line → Tabled rs (labels ++ row ∷ []) (skips ++ line ∷ []) (index_after (take at fixups) 0) (drop at fixups)
+pub fill-next : (fixups : List Fixup) (rs : List ℕ) (labels : List (List ℕ)) (skips : List (List ℕ)) (at n : ℕ) (k : Known) (a : At) (row : List ℕ) (line : List ℕ) → fixups_fit fixups ≡ true → RegistersOf fixups rs → n ≡ at + 1 → n ≤ length fixups → Tabled rs labels skips (index_after (take n fixups) 0) (drop n fixups) → KnownOf k rs labels skips → StateAt fixups at a → RowOf k a row → SkipsOf k a line → Tabled rs (labels ++ row ∷ []) (skips ++ line ∷ []) (index_after (take at fixups) 0) (drop at fixups)
 fill-next fixups rs labels skips at n k a row line fit right step inside t known state row_is line_is =
     let index : index_after (take n fixups) 0 ≡ index_past a.first.base (index_after (take at fixups) 0) = ap (λ m. index_after (take m fixups) 0) step ∙ first_is fixups at a (omega (arith, step, inside)) state in
     let rest : drop n fixups ≡ a.others.now = ap (λ m. drop m fixups) step ∙ sym state.others in
@@ -370,24 +377,24 @@ fill-next fixups rs labels skips at n k a row line fit right step inside t known
     }) state.import_index (λ l same. numbers fixups l fit (subst (λ (xs : List ℕ). RegistersOf fixups xs) (sym same) right)))
 
 -- the windows at the fixup of an index, and at the next one that is filled
-pub ends-at : (fixups : List Fixup) (rs : List ℕ) (labels : List (List (List ℕ))) (skips : List (List ℕ)) (at n : ℕ) (k : Known) (a : At) (e : RunEnds) → n ≡ at + 1 → KnownOf k rs labels skips → StateAt fixups at a → EndsOf (λ l. SameLabels l rs labels (length (drop n fixups))) (length rs + 1) (drop n fixups) e → EndsAt k a.others.now a.others.now e
+pub ends-at : (fixups : List Fixup) (rs : List ℕ) (labels : List (List ℕ)) (skips : List (List ℕ)) (at n : ℕ) (k : Known) (a : At) (e : RunEnds) → n ≡ at + 1 → KnownOf k rs labels skips → StateAt fixups at a → EndsOf (λ l. SameLabels l rs labels (length (drop n fixups))) (length rs + 1) (drop n fixups) e → EndsAt k a.others.now a.others.now e
 ends-at fixups rs labels skips at n k a e step known state ends =
     let rest : drop n fixups ≡ a.others.now = ap (λ m. drop m fixups) step ∙ sym state.others in
     let here = subst (λ (fs : List Fixup). EndsOf (λ l. SameLabels l rs labels (length fs)) (length rs + 1) fs e) rest ends in
     let counted = subst (λ (xs : List ℕ). EndsOf (λ l. SameLabels l rs labels (length a.others.now)) (length xs + 1) a.others.now e) (sym known.registers_are) here in
     ends-map (λ l. SameLabels l rs labels (length a.others.now)) (λ l. Agrees l k a.others.now) (length k.registers.now + 1) a.others.now e
-    (λ l agrees. subst (λ (xs : List ℕ). SameLabels l xs labels (length a.others.now)) known.registers_are (subst (λ (xs : List (List (List ℕ))). SameLabels l k.registers.now xs (length a.others.now)) known.labels_are agrees.same))
+    (λ l agrees. subst (λ (xs : List ℕ). SameLabels l xs labels (length a.others.now)) known.registers_are (subst (λ (xs : List (List ℕ)). SameLabels l k.registers.now xs (length a.others.now)) known.labels_are agrees.same))
     counted
 
-agrees_before : (l : Labels) (rs : List ℕ) (labels : List (List (List ℕ))) (skips : List (List ℕ)) (k : Known) (others : List Fixup) (row : List (List ℕ)) (index : ℕ) → Tabled rs labels skips index others → KnownOf k rs labels skips → SameLabels l rs (labels ++ row ∷ []) (suc (length others)) → Agrees l k others
+agrees_before : (l : Labels) (rs : List ℕ) (labels : List (List ℕ)) (skips : List (List ℕ)) (k : Known) (others : List Fixup) (row : List ℕ) (index : ℕ) → Tabled rs labels skips index others → KnownOf k rs labels skips → SameLabels l rs (labels ++ row ∷ []) (suc (length others)) → Agrees l k others
 agrees_before l rs labels skips k others row index t known same =
     let before = same_before l rs labels row (length others) t.labels_count same in
     record {
-      same = subst (λ (xs : List ℕ). SameLabels l xs k.labels.now (length others)) (sym known.registers_are) (subst (λ (xs : List (List (List ℕ))). SameLabels l rs xs (length others)) (sym known.labels_are) before);
+      same = subst (λ (xs : List ℕ). SameLabels l xs k.labels.now.rows (length others)) (sym known.registers_are) (subst (λ (xs : List (List ℕ)). SameLabels l rs xs (length others)) (sym known.labels_are) before);
       offers = subst (λ (xs : List (List ℕ)). OffersFrom l xs others) (sym known.skips_are) (t.offers l before);
     }
 
-pub ends-next : (fixups : List Fixup) (rs : List ℕ) (labels : List (List (List ℕ))) (skips : List (List ℕ)) (at n index : ℕ) (k : Known) (a : At) (row : List (List ℕ)) (e : RunEnds) → n ≡ at + 1 → Tabled rs labels skips index (drop n fixups) → KnownOf k rs labels skips → StateAt fixups at a → EndsAt k a.others.now (a.first ∷ a.others.now) e → EndsOf (λ l. SameLabels l rs (labels ++ row ∷ []) (length (drop at fixups))) (length rs + 1) (drop at fixups) e
+pub ends-next : (fixups : List Fixup) (rs : List ℕ) (labels : List (List ℕ)) (skips : List (List ℕ)) (at n index : ℕ) (k : Known) (a : At) (row : List ℕ) (e : RunEnds) → n ≡ at + 1 → Tabled rs labels skips index (drop n fixups) → KnownOf k rs labels skips → StateAt fixups at a → EndsAt k a.others.now (a.first ∷ a.others.now) e → EndsOf (λ l. SameLabels l rs (labels ++ row ∷ []) (length (drop at fixups))) (length rs + 1) (drop at fixups) e
 ends-next fixups rs labels skips at n index k a row e step t known state ends =
     let rest : drop n fixups ≡ a.others.now = ap (λ m. drop m fixups) step ∙ sym state.others in
     let t' = subst (λ (fs : List Fixup). Tabled rs labels skips index fs) rest t in
@@ -401,26 +408,32 @@ zeros_line zero d = refl
 zeros_line (suc n) zero = refl
 zeros_line (suc n) (suc d) = zeros_line n d
 
-zeros_square : (m n c d : ℕ) → number_in (replicate m (replicate n 0)) c d ≡ 0
-zeros_square zero n c d = refl
-zeros_square (suc m) n zero d = zeros_line n d
-zeros_square (suc m) n (suc c) d = zeros_square m n c d
-
-pub tabled-none : (rs : List ℕ) (index m n : ℕ) → Tabled rs (replicate m (replicate n 0) ∷ []) (replicate n 0 ∷ []) index []
+pub tabled-none : (rs : List ℕ) (index m n : ℕ) → Tabled rs (replicate m 0 ∷ []) (replicate n 0 ∷ []) index []
 tabled-none rs index m n = record {
   labels_count = refl;
   skips_count = refl;
-  label_small = λ left c d under _ _. let none : left ≡ 0 = omega (arith, under) in let e = ap (λ x. label_in (replicate m (replicate n 0) ∷ []) x c d) none in let is = zeros_square m n c d in omega (arith, e, is);
+  label_small = λ left c d under _ _. let none : left ≡ 0 = omega (arith, under) in let e = ap (λ x. label_in (length rs + 1) (replicate m 0 ∷ []) x c d) none in let is = zeros_line m (place_of (length rs + 1) c d) in omega (arith, e, is);
   skip_small = λ left c under _. let none : left ≡ 0 = omega (arith, under) in let e = ap (λ x. skip_in (replicate n 0 ∷ []) x c) none in let is = zeros_line n c in omega (arith, e, is);
-  last = λ c d _ _. zeros_square m n c d;
+  last = λ c d _ _. zeros_line m (place_of (length rs + 1) c d);
   feasible = λ l same. tt;
   reached = λ l same. tt;
   offers = λ l same. tt;
 }
 
-pub fill-none : (rest : List Fixup) (rs : List ℕ) (labels : List (List (List ℕ))) (skips : List (List ℕ)) (index : ℕ) → rest ≡ [] → labels ≡ replicate most_classes (replicate most_classes 0) ∷ [] → skips ≡ replicate most_classes 0 ∷ [] → Tabled rs labels skips index rest
-fill-none rest rs labels skips index none labels_are skips_are = rw (none, labels_are, skips_are) (tabled-none rs index most_classes most_classes)
+pub fill-none : (rest : List Fixup) (rs : List ℕ) (labels : List (List ℕ)) (skips : List (List ℕ)) (index m n : ℕ) → rest ≡ [] → labels ≡ replicate m 0 ∷ [] → skips ≡ replicate n 0 ∷ [] → Tabled rs labels skips index rest
+fill-none rest rs labels skips index m n none labels_are skips_are = rw (none, labels_are, skips_are) (tabled-none rs index m n)
 
-pub ends-none : (rest : List Fixup) (rs : List ℕ) (labels : List (List (List ℕ))) (count : ℕ) (e : RunEnds) → rest ≡ [] → count ≡ length rs + 1 → EndsOf (λ l. Unit {0}) count [] e → EndsOf (λ l. SameLabels l rs labels (length rest)) (length rs + 1) rest e
+pub ends-none : (rest : List Fixup) (rs : List ℕ) (labels : List (List ℕ)) (count : ℕ) (e : RunEnds) → rest ≡ [] → count ≡ length rs + 1 → EndsOf (λ l. Unit {0}) count [] e → EndsOf (λ l. SameLabels l rs labels (length rest)) (length rs + 1) rest e
 ends-none rest rs labels count e none same ends =
     rw (none, ← same) (ends-map (λ l. Unit {0}) (λ l. SameLabels l rs labels 0) count [] e (λ l s. tt) ends)
+
+-- tables as they are kept, with one row more
+pub tables-next : (fixups : List Fixup) (rs : List ℕ) (labels skips new_labels new_skips : LaidRows) (at n : ℕ) (k : Known) (a : At) (row : List ℕ) (line : List ℕ) → fixups_fit fixups ≡ true → RegistersOf fixups rs → n ≡ at + 1 → n ≤ length fixups → TablesOf rs labels skips (index_after (take n fixups) 0) (drop n fixups) → KnownOf k rs labels.rows skips.rows → StateAt fixups at a → RowOf k a row → SkipsOf k a line → length row ≡ (length rs + 1) * (length rs + 1)
+    → new_labels ≡ record { width = labels.width; rows = labels.rows ++ row ∷ [] } → new_skips ≡ record { width = skips.width; rows = skips.rows ++ line ∷ [] } → TablesOf rs new_labels new_skips (index_after (take at fixups) 0) (drop at fixups)
+tables-next fixups rs labels skips new_labels new_skips at n k a row line fit right step inside t known state row_is line_is wide labels_are skips_are =
+    rw (labels_are, skips_are) (record {
+      tabled = fill-next fixups rs labels.rows skips.rows at n k a row line fit right step inside t.tabled known state row_is line_is;
+      labels_wide = t.labels_wide;
+      skips_wide = t.skips_wide;
+      rows_wide = all-append (λ r. length r ≡ (length rs + 1) * (length rs + 1)) labels.rows (row ∷ []) t.rows_wide (wide, tt);
+    })

@@ -1,7 +1,6 @@
 pub mod Laws
 mod FillLemmas
 mod Leading
-mod LaidLemmas
 mod LineLemmas
 mod LowFacts
 mod MoveFacts

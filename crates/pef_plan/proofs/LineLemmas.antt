@@ -1,9 +1,10 @@
 -- Lines and squares of numbers: filled place by place, and the least of them.
-use Rattle.std.proofs.Common.{◌≡◌, ℕ, ◌+◌, ◌<◌, ◌≤◌, ◌⊎◌, inl, inr, min, List, slice_index, ap, sym, ◌∙◌, arith}
+use Rattle.std.proofs.Common.{◌≡◌, ℕ, ◌+◌, ◌*◌, ◌<◌, ◌≤◌, ◌⊎◌, inl, inr, min, List, slice_index, ap, sym, ◌∙◌, arith}
 use Rattle.std.proofs.lemmas.Bool.Decides.{eqb_tells}
 use Rattle.pef_words.proofs.Laws.Numbers.{min_is}
-use Rattle.pef_plan.specs.Kept.Rows.{ClosedOf, LeastOf, LinesOf, SmallLine, SmallSquare}
-use Rattle.pef_squares.specs.Squares.{number_in}
+use Rattle.pef_plan.specs.Kept.Rows.{ClosedOf, LeastOf, LineOf, LinesOf, SmallLine}
+use Rattle.pef_runs.proofs.Laws.{place_under}
+use Rattle.pef_runs.specs.Tables.{number_in, place_of}
 
 -- the least of one more number
 pub least-more : (i : ℕ) (f : ℕ → ℕ) (low next : ℕ) → LeastOf i f low → f i ≡ next → LeastOf (i + 1) f (min low next)
@@ -21,17 +22,17 @@ least-more i f low next l is =
         ]
 
 -- a number of a line of labels, from the least along the line and in its column
-pub record NumberOf (count : ℕ) (direct : List ℕ) (low same lows number : ℕ) : Type 0 where
+pub record NumberOf (count : ℕ) (direct : ℕ → ℕ) (low same lows number : ℕ) : Type 0 where
   pub here : number ≤ same
   pub column : number ≤ lows + 1
-  pub along : (e : ℕ) → e < count → number ≤ slice_index direct e + 1
+  pub along : (e : ℕ) → e < count → number ≤ direct e + 1
   pub all : number ≤ low + 2
-  pub is : ((number ≡ same) ⊎ (number ≡ lows + 1)) ⊎ (((e : ℕ) × (e < count) × (number ≡ slice_index direct e + 1)) ⊎ (number ≡ low + 2))
+  pub is : ((number ≡ same) ⊎ (number ≡ lows + 1)) ⊎ (((e : ℕ) × (e < count) × (number ≡ direct e + 1)) ⊎ (number ≡ low + 2))
 
 four_of : (a b s t n : ℕ) → n ≡ min (min a (b + 1)) (min s (t + 1) + 1) → ((n ≡ a) ⊎ (n ≡ b + 1)) ⊎ ((n ≡ s + 1) ⊎ (n ≡ t + 2))
 four_of a b s t n e = grind (arith, e)
 
-pub number-of : (count : ℕ) (direct : List ℕ) (low here column along number : ℕ) → LeastOf count (λ d. slice_index direct d) along → number ≡ min (min here (column + 1)) (min along (low + 1) + 1) → NumberOf count direct low here column number
+pub number-of : (count : ℕ) (direct : ℕ → ℕ) (low here column along number : ℕ) → LeastOf count direct along → number ≡ min (min here (column + 1)) (min along (low + 1) + 1) → NumberOf count direct low here column number
 number-of count direct low here column along number l e = record {
   here = omega (arith, e);
   column = omega (arith, e);
@@ -47,8 +48,8 @@ number-of count direct low here column along number l e = record {
 }
 
 -- the least over all changes
-pub closed-of : (count : ℕ) (direct square : List (List ℕ)) (lows : List ℕ) (low : ℕ) → ((d : ℕ) → d < count → LeastOf count (λ c. number_in direct c d) (slice_index lows d)) → LeastOf count (λ d. slice_index lows d) low → LinesOf count direct lows low square → ClosedOf count direct square
-closed-of count direct square lows low columns all lines = record {
+pub closed-of : (count : ℕ) (direct row : List ℕ) (lows : List ℕ) (low : ℕ) → ((d : ℕ) → d < count → LeastOf count (λ c. number_in count direct c d) (slice_index lows d)) → LeastOf count (λ d. slice_index lows d) low → LinesOf count direct lows low row → ClosedOf count direct row
+closed-of count direct row lows low columns all lines = record {
   below = λ c d under_c under_d. (lines c under_c).here d under_d;
   c_line = λ c e d under_c under_e under_d. c_low c e d under_c under_e under_d ((lines e under_e).is d under_d);
   d_line = λ c d e under_c under_d under_e. d_low c d e under_c under_d under_e ((lines c under_c).is e under_e);
@@ -56,15 +57,15 @@ closed-of count direct square lows low columns all lines = record {
 }
   where
     Cases : (c d : ℕ) → Type 0
-    Cases c d = ((number_in square c d ≡ number_in direct c d) ⊎ (number_in square c d ≡ slice_index lows d + 1)) ⊎ (((e : ℕ) × (e < count) × (number_in square c d ≡ number_in direct c e + 1)) ⊎ (number_in square c d ≡ low + 2))
+    Cases c d = ((number_in count row c d ≡ number_in count direct c d) ⊎ (number_in count row c d ≡ slice_index lows d + 1)) ⊎ (((e : ℕ) × (e < count) × (number_in count row c d ≡ number_in count direct c e + 1)) ⊎ (number_in count row c d ≡ low + 2))
 
-    least_all : (c d : ℕ) → c < count → d < count → low ≤ number_in direct c d
+    least_all : (c d : ℕ) → c < count → d < count → low ≤ number_in count direct c d
     least_all c d under_c under_d =
         let one = all.low d under_d in
         let two = (columns d under_d).low c under_c in
         omega (arith, one, two)
 
-    c_low : (c e d : ℕ) → c < count → e < count → d < count → Cases e d → number_in square c d ≤ 1 + number_in square e d
+    c_low : (c e d : ℕ) → c < count → e < count → d < count → Cases e d → number_in count row c d ≤ 1 + number_in count row e d
     c_low c e d under_c under_e under_d (inl (inl is)) =
         let low = (columns d under_d).low e under_e in let mine = (lines c under_c).column d under_d in omega (arith, is, low, mine)
     c_low c e d under_c under_e under_d (inl (inr is)) = let mine = (lines c under_c).column d under_d in omega (arith, is, mine)
@@ -72,14 +73,14 @@ closed-of count direct square lows low columns all lines = record {
         let least = least_all e is.0 under_e is.1 in let mine = (lines c under_c).all d under_d in let same = is.2 in omega (arith, least, mine, same)
     c_low c e d under_c under_e under_d (inr (inr is)) = let mine = (lines c under_c).all d under_d in omega (arith, is, mine)
 
-    d_low : (c d e : ℕ) → c < count → d < count → e < count → Cases c e → number_in square c d ≤ 1 + number_in square c e
+    d_low : (c d e : ℕ) → c < count → d < count → e < count → Cases c e → number_in count row c d ≤ 1 + number_in count row c e
     d_low c d e under_c under_d under_e (inl (inl is)) = let mine = (lines c under_c).along d e under_d under_e in omega (arith, is, mine)
     d_low c d e under_c under_d under_e (inl (inr is)) =
         let least = all.low e under_e in let mine = (lines c under_c).all d under_d in omega (arith, is, least, mine)
     d_low c d e under_c under_d under_e (inr (inl is)) = let mine = (lines c under_c).along d is.0 under_d is.1 in let same = is.2 in omega (arith, mine, same)
     d_low c d e under_c under_d under_e (inr (inr is)) = let mine = (lines c under_c).all d under_d in omega (arith, is, mine)
 
-    reach : (c d : ℕ) → c < count → d < count → Cases c d → (number_in square c d ≡ number_in direct c d) ⊎ (((e : ℕ) × (e < count) × (1 + number_in square e d ≤ number_in square c d)) ⊎ ((e : ℕ) × (e < count) × (1 + number_in square c e ≤ number_in square c d)))
+    reach : (c d : ℕ) → c < count → d < count → Cases c d → (number_in count row c d ≡ number_in count direct c d) ⊎ (((e : ℕ) × (e < count) × (1 + number_in count row e d ≤ number_in count row c d)) ⊎ ((e : ℕ) × (e < count) × (1 + number_in count row c e ≤ number_in count row c d)))
     reach c d under_c under_d (inl (inl is)) = inl is
     reach c d under_c under_d (inl (inr is)) =
         let column = columns d under_d in
@@ -97,9 +98,38 @@ closed-of count direct square lows low columns all lines = record {
         let two = all.is in
         inr (inl (column.at, column.under, omega (arith, is, there, one, two)))
 
--- all that is found in a square of small numbers is small
-pub small-lows : (count : ℕ) (direct : List (List ℕ)) (lows : List ℕ) → 0 < count → SmallSquare count direct → ((d : ℕ) → d < count → LeastOf count (λ c. number_in direct c d) (slice_index lows d)) → SmallLine count lows
+-- all that is found in a row of small numbers is small
+pub small-lows : (count : ℕ) (direct lows : List ℕ) → 0 < count → SmallLine (count * count) direct → ((d : ℕ) → d < count → LeastOf count (λ c. number_in count direct c d) (slice_index lows d)) → SmallLine count lows
 small-lows count direct lows some small columns = λ d under.
     let least = (columns d under).low 0 some in
-    let top = small 0 some d under in
+    let place = place_under count 0 d some under in
+    let top = small (place_of count 0 d) place in
     omega (arith, least, top)
+
+-- a line of the same numbers
+pub line-same : (count : ℕ) (direct direct' lows : ℕ → ℕ) (low : ℕ) (line line' : ℕ → ℕ) → ((d : ℕ) → d < count → direct d ≡ direct' d) → ((d : ℕ) → d < count → line d ≡ line' d) → LineOf count direct lows low line → LineOf count direct' lows low line'
+line-same count direct direct' lows low line line' same_direct same_line l = record {
+  here = λ d under. let u = l.here d under in let x = same_direct d under in let y = same_line d under in omega (arith, u, x, y);
+  column = λ d under. let u = l.column d under in let y = same_line d under in omega (arith, u, y);
+  along = λ d e under under_e. let u = l.along d e under under_e in let x = same_direct e under_e in let y = same_line d under in omega (arith, u, x, y);
+  all = λ d under. let u = l.all d under in let y = same_line d under in omega (arith, u, y);
+  is = λ d under. elim (l.is d under) [
+    | inl one ↦ elim one [
+      | inl here ↦ inl (inl (sym (same_line d under) ∙ (here ∙ same_direct d under)))
+      | inr column ↦ inl (inr (sym (same_line d under) ∙ column))
+    ]
+    | inr other ↦ elim other [
+      | inl along ↦ inr (inl (along.0, along.1, sym (same_line d under) ∙ (along.2 ∙ ap (λ v. v + 1) (same_direct along.0 along.1))))
+      | inr all ↦ inr (inr (sym (same_line d under) ∙ all))
+    ]
+  ];
+}
+
+-- the least of the same numbers
+pub least-from : (count : ℕ) (f g : ℕ → ℕ) (value : ℕ) → ((d : ℕ) → f d ≡ g d) → LeastOf count f value → LeastOf count g value
+least-from count f g value same l = record {
+  low = λ x under. let u = l.low x under in let e = same x in omega (arith, u, e);
+  at = l.at;
+  under = l.under;
+  is = sym (same l.at) ∙ l.is;
+}

@@ -19,19 +19,19 @@ use Rattle.pef_plan.proofs.StepFacts.{tracked_world}
 
 -- the label at the fixup
 abbrev here_label : Known → Here → ℕ
-here_label k h = label_in k.labels.now (length h.place.left.now) h.place.c h.place.d
+here_label k h = label_in (length k.registers.now + 1) k.labels.now.rows (length h.place.left.now) h.place.c h.place.d
 
 pub label-there : (k : Known) (h : Here) (p : ℕ) → TrackedHere k h → p ≡ h.first.offset → extension (labels_tabled k) h.place.left.now p h.place.c h.place.d ≡ here_label k h
 label-there k h p t at =
     ap (λ fs. extension (labels_tabled k) fs p h.place.c h.place.d) t.parts
     ∙ (extension-here (labels_tabled k) h.first h.others.now p h.place.c h.place.d at
-    ∙ ap (λ fs. label_in k.labels.now (length fs) h.place.c h.place.d) (sym t.parts))
+    ∙ ap (λ fs. label_in (length k.registers.now + 1) k.labels.now.rows (length fs) h.place.c h.place.d) (sym t.parts))
 
 -- the extension away from it is one of four
 pub moved-there : (k : Known) (h : Here) → TrackedHere k h → h.place.position ≢ h.first.offset → Moved (h.first.offset - h.place.position) (here_label k h) (offer_at (labels_tabled k) h.first h.others.now h.place.c h.place.d) (extension_in (labels_tabled k) h.place)
 moved-there k h t away =
     let whole = ap (λ fs. extension (labels_tabled k) fs h.place.position h.place.c h.place.d) t.parts ∙ extension-away (labels_tabled k) h.first h.others.now h.place.position h.place.c h.place.d away in
-    let label = ap (λ fs. label_in k.labels.now (length fs) h.place.c h.place.d) (sym t.parts) in
+    let label = ap (λ fs. label_in (length k.registers.now + 1) k.labels.now.rows (length fs) h.place.c h.place.d) (sym t.parts) in
     let o : Option ℕ = offer_at (labels_tabled k) h.first h.others.now h.place.c h.place.d in
     let ahead : ℕ = h.first.offset - h.place.position in
     subst (λ (x : ℕ). Moved ahead (here_label k h) o x) (sym (whole ∙ ap (λ n. moved_value ahead n o) label)) (moved-is ahead (here_label k h) o)
@@ -49,7 +49,7 @@ short_move k h t away beyond other = go _ refl (moved-there k h t away)
         let ahead : h.first.offset - p ≡ 1020 = omega (arith, beyond) in
         let off : p ≢ h.first.offset = omega (arith, beyond) in
         let next = ap (λ fs. extension (labels_tabled k) fs p h.place.c h.place.d) t.parts ∙ extension-away (labels_tabled k) h.first h.others.now p h.place.c h.place.d off in
-        let low = moved-skip (h.first.offset - p) (label_in k.labels.now (length (h.first ∷ h.others.now)) h.place.c h.place.d) (offer_at (labels_tabled k) h.first h.others.now h.place.c h.place.d) w (omega (arith, ahead)) (omega (arith, ahead)) (eq-eqb ((h.first.offset - p) % 4) 0 (omega (arith, ahead))) (record { value = w; is = e; low = omega arith }) in
+        let low = moved-skip (h.first.offset - p) (label_in (length k.registers.now + 1) k.labels.now.rows (length (h.first ∷ h.others.now)) h.place.c h.place.d) (offer_at (labels_tabled k) h.first h.others.now h.place.c h.place.d) w (omega (arith, ahead)) (omega (arith, ahead)) (eq-eqb ((h.first.offset - p) % 4) 0 (omega (arith, ahead))) (record { value = w; is = e; low = omega arith }) in
         (omega (arith, next, low, is, sum), before)
 
 -- and otherwise the extension is an offer that a skip takes
@@ -65,9 +65,9 @@ skips_to k h t away within other also = go _ refl (moved-there k h t away)
     go x is (skips after before even e) = record { after = after; before = before; even = even; offer = e ∙ ap Some (sym is) }
     go x is (late w after before e sum) =
         let low = label-offer (labels_tabled k) h.place.import_index h.first h.others.now h.place.c h.place.d w (world-first (labels_tabled k) h.place.import_index h.first h.others.now world) t.at.c t.at.d e in
-        let label = ap (λ fs. label_in k.labels.now (length fs) h.place.c h.place.d) t.parts in
+        let label = ap (λ fs. label_in (length k.registers.now + 1) k.labels.now.rows (length fs) h.place.c h.place.d) t.parts in
         let whole = ap (λ fs. extension (labels_tabled k) fs h.place.position h.place.c h.place.d) t.parts ∙ extension-away (labels_tabled k) h.first h.others.now h.place.position h.place.c h.place.d away in
-        let most = moved-near (h.first.offset - h.place.position) (label_in k.labels.now (length (h.first ∷ h.others.now)) h.place.c h.place.d) (offer_at (labels_tabled k) h.first h.others.now h.place.c h.place.d) after within in
+        let most = moved-near (h.first.offset - h.place.position) (label_in (length k.registers.now + 1) k.labels.now.rows (length (h.first ∷ h.others.now)) h.place.c h.place.d) (offer_at (labels_tabled k) h.first h.others.now h.place.c h.place.d) after within in
         let apart = also after in
         absurd (omega (arith, low, label, whole, most, apart, is, sum))
 
@@ -82,16 +82,16 @@ here_world : (k : Known) (h : Here) → TrackedHere k h → World (labels_tabled
 here_world k h t = subst (λ (fs : List Fixup). World (labels_tabled k) h.place.import_index fs) t.parts (tracked_world k h.place t.at)
 
 -- the offers of the table, with any class of D
-offers_here : (k : Known) (h : Here) (section d : ℕ) → TrackedHere k h → h.first.base ≡ Section section → d < length k.registers.now + 1 → offer_at (labels_tabled k) h.first h.others.now h.place.c d ≡ Some (change d (class_of k.registers.now section) + skip_in k.skips.now (length (h.first ∷ h.others.now)) h.place.c)
+offers_here : (k : Known) (h : Here) (section d : ℕ) → TrackedHere k h → h.first.base ≡ Section section → d < length k.registers.now + 1 → offer_at (labels_tabled k) h.first h.others.now h.place.c d ≡ Some (change d (class_of k.registers.now section) + skip_in k.skips.now.rows (length (h.first ∷ h.others.now)) h.place.c)
 offers_here k h section d t base under =
     let whole = subst (λ (fs : List Fixup). Agrees (labels_tabled k) k fs) t.parts t.at.agrees in
-    subst (λ (b : Base). OfferIs (labels_tabled k) h.first h.others.now h.place.c d (skip_in k.skips.now (length (h.first ∷ h.others.now)) h.place.c) b) base (whole.offers.0 h.place.c d t.at.c under)
+    subst (λ (b : Base). OfferIs (labels_tabled k) h.first h.others.now h.place.c d (skip_in k.skips.now.rows (length (h.first ∷ h.others.now)) h.place.c) b) base (whole.offers.0 h.place.c d t.at.c under)
 
 -- register D is set before a skip
 pub skip_set : (k : Known) (h : Here) (section class : ℕ) → TrackedHere k h → SkipsTo k h → h.place.position ≢ h.first.offset → h.first.base ≡ Section section → class ≡ class_of k.registers.now section → class ≢ h.place.d → 1 + extension (labels_tabled k) h.place.left.now h.place.position h.place.c class ≤ extension_in (labels_tabled k) h.place
 skip_set k h section class t at away base of other =
     let l : Labels = labels_tabled k in
-    let x : ℕ = skip_in k.skips.now (length (h.first ∷ h.others.now)) h.place.c in
+    let x : ℕ = skip_in k.skips.now.rows (length (h.first ∷ h.others.now)) h.place.c in
     let under : class < length k.registers.now + 1 = (let u = class_of-below l section in omega (arith, of, u)) in
     let mine = offers_here k h section h.place.d t base t.at.d in
     let theirs = offers_here k h section class t base under in
@@ -99,7 +99,7 @@ skip_set k h section class t at away base of other =
     let one : change h.place.d (class_of k.registers.now section) ≡ 1 = rw (ne_eqb h.place.d (class_of k.registers.now section) apart) refl in
     let none : change class (class_of k.registers.now section) ≡ 0 = rw (eq-eqb class (class_of k.registers.now section) of) refl in
     let worth = same_Some _ _ (sym at.offer ∙ mine) in
-    let low = moved-skip (h.first.offset - h.place.position) (label_in k.labels.now (length (h.first ∷ h.others.now)) h.place.c class) (offer_at l h.first h.others.now h.place.c class) x at.after at.before at.even (record { value = _; is = theirs; low = omega (arith, none) }) in
+    let low = moved-skip (h.first.offset - h.place.position) (label_in (length k.registers.now + 1) k.labels.now.rows (length (h.first ∷ h.others.now)) h.place.c class) (offer_at l h.first h.others.now h.place.c class) x at.after at.before at.even (record { value = _; is = theirs; low = omega (arith, none) }) in
     let next = ap (λ fs. extension l fs h.place.position h.place.c class) t.parts ∙ extension-away l h.first h.others.now h.place.position h.place.c class away in
     omega (arith, worth, one, low, next)
 

@@ -22,7 +22,7 @@ use Rattle.pef_runs.specs.declared.place.Step.{Step}
 use Rattle.pef_runs.specs.Places.{InPlace, extension_in}
 use Rattle.pef_plan.specs.Kept.Steps.{Falls, ReadTo, Tracked, labels_tabled}
 use Rattle.pef_runs.specs.Tables.{Agrees, SameLabels}
-use Rattle.pef_plan.specs.Kept.Tables.{Tabled}
+use Rattle.pef_plan.specs.Kept.Tables.{TablesOf}
 use Rattle.pef_plan.specs.Reached.{ReachedFrom}
 use Rattle.pef_plan.proofs.FillLemmas.{counts-all, index-small, known_shaped}
 use Rattle.pef_runs.proofs.Laws.{agrees-behind, shaped_fewer}
@@ -139,26 +139,26 @@ read_next k fixups instrs p x r f =
       near = omega (arith, near, to);
     }
 
-same_tabled : (k : Known) (n : ℕ) → SameLabels (labels_tabled k) k.registers.now k.labels.now n
+same_tabled : (k : Known) (n : ℕ) → SameLabels (labels_tabled k) k.registers.now k.labels.now.rows n
 same_tabled k n = record { registers_are = refl; label_is = λ left c d under under_c under_d. refl }
 
 -- none yet
-pub read_start : (k : Known) (p : Place) → fixups_fit p.left.now ≡ true → RegistersOf p.left.now k.registers.now → Tabled k.registers.now k.labels.now k.skips.now 0 p.left.now → p.import_index ≡ 0 → InPlace k.registers.now p start → ReadTo k p.left.now [] p
+pub read_start : (k : Known) (p : Place) → fixups_fit p.left.now ≡ true → RegistersOf p.left.now k.registers.now → TablesOf k.registers.now k.labels.now k.skips.now 0 p.left.now → p.import_index ≡ 0 → InPlace k.registers.now p start → ReadTo k p.left.now [] p
 read_start k p fit right t index in_place =
     let l : Labels = labels_tabled k in
     let same = same_tabled k (length p.left.now) in
     let tracked : Tracked k p = record {
       sections = record { rising = right.rising; below = λ j among. used_section-below p.left.now j fit (sym (right.used j) ∙ among) };
-      shaped = known_shaped p.left.now k.registers.now k.labels.now k.skips.now k 0 p.left.now fit right (omega arith) t (record { registers_are = refl; labels_are = refl; skips_are = refl });
+      shaped = known_shaped p.left.now k.registers.now k.labels.now.rows k.skips.now.rows k 0 p.left.now fit right (omega arith) t.tabled (record { registers_are = refl; labels_are = refl; skips_are = refl; labels_wide = t.labels_wide; skips_wide = t.skips_wide });
       c = (let under = class_of-below l 0 in let e = in_place.c in omega (arith, under, e));
       d = (let under = class_of-below l 1 in let e = in_place.d in omega (arith, under, e));
       fit = each_fits p.left.now fit;
       counts = counts-all k.registers.now p.left.now (all_registered p.left.now k.registers.now right);
       import_small = omega (arith, index);
       position_small = (let e = in_place.position in omega (arith, e));
-      agrees = record { same = same; offers = t.offers l same };
-      feasible = subst (λ (n : ℕ). FeasibleFrom l n p.left.now) (sym index) (t.feasible l same);
-      reached = subst (λ (n : ℕ). ReachedFrom l n p.left.now) (sym index) (t.reached l same);
+      agrees = record { same = same; offers = t.tabled.offers l same };
+      feasible = subst (λ (n : ℕ). FeasibleFrom l n p.left.now) (sym index) (t.tabled.feasible l same);
+      reached = subst (λ (n : ℕ). ReachedFrom l n p.left.now) (sym index) (t.tabled.reached l same);
     } in
     let most = tracked_small k p tracked in
     let at = in_place.position in
@@ -179,11 +179,11 @@ none_of [] e = refl
 none_of (f ∷ fs) e = absurd (omega (arith, e))
 
 -- and where none are left
-pub read_least : (k : Known) (fixups : List Fixup) (instrs : List Instr) (p : Place) → fixups_fit fixups ≡ true → RegistersOf fixups k.registers.now → Tabled k.registers.now k.labels.now k.skips.now 0 fixups → ReadTo k fixups instrs p → length p.left.now ≡ 0 → Least fixups instrs
+pub read_least : (k : Known) (fixups : List Fixup) (instrs : List Instr) (p : Place) → fixups_fit fixups ≡ true → RegistersOf fixups k.registers.now → TablesOf k.registers.now k.labels.now k.skips.now 0 fixups → ReadTo k fixups instrs p → length p.left.now ≡ 0 → Least fixups instrs
 read_least k fixups instrs p fit right t r none =
     let l : Labels = labels_tabled k in
     let end = none_of p.left.now none in
-    let feasible : Feasible l fixups = record { last = t.last; each = t.feasible l (same_tabled k (length fixups)) } in
+    let feasible : Feasible l fixups = record { last = t.tabled.last; each = t.tabled.feasible l (same_tabled k (length fixups)) } in
     record {
       flat = r.flat;
       makes = sym (r.made ∙ (ap (λ fs. trace instrs start ++ fs) end ∙ append-nil (trace instrs start)));

@@ -57,11 +57,11 @@ agrees_others k h t =
     agrees-behind (labels_tabled k) k (h.first ∷ []) h.others.now whole
 
 -- the extension at a fixup is its label
-pub extension_label : (k : Known) (h : Here) (c d : ℕ) → TrackedHere k h → h.place.position ≡ h.first.offset → extension (labels_tabled k) h.place.left.now h.place.position c d ≡ label_in k.labels.now (length h.place.left.now) c d
+pub extension_label : (k : Known) (h : Here) (c d : ℕ) → TrackedHere k h → h.place.position ≡ h.first.offset → extension (labels_tabled k) h.place.left.now h.place.position c d ≡ label_in (length k.registers.now + 1) k.labels.now.rows (length h.place.left.now) c d
 extension_label k h c d t at =
     ap (λ fs. extension (labels_tabled k) fs h.place.position c d) t.parts
     ∙ (extension-here (labels_tabled k) h.first h.others.now h.place.position c d at
-    ∙ ap (λ fs. label_in k.labels.now (length fs) c d) (sym t.parts))
+    ∙ ap (λ fs. label_in (length k.registers.now + 1) k.labels.now.rows (length fs) c d) (sym t.parts))
 
 -- an instruction that adds nothing and sets no register
 data Kind (x : Instr) (s : State) : Type 0 where
@@ -100,9 +100,9 @@ none_left (a ∷ additions) left f rest e =
 
 pub best_falls : (k : Known) (h : Here) (s : State) (value label : ℕ) → TrackedHere k h → h.place.position ≡ h.first.offset → InPlace k.registers.now h.place s
     → base_test (labels_tabled k) value h.place.import_index h.first h.others.now h.place.c h.place.d h.first.base ≡ true
-    → label ≡ label_in k.labels.now (length h.place.left.now) h.place.c h.place.d
-    → ((e : ℕ) → e < length k.registers.now + 1 → label ≤ label_in k.labels.now (length h.place.left.now) e h.place.d)
-    → ((e : ℕ) → e < length k.registers.now + 1 → label ≤ label_in k.labels.now (length h.place.left.now) h.place.c e)
+    → label ≡ label_in (length k.registers.now + 1) k.labels.now.rows (length h.place.left.now) h.place.c h.place.d
+    → ((e : ℕ) → e < length k.registers.now + 1 → label ≤ label_in (length k.registers.now + 1) k.labels.now.rows (length h.place.left.now) e h.place.d)
+    → ((e : ℕ) → e < length k.registers.now + 1 → label ≤ label_in (length k.registers.now + 1) k.labels.now.rows (length h.place.left.now) h.place.c e)
     → value ≤ label
 best_falls k h s value label t at in_place met is by_c by_d =
     let l : Labels = labels_tabled k in
@@ -135,8 +135,8 @@ best_falls k h s value label t at in_place met is by_c by_d =
         let left = ap (λ fs. extension_at (labels_tabled k) fs (next_state x.instr s)) (sym same) in
         let at_j = extension-here (labels_tabled k) h.first h.others.now s.position (class_of k.registers.now j) (class_of k.registers.now s.d) here in
         let low = by_c (class_of k.registers.now j) (class_of-below (labels_tabled k) j) in
-        let parts = ap (λ fs. label_in k.labels.now (length fs) (class_of k.registers.now j) h.place.d) t.parts in
-        let turned = ap (λ d. label_in k.labels.now (length (h.first ∷ h.others.now)) (class_of k.registers.now j) d) in_place.d in
+        let parts = ap (λ fs. label_in (length k.registers.now + 1) k.labels.now.rows (length fs) (class_of k.registers.now j) h.place.d) t.parts in
+        let turned = ap (λ d. label_in (length k.registers.now + 1) k.labels.now.rows (length (h.first ∷ h.others.now)) (class_of k.registers.now j) d) in_place.d in
         let some = some_length x.instr in
         let falls = x.falls in
         absurd (omega (arith, to, left, at_j, low, parts, turned, some, falls, mine))
@@ -145,8 +145,8 @@ best_falls k h s value label t at in_place met is by_c by_d =
         let left = ap (λ fs. extension_at (labels_tabled k) fs (next_state x.instr s)) (sym same) in
         let at_j = extension-here (labels_tabled k) h.first h.others.now s.position (class_of k.registers.now s.c) (class_of k.registers.now j) here in
         let low = by_d (class_of k.registers.now j) (class_of-below (labels_tabled k) j) in
-        let parts = ap (λ fs. label_in k.labels.now (length fs) h.place.c (class_of k.registers.now j)) t.parts in
-        let turned = ap (λ c. label_in k.labels.now (length (h.first ∷ h.others.now)) c (class_of k.registers.now j)) in_place.c in
+        let parts = ap (λ fs. label_in (length k.registers.now + 1) k.labels.now.rows (length fs) h.place.c (class_of k.registers.now j)) t.parts in
+        let turned = ap (λ c. label_in (length k.registers.now + 1) k.labels.now.rows (length (h.first ∷ h.others.now)) c (class_of k.registers.now j)) in_place.c in
         let some = some_length x.instr in
         let falls = x.falls in
         absurd (omega (arith, to, left, at_j, low, parts, turned, some, falls, mine))
@@ -165,7 +165,7 @@ best_falls k h s value label t at in_place met is by_c by_d =
     go l world here x (inr same) = stuck x world here same (kind_of x.instr s)
 
 -- the chosen step falls where its value is at most the label
-pub chosen_falls : (k : Known) (h : Here) (x : Choice) → TrackedHere k h → h.place.position ≡ h.first.offset → Chosen k h x → x.value ≤ label_in k.labels.now (length h.place.left.now) h.place.c h.place.d → FallsOn k h.place x.step
+pub chosen_falls : (k : Known) (h : Here) (x : Choice) → TrackedHere k h → h.place.position ≡ h.first.offset → Chosen k h x → x.value ≤ label_in (length k.registers.now + 1) k.labels.now.rows (length h.place.left.now) h.place.c h.place.d → FallsOn k h.place x.step
 chosen_falls k h x t at chosen low s in_place =
     let worth = chosen.worth (labels_tabled k) (agrees_others k h t) in
     let here = extension_label k h h.place.c h.place.d t at in

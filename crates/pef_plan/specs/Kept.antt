@@ -1,4 +1,3 @@
-pub mod Laid
 pub mod Met
 pub mod Rows
 pub mod Steps

@@ -1,22 +1,23 @@
-ghost use Rattle.std.specs.Prelude.{◌≡◌, ◌+◌, ◌<◌, ◌≤◌, length};
+ghost use Rattle.std.specs.Prelude.{◌≡◌, ◌+◌, ◌*◌, ◌<◌, ◌≤◌, length};
 ghost use Rattle.pef_cert.specs.Extension.{extension};
 ghost use Rattle.pef_cert.specs.Labels.{class_of};
 ghost use Rattle.pef_runs.specs.Places.{extension_in};
 ghost use Rattle.pef_plan.specs.Kept.Steps.{FallsOn, Sections, Tracked, TrackedHere, labels_tabled};
-ghost use Rattle.pef_squares.specs.Squares.{number_in};
-ghost use Rattle.pef_squares.specs.Limits.{most_classes};
+ghost use Rattle.pef_runs.specs.Tables.{number_in};
+ghost use Rattle.pef_reloc.specs.Limits.{most_sections};
 
 use pef_reloc::{Instr, MAX_SECTIONS};
 use pef_runs::{Here, Known, Place, Step};
-use pef_squares::Square;
 
 /// The label of a row in classes of the registers.
-pub(crate) fn label_of(row: &Square, c: usize, d: usize) -> u64
-    requires c { c < most_classes }
-    requires d { d < most_classes }
-    ensures { result ≡ number_in row.now c d }
+pub(crate) fn label_of(known: Known<'_>, row: &[u32], c: usize, d: usize) -> u64
+    requires few { length known.registers.now ≤ most_sections }
+    requires row { length row.now ≡ (length known.registers.now + 1) * (length known.registers.now + 1) }
+    requires c { c < length known.registers.now + 1 }
+    requires d { d < length known.registers.now + 1 }
+    ensures { result ≡ number_in (length known.entry.registers.now + 1) row.now c d }
 {
-    u64::from(row[c][d])
+    u64::from(row[known.place(c, d)])
 }
 
 /// A section of a class.

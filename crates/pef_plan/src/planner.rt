@@ -1,20 +1,18 @@
-ghost use Rattle.std.specs.Prelude.{◌≡◌, ◌+◌, ◌*◌, ◌≤◌, IfErr, IfOk, length, true};
+ghost use Rattle.std.specs.Prelude.{◌≡◌, IfErr, IfOk, length, true};
 ghost use Rattle.pef_cert.specs.Valid.{Valid, labels_of};
 ghost use Rattle.pef_plan.specs.declared.fault.PlanFault.TheVariants.{OutOfMemory};
 ghost use Rattle.pef_plan.specs.Exact.{Exact};
-ghost use Rattle.pef_plan.specs.Kept.Laid.{LaidLabels, LaidSquare};
 ghost use Rattle.pef_reloc.specs.Fixups.{fixups_fit};
-ghost use Rattle.pef_squares.specs.Limits.{most_classes};
 
 use crate::fault::PlanFault;
 use crate::program::least_program;
 use crate::registers::registers_of;
 use crate::tables::fill;
-use pef_labels::{Certificate, LabelRows};
+use pef_labels::Certificate;
 use pef_reloc::Fixup;
 use pef_runs::Known;
-use pef_squares::{Looks, Square, Squares};
-use std::alloc::{AllocError, Global};
+use pef_squares::Looks;
+use std::alloc::Global;
 use std::cell::Cell;
 
 /// A program of the fewest halfwords that makes the fixups of a section, with the certificate that proves
@@ -60,39 +58,11 @@ pub fn counted_plan(
         looks,
     };
     let program = least_program(known, alloc, fixups)?;
-    let labels = rows(alloc, &tables.labels, registers.len() + 1)?;
+    let labels = tables.labels.reversed(alloc)?;
     Ok(Certificate {
         section,
         program,
         registers,
         labels,
     })
-}
-
-/// Labels in rows, those of the most fixups left first.
-fn rows(alloc: Global, labels: &Squares, classes: usize) -> Result<LabelRows, AllocError>
-    requires { classes ≤ most_classes }
-    ensures { IfOk result (λ rows. LaidLabels classes labels.now rows) }
-{
-    let mut rows = LabelRows::new(alloc, classes * classes);
-    let mut left = labels.len();
-    'rows: while left > 0 {
-        left -= 1;
-        let row = row(alloc, labels.square(left), classes)?;
-        rows.push(&row)?;
-    }
-    Ok(rows)
-}
-
-/// A row of labels, with the classes of C outside and those of D inside.
-fn row(alloc: Global, square: &Square, classes: usize) -> Result<Vec<u32>, AllocError>
-    requires { classes ≤ most_classes }
-    ensures { IfOk result (λ row. LaidSquare classes square.now row.items) }
-{
-    let mut row = Vec::new(alloc);
-    'lines: for c in 0..classes {
-        let (line, _) = square[c].split_at(classes);
-        row.extend_from_slice(line)?;
-    }
-    Ok(row)
 }

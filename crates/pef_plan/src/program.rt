@@ -1,7 +1,7 @@
 ghost use Rattle.std.specs.Prelude.{◌≡◌, IfOk, true};
 ghost use Rattle.pef_cert.specs.Valid.{RegistersOf};
 ghost use Rattle.pef_plan.specs.Kept.Steps.{FallsOn, TrackedHere};
-ghost use Rattle.pef_plan.specs.Kept.Tables.{Tabled};
+ghost use Rattle.pef_plan.specs.Kept.Tables.{TablesOf};
 ghost use Rattle.pef_reloc.specs.Fixups.{fixups_fit};
 ghost use Rattle.pef_reloc.specs.Steps.{Least};
 
@@ -19,7 +19,7 @@ pub(crate) fn least_program<'a>(
 ) -> Result<Vec<Instr>, AllocError>
     requires fit { fixups_fit fixups.now ≡ true }
     requires registers { RegistersOf fixups.now known.registers.now }
-    requires tabled { Tabled known.registers.now known.labels.now known.skips.now 0 fixups.now }
+    requires tables { TablesOf known.registers.now known.labels.now known.skips.now 0 fixups.now }
     ensures { IfOk result (λ program. Least fixups.entry.now program.items) }
 {
     let mut program = Vec::new(alloc);

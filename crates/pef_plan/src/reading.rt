@@ -19,15 +19,15 @@ pub(crate) fn step_at<'a>(known: Known<'a>, here: Here<'a>) -> Step<'a>
     let best = direct(known, here);
     let Place { c, d, .. } = here.place;
     let row = known.row(here.place.left.len());
-    let label = label_of(row, c, d);
+    let label = label_of(known, row, c, d);
     if best.value <= label {
         return best.step;
     }
     for class in 0..known.classes() {
-        if label_of(row, class, d) < label {
+        if label_of(known, row, class, d) < label {
             return set_c(known, here.place, class);
         }
-        if label_of(row, c, class) < label {
+        if label_of(known, row, c, class) < label {
             return set_d(known, here.place, class);
         }
     }
@@ -43,7 +43,7 @@ pub(crate) fn step_to<'a>(known: Known<'a>, here: Here<'a>) -> Step<'a>
     let place = here.place;
     let ahead = u64::from(here.first.offset).saturating_sub(place.position);
     let row = known.row(place.left.len());
-    let label = label_of(row, place.c, place.d);
+    let label = label_of(known, row, place.c, place.d);
     let value = known.value_in(row, place.left, place.position, place.c, place.d);
     if value == 2 + label {
         return set_position(known, here);

@@ -1,50 +1,63 @@
-ghost use Rattle.std.specs.Prelude.{◌≡◌, ◌+◌, ◌<◌, ◌≤◌, ◌∷◌, ℕ, length, slice_index};
+ghost use Rattle.std.specs.Prelude.{◌≡◌, ◌+◌, ◌*◌, ◌<◌, ◌≤◌, ◌⊎◌, ◌∷◌, ℕ, length, slice_index};
 ghost use Rattle.pef_runs.specs.Ends.{EndsAt};
 ghost use Rattle.pef_runs.specs.Places.{AtOf};
-ghost use Rattle.pef_plan.specs.Kept.Rows.{ClosedOf, DirectLine, DirectSquare, LeastOf, LineOf, LinesOf, RowOf, SmallLine, SmallSquare};
-ghost use Rattle.pef_squares.specs.Squares.{number_in};
-ghost use Rattle.pef_squares.specs.Limits.{most_classes};
+ghost use Rattle.pef_runs.specs.Tables.{number_in, place_of};
+ghost use Rattle.pef_plan.specs.Kept.Rows.{ClosedOf, DirectIs, DirectRow, LeastOf, LineOf, LinesOf, RowOf, SmallLine};
+ghost use Rattle.pef_reloc.specs.Limits.{most_sections};
 
 use crate::lows::low;
-use pef_reloc::Fixup;
 use pef_runs::{At, Here, Known, Place, RunEnds};
-use pef_squares::{Line, MAX_CLASSES, Square};
 
-/// The labels at a fixup, from what is known behind it.
-pub(crate) fn labels_at(known: Known<'_>, at: At<'_>, ends: &RunEnds) -> Square
+/// Fills in the labels at a fixup, from what is known behind it. `lows` is room for a number of each class.
+pub(crate) fn fill_labels(
+    known: Known<'_>,
+    at: At<'_>,
+    ends: &RunEnds,
+    row: &mut [u32],
+    lows: &mut [u32],
+)
     requires at { AtOf known at }
     requires ends { EndsAt known at.others.now (at.first ∷ at.others.now) ends.now }
-    ensures { RowOf known.entry at.entry result }
+    requires row { length row.old ≡ (length known.registers.now + 1) * (length known.registers.now + 1) }
+    requires lows { length lows.old ≡ length known.registers.now + 1 }
+    ensures row_len { length row.new ≡ length row.old }
+    ensures lows_len { length lows.new ≡ length lows.old }
+    ensures labels { RowOf known.entry at.entry row.new }
 {
-    let direct = direct_square(known, at, ends);
-    closed(&direct, known.classes())
+    fill_direct(known, at, ends, row);
+    fill_lows(row, lows);
+    close_row(row, lows);
 }
 
-/// What the best instructions that add at a fixup lead to, without a change of registers.
-fn direct_square(known: Known<'_>, at: At<'_>, ends: &RunEnds) -> Square
+/// Fills in what the best instructions that add at a fixup lead to, without a change of registers.
+fn fill_direct(known: Known<'_>, at: At<'_>, ends: &RunEnds, row: &mut [u32])
     requires at { AtOf known at }
     requires ends { EndsAt known at.others.now (at.first ∷ at.others.now) ends.now }
-    ensures { DirectSquare known.entry at.entry result }
+    requires row { length row.old ≡ (length known.registers.now + 1) * (length known.registers.now + 1) }
+    ensures len { length row.new ≡ length row.old }
+    ensures direct { DirectRow known.entry at.entry row.new }
+    ensures small { SmallLine (length row.old) row.new }
 {
-    let mut square = [[0; MAX_CLASSES]; MAX_CLASSES];
-    for c in 0..known.classes() {
-        square[c] = direct_line(known, at, ends, c);
+    let classes = known.classes();
+    let (mut c, mut d) = (0, 0);
+    'places: for place in 0..row.len() {
+        row[place] = low_at(known, at, ends, c, d) as u32;
+        d += 1;
+        if d == classes {
+            (c, d) = (c + 1, 0);
+        }
     }
-    square
 }
 
-/// The same with register C in a class.
-fn direct_line(known: Known<'_>, at: At<'_>, ends: &RunEnds, c: usize) -> Line
+/// What the best instruction leads to that adds at a fixup, with the registers in these classes.
+fn low_at(known: Known<'_>, at: At<'_>, ends: &RunEnds, c: usize, d: usize) -> u64
     requires at { AtOf known at }
     requires ends { EndsAt known at.others.now (at.first ∷ at.others.now) ends.now }
     requires c { c < length known.registers.now + 1 }
-    ensures { DirectLine known.entry at.entry c result }
+    requires d { d < length known.registers.now + 1 }
+    ensures { DirectIs known.entry at.entry c d result }
 {
-    let mut line = [0; MAX_CLASSES];
-    for d in 0..known.classes() {
-        line[d] = low(known, at_classes(at, c, d), ends) as u32;
-    }
-    line
+    low(known, at_classes(at, c, d), ends)
 }
 
 /// The state with the registers in these classes.
@@ -70,87 +83,76 @@ pub(crate) fn at_classes<'a>(at: At<'a>, c: usize, d: usize) -> Here<'a>
     }
 }
 
-/// The least over all classes, with 1 for each register that changes.
-fn closed(direct: &Square, classes: usize) -> Square
-    requires some { 0 < classes }
-    requires few { classes ≤ most_classes }
-    requires small { SmallSquare classes direct.now }
-    ensures { ClosedOf classes direct.now result }
+/// Fills in the least of each column of a row, by the class of register D.
+fn fill_lows(row: &[u32], lows: &mut [u32])
+    requires some { 0 < length lows.old }
+    requires few { length lows.old ≤ most_sections + 1 }
+    requires row { length row.now ≡ length lows.old * length lows.old }
+    ensures len { length lows.new ≡ length lows.old }
+    ensures least { (d : ℕ) → d < length lows.old → LeastOf (length lows.old) (λ c. number_in (length lows.old) row.now c d) (slice_index lows.new d) }
 {
-    let lows = least_columns(direct, classes);
-    let low = least(&lows, classes);
-    closed_lines(direct, &lows, low, classes)
-}
-
-/// The same from the least of each column and of all.
-fn closed_lines(direct: &Square, lows: &Line, low: u32, classes: usize) -> Square
-    requires some { 0 < classes }
-    requires few { classes ≤ most_classes }
-    requires small { SmallSquare classes direct.now }
-    requires lows { SmallLine classes lows.now }
-    requires low { low ≤ 1048576 }
-    ensures { LinesOf classes direct.now lows.now low result }
-{
-    let mut square = [[0; MAX_CLASSES]; MAX_CLASSES];
-    for c in 0..classes {
-        square[c] = closed_line(&direct[c], lows, low, classes);
+    'columns: for d in 0..lows.len() {
+        lows[d] = least_in_column(row, d, lows.len());
     }
-    square
-}
-
-/// The same for one class of register C.
-fn closed_line(direct: &Line, lows: &Line, low: u32, classes: usize) -> Line
-    requires some { 0 < classes }
-    requires few { classes ≤ most_classes }
-    requires small { SmallLine classes direct.now }
-    requires lows { SmallLine classes lows.now }
-    requires low { low ≤ 1048576 }
-    ensures { LineOf classes direct.now lows.now low result }
-{
-    let mut line = [0; MAX_CLASSES];
-    let along = least(direct, classes).min(low + 1);
-    for d in 0..classes {
-        line[d] = direct[d].min(lows[d] + 1).min(along + 1);
-    }
-    line
-}
-
-/// The least of each column of a square, by the class of register D.
-fn least_columns(square: &Square, classes: usize) -> Line
-    requires some { 0 < classes }
-    requires few { classes ≤ most_classes }
-    ensures { (d : ℕ) → d < classes → LeastOf classes (λ c. number_in square.now c d) (slice_index result d) }
-{
-    let mut line = [0; MAX_CLASSES];
-    for d in 0..classes {
-        line[d] = least_in_column(square, d, classes);
-    }
-    line
 }
 
 /// The least of one column.
-fn least_in_column(square: &Square, d: usize, classes: usize) -> u32
+fn least_in_column(row: &[u32], d: usize, classes: usize) -> u32
     requires some { 0 < classes }
-    requires few { classes ≤ most_classes }
+    requires few { classes ≤ most_sections + 1 }
     requires d { d < classes }
-    ensures { LeastOf classes (λ c. number_in square.now c d) result }
+    requires row { length row.now ≡ classes * classes }
+    ensures { LeastOf classes (λ c. number_in classes row.now c d) result }
 {
-    let mut low = square[0][d];
-    for c in 1..classes {
-        low = low.min(square[c][d]);
+    let mut low = row[d];
+    'lines: for c in 1..classes {
+        low = low.min(row[c * classes + d]);
     }
     low
 }
 
-/// The least of so many numbers of a line.
-fn least(line: &Line, classes: usize) -> u32
-    requires some { 0 < classes }
-    requires few { classes ≤ most_classes }
-    ensures { LeastOf classes (λ d. slice_index line.now d) result }
+/// Makes of what is led to directly the least over all classes, with 1 for each register that changes. The
+/// least of each column is in `lows`.
+fn close_row(row: &mut [u32], lows: &[u32])
+    requires some { 0 < length lows.now }
+    requires few { length lows.now ≤ most_sections + 1 }
+    requires row { length row.old ≡ length lows.now * length lows.now }
+    requires small { SmallLine (length row.old) row.old }
+    requires lows { (d : ℕ) → d < length lows.now → LeastOf (length lows.now) (λ c. number_in (length lows.now) row.old c d) (slice_index lows.now d) }
+    ensures len { length row.new ≡ length row.old }
+    ensures closed { ClosedOf (length lows.now) row.old row.new }
 {
-    let mut low = line[0];
-    for d in 1..classes {
-        low = low.min(line[d]);
+    let low = least(lows, 0, lows.len());
+    'lines: for c in 0..lows.len() {
+        close_line(row, c * lows.len(), lows, low);
+    }
+}
+
+/// The same for one class of register C, whose line begins at a place.
+fn close_line(row: &mut [u32], start: usize, lows: &[u32], low: u32)
+    requires some { 0 < length lows.now }
+    requires inside { start + length lows.now ≤ length row.old }
+    requires lows { SmallLine (length lows.now) lows.now }
+    requires low { low ≤ 1048576 }
+    ensures len { length row.new ≡ length row.old }
+    ensures line { LineOf (length lows.now) (λ d. slice_index row.old (start + d)) (λ d. slice_index lows.now d) low (λ d. slice_index row.new (start + d)) }
+    ensures others { (i : ℕ) → (i < start) ⊎ (start + length lows.now ≤ i) → slice_index row.new i ≡ slice_index row.old i }
+{
+    let along = least(row, start, lows.len()).min(low + 1);
+    'classes: for d in 0..lows.len() {
+        row[start + d] = row[start + d].min(lows[d] + 1).min(along + 1);
+    }
+}
+
+/// The least of so many numbers from a place on.
+fn least(numbers: &[u32], from: usize, count: usize) -> u32
+    requires some { 0 < count }
+    requires inside { from + count ≤ length numbers.now }
+    ensures { LeastOf count (λ d. slice_index numbers.now (from + d)) result }
+{
+    let mut low = numbers[from];
+    'numbers: for d in 1..count {
+        low = low.min(numbers[from + d]);
     }
     low
 }

@@ -13,33 +13,40 @@ use crate::rows::at_classes;
 use pef_cert::class_of;
 use pef_reloc::{Base, Instr};
 use pef_runs::{At, Choice, Here, Known, Run, RunEnds, Step};
-use pef_squares::{Line, MAX_CLASSES};
 
-/// The least skips at a fixup, by the class of register C.
-pub(crate) fn skips_at(known: Known<'_>, at: At<'_>, ends: &RunEnds) -> Line
+/// Fills in the least skips at a fixup, by the class of register C.
+pub(crate) fn fill_skips(known: Known<'_>, at: At<'_>, ends: &RunEnds, skips: &mut [u32])
     requires at { AtOf known at }
     requires ends { EndsAt known at.others.now (at.first ∷ at.others.now) ends.now }
-    ensures { SkipsOf known.entry at.entry result }
+    requires skips { length skips.old ≡ length known.registers.now + 1 }
+    ensures len { length skips.new ≡ length skips.old }
+    ensures are { SkipsOf known.entry at.entry skips.new }
 {
     match at.first.base {
-        Base::Section(section) => section_skips(known, at, ends, section),
-        Base::Import(_) => [0; MAX_CLASSES],
+        Base::Section(section) => fill_section(known, at, ends, section, skips),
+        Base::Import(_) => skips.fill(0),
     }
 }
 
 /// The same where the fixup has a section.
-fn section_skips(known: Known<'_>, at: At<'_>, ends: &RunEnds, section: u32) -> Line
+fn fill_section(
+    known: Known<'_>,
+    at: At<'_>,
+    ends: &RunEnds,
+    section: u32,
+    skips: &mut [u32],
+)
     requires at { AtOf known at }
     requires ends { EndsAt known at.others.now (at.first ∷ at.others.now) ends.now }
     requires base { at.first.base ≡ Section section }
-    ensures { SkipsOf known.entry at.entry result }
+    requires skips { length skips.old ≡ length known.registers.now + 1 }
+    ensures len { length skips.new ≡ length skips.old }
+    ensures are { SkipsOf known.entry at.entry skips.new }
 {
     let class = class_of(known.registers, section);
-    let mut line = [0; MAX_CLASSES];
-    for c in 0..known.classes() {
-        line[c] = low_skip(known, at_classes(at, c, class), ends, section) as u32;
+    'classes: for c in 0..skips.len() {
+        skips[c] = low_skip(known, at_classes(at, c, class), ends, section) as u32;
     }
-    line
 }
 
 /// The least that a skip leads to which adds at the fixup, where register D holds its section.

@@ -1,22 +1,24 @@
 ghost use Rattle.std.specs.Prelude.{◌≡◌, ◌+◌, ◌<◌, ◌∷◌, IfOk, drop, length, take, true};
 ghost use Rattle.pef_cert.specs.Valid.{RegistersOf};
-ghost use Rattle.pef_plan.specs.Kept.Tables.{IndicesOf, Tabled};
+ghost use Rattle.pef_plan.specs.Kept.Tables.{IndicesOf, TablesOf};
 ghost use Rattle.pef_reloc.specs.Deliveries.{index_after, index_past};
 ghost use Rattle.pef_reloc.specs.Fixups.{fixups_fit};
 
-use crate::rows::labels_at;
-use crate::skips::skips_at;
+use crate::rows::fill_labels;
+use crate::skips::fill_skips;
+use pef_labels::LabelRows;
 use pef_reloc::{Base, Fixup};
 use pef_runs::{At, Known, RunEnds};
-use pef_squares::{Line, Looks, MAX_CLASSES, Squares};
+use pef_squares::{Looks, Table, zeros};
 use std::alloc::{AllocError, Global};
 
 /// Labels and least skips, by how many fixups are left.
 #[derive(Drop)]
 pub(crate) struct Tables {
-    /// Equal neighbours are kept once.
-    pub(crate) labels: Squares,
-    pub(crate) skips: Vec<Line>,
+    /// Rows by the class of register C, and in it by that of D.
+    pub(crate) labels: LabelRows,
+    /// Rows by the class of register C.
+    pub(crate) skips: Table,
 }
 
 /// Fills the tables from the last fixup to the first.
@@ -28,14 +30,18 @@ pub(crate) fn fill(
 ) -> Result<Tables, AllocError>
     requires fit { fixups_fit fixups.now ≡ true }
     requires registers { RegistersOf fixups.now registers.now }
-    ensures { IfOk result (λ t. Tabled registers.now t.labels t.skips.items 0 fixups.now) }
+    ensures { IfOk result (λ t. TablesOf registers.now t.labels t.skips 0 fixups.now) }
 {
+    let classes = registers.len() + 1;
     let indices = import_indices(alloc, fixups)?;
-    let mut labels = Squares::new(alloc);
-    let mut skips = Vec::new(alloc);
-    labels.push(&[[0; MAX_CLASSES]; MAX_CLASSES])?;
-    skips.push([0; MAX_CLASSES])?;
-    let mut ends = RunEnds::new(alloc, registers.len() + 1);
+    let mut labels = LabelRows::new(alloc, classes * classes);
+    let mut skips = Table::new(alloc, classes);
+    let mut row = zeros(alloc, classes * classes)?;
+    let mut lows = zeros(alloc, classes)?;
+    let mut line = zeros(alloc, classes)?;
+    labels.push(&row)?;
+    skips.push(&line)?;
+    let mut ends = RunEnds::new(alloc, classes)?;
     let mut at = fixups.len();
     'fixups: while at > 0 {
         at -= 1;
@@ -47,10 +53,10 @@ pub(crate) fn fill(
             looks,
         };
         ends.pass(known, state)?;
-        let row = labels_at(known, state, &ends);
-        let line = skips_at(known, state, &ends);
+        fill_labels(known, state, &ends, &mut row, &mut lows);
+        fill_skips(known, state, &ends, &mut line);
         labels.push(&row)?;
-        skips.push(line)?;
+        skips.push(&line)?;
     }
     Ok(Tables { labels, skips })
 }

@@ -14,6 +14,10 @@ mul_low zero b r low = omega arith
 mul_low (suc a) zero r low = absurd (omega (arith, low))
 mul_low (suc a) (suc b) r low = let less = mul_low a b r (omega (arith, low)) in omega (arith, less)
 
+-- the numbers of one class of C
+pub line_inside : (r c : ℕ) → c < r → c * r + r ≤ r * r
+line_inside r c under = let low = mul_low (c + 1) r r (omega (arith, under)) in omega (arith, low)
+
 -- the class of C at a place
 pub class_under : (r c d : ℕ) → place_of r c d < r * r → c < r
 class_under r c d under =

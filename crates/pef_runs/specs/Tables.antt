@@ -10,9 +10,12 @@ use Rattle.pef_reloc.specs.Limits.{most_fixups, most_sections}
 abbrev pub place_of : ℕ → ℕ → ℕ → ℕ
 place_of classes c d = c * classes + d
 
+abbrev pub number_in : ℕ → List ℕ → ℕ → ℕ → ℕ
+number_in classes row c d = slice_index row (place_of classes c d)
+
 -- the label in a table where so many fixups are left, and the least skip
 abbrev pub label_in : ℕ → List (List ℕ) → ℕ → ℕ → ℕ → ℕ
-label_in classes labels left c d = slice_index (slice_index_or labels left []) (place_of classes c d)
+label_in classes labels left c d = number_in classes (slice_index_or labels left []) c d
 
 abbrev pub skip_in : List (List ℕ) → ℕ → ℕ → ℕ
 skip_in skips left c = slice_index (slice_index_or skips left []) c

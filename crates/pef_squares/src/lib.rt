@@ -4,9 +4,7 @@
 mod looks;
 mod table;
 mod window;
-mod zeros;
 
 pub use looks::Looks;
-pub use table::Table;
+pub use table::{Table, zeros};
 pub use window::Window;
-pub use zeros::zeros;

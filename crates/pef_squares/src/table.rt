@@ -1,4 +1,4 @@
-ghost use Rattle.std.specs.Prelude.{◌≡◌, ◌+◌, ◌-◌, ◌^◌, ◌<◌, ◌++◌, ◌∷◌, [], MatchOption, OnErr, OnOk, Some, None, length, slice_get, slice_index_or, take};
+ghost use Rattle.std.specs.Prelude.{◌≡◌, ◌+◌, ◌-◌, ◌^◌, ◌<◌, ◌++◌, ◌∷◌, [], IfOk, MatchOption, OnErr, OnOk, Some, None, length, replicate, slice_get, slice_index_or, take};
 
 use std::alloc::{AllocError, Global};
 use std::marker::Model;
@@ -97,4 +97,18 @@ impl Table {
         self.rows = 0;
         self.values.clear();
     }
+}
+
+/// So many zeros.
+///
+/// # Errors
+///
+/// There is no memory for them.
+pub fn zeros(alloc: Global, count: usize) -> Result<Vec<u32>, AllocError>
+    ensures are { IfOk result (λ numbers. numbers.items ≡ replicate count 0) }
+    ensures len { IfOk result (λ numbers. length numbers.items ≡ count) }
+{
+    let mut numbers = Vec::new(alloc);
+    numbers.resize(count, 0)?;
+    Ok(numbers)
 }

@@ -1,5 +1,5 @@
 -- A row of labels, from what the instructions lead to that add at a fixup.
-use Rattle.std.specs.Prelude.{◌≡◌, ◌≤◌, ◌<◌, ◌⊎◌, ℕ, ◌+◌, ◌*◌, true, List, [], ◌∷◌, length, slice_index, slice_index_or, Some}
+use Rattle.std.specs.Prelude.{◌≡◌, ◌≤◌, ◌<◌, ◌⊎◌, ℕ, ◌+◌, ◌*◌, true, List, [], ◌∷◌, length, slice_index, Some}
 use Rattle.pef_reloc.specs.Steps.{State}
 use Rattle.pef_cert.specs.Labels.{Labels, class_of}
 use Rattle.pef_cert.specs.Extension.{skips_at}
@@ -8,8 +8,7 @@ use Rattle.pef_reloc.specs.declared.fixup.Base.TheVariants.{Section}
 use Rattle.pef_cert.specs.LabelTests.{base_test}
 use Rattle.pef_runs.specs.declared.known.Known.{Known}
 use Rattle.pef_runs.specs.declared.place.At.{At}
-use Rattle.pef_squares.specs.Squares.{number_in}
-use Rattle.pef_runs.specs.Tables.{Agrees}
+use Rattle.pef_runs.specs.Tables.{Agrees, number_in}
 use Rattle.pef_runs.specs.Leads.{LeadsWithin}
 
 -- the least that an instruction leads to which adds at a fixup, with the registers in these classes
@@ -18,11 +17,8 @@ pub record DirectIs (k : Known) (a : At) (c d value : ℕ) : Type 0 where
   pub led : (l : Labels) (s : State) → Agrees l k a.others.now → AtFixup a.first a.import_index s → class_of l.registers s.c ≡ c → class_of l.registers s.d ≡ d → LeadsWithin l s (a.first ∷ a.others.now) value
   pub small : value ≤ 4 * length a.others.now + 4
 
-abbrev pub DirectLine : Known → At → ℕ → List ℕ → Type 0
-DirectLine k a c line = (d : ℕ) → d < length k.registers.now + 1 → DirectIs k a c d (slice_index line d)
-
-abbrev pub DirectSquare : Known → At → List (List ℕ) → Type 0
-DirectSquare k a square = (c : ℕ) → c < length k.registers.now + 1 → DirectLine k a c (slice_index_or square c [])
+abbrev pub DirectRow : Known → At → List ℕ → Type 0
+DirectRow k a row = (c d : ℕ) → c < length k.registers.now + 1 → d < length k.registers.now + 1 → DirectIs k a c d (number_in (length k.registers.now + 1) row c d)
 
 -- a number is the least of so many
 pub record LeastOf (count : ℕ) (f : ℕ → ℕ) (value : ℕ) : Type 0 where
@@ -32,35 +28,32 @@ pub record LeastOf (count : ℕ) (f : ℕ → ℕ) (value : ℕ) : Type 0 where
   pub is : f at ≡ value
 
 -- a line of labels from one of what is led to directly, the least of each column, and the least of all
-pub record LineOf (count : ℕ) (direct lows : List ℕ) (low : ℕ) (line : List ℕ) : Type 0 where
-  pub here : (d : ℕ) → d < count → slice_index line d ≤ slice_index direct d
-  pub column : (d : ℕ) → d < count → slice_index line d ≤ slice_index lows d + 1
-  pub along : (d e : ℕ) → d < count → e < count → slice_index line d ≤ slice_index direct e + 1
-  pub all : (d : ℕ) → d < count → slice_index line d ≤ low + 2
-  pub is : (d : ℕ) → d < count → ((slice_index line d ≡ slice_index direct d) ⊎ (slice_index line d ≡ slice_index lows d + 1)) ⊎ (((e : ℕ) × (e < count) × (slice_index line d ≡ slice_index direct e + 1)) ⊎ (slice_index line d ≡ low + 2))
+pub record LineOf (count : ℕ) (direct lows : ℕ → ℕ) (low : ℕ) (line : ℕ → ℕ) : Type 0 where
+  pub here : (d : ℕ) → d < count → line d ≤ direct d
+  pub column : (d : ℕ) → d < count → line d ≤ lows d + 1
+  pub along : (d e : ℕ) → d < count → e < count → line d ≤ direct e + 1
+  pub all : (d : ℕ) → d < count → line d ≤ low + 2
+  pub is : (d : ℕ) → d < count → ((line d ≡ direct d) ⊎ (line d ≡ lows d + 1)) ⊎ (((e : ℕ) × (e < count) × (line d ≡ direct e + 1)) ⊎ (line d ≡ low + 2))
 
-abbrev pub LinesOf : ℕ → List (List ℕ) → List ℕ → ℕ → List (List ℕ) → Type 0
-LinesOf count direct lows low square = (c : ℕ) → c < count → LineOf count (slice_index_or direct c []) lows low (slice_index_or square c [])
+abbrev pub LinesOf : ℕ → List ℕ → List ℕ → ℕ → List ℕ → Type 0
+LinesOf count direct lows low row = (c : ℕ) → c < count → LineOf count (λ d. number_in count direct c d) (λ d. slice_index lows d) low (λ d. number_in count row c d)
 
--- a square of labels is the least over all changes of registers
-pub record ClosedOf (count : ℕ) (direct square : List (List ℕ)) : Type 0 where
-  pub below : (c d : ℕ) → c < count → d < count → number_in square c d ≤ number_in direct c d
-  pub c_line : (c e d : ℕ) → c < count → e < count → d < count → number_in square c d ≤ 1 + number_in square e d
-  pub d_line : (c d e : ℕ) → c < count → d < count → e < count → number_in square c d ≤ 1 + number_in square c e
-  pub from : (c d : ℕ) → c < count → d < count → (number_in square c d ≡ number_in direct c d) ⊎ (((e : ℕ) × (e < count) × (1 + number_in square e d ≤ number_in square c d)) ⊎ ((e : ℕ) × (e < count) × (1 + number_in square c e ≤ number_in square c d)))
+-- a row of labels is the least over all changes of registers
+pub record ClosedOf (count : ℕ) (direct row : List ℕ) : Type 0 where
+  pub below : (c d : ℕ) → c < count → d < count → number_in count row c d ≤ number_in count direct c d
+  pub c_line : (c e d : ℕ) → c < count → e < count → d < count → number_in count row c d ≤ 1 + number_in count row e d
+  pub d_line : (c d e : ℕ) → c < count → d < count → e < count → number_in count row c d ≤ 1 + number_in count row c e
+  pub from : (c d : ℕ) → c < count → d < count → (number_in count row c d ≡ number_in count direct c d) ⊎ (((e : ℕ) × (e < count) × (1 + number_in count row e d ≤ number_in count row c d)) ⊎ ((e : ℕ) × (e < count) × (1 + number_in count row c e ≤ number_in count row c d)))
 
 -- the labels at a fixup
-pub record RowOf (k : Known) (a : At) (square : List (List ℕ)) : Type 0 where
-  pub direct : List (List ℕ)
-  pub direct_is : DirectSquare k a direct
-  pub closed : ClosedOf (length k.registers.now + 1) direct square
+pub record RowOf (k : Known) (a : At) (row : List ℕ) : Type 0 where
+  pub direct : List ℕ
+  pub direct_is : DirectRow k a direct
+  pub closed : ClosedOf (length k.registers.now + 1) direct row
 
 -- all of so many numbers are small
 abbrev pub SmallLine : ℕ → List ℕ → Type 0
 SmallLine count line = (d : ℕ) → d < count → slice_index line d ≤ 1048576
-
-abbrev pub SmallSquare : ℕ → List (List ℕ) → Type 0
-SmallSquare count square = (c : ℕ) → c < count → SmallLine count (slice_index_or square c [])
 
 -- the least skips at a fixup with a section, by the class of C
 pub record SkipsOf (k : Known) (a : At) (line : List ℕ) : Type 0 where

@@ -21,7 +21,7 @@ use Rattle.pef_reloc.specs.Limits.{most_imports, most_sections}
 
 -- the labels of tables
 abbrev pub labels_tabled : Known → Labels
-labels_tabled k = record { registers = k.registers.now; label = λ left c d. label_in k.labels.now left c d }
+labels_tabled k = record { registers = k.registers.now; label = λ left c d. label_in (length k.registers.now + 1) k.labels.now.rows left c d }
 
 -- registers that rise, each the number of a section
 pub record Sections (registers : List ℕ) : Type 0 where

@@ -1,8 +1,10 @@
 -- The tables of a plan, as they are filled from the last fixup back.
 use Rattle.std.specs.Prelude.{◌≡◌, ◌≤◌, ◌<◌, ℕ, ◌+◌, ◌*◌, List, length, slice_index, take}
+use Rattle.std.specs.List.{AllByRecursion}
 use Rattle.pef_reloc.specs.declared.fixup.Fixup.{Fixup}
 use Rattle.pef_reloc.specs.Deliveries.{index_after}
 use Rattle.pef_cert.specs.Labels.{Labels}
+use Rattle.pef_labels.specs.Rows.{LaidRows}
 use Rattle.pef_cert.specs.Feasible.{FeasibleFrom}
 use Rattle.pef_plan.specs.Reached.{ReachedFrom}
 use Rattle.pef_runs.specs.Tables.{OffersFrom, SameLabels, label_in, skip_in}
@@ -14,12 +16,19 @@ pub record IndicesOf (fixups : List Fixup) (indices : List ℕ) : Type 0 where
 
 -- tables that are filled where some fixups are left and less: labels that are those of the tables are
 -- feasible there, are reached, and have the table's offers
-pub record Tabled (registers : List ℕ) (labels : List (List (List ℕ))) (skips : List (List ℕ)) (index : ℕ) (rest : List Fixup) : Type 0 where
+pub record Tabled (registers : List ℕ) (labels : List (List ℕ)) (skips : List (List ℕ)) (index : ℕ) (rest : List Fixup) : Type 0 where
   pub labels_count : length labels ≡ length rest + 1
   pub skips_count : length skips ≡ length rest + 1
-  pub label_small : (left c d : ℕ) → left ≤ length rest → c < length registers + 1 → d < length registers + 1 → label_in labels left c d ≤ 4 * left
+  pub label_small : (left c d : ℕ) → left ≤ length rest → c < length registers + 1 → d < length registers + 1 → label_in (length registers + 1) labels left c d ≤ 4 * left
   pub skip_small : (left c : ℕ) → left ≤ length rest → c < length registers + 1 → skip_in skips left c ≤ 4 * left
-  pub last : (c d : ℕ) → c < length registers + 1 → d < length registers + 1 → label_in labels 0 c d ≡ 0
+  pub last : (c d : ℕ) → c < length registers + 1 → d < length registers + 1 → label_in (length registers + 1) labels 0 c d ≡ 0
   pub feasible : (l : Labels) → SameLabels l registers labels (length rest) → FeasibleFrom l index rest
   pub reached : (l : Labels) → SameLabels l registers labels (length rest) → ReachedFrom l index rest
   pub offers : (l : Labels) → SameLabels l registers labels (length rest) → OffersFrom l skips rest
+
+-- tables as they are kept, with a number for each pair of classes, or each class of C
+pub record TablesOf (registers : List ℕ) (labels skips : LaidRows) (index : ℕ) (rest : List Fixup) : Type 0 where
+  pub tabled : Tabled registers labels.rows skips.rows index rest
+  pub labels_wide : labels.width ≡ (length registers + 1) * (length registers + 1)
+  pub skips_wide : skips.width ≡ length registers + 1
+  pub rows_wide : AllByRecursion (λ row. length row ≡ (length registers + 1) * (length registers + 1)) labels.rows

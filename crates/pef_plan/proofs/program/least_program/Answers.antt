@@ -10,7 +10,7 @@ pub steps-init : goal.steps-init
 steps-init c =
     let p : Place = record { left = c.args.fixups; position = 0; import_index = 0; c = c.class_of.result; d = c.class_of-2.result } in
     subst (λ (xs : List Instr). ReadTo c.args.known c.args.fixups.now xs p) (sym c.new-program.ensures.items)
-    (read_start c.args.known p c.requires.fit c.requires.registers c.requires.tabled refl (record { position = refl; import_index = refl; c = sym c.class_of.ensures; d = sym c.class_of-2.ensures }))
+    (read_start c.args.known p c.requires.fit c.requires.registers c.requires.tables refl (record { position = refl; import_index = refl; c = sym c.class_of.ensures; d = sym c.class_of-2.ensures }))
 
 pub steps-preserved : goal.steps-preserved
 steps-preserved c =
@@ -19,4 +19,4 @@ steps-preserved c =
     (c.next_step-step.ensures (state_after c.steps.program.items start) c.steps.invariant.in_place))
 
 pub returns : goal.returns
-returns c = read_least c.args.known c.args.fixups.now c.steps.program.items c.steps.place c.requires.fit c.requires.registers c.requires.tabled c.steps.invariant c.in_default.ensures.cases
+returns c = read_least c.args.known c.args.fixups.now c.steps.program.items c.steps.place c.requires.fit c.requires.registers c.requires.tables c.steps.invariant c.in_default.ensures.cases

@@ -1,87 +1,118 @@
-use Rattle.std.proofs.Common.{◌≡◌, ◌∙◌, ◌+◌, ◌-◌, ◌++◌, ◌∷◌, List, ℕ, [], drop, length, take, refl, subst, sym, arith}
-use Rattle.std.proofs.lemmas.List.{drop_all, get_or_read, length-drop}
+use Rattle.std.proofs.Common.{◌≡◌, ◌∙◌, ◌+◌, ◌-◌, ◌*◌, ◌++◌, ◌∷◌, List, ℕ, [], ap, ap₂, drop, length, rules, take, refl, subst, sym, arith}
+use Rattle.std.proofs.lemmas.List.{drop_all, get_or_read, length-drop, length-replicate, with_items_is}
 use Rattle.pef_reloc.specs.Deliveries.{index_after}
 use Rattle.pef_reloc.proofs.Laws.{fixups_fit-parts}
 use Rattle.pef_runs.specs.Ends.{EndsOf}
 use Rattle.pef_runs.specs.Tables.{SameLabels}
-use Rattle.pef_plan.specs.Kept.Tables.{Tabled}
-use Rattle.pef_plan.proofs.FillLemmas.{ends-at, ends-next, ends-none, fill-at, fill-next, fill-none}
+use Rattle.pef_plan.specs.Kept.Tables.{TablesOf}
+use Rattle.pef_plan.proofs.FillLemmas.{ends-at, ends-next, ends-none, fill-at, fill-none, tables-next}
 use Rattle.pef_plan.proofs.PlanFacts.{few_classes}
 use Rattle.pef_plan.proofs.tables.fill.Goals as goal
+
+pub overflow_mul-classes : goal.overflow_mul-classes
+overflow_mul-classes c =
+    let few = few_classes c.args.fixups.now c.args.registers.now c.requires.fit c.requires.registers in
+    search (rules, few)
+
+pub new-requires-clause-few : goal.new-requires-clause-few
+new-requires-clause-few c =
+    let few = few_classes c.args.fixups.now c.args.registers.now c.requires.fit c.requires.registers in
+    omega (arith, few)
 
 pub fixups-init : goal.fixups-init
 fixups-init c =
     let fixups = c.args.fixups.now in
+    let r : ℕ = length c.args.registers.now + 1 in
     let none : drop (length fixups) fixups ≡ [] = drop_all (length fixups) fixups (omega arith) in
+    let labels = c.in_ok-push.ensures.ok in
+    let skips = c.in_ok-push-2.ensures.ok in
+    let row = c.deref.ensures.value ∙ c.in_ok-row.ensures.are in
+    let line = c.deref-2.ensures.value ∙ c.in_ok-line.ensures.are in
+    let label_rows = ap (λ t. t.rows) labels ∙ ap₂ (λ rs x. rs ++ x ∷ []) (ap (λ t. t.rows) c.new-labels.ensures) row in
+    let skip_rows = ap (λ t. t.rows) skips ∙ ap₂ (λ rs x. rs ++ x ∷ []) (ap (λ t. t.rows) c.new-skips.ensures) line in
     record {
       inside = omega arith;
-      tabled = fill-none (drop (length fixups) fixups) c.args.registers.now c.push.new.self c.push-2.new.self.items (index_after (take (length fixups) fixups) 0) none
-          (rw (c.in_ok-push.ensures.ok, c.new-labels.ensures) refl) (rw (c.in_ok-push-2.ensures.items, c.new-skips.ensures.items) refl);
-      ends = ends-none (drop (length fixups) fixups) c.args.registers.now c.push.new.self (length c.args.registers.now + 1) c.new-ends.result none refl c.new-ends.ensures;
+      tables = record {
+        tabled = fill-none (drop (length fixups) fixups) c.args.registers.now c.push.new.self.rows c.push-2.new.self.rows (index_after (take (length fixups) fixups) 0) (r * r) r none label_rows skip_rows;
+        labels_wide = ap (λ t. t.width) labels ∙ ap (λ t. t.width) c.new-labels.ensures;
+        skips_wide = ap (λ t. t.width) skips ∙ ap (λ t. t.width) c.new-skips.ensures;
+        rows_wide = rw label_rows (length-replicate (r * r) 0, tt);
+      };
+      ends = ends-none (drop (length fixups) fixups) c.args.registers.now c.push.new.self.rows r c.in_ok-ends.ends none refl c.in_ok-ends.ensures;
+      row_len = c.in_ok-row.ensures.len;
+      lows_len = c.in_ok-lows.ensures.len;
+      line_len = c.in_ok-line.ensures.len;
     }
-
-pub new-ends-requires : goal.new-ends-requires
-new-ends-requires c = few_classes c.args.fixups.now c.args.registers.now c.requires.fit c.requires.registers
 
 pub pass-requires-clause-at : goal.pass-requires-clause-at
 pass-requires-clause-at c =
     let e = c.state_at-state.ensures in
     let t = c.fixups-test.true in
-    fill-at c.args.fixups.now c.args.registers.now c.fixups.labels c.fixups.skips.items (c.fixups.at - 1) c.fixups.at _ _ c.state_at-state.result c.requires.fit c.requires.registers (omega (arith, t)) c.fixups.invariant.inside c.fixups.invariant.tabled
-    (record { registers_are = refl; labels_are = refl; skips_are = c.deref.ensures.value })
+    let i = c.fixups.invariant in
+    fill-at c.args.fixups.now c.args.registers.now c.fixups.labels.rows c.fixups.skips.rows (c.fixups.at - 1) c.fixups.at _ _ c.state_at-state.result c.requires.fit c.requires.registers (omega (arith, t)) i.inside i.tables.tabled
+    (record { registers_are = refl; labels_are = refl; skips_are = refl; labels_wide = i.tables.labels_wide; skips_wide = i.tables.skips_wide })
     (record { left = e.left; parts = e.parts; others = e.others; import_index = e.import_index })
 
 pub pass-requires-clause-ends : goal.pass-requires-clause-ends
 pass-requires-clause-ends c =
     let e = c.state_at-state.ensures in
     let t = c.fixups-test.true in
-    ends-at c.args.fixups.now c.args.registers.now c.fixups.labels c.fixups.skips.items (c.fixups.at - 1) c.fixups.at _ c.state_at-state.result c.fixups.ends (omega (arith, t))
-    (record { registers_are = refl; labels_are = refl; skips_are = c.deref.ensures.value })
+    let i = c.fixups.invariant in
+    ends-at c.args.fixups.now c.args.registers.now c.fixups.labels.rows c.fixups.skips.rows (c.fixups.at - 1) c.fixups.at _ c.state_at-state.result c.fixups.ends (omega (arith, t))
+    (record { registers_are = refl; labels_are = refl; skips_are = refl; labels_wide = i.tables.labels_wide; skips_wide = i.tables.skips_wide })
     (record { left = e.left; parts = e.parts; others = e.others; import_index = e.import_index })
-    c.fixups.invariant.ends
+    i.ends
 
-pub labels_at-row-requires-clause-at : goal.labels_at-row-requires-clause-at
-labels_at-row-requires-clause-at c =
+pub fill_labels-requires-clause-at : goal.fill_labels-requires-clause-at
+fill_labels-requires-clause-at c =
     let e = c.state_at-state.ensures in
     let t = c.fixups-test.true in
-    fill-at c.args.fixups.now c.args.registers.now c.fixups.labels c.fixups.skips.items (c.fixups.at - 1) c.fixups.at _ _ c.state_at-state.result c.requires.fit c.requires.registers (omega (arith, t)) c.fixups.invariant.inside c.fixups.invariant.tabled
-    (record { registers_are = refl; labels_are = refl; skips_are = c.deref.ensures.value })
+    let i = c.fixups.invariant in
+    fill-at c.args.fixups.now c.args.registers.now c.fixups.labels.rows c.fixups.skips.rows (c.fixups.at - 1) c.fixups.at _ _ c.state_at-state.result c.requires.fit c.requires.registers (omega (arith, t)) i.inside i.tables.tabled
+    (record { registers_are = refl; labels_are = refl; skips_are = refl; labels_wide = i.tables.labels_wide; skips_wide = i.tables.skips_wide })
     (record { left = e.left; parts = e.parts; others = e.others; import_index = e.import_index })
 
-pub skips_at-line-requires-clause-at : goal.skips_at-line-requires-clause-at
-skips_at-line-requires-clause-at c =
+pub fill_skips-requires-clause-at : goal.fill_skips-requires-clause-at
+fill_skips-requires-clause-at c =
     let e = c.state_at-state.ensures in
     let t = c.fixups-test.true in
-    fill-at c.args.fixups.now c.args.registers.now c.fixups.labels c.fixups.skips.items (c.fixups.at - 1) c.fixups.at _ _ c.state_at-state.result c.requires.fit c.requires.registers (omega (arith, t)) c.fixups.invariant.inside c.fixups.invariant.tabled
-    (record { registers_are = refl; labels_are = refl; skips_are = c.deref.ensures.value })
+    let i = c.fixups.invariant in
+    fill-at c.args.fixups.now c.args.registers.now c.fixups.labels.rows c.fixups.skips.rows (c.fixups.at - 1) c.fixups.at _ _ c.state_at-state.result c.requires.fit c.requires.registers (omega (arith, t)) i.inside i.tables.tabled
+    (record { registers_are = refl; labels_are = refl; skips_are = refl; labels_wide = i.tables.labels_wide; skips_wide = i.tables.skips_wide })
     (record { left = e.left; parts = e.parts; others = e.others; import_index = e.import_index })
-
-pub push-requires-in-fixups : goal.push-requires-in-fixups
-push-requires-in-fixups c =
-    let few = (fixups_fit-parts c.args.fixups.now c.requires.fit).count in
-    let count = c.fixups.invariant.tabled.labels_count in
-    omega (arith, few, count, length-drop c.fixups.at c.args.fixups.now)
 
 pub fixups-preserved : goal.fixups-preserved
 fixups-preserved c =
+    let a = c.args in
     let e = c.state_at-state.ensures in
     let t = c.fixups-test.true in
-    let i = c.fixups.invariant.inside in
-    let index : ℕ = index_after (take (c.fixups.at - 1) c.args.fixups.now) 0 in
-    let rest = drop (c.fixups.at - 1) c.args.fixups.now in
+    let i = c.fixups.invariant in
+    let inside = i.inside in
+    let rest = drop (c.fixups.at - 1) a.fixups.now in
+    let row_len = c.fill_labels.ensures.row_len ∙ ap length c.deref_mut.ensures.value in
+    let lows_len = c.fill_labels.ensures.lows_len ∙ ap length c.deref_mut-in-fixups.ensures.value in
+    let line_len = c.fill_skips.ensures.len ∙ ap length c.deref_mut-in-fixups-2.ensures.value in
+    let row_items = with_items_is c.fixups.row c.fill_labels.new.row (row_len ∙ sym c.fixups.row.ok.0) in
+    let lows_items = with_items_is c.fixups.lows c.fill_labels.new.lows (lows_len ∙ sym c.fixups.lows.ok.0) in
+    let line_items = with_items_is c.fixups.line c.fill_skips.new.skips (line_len ∙ sym c.fixups.line.ok.0) in
+    let row = c.deref-in-fixups.ensures.value ∙ row_items in
+    let line = c.deref-in-fixups-2.ensures.value ∙ line_items in
+    let labels = c.in_ok-push-3.ensures.ok ∙ ap (λ x. record { width = c.fixups.labels.width; rows = c.fixups.labels.rows ++ x ∷ [] }) row in
+    let skips = c.in_ok-push-4.ensures.ok ∙ ap (λ x. record { width = c.fixups.skips.width; rows = c.fixups.skips.rows ++ x ∷ [] }) line in
     record {
-      inside = omega (arith, i);
-      tabled = subst (λ (xs : List (List (List ℕ))). Tabled c.args.registers.now xs c.push-in-fixups-2.new.self.items index rest) (sym c.in_ok-push-3.ensures.ok)
-          (subst (λ (xs : List (List ℕ)). Tabled c.args.registers.now (c.fixups.labels ++ c.labels_at-row.result ∷ []) xs index rest) (sym c.in_ok-push-4.ensures.items)
-          (fill-next c.args.fixups.now c.args.registers.now c.fixups.labels c.fixups.skips.items (c.fixups.at - 1) c.fixups.at _ c.state_at-state.result c.labels_at-row.result c.skips_at-line.result c.requires.fit c.requires.registers (omega (arith, t)) i c.fixups.invariant.tabled
-          (record { registers_are = refl; labels_are = refl; skips_are = c.deref.ensures.value })
+      inside = omega (arith, inside);
+      tables = tables-next a.fixups.now a.registers.now c.fixups.labels c.fixups.skips c.push-in-fixups.new.self c.push-in-fixups-2.new.self (c.fixups.at - 1) c.fixups.at _ c.state_at-state.result c.fill_labels.new.row c.fill_skips.new.skips c.requires.fit c.requires.registers (omega (arith, t)) inside i.tables
+          (record { registers_are = refl; labels_are = refl; skips_are = refl; labels_wide = i.tables.labels_wide; skips_wide = i.tables.skips_wide })
           (record { left = e.left; parts = e.parts; others = e.others; import_index = e.import_index })
-          c.labels_at-row.ensures c.skips_at-line.ensures));
-      ends = subst (λ (xs : List (List (List ℕ))). EndsOf (λ l. SameLabels l c.args.registers.now xs (length rest)) (length c.args.registers.now + 1) rest c.pass.new.self) (sym c.in_ok-push-3.ensures.ok)
-          (ends-next c.args.fixups.now c.args.registers.now c.fixups.labels c.fixups.skips.items (c.fixups.at - 1) c.fixups.at _ _ c.state_at-state.result c.labels_at-row.result c.pass.new.self (omega (arith, t)) c.fixups.invariant.tabled
-          (record { registers_are = refl; labels_are = refl; skips_are = c.deref.ensures.value })
+          c.fill_labels.ensures.labels c.fill_skips.ensures.are (row_len ∙ i.row_len) labels skips;
+      ends = subst (λ (xs : List (List ℕ)). EndsOf (λ l. SameLabels l a.registers.now xs (length rest)) (length a.registers.now + 1) rest c.pass.new.self) (sym (ap (λ t. t.rows) labels))
+          (ends-next a.fixups.now a.registers.now c.fixups.labels.rows c.fixups.skips.rows (c.fixups.at - 1) c.fixups.at _ _ c.state_at-state.result c.fill_labels.new.row c.pass.new.self (omega (arith, t)) i.tables.tabled
+          (record { registers_are = refl; labels_are = refl; skips_are = refl; labels_wide = i.tables.labels_wide; skips_wide = i.tables.skips_wide })
           (record { left = e.left; parts = e.parts; others = e.others; import_index = e.import_index })
           c.in_ok-pass.ensures);
+      row_len = ap length row_items ∙ (row_len ∙ i.row_len);
+      lows_len = ap length lows_items ∙ (lows_len ∙ i.lows_len);
+      line_len = ap length line_items ∙ (line_len ∙ i.line_len);
     }
 
 pub index-requires : goal.index-requires
@@ -95,13 +126,7 @@ state_at-state-requires-clause-import_index c =
     get_or_read c.in_ok-indices.indices.items _ _ (omega (arith, h.count, c.fixups.invariant.inside, c.fixups-test.true)) c.index.ensures 0
     ∙ h.at (c.fixups.at - 1) (omega (arith, c.fixups.invariant.inside, c.fixups-test.true))
 
-pub labels_at-row-requires-clause-ends : goal.labels_at-row-requires-clause-ends
-labels_at-row-requires-clause-ends c = c.in_ok-pass.ensures
-
-pub skips_at-line-requires-clause-ends : goal.skips_at-line-requires-clause-ends
-skips_at-line-requires-clause-ends c = c.in_ok-pass.ensures
-
 pub returns : goal.returns
 returns c =
     let none : c.fixups.at ≡ 0 = omega (arith, c.fixups-test.false) in
-    subst (λ (n : ℕ). Tabled c.args.registers.now c.fixups.labels c.fixups.skips.items (index_after (take n c.args.fixups.now) 0) (drop n c.args.fixups.now)) none c.fixups.invariant.tabled
+    subst (λ (n : ℕ). TablesOf c.args.registers.now c.fixups.labels c.fixups.skips (index_after (take n c.args.fixups.now) 0) (drop n c.args.fixups.now)) none c.fixups.invariant.tables

@@ -1,8 +1,8 @@
-use Rattle.std.proofs.Common.{◌≤◌, ◌+◌, drop, length, take}
+use Rattle.std.proofs.Common.{◌≡◌, ◌≤◌, ◌+◌, ◌*◌, drop, length, take}
 use Rattle.pef_reloc.specs.Deliveries.{index_after}
 use Rattle.pef_runs.specs.Ends.{EndsOf}
 use Rattle.pef_runs.specs.Tables.{SameLabels}
-use Rattle.pef_plan.specs.Kept.Tables.{Tabled}
+use Rattle.pef_plan.specs.Kept.Tables.{TablesOf}
 use Rattle.pef_plan.proofs.tables.fill.Given as goal
 
 abbrev pub decreases-fixups : goal.decreases-fixups
@@ -11,6 +11,9 @@ decreases-fixups l = l.at
 abbrev pub invariant-fixups : goal.invariant-fixups
 invariant-fixups l = record {
   inside : l.at ≤ length l.fixups;
-  tabled : Tabled l.registers l.labels l.skips.items (index_after (take l.at l.fixups) 0) (drop l.at l.fixups);
-  ends : EndsOf (λ labels. SameLabels labels l.registers l.labels (length (drop l.at l.fixups))) (length l.registers + 1) (drop l.at l.fixups) l.ends;
+  tables : TablesOf l.registers l.labels l.skips (index_after (take l.at l.fixups) 0) (drop l.at l.fixups);
+  ends : EndsOf (λ labels. SameLabels labels l.registers l.labels.rows (length (drop l.at l.fixups))) (length l.registers + 1) (drop l.at l.fixups) l.ends;
+  row_len : length l.row.items ≡ (length l.registers + 1) * (length l.registers + 1);
+  lows_len : length l.lows.items ≡ length l.registers + 1;
+  line_len : length l.line.items ≡ length l.registers + 1;
 }

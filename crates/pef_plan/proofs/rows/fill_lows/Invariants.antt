@@ -1,0 +1,10 @@
+use Rattle.std.proofs.Common.{◌≡◌, ◌<◌, ℕ, length, slice_index}
+use Rattle.pef_runs.specs.Tables.{number_in}
+use Rattle.pef_plan.specs.Kept.Rows.{LeastOf}
+use Rattle.pef_plan.proofs.rows.fill_lows.Given as goal
+
+abbrev pub invariant-columns : goal.invariant-columns
+invariant-columns l = record {
+  len : length l.lows ≡ length l.fn.lows;
+  are : (d : ℕ) → d < l.d → LeastOf (length l.fn.lows) (λ c. number_in (length l.fn.lows) l.row c d) (slice_index l.lows d);
+}
