@@ -47,7 +47,7 @@ claim-stands c at index f shaped e feasible = record {
   feasible = feasible;
 }
 
-needed_of : (c : Claim) (at index : ℕ) (f : Fixup) → Shaped c → slice_get c.fixups.now at ≡ Some f → FeasibleAt (labels_claimed c) index f (drop (at + 1) c.fixups.now) → TestsHold (labels_claimed c) index f (drop (at + 1) c.fixups.now)
+pub needed_of : (c : Claim) (at index : ℕ) (f : Fixup) → Shaped c → slice_get c.fixups.now at ≡ Some f → FeasibleAt (labels_claimed c) index f (drop (at + 1) c.fixups.now) → TestsHold (labels_claimed c) index f (drop (at + 1) c.fixups.now)
 needed_of c at index f shaped e feasible =
     tests_needed (labels_claimed c) index f (drop (at + 1) c.fixups.now) (claim-stands c at index f shaped e feasible) (fixup_fits-parts f (got-fits c at f shaped e)).base
 

@@ -4,6 +4,7 @@ mod Bounds
 mod CheckLemmas
 mod ClaimLemmas
 mod ClassLemmas
+mod CoverLemmas
 mod ExtensionLemmas
 mod Falling
 mod FeasibleLemmas

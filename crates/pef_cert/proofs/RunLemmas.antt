@@ -77,6 +77,14 @@ row_test-met l label w b c d (suc n) p (f ∷ rest) holds =
     let same = ap (λ q. extension l left q c d) end in
     omega (arith, low, same)))
 
+-- and so by each lower label, along shorter runs
+pub row_test-weaker : (l : Labels) (label low w : ℕ) (b : Base) (c d n m p : ℕ) (fixups : List Fixup) → label ≤ low → n ≤ m → row_test l low w b c d m p fixups ≡ true → row_test l label w b c d n p fixups ≡ true
+row_test-weaker l label low w b c d n m p fixups under few met =
+    row_test-met l label w b c d n p fixups
+    (λ i left inside words.
+    let most = row_test-holds l low w b c d m p fixups met i left (omega (arith, inside, few)) words in
+    omega (arith, most, under))
+
 -- two first fixups and others
 record SplitsTwo (f g f' g' : Fixup) (rest more : List Fixup) : Type 0 where
   first : f ≡ f'
@@ -137,6 +145,13 @@ pairs_test-met l label w b b' c d (suc n) p (f ∷ g ∷ rest) holds =
     let same = ap (λ q. extension l left q c d) end in
     omega (arith, low, same)))
 
+pub pairs_test-weaker : (l : Labels) (label low w : ℕ) (b b' : Base) (c d n m p : ℕ) (fixups : List Fixup) → label ≤ low → n ≤ m → pairs_test l low w b b' c d m p fixups ≡ true → pairs_test l label w b b' c d n p fixups ≡ true
+pairs_test-weaker l label low w b b' c d n m p fixups under few met =
+    pairs_test-met l label w b b' c d n p fixups
+    (λ i left inside words.
+    let most = pairs_test-holds l low w b b' c d m p fixups met i left (omega (arith, inside, few)) words in
+    omega (arith, most, under))
+
 pub numbered_test-holds : (l : Labels) (label c d n p i : ℕ) (fixups : List Fixup) → numbered_test l label c d n p i fixups ≡ true → (m : ℕ) (left : List Fixup) → m < n → fixups ≡ numbered (suc m) p i ++ left → label ≤ 1 + extension l left (p + 4 * suc m) c d
 unfolding numbered_test numbered
 numbered_test-holds l label c d zero p i fixups met m left under e = absurd (omega arith)
@@ -176,3 +191,10 @@ numbered_test-met l label c d (suc n) p i (f ∷ rest) holds =
     let low = holds (suc m) left (omega arith) (ap (λ g. g ∷ rest) first ∙ ap (λ fs. added p (Import i) ∷ fs) e) in
     let same = ap (λ q. extension l left q c d) end in
     omega (arith, low, same)))
+
+pub numbered_test-weaker : (l : Labels) (label low c d n m p i : ℕ) (fixups : List Fixup) → label ≤ low → n ≤ m → numbered_test l low c d m p i fixups ≡ true → numbered_test l label c d n p i fixups ≡ true
+numbered_test-weaker l label low c d n m p i fixups under few met =
+    numbered_test-met l label c d n p i fixups
+    (λ k left inside words.
+    let most = numbered_test-holds l low c d m p i fixups met k left (omega (arith, inside, few)) words in
+    omega (arith, most, under))

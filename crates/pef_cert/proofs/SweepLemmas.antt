@@ -143,7 +143,7 @@ swept-next claim q at ring least f new swept here row are = record {
 }
 
 -- labels that are feasible from one fixup on, and from the one before it
-index_next : (fixups : List Fixup) (at : ℕ) (f : Fixup) → slice_get fixups at ≡ Some f → index_after (take (at + 1) fixups) 0 ≡ index_past f.base (index_after (take at fixups) 0)
+pub index_next : (fixups : List Fixup) (at : ℕ) (f : Fixup) → slice_get fixups at ≡ Some f → index_after (take (at + 1) fixups) 0 ≡ index_past f.base (index_after (take at fixups) 0)
 index_next fixups at f e =
     let under = get_under fixups at f e in
     let is = got_is fixups at f e in

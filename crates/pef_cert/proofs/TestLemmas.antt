@@ -32,7 +32,7 @@ pub record SectionTests (l : Labels) (label k : ℕ) (f : Fixup) (rest : List Fi
   pub spaced : (class_of l.registers k == d) ≡ true → row_test l label 8 (Section k) c d 512 f.offset (f ∷ rest) ≡ true
   pub second : (class_of l.registers k == c) ≡ true → second_test l label k c d f rest ≡ true
 
-section_tests : (l : Labels) (label index k : ℕ) (f : Fixup) (rest : List Fixup) (c d : ℕ) → base_test l label index f rest c d (Section k) ≡ true → SectionTests l label k f rest c d
+pub section_tests : (l : Labels) (label index k : ℕ) (f : Fixup) (rest : List Fixup) (c d : ℕ) → base_test l label index f rest c d (Section k) ≡ true → SectionTests l label k f rest c d
 section_tests l label index k f rest c d e =
     let single = one_from l label rest (f.offset + 4) c d in
     let words = asked (class_of l.registers k == c || class_of l.registers k == d) (row_test l label 4 (Section k) c d 512 f.offset (f ∷ rest)) in
@@ -66,7 +66,7 @@ pub record ImportTests (l : Labels) (label index k : ℕ) (f : Fixup) (rest : Li
   pub single : label ≤ import_cost k + extension l rest (f.offset + 4) c d
   pub imports : (k == index) ≡ true → numbered_test l label c d 512 f.offset k (f ∷ rest) ≡ true
 
-import_tests : (l : Labels) (label index k : ℕ) (f : Fixup) (rest : List Fixup) (c d : ℕ) → base_test l label index f rest c d (Import k) ≡ true → ImportTests l label index k f rest c d
+pub import_tests : (l : Labels) (label index k : ℕ) (f : Fixup) (rest : List Fixup) (c d : ℕ) → base_test l label index f rest c d (Import k) ≡ true → ImportTests l label index k f rest c d
 import_tests l label index k f rest c d e =
     let single = nat_le label (import_cost k + extension l rest (f.offset + 4) c d) in
     let imports = asked (k == index) (numbered_test l label c d 512 f.offset k (f ∷ rest)) in
@@ -103,11 +103,11 @@ falls_spaced : (l : Labels) (label index : ℕ) (f : Fixup) (rest left : List Fi
 falls_spaced l label index f rest left c d k n p met at few words is = falls_row l label index f rest left c d k n p 8 met at few words (λ t. t.spaced is)
 
 -- the two tests of pairs that begin the fixups
-record PairTests (l : Labels) (label k j : ℕ) (c d p : ℕ) (fixups : List Fixup) : Type 0 where
-  near : pairs_test l label 8 (Section k) (Section j) c d 512 p fixups ≡ true
-  far : pairs_test l label 12 (Section k) (Section j) c d 512 p fixups ≡ true
+pub record PairTests (l : Labels) (label k j : ℕ) (c d p : ℕ) (fixups : List Fixup) : Type 0 where
+  pub near : pairs_test l label 8 (Section k) (Section j) c d 512 p fixups ≡ true
+  pub far : pairs_test l label 12 (Section k) (Section j) c d 512 p fixups ≡ true
 
-pair_tests : (l : Labels) (label k j c d p : ℕ) (fixups : List Fixup) → (class_of l.registers j == d) ≡ true → pair_test l label k c d p fixups (Section j) ≡ true → PairTests l label k j c d p fixups
+pub pair_tests : (l : Labels) (label k j c d p : ℕ) (fixups : List Fixup) → (class_of l.registers j == d) ≡ true → pair_test l label k c d p fixups (Section j) ≡ true → PairTests l label k j c d p fixups
 pair_tests l label k j c d p fixups is e =
     let near = pairs_test l label 8 (Section k) (Section j) c d 512 p fixups in
     let far = pairs_test l label 12 (Section k) (Section j) c d 512 p fixups in

@@ -1,6 +1,7 @@
 ghost use Rattle.std.specs.Prelude.{◌≡◌, ◌+◌, ◌==◌, ◌^◌, ◌<◌, ◌≤◌, ◌||◌, drop, length, nat_le, take};
 ghost use Rattle.pef_cert.specs.Extension.{extension};
 ghost use Rattle.pef_cert.specs.Kept.Claims.{Tests, labels_claimed};
+ghost use Rattle.pef_cert.specs.Labels.{class_of};
 ghost use Rattle.pef_cert.specs.LabelTests.{asked, base_test, import_cost, numbered_test, one_from, pair_test, row_test, second_test};
 ghost use Rattle.pef_reloc.specs.Deliveries.{index_after};
 ghost use Rattle.pef_reloc.specs.declared.fixup.Base.TheVariants.{Section, Import};
@@ -73,7 +74,8 @@ impl<'a> Behind<'a> {
 
     /// Tests a label against runs of a section that a register holds.
     fn words_hold(self, tested: Tested, section: u32, class: usize) -> bool
-        requires { Tests self tested }
+        requires tests { Tests self tested }
+        requires class { class ≡ class_of self.claim.registers.now section }
         ensures { result ≡ asked (class == tested.c || class == tested.d) (row_test (labels_claimed self.entry.claim) tested.label 4 (Section section) tested.c tested.d 512 tested.fixup.offset (drop tested.at self.entry.claim.fixups.now)) }
     {
         if class == tested.c || class == tested.d {
@@ -85,7 +87,8 @@ impl<'a> Behind<'a> {
 
     /// Tests a label against runs of a section in register D, a word apart.
     fn spaced_hold(self, tested: Tested, section: u32, class: usize) -> bool
-        requires { Tests self tested }
+        requires tests { Tests self tested }
+        requires class { class ≡ class_of self.claim.registers.now section }
         ensures { result ≡ asked (class == tested.d) (row_test (labels_claimed self.entry.claim) tested.label 8 (Section section) tested.c tested.d 512 tested.fixup.offset (drop tested.at self.entry.claim.fixups.now)) }
     {
         if class == tested.d {
@@ -97,7 +100,8 @@ impl<'a> Behind<'a> {
 
     /// Tests a label against pairs of a section in register C and the base that comes next.
     fn second_holds(self, tested: Tested, section: u32, class: usize) -> bool
-        requires { Tests self tested }
+        requires tests { Tests self tested }
+        requires class { class ≡ class_of self.claim.registers.now section }
         ensures { result ≡ asked (class == tested.c) (second_test (labels_claimed self.entry.claim) tested.label section tested.c tested.d tested.fixup (drop (tested.at + 1) self.entry.claim.fixups.now)) }
     {
         if class == tested.c {
@@ -111,7 +115,8 @@ impl<'a> Behind<'a> {
 
     /// Tests a label against pairs of a section in register C and a base.
     fn pair_holds(self, tested: Tested, section: u32, second: Base) -> bool
-        requires { Tests self tested }
+        requires tests { Tests self tested }
+        requires class { class_of self.claim.registers.now section ≡ tested.c }
         ensures { result ≡ pair_test (labels_claimed self.entry.claim) tested.label section tested.c tested.d tested.fixup.offset (drop tested.at self.entry.claim.fixups.now) second }
     {
         match second {
@@ -122,7 +127,8 @@ impl<'a> Behind<'a> {
 
     /// Tests a label against pairs of sections in registers C and D.
     fn sections_hold(self, tested: Tested, section: u32, other: u32) -> bool
-        requires { Tests self tested }
+        requires tests { Tests self tested }
+        requires class { class_of self.claim.registers.now section ≡ tested.c }
         ensures { result ≡ pair_test (labels_claimed self.entry.claim) tested.label section tested.c tested.d tested.fixup.offset (drop tested.at self.entry.claim.fixups.now) (Section other) }
     {
         if class_of(self.claim.registers, other) == tested.d {

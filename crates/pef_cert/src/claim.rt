@@ -84,6 +84,16 @@ impl<'a> Behind<'a> {
         }
     }
 
+    /// The label at index `at`.
+    pub(crate) fn label(self, at: usize, c: usize, d: usize) -> u32
+        requires sees { Sees self at }
+        requires c { c < length self.claim.registers.now + 1 }
+        requires d { d < length self.claim.registers.now + 1 }
+        ensures { result ≡ (labels_claimed self.entry.claim).label (length self.entry.claim.fixups.now - at) c d }
+    {
+        self.claim.label(self.rows[at % WINDOW], c, d)
+    }
+
     /// The extension where the fixups from index `at` on are left, of which this is the first.
     fn value_before(self, at: usize, fixup: Fixup, position: u64, c: usize, d: usize) -> u64
         requires sees { Sees self at }
@@ -93,7 +103,7 @@ impl<'a> Behind<'a> {
         ensures is { result ≡ extension (labels_claimed self.entry.claim) (drop at self.entry.claim.fixups.now) position c d }
         ensures small { result ≤ 2 ^ 32 + 1 }
     {
-        let label = self.claim.label(self.rows[at % WINDOW], c, d);
+        let label = self.label(at, c, d);
         let offset = u64::from(fixup.offset);
         if position == offset {
             return u64::from(label);

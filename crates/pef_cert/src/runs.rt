@@ -1,7 +1,8 @@
-ghost use Rattle.std.specs.Prelude.{◌≡◌, ◌+◌, ◌^◌, ◌&&◌, ◌<◌, ◌≤◌, drop, length};
-ghost use Rattle.pef_cert.specs.Kept.Claims.{Sees, Tests, labels_claimed};
+ghost use Rattle.std.specs.Prelude.{◌≡◌, ◌+◌, ◌^◌, ◌&&◌, ◌<◌, ◌≤◌, IsTrue, drop, length, take};
+ghost use Rattle.pef_cert.specs.Kept.Claims.{Covers, PairsMet, RowMet, Sees, Tests, labels_claimed};
 ghost use Rattle.pef_cert.specs.Kept.Tests.{adds_first};
 ghost use Rattle.pef_cert.specs.LabelTests.{numbered_test, one_from, pairs_test, row_test};
+ghost use Rattle.pef_reloc.specs.Deliveries.{index_after};
 
 use crate::claim::{Behind, Claim};
 use pef_fixups::{WORD, adds_at};
@@ -51,17 +52,36 @@ impl<'a> Behind<'a> {
         u64::from(tested.label) <= 1 + self.value(at, position, tested.c, tested.d)
     }
 
+    /// Whether an index is behind the fixup under test and its label in the same classes is at least the
+    /// tested one. If a run goes on there, the tests of that label cover every longer end.
+    fn covers(self, tested: Tested, at: usize) -> bool
+        requires tests { Tests self tested }
+        requires from { tested.at ≤ at }
+        requires before { at < tested.at + 1024 }
+        requires inside { at ≤ length self.claim.fixups.now }
+        ensures { IsTrue result → Covers self.entry tested at }
+    {
+        if at == tested.at {
+            return false;
+        }
+        self.label(at, tested.c, tested.d) >= tested.label
+    }
+
     /// Tests a label behind each run of a base, `stride` bytes apart, that begins at a position.
     pub(crate) fn row_holds(self, tested: Tested, position: u64, stride: u64, base: Base) -> bool
         requires tests { Tests self tested }
         requires position { position < 2 ^ 32 }
         requires stride { stride ≤ 12 }
+        requires met { RowMet self tested stride base }
         ensures { result ≡ row_test (labels_claimed self.entry.claim) tested.label stride base tested.c tested.d 512 position (drop tested.at self.entry.claim.fixups.now) }
     {
         let mut at = tested.at;
         let mut from = position;
         'words: for _ in 0..MAX_RUN {
             if !self.claim.adds(at, from, base) {
+                return true;
+            }
+            if self.covers(tested, at) {
                 return true;
             }
             at += 1;
@@ -86,12 +106,16 @@ impl<'a> Behind<'a> {
         requires tests { Tests self tested }
         requires position { position < 2 ^ 32 }
         requires stride { stride ≤ 12 }
+        requires met { PairsMet self tested stride first second }
         ensures { result ≡ pairs_test (labels_claimed self.entry.claim) tested.label stride first second tested.c tested.d 512 position (drop tested.at self.entry.claim.fixups.now) }
     {
         let mut at = tested.at;
         let mut from = position;
         'pairs: for _ in 0..MAX_RUN {
             if !self.claim.adds_pair(at, from, first, second) {
+                return true;
+            }
+            if self.covers(tested, at) {
                 return true;
             }
             at += 2;
@@ -108,6 +132,7 @@ impl<'a> Behind<'a> {
         requires tests { Tests self tested }
         requires position { position < 2 ^ 32 }
         requires first { first < 2 ^ 31 }
+        requires index { first ≡ index_after (take tested.at self.claim.fixups.now) 0 }
         ensures { result ≡ numbered_test (labels_claimed self.entry.claim) tested.label tested.c tested.d 512 position first (drop tested.at self.entry.claim.fixups.now) }
     {
         let mut at = tested.at;
@@ -115,6 +140,9 @@ impl<'a> Behind<'a> {
         let mut import = first;
         'imports: for _ in 0..MAX_RUN {
             if !self.claim.adds(at, from, Base::Import(import)) {
+                return true;
+            }
+            if self.covers(tested, at) {
                 return true;
             }
             at += 1;

@@ -1,7 +1,7 @@
 ghost use Rattle.std.specs.Prelude.{◌≡◌, ◌+◌, ◌*◌, ◌<◌, MatchOption, ◌-◌, drop, take, slice_get};
 ghost use Rattle.pef_cert.specs.Extension.{extension_at};
-ghost use Rattle.pef_cert.specs.Feasible.{Feasible, FeasibleAt, FeasibleFrom};
-ghost use Rattle.pef_cert.specs.Kept.Claims.{IsRowOf, Knows, Shaped, Skips, SkipsAre, UnderTest, labels_claimed};
+ghost use Rattle.pef_cert.specs.Feasible.{Feasible, FeasibleAt};
+ghost use Rattle.pef_cert.specs.Kept.Claims.{FeasibleBehind, IsRowOf, Knows, Shaped, Skips, SkipsAre, UnderTest, labels_claimed};
 ghost use Rattle.pef_cert.specs.Kept.Sets.{RowIsZero};
 ghost use Rattle.pef_fixups.specs.Answers.{Says};
 ghost use Rattle.pef_reloc.specs.Deliveries.{index_after};
@@ -78,8 +78,7 @@ fn is_zero(row: &[u32]) -> bool
 impl<'a> Behind<'a> {
     /// The least skips at a fixup, by the class of register C, where its labels are feasible.
     fn sweep(self, under: Under) -> Option<[u32; MAX_CLASSES]>
-        requires under { UnderTest self under }
-        requires beyond { FeasibleFrom (labels_claimed self.claim) (index_after (take (under.at + 1) self.claim.fixups.now) 0) (drop (under.at + 1) self.claim.fixups.now) }
+        requires { UnderTest self under }
         ensures { MatchOption result (FeasibleAt (labels_claimed self.entry.claim) (index_after (take under.at self.entry.claim.fixups.now) 0) under.fixup (drop (under.at + 1) self.entry.claim.fixups.now) → ⊥) (λ least. FeasibleAt (labels_claimed self.entry.claim) (index_after (take under.at self.entry.claim.fixups.now) 0) under.fixup (drop (under.at + 1) self.entry.claim.fixups.now) × SkipsAre self.entry.claim under.fixup (drop (under.at + 1) self.entry.claim.fixups.now) least) }
     {
         if self.fixup_holds(under) {
@@ -93,7 +92,7 @@ impl<'a> Behind<'a> {
     fn least_skips(self, at: usize, fixup: Fixup) -> [u32; MAX_CLASSES]
         requires knows { Knows self (at + 1) }
         requires here { slice_get self.claim.fixups.now at ≡ Some fixup }
-        requires beyond { FeasibleFrom (labels_claimed self.claim) (index_after (take (at + 1) self.claim.fixups.now) 0) (drop (at + 1) self.claim.fixups.now) }
+        requires beyond { FeasibleBehind self.claim at }
         ensures { SkipsAre self.entry.claim fixup (drop (at + 1) self.entry.claim.fixups.now) result }
     {
         match fixup.base {
@@ -104,8 +103,7 @@ impl<'a> Behind<'a> {
 
     /// The same where the fixup has a section.
     fn section_skips(self, at: usize, fixup: Fixup, section: u32) -> [u32; MAX_CLASSES]
-        requires skips { Skips self at fixup section }
-        requires beyond { FeasibleFrom (labels_claimed self.claim) (index_after (take (at + 1) self.claim.fixups.now) 0) (drop (at + 1) self.claim.fixups.now) }
+        requires { Skips self at fixup section }
         ensures { SkipsAre self.entry.claim fixup (drop (at + 1) self.entry.claim.fixups.now) result }
     {
         let mut least = [0; MAX_CLASSES];

@@ -1,9 +1,11 @@
 -- What a check keeps in view: the labels that are claimed, and what it has found behind the fixup under test.
-use Rattle.std.specs.Prelude.{◌≡◌, ◌≤◌, ◌<◌, ℕ, zero, suc, ◌+◌, ◌*◌, ◌%◌, true, List, [], ◌∷◌, length, drop, slice_get, slice_index, slice_index_or, Some}
+use Rattle.std.specs.Prelude.{◌≡◌, ◌≤◌, ◌<◌, ℕ, zero, suc, ◌+◌, ◌-◌, ◌*◌, ◌%◌, true, ◌&&◌, List, [], ◌∷◌, length, take, drop, slice_get, slice_index, slice_index_or, Some}
 use Rattle.std.specs.List.{AllByRecursion}
+use Rattle.pef_reloc.specs.declared.fixup.Base.{Base}
 use Rattle.pef_reloc.specs.declared.fixup.Base.TheVariants.{Section}
 use Rattle.pef_reloc.specs.declared.fixup.Fixup.{Fixup}
 use Rattle.pef_reloc.specs.declared.instr.Instr.{Instr}
+use Rattle.pef_reloc.specs.Deliveries.{index_after}
 use Rattle.pef_reloc.specs.Fixups.{fixups_fit}
 use Rattle.pef_reloc.specs.Instrs.{program_length}
 use Rattle.pef_reloc.specs.Steps.{Makes, is_flat, start}
@@ -13,7 +15,9 @@ use Rattle.pef_cert.specs.declared.feasible.Under.{Under}
 use Rattle.pef_cert.specs.declared.runs.Tested.{Tested}
 use Rattle.pef_cert.specs.Labels.{Labels, classes}
 use Rattle.pef_cert.specs.Extension.{OfferIs, extension_at}
-use Rattle.pef_cert.specs.Feasible.{Feasible}
+use Rattle.pef_cert.specs.Feasible.{Feasible, FeasibleFrom}
+use Rattle.pef_cert.specs.Kept.Tests.{adds_first}
+use Rattle.pef_cert.specs.LabelTests.{pairs_test, row_test}
 use Rattle.pef_labels.specs.Rows.{RowsFull, rows_from}
 use Rattle.pef_cert.specs.Valid.{RegistersOf, labels_in}
 
@@ -67,22 +71,48 @@ pub record Swept (claim : Claim) (ring : List ℕ) (least : List (List ℕ)) (fr
 abbrev pub Knows : Behind → ℕ → Type 0
 Knows b from = Swept b.claim b.rows.now b.skips.now from
 
+-- the labels behind an index are feasible
+abbrev pub FeasibleBehind : Claim → ℕ → Type 0
+FeasibleBehind claim at = FeasibleFrom (labels_claimed claim) (index_after (take (at + 1) claim.fixups.now) 0) (drop (at + 1) claim.fixups.now)
+
 -- a state at a fixup, whose label is tested against what lies behind
 pub record Tests (b : Behind) (s : Tested) : Type 0 where
   pub knows : Knows b (s.at + 1)
+  pub beyond : FeasibleBehind b.claim s.at
   pub here : slice_get b.claim.fixups.now s.at ≡ Some s.fixup
   pub c_class : s.c < length b.claim.registers.now + 1
   pub d_class : s.d < length b.claim.registers.now + 1
 
+-- the label of an index, in the classes of a tested state
+abbrev pub label_behind : Behind → Tested → ℕ → ℕ
+label_behind b s j = (labels_claimed b.claim).label (length b.claim.fixups.now - j) s.c s.d
+
+-- each label behind a tested one meets the test of a run of a base that begins there
+abbrev pub RowMet : Behind → Tested → ℕ → Base → Type 0
+RowMet b s w base = (j p : ℕ) → s.at < j → adds_first p base (drop j b.claim.fixups.now) ≡ true
+    → row_test (labels_claimed b.claim) (label_behind b s j) w base s.c s.d 512 p (drop j b.claim.fixups.now) ≡ true
+
+-- and of a run of two bases side by side
+abbrev pub PairsMet : Behind → Tested → ℕ → Base → Base → Type 0
+PairsMet b s w first second = (j p : ℕ) → s.at < j → (adds_first p first (drop j b.claim.fixups.now) && adds_first (p + 4) second (drop (j + 1) b.claim.fixups.now)) ≡ true
+    → pairs_test (labels_claimed b.claim) (label_behind b s j) w first second s.c s.d 512 p (drop j b.claim.fixups.now) ≡ true
+
+-- an index behind a tested state whose label is no lower
+pub record Covers (b : Behind) (s : Tested) (j : ℕ) : Type 0 where
+  pub after : s.at < j
+  pub low : s.label ≤ label_behind b s j
+
 -- a fixup under test, with its row of labels
 pub record UnderTest (b : Behind) (u : Under) : Type 0 where
   pub knows : Knows b (u.at + 1)
+  pub beyond : FeasibleBehind b.claim u.at
   pub here : slice_get b.claim.fixups.now u.at ≡ Some u.fixup
   pub row : IsRowOf b.claim.kept.ends.now u.row u.at
 
 -- an index at a section's fixup, where all is known behind it and labels are feasible there
 pub record Skips (b : Behind) (at : ℕ) (f : Fixup) (k : ℕ) : Type 0 where
   pub knows : Knows b (at + 1)
+  pub beyond : FeasibleBehind b.claim at
   pub here : slice_get b.claim.fixups.now at ≡ Some f
   pub base : f.base ≡ Section k
 

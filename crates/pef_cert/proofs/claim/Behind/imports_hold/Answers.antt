@@ -1,7 +1,8 @@
-use Rattle.std.proofs.Common.{◌+◌, ◌-◌, sym, arith}
+use Rattle.std.proofs.Common.{◌+◌, ◌-◌, refl, sym, arith}
 use Rattle.pef_reloc.specs.declared.fixup.Base.TheVariants.{Import}
-use Rattle.pef_cert.specs.Kept.Claims.{labels_claimed}
+use Rattle.pef_cert.specs.Kept.Claims.{label_behind, labels_claimed}
 use Rattle.pef_cert.proofs.ClaimLemmas.{knows-sees}
+use Rattle.pef_cert.proofs.CoverLemmas.{imports-met, index-added, numbered-covered}
 use Rattle.pef_cert.proofs.StepLemmas.{adds_inside, numbered-end, numbered-fail, numbered-next, numbered-stop}
 use Rattle.pef_cert.proofs.claim.Behind.imports_hold.Goals as goal
 
@@ -10,6 +11,14 @@ returns-then-not-adds c =
     let b = c.args.self in
     let t = c.args.tested in
     numbered-stop (labels_claimed b.claim) t.label t.c t.d (512 - c.imports.counter) c.imports.from c.imports.import c.imports.at b.claim.fixups.now _ c.imports.invariant.left c.if-not-adds.ensures
+
+pub returns-then-covers : goal.returns-then-covers
+returns-then-covers c =
+    let b = c.args.self in
+    let t = c.args.tested in
+    let cover = c.if-covers.ensures refl in
+    numbered-covered (labels_claimed b.claim) t.label (label_behind b t c.imports.at) t.c t.d (512 - c.imports.counter) c.imports.from c.imports.import c.imports.at b.claim.fixups.now _ cover.low (omega arith) c.imports.invariant.left
+    (imports-met b t c.imports.at c.imports.from c.imports.import c.requires.tests cover.after c.imports.invariant.index (sym c.if-not-adds.ensures))
 
 pub follows-requires-clause-sees : goal.follows-requires-clause-sees
 follows-requires-clause-sees c =
@@ -34,6 +43,7 @@ imports-preserved c =
       inside = omega (arith, under);
       from = omega arith;
       import = omega arith;
+      index = index-added b.claim.fixups.now c.imports.at c.imports.from c.imports.import (sym c.if-not-adds.ensures);
       left = numbered-next (labels_claimed b.claim) t.label t.c t.d 512 c.imports.counter c.imports.from c.imports.import c.imports.at b.claim.fixups.now _ (omega arith) c.imports.invariant.left c.if-not-adds.ensures c.if-not-follows.ensures;
     }
 

@@ -12,15 +12,15 @@ use Rattle.pef_cert.proofs.claim.Behind.section_skips.Goals as goal
 pub overflow_cast-least : goal.overflow_cast-least
 overflow_cast-least c =
     let r = c.requires in
-    let low = skip-small c.args.self.claim c.args.at c.args.section c.loop-c.c c.least_skip.result c.args.fixup r.skips.knows.shaped r.skips.here r.skips.base r.beyond (omega (arith, c.loop-c-test.true, c.classes-c-end.ensures)) c.least_skip.ensures.is in
+    let low = skip-small c.args.self.claim c.args.at c.args.section c.loop-c.c c.least_skip.result c.args.fixup r.knows.shaped r.here r.base r.beyond (omega (arith, c.loop-c-test.true, c.classes-c-end.ensures)) c.least_skip.ensures.is in
     search (rules, low)
 
 pub bounds-least-c : goal.bounds-least-c
-bounds-least-c c = let few = shaped-few c.args.self.claim c.requires.skips.knows.shaped in omega (arith, few, c.loop-c-test.true, c.classes-c-end.ensures)
+bounds-least-c c = let few = shaped-few c.args.self.claim c.requires.knows.shaped in omega (arith, few, c.loop-c-test.true, c.classes-c-end.ensures)
 
 pub loop-c-preserved : goal.loop-c-preserved
 loop-c-preserved c =
-    let few = shaped-few c.args.self.claim c.requires.skips.knows.shaped in
+    let few = shaped-few c.args.self.claim c.requires.knows.shaped in
     record {
       len = length-set c.loop-c.least c.loop-c.c c.least_skip.result ∙ c.loop-c.invariant.len;
       are = λ x under.
@@ -36,5 +36,5 @@ loop-c-preserved c =
 pub returns : goal.returns
 returns c =
     let r = c.requires in
-    section-offers c.args.self.claim c.args.at c.args.section c.args.fixup c.loop-c.least r.skips.knows.shaped r.skips.here r.skips.base r.beyond
+    section-offers c.args.self.claim c.args.at c.args.section c.args.fixup c.loop-c.least r.knows.shaped r.here r.base r.beyond
     (λ x under. c.loop-c.invariant.are x (omega (arith, under, c.loop-c-test.false, c.classes-c-end.ensures)))

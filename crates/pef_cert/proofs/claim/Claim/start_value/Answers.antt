@@ -31,11 +31,12 @@ fixups-init c =
       feasible = feasible-end (labels_claimed s) (index_after (take n s.fixups.now) 0) s.fixups.now;
     }
 
-pub sweep-requires-clause-under : goal.sweep-requires-clause-under
-sweep-requires-clause-under c =
+pub sweep-requires : goal.sweep-requires
+sweep-requires c =
     let step : c.fixups.at ≡ c.fixups.at - 1 + 1 = omega (arith, c.fixups-test.true) in
     record {
       knows = subst (λ (n : ℕ). Swept c.args.self c.fixups.rows c.fixups.skips n) step c.fixups.invariant.swept;
+      beyond = subst (λ (n : ℕ). FeasibleFrom (labels_claimed c.args.self) (index_after (take n c.args.self.fixups.now) 0) (drop n c.args.self.fixups.now)) step c.fixups.invariant.feasible;
       here = slice_get-get_or c.args.self.fixups.now (c.fixups.at - 1) _ (omega (arith, c.fixups-test.true, c.fixups.invariant.under));
       row = c.row_before-row.ensures;
     }
