@@ -120,6 +120,13 @@ value-away l fixups at f p c d x y o e away is offer value =
     ∙ (sym (extension-away l f (drop (at + 1) fixups) p c d away)
     ∙ ap (λ fs. extension l fs p c d) (sym (drop-here fixups at f e))))
 
+-- past the offset of the next fixup
+pub value-past : (l : Labels) (fixups : List Fixup) (at : ℕ) (f : Fixup) (p c d x y : ℕ) → slice_get fixups at ≡ Some f → f.offset < p → x ≡ l.label (length fixups - at) c d → y ≡ 2 + x → y ≡ extension l (drop at fixups) p c d
+value-past l fixups at f p c d x y e past is value =
+    let none : f.offset - p ≡ 0 = omega arith in
+    let o = offer_at l f (drop (at + 1) fixups) c d in
+    value-away l fixups at f p c d x y o e (λ same. absurd (omega (arith, past, same))) is refl (value ∙ sym (ap (λ n. moved_value n x o) none))
+
 pub value-end : (l : Labels) (fixups : List Fixup) (at p c d : ℕ) → length fixups ≤ at → 0 ≡ extension l (drop at fixups) p c d
 value-end l fixups at p c d past = sym (ap (λ fs. extension l fs p c d) (drop_all at fixups past) ∙ extension-end l p c d)
 

@@ -8,7 +8,6 @@ use Rattle.pef_reloc.specs.declared.fixup.Base.TheVariants.{Section, Import}
 use Rattle.pef_reloc.specs.declared.fixup.Fixup.{Fixup}
 use Rattle.pef_reloc.specs.Deliveries.{index_after, index_past}
 use Rattle.pef_reloc.specs.Steps.{added}
-use Rattle.pef_fixups.proofs.Laws.{is_added-is}
 use Rattle.pef_words.proofs.Laws.Lists.{drop-here}
 use Rattle.pef_cert.specs.declared.claim.Behind.{Behind}
 use Rattle.pef_cert.specs.declared.runs.Tested.{Tested}
@@ -20,6 +19,7 @@ use Rattle.pef_cert.specs.LabelTests.{adds_test, numbered_test, pairs_test, row_
 use Rattle.pef_cert.proofs.ClaimLemmas.{label_there}
 use Rattle.pef_cert.proofs.FeasibleLemmas.{needed_of}
 use Rattle.pef_cert.proofs.RunLemmas.{numbered_test-weaker, pairs_test-weaker, row_test-weaker}
+use Rattle.pef_cert.proofs.StepLemmas.{added_there}
 use Rattle.pef_cert.proofs.SweepLemmas.{feasible-there, index_next}
 use Rattle.pef_cert.proofs.TestLemmas.{PairTests, SectionTests, import_tests, pair_tests, section_tests}
 
@@ -32,13 +32,6 @@ feasible-later l index (g ∷ fixups) (suc from) (suc j) f beyond after e =
     let step : suc j + 1 ≡ suc (j + 1) = omega arith in
     subst (λ (n : ℕ). FeasibleAt l (index_after (take j fixups) (index_past g.base index)) f (drop n (g ∷ fixups))) (sym step)
     (feasible-later l (index_past g.base index) fixups from j f beyond (omega (arith, after)) e)
-
--- the fixup that adds a base at a position
-added_there : (fixups : List Fixup) (j p : ℕ) (b : Base) → adds_first p b (drop j fixups) ≡ true → slice_get fixups j ≡ Some (added p b)
-added_there [] zero p b e = absurd (cc)
-added_there [] (suc j) p b e = absurd (cc)
-added_there (f ∷ fixups) zero p b e = ap Some (is_added-is p b f e)
-added_there (f ∷ fixups) (suc j) p b e = added_there fixups j p b e
 
 -- what a label behind the tested one meets
 tests_behind : (b : Behind) (t : Tested) (j : ℕ) (g : Fixup) → Tests b t → t.at < j → slice_get b.claim.fixups.now j ≡ Some g → adds_test (labels_claimed b.claim) (index_after (take j b.claim.fixups.now) 0) g (drop (j + 1) b.claim.fixups.now) t.c t.d ≡ true

@@ -1,12 +1,16 @@
 -- The tests along a run, one step at a time.
-use Rattle.std.proofs.Common.{◌≡◌, ℕ, zero, suc, ◌+◌, ◌-◌, ◌<◌, ◌≤◌, Bool, true, false, ◌&&◌, List, [], ◌∷◌, length, drop, refl, ap, sym, ◌∙◌, arith}
+use Rattle.std.proofs.Common.{◌≡◌, ℕ, zero, suc, ◌+◌, ◌-◌, ◌<◌, ◌≤◌, Bool, true, false, ◌&&◌, List, [], ◌∷◌, length, drop, Some, refl, ap, sym, ◌∙◌, arith, slice_get}
+use Rattle.std.specs.Option.{option_map_or}
 use Rattle.std.proofs.lemmas.List.{drop-drop}
 use Rattle.pef_reloc.specs.declared.fixup.Base.{Base}
 use Rattle.pef_reloc.specs.declared.fixup.Base.TheVariants.{Import}
 use Rattle.pef_reloc.specs.declared.fixup.Fixup.{Fixup}
+use Rattle.pef_reloc.specs.Steps.{added}
 use Rattle.std.proofs.lemmas.Bool.{and_parts}
 use Rattle.pef_cert.specs.Labels.{Labels}
 use Rattle.pef_fixups.specs.Additions.{is_added}
+use Rattle.pef_fixups.proofs.Laws.{is_added-is}
+use Rattle.pef_cert.specs.Kept.Claims.{word_end}
 use Rattle.pef_cert.specs.Kept.Tests.{adds_first}
 use Rattle.pef_cert.specs.LabelTests.{numbered_test, one_from, pairs_test, row_test, run_on}
 
@@ -25,6 +29,29 @@ adds_inside [] zero p b e = absurd (cc)
 adds_inside [] (suc at) p b e = absurd (cc)
 adds_inside (f ∷ fixups) zero p b e = omega arith
 adds_inside (f ∷ fixups) (suc at) p b e = let low = adds_inside fixups at p b e in omega (arith, low)
+
+-- the fixup that adds a base at a position
+pub added_there : (fixups : List Fixup) (j p : ℕ) (b : Base) → adds_first p b (drop j fixups) ≡ true → slice_get fixups j ≡ Some (added p b)
+added_there [] zero p b e = absurd (cc)
+added_there [] (suc j) p b e = absurd (cc)
+added_there (f ∷ fixups) zero p b e = ap Some (is_added-is p b f e)
+added_there (f ∷ fixups) (suc j) p b e = added_there fixups j p b e
+
+-- where the word of a fixup ends
+pub word_end-behind : (fixups : List Fixup) (at : ℕ) (f : Fixup) → slice_get fixups at ≡ Some f → word_end fixups (at + 1) ≡ f.offset + 4
+word_end-behind fixups at f e =
+    let step : at + 1 ≡ suc at = omega arith in
+    ap (word_end fixups) step ∙ ap (λ o. option_map_or (λ (g : Fixup). g.offset + 4) o 0) e
+
+pub word_end-added : (fixups : List Fixup) (at p : ℕ) (b : Base) → adds_first p b (drop at fixups) ≡ true → word_end fixups (at + 1) ≡ p + 4
+word_end-added fixups at p b e = word_end-behind fixups at (added p b) (added_there fixups at p b e)
+
+pub word_end-pair : (fixups : List Fixup) (at p : ℕ) (b b' : Base) → true ≡ (adds_first p b (drop at fixups) && adds_first (p + 4) b' (drop (at + 1) fixups)) → word_end fixups (at + 2) ≡ p + 8
+word_end-pair fixups at p b b' e =
+    let both = and_parts (adds_first p b (drop at fixups)) (adds_first (p + 4) b' (drop (at + 1) fixups)) (sym e) in
+    let step : at + 2 ≡ at + 1 + 1 = omega arith in
+    let end : p + 4 + 4 ≡ p + 8 = omega arith in
+    ap (word_end fixups) step ∙ (word_end-added fixups (at + 1) (p + 4) b' both.1 ∙ end)
 
 drop_one : (fixups : List Fixup) (at : ℕ) → drop 1 (drop at fixups) ≡ drop (at + 1) fixups
 drop_one fixups at = drop-drop 1 at fixups

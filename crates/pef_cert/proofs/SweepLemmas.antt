@@ -22,7 +22,7 @@ use Rattle.pef_cert.specs.Feasible.{Feasible, FeasibleAt, FeasibleFrom}
 use Rattle.pef_cert.specs.Labels.{Labels, class_of, classes}
 use Rattle.pef_labels.specs.Rising.{above_all}
 use Rattle.pef_cert.specs.Valid.{labels_in}
-use Rattle.pef_cert.specs.Kept.Claims.{IsRowOf, KnownAt, Shaped, SkipsAre, Swept, labels_claimed, rows_before}
+use Rattle.pef_cert.specs.Kept.Claims.{IsRowOf, KnownAt, Shaped, SkipsAre, SkipsKept, Swept, labels_claimed, rows_before}
 use Rattle.pef_labels.specs.Rows.{RowsFull, rows_from}
 use Rattle.pef_cert.specs.Kept.Sets.{RowIsZero}
 use Rattle.pef_cert.proofs.AdditionLemmas.{index_behind}
@@ -101,7 +101,7 @@ swept-end claim q ring least shaped row rows skips = record {
 }
 
 -- and one fixup further
-known_here : (claim : Claim) (q at : ℕ) (ring : List ℕ) (least : List (List ℕ)) (f : Fixup) (new : List ℕ) → length ring ≡ 1024 → length least ≡ 1024 → slice_get claim.fixups.now at ≡ Some f → IsRowOf claim.kept.ends.now q at → SkipsAre claim f (drop (at + 1) claim.fixups.now) new → KnownAt claim (slice_set ring (at % 1024) q) (slice_set least (at % 1024) new) at
+known_here : (claim : Claim) (q at : ℕ) (ring : List ℕ) (least : List (List ℕ)) (f : Fixup) (new : List ℕ) → length ring ≡ 1024 → length least ≡ 1024 → slice_get claim.fixups.now at ≡ Some f → IsRowOf claim.kept.ends.now q at → SkipsKept claim at f (drop (at + 1) claim.fixups.now) new → KnownAt claim (slice_set ring (at % 1024) q) (slice_set least (at % 1024) new) at
 known_here claim q at ring least f new rows skips here row are =
     let in_ring : at % 1024 < length ring = rw rows (mod-lt at (omega arith)) in
     let in_least : at % 1024 < length least = rw skips (mod-lt at (omega arith)) in
@@ -111,8 +111,8 @@ known_here claim q at ring least f new rows skips here row are =
           let parts : ◌≡◌ {A = List Fixup} (f ∷ drop (at + 1) claim.fixups.now) (g ∷ rest) = sym (drop-here claim.fixups.now at f here) ∙ e in
           let first : f ≡ g = cc in
           let others : drop (at + 1) claim.fixups.now ≡ rest = cc in
-          subst (λ (l : List ℕ). SkipsAre claim g rest l) (sym (get_or-set_same least (at % 1024) new [] in_least))
-          (subst (λ (h : Fixup). SkipsAre claim h rest new) first (subst (λ (fs : List Fixup). SkipsAre claim f fs new) others are));
+          subst (λ (l : List ℕ). SkipsKept claim at g rest l) (sym (get_or-set_same least (at % 1024) new [] in_least))
+          (subst (λ (h : Fixup). SkipsKept claim at h rest new) first (subst (λ (fs : List Fixup). SkipsKept claim at f fs new) others are));
     }
 
 known_there : (claim : Claim) (q at j : ℕ) (ring : List ℕ) (least : List (List ℕ)) (new : List ℕ) → at < j → j < at + 1024 → KnownAt claim ring least j → KnownAt claim (slice_set ring (at % 1024) q) (slice_set least (at % 1024) new) j
@@ -120,7 +120,7 @@ known_there claim q at j ring least new after before known =
     let other = apart at j after before in
     record {
       row = subst (λ (r : ℕ). IsRowOf claim.kept.ends.now r j) (sym (get_or-set_other ring (at % 1024) (j % 1024) q 0 other)) known.row;
-      offer = λ f rest e. subst (λ (l : List ℕ). SkipsAre claim f rest l) (sym (get_or-set_other least (at % 1024) (j % 1024) new [] other)) (known.offer f rest e);
+      offer = λ f rest e. subst (λ (l : List ℕ). SkipsKept claim j f rest l) (sym (get_or-set_other least (at % 1024) (j % 1024) new [] other)) (known.offer f rest e);
     }
 
 here_or_there : (at j : ℕ) → at ≤ j → (j ≡ at) ⊎ (at < j)
@@ -130,7 +130,7 @@ here_or_there at j after =
       | inr other ↦ inr (omega (arith, other.1))
     ]
 
-pub swept-next : (claim : Claim) (q at : ℕ) (ring : List ℕ) (least : List (List ℕ)) (f : Fixup) (new : List ℕ) → Swept claim ring least (at + 1) → slice_get claim.fixups.now at ≡ Some f → IsRowOf claim.kept.ends.now q at → SkipsAre claim f (drop (at + 1) claim.fixups.now) new → Swept claim (slice_set ring (at % 1024) q) (slice_set least (at % 1024) new) at
+pub swept-next : (claim : Claim) (q at : ℕ) (ring : List ℕ) (least : List (List ℕ)) (f : Fixup) (new : List ℕ) → Swept claim ring least (at + 1) → slice_get claim.fixups.now at ≡ Some f → IsRowOf claim.kept.ends.now q at → SkipsKept claim at f (drop (at + 1) claim.fixups.now) new → Swept claim (slice_set ring (at % 1024) q) (slice_set least (at % 1024) new) at
 swept-next claim q at ring least f new swept here row are = record {
   shaped = swept.shaped;
   rows = length-set ring (at % 1024) q ∙ swept.rows;

@@ -2,7 +2,7 @@ ghost use Rattle.std.specs.Prelude.{◌≡◌, ◌+◌, ◌-◌, ◌*◌, ◌%�
 ghost use Rattle.pef_cert.specs.Extension.{extension, offer_at};
 ghost use Rattle.pef_reloc.specs.declared.fixup.Fixup.{Fixup};
 ghost use Rattle.pef_labels.specs.Rows.{rows_from};
-ghost use Rattle.pef_cert.specs.Kept.Claims.{IsRowOf, Sees, Shaped, labels_claimed};
+ghost use Rattle.pef_cert.specs.Kept.Claims.{IsRowOf, Sees, Shaped, labels_claimed, word_end};
 
 use crate::classes::{change, class_of};
 use crate::extension::moved_value;
@@ -29,8 +29,8 @@ pub(crate) struct Behind<'a> {
     pub(crate) claim: Claim<'a>,
     /// For each index, which kept row is its own; at the index modulo 1,024.
     pub(crate) rows: &'a [usize],
-    /// For each index at a section's fixup, the least that a skip there leads to, by the class of
-    /// register C; at the index modulo 1,024.
+    /// For each index at a section's fixup after a gap, the least that a skip there leads to, by the class
+    /// of register C; at the index modulo 1,024.
     pub(crate) skips: &'a [[u32; MAX_CLASSES]],
 }
 
@@ -69,10 +69,11 @@ impl<'a> Claim<'a> {
 }
 
 impl<'a> Behind<'a> {
-    /// The extension where the fixups from index `at` on are left, at a position and in classes of the
-    /// registers.
+    /// The extension where the fixups from index `at` on are left, at a position after the word of the
+    /// fixup before and in classes of the registers.
     pub(crate) fn value(self, at: usize, position: u64, c: usize, d: usize) -> u64
         requires sees { Sees self at }
+        requires after { word_end self.claim.fixups.now at ≤ position }
         requires c { c < length self.claim.registers.now + 1 }
         requires d { d < length self.claim.registers.now + 1 }
         ensures is { result ≡ extension (labels_claimed self.entry.claim) (drop at self.entry.claim.fixups.now) position c d }
@@ -97,6 +98,7 @@ impl<'a> Behind<'a> {
     /// The extension where the fixups from index `at` on are left, of which this is the first.
     fn value_before(self, at: usize, fixup: Fixup, position: u64, c: usize, d: usize) -> u64
         requires sees { Sees self at }
+        requires after { word_end self.claim.fixups.now at ≤ position }
         requires fixup { slice_get self.claim.fixups.now at ≡ Some fixup }
         requires c { c < length self.claim.registers.now + 1 }
         requires d { d < length self.claim.registers.now + 1 }
@@ -108,16 +110,18 @@ impl<'a> Behind<'a> {
         if position == offset {
             return u64::from(label);
         }
-        let ahead = offset.saturating_sub(position);
-        moved_value(ahead, label, self.offer(at, fixup.base, c, d))
+        if position > offset {
+            return 2 + u64::from(label);
+        }
+        moved_value(offset - position, label, self.offer(at, fixup.base, c, d))
     }
 
-    /// The least offer at index `at`, whose fixup has this base.
+    /// The least offer at index `at`, whose fixup has this base and begins after a gap.
     fn offer(self, at: usize, base: Base, c: usize, d: usize) -> Option<u64>
         requires sees { Sees self at }
         requires c { c < length self.claim.registers.now + 1 }
         requires d { d < length self.claim.registers.now + 1 }
-        ensures is { (f : Fixup) (rest : List Fixup) → drop at self.entry.claim.fixups.now ≡ f ∷ rest → f.base ≡ base → result ≡ offer_at (labels_claimed self.entry.claim) f rest c d }
+        ensures is { (f : Fixup) (rest : List Fixup) → drop at self.entry.claim.fixups.now ≡ f ∷ rest → f.base ≡ base → word_end self.entry.claim.fixups.now at < f.offset → result ≡ offer_at (labels_claimed self.entry.claim) f rest c d }
         ensures small { IfSome result (λ x. x ≤ 2 ^ 32) }
     {
         match base {

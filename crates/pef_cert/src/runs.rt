@@ -1,5 +1,5 @@
 ghost use Rattle.std.specs.Prelude.{◌≡◌, ◌+◌, ◌^◌, ◌&&◌, ◌<◌, ◌≤◌, IsTrue, drop, length, take};
-ghost use Rattle.pef_cert.specs.Kept.Claims.{Covers, PairsMet, RowMet, Sees, Tests, labels_claimed};
+ghost use Rattle.pef_cert.specs.Kept.Claims.{Covers, PairsMet, RowMet, Sees, Tests, labels_claimed, word_end};
 ghost use Rattle.pef_cert.specs.Kept.Tests.{adds_first};
 ghost use Rattle.pef_cert.specs.LabelTests.{numbered_test, one_from, pairs_test, row_test};
 ghost use Rattle.pef_reloc.specs.Deliveries.{index_after};
@@ -47,6 +47,7 @@ impl<'a> Behind<'a> {
     pub(crate) fn follows(self, tested: Tested, at: usize, position: u64) -> bool
         requires tests { Tests self tested }
         requires sees { Sees self at }
+        requires after { word_end self.claim.fixups.now at ≤ position }
         ensures { result ≡ one_from (labels_claimed self.entry.claim) tested.label (drop at self.entry.claim.fixups.now) position tested.c tested.d }
     {
         u64::from(tested.label) <= 1 + self.value(at, position, tested.c, tested.d)
@@ -71,7 +72,8 @@ impl<'a> Behind<'a> {
     pub(crate) fn row_holds(self, tested: Tested, position: u64, stride: u64, base: Base) -> bool
         requires tests { Tests self tested }
         requires position { position < 2 ^ 32 }
-        requires stride { stride ≤ 12 }
+        requires stride { 4 ≤ stride }
+        requires stride_small { stride ≤ 12 }
         requires met { RowMet self tested stride base }
         ensures { result ≡ row_test (labels_claimed self.entry.claim) tested.label stride base tested.c tested.d 512 position (drop tested.at self.entry.claim.fixups.now) }
     {
@@ -105,7 +107,8 @@ impl<'a> Behind<'a> {
     ) -> bool
         requires tests { Tests self tested }
         requires position { position < 2 ^ 32 }
-        requires stride { stride ≤ 12 }
+        requires stride { 8 ≤ stride }
+        requires stride_small { stride ≤ 12 }
         requires met { PairsMet self tested stride first second }
         ensures { result ≡ pairs_test (labels_claimed self.entry.claim) tested.label stride first second tested.c tested.d 512 position (drop tested.at self.entry.claim.fixups.now) }
     {

@@ -1,7 +1,7 @@
-ghost use Rattle.std.specs.Prelude.{◌≡◌, ◌+◌, ◌*◌, ◌<◌, MatchOption, ◌-◌, drop, take, slice_get};
+ghost use Rattle.std.specs.Prelude.{◌≡◌, ◌+◌, ◌*◌, ◌<◌, ◌≤◌, MatchOption, ◌-◌, drop, take, slice_get, length};
 ghost use Rattle.pef_cert.specs.Extension.{extension_at};
 ghost use Rattle.pef_cert.specs.Feasible.{Feasible, FeasibleAt};
-ghost use Rattle.pef_cert.specs.Kept.Claims.{FeasibleBehind, IsRowOf, Knows, Shaped, Skips, SkipsAre, UnderTest, labels_claimed};
+ghost use Rattle.pef_cert.specs.Kept.Claims.{FeasibleBehind, IsRowOf, Knows, Shaped, Skips, SkipsAre, SkipsKept, UnderTest, labels_claimed, word_end};
 ghost use Rattle.pef_cert.specs.Kept.Sets.{RowIsZero};
 ghost use Rattle.pef_fixups.specs.Answers.{Says};
 ghost use Rattle.pef_reloc.specs.Deliveries.{index_after};
@@ -10,6 +10,7 @@ ghost use Rattle.pef_reloc.specs.Steps.{start};
 use crate::claim::{Behind, Claim, MAX_CLASSES, WINDOW};
 use crate::classes::class_of;
 use crate::feasible::Under;
+use pef_fixups::WORD;
 use pef_reloc::{Base, Fixup};
 
 impl<'a> Claim<'a> {
@@ -61,6 +62,17 @@ impl<'a> Claim<'a> {
             row
         }
     }
+
+    /// Where the word of the fixup before index `at` ends: 0 at the first.
+    fn word_end(self, at: usize) -> u64
+        requires { at ≤ length self.fixups.now }
+        ensures { result ≡ word_end self.entry.fixups.now at }
+    {
+        if at == 0 {
+            return 0;
+        }
+        u64::from(self.fixups[at - 1].offset) + WORD
+    }
 }
 
 /// Whether all labels of a row are 0.
@@ -79,7 +91,7 @@ impl<'a> Behind<'a> {
     /// The least skips at a fixup, by the class of register C, where its labels are feasible.
     fn sweep(self, under: Under) -> Option<[u32; MAX_CLASSES]>
         requires { UnderTest self under }
-        ensures { MatchOption result (FeasibleAt (labels_claimed self.entry.claim) (index_after (take under.at self.entry.claim.fixups.now) 0) under.fixup (drop (under.at + 1) self.entry.claim.fixups.now) → ⊥) (λ least. FeasibleAt (labels_claimed self.entry.claim) (index_after (take under.at self.entry.claim.fixups.now) 0) under.fixup (drop (under.at + 1) self.entry.claim.fixups.now) × SkipsAre self.entry.claim under.fixup (drop (under.at + 1) self.entry.claim.fixups.now) least) }
+        ensures { MatchOption result (FeasibleAt (labels_claimed self.entry.claim) (index_after (take under.at self.entry.claim.fixups.now) 0) under.fixup (drop (under.at + 1) self.entry.claim.fixups.now) → ⊥) (λ least. FeasibleAt (labels_claimed self.entry.claim) (index_after (take under.at self.entry.claim.fixups.now) 0) under.fixup (drop (under.at + 1) self.entry.claim.fixups.now) × SkipsKept self.entry.claim under.at under.fixup (drop (under.at + 1) self.entry.claim.fixups.now) least) }
     {
         if self.fixup_holds(under) {
             Some(self.least_skips(under.at, under.fixup))
@@ -88,13 +100,17 @@ impl<'a> Behind<'a> {
         }
     }
 
-    /// The least skips at index `at`, which has this fixup.
+    /// The least skips at index `at`, which has this fixup. If the word before leaves no gap, no move
+    /// leads to the fixup, and nothing is computed.
     fn least_skips(self, at: usize, fixup: Fixup) -> [u32; MAX_CLASSES]
         requires knows { Knows self (at + 1) }
         requires here { slice_get self.claim.fixups.now at ≡ Some fixup }
         requires beyond { FeasibleBehind self.claim at }
-        ensures { SkipsAre self.entry.claim fixup (drop (at + 1) self.entry.claim.fixups.now) result }
+        ensures { SkipsKept self.entry.claim at fixup (drop (at + 1) self.entry.claim.fixups.now) result }
     {
+        if u64::from(fixup.offset) <= self.claim.word_end(at) {
+            return [0; MAX_CLASSES];
+        }
         match fixup.base {
             Base::Section(section) => self.section_skips(at, fixup, section),
             Base::Import(_) => [0; MAX_CLASSES],

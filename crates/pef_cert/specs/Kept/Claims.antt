@@ -1,6 +1,7 @@
 -- What a check keeps in view: the labels that are claimed, and what it has found behind the fixup under test.
 use Rattle.std.specs.Prelude.{◌≡◌, ◌≤◌, ◌<◌, ℕ, zero, suc, ◌+◌, ◌-◌, ◌*◌, ◌%◌, true, ◌&&◌, List, [], ◌∷◌, length, take, drop, slice_get, slice_index, slice_index_or, Some}
 use Rattle.std.specs.List.{AllByRecursion}
+use Rattle.std.specs.Option.{option_map_or}
 use Rattle.pef_reloc.specs.declared.fixup.Base.{Base}
 use Rattle.pef_reloc.specs.declared.fixup.Base.TheVariants.{Section}
 use Rattle.pef_reloc.specs.declared.fixup.Fixup.{Fixup}
@@ -48,10 +49,19 @@ pub record IsRowOf (ends : List ℕ) (q j : ℕ) : Type 0 where
 abbrev pub SkipsAre : Claim → Fixup → List Fixup → List ℕ → Type 0
 SkipsAre claim f rest least = (c d : ℕ) → c < classes (labels_claimed claim) → d < classes (labels_claimed claim) → OfferIs (labels_claimed claim) f rest c d (slice_index least c) f.base
 
+-- where the word of the fixup before an index ends
+abbrev pub word_end : List Fixup → ℕ → ℕ
+word_end fixups zero = 0
+word_end fixups (suc k) = option_map_or (λ f. f.offset + 4) (slice_get fixups k) 0
+
+-- the same, where the word before the fixup of an index leaves a gap: elsewhere no move leads to the fixup
+abbrev pub SkipsKept : Claim → ℕ → Fixup → List Fixup → List ℕ → Type 0
+SkipsKept claim j f rest least = word_end claim.fixups.now j < f.offset → SkipsAre claim f rest least
+
 -- what is known of an index behind the fixup under test, from what the ring has of rows and of skips
 pub record KnownAt (claim : Claim) (ring : List ℕ) (least : List (List ℕ)) (j : ℕ) : Type 0 where
   pub row : IsRowOf claim.kept.ends.now (slice_index ring (j % 1024)) j
-  pub offer : (f : Fixup) (rest : List Fixup) → drop j claim.fixups.now ≡ f ∷ rest → SkipsAre claim f rest (slice_index_or least (j % 1024) [])
+  pub offer : (f : Fixup) (rest : List Fixup) → drop j claim.fixups.now ≡ f ∷ rest → SkipsKept claim j f rest (slice_index_or least (j % 1024) [])
 
 -- what is known of an index, where all is of the right shape
 pub record Sees (b : Behind) (j : ℕ) : Type 0 where

@@ -3,7 +3,7 @@ use Rattle.pef_reloc.specs.declared.fixup.Base.TheVariants.{Import}
 use Rattle.pef_cert.specs.Kept.Claims.{label_behind, labels_claimed}
 use Rattle.pef_cert.proofs.ClaimLemmas.{knows-sees}
 use Rattle.pef_cert.proofs.CoverLemmas.{imports-met, index-added, numbered-covered}
-use Rattle.pef_cert.proofs.StepLemmas.{adds_inside, numbered-end, numbered-fail, numbered-next, numbered-stop}
+use Rattle.pef_cert.proofs.StepLemmas.{adds_inside, numbered-end, numbered-fail, numbered-next, numbered-stop, word_end-added}
 use Rattle.pef_cert.proofs.claim.Behind.imports_hold.Goals as goal
 
 pub returns-then-not-adds : goal.returns-then-not-adds
@@ -25,6 +25,11 @@ follows-requires-clause-sees c =
     let b = c.args.self in
     let under = adds_inside b.claim.fixups.now c.imports.at c.imports.from (Import c.imports.import) (sym c.if-not-adds.ensures) in
     knows-sees b (c.args.tested.at + 1) (c.imports.at + 1) c.requires.tests.knows (omega arith) (omega arith) (omega (arith, under))
+
+pub follows-requires-clause-after : goal.follows-requires-clause-after
+follows-requires-clause-after c =
+    let end = word_end-added c.args.self.claim.fixups.now c.imports.at c.imports.from (Import c.imports.import) (sym c.if-not-adds.ensures) in
+    omega (arith, end)
 
 pub returns-then-not-follows : goal.returns-then-not-follows
 returns-then-not-follows c =

@@ -9,7 +9,7 @@ use Rattle.pef_cert.proofs.ClaimLemmas.{get_under, knows-sees}
 use Rattle.pef_cert.proofs.ClassLemmas.{class_of-below}
 use Rattle.pef_cert.proofs.FeasibleLemmas.{section-counts}
 use Rattle.pef_cert.proofs.SkipLemmas.{skip-end, skip-first, skip-next, skip-stop}
-use Rattle.pef_cert.proofs.StepLemmas.{adds_inside}
+use Rattle.pef_cert.proofs.StepLemmas.{adds_inside, word_end-added, word_end-behind}
 use Rattle.pef_cert.proofs.claim.Behind.least_skip.Goals as goal
 
 pub value-least-requires-clause-sees : goal.value-least-requires-clause-sees
@@ -17,6 +17,11 @@ value-least-requires-clause-sees c =
     let b = c.args.self in
     let under = get_under b.claim.fixups.now c.args.at c.args.fixup c.requires.skips.here in
     knows-sees b (c.args.at + 1) (c.args.at + 1) c.requires.skips.knows (omega arith) (omega arith) (omega (arith, under))
+
+pub value-least-requires-clause-after : goal.value-least-requires-clause-after
+value-least-requires-clause-after c =
+    let end = word_end-behind c.args.self.claim.fixups.now c.args.at c.args.fixup c.requires.skips.here in
+    omega (arith, end, c.from-position.ensures)
 
 pub value-least-requires-clause-d : goal.value-least-requires-clause-d
 value-least-requires-clause-d c = let low = class_of-below (labels_claimed c.args.self.claim) c.args.section in omega (arith, low, c.class_of-class.ensures)
@@ -50,6 +55,11 @@ value-requires-clause-sees c =
     let b = c.args.self in
     let under = adds_inside b.claim.fixups.now c.words.end c.words.position (Section c.args.section) (sym c.if-not-adds.ensures) in
     knows-sees b (c.args.at + 1) (c.words.end + 1) c.requires.skips.knows (omega arith) (omega arith) (omega (arith, under))
+
+pub value-requires-clause-after : goal.value-requires-clause-after
+value-requires-clause-after c =
+    let end = word_end-added c.args.self.claim.fixups.now c.words.end c.words.position (Section c.args.section) (sym c.if-not-adds.ensures) in
+    omega (arith, end)
 
 pub value-requires-clause-d : goal.value-requires-clause-d
 value-requires-clause-d c = let low = class_of-below (labels_claimed c.args.self.claim) c.args.section in omega (arith, low, c.class_of-class.ensures)

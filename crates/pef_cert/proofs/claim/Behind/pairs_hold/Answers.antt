@@ -2,7 +2,7 @@ use Rattle.std.proofs.Common.{◌+◌, ◌-◌, refl, sym, arith}
 use Rattle.pef_cert.specs.Kept.Claims.{label_behind, labels_claimed}
 use Rattle.pef_cert.proofs.ClaimLemmas.{knows-sees}
 use Rattle.pef_cert.proofs.CoverLemmas.{pairs-covered}
-use Rattle.pef_cert.proofs.StepLemmas.{pair_inside, pairs-end, pairs-fail, pairs-next, pairs-stop}
+use Rattle.pef_cert.proofs.StepLemmas.{pair_inside, pairs-end, pairs-fail, pairs-next, pairs-stop, word_end-pair}
 use Rattle.pef_cert.proofs.claim.Behind.pairs_hold.Goals as goal
 
 pub returns-then-not-adds_pair : goal.returns-then-not-adds_pair
@@ -24,6 +24,11 @@ follows-requires-clause-sees c =
     let b = c.args.self in
     let under = pair_inside b.claim.fixups.now c.pairs.at c.pairs.from c.args.first c.args.second c.if-not-adds_pair.ensures in
     knows-sees b (c.args.tested.at + 1) (c.pairs.at + 2) c.requires.tests.knows (omega arith) (omega arith) (omega (arith, under))
+
+pub follows-requires-clause-after : goal.follows-requires-clause-after
+follows-requires-clause-after c =
+    let end = word_end-pair c.args.self.claim.fixups.now c.pairs.at c.pairs.from c.args.first c.args.second c.if-not-adds_pair.ensures in
+    omega (arith, end, c.requires.stride)
 
 pub returns-then-not-follows : goal.returns-then-not-follows
 returns-then-not-follows c =

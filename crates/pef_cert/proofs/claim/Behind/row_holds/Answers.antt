@@ -2,7 +2,7 @@ use Rattle.std.proofs.Common.{◌+◌, ◌-◌, refl, sym, arith}
 use Rattle.pef_cert.specs.Kept.Claims.{label_behind, labels_claimed}
 use Rattle.pef_cert.proofs.ClaimLemmas.{knows-sees}
 use Rattle.pef_cert.proofs.CoverLemmas.{row-covered}
-use Rattle.pef_cert.proofs.StepLemmas.{adds_inside, row-end, row-fail, row-next, row-stop}
+use Rattle.pef_cert.proofs.StepLemmas.{adds_inside, row-end, row-fail, row-next, row-stop, word_end-added}
 use Rattle.pef_cert.proofs.claim.Behind.row_holds.Goals as goal
 
 pub returns-then-not-adds : goal.returns-then-not-adds
@@ -24,6 +24,11 @@ follows-requires-clause-sees c =
     let b = c.args.self in
     let under = adds_inside b.claim.fixups.now c.words.at c.words.from c.args.base (sym c.if-not-adds.ensures) in
     knows-sees b (c.args.tested.at + 1) (c.words.at + 1) c.requires.tests.knows (omega arith) (omega arith) (omega (arith, under))
+
+pub follows-requires-clause-after : goal.follows-requires-clause-after
+follows-requires-clause-after c =
+    let end = word_end-added c.args.self.claim.fixups.now c.words.at c.words.from c.args.base (sym c.if-not-adds.ensures) in
+    omega (arith, end, c.requires.stride)
 
 pub returns-then-not-follows : goal.returns-then-not-follows
 returns-then-not-follows c =
