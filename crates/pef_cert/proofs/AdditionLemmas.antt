@@ -1,4 +1,4 @@
--- The tests of a state at a fixup, as a check makes them.
+-- What a check looks up of fixups: the import index, and the base that comes next.
 use Rattle.std.proofs.Common.{◌≡◌, ℕ, ◌+◌, ◌-◌, ◌<◌, ◌≤◌, Bool, true, ◌&&◌, ◌||◌, ◌==◌, nat_le, List, [], ◌∷◌, length, take, drop, Some, ap, sym, ◌∙◌, arith, slice_get, eq-eqb}
 use Rattle.std.proofs.Math.Path.{ap₂}
 use Rattle.std.specs.Prelude.{slice_index_or}
@@ -20,12 +20,6 @@ use Rattle.pef_cert.specs.Extension.{extension}
 use Rattle.pef_cert.specs.Kept.Claims.{Sees, Shaped, Tests}
 use Rattle.pef_cert.specs.LabelTests.{adds_test, asked, base_test, import_cost, numbered_test, one_from, pair_test, row_test, second_test}
 use Rattle.pef_cert.proofs.ClaimLemmas.{get_under, knows-sees, label_there}
-
--- what lies right behind the fixup
-pub tests-sees : (b : Behind) (t : Tested) → Tests b t → Sees b (t.at + 1)
-tests-sees b t tests =
-    let under = get_under b.claim.fixups.now t.at t.fixup tests.here in
-    knows-sees b (t.at + 1) (t.at + 1) tests.knows (omega arith) (omega arith) (omega (arith, under))
 
 -- a fixup of fixups that fit does
 pub got-fits : (c : Claim) (at : ℕ) (f : Fixup) → Shaped c → slice_get c.fixups.now at ≡ Some f → fixup_fits f ≡ true
@@ -56,38 +50,9 @@ index-section fixups at i k f some under same is =
     ∙ (sym (index_behind fixups (i - 1) f (omega arith))
     ∙ (sym (ap (λ n. index_after (take n fixups) 0) step) ∙ same))
 
--- the tests of a section's fixup, one by one
-pub section-is : (l : Labels) (label k class : ℕ) (f : Fixup) (rest whole : List Fixup) (c d : ℕ) (single words spaced second : Bool) → class ≡ class_of l.registers k → whole ≡ f ∷ rest
-    → single ≡ one_from l label rest (f.offset + 4) c d
-    → words ≡ asked (class == c || class == d) (row_test l label 4 (Section k) c d 512 f.offset whole)
-    → spaced ≡ asked (class == d) (row_test l label 8 (Section k) c d 512 f.offset whole)
-    → second ≡ asked (class == c) (second_test l label k c d f rest)
-    → (single && words && spaced && second) ≡ base_test l label 0 f rest c d (Section k)
-section-is l label k class f rest whole c d single words spaced second of at first second_is third fourth =
-    ap₂ (λ a b. a && b)
-    (ap₂ (λ a b. a && b)
-    (ap₂ (λ a b. a && b) first
-    (second_is ∙ ap₂ (λ n fs. asked (n == c || n == d) (row_test l label 4 (Section k) c d 512 f.offset fs)) of at))
-    (third ∙ ap₂ (λ n fs. asked (n == d) (row_test l label 8 (Section k) c d 512 f.offset fs)) of at))
-    (fourth ∙ ap (λ n. asked (n == c) (second_test l label k c d f rest)) of)
-
--- the tests of an import's fixup
-pub import-is : (l : Labels) (label index k : ℕ) (f : Fixup) (rest whole : List Fixup) (c d : ℕ) (single imports : Bool) → whole ≡ f ∷ rest
-    → single ≡ nat_le label (import_cost k + extension l rest (f.offset + 4) c d)
-    → imports ≡ asked (k == index) (numbered_test l label c d 512 f.offset k whole)
-    → (single && imports) ≡ base_test l label index f rest c d (Import k)
-import-is l label index k f rest whole c d single imports at first second =
-    ap₂ (λ a b. a && b) first (second ∙ ap (λ fs. asked (k == index) (numbered_test l label c d 512 f.offset k fs)) at)
-
 -- the test of the next base
-pub second-some : (l : Labels) (label k c d class : ℕ) (f g : Fixup) (fixups : List Fixup) (at : ℕ) (x : Bool) → slice_get fixups at ≡ Some f → slice_get fixups (at + 1) ≡ Some g → class ≡ c → x ≡ pair_test l label k c d f.offset (drop at fixups) g.base → x ≡ asked (class == c) (second_test l label k c d f (drop (at + 1) fixups))
-second-some l label k c d class f g fixups at x here next same is =
+pub second-some : (l : Labels) (label k c d : ℕ) (f g : Fixup) (fixups : List Fixup) (at : ℕ) (x : Bool) → slice_get fixups at ≡ Some f → slice_get fixups (at + 1) ≡ Some g → x ≡ pair_test l label k c d f.offset (drop at fixups) g.base → x ≡ second_test l label k c d f (drop (at + 1) fixups)
+second-some l label k c d f g fixups at x here next is =
     let more = drop-here fixups (at + 1) g next in
     let whole = drop-here fixups at f here ∙ ap (λ fs. f ∷ fs) more in
-    rw (eq-eqb class c same)
-    (is ∙ (ap (λ fs. pair_test l label k c d f.offset fs g.base) whole ∙ sym (ap (second_test l label k c d f) more)))
-
--- the test of a state, with its label looked up
-pub adds-here : (l : Labels) (index : ℕ) (fixups : List Fixup) (at : ℕ) (f : Fixup) (c d label : ℕ) (x : Bool) → slice_get fixups at ≡ Some f → label ≡ l.label (length fixups - at) c d → x ≡ base_test l label index f (drop (at + 1) fixups) c d f.base → adds_test l index f (drop (at + 1) fixups) c d ≡ x
-adds-here l index fixups at f c d label x here is answer =
-    ap (λ n. base_test l n index f (drop (at + 1) fixups) c d f.base) (sym (is ∙ label_there l fixups at f c d here)) ∙ sym answer
+    is ∙ (ap (λ fs. pair_test l label k c d f.offset fs g.base) whole ∙ sym (ap (second_test l label k c d f) more))

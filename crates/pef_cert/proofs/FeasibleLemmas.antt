@@ -36,7 +36,7 @@ left_count fixups at f e = let under = get_under fixups at f e in omega (arith, 
 tests_of : (l : Labels) (index : ℕ) (fixups : List Fixup) (at : ℕ) (f : Fixup) → slice_get fixups at ≡ Some f → SetsHold l (length fixups - at) → AllTests l index f (drop (at + 1) fixups) → TestsHold l index f (drop (at + 1) fixups)
 tests_of l index fixups at f e sets adds = record {
   sets = subst (SetsHold l) (left_count fixups at f e) sets;
-  adds = λ c d under_c under_d. adds c under_c d under_d;
+  adds = adds;
 }
 
 -- labels of a claim that are feasible at a fixup stand in order there
@@ -76,9 +76,7 @@ fixup-says b u row sets adds under is first second =
     (λ feasible.
     let tests = needed_of b.claim u.at index u.fixup under.knows.shaped under.here feasible in
     row-sets b.claim.registers.now row rows (length fixups) u.at inside is (subst (SetsHold l) (sym (left_count fixups u.at u.fixup under.here)) tests.sets))
-    (λ feasible c under_c d under_d.
-    let tests = needed_of b.claim u.at index u.fixup under.knows.shaped under.here feasible in
-    tests.adds c d under_c under_d)
+    (λ feasible. (needed_of b.claim u.at index u.fixup under.knows.shaped under.here feasible).adds)
 
 -- where the change of a register costs too much they aren't
 pub fixup-fails : (b : Behind) (u : Under) (row : List ℕ) → UnderTest b u

@@ -8,6 +8,7 @@ mod CoverLemmas
 mod ExtensionLemmas
 mod Falling
 mod FeasibleLemmas
+mod KindLemmas
 mod LabelFacts
 mod MinimaLemmas
 mod NeededTests

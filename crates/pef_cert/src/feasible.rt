@@ -1,14 +1,14 @@
-ghost use Rattle.std.specs.Prelude.{◌+◌, ◌-◌, ◌<◌, drop, length, take};
+ghost use Rattle.std.specs.Prelude.{◌≡◌, ◌+◌, ◌-◌, ◌<◌, drop, length, take};
 ghost use Rattle.pef_cert.specs.Feasible.{FeasibleAt};
-ghost use Rattle.pef_cert.specs.Kept.Claims.{UnderTest, labels_claimed};
-ghost use Rattle.pef_cert.specs.Kept.Tests.{AllTests, LineTests};
+ghost use Rattle.pef_cert.specs.Kept.Claims.{Tests, UnderTest, labels_claimed, state_of};
+ghost use Rattle.pef_cert.specs.Kept.Tests.{AllTests};
 ghost use Rattle.pef_fixups.specs.Answers.{Says};
 ghost use Rattle.pef_reloc.specs.Deliveries.{index_after};
 
 use crate::claim::Behind;
 use crate::runs::Tested;
 use crate::sets::sets_hold;
-use pef_reloc::Fixup;
+use pef_reloc::{Base, Fixup};
 
 /// A fixup under test: its index, and which kept row has its labels.
 #[derive(Clone, Copy)]
@@ -36,33 +36,28 @@ impl<'a> Behind<'a> {
         requires { UnderTest self under }
         ensures { Says result (AllTests (labels_claimed self.entry.claim) (index_after (take under.at self.entry.claim.fixups.now) 0) under.fixup (drop (under.at + 1) self.entry.claim.fixups.now)) }
     {
-        for c in 0..self.claim.classes() {
-            if !self.line_additions_hold(under, c) {
-                return false;
-            }
+        match under.fixup.base {
+            Base::Section(section) => self.section_holds(under, section),
+            Base::Import(import) => self.import_holds(under, import),
         }
-        true
     }
 
-    /// Tests those with register C in a class.
-    fn line_additions_hold(self, under: Under, c: usize) -> bool
+    /// The state of a fixup in two classes, with its label.
+    pub(crate) fn state(self, under: Under, c: usize, d: usize) -> Tested
         requires under { UnderTest self under }
         requires c { c < length self.claim.registers.now + 1 }
-        ensures { Says result (LineTests (labels_claimed self.entry.claim) (index_after (take under.at self.entry.claim.fixups.now) 0) under.fixup (drop (under.at + 1) self.entry.claim.fixups.now) c) }
+        requires d { d < length self.claim.registers.now + 1 }
+        ensures tests { Tests self.entry result }
+        ensures is { result ≡ state_of self.entry.claim under c d }
     {
-        for d in 0..self.claim.classes() {
-            let label = self.claim.label(under.row, c, d);
-            let (at, fixup) = (under.at, under.fixup);
-            if !self.additions_hold(Tested {
-                at,
-                fixup,
-                c,
-                d,
-                label,
-            }) {
-                return false;
-            }
+        let label = self.claim.label(under.row, c, d);
+        let (at, fixup) = (under.at, under.fixup);
+        Tested {
+            at,
+            fixup,
+            c,
+            d,
+            label,
         }
-        true
     }
 }

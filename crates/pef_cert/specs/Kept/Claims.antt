@@ -93,6 +93,16 @@ pub record Tests (b : Behind) (s : Tested) : Type 0 where
   pub c_class : s.c < length b.claim.registers.now + 1
   pub d_class : s.d < length b.claim.registers.now + 1
 
+-- the state of a fixup in two classes, with its label
+abbrev pub state_of : Claim → Under → ℕ → ℕ → Tested
+state_of claim u c d = record {
+  at = u.at;
+  fixup = u.fixup;
+  c = c;
+  d = d;
+  label = (labels_claimed claim).label (length claim.fixups.now - u.at) c d;
+}
+
 -- the label of an index, in the classes of a tested state
 abbrev pub label_behind : Behind → Tested → ℕ → ℕ
 label_behind b s j = (labels_claimed b.claim).label (length b.claim.fixups.now - j) s.c s.d

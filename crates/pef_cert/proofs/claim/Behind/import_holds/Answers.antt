@@ -1,13 +1,24 @@
-use Rattle.std.proofs.Common.{◌+◌, drop, take, true}
+use Rattle.std.proofs.Common.{◌+◌, drop, take, sym, ◌∙◌, arith}
 use Rattle.pef_reloc.specs.Deliveries.{index_after}
-use Rattle.pef_words.proofs.Laws.Lists.{drop-here}
 use Rattle.pef_cert.specs.Kept.Claims.{labels_claimed}
-use Rattle.pef_cert.proofs.AdditionLemmas.{import-is}
+use Rattle.pef_cert.proofs.AdditionLemmas.{got-import}
+use Rattle.pef_cert.proofs.KindLemmas.{import-fails, import-says}
 use Rattle.pef_cert.proofs.claim.Behind.import_holds.Goals as goal
+
+pub returns-then-not-singles_hold : goal.returns-then-not-singles_hold
+returns-then-not-singles_hold c =
+    let b = c.args.self in
+    let u = c.args.under in
+    import-fails (labels_claimed b.claim) (index_after (take u.at b.claim.fixups.now) 0) c.args.import c.import_cost.result u.fixup (drop (u.at + 1) b.claim.fixups.now) c.requires.base c.import_cost.ensures c.if-not-singles_hold.ensures
+
+pub import_runs_hold-requires-clause-import : goal.import_runs_hold-requires-clause-import
+import_runs_hold-requires-clause-import c =
+    let low = got-import c.args.self.claim c.args.under.at c.args.import c.args.under.fixup c.requires.under.knows.shaped c.requires.under.here c.requires.base in
+    omega (arith, low)
 
 pub returns : goal.returns
 returns c =
     let b = c.args.self in
-    let t = c.args.tested in
-    import-is (labels_claimed b.claim) t.label (index_after (take t.at b.claim.fixups.now) 0) c.args.import t.fixup (drop (t.at + 1) b.claim.fixups.now) (drop t.at b.claim.fixups.now) t.c t.d true c.import_run_holds.result
-    (drop-here b.claim.fixups.now t.at t.fixup c.requires.tests.here) c.if-not-one_import_holds.ensures c.import_run_holds.ensures
+    let u = c.args.under in
+    let next = sym c.from.ensures ∙ (c.if-from-import_index.false ∙ c.import_index.ensures) in
+    import-says (labels_claimed b.claim) (index_after (take u.at b.claim.fixups.now) 0) c.args.import c.import_cost.result u.fixup (drop (u.at + 1) b.claim.fixups.now) c.import_runs_hold.result c.requires.base c.import_cost.ensures next c.if-not-singles_hold.ensures c.import_runs_hold.ensures

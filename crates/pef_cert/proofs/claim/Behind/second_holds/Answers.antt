@@ -9,4 +9,4 @@ returns-in-Some c =
     let b = c.args.self in
     let t = c.args.tested in
     let found = c.in-Some.ensures.lookup.3 in
-    second-some (labels_claimed b.claim) t.label c.args.section t.c t.d c.args.class t.fixup c.in-Some.next.now b.claim.fixups.now t.at c.pair_holds.result c.requires.tests.here (get-is b.claim.fixups.now (t.at + 1) c.in-Some.next.now found.0 (found.1 c.in-Some.next.now)) c.if-class-tested.true c.pair_holds.ensures
+    second-some (labels_claimed b.claim) t.label c.args.section t.c t.d t.fixup c.in-Some.next.now b.claim.fixups.now t.at c.pair_holds.result c.requires.tests.here (get-is b.claim.fixups.now (t.at + 1) c.in-Some.next.now found.0 (found.1 c.in-Some.next.now)) c.pair_holds.ensures
