@@ -24,7 +24,7 @@ use Rattle.pef_cert.proofs.SweepLemmas.{feasible-there, index_next}
 use Rattle.pef_cert.proofs.TestLemmas.{PairTests, SectionTests, import_tests, pair_tests, section_tests}
 
 -- labels that are feasible from one index on are feasible at each later one
-feasible-later : (l : Labels) (index : ℕ) (fixups : List Fixup) (from j : ℕ) (f : Fixup) → FeasibleFrom l (index_after (take from fixups) index) (drop from fixups) → from ≤ j → slice_get fixups j ≡ Some f → FeasibleAt l (index_after (take j fixups) index) f (drop (j + 1) fixups)
+pub feasible-later : (l : Labels) (index : ℕ) (fixups : List Fixup) (from j : ℕ) (f : Fixup) → FeasibleFrom l (index_after (take from fixups) index) (drop from fixups) → from ≤ j → slice_get fixups j ≡ Some f → FeasibleAt l (index_after (take j fixups) index) f (drop (j + 1) fixups)
 feasible-later l index fixups zero j f beyond after e = feasible-there l index fixups j f e beyond
 feasible-later l index [] (suc from) j f beyond after e = absurd (cc)
 feasible-later l index (g ∷ fixups) (suc from) zero f beyond after e = absurd (omega (arith, after))

@@ -29,7 +29,7 @@ use Rattle.pef_cert.proofs.SetLemmas.{row-sets, sets-row}
 use Rattle.pef_cert.proofs.TestLemmas.{feasible-tested}
 
 -- how many fixups are left
-left_count : (fixups : List Fixup) (at : ℕ) (f : Fixup) → slice_get fixups at ≡ Some f → length fixups - at ≡ length (f ∷ drop (at + 1) fixups)
+pub left_count : (fixups : List Fixup) (at : ℕ) (f : Fixup) → slice_get fixups at ≡ Some f → length fixups - at ≡ length (f ∷ drop (at + 1) fixups)
 left_count fixups at f e = let under = get_under fixups at f e in omega (arith, under, length-drop (at + 1) fixups)
 
 -- the tests of a fixup

@@ -15,6 +15,7 @@ mod NeededTests
 mod RegisterLemmas
 mod RunLemmas
 mod SetLemmas
+mod SharedLemmas
 mod SkipLemmas
 mod Soundness
 mod StepLemmas

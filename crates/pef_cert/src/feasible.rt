@@ -1,11 +1,12 @@
-ghost use Rattle.std.specs.Prelude.{◌≡◌, ◌+◌, ◌-◌, ◌<◌, drop, length, take};
+ghost use Rattle.std.specs.Prelude.{◌≡◌, ◌+◌, ◌-◌, ◌<◌, IsTrue, drop, length, take};
 ghost use Rattle.pef_cert.specs.Feasible.{FeasibleAt};
-ghost use Rattle.pef_cert.specs.Kept.Claims.{Tests, UnderTest, labels_claimed, state_of};
+ghost use Rattle.pef_cert.specs.Kept.Claims.{SharesRow, Tests, UnderTest, labels_claimed, row_at, state_of};
+ghost use Rattle.pef_cert.specs.Kept.Sets.{RowHolds};
 ghost use Rattle.pef_cert.specs.Kept.Tests.{AllTests};
 ghost use Rattle.pef_fixups.specs.Answers.{Says};
 ghost use Rattle.pef_reloc.specs.Deliveries.{index_after};
 
-use crate::claim::Behind;
+use crate::claim::{Behind, WINDOW};
 use crate::runs::Tested;
 use crate::sets::sets_hold;
 use pef_reloc::{Base, Fixup};
@@ -24,11 +25,33 @@ impl<'a> Behind<'a> {
         requires { UnderTest self under }
         ensures { Says result (FeasibleAt (labels_claimed self.entry.claim) (index_after (take under.at self.entry.claim.fixups.now) 0) under.fixup (drop (under.at + 1) self.entry.claim.fixups.now)) }
     {
-        let row = self.claim.row(under.row);
-        if !sets_hold(row, self.claim.classes()) {
+        if !self.row_sets_hold(under) {
             return false;
         }
         self.all_additions_hold(under)
+    }
+
+    /// Whether the change of one register changes the labels of a fixup by at most 1. If the fixup behind
+    /// has the same kept row, that was tested there.
+    fn row_sets_hold(self, under: Under) -> bool
+        requires { UnderTest self under }
+        ensures { Says result (RowHolds (row_at self.entry.claim under.at) (length self.entry.claim.registers.now + 1)) }
+    {
+        if self.shares_row(under) {
+            return true;
+        }
+        sets_hold(self.claim.row(under.row), self.claim.classes())
+    }
+
+    /// Whether the fixup behind has the same kept row.
+    pub(crate) fn shares_row(self, under: Under) -> bool
+        requires { UnderTest self under }
+        ensures { IsTrue result → SharesRow self.entry under }
+    {
+        if under.at + 1 >= self.claim.fixups.len() {
+            return false;
+        }
+        self.rows[(under.at + 1) % WINDOW] == under.row
     }
 
     /// Tests the labels of a fixup against all instructions that begin by adding at it.

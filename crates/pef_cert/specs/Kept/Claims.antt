@@ -129,6 +129,15 @@ pub record UnderTest (b : Behind) (u : Under) : Type 0 where
   pub here : slice_get b.claim.fixups.now u.at ≡ Some u.fixup
   pub row : IsRowOf b.claim.kept.ends.now u.row u.at
 
+-- the row of an index
+abbrev pub row_at : Claim → ℕ → List ℕ
+row_at claim at = slice_index_or (rows_from claim.kept.width 0 claim.kept.ends.now claim.kept.values.now) at []
+
+-- a fixup under test and the one behind it have the same kept row
+pub record SharesRow (b : Behind) (u : Under) : Type 0 where
+  pub inside : u.at + 1 < length b.claim.fixups.now
+  pub row : IsRowOf b.claim.kept.ends.now u.row (u.at + 1)
+
 -- an index at a section's fixup, where all is known behind it and labels are feasible there
 pub record Skips (b : Behind) (at : ℕ) (f : Fixup) (k : ℕ) : Type 0 where
   pub knows : Knows b (at + 1)
