@@ -52,7 +52,7 @@ second_there l k f rest c d runs under_d is =
     subst (λ (x : ℕ). second_test l (label_of l f rest x d) k x d f rest ≡ true) (eqb-true class c is)
     (and_parts (row_test l (label_of l f rest class d) 4 (Section k) class d 512 f.offset (f ∷ rest)) (second_test l (label_of l f rest class d) k class d f rest) (runs d under_d).0).1
 
-section_all : (l : Labels) (index k : ℕ) (f : Fixup) (rest : List Fixup) → f.base ≡ Section k → AllSingles l 1 f rest → SectionRuns l k f rest → AllTests l index f rest
+pub section_all : (l : Labels) (index k : ℕ) (f : Fixup) (rest : List Fixup) → f.base ≡ Section k → AllSingles l 1 f rest → SectionRuns l k f rest → AllTests l index f rest
 section_all l index k f rest base singles runs = λ c d under_c under_d.
     subst (λ (b : Base). base_test l (label_of l f rest c d) index f rest c d b ≡ true) (sym base)
     (section_tests-met l (label_of l f rest c d) index k f rest c d (record {
@@ -65,7 +65,7 @@ section_all l index k f rest base singles runs = λ c d under_c under_d.
 section_singles : (l : Labels) (index k : ℕ) (f : Fixup) (rest : List Fixup) → f.base ≡ Section k → AllTests l index f rest → AllSingles l 1 f rest
 section_singles l index k f rest base all = λ c under_c d under_d. (all_of_section l index k f rest c d base all under_c under_d).single
 
-section_runs : (l : Labels) (index k : ℕ) (f : Fixup) (rest : List Fixup) → f.base ≡ Section k → AllTests l index f rest → SectionRuns l k f rest
+pub section_runs : (l : Labels) (index k : ℕ) (f : Fixup) (rest : List Fixup) → f.base ≡ Section k → AllTests l index f rest → SectionRuns l k f rest
 section_runs l index k f rest base all = λ x under.
     let class : ℕ = class_of l.registers k in
     let same = eq-eqb class class refl in
@@ -91,7 +91,7 @@ all_of_import : (l : Labels) (index k : ℕ) (f : Fixup) (rest : List Fixup) (c 
 all_of_import l index k f rest c d base all under_c under_d =
     import_tests l (label_of l f rest c d) index k f rest c d (subst (λ (b : Base). base_test l (label_of l f rest c d) index f rest c d b ≡ true) base (all c d under_c under_d))
 
-import_all : (l : Labels) (index k : ℕ) (f : Fixup) (rest : List Fixup) → f.base ≡ Import k → AllSingles l (import_cost k) f rest → ((k == index) ≡ true → ImportRuns l k f rest) → AllTests l index f rest
+pub import_all : (l : Labels) (index k : ℕ) (f : Fixup) (rest : List Fixup) → f.base ≡ Import k → AllSingles l (import_cost k) f rest → ((k == index) ≡ true → ImportRuns l k f rest) → AllTests l index f rest
 import_all l index k f rest base singles runs = λ c d under_c under_d.
     subst (λ (b : Base). base_test l (label_of l f rest c d) index f rest c d b ≡ true) (sym base)
     (import_tests-met l (label_of l f rest c d) index k f rest c d (record {
@@ -111,12 +111,6 @@ pub import-fails : (l : Labels) (index k cost : ℕ) (f : Fixup) (rest : List Fi
 import-fails l index k cost f rest base is singles = (
   λ e. absurd (cc),
   λ all. singles.1 (subst (λ (n : ℕ). AllSingles l n f rest) (sym is) (import_singles l index k f rest base all)),
-)
-
-pub import-alone : (l : Labels) (index k cost : ℕ) (f : Fixup) (rest : List Fixup) → f.base ≡ Import k → cost ≡ import_cost k → (k ≡ index → ⊥) → Says true (AllSingles l cost f rest) → Says true (AllTests l index f rest)
-import-alone l index k cost f rest base is other singles = (
-  λ e. import_all l index k f rest base (subst (λ (n : ℕ). AllSingles l n f rest) is (singles.0 refl)) (λ same. absurd (other (eqb-true k index same))),
-  λ all. refl,
 )
 
 pub import-says : (l : Labels) (index k cost : ℕ) (f : Fixup) (rest : List Fixup) (answer : Bool) → f.base ≡ Import k → cost ≡ import_cost k → k ≡ index → Says true (AllSingles l cost f rest) → Says answer (ImportRuns l k f rest) → Says answer (AllTests l index f rest)

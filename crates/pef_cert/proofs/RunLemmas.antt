@@ -85,6 +85,17 @@ row_test-weaker l label low w b c d n m p fixups under few met =
     let most = row_test-holds l low w b c d m p fixups met i left (omega (arith, inside, few)) words in
     omega (arith, most, under))
 
+-- the test of a run from that behind its first word
+pub row_test-first : (l : Labels) (label w : ℕ) (b : Base) (c d n p : ℕ) (f : Fixup) (rest : List Fixup) → label ≤ 1 + extension l rest (p + w) c d → row_test l label w b c d n (p + w) rest ≡ true → row_test l label w b c d (suc n) p (f ∷ rest) ≡ true
+unfolding row_test
+row_test-first l label w b c d n p f rest low more =
+    run_on-met (is_added p b f) (one_from l label rest (p + w) c d) (row_test l label w b c d n (p + w) rest) (λ is. one_from-met l label rest (p + w) c d low) (λ is. more)
+
+pub numbered_test-first : (l : Labels) (label c d n p i : ℕ) (f : Fixup) (rest : List Fixup) → label ≤ 1 + extension l rest (p + 4) c d → numbered_test l label c d n (p + 4) (i + 1) rest ≡ true → numbered_test l label c d (suc n) p i (f ∷ rest) ≡ true
+unfolding numbered_test
+numbered_test-first l label c d n p i f rest low more =
+    run_on-met (is_added p (Import i) f) (one_from l label rest (p + 4) c d) (numbered_test l label c d n (p + 4) (i + 1) rest) (λ is. one_from-met l label rest (p + 4) c d low) (λ is. more)
+
 -- two first fixups and others
 record SplitsTwo (f g f' g' : Fixup) (rest more : List Fixup) : Type 0 where
   first : f ≡ f'

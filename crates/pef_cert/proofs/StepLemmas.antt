@@ -60,7 +60,7 @@ row_zero : (l : Labels) (label w : ℕ) (b : Base) (c d p : ℕ) (fs : List Fixu
 unfolding row_test
 row_zero l label w b c d p fs = refl
 
-row_stops : (l : Labels) (label w : ℕ) (b : Base) (c d n p : ℕ) (fs : List Fixup) → adds_first p b fs ≡ false → row_test l label w b c d n p fs ≡ true
+pub row_stops : (l : Labels) (label w : ℕ) (b : Base) (c d n p : ℕ) (fs : List Fixup) → adds_first p b fs ≡ false → row_test l label w b c d n p fs ≡ true
 unfolding row_test
 row_stops l label w b c d zero p fs e = refl
 row_stops l label w b c d (suc n) p [] e = refl

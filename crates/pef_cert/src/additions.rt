@@ -1,5 +1,5 @@
 ghost use Rattle.std.specs.Prelude.{◌≡◌, ◌+◌, ◌<◌, drop, length, take};
-ghost use Rattle.pef_cert.specs.Kept.Claims.{Tests, UnderTest, labels_claimed};
+ghost use Rattle.pef_cert.specs.Kept.Claims.{GoesOn, Tests, UnderTest, labels_claimed};
 ghost use Rattle.pef_cert.specs.Kept.Tests.{AllTests, SectionRuns, runs_of_c, runs_of_d};
 ghost use Rattle.pef_cert.specs.Labels.{class_of};
 ghost use Rattle.pef_cert.specs.LabelTests.{pair_test, second_test};
@@ -21,10 +21,25 @@ impl<'a> Behind<'a> {
         requires base { under.fixup.base ≡ Section section }
         ensures { Says result (AllTests (labels_claimed self.entry.claim) (index_after (take under.at self.entry.claim.fixups.now) 0) under.fixup (drop (under.at + 1) self.entry.claim.fixups.now)) }
     {
+        if self.goes_on(under, Base::Section(section)) {
+            return self.same_pairs_hold(under, section);
+        }
         if !self.singles_hold(under, 1) {
             return false;
         }
         self.section_runs_hold(under, section)
+    }
+
+    /// The same if the section goes on with the same labels. Then all runs hold but the pairs of the section
+    /// with itself, where both registers hold it.
+    fn same_pairs_hold(self, under: Under, section: u32) -> bool
+        requires under { UnderTest self under }
+        requires base { under.fixup.base ≡ Section section }
+        requires on { GoesOn self under (Section section) }
+        ensures { Says result (AllTests (labels_claimed self.entry.claim) (index_after (take under.at self.entry.claim.fixups.now) 0) under.fixup (drop (under.at + 1) self.entry.claim.fixups.now)) }
+    {
+        let class = class_of(self.claim.registers, section);
+        self.second_holds(self.state(under, class, class), section)
     }
 
     /// Tests the labels of all states in which a register holds the section against runs of it.

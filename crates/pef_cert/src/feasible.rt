@@ -1,6 +1,6 @@
 ghost use Rattle.std.specs.Prelude.{◌≡◌, ◌+◌, ◌-◌, ◌<◌, IsTrue, drop, length, take};
 ghost use Rattle.pef_cert.specs.Feasible.{FeasibleAt};
-ghost use Rattle.pef_cert.specs.Kept.Claims.{SharesRow, Tests, UnderTest, labels_claimed, row_at, state_of};
+ghost use Rattle.pef_cert.specs.Kept.Claims.{GoesOn, SharesRow, Tests, UnderTest, labels_claimed, row_at, state_of};
 ghost use Rattle.pef_cert.specs.Kept.Sets.{RowHolds};
 ghost use Rattle.pef_cert.specs.Kept.Tests.{AllTests};
 ghost use Rattle.pef_fixups.specs.Answers.{Says};
@@ -9,6 +9,7 @@ ghost use Rattle.pef_reloc.specs.Deliveries.{index_after};
 use crate::claim::{Behind, WINDOW};
 use crate::runs::Tested;
 use crate::sets::sets_hold;
+use pef_fixups::WORD;
 use pef_reloc::{Base, Fixup};
 
 /// A fixup under test: its index, and which kept row has its labels.
@@ -44,7 +45,7 @@ impl<'a> Behind<'a> {
     }
 
     /// Whether the fixup behind has the same kept row.
-    pub(crate) fn shares_row(self, under: Under) -> bool
+    fn shares_row(self, under: Under) -> bool
         requires { UnderTest self under }
         ensures { IsTrue result → SharesRow self.entry under }
     {
@@ -63,6 +64,19 @@ impl<'a> Behind<'a> {
             Base::Section(section) => self.section_holds(under, section),
             Base::Import(import) => self.import_holds(under, import),
         }
+    }
+
+    /// Whether the next word adds a base, by a fixup with the same kept row. If this base goes on with the
+    /// runs of the fixup under test, they were tested there with the same labels.
+    pub(crate) fn goes_on(self, under: Under, base: Base) -> bool
+        requires { UnderTest self under }
+        ensures { IsTrue result → GoesOn self.entry under base }
+    {
+        if !self.shares_row(under) {
+            return false;
+        }
+        self.claim
+            .adds(under.at + 1, u64::from(under.fixup.offset) + WORD, base)
     }
 
     /// The state of a fixup in two classes, with its label.

@@ -45,6 +45,9 @@ impl<'a> Behind<'a> {
         requires base { under.fixup.base ≡ Import import }
         ensures { Says result (AllTests (labels_claimed self.entry.claim) (index_after (take under.at self.entry.claim.fixups.now) 0) under.fixup (drop (under.at + 1) self.entry.claim.fixups.now)) }
     {
+        if self.goes_on(under, Base::Import(import + 1)) {
+            return true;
+        }
         if !self.singles_hold(under, import_cost(import)) {
             return false;
         }

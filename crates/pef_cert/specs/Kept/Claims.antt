@@ -138,6 +138,11 @@ pub record SharesRow (b : Behind) (u : Under) : Type 0 where
   pub inside : u.at + 1 < length b.claim.fixups.now
   pub row : IsRowOf b.claim.kept.ends.now u.row (u.at + 1)
 
+-- and the next word adds a base
+pub record GoesOn (b : Behind) (u : Under) (base : Base) : Type 0 where
+  pub shares : SharesRow b u
+  pub adds : adds_first (u.fixup.offset + 4) base (drop (u.at + 1) b.claim.fixups.now) ≡ true
+
 -- an index at a section's fixup, where all is known behind it and labels are feasible there
 pub record Skips (b : Behind) (at : ℕ) (f : Fixup) (k : ℕ) : Type 0 where
   pub knows : Knows b (at + 1)
