@@ -22,7 +22,7 @@ use Rattle.pef_cert.specs.Feasible.{Feasible, FeasibleAt, FeasibleFrom}
 use Rattle.pef_cert.specs.Labels.{Labels, class_of, classes}
 use Rattle.pef_labels.specs.Rising.{above_all}
 use Rattle.pef_cert.specs.Valid.{labels_in}
-use Rattle.pef_cert.specs.Kept.Claims.{IsRowOf, KnownAt, Shaped, SkipsAre, SkipsKept, Swept, labels_claimed, rows_before}
+use Rattle.pef_cert.specs.Kept.Claims.{IsRowOf, KnownAt, Shaped, SkipsAre, SkipsKept, Swept, labels_claimed, rows_before, word_end}
 use Rattle.pef_labels.specs.Rows.{RowsFull, rows_from}
 use Rattle.pef_cert.specs.Kept.Sets.{RowIsZero}
 use Rattle.pef_cert.proofs.AdditionLemmas.{index_behind}
@@ -100,28 +100,25 @@ swept-end claim q ring least shaped row rows skips = record {
       });
 }
 
--- and one fixup further
-known_here : (claim : Claim) (q at : ℕ) (ring : List ℕ) (least : List (List ℕ)) (f : Fixup) (new : List ℕ) → length ring ≡ 1024 → length least ≡ 1024 → slice_get claim.fixups.now at ≡ Some f → IsRowOf claim.kept.ends.now q at → SkipsKept claim at f (drop (at + 1) claim.fixups.now) new → KnownAt claim (slice_set ring (at % 1024) q) (slice_set least (at % 1024) new) at
-known_here claim q at ring least f new rows skips here row are =
+-- and one fixup further, with what the ring has of its skips
+known_here : (claim : Claim) (q at : ℕ) (ring : List ℕ) (least : List (List ℕ)) (f : Fixup) → length ring ≡ 1024 → slice_get claim.fixups.now at ≡ Some f → IsRowOf claim.kept.ends.now q at → SkipsKept claim at f (drop (at + 1) claim.fixups.now) (slice_index_or least (at % 1024) []) → KnownAt claim (slice_set ring (at % 1024) q) least at
+known_here claim q at ring least f rows here row are =
     let in_ring : at % 1024 < length ring = rw rows (mod-lt at (omega arith)) in
-    let in_least : at % 1024 < length least = rw skips (mod-lt at (omega arith)) in
+    let new : List ℕ = slice_index_or least (at % 1024) [] in
     record {
       row = subst (λ (r : ℕ). IsRowOf claim.kept.ends.now r at) (sym (get_or-set_same ring (at % 1024) q 0 in_ring)) row;
       offer = λ g rest e.
           let parts : ◌≡◌ {A = List Fixup} (f ∷ drop (at + 1) claim.fixups.now) (g ∷ rest) = sym (drop-here claim.fixups.now at f here) ∙ e in
           let first : f ≡ g = cc in
           let others : drop (at + 1) claim.fixups.now ≡ rest = cc in
-          subst (λ (l : List ℕ). SkipsKept claim at g rest l) (sym (get_or-set_same least (at % 1024) new [] in_least))
-          (subst (λ (h : Fixup). SkipsKept claim at h rest new) first (subst (λ (fs : List Fixup). SkipsKept claim at f fs new) others are));
+          subst (λ (h : Fixup). SkipsKept claim at h rest new) first (subst (λ (fs : List Fixup). SkipsKept claim at f fs new) others are);
     }
 
-known_there : (claim : Claim) (q at j : ℕ) (ring : List ℕ) (least : List (List ℕ)) (new : List ℕ) → at < j → j < at + 1024 → KnownAt claim ring least j → KnownAt claim (slice_set ring (at % 1024) q) (slice_set least (at % 1024) new) j
-known_there claim q at j ring least new after before known =
-    let other = apart at j after before in
-    record {
-      row = subst (λ (r : ℕ). IsRowOf claim.kept.ends.now r j) (sym (get_or-set_other ring (at % 1024) (j % 1024) q 0 other)) known.row;
-      offer = λ f rest e. subst (λ (l : List ℕ). SkipsKept claim j f rest l) (sym (get_or-set_other least (at % 1024) (j % 1024) new [] other)) (known.offer f rest e);
-    }
+known_there : (claim : Claim) (q at j : ℕ) (ring : List ℕ) (least fresh : List (List ℕ)) → j % 1024 ≢ at % 1024 → slice_index_or fresh (j % 1024) [] ≡ slice_index_or least (j % 1024) [] → KnownAt claim ring least j → KnownAt claim (slice_set ring (at % 1024) q) fresh j
+known_there claim q at j ring least fresh other same known = record {
+  row = subst (λ (r : ℕ). IsRowOf claim.kept.ends.now r j) (sym (get_or-set_other ring (at % 1024) (j % 1024) q 0 other)) known.row;
+  offer = λ f rest e. subst (λ (l : List ℕ). SkipsKept claim j f rest l) (sym same) (known.offer f rest e);
+}
 
 here_or_there : (at j : ℕ) → at ≤ j → (j ≡ at) ⊎ (at < j)
 here_or_there at j after =
@@ -130,17 +127,31 @@ here_or_there at j after =
       | inr other ↦ inr (omega (arith, other.1))
     ]
 
-pub swept-next : (claim : Claim) (q at : ℕ) (ring : List ℕ) (least : List (List ℕ)) (f : Fixup) (new : List ℕ) → Swept claim ring least (at + 1) → slice_get claim.fixups.now at ≡ Some f → IsRowOf claim.kept.ends.now q at → SkipsKept claim at f (drop (at + 1) claim.fixups.now) new → Swept claim (slice_set ring (at % 1024) q) (slice_set least (at % 1024) new) at
-swept-next claim q at ring least f new swept here row are = record {
+swept_with : (claim : Claim) (q at : ℕ) (ring : List ℕ) (least fresh : List (List ℕ)) (f : Fixup) → Swept claim ring least (at + 1) → slice_get claim.fixups.now at ≡ Some f → IsRowOf claim.kept.ends.now q at → length fresh ≡ 1024 → SkipsKept claim at f (drop (at + 1) claim.fixups.now) (slice_index_or fresh (at % 1024) []) → ((i : ℕ) → i ≢ at % 1024 → slice_index_or fresh i [] ≡ slice_index_or least i []) → Swept claim (slice_set ring (at % 1024) q) fresh at
+swept_with claim q at ring least fresh f swept here row skips are same = record {
   shaped = swept.shaped;
   rows = length-set ring (at % 1024) q ∙ swept.rows;
-  skips = length-set least (at % 1024) new ∙ swept.skips;
+  skips = skips;
   at = λ j after before inside.
       elim (here_or_there at j after) [
-        | inl same ↦ subst (λ (i : ℕ). KnownAt claim (slice_set ring (at % 1024) q) (slice_set least (at % 1024) new) i) (sym same) (known_here claim q at ring least f new swept.rows swept.skips here row are)
-        | inr later ↦ known_there claim q at j ring least new later before (swept.at j (omega (arith, later)) (omega (arith, before)) inside)
+        | inl equal ↦ subst (λ (i : ℕ). KnownAt claim (slice_set ring (at % 1024) q) fresh i) (sym equal) (known_here claim q at ring fresh f swept.rows here row are)
+        | inr later ↦
+            (let other = apart at j later before in
+            known_there claim q at j ring least fresh other (same (j % 1024) other) (swept.at j (omega (arith, later)) (omega (arith, before)) inside))
       ];
 }
+
+pub swept-next : (claim : Claim) (q at : ℕ) (ring : List ℕ) (least : List (List ℕ)) (f : Fixup) (new : List ℕ) → Swept claim ring least (at + 1) → slice_get claim.fixups.now at ≡ Some f → IsRowOf claim.kept.ends.now q at → SkipsAre claim f (drop (at + 1) claim.fixups.now) new → Swept claim (slice_set ring (at % 1024) q) (slice_set least (at % 1024) new) at
+swept-next claim q at ring least f new swept here row are =
+    let in_least : at % 1024 < length least = rw swept.skips (mod-lt at (omega arith)) in
+    swept_with claim q at ring least (slice_set least (at % 1024) new) f swept here row (length-set least (at % 1024) new ∙ swept.skips)
+    (λ gap. subst (λ (l : List ℕ). SkipsAre claim f (drop (at + 1) claim.fixups.now) l) (sym (get_or-set_same least (at % 1024) new [] in_least)) are)
+    (λ i other. get_or-set_other least (at % 1024) i new [] other)
+
+-- the same where the word before leaves no gap
+pub swept-close : (claim : Claim) (q at : ℕ) (ring : List ℕ) (least : List (List ℕ)) (f : Fixup) → Swept claim ring least (at + 1) → slice_get claim.fixups.now at ≡ Some f → IsRowOf claim.kept.ends.now q at → f.offset ≤ word_end claim.fixups.now at → Swept claim (slice_set ring (at % 1024) q) least at
+swept-close claim q at ring least f swept here row close =
+    swept_with claim q at ring least least f swept here row swept.skips (λ gap. absurd (omega (arith, gap, close))) (λ i other. refl)
 
 -- labels that are feasible from one fixup on, and from the one before it
 pub index_next : (fixups : List Fixup) (at : ℕ) (f : Fixup) → slice_get fixups at ≡ Some f → index_after (take (at + 1) fixups) 0 ≡ index_past f.base (index_after (take at fixups) 0)

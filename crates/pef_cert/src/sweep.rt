@@ -1,10 +1,9 @@
 ghost use Rattle.std.specs.Prelude.{◌≡◌, ◌+◌, ◌*◌, ◌<◌, ◌≤◌, MatchOption, ◌-◌, drop, take, slice_get, length};
 ghost use Rattle.pef_cert.specs.Extension.{extension_at};
-ghost use Rattle.pef_cert.specs.Feasible.{Feasible, FeasibleAt};
-ghost use Rattle.pef_cert.specs.Kept.Claims.{FeasibleBehind, IsRowOf, Knows, Shaped, Skips, SkipsAre, SkipsKept, UnderTest, labels_claimed, word_end};
+ghost use Rattle.pef_cert.specs.Feasible.{Feasible};
+ghost use Rattle.pef_cert.specs.Kept.Claims.{FeasibleBehind, IsRowOf, Knows, Shaped, Skips, SkipsAre, labels_claimed, word_end};
 ghost use Rattle.pef_cert.specs.Kept.Sets.{RowIsZero};
 ghost use Rattle.pef_fixups.specs.Answers.{Says};
-ghost use Rattle.pef_reloc.specs.Deliveries.{index_after};
 ghost use Rattle.pef_reloc.specs.Steps.{start};
 
 use crate::claim::{Behind, Claim, MAX_CLASSES, WINDOW};
@@ -37,9 +36,14 @@ impl<'a> Claim<'a> {
                 rows: &rows,
                 skips: &skips,
             };
-            let least = behind.sweep(Under { at, fixup, row })?;
+            if !behind.fixup_holds(Under { at, fixup, row }) {
+                return None;
+            }
+            let least = behind.skips_after_gap(at, fixup);
             rows[at % WINDOW] = row;
-            skips[at % WINDOW] = least;
+            if let Some(least) = least {
+                skips[at % WINDOW] = least;
+            }
         }
         let behind = Behind {
             claim: self,
@@ -88,29 +92,27 @@ fn is_zero(row: &[u32]) -> bool
 }
 
 impl<'a> Behind<'a> {
-    /// The least skips at a fixup, by the class of register C, where its labels are feasible.
-    fn sweep(self, under: Under) -> Option<[u32; MAX_CLASSES]>
-        requires { UnderTest self under }
-        ensures { MatchOption result (FeasibleAt (labels_claimed self.entry.claim) (index_after (take under.at self.entry.claim.fixups.now) 0) under.fixup (drop (under.at + 1) self.entry.claim.fixups.now) → ⊥) (λ least. FeasibleAt (labels_claimed self.entry.claim) (index_after (take under.at self.entry.claim.fixups.now) 0) under.fixup (drop (under.at + 1) self.entry.claim.fixups.now) × SkipsKept self.entry.claim under.at under.fixup (drop (under.at + 1) self.entry.claim.fixups.now) least) }
+    /// The least skips at index `at`, which has this fixup, by the class of register C. `None` if the word
+    /// before leaves no gap: no move leads to the fixup then.
+    fn skips_after_gap(self, at: usize, fixup: Fixup) -> Option<[u32; MAX_CLASSES]>
+        requires knows { Knows self (at + 1) }
+        requires here { slice_get self.claim.fixups.now at ≡ Some fixup }
+        requires beyond { FeasibleBehind self.claim at }
+        ensures { MatchOption result (fixup.offset ≤ word_end self.entry.claim.fixups.now at) (λ least. SkipsAre self.entry.claim fixup (drop (at + 1) self.entry.claim.fixups.now) least) }
     {
-        if self.fixup_holds(under) {
-            Some(self.least_skips(under.at, under.fixup))
-        } else {
-            None
+        if u64::from(fixup.offset) <= self.claim.word_end(at) {
+            return None;
         }
+        Some(self.least_skips(at, fixup))
     }
 
-    /// The least skips at index `at`, which has this fixup. If the word before leaves no gap, no move
-    /// leads to the fixup, and nothing is computed.
+    /// The same wherever the word before ends.
     fn least_skips(self, at: usize, fixup: Fixup) -> [u32; MAX_CLASSES]
         requires knows { Knows self (at + 1) }
         requires here { slice_get self.claim.fixups.now at ≡ Some fixup }
         requires beyond { FeasibleBehind self.claim at }
-        ensures { SkipsKept self.entry.claim at fixup (drop (at + 1) self.entry.claim.fixups.now) result }
+        ensures { SkipsAre self.entry.claim fixup (drop (at + 1) self.entry.claim.fixups.now) result }
     {
-        if u64::from(fixup.offset) <= self.claim.word_end(at) {
-            return [0; MAX_CLASSES];
-        }
         match fixup.base {
             Base::Section(section) => self.section_skips(at, fixup, section),
             Base::Import(_) => [0; MAX_CLASSES],

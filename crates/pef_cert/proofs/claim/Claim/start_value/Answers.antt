@@ -8,7 +8,7 @@ use Rattle.pef_cert.specs.Feasible.{FeasibleFrom}
 use Rattle.pef_cert.specs.Kept.Claims.{Swept, labels_claimed}
 use Rattle.pef_labels.specs.Rows.{rows_from}
 use Rattle.pef_cert.proofs.ClassLemmas.{class_of-below}
-use Rattle.pef_cert.proofs.SweepLemmas.{feasible-before, feasible-end, feasible-there, feasible-whole, last-zero, row-last, swept-end, swept-next, zero-last}
+use Rattle.pef_cert.proofs.SweepLemmas.{feasible-before, feasible-end, feasible-there, feasible-whole, last-zero, row-last, swept-close, swept-end, swept-next, zero-last}
 use Rattle.pef_cert.proofs.claim.Claim.start_value.Goals as goal
 
 pub returns-then-not-is_zero : goal.returns-then-not-is_zero
@@ -31,8 +31,8 @@ fixups-init c =
       feasible = feasible-end (labels_claimed s) (index_after (take n s.fixups.now) 0) s.fixups.now;
     }
 
-pub sweep-requires : goal.sweep-requires
-sweep-requires c =
+pub fixup_holds-requires : goal.fixup_holds-requires
+fixup_holds-requires c =
     let step : c.fixups.at ≡ c.fixups.at - 1 + 1 = omega (arith, c.fixups-test.true) in
     record {
       knows = subst (λ (n : ℕ). Swept c.args.self c.fixups.rows c.fixups.skips n) step c.fixups.invariant.swept;
@@ -41,10 +41,10 @@ sweep-requires c =
       row = c.row_before-row.ensures;
     }
 
-pub returns-in_err-least : goal.returns-in_err-least
-returns-in_err-least c =
-    rw c.from_residual.ensures
-    (λ feasible. c.in_err-least.ensures (feasible-there (labels_claimed c.args.self) 0 c.args.self.fixups.now (c.fixups.at - 1) _ (slice_get-get_or c.args.self.fixups.now (c.fixups.at - 1) _ (omega (arith, c.fixups-test.true, c.fixups.invariant.under))) feasible.each))
+pub returns-then-not-fixup_holds : goal.returns-then-not-fixup_holds
+returns-then-not-fixup_holds c = λ feasible.
+    let wrong : false ≡ true = c.if-not-fixup_holds.ensures.1 (feasible-there (labels_claimed c.args.self) 0 c.args.self.fixups.now (c.fixups.at - 1) _ (slice_get-get_or c.args.self.fixups.now (c.fixups.at - 1) _ (omega (arith, c.fixups-test.true, c.fixups.invariant.under))) feasible.each) in
+    absurd (cc)
 
 pub fixups-preserved : goal.fixups-preserved
 fixups-preserved c =
@@ -54,9 +54,23 @@ fixups-preserved c =
     record {
       under = omega (arith, c.fixups.invariant.under);
       row = c.row_before-row.ensures;
-      swept = swept-next s c.row_before-row.result (c.fixups.at - 1) c.fixups.rows c.fixups.skips _ c.in_ok-least.least
-          (subst (λ (n : ℕ). Swept s c.fixups.rows c.fixups.skips n) step c.fixups.invariant.swept) here c.row_before-row.ensures c.in_ok-least.ensures.1;
-      feasible = feasible-before (labels_claimed s) s.fixups.now (c.fixups.at - 1) _ here c.in_ok-least.ensures.0
+      swept = swept-close s c.row_before-row.result (c.fixups.at - 1) c.fixups.rows c.fixups.skips _
+          (subst (λ (n : ℕ). Swept s c.fixups.rows c.fixups.skips n) step c.fixups.invariant.swept) here c.row_before-row.ensures c.in_default.ensures;
+      feasible = feasible-before (labels_claimed s) s.fixups.now (c.fixups.at - 1) _ here (c.if-not-fixup_holds.ensures.0 refl)
+          (subst (λ (n : ℕ). FeasibleFrom (labels_claimed s) (index_after (take n s.fixups.now) 0) (drop n s.fixups.now)) step c.fixups.invariant.feasible);
+    }
+
+pub fixups-preserved-in-Some : goal.fixups-preserved-in-Some
+fixups-preserved-in-Some c =
+    let s = c.args.self in
+    let step : c.fixups.at ≡ c.fixups.at - 1 + 1 = omega (arith, c.fixups-test.true) in
+    let here = slice_get-get_or s.fixups.now (c.fixups.at - 1) _ (omega (arith, c.fixups-test.true, c.fixups.invariant.under)) in
+    record {
+      under = omega (arith, c.fixups.invariant.under);
+      row = c.row_before-row.ensures;
+      swept = swept-next s c.row_before-row.result (c.fixups.at - 1) c.fixups.rows c.fixups.skips _ c.in-Some.least
+          (subst (λ (n : ℕ). Swept s c.fixups.rows c.fixups.skips n) step c.fixups.invariant.swept) here c.row_before-row.ensures c.in-Some.ensures;
+      feasible = feasible-before (labels_claimed s) s.fixups.now (c.fixups.at - 1) _ here (c.if-not-fixup_holds.ensures.0 refl)
           (subst (λ (n : ℕ). FeasibleFrom (labels_claimed s) (index_after (take n s.fixups.now) 0) (drop n s.fixups.now)) step c.fixups.invariant.feasible);
     }
 
