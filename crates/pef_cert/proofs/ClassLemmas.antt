@@ -85,6 +85,18 @@ class_of-index (r ∷ rs) (suc i) up under =
     let apart : r ≢ slice_index rs i = omega (arith, low) in
     rw (ne_eqb r (slice_index rs i) apart) (ap suc (class_of-index rs i (above_rises r rs up) (omega arith)))
 
+-- so whether a section that counts has a class is seen at that place
+pub has_class-at : (rs : List ℕ) (k class : ℕ) → rises rs ≡ true → class < length rs → class_of rs k < length rs → (class == class_of rs k) ≡ (slice_index rs class == k)
+has_class-at rs k class up under counts =
+    let there = class_of-index rs class up under in
+    elim (eqb_tells (slice_index rs class) k) [
+      | inl same ↦ eq-eqb class (class_of rs k) (sym there ∙ ap (class_of rs) same.1) ∙ sym same.0
+      | inr other ↦ elim (eqb_tells class (class_of rs k)) [
+        | inl equal ↦ absurd (other.1 (class_of-same rs (slice_index rs class) k (there ∙ equal.1) counts))
+        | inr apart ↦ apart.0 ∙ sym other.0
+      ]
+    ]
+
 -- what stands at a place is among them
 pub is_among-index : (rs : List ℕ) (i : ℕ) → i < length rs → is_among rs (slice_index rs i) ≡ true
 is_among-index [] i under = absurd (omega arith)

@@ -1,10 +1,9 @@
-ghost use Rattle.std.specs.Prelude.{◌≡◌, ◌+◌, ◌-◌, ◌*◌, ◌%◌, ◌^◌, ◌<◌, ◌≤◌, ◌∷◌, ℕ, List, IfSome, Some, [], drop, length, slice_get, slice_index_or};
-ghost use Rattle.pef_cert.specs.Extension.{extension, offer_at};
-ghost use Rattle.pef_reloc.specs.declared.fixup.Fixup.{Fixup};
+ghost use Rattle.std.specs.Prelude.{◌≡◌, ◌+◌, ◌-◌, ◌*◌, ◌%◌, ◌^◌, ◌<◌, ◌≤◌, ℕ, IfSome, Some, [], drop, length, slice_get, slice_index_or};
+ghost use Rattle.pef_cert.specs.Extension.{change, extension, offer_at};
+ghost use Rattle.pef_cert.specs.Labels.{class_of};
 ghost use Rattle.pef_labels.specs.Rows.{rows_from};
 ghost use Rattle.pef_cert.specs.Kept.Claims.{IsRowOf, Sees, Shaped, labels_claimed, word_end};
 
-use crate::classes::{change, class_of};
 use crate::extension::moved_value;
 use pef_labels::KeptRows;
 use pef_reloc::{Base, Fixup, MAX_SECTIONS};
@@ -53,6 +52,18 @@ impl<'a> Claim<'a> {
     {
         let place = c * self.classes() + d;
         self.kept.values[row * self.kept.width + place]
+    }
+
+    /// 1 where a register of a class has to change to hold a section that the fixups use, else 0.
+    fn change(self, section: u32, class: usize) -> u64
+        requires shaped { Shaped self }
+        requires counts { class_of self.registers.now section < length self.registers.now }
+        ensures { result ≡ change class (class_of self.entry.registers.now section) }
+    {
+        match self.registers.get(class) {
+            Some(register) => { if *register == section { 0 } else { 1 } }
+            None => 1,
+        }
     }
 
     /// The labels of a kept row.
@@ -113,20 +124,21 @@ impl<'a> Behind<'a> {
         if position > offset {
             return 2 + u64::from(label);
         }
-        moved_value(offset - position, label, self.offer(at, fixup.base, c, d))
+        moved_value(offset - position, label, self.offer(at, fixup, c, d))
     }
 
-    /// The least offer at index `at`, whose fixup has this base and begins after a gap.
-    fn offer(self, at: usize, base: Base, c: usize, d: usize) -> Option<u64>
+    /// The least offer at index `at`, whose fixup begins after a gap.
+    fn offer(self, at: usize, fixup: Fixup, c: usize, d: usize) -> Option<u64>
         requires sees { Sees self at }
+        requires fixup { slice_get self.claim.fixups.now at ≡ Some fixup }
         requires c { c < length self.claim.registers.now + 1 }
         requires d { d < length self.claim.registers.now + 1 }
-        ensures is { (f : Fixup) (rest : List Fixup) → drop at self.entry.claim.fixups.now ≡ f ∷ rest → f.base ≡ base → word_end self.entry.claim.fixups.now at < f.offset → result ≡ offer_at (labels_claimed self.entry.claim) f rest c d }
+        ensures is { word_end self.entry.claim.fixups.now at < fixup.offset → result ≡ offer_at (labels_claimed self.entry.claim) fixup (drop (at + 1) self.entry.claim.fixups.now) c d }
         ensures small { IfSome result (λ x. x ≤ 2 ^ 32) }
     {
-        match base {
+        match fixup.base {
             Base::Section(section) => {
-                let change = change(d, class_of(self.claim.registers, section));
+                let change = self.claim.change(section, d);
                 let skip = self.skips[at % WINDOW][c];
                 Some(change + u64::from(skip))
             }

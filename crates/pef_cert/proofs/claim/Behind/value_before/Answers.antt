@@ -1,5 +1,4 @@
 use Rattle.std.proofs.Common.{◌+◌, ◌-◌, ◌<◌, ◌∙◌, ap, arith, drop, sym, refl, ◌≢◌}
-use Rattle.pef_words.proofs.Laws.Lists.{drop-here}
 use Rattle.pef_cert.proofs.ClaimLemmas.{value-away, value-here, value-past}
 use Rattle.pef_cert.specs.Extension.{moved_value}
 use Rattle.pef_cert.specs.Kept.Claims.{labels_claimed, word_end}
@@ -23,5 +22,5 @@ returns-clause-is c =
     let gap : word_end b.claim.fixups.now c.args.at < c.args.fixup.offset = omega (arith, away, c.requires.after, c.if-position-offset-2.false, c.from-offset.ensures) in
     value-away (labels_claimed b.claim) b.claim.fixups.now c.args.at c.args.fixup c.args.position c.args.c c.args.d c.label-label.result c.moved_value.result c.offer.result c.requires.fixup away
     c.label-label.ensures
-    (c.offer.ensures.is c.args.fixup (drop (c.args.at + 1) b.claim.fixups.now) (drop-here b.claim.fixups.now c.args.at c.args.fixup c.requires.fixup) refl gap)
+    (c.offer.ensures.is gap)
     (c.moved_value.ensures.is ∙ ap (λ n. moved_value (n - c.args.position) c.label-label.result c.offer.result) c.from-offset.ensures)
