@@ -1,6 +1,5 @@
 -- What a check looks up of fixups: the import index, and the base that comes next.
-use Rattle.std.proofs.Common.{◌≡◌, ℕ, ◌+◌, ◌-◌, ◌<◌, ◌≤◌, Bool, true, ◌&&◌, ◌||◌, ◌==◌, nat_le, List, [], ◌∷◌, length, take, drop, Some, ap, sym, ◌∙◌, arith, slice_get, eq-eqb}
-use Rattle.std.proofs.Math.Path.{ap₂}
+use Rattle.std.proofs.Common.{◌≡◌, ℕ, ◌+◌, ◌-◌, ◌<◌, ◌≤◌, Bool, true, List, [], ◌∷◌, length, take, drop, Some, ap, sym, ◌∙◌, arith, slice_get}
 use Rattle.std.specs.Prelude.{slice_index_or}
 use Rattle.std.proofs.lemmas.Bool.{ltb-true}
 use Rattle.std.proofs.lemmas.List.{take_more}
@@ -12,14 +11,10 @@ use Rattle.pef_reloc.specs.Fixups.{base_fits, fixup_fits}
 use Rattle.pef_reloc.specs.Limits.{most_imports}
 use Rattle.pef_reloc.proofs.Laws.{each_fits, fixup_fits-parts, index_after-append}
 use Rattle.pef_words.proofs.Laws.Lists.{all-get, drop-here}
-use Rattle.pef_cert.specs.declared.claim.Behind.{Behind}
 use Rattle.pef_cert.specs.declared.claim.Claim.{Claim}
-use Rattle.pef_cert.specs.declared.runs.Tested.{Tested}
-use Rattle.pef_cert.specs.Labels.{Labels, class_of}
-use Rattle.pef_cert.specs.Extension.{extension}
-use Rattle.pef_cert.specs.Kept.Claims.{Sees, Shaped, Tests}
-use Rattle.pef_cert.specs.LabelTests.{adds_test, asked, base_test, import_cost, numbered_test, one_from, pair_test, row_test, second_test}
-use Rattle.pef_cert.proofs.ClaimLemmas.{get_under, knows-sees, label_there}
+use Rattle.pef_cert.specs.Labels.{Labels}
+use Rattle.pef_cert.specs.Kept.Claims.{Shaped}
+use Rattle.pef_cert.specs.LabelTests.{pair_test, second_test}
 
 -- a fixup of fixups that fit does
 pub got-fits : (c : Claim) (at : ℕ) (f : Fixup) → Shaped c → slice_get c.fixups.now at ≡ Some f → fixup_fits f ≡ true

@@ -1,6 +1,6 @@
 -- A label behind the tested one meets the tests of the runs that begin there. So where a run goes on there and
 -- that label is no lower, all longer ends are covered.
-use Rattle.std.proofs.Common.{◌≡◌, ℕ, zero, suc, ◌+◌, ◌-◌, ◌<◌, ◌≤◌, Bool, true, ◌&&◌, ◌||◌, ◌==◌, List, [], ◌∷◌, length, take, drop, Some, ap, sym, ◌∙◌, subst, arith, slice_get, eq-eqb}
+use Rattle.std.proofs.Common.{◌≡◌, ℕ, zero, suc, ◌+◌, ◌<◌, ◌≤◌, Bool, true, ◌&&◌, ◌||◌, ◌==◌, List, [], ◌∷◌, length, take, drop, Some, ap, sym, ◌∙◌, subst, arith, slice_get, eq-eqb}
 use Rattle.std.proofs.Math.Path.{ap₂}
 use Rattle.std.proofs.lemmas.Bool.{and_parts}
 use Rattle.pef_reloc.specs.declared.fixup.Base.{Base}

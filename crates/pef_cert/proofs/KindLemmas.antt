@@ -1,5 +1,5 @@
 -- The tests of all states of a fixup, one kind of instruction after the other.
-use Rattle.std.proofs.Common.{◌≡◌, ℕ, ◌+◌, ◌-◌, ◌<◌, ◌≤◌, inl, inr, Bool, true, false, ◌&&◌, ◌||◌, ◌==◌, nat_le, List, [], ◌∷◌, length, drop, Some, refl, ap, sym, ◌∙◌, subst, arith, slice_get, eq-eqb}
+use Rattle.std.proofs.Common.{◌≡◌, ℕ, ◌+◌, ◌-◌, ◌<◌, inl, inr, Bool, true, false, ◌||◌, ◌==◌, nat_le, List, ◌∷◌, length, drop, Some, refl, ap, sym, ◌∙◌, subst, arith, slice_get, eq-eqb}
 use Rattle.std.proofs.lemmas.Bool.{and_from, and_parts, eqb-true, le-leb, leb-true, or_cases, or_left, or_right}
 use Rattle.pef_reloc.specs.declared.fixup.Base.{Base}
 use Rattle.pef_reloc.specs.declared.fixup.Base.TheVariants.{Section, Import}
@@ -13,7 +13,7 @@ use Rattle.pef_cert.specs.declared.runs.Tested.{Tested}
 use Rattle.pef_cert.specs.Labels.{Labels, class_of, classes}
 use Rattle.pef_cert.specs.Extension.{extension}
 use Rattle.pef_cert.specs.Kept.Claims.{Sees, UnderTest, labels_claimed, state_of}
-use Rattle.pef_cert.specs.Kept.Tests.{AllSingles, AllTests, ImportRuns, SectionRuns, label_of, runs_of_c, runs_of_d, single_test}
+use Rattle.pef_cert.specs.Kept.Tests.{AllSingles, AllTests, ImportRuns, SectionRuns, label_of, single_test}
 use Rattle.pef_cert.specs.LabelTests.{base_test, import_cost, numbered_test, row_test, second_test}
 use Rattle.pef_cert.proofs.ClaimLemmas.{get_under, knows-sees, label_there}
 use Rattle.pef_cert.proofs.ClassLemmas.{class_of-below}

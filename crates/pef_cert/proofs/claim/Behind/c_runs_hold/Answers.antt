@@ -1,4 +1,4 @@
-use Rattle.std.proofs.Common.{◌≡◌, ◌==◌, ◌+◌, ◌<◌, ◌&&◌, ◌∷◌, true, false, drop, length, ap, sym, ◌∙◌, arith, eq-eqb}
+use Rattle.std.proofs.Common.{◌==◌, ◌+◌, ◌&&◌, true, false, drop, ap, sym, ◌∙◌, arith, eq-eqb}
 use Rattle.std.proofs.Math.Path.{ap₂}
 use Rattle.std.proofs.lemmas.Bool.{or_left}
 use Rattle.pef_reloc.specs.declared.fixup.Base.TheVariants.{Section}

@@ -1,4 +1,4 @@
-use Rattle.std.proofs.Common.{◌≡◌, ◌+◌, ◌<◌, ◌∷◌, true, false, drop, sym, ◌∙◌, arith}
+use Rattle.std.proofs.Common.{◌≡◌, ◌+◌, ◌∷◌, true, false, drop, sym, ◌∙◌, arith}
 use borrow.Author.Count.{below_more}
 use Rattle.pef_cert.specs.Kept.Claims.{labels_claimed}
 use Rattle.pef_cert.specs.Kept.Tests.{label_of}

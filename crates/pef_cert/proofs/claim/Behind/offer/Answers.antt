@@ -1,4 +1,4 @@
-use Rattle.std.proofs.Common.{◌+◌, ◌%◌, [], drop, arith, ◌∙◌, slice_index}
+use Rattle.std.proofs.Common.{◌+◌, ◌%◌, [], drop, arith, slice_index}
 use Rattle.std.specs.Prelude.{slice_index_or}
 use Rattle.pef_words.proofs.Laws.Lists.{drop-here}
 use Rattle.pef_cert.specs.Kept.Claims.{labels_claimed}

@@ -1,4 +1,4 @@
-use Rattle.std.proofs.Common.{◌≡◌, ◌+◌, ◌<◌, take, ap, sym, ◌∙◌, arith}
+use Rattle.std.proofs.Common.{take, ap, sym, ◌∙◌, arith}
 use Rattle.pef_reloc.specs.Deliveries.{index_after}
 use Rattle.pef_cert.specs.declared.runs.Tested.{Tested}
 use Rattle.pef_cert.specs.Kept.Claims.{labels_claimed}

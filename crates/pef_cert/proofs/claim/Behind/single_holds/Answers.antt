@@ -1,4 +1,4 @@
-use Rattle.std.proofs.Common.{◌≤◌, ◌∙◌, refl, arith}
+use Rattle.std.proofs.Common.{◌∙◌, refl, arith}
 use Rattle.pef_cert.proofs.ClaimLemmas.{get_under}
 use Rattle.pef_cert.proofs.KindLemmas.{single-here, under-sees}
 use Rattle.pef_cert.proofs.claim.Behind.single_holds.Goals as goal

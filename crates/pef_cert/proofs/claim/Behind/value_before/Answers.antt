@@ -1,4 +1,4 @@
-use Rattle.std.proofs.Common.{◌+◌, ◌-◌, ◌<◌, ◌∙◌, ap, arith, drop, sym, refl, ◌≢◌}
+use Rattle.std.proofs.Common.{◌+◌, ◌-◌, ◌<◌, ◌∙◌, ap, arith, sym, ◌≢◌}
 use Rattle.pef_cert.proofs.ClaimLemmas.{value-away, value-here, value-past}
 use Rattle.pef_cert.specs.Extension.{moved_value}
 use Rattle.pef_cert.specs.Kept.Claims.{labels_claimed, word_end}

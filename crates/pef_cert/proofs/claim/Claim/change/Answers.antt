@@ -1,4 +1,4 @@
-use Rattle.std.proofs.Common.{◌≢◌, ◌<◌, refl, sym, ◌∙◌, arith, slice_index, eq-eqb}
+use Rattle.std.proofs.Common.{◌≢◌, refl, sym, ◌∙◌, arith, slice_index, eq-eqb}
 use Rattle.std.proofs.lemmas.Bool.{ne_eqb}
 use Rattle.pef_cert.specs.Labels.{class_of}
 use Rattle.pef_cert.proofs.ClassLemmas.{has_class-at}
