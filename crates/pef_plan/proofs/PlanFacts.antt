@@ -80,7 +80,7 @@ plan_exact fixups labels skips c p =
     reached-exact (labels_of c (length fixups)) fixups p.fit p.registers (plan_feasible fixups labels skips c p)
     (p.tables.tabled.reached (labels_of c (length fixups)) (plan_same fixups labels skips c p))
 
--- there is a class for each section at most, and one more
+-- few sections count
 pub few_classes : (fixups : List Fixup) (registers : List ℕ) → fixups_fit fixups ≡ true → RegistersOf fixups registers → length registers ≤ most_sections
 few_classes fixups registers fit right =
     let low = few_rising most_sections registers right.rising (λ j among. used_section-below fixups j fit (sym (right.used j) ∙ among)) in

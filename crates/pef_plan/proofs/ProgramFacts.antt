@@ -20,7 +20,7 @@ use Rattle.pef_runs.specs.declared.known.Known.{Known}
 use Rattle.pef_runs.specs.declared.place.Place.{Place}
 use Rattle.pef_runs.specs.declared.place.Step.{Step}
 use Rattle.pef_runs.specs.Places.{InPlace, extension_in}
-use Rattle.pef_plan.specs.Kept.Steps.{Falls, ReadTo, Tracked, labels_tabled}
+use Rattle.pef_plan.specs.Kept.Steps.{Falls, ReadTo, Tracked, labels_tabled, most_halfwords, most_position}
 use Rattle.pef_runs.specs.Tables.{Agrees, SameLabels}
 use Rattle.pef_plan.specs.Kept.Tables.{TablesOf}
 use Rattle.pef_plan.specs.Reached.{ReachedFrom}
@@ -61,7 +61,7 @@ moves_near (LgBySection k) s e = inl (omega arith)
 moves_near (LgSetSectC k) s e = inl (omega arith)
 moves_near (LgSetSectD k) s e = inl (omega arith)
 
-near_on : (x : Instr) (s : State) (n left : ℕ) → MovesNear x s → 1 ≤ n → left + n ≤ 65538 → s.position + 8192 * (left + n) ≤ 1073741824 → (next_state x s).position + 8192 * left ≤ 1073741824
+near_on : (x : Instr) (s : State) (n left : ℕ) → MovesNear x s → 1 ≤ n → left + n ≤ most_halfwords → s.position + 8192 * (left + n) ≤ most_position → (next_state x s).position + 8192 * left ≤ most_position
 near_on x s n left (inl near) some few low = omega (arith, near, some, low)
 near_on x s n left (inr far) some few low = omega (arith, far, few)
 
@@ -73,7 +73,7 @@ tracked_planned : (k : Known) (p : Place) → Tracked k p → Planned (labels_ta
 tracked_planned k p t = record { world = tracked_world k p t; reached = t.reached; fit = t.fit }
 
 -- the place behind a step has tables as well
-tracked_next : (k : Known) (p : Place) (x : Step) (s : State) → Tracked k p → InPlace k.registers.now p s → Falls k p x s → x.next.position ≤ 1073741824 → Tracked k x.next
+tracked_next : (k : Known) (p : Place) (x : Step) (s : State) → Tracked k p → InPlace k.registers.now p s → Falls k p x s → x.next.position ≤ most_position → Tracked k x.next
 tracked_next k p x s t in_place f low =
     let l : Labels = labels_tabled k in
     let goes = f.goes in
@@ -106,7 +106,7 @@ tracked_next k p x s t in_place f low =
       reached = planned.reached;
     }
 
-tracked_small : (k : Known) (p : Place) → Tracked k p → extension_in (labels_tabled k) p ≤ 65538
+tracked_small : (k : Known) (p : Place) → Tracked k p → extension_in (labels_tabled k) p ≤ most_halfwords
 tracked_small k p t =
     let most = extension-small (labels_tabled k) p.import_index p.left.now p.position p.c p.d (tracked_world k p t) t.fit t.c t.d in
     let few = t.shaped.count in

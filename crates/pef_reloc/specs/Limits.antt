@@ -4,7 +4,7 @@ use Rattle.std.specs.Prelude.{ℕ}
 
 -- how many sections may be named
 abbrev pub most_sections : ℕ
-most_sections = 8
+most_sections = 16
 
 -- how many imports may be named
 abbrev pub most_imports : ℕ
@@ -12,7 +12,7 @@ most_imports = 65536
 
 -- how many fixups a section may have
 abbrev pub most_fixups : ℕ
-most_fixups = 16384
+most_fixups = 65536
 
 -- where the last word may end
 abbrev pub offset_limit : ℕ

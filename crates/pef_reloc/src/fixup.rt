@@ -2,13 +2,13 @@ ghost use Rattle.std.specs.Prelude.{◌≡◌, ◌+◌, ◌&&◌, nat_le};
 ghost use Rattle.pef_reloc.specs.Fixups.{base_fits, fixup_fits, fixups_fit, fixups_from};
 
 /// How many sections a base can name: their numbers are below this.
-pub const MAX_SECTIONS: u32 = 8;
+pub const MAX_SECTIONS: u32 = 16;
 
 /// How many imports a base can name.
 pub const MAX_IMPORTS: u32 = 65_536;
 
 /// How many fixups a section can have.
-pub const MAX_FIXUPS: usize = 16_384;
+pub const MAX_FIXUPS: usize = 65_536;
 
 /// How far a section's last word can reach, in bytes.
 pub const OFFSET_LIMIT: u32 = 0x0100_0000;

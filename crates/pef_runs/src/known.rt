@@ -32,7 +32,7 @@ pub struct Known<'a> {
 }
 
 impl<'a> Known<'a> {
-    /// How many classes of sections there are.
+    /// How many classes of sections there are: one more than the registers.
     pub fn classes(self) -> usize
         requires { length self.registers.now ≤ most_sections }
         ensures { result ≡ length self.entry.registers.now + 1 }

@@ -17,7 +17,15 @@ use Rattle.pef_runs.specs.declared.place.Step.{Step}
 use Rattle.pef_runs.specs.Places.{Counts, Goes, InPlace, extension_in}
 use Rattle.pef_runs.specs.Tables.{Agrees, Shaped, label_in}
 use Rattle.pef_plan.specs.Reached.{ReachedFrom}
-use Rattle.pef_reloc.specs.Limits.{most_imports, most_sections}
+use Rattle.pef_reloc.specs.Limits.{most_fixups, most_imports, most_sections}
+
+-- a program has at most four halfwords for each fixup, and two
+abbrev pub most_halfwords : ℕ
+most_halfwords = 4 * most_fixups + 2
+
+-- no position is above this, with room for 8,192 bytes a halfword
+abbrev pub most_position : ℕ
+most_position = 4294967296
 
 -- the labels of tables
 abbrev pub labels_tabled : Known → Labels
@@ -37,7 +45,7 @@ pub record Tracked (k : Known) (p : Place) : Type 0 where
   pub fit : AllByRecursion (λ f. fixup_fits f ≡ true) p.left.now
   pub counts : AllByRecursion (λ f. Counts k.registers.now f.base) p.left.now
   pub import_small : p.import_index ≤ most_imports
-  pub position_small : p.position ≤ 1073741824
+  pub position_small : p.position ≤ most_position
   pub agrees : Agrees (labels_tabled k) k p.left.now
   pub feasible : FeasibleFrom (labels_tabled k) p.import_index p.left.now
   pub reached : ReachedFrom (labels_tabled k) p.import_index p.left.now
@@ -69,4 +77,4 @@ pub record ReadTo (k : Known) (fixups : List Fixup) (instrs : List Instr) (p : P
   pub flat : is_flat instrs ≡ true
   pub made : fixups ≡ trace instrs start ++ p.left.now
   pub short : program_length instrs + extension_in (labels_tabled k) p ≤ extension_at (labels_tabled k) fixups start
-  pub near : p.position + 8192 * extension_in (labels_tabled k) p ≤ 1073741824
+  pub near : p.position + 8192 * extension_in (labels_tabled k) p ≤ most_position

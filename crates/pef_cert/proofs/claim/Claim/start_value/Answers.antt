@@ -27,7 +27,7 @@ fixups-init c =
     record {
       under = omega arith;
       row = row;
-      swept = swept-end s (length s.kept.ends.now - 1) (replicate 1024 0) (replicate 1024 (0 ∷ 0 ∷ 0 ∷ 0 ∷ 0 ∷ 0 ∷ 0 ∷ 0 ∷ 0 ∷ [])) c.requires row (length-replicate {A = ℕ} 1024 0) (length-replicate {A = List ℕ} 1024 (0 ∷ 0 ∷ 0 ∷ 0 ∷ 0 ∷ 0 ∷ 0 ∷ 0 ∷ 0 ∷ []));
+      swept = swept-end s (length s.kept.ends.now - 1) (replicate 1024 0) (replicate 1024 (0 ∷ 0 ∷ 0 ∷ 0 ∷ 0 ∷ 0 ∷ 0 ∷ 0 ∷ 0 ∷ 0 ∷ 0 ∷ 0 ∷ 0 ∷ 0 ∷ 0 ∷ 0 ∷ 0 ∷ [])) c.requires row (length-replicate {A = ℕ} 1024 0) (length-replicate {A = List ℕ} 1024 (0 ∷ 0 ∷ 0 ∷ 0 ∷ 0 ∷ 0 ∷ 0 ∷ 0 ∷ 0 ∷ 0 ∷ 0 ∷ 0 ∷ 0 ∷ 0 ∷ 0 ∷ 0 ∷ 0 ∷ []));
       feasible = feasible-end (labels_claimed s) (index_after (take n s.fixups.now) 0) s.fixups.now;
     }
 
