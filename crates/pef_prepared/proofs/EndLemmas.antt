@@ -14,7 +14,7 @@ use Rattle.pef_script_text.specs.declared.fault.ScriptFault.{ScriptFault}
 use Rattle.pef_script_text.specs.declared.fault.ScriptFault.TheVariants as script_fault
 use Rattle.pef_prepared.specs.Kept.Showing.{ScriptEnds}
 use Rattle.pef_prepared.specs.Limits.{input_limit}
-use Rattle.pef_prepared.specs.Show.{ShowEnds, ShowOutcome, refuses, shows, unbound}
+use Rattle.pef_prepared.specs.Show.{ShowEnds, ShowOutcome, refuses, shows, unbound, unplaced}
 
 -- `show` ends as its script does
 pub ends_with : (before after : Stream) (read : Vec ℕ Global) (text : List ℕ) (script : DescribedScript) (o : ShowOutcome)
@@ -27,6 +27,13 @@ ends_with before after read text script (shows s number) reads same is ends = re
   shown = ends;
 }
 ends_with before after read text script (unbound fault) reads same is ends = record {
+  text = read.items;
+  input = record { whole = reads.0; short = reads.2; sound = reads.3 };
+  script = script;
+  is_script = ap script_of (sym same) ∙ is;
+  lacks = ends;
+}
+ends_with before after read text script unplaced reads same is ends = record {
   text = read.items;
   input = record { whole = reads.0; short = reads.2; sound = reads.3 };
   script = script;

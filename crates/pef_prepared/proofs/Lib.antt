@@ -10,4 +10,5 @@ mod LoadedLemmas
 mod NowLemmas
 mod ProgramLemmas
 mod RefusedLemmas
+mod RoomLemmas
 mod ShowLemmas

@@ -1,21 +1,17 @@
--- What is linked of a script and prepared alone is shown as the script describes; only its closure and memory can be
--- wanting, and none of its bytes is the reason.
-use Rattle.std.proofs.Common.{◌≡◌, ℕ, zero, suc, ◌+◌, ◌*◌, ◌^◌, ◌<◌, ◌≤◌, List, [], ◌∷◌, Some, Err, Contains, codes, inl, inr, length, map, slice_get, refl, sym, ap, subst, ◌∙◌, arith}
-use Rattle.std.specs.List.{AllByRecursion}
+-- What is linked of a script and prepared alone is shown as the script describes; only its closure, room and memory can
+-- be wanting, and none of its bytes is the reason.
+use Rattle.std.proofs.Common.{◌≡◌, ℕ, zero, suc, List, [], ◌∷◌, Some, Ok, Err, Contains, codes, inl, inr, slice_get, refl, sym, ap, subst, ◌∙◌, arith}
 use Rattle.std.specs.Option.{option_and_then, option_map_or}
-use Rattle.std.proofs.Math.Nat.{max-le, pow-le-pow_right}
 use Rattle.cfm_store.specs.Stores.{Pair, pair_of}
 use Rattle.cfm_libraries.specs.Faults.{BindRefusal, FailsAs}
 use Rattle.cfm_libraries.specs.Fragments.{loader_at}
 use Rattle.cfm_libraries.specs.declared.fault.BindFault.{BindFault}
 use Rattle.cfm_libraries.specs.declared.fault.BindFault.TheVariants as bind_fault
-use Rattle.cfm_closure.specs.Closures.{closed_of}
+use Rattle.cfm_closure.specs.Closures.{Closed, closed_of}
 use Rattle.cfm_closure.specs.Promises.{AllRead, IsOfBinding}
 use Rattle.cfm_closure.proofs.Laws.{closed-refused}
 use Rattle.cfm_fragment.specs.Prepared.{entry_address}
 use Rattle.cfm_memory.specs.Extents.{LackRoom, no_instances}
-use Rattle.cfm_memory.specs.Placement.{step_of}
-use Rattle.cfm_memory.proofs.Laws.{all_find_room, most_taken}
 use Rattle.cfm_present.specs.Fragments.{extents_in, places_of}
 use Rattle.cfm_present.specs.Placing.{LacksRoom}
 use Rattle.cfm_present.specs.declared.fault.FragmentFault.TheVariants as fragment_fault
@@ -24,33 +20,22 @@ use Rattle.cfm_prepare.specs.Readers.{entries_of, main_address}
 use Rattle.cfm_prepare.specs.Steps.{MayNotPrepare, Prepares}
 use Rattle.cfm_prepare.specs.declared.fault.PrepareFault.{PrepareFault}
 use Rattle.cfm_prepare.specs.declared.fault.PrepareFault.TheVariants as prepare_fault
+use Rattle.pef_answers.specs.Answers.{answer_refused}
 use Rattle.pef_answers.specs.declared.refusal.Refusal.TheVariants.{OutOfMemory}
 use Rattle.pef_loader.specs.Loader.{init_of, main_of, term_of}
-use Rattle.pef_script.specs.Script.{DescribedScript, DescribedSection}
-use Rattle.pef_script.specs.WellFormed.{SectionHolds}
+use Rattle.pef_script.specs.Script.{DescribedScript}
 use Rattle.pef_write.specs.Linked.{IsLinked, LinkedContainer}
 use Rattle.pef_prepared.specs.Kept.Rooted.{RootEnds, RootOutcome, root_answer}
 use Rattle.pef_prepared.specs.Kept.Rooted as rooted
 use Rattle.pef_prepared.specs.Kept.Showing.{ScriptEnds}
 use Rattle.pef_prepared.specs.Limits.{memory_limit}
-use Rattle.pef_prepared.specs.Now.{described_extent, described_extents}
+use Rattle.pef_prepared.specs.Now.{described_extents}
 use Rattle.pef_prepared.specs.Others.{HasForeign}
-use Rattle.pef_prepared.specs.Show.{FailsToBind, IsShown, ShowOutcome, it_alone, refuses, show_answer, shows, unbound}
+use Rattle.pef_prepared.specs.Show.{FailsToBind, IsShown, ShowOutcome, it_alone, refuses, show_answer, shows, unbound, unplaced, unplaced_text}
 use Rattle.pef_prepared.proofs.AloneLemmas.{is-found, new-is, open-is, prepared-alone, root-is}
 use Rattle.pef_prepared.proofs.DescribedLemmas.{extents_are}
 use Rattle.pef_prepared.proofs.NowLemmas.{described-from, extents-in, linked-read, loader-is, own, whole}
 use Rattle.pef_prepared.proofs.RefusedLemmas.{refused-image, refused-program}
-
-small_step : (alignment : ℕ) → alignment ≤ 12 → step_of alignment ≤ 2 ^ 12
-unfolding step_of
-small_step alignment small =
-    let two : 0 < 2 = omega arith in
-    max-le (omega arith) (pow-le-pow_right two small)
-
--- the sections of a script take little
-most_small : (n m : ℕ) (sections : List DescribedSection) → AllByRecursion (SectionHolds n m) sections → most_taken (map described_extent sections) ≤ length sections * (2 ^ 24 + 2 ^ 13)
-most_small n m [] each = omega arith
-most_small n m (s ∷ sections) each = omega (arith, each.0.total, small_step s.header.align each.0.align, most_small n m sections each.1)
 
 -- where all fragments are read, the refusal of a closure isn't of their bytes
 fails_to_bind : (bytes : List ℕ) (fault : BindFault) → ((r : BindRefusal) → closed_of (it_alone bytes) 0 ≡ Err r → IsOfBinding r) → FailsAs fault (closed_of (it_alone bytes) 0) → FailsToBind bytes fault
@@ -109,22 +94,21 @@ module _ (script : DescribedScript) (k : LinkedContainer) (linked : IsLinked scr
         others = stands.others;
       }
 
-  -- it finds room
-  finds_room : LackRoom (no_instances memory_limit) (described_extents script) → ⊥
-  finds_room lacks =
-      let enough = most_small (length script.sections) (length script.imports) script.sections linked.holds.sections.each in
-      all_find_room memory_limit (described_extents script) (omega (arith, enough, linked.holds.sections.count)) lacks
-
-  room : (new : List ℕ) (name : List ℕ) → new ≡ 0 ∷ [] → LacksRoom alone (no_instances memory_limit) new name → ⊥
-  room new name is lacks =
+  -- if it is refused for want of room, its sections find none, and the refusal names it
+  no_room : (new : List ℕ) (name : List ℕ) → new ≡ 0 ∷ [] → LacksRoom alone (no_instances memory_limit) new name → LackRoom (no_instances memory_limit) (described_extents script) × (name ≡ codes "it")
+  no_room new name is lacks =
       let fragment = whole script k linked alone 0 refl in
       let P : List ℕ → Type 0 = λ ps. LacksRoom alone (no_instances memory_limit) ps name in
       let extents = extents-in script k linked alone 0 refl ∙ extents_are script k linked fragment.container fragment.loader (own script k linked alone 0 refl).of in
       go extents (subst P is lacks)
     where
-      go : extents_in alone 0 ≡ described_extents script → LacksRoom alone (no_instances memory_limit) (0 ∷ []) name → ⊥
-      go extents (inl here) = finds_room (subst (λ es. LackRoom (no_instances memory_limit) es) extents here.0)
-      go extents (inr later) = later.3
+      go : extents_in alone 0 ≡ described_extents script → LacksRoom alone (no_instances memory_limit) (0 ∷ []) name → LackRoom (no_instances memory_limit) (described_extents script) × (name ≡ codes "it")
+      go extents (inl here) = (subst (λ es. LackRoom (no_instances memory_limit) es) extents here.0, here.1)
+      go extents (inr later) = absurd (later.3)
+
+  -- its closure is that of the first place
+  closure_there : (root : ℕ) (closed : Closed) → root ≡ 0 → closed_of alone root ≡ Ok closed → closed_of alone 0 ≡ Ok closed
+  closure_there root closed is has = subst (λ (p : ℕ). closed_of alone p ≡ Ok closed) is has
 
   -- no fragment of it is one that wasn't linked
   all_linked : (new : List ℕ) (name : List ℕ) → new ≡ 0 ∷ [] → HasForeign alone new name → ⊥
@@ -141,7 +125,7 @@ module _ (script : DescribedScript) (k : LinkedContainer) (linked : IsLinked scr
       let P : ℕ → Type 0 = λ p. FailsAs fault (closed_of alone p) in
       fails_to_bind k.bytes fault (λ r refused. closed-refused alone all_read 0 r (omega arith) refused) (subst P is fails)
 
-  -- so it isn't prepared for want of a closure or of memory alone
+  -- so it isn't prepared for want of a closure, of room or of memory alone
   unprepared : (fault : PrepareFault) → MayNotPrepare start (codes "it") fault → EndsRooted script (rooted.refuses fault)
   unprepared prepare_fault.TooManyConnections why = absurd (omega (arith, why))
   unprepared prepare_fault.RootMissing why = absurd (is-found k.bytes why.1)
@@ -150,7 +134,19 @@ module _ (script : DescribedScript) (k : LinkedContainer) (linked : IsLinked scr
     ends = record { container = k; linked = linked; fails = lacks_closure why.0.root f (root-is k.bytes why.0.root why.0.is) why.1 };
     said = refl;
   }
-  unprepared (prepare_fault.Fragment (fragment_fault.NoRoom f)) why = absurd (room _ f.now (new-is k.bytes memory_limit why.closure) why.why)
+  unprepared (prepare_fault.Fragment (fragment_fault.NoRoom f)) why =
+      let lacks = no_room _ f.now (new-is k.bytes memory_limit why.closure) why.why in
+      record {
+        outcome = unplaced;
+        ends = record {
+          container = k;
+          linked = linked;
+          closed = why.closure.closed;
+          closure = closure_there why.closure.has.root why.closure.closed (root-is k.bytes why.closure.has.root why.closure.has.is) why.closure.is;
+          lacks = lacks.0;
+        };
+        said = ap (λ name. answer_refused (unplaced_text name)) (sym lacks.1);
+      }
   unprepared (prepare_fault.Fragment (fragment_fault.Pack f e)) why = absurd (all_linked _ f.now (new-is k.bytes memory_limit why.closure) (refused-image alone (no_instances memory_limit) _ f.now e why.why))
   unprepared (prepare_fault.Fragment (fragment_fault.Reloc f e)) why = absurd (all_linked _ f.now (new-is k.bytes memory_limit why.closure) (refused-program alone [] (no_instances memory_limit) _ f.now e why.why))
   unprepared (prepare_fault.Fragment fragment_fault.OutOfMemory) why = record { outcome = refuses OutOfMemory; ends = refl; said = refl }

@@ -1,20 +1,22 @@
 -- What `show` answers (README; docs/RULES.md, "A fragment alone"): it reads the whole input, and shows the memory that
 -- its script describes.
-use Rattle.std.specs.Prelude.{◌≡◌, ℕ, ◌≤◌, List, [], ◌∷◌, Some, Ok, Err, codes, length}
+use Rattle.std.specs.Prelude.{◌≡◌, ℕ, ◌≤◌, List, [], ◌∷◌, ◌++◌, Some, Ok, Err, codes, length}
 use Rattle.cfm_store.specs.Stores.{Pair}
 use Rattle.cfm_libraries.specs.Faults.{FailsAs}
 use Rattle.cfm_libraries.specs.declared.fault.BindFault.{BindFault}
 use Rattle.cfm_libraries.specs.declared.fault.BindFault.TheVariants as bind_fault
-use Rattle.cfm_closure.specs.Closures.{closed_of}
+use Rattle.cfm_closure.specs.Closures.{Closed, closed_of}
 use Rattle.cfm_fragment.specs.Prepared.{entry_address}
 use Rattle.cfm_fragment.specs.declared.entries.Entries.{Entries}
-use Rattle.cfm_memory.specs.Extents.{given_back, no_instances}
+use Rattle.cfm_memory.specs.Extents.{LackRoom, given_back, no_instances}
+use Rattle.cfm_memory.specs.Faults as memory
+use Rattle.cfm_memory.specs.declared.place.MemoryFault.TheVariants.{NoRoom}
 use Rattle.cfm_memory.specs.declared.place.Place.{Place}
 use Rattle.cfm_present.specs.Fragments.{places_of}
 use Rattle.cfm_prepare.specs.Contexts.{ContextState, fresh_state}
 use Rattle.cfm_prepare.specs.Steps.{Prepares}
 use Rattle.pef_answers.specs.Answers.{Answer, answer_done, answer_refused}
-use Rattle.pef_answers.specs.Refusals.{bind_refusal_text, refusal_text}
+use Rattle.pef_answers.specs.Refusals.{bind_refusal_text, refusal_text, refused_text, told_text}
 use Rattle.pef_answers.specs.declared.refusal.Refusal.{Refusal}
 use Rattle.pef_answers.specs.declared.refusal.Refusal.TheVariants.{Script, InputUnreadable, InputTooLong, OutOfMemory}
 use Rattle.pef_ports.specs.Input.{IsLonger, IsWhole, WasReadWithin}
@@ -24,7 +26,7 @@ use Rattle.pef_script.specs.Script.{DescribedScript}
 use Rattle.pef_script_text.specs.declared.fault.LineFault.{LineFault}
 use Rattle.pef_prepared.specs.Limits.{input_limit, memory_limit}
 use Rattle.pef_prepared.specs.Loaded.{entries_in, fragment_name, init_order_in, loaded_text, main_in, order_in}
-use Rattle.pef_prepared.specs.Now.{IsDescribedNow}
+use Rattle.pef_prepared.specs.Now.{IsDescribedNow, described_extents}
 use Rattle.pef_write.specs.Linked.{IsLinked, LinkedContainer}
 
 -- the input was read whole, and is this text
@@ -78,6 +80,15 @@ pub record LacksClosure (script : DescribedScript) (fault : BindFault) : Type 0 
   pub linked : IsLinked script container
   pub fails : FailsToBind container.bytes fault
 
+-- the container that is linked of a script has a closure alone, but one of the script's sections finds no room behind
+-- those before it, in memory without instances
+pub record LacksPlaces (script : DescribedScript) : Type 0 where
+  pub container : LinkedContainer
+  pub linked : IsLinked script container
+  pub closed : Closed
+  pub closure : closed_of (it_alone container.bytes) 0 ≡ Ok closed
+  pub lacks : LackRoom (no_instances memory_limit) (described_extents script)
+
 -- the input is a script, of which this is shown
 pub record ShowsInput (before after : Stream) (s : ContextState) (number : ℕ) : Type 0 where
   pub text : List ℕ
@@ -94,6 +105,14 @@ pub record IsUnbound (before after : Stream) (fault : BindFault) : Type 0 where
   pub is_script : script_of text ≡ Ok script
   pub lacks : LacksClosure script fault
 
+-- the input is a script, whose sections find no room
+pub record IsUnplaced (before after : Stream) : Type 0 where
+  pub text : List ℕ
+  pub input : WasRead before after text
+  pub script : DescribedScript
+  pub is_script : script_of text ≡ Ok script
+  pub lacks : LacksPlaces script
+
 -- the input is no script, by its first refusal
 pub record RefusesInput (before after : Stream) (fault : LineFault) (line : ℕ) : Type 0 where
   pub text : List ℕ
@@ -109,22 +128,30 @@ ShowRefuses before after InputTooLong = IsLonger before.bytes input_limit × Non
 ShowRefuses before after OutOfMemory = WasReadWithin before after input_limit × NoneFailed before after
 ShowRefuses before after _ = ⊥
 
--- how `show` ends: it shows a fragment's memory, or the fragment has no closure, or `show` is refused before
+-- how `show` ends: it shows a fragment's memory, or the fragment has no closure, or its sections find no room, or `show`
+-- is refused before
 pub data ShowOutcome : Type 0 where
   shows : ContextState → ℕ → ShowOutcome
   unbound : BindFault → ShowOutcome
+  unplaced : ShowOutcome
   refuses : Refusal → ShowOutcome
 
 -- when it ends so, by how the input stood and stands
 abbrev pub ShowEnds : Stream → Stream → ShowOutcome → Type 0
 ShowEnds before after (shows s number) = ShowsInput before after s number
 ShowEnds before after (unbound fault) = IsUnbound before after fault
+ShowEnds before after unplaced = IsUnplaced before after
 ShowEnds before after (refuses refusal) = ShowRefuses before after refusal
+
+-- the line of a fragment whose sections find no room: 67, and its name
+abbrev pub unplaced_text : List ℕ → List ℕ
+unplaced_text name = refused_text (memory.fault_number NoRoom) (memory.fault_name NoRoom) ++ told_text (codes " in ") (Some name) ++ 10 ∷ []
 
 -- what it says then
 abbrev pub show_answer : ShowOutcome → Answer
 show_answer (shows s number) = answer_done (loaded_text s number)
 show_answer (unbound fault) = answer_refused (bind_refusal_text fault)
+show_answer unplaced = answer_refused (unplaced_text (codes "it"))
 show_answer (refuses refusal) = answer_refused (refusal_text refusal)
 
 -- what `show` answers

@@ -1,10 +1,10 @@
-//! The headline, and two laws of refusals: laws of the definitions that the crates below promise by.
+//! The headline, two laws of refusals, and one of room: laws of the definitions that the crates below promise by.
 //! The functions do nothing.
-ghost use Rattle.std.specs.Prelude.{◌≡◌, ℕ, List, None, Err, Contains, Result, true};
+ghost use Rattle.std.specs.Prelude.{◌≡◌, ◌≤◌, ℕ, List, None, Err, Contains, Result, length, true};
 ghost use Rattle.cfm_store.specs.Stores.{Pair};
 ghost use Rattle.cfm_libraries.specs.Faults.{no_container, no_loader};
 ghost use Rattle.cfm_closure.specs.Closures.{closed_of};
-ghost use Rattle.cfm_memory.specs.Extents.{ArePlaced};
+ghost use Rattle.cfm_memory.specs.Extents.{ArePlaced, LackRoom, no_instances};
 ghost use Rattle.cfm_memory.specs.Instances.{Layout};
 ghost use Rattle.cfm_present.specs.Addresses.{addresses_of};
 ghost use Rattle.cfm_present.specs.Fragments.{Present, extents_in, image_refusal_in, is_present, reloc_refusal_in};
@@ -16,7 +16,10 @@ ghost use Rattle.pef_loader.specs.declared.fault.LoaderFault.{LoaderFault};
 ghost use Rattle.pef_pidata.specs.declared.fault.PackFault.{PackFault};
 ghost use Rattle.pef_reloc.specs.declared.fault.RelocFault.{RelocFault};
 ghost use Rattle.pef_script.specs.Script.{DescribedScript};
+ghost use Rattle.pef_script.specs.WellFormed.{ScriptHolds};
 ghost use Rattle.pef_prepared.specs.Headline.{HasDescribedMemory, HasLeastPrograms, HasLinked, IsReached, LibrariesResolve, MayAnswer, OthersAreSound, PreparesAsDescribed, SectionsFindRoom};
+ghost use Rattle.pef_prepared.specs.Limits.{memory_limit};
+ghost use Rattle.pef_prepared.specs.Now.{described_extents};
 ghost use Rattle.pef_prepared.specs.Others.{HasForeign, NamesForeign};
 ghost use Rattle.pef_views.specs.declared.fault.ViewFault.{ViewFault};
 
@@ -65,4 +68,9 @@ pub fn refusals_are_of_others()
     ensures program { (pairs : List Pair) (there : List Present) (m : Layout) (new : List ℕ) (name : List ℕ) (k : RelocFault) → HasBadProgram pairs there m new name k → HasForeign pairs new name }
     ensures container { (s : ContextState) (asked name : List ℕ) (k : ViewFault) (has : HasRoot s asked) → closed_of s.pairs has.root ≡ Err (no_container name k) → NamesForeign s.pairs name }
     ensures loader { (s : ContextState) (asked name : List ℕ) (k : LoaderFault) (has : HasRoot s asked) → closed_of s.pairs has.root ≡ Err (no_loader name k) → NamesForeign s.pairs name }
+{}
+
+/// Up to fifteen sections of a script always find room in the memory of `show`, whatever their lengths and alignments.
+pub fn fifteen_sections_find_room()
+    ensures { (script : DescribedScript) → ScriptHolds script → length script.sections ≤ 15 → LackRoom (no_instances memory_limit) (described_extents script) → ⊥ }
 {}
