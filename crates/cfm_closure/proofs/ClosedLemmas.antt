@@ -5,12 +5,13 @@ use Rattle.std.specs.Option.{option_map_or}
 use Rattle.std.specs.Result.{result_err}
 use Rattle.pef_words.specs.Refusals.{unless}
 use Rattle.pef_words.proofs.Laws.Refusals.{neither, none_among, unless_ok}
-use Rattle.cfm_store.specs.Stores.{Pair, pair_of}
-use Rattle.cfm_libraries.specs.Faults.{BindRefusal, reexport_loop}
-use Rattle.cfm_libraries.specs.Fragments.{import_count}
-use Rattle.cfm_libraries.specs.Orders.{EndsWith, IsComplete}
-use Rattle.cfm_libraries.specs.Walk.{order_of}
-use Rattle.cfm_libraries.proofs.Laws.{came, order-complete, order-last, same_ok}
+use Rattle.cfm_closure.specs.Stores.{Pair, pair_of}
+use Rattle.cfm_closure.specs.Faults.{BindRefusal, reexport_loop}
+use Rattle.cfm_closure.specs.Fragments.{import_count}
+use Rattle.cfm_closure.specs.Orders.{EndsWith, IsComplete}
+use Rattle.cfm_closure.specs.Walk.{order_of}
+use Rattle.cfm_closure.proofs.OrderFacts.{order-complete, order-last}
+use Rattle.cfm_closure.proofs.WalkRules.{came, same_ok}
 use Rattle.pef_words.specs.Results.{◌>>=◌}
 use Rattle.cfm_closure.specs.declared.targets.Target.{Target}
 use Rattle.cfm_closure.specs.Closures.{Closed, closed_of, first_refused, import_refusal, imports_refusal}

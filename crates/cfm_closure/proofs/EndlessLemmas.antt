@@ -6,10 +6,10 @@ use Rattle.std.specs.Result.{result_err}
 use Rattle.pef_words.specs.Refusals.{unless}
 use Rattle.pef_words.specs.Results.{◌>>=◌}
 use Rattle.pef_words.proofs.Laws.Refusals.{first_among-at, first_among-none, none_among, some_among}
-use Rattle.cfm_store.specs.Stores.{Pair, pair_of}
-use Rattle.cfm_libraries.specs.Faults.{BindRefusal, implementation_too_new, implementation_too_old, init_loop, library_missing, no_container, no_loader, reexport_loop, symbol_missing}
-use Rattle.cfm_libraries.specs.Fragments.{import_count}
-use Rattle.cfm_libraries.specs.Walk.{order_of}
+use Rattle.cfm_closure.specs.Stores.{Pair, pair_of}
+use Rattle.cfm_closure.specs.Faults.{BindRefusal, implementation_too_new, implementation_too_old, init_loop, library_missing, no_container, no_loader, reexport_loop, symbol_missing}
+use Rattle.cfm_closure.specs.Fragments.{import_count}
+use Rattle.cfm_closure.specs.Walk.{order_of}
 use Rattle.cfm_closure.specs.declared.targets.Target.{Target}
 use Rattle.cfm_closure.specs.Closures.{Closed, closed_of, first_refused, import_refusal, imports_refusal}
 use Rattle.cfm_closure.specs.Initialization.{init_order_of}

@@ -8,10 +8,10 @@ use Rattle.pef_views.specs.declared.fault.ViewFault.{ViewFault}
 use Rattle.pef_format.specs.Symbols.{Import}
 use Rattle.pef_loader.specs.Loader.{Loaded, export_of, import_of, loaded_of, named_of}
 use Rattle.pef_loader.specs.declared.fault.LoaderFault.{LoaderFault}
-use Rattle.cfm_store.specs.Stores.{Pair, pair_of}
-use Rattle.cfm_libraries.specs.Faults.{reexport_loop}
-use Rattle.cfm_libraries.specs.Fragments.{Fragment, fragment_of, import_at, loader_at, with_container, with_loader}
-use Rattle.cfm_libraries.specs.Libraries.{bound_to, library_at}
+use Rattle.cfm_closure.specs.Stores.{Pair, pair_of}
+use Rattle.cfm_closure.specs.Faults.{reexport_loop}
+use Rattle.cfm_closure.specs.Fragments.{Fragment, fragment_of, import_at, loader_at, with_container, with_loader}
+use Rattle.cfm_closure.specs.Libraries.{bound_to, library_at}
 use Rattle.cfm_closure.specs.Targets.{exported, hop, hop_from, hop_of, hop_to, symbol_of}
 
 loader-name : (name : List ℕ) (c : Contained) (l : Result Loaded LoaderFault) (f : Fragment) → with_loader name c l ≡ Ok f → f.name ≡ name

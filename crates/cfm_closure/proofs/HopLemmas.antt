@@ -8,10 +8,10 @@ use Rattle.pef_format.specs.declared.export.ExportValue.TheVariants as value
 use Rattle.pef_format.specs.Exports.{Export, value_of}
 use Rattle.pef_format.specs.Symbols.{Import}
 use Rattle.pef_loader.specs.Loader.{Loaded, export_of, named_of}
-use Rattle.cfm_store.specs.Stores.{Pair, pair_of}
-use Rattle.cfm_libraries.specs.Faults.{BindRefusal, symbol_missing}
-use Rattle.cfm_libraries.specs.Fragments.{import_at, loader_at}
-use Rattle.cfm_libraries.specs.Libraries.{library_at}
+use Rattle.cfm_closure.specs.Stores.{Pair, pair_of}
+use Rattle.cfm_closure.specs.Faults.{BindRefusal, symbol_missing}
+use Rattle.cfm_closure.specs.Fragments.{import_at, loader_at}
+use Rattle.cfm_closure.specs.Libraries.{library_at}
 use Rattle.cfm_closure.specs.Targets.{ends, exported, hop, hop_by, hop_from, hop_of, hop_to, through}
 
 -- a hop that goes on: through an export of a library's fragment that passes on an import

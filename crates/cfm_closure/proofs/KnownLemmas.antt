@@ -7,10 +7,10 @@ use Rattle.std.proofs.lemmas.Bool.{cases_lt}
 use Rattle.std.proofs.lemmas.Bool.Decides.{eqb_tells}
 use Rattle.std.proofs.lemmas.List.{at_drop_more, get_or-set_same, get_or-set_other, get_or-replicate, get_or_default, get_or_past, length-replicate, length-set}
 use Rattle.pef_words.specs.Refusals.{unless}
-use Rattle.cfm_store.specs.Stores.{Pair}
-use Rattle.cfm_libraries.specs.Faults.{BindRefusal}
-use Rattle.cfm_libraries.specs.Fragments.{import_count}
-use Rattle.cfm_libraries.specs.Orders.{IsComplete}
+use Rattle.cfm_closure.specs.Stores.{Pair}
+use Rattle.cfm_closure.specs.Faults.{BindRefusal}
+use Rattle.cfm_closure.specs.Fragments.{import_count}
+use Rattle.cfm_closure.specs.Orders.{IsComplete}
 use Rattle.cfm_closure.specs.declared.targets.Target.{Target}
 use Rattle.cfm_closure.specs.Closures.{first_refused, imports_refusal}
 use Rattle.cfm_closure.specs.Kept.Targets.{AreRows, IsInTable, IsKnown, IsOnWay, IsResolved, IsUnknown, KeepsKnown, Rows, all_noted, known_at, led_to, noted}

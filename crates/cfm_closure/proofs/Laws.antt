@@ -1,5 +1,7 @@
--- What this crate offers to the proofs of others: facts of closures, as `specs/` defines them.
+-- What this crate offers to the proofs of others: facts of stores and closures, as `specs/` defines them.
 
+-- a name has the place of a pair of the store, which has that name and is the first with it
+pub use Rattle.cfm_closure.proofs.PlaceLemmas.{place_of-below, place_of-first, place_of-named}
 -- a closure is of its store; its order has each fragment once, with all its libraries, and its root last
 pub use Rattle.cfm_closure.proofs.ClosedLemmas.{closed-complete, closed-root, closed-store}
 -- a target that is a place is in an instantiated section of a fragment of the closure

@@ -2,10 +2,10 @@
 use Rattle.std.proofs.Common.{◌≡◌, ℕ, zero, suc, ◌+◌, ◌<◌, List, Option, None, Some, Ok, Err, refl, sym, ap, ◌∙◌, arith, Contains}
 use Rattle.std.specs.Prelude.{Result}
 use Rattle.std.specs.Option.{option_and_then, option_map_or}
-use Rattle.cfm_store.specs.Stores.{Pair, pair_of}
-use Rattle.cfm_libraries.specs.Faults.{BindRefusal, reexport_loop}
-use Rattle.cfm_libraries.specs.Fragments.{import_count}
-use Rattle.cfm_libraries.specs.Orders.{IsComplete}
+use Rattle.cfm_closure.specs.Stores.{Pair, pair_of}
+use Rattle.cfm_closure.specs.Faults.{BindRefusal, reexport_loop}
+use Rattle.cfm_closure.specs.Fragments.{import_count}
+use Rattle.cfm_closure.specs.Orders.{IsComplete}
 use Rattle.cfm_closure.specs.declared.targets.Target.{Target}
 use Rattle.cfm_closure.specs.Reexports.{hops, next_of}
 use Rattle.cfm_closure.specs.Targets.{Hop, ends, exports_among, exports_in, follow, followed, hop, symbol_of, target_of, through}

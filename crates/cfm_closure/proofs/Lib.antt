@@ -1,6 +1,9 @@
+mod BoundLemmas
 mod ClosedLemmas
 mod EndlessLemmas
 mod FollowLemmas
+mod FragmentLemmas
+mod FrameLemmas
 mod HopFacts
 mod HopLemmas
 mod InitLemmas
@@ -8,10 +11,17 @@ mod KnownLemmas
 pub mod Laws
 mod LeadLemmas
 mod LoopLemmas
+mod NumberLemmas
+mod OrderFacts
+mod PathLemmas
 mod Pigeons
+mod PlaceLemmas
 mod Ranks
 mod ReadLemmas
 mod RefusalLemmas
 mod RowLemmas
 mod SymbolLemmas
+mod TableLemmas
 mod TargetLemmas
+mod WalkFacts
+mod WalkRules

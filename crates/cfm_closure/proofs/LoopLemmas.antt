@@ -4,11 +4,12 @@ use Rattle.std.specs.Prelude.{Result, Err, unwrap_or}
 use Rattle.std.specs.List.{range_with_len}
 use Rattle.std.specs.Option.{option_and_then}
 use Rattle.std.proofs.lemmas.List.FromFn.{get_or-range_with_len, length-range_with_len}
-use Rattle.cfm_store.specs.Stores.{Pair}
-use Rattle.cfm_libraries.specs.Faults.{BindRefusal}
-use Rattle.cfm_libraries.specs.Libraries.{bound_to}
-use Rattle.cfm_libraries.specs.Orders.{IsComplete}
-use Rattle.cfm_libraries.proofs.Laws.{bound-inside, library_at-is, stands_for}
+use Rattle.cfm_closure.specs.Stores.{Pair}
+use Rattle.cfm_closure.specs.Faults.{BindRefusal}
+use Rattle.cfm_closure.specs.Libraries.{bound_to}
+use Rattle.cfm_closure.specs.Orders.{IsComplete}
+use Rattle.cfm_closure.proofs.BoundLemmas.{library_at-is, stands_for}
+use Rattle.cfm_closure.proofs.OrderFacts.{bound-inside}
 use Rattle.cfm_closure.specs.declared.targets.Target.{Target}
 use Rattle.cfm_closure.specs.Reexports.{MeetsAgain, hops, met, next_of}
 use Rattle.cfm_closure.specs.Targets.{Hop, ends, exports_among, exports_in, follow, followed, hop, through}

@@ -4,8 +4,8 @@ use Rattle.std.specs.Prelude.{replicate}
 use Rattle.std.proofs.lemmas.Bool.Decides.{eqb_tells}
 use Rattle.std.proofs.lemmas.List.{get_or-replicate, get_or-set_other, length-replicate}
 use Rattle.std.proofs.lemmas.List.Sums.{count_by-le-length}
-use Rattle.cfm_libraries.specs.Walk.{Walked, is_marked, left, marking}
-use Rattle.cfm_libraries.proofs.Laws.{left-marking}
+use Rattle.cfm_closure.specs.Walk.{Walked, is_marked, left, marking}
+use Rattle.cfm_closure.proofs.WalkRules.{left-marking}
 
 -- two places with the same number
 pub record Twice (f : ℕ → ℕ) (from n : ℕ) : Type 0 where

@@ -3,9 +3,9 @@ use Rattle.std.proofs.Common.{◌≡◌, ℕ, ◌<◌, List, length, Some, Ok, E
 use Rattle.std.specs.Prelude.{◌⊎◌, ⊤}
 use Rattle.pef_loader.specs.declared.fault.LoaderFault.{LoaderFault}
 use Rattle.pef_views.specs.declared.fault.ViewFault.{ViewFault}
-use Rattle.cfm_store.specs.Stores.{Pair, pair_of, place_of}
-use Rattle.cfm_libraries.specs.Faults.{BindRefusal, implementation_too_new, implementation_too_old, init_loop, library_missing, no_container, no_loader, reexport_loop, symbol_missing}
-use Rattle.cfm_libraries.specs.Fragments.{fragment_of}
+use Rattle.cfm_closure.specs.Stores.{Pair, pair_of, place_of}
+use Rattle.cfm_closure.specs.Faults.{BindRefusal, implementation_too_new, implementation_too_old, init_loop, library_missing, no_container, no_loader, reexport_loop, symbol_missing}
+use Rattle.cfm_closure.specs.Fragments.{fragment_of}
 use Rattle.cfm_closure.specs.Closures.{closed_of}
 use Rattle.cfm_closure.specs.Promises.{AllRead, IsOfBinding, IsOfUnread}
 use Rattle.cfm_closure.proofs.RefusalLemmas.{Binds, Covers, IsMet, IsNamed, closed-binds, fragment-named}

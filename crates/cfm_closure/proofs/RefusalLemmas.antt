@@ -12,15 +12,15 @@ use Rattle.pef_loader.specs.declared.fault.LoaderFault.{LoaderFault}
 use Rattle.pef_views.specs.Container.{Contained, container_of}
 use Rattle.pef_views.specs.declared.fault.ViewFault.{ViewFault}
 use Rattle.pef_words.specs.Refusals.{first_among, unless}
-use Rattle.cfm_store.specs.declared.versions.Fit.{Fit}
-use Rattle.cfm_store.specs.declared.versions.Fit.TheVariants.{Fits, TooOld, TooNew}
-use Rattle.cfm_store.specs.Stores.{Pair, pair_of, place_of}
-use Rattle.cfm_store.proofs.Laws.{place_of-below, place_of-first}
-use Rattle.cfm_libraries.specs.Faults.{BindRefusal, implementation_too_new, implementation_too_old, init_loop, library_missing, no_container, no_loader, reexport_loop, symbol_missing}
-use Rattle.cfm_libraries.specs.Fragments.{Fragment, fragment_of, import_at, import_count, loader_at, with_container, with_loader}
-use Rattle.cfm_libraries.specs.Libraries.{absent_or, bound, bound_at, bound_by, bound_to, fit_with, library_at}
-use Rattle.cfm_libraries.specs.Walk.{Walked, is_marked, joining, marking, order_of, unwalked, walk, walk_at, walk_to, walks_from}
-use Rattle.cfm_libraries.proofs.Laws.{stands_for}
+use Rattle.cfm_closure.specs.declared.versions.Fit.{Fit}
+use Rattle.cfm_closure.specs.declared.versions.Fit.TheVariants.{Fits, TooOld, TooNew}
+use Rattle.cfm_closure.specs.Stores.{Pair, pair_of, place_of}
+use Rattle.cfm_closure.proofs.PlaceLemmas.{place_of-below, place_of-first}
+use Rattle.cfm_closure.specs.Faults.{BindRefusal, implementation_too_new, implementation_too_old, init_loop, library_missing, no_container, no_loader, reexport_loop, symbol_missing}
+use Rattle.cfm_closure.specs.Fragments.{Fragment, fragment_of, import_at, import_count, loader_at, with_container, with_loader}
+use Rattle.cfm_closure.specs.Libraries.{absent_or, bound, bound_at, bound_by, bound_to, fit_with, library_at}
+use Rattle.cfm_closure.specs.Walk.{Walked, is_marked, joining, marking, order_of, unwalked, walk, walk_at, walk_to, walks_from}
+use Rattle.cfm_closure.proofs.BoundLemmas.{stands_for}
 use Rattle.pef_words.specs.Results.{◌>>=◌}
 use Rattle.cfm_closure.specs.declared.targets.Target.{Target}
 use Rattle.cfm_closure.specs.Closures.{Closed, closed_of, first_refused, import_refusal, imports_refusal}

@@ -7,8 +7,8 @@ use Rattle.std.proofs.lemmas.List.{get_or-set_same, get_or-set_other, length-set
 use Rattle.pef_loader.specs.Loader.{Loaded, import_of}
 use Rattle.pef_format.specs.Symbols.{import_seen}
 use Rattle.pef_format.specs.declared.import.ImportView.{ImportView}
-use Rattle.cfm_store.specs.Stores.{Pair}
-use Rattle.cfm_libraries.specs.Fragments.{import_at, library_count, loader_at}
+use Rattle.cfm_closure.specs.Stores.{Pair}
+use Rattle.cfm_closure.specs.Fragments.{import_at, library_count, loader_at}
 use Rattle.cfm_closure.specs.Kept.Symbols.{AreTables, table_at}
 
 module _ (pairs : List Pair) (order : List ℕ) (tables : List (Option (Option Loaded))) (are : AreTables pairs order tables) (p : ℕ) (there : Contains order p) where

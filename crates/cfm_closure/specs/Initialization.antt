@@ -6,11 +6,11 @@ use Rattle.pef_words.specs.Refusals.{first_among}
 use Rattle.pef_format.specs.Symbols.{options_of}
 use Rattle.pef_loader.specs.Library.{Library}
 use Rattle.pef_loader.specs.Loader.{library_of}
-use Rattle.cfm_store.specs.Stores.{Pair, pair_of}
-use Rattle.cfm_libraries.specs.Faults.{BindRefusal, init_loop}
-use Rattle.cfm_libraries.specs.Fragments.{library_count, loader_at}
-use Rattle.cfm_libraries.specs.Libraries.{library_at}
-use Rattle.cfm_libraries.specs.Walk.{Walked, is_marked, joining, marking, unwalked}
+use Rattle.cfm_closure.specs.Stores.{Pair, pair_of}
+use Rattle.cfm_closure.specs.Faults.{BindRefusal, init_loop}
+use Rattle.cfm_closure.specs.Fragments.{library_count, loader_at}
+use Rattle.cfm_closure.specs.Libraries.{library_at}
+use Rattle.cfm_closure.specs.Walk.{Walked, is_marked, joining, marking, unwalked}
 
 -- the fragment that is to be initialized before the one in a place, by library entry l; none where the entry
 -- asks for no such order, or its library is absent

@@ -1,6 +1,12 @@
 -- What the code keeps. Private contracts and proofs speak of it, public ones don't.
+pub mod Bindings
 pub mod Hops
+pub mod Numbers
+pub mod Paths
+pub mod Places
 pub mod Rows
 pub mod Symbols
 pub mod Taken
 pub mod Targets
+pub mod Views
+pub mod Walks

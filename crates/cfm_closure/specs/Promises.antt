@@ -2,10 +2,10 @@
 use Rattle.std.specs.Prelude.{◌≡◌, ◌⊎◌, ⊤, ℕ, ◌<◌, List, ◌∷◌, ◌++◌, length, Option, None, Some, Result, Ok, Err, Contains}
 use Rattle.std.specs.Option.{option_map_or}
 use Rattle.pef_loader.specs.Loader.{IsLoader, Loaded}
-use Rattle.cfm_store.specs.Stores.{Pair, pair_of, place_of}
-use Rattle.cfm_libraries.specs.Faults.{BindRefusal, implementation_too_new, implementation_too_old, init_loop, library_missing, no_container, no_loader, reexport_loop, symbol_missing}
-use Rattle.cfm_libraries.specs.Fragments.{Fragment, fragment_of, import_count, loader_at}
-use Rattle.cfm_libraries.specs.Walk.{order_of}
+use Rattle.cfm_closure.specs.Stores.{Pair, pair_of, place_of}
+use Rattle.cfm_closure.specs.Faults.{BindRefusal, implementation_too_new, implementation_too_old, init_loop, library_missing, no_container, no_loader, reexport_loop, symbol_missing}
+use Rattle.cfm_closure.specs.Fragments.{Fragment, fragment_of, import_count, loader_at}
+use Rattle.cfm_closure.specs.Walk.{order_of}
 use Rattle.cfm_closure.specs.declared.targets.Target.{Target}
 use Rattle.cfm_closure.specs.declared.targets.Target.TheVariants.{Absolute, At}
 use Rattle.cfm_closure.specs.Reexports.{MeetsAgain}

@@ -8,10 +8,10 @@ use Rattle.pef_format.specs.declared.export.ExportValue.TheVariants as value
 use Rattle.pef_format.specs.Exports.{Export, value_of}
 use Rattle.pef_format.specs.Symbols.{Import}
 use Rattle.pef_loader.specs.Loader.{Loaded, export_of, named_of}
-use Rattle.cfm_store.specs.Stores.{Pair, pair_of}
-use Rattle.cfm_libraries.specs.Faults.{BindRefusal, reexport_loop, symbol_missing}
-use Rattle.cfm_libraries.specs.Fragments.{export_count, import_at, loader_at}
-use Rattle.cfm_libraries.specs.Libraries.{library_at}
+use Rattle.cfm_closure.specs.Stores.{Pair, pair_of}
+use Rattle.cfm_closure.specs.Faults.{BindRefusal, reexport_loop, symbol_missing}
+use Rattle.cfm_closure.specs.Fragments.{export_count, import_at, loader_at}
+use Rattle.cfm_closure.specs.Libraries.{library_at}
 use Rattle.cfm_closure.specs.declared.targets.Target.{Target}
 use Rattle.cfm_closure.specs.declared.targets.Target.TheVariants.{Absolute, At}
 

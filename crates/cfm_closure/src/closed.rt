@@ -1,15 +1,15 @@
 ghost use Rattle.std.specs.Prelude.{◌≡◌, ◌<◌, Contains, IfSome, Ok, Some};
 ghost use Rattle.pef_views.specs.Views.{contained};
 ghost use Rattle.pef_loader.specs.Views.{loaded};
-ghost use Rattle.cfm_libraries.specs.Fragments.{container_at, import_count, library_count, loader_at};
-ghost use Rattle.cfm_libraries.specs.Libraries.{bound_to};
-ghost use Rattle.cfm_libraries.specs.Orders.{IsComplete};
+ghost use Rattle.cfm_closure.specs.Fragments.{container_at, import_count, library_count, loader_at};
+ghost use Rattle.cfm_closure.specs.Libraries.{bound_to};
+ghost use Rattle.cfm_closure.specs.Orders.{IsComplete};
 ghost use Rattle.cfm_closure.specs.Promises.{LiesInside};
 ghost use Rattle.cfm_closure.specs.Targets.{target_of};
 
+use crate::bindings::Bindings;
 use crate::rows::Rows;
 use crate::targets::Target;
-use cfm_libraries::Bindings;
 use pef_loader::Loader;
 use pef_views::Container;
 use std::marker::Model;

@@ -1,12 +1,13 @@
 ghost use Rattle.std.specs.Prelude.{◌<◌, length};
-ghost use Rattle.cfm_libraries.specs.Faults.{Answers};
+ghost use Rattle.cfm_closure.specs.Faults.{Answers};
 ghost use Rattle.cfm_closure.specs.Closures.{closed_of};
 
+use crate::bindings::Bindings;
 use crate::closed::Closure;
+use crate::fault::BindFault;
 use crate::init_order::initialized;
 use crate::resolve::targets_of;
-use cfm_libraries::{BindFault, Bindings};
-use cfm_store::Store;
+use crate::store::Store;
 use std::alloc::Global;
 
 /// The closure of the fragment in a place of a store, as [`Store::find`] gives it for a name.

@@ -6,9 +6,10 @@ ghost use Rattle.cfm_closure.specs.Targets.{hop, hop_by, hop_to};
 ghost use Rattle.cfm_closure.specs.Kept.Hops.{HasHop, IsHop, LeadsTo, StaysInside, StaysBelow};
 ghost use Rattle.cfm_closure.specs.Kept.Symbols.{AreSymbolsOf};
 
+use crate::bindings::Bindings;
+use crate::fault::BindFault;
 use crate::symbols::Symbols;
 use crate::targets::Target;
-use cfm_libraries::{BindFault, Bindings};
 use pef_format::{ExportValue, ImportView};
 use pef_loader::Loader;
 

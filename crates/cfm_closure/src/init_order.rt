@@ -1,12 +1,13 @@
 ghost use Rattle.std.specs.Prelude.{◌≡◌, ℕ, ◌<◌, ◌==◌, None, Contains, IfOk, IfSome, OnOk, length};
 ghost use Rattle.std.specs.Option.{is_some};
-ghost use Rattle.cfm_libraries.specs.Faults.{Answers};
-ghost use Rattle.cfm_libraries.specs.Fragments.{library_count};
-ghost use Rattle.cfm_libraries.specs.Walk.{joining, marking};
+ghost use Rattle.cfm_closure.specs.Faults.{Answers};
+ghost use Rattle.cfm_closure.specs.Fragments.{library_count};
+ghost use Rattle.cfm_closure.specs.Walk.{joining, marking};
 ghost use Rattle.cfm_closure.specs.Initialization.{awaits, before_of, first_left, init_order_of, is_ready, next_ready, taken_all};
 ghost use Rattle.cfm_closure.specs.Kept.Taken.{IsFresh, IsTaking, taken_of};
 
-use cfm_libraries::{BindFault, Bindings};
+use crate::bindings::Bindings;
+use crate::fault::BindFault;
 use std::alloc::{AllocError, Global};
 
 /// The order of initialization, as far as it has come.

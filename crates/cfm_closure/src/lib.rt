@@ -1,24 +1,36 @@
 //! The closure of a fragment: which fragments it needs, what their imports mean, and in which order
 //! initialization routines run.
 //!
-//! The rules are those of Mac OS Runtime Architectures, "Code Fragment Manager": a fragment names
-//! libraries and imports their symbols, and the closure of a fragment is the fragment with all that it
-//! needs. Which fragments these are is for [`cfm_libraries`] to say. Names and bytes are borrowed, and
-//! nothing of a container is copied.
+//! The rules are those of Mac OS Runtime Architectures, "Code Fragment Manager". A [`Store`] has fragments by
+//! name, and a name stands for the first fragment of that name. A fragment names libraries and imports their
+//! symbols, and the closure of a fragment is the fragment with all that it needs, where versions fit. Names
+//! and bytes are borrowed, and nothing of a container is copied.
 #![tactic(auto)]
 
+mod binding;
+mod bindings;
 mod closed;
 mod closing;
+mod fault;
+mod fragment;
 mod hops;
 mod init_order;
+mod libraries;
+mod place_table;
 mod resolve;
 mod rows;
+mod store;
+mod store_fault;
 mod symbols;
 mod targets;
 pub mod theorems;
+mod versions;
+mod walk;
 
-pub use cfm_libraries::BindFault;
-pub use cfm_store::{Definition, Fit, Implementation, MAX_PAIRS, Store, StoreFault, versions_fit};
 pub use closed::Closure;
 pub use closing::closure;
+pub use fault::BindFault;
+pub use store::{MAX_PAIRS, Store};
+pub use store_fault::StoreFault;
 pub use targets::Target;
+pub use versions::{Definition, Fit, Implementation, versions_fit};

@@ -1,19 +1,20 @@
 ghost use Rattle.std.specs.Prelude.{◌≡◌, ◌+◌, ◌<◌, ◌≤◌, ◌^◌, [], Ok, Err, Some, Option, Contains, IfOk, OnOk};
 ghost use Rattle.std.specs.List.{AllByRecursion};
-ghost use Rattle.cfm_store.specs.Stores.{pair_of};
-ghost use Rattle.cfm_libraries.specs.Faults.{Answers, FailsAs, reexport_loop};
-ghost use Rattle.cfm_libraries.specs.Fragments.{import_count};
+ghost use Rattle.cfm_closure.specs.Stores.{pair_of};
+ghost use Rattle.cfm_closure.specs.Faults.{Answers, FailsAs, reexport_loop};
+ghost use Rattle.cfm_closure.specs.Fragments.{import_count};
 ghost use Rattle.cfm_closure.specs.Closures.{first_refused, imports_refusal};
 ghost use Rattle.cfm_closure.specs.Targets.{exports_among, symbol_of, target_of};
 ghost use Rattle.cfm_closure.specs.declared.targets.Target.{Target};
 ghost use Rattle.cfm_closure.specs.Kept.Symbols.{AreSymbolsOf};
 ghost use Rattle.cfm_closure.specs.Kept.Targets.{AreRows, AreTargets, IsInTable, IsKnown, IsOnWay, IsResolved, KeepsKnown, Passes, all_noted};
 
+use crate::bindings::Bindings;
+use crate::fault::BindFault;
 use crate::hops::{Hop, import_hop};
 use crate::rows::Rows;
 use crate::symbols::Symbols;
 use crate::targets::Target;
-use cfm_libraries::{BindFault, Bindings};
 use std::alloc::{AllocError, Global};
 
 /// A row for the imports of each fragment, of which nothing is known yet.

@@ -1,10 +1,10 @@
 ghost use Rattle.std.specs.Prelude.{◌≡◌, ◌<◌, None, length, replicate, slice_set, IfOk, OnOk};
-ghost use Rattle.cfm_libraries.specs.Orders.{IsComplete};
+ghost use Rattle.cfm_closure.specs.Orders.{IsComplete};
 ghost use Rattle.cfm_closure.specs.Kept.Targets.{IsInTable, IsUnknown, known_at, noted};
 
+use crate::bindings::Bindings;
+use crate::place_table::PlaceTable;
 use crate::targets::{Target, Targets};
-use cfm_libraries::Bindings;
-use cfm_tables::PlaceTable;
 use std::alloc::{AllocError, Global};
 use std::marker::Model;
 

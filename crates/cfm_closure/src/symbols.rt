@@ -1,10 +1,10 @@
 ghost use Rattle.std.specs.Prelude.{◌≡◌, ◌<◌, None, Contains, IfOk, IfSome, option_map};
 ghost use Rattle.pef_format.specs.Symbols.{import_seen};
-ghost use Rattle.cfm_libraries.specs.Fragments.{import_at, library_count};
+ghost use Rattle.cfm_closure.specs.Fragments.{import_at, library_count};
 ghost use Rattle.cfm_closure.specs.Kept.Symbols.{AreSymbolsOf, table_at};
 
-use cfm_libraries::Bindings;
-use cfm_tables::PlaceTable;
+use crate::bindings::Bindings;
+use crate::place_table::PlaceTable;
 use pef_format::ImportView;
 use pef_loader::ImportTable;
 use std::alloc::{AllocError, Global};

@@ -2,11 +2,11 @@
 ghost use Rattle.std.specs.Prelude.{◌≡◌, ◌<◌, ◌↔◌, ℕ, List, None, Ok, Err, Contains, length};
 ghost use Rattle.pef_loader.specs.declared.fault.LoaderFault.{LoaderFault};
 ghost use Rattle.pef_views.specs.declared.fault.ViewFault.{ViewFault};
-ghost use Rattle.cfm_store.specs.Stores.{Pair};
-ghost use Rattle.cfm_libraries.specs.Faults.{BindRefusal, no_container, no_loader, reexport_loop};
-ghost use Rattle.cfm_libraries.specs.Fragments.{import_count};
-ghost use Rattle.cfm_libraries.specs.Orders.{EndsWith, IsComplete};
-ghost use Rattle.cfm_libraries.specs.Walk.{order_of};
+ghost use Rattle.cfm_closure.specs.Stores.{Pair};
+ghost use Rattle.cfm_closure.specs.Faults.{BindRefusal, no_container, no_loader, reexport_loop};
+ghost use Rattle.cfm_closure.specs.Fragments.{import_count};
+ghost use Rattle.cfm_closure.specs.Orders.{EndsWith, IsComplete};
+ghost use Rattle.cfm_closure.specs.Walk.{order_of};
 ghost use Rattle.cfm_closure.specs.Closures.{Closed, closed_of};
 ghost use Rattle.cfm_closure.specs.Promises.{AllRead, HasTarget, IsEndless, IsOfBinding, IsOfUnread, target_within};
 ghost use Rattle.cfm_closure.specs.Reexports.{MeetsAgain};

@@ -4,10 +4,11 @@ use Rattle.std.proofs.lemmas.Bool.Decides.{eqb_tells}
 use Rattle.cfm_memory.specs.Extents.{given_back, place_at}
 use Rattle.cfm_memory.specs.Instances.{Layout, bytes_at}
 use Rattle.cfm_memory.proofs.Laws.{given_back_elsewhere}
-use Rattle.cfm_store.specs.Stores.{Pair}
-use Rattle.cfm_present.specs.Addresses.{section_of}
-use Rattle.cfm_present.specs.Fragments.{Present, all_given_back, is_present, places_of, present_at}
-use Rattle.cfm_present.proofs.Laws.{ArePairApart, placed-pairs, placed-new, turned}
+use Rattle.cfm_closure.specs.Stores.{Pair}
+use Rattle.cfm_prepare.specs.Addresses.{section_of}
+use Rattle.cfm_prepare.specs.Fragments.{Present, all_given_back, is_present, places_of, present_at}
+use Rattle.cfm_prepare.proofs.PlacedLemmas.{placed-pairs, placed-new}
+use Rattle.cfm_prepare.proofs.GroupLemmas.{ArePairApart, turned}
 use Rattle.cfm_prepare.specs.Contexts.{ContextState, Open, fresh_state, is_needed, needed_of, unneeded_of}
 use Rattle.cfm_prepare.specs.Runs.{Keeps, Runs, Step, Takes, closed, prepared}
 use Rattle.cfm_prepare.specs.Steps.{Closes, Prepares}

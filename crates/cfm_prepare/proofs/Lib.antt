@@ -1,7 +1,22 @@
+mod BegunLemmas
 mod ConnectionLemmas
+mod FoundLemmas
+mod FragmentLemmas
+mod GroupLemmas
+mod HeaderLemmas
+mod ImageLemmas
 mod KeepLemmas
 pub mod Laws
+mod ListLemmas
 mod NowLemmas
 mod OpenLemmas
+mod PlaceLemmas
+mod PlacedLemmas
+mod PlacingLemmas
+mod ReadyLemmas
+mod ReleaseLemmas
 mod RunLemmas
+mod SectionLemmas
+mod SlotLemmas
+mod StepLemmas
 mod UsersLemmas

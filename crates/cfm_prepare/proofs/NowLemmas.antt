@@ -6,21 +6,22 @@ use Rattle.std.proofs.lemmas.Bool.Decides.{eqb_tells}
 use Rattle.cfm_memory.specs.Extents.{Stand, place_at}
 use Rattle.cfm_memory.specs.Instances.{Layout}
 use Rattle.cfm_memory.specs.declared.place.Place.{Place}
-use Rattle.cfm_store.specs.Stores.{Pair}
-use Rattle.cfm_libraries.specs.Faults.{BindRefusal}
-use Rattle.cfm_libraries.specs.Fragments.{import_count}
+use Rattle.cfm_closure.specs.Stores.{Pair}
+use Rattle.cfm_closure.specs.Faults.{BindRefusal}
+use Rattle.cfm_closure.specs.Fragments.{import_count}
 use Rattle.cfm_closure.specs.Closures.{closed_of}
 use Rattle.cfm_closure.specs.Promises.{LiesInside}
 use Rattle.cfm_closure.specs.Targets.{target_of}
 use Rattle.cfm_closure.specs.declared.targets.Target.{Target}
 use Rattle.cfm_closure.specs.declared.targets.Target.TheVariants.{Absolute, At}
 use Rattle.cfm_closure.proofs.Laws.{closed-complete, target-inside}
-use Rattle.cfm_fragment.specs.Prepared.{addresses_at}
-use Rattle.cfm_present.specs.Addresses.{addresses_from, import_address, section_of, target_address}
-use Rattle.cfm_present.specs.Lists.{has}
-use Rattle.cfm_present.specs.Fragments.{Present, is_present, places_of, prepared_in}
-use Rattle.cfm_present.specs.Placing.{Fits}
-use Rattle.cfm_present.proofs.Laws.{has-at, has-contains, placed-fit}
+use Rattle.cfm_prepare.specs.Prepared.{addresses_at}
+use Rattle.cfm_prepare.specs.Addresses.{addresses_from, import_address, section_of, target_address}
+use Rattle.cfm_prepare.specs.Lists.{has}
+use Rattle.cfm_prepare.specs.Fragments.{Present, is_present, places_of, prepared_in}
+use Rattle.cfm_prepare.specs.Placing.{Fits}
+use Rattle.cfm_prepare.proofs.ListLemmas.{has-at, has-contains}
+use Rattle.cfm_prepare.proofs.PlacedLemmas.{placed-fit}
 use Rattle.pef_words.proofs.Laws.Tests.{cond-later}
 use Rattle.cfm_prepare.specs.Contexts.{ContextState, Open, fresh_state, is_needed, needed_of}
 use Rattle.cfm_prepare.specs.Now.{IsPreparedNow}

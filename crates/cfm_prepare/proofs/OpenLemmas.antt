@@ -2,7 +2,7 @@
 use Rattle.std.proofs.Common.{◌≡◌, ℕ, ◌+◌, List, [], ◌∷◌, Contains, length, get_or, ap, ◌∙◌, arith}
 use Rattle.std.proofs.Math.Seq.{get_or-append_seam}
 use Rattle.std.proofs.lemmas.List.{length-append}
-use Rattle.cfm_libraries.specs.Orders.{EndsWith}
+use Rattle.cfm_closure.specs.Orders.{EndsWith}
 
 -- the last of an order is in it
 pub ends-contains : (order : List ℕ) (p : ℕ) → EndsWith order p → Contains order p

@@ -2,12 +2,13 @@
 -- closures.
 use Rattle.std.proofs.Common.{◌≡◌, ℕ, ◌==◌, Bool, true, false, List, [], ◌∷◌, ◌++◌, Ok, cond, refl, sym, ap, subst, ◌∙◌, inl, inr}
 use Rattle.std.proofs.lemmas.Bool.Decides.{eqb_tells}
-use Rattle.cfm_store.specs.Stores.{Pair}
+use Rattle.cfm_closure.specs.Stores.{Pair}
 use Rattle.cfm_closure.specs.Closures.{closed_of}
-use Rattle.cfm_present.specs.Lists.{has}
-use Rattle.cfm_present.specs.Fragments.{Present, is_present, new_among}
+use Rattle.cfm_prepare.specs.Lists.{has}
+use Rattle.cfm_prepare.specs.Fragments.{Present, is_present, new_among}
 use Rattle.pef_words.proofs.Laws.Tests.{cond-later}
-use Rattle.cfm_present.proofs.Laws.{present-append, present-has}
+use Rattle.cfm_prepare.proofs.SlotLemmas.{present-append}
+use Rattle.cfm_prepare.proofs.FoundLemmas.{present-has}
 use Rattle.cfm_prepare.specs.Contexts.{ContextState, Open, fresh_state, is_needed, needed_of, open_without}
 use Rattle.cfm_prepare.specs.Runs.{AreClosed, Runs, Step, closed, prepared}
 use Rattle.cfm_prepare.specs.Steps.{Closes, Prepares}

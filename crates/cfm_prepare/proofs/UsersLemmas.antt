@@ -3,9 +3,10 @@ use Rattle.std.proofs.Common.{◌≡◌, ◌≢◌, ℕ, zero, suc, ◌+◌, ◌
 use Rattle.std.proofs.Math.ListN.{set}
 use Rattle.std.proofs.lemmas.Bool.Decides.{eqb_tells, nat_tests}
 use Rattle.std.proofs.lemmas.List.{get_or-set_other, get_or-set_same}
-use Rattle.cfm_present.specs.Lists.{has}
-use Rattle.cfm_present.specs.Fragments.{Present, is_present}
-use Rattle.cfm_present.proofs.Laws.{has-first, present-append}
+use Rattle.cfm_prepare.specs.Lists.{has}
+use Rattle.cfm_prepare.specs.Fragments.{Present, is_present}
+use Rattle.cfm_prepare.proofs.ListLemmas.{has-first}
+use Rattle.cfm_prepare.proofs.SlotLemmas.{present-append}
 use Rattle.std.proofs.lemmas.Option.{same_Some}
 use Rattle.cfm_prepare.specs.Contexts.{Open, is_needed, needed_of, open_of, open_without, unneeded_of}
 use Rattle.cfm_prepare.specs.Kept.Users.{AreUsedBut, CountsMore, CountUsers, count_at, counted, is_used, unused_of, used_of, users_of}

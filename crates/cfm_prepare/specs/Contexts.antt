@@ -5,10 +5,10 @@
 use Rattle.std.specs.Prelude.{◌==◌, ℕ, Bool, false, true, List, [], ◌∷◌, Option, None, Some, if◌then◌else◌}
 use Rattle.cfm_memory.specs.Extents.{no_instances}
 use Rattle.cfm_memory.specs.Instances.{Layout}
-use Rattle.cfm_store.specs.Stores.{Pair}
+use Rattle.cfm_closure.specs.Stores.{Pair}
 use Rattle.cfm_closure.specs.Closures.{Closed}
-use Rattle.cfm_present.specs.Fragments.{Present}
-use Rattle.cfm_present.specs.Lists.{has}
+use Rattle.cfm_prepare.specs.Fragments.{Present}
+use Rattle.cfm_prepare.specs.Lists.{has}
 
 -- how many connections a context gives in all
 abbrev pub most_connections : ℕ

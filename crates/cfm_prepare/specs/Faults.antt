@@ -1,8 +1,8 @@
 -- The refusals of contexts, their numbers and their names. Those of closures and of fragments are those of the
 -- crates that find them.
 use Rattle.std.specs.Prelude.{ℕ, List, codes}
-use Rattle.cfm_libraries.specs.Faults as bind
-use Rattle.cfm_present.specs.Faults as fragment
+use Rattle.cfm_closure.specs.Faults as bind
+use Rattle.cfm_prepare.specs.FragmentFaults as fragment
 use Rattle.cfm_prepare.specs.declared.fault.CloseFault.{CloseFault}
 use Rattle.cfm_prepare.specs.declared.fault.CloseFault.TheVariants.{BadConnection}
 use Rattle.cfm_prepare.specs.declared.fault.PrepareFault.{PrepareFault}

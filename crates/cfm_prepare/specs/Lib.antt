@@ -1,7 +1,16 @@
+pub mod Addresses
 pub mod Contexts
 pub mod Faults
+pub mod FragmentFaults
+pub mod Fragments
+pub mod Images
 pub mod Kept
+pub mod Lists
 pub mod Now
+pub mod Placing
+pub mod Prepared
 pub mod Readers
+pub mod Refusals
 pub mod Runs
+pub mod Sections
 pub mod Steps

@@ -6,15 +6,15 @@ use Rattle.pef_format.specs.declared.export.ExportValue.{ExportValue}
 use Rattle.pef_format.specs.declared.export.ExportValue.TheVariants.{Absolute, InSection, Reexport}
 use Rattle.pef_format.specs.Exports.{value_of}
 use Rattle.pef_loader.specs.Loader.{export_of, init_of, main_of, named_of, term_of}
-use Rattle.cfm_store.specs.Stores.{Pair}
-use Rattle.cfm_libraries.specs.Fragments.{loader_at}
+use Rattle.cfm_closure.specs.Stores.{Pair}
+use Rattle.cfm_closure.specs.Fragments.{loader_at}
 use Rattle.cfm_closure.specs.declared.targets.Target.TheVariants.{At}
-use Rattle.cfm_fragment.specs.Prepared.{entry_address}
-use Rattle.cfm_fragment.specs.declared.entries.Entries.{Entries}
-use Rattle.cfm_present.specs.Addresses.{import_address, target_address}
-use Rattle.cfm_present.specs.Fragments.{Present, places_of}
-use Rattle.cfm_present.specs.Lists.{has}
-use Rattle.cfm_present.specs.Sections.{section_present}
+use Rattle.cfm_prepare.specs.Prepared.{entry_address}
+use Rattle.cfm_prepare.specs.declared.entries.Entries.{Entries}
+use Rattle.cfm_prepare.specs.Addresses.{import_address, target_address}
+use Rattle.cfm_prepare.specs.Fragments.{Present, places_of}
+use Rattle.cfm_prepare.specs.Lists.{has}
+use Rattle.cfm_prepare.specs.Sections.{section_present}
 use Rattle.cfm_prepare.specs.Contexts.{ContextState, Open, open_of}
 
 -- section i of a connection's root

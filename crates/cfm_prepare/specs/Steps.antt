@@ -1,13 +1,13 @@
 -- The steps of a context: a fragment is prepared, or a connection closed; and why a fragment isn't prepared.
 -- The order of the refusals is this project's own rule.
 use Rattle.std.specs.Prelude.{◌≡◌, ◌≤◌, ◌<◌, ℕ, ◌+◌, List, [], ◌∷◌, ◌++◌, None, Some, Ok}
-use Rattle.cfm_store.specs.Stores.{place_of}
-use Rattle.cfm_libraries.specs.Faults.{FailsAs}
+use Rattle.cfm_closure.specs.Stores.{place_of}
+use Rattle.cfm_closure.specs.Faults.{FailsAs}
 use Rattle.cfm_closure.specs.Closures.{Closed, closed_of}
-use Rattle.cfm_present.specs.Fragments.{Present, all_given_back, new_among}
-use Rattle.cfm_present.specs.Placing.{ArePrepared}
-use Rattle.cfm_present.specs.Refusals.{MayNotPrepareNew}
-use Rattle.cfm_present.specs.declared.fault.FragmentFault.{FragmentFault}
+use Rattle.cfm_prepare.specs.Fragments.{Present, all_given_back, new_among}
+use Rattle.cfm_prepare.specs.Placing.{ArePrepared}
+use Rattle.cfm_prepare.specs.Refusals.{MayNotPrepareNew}
+use Rattle.cfm_prepare.specs.declared.fragment_fault.FragmentFault.{FragmentFault}
 use Rattle.cfm_prepare.specs.Contexts.{ContextState, Open, most_connections, needed_of, open_of, open_without, unneeded_of}
 use Rattle.cfm_prepare.specs.declared.fault.PrepareFault.{PrepareFault}
 use Rattle.cfm_prepare.specs.declared.fault.PrepareFault.TheVariants as fault

@@ -1,13 +1,14 @@
 ghost use Rattle.std.specs.Prelude.{◌≡◌, Contains, IsTrue, Some};
 ghost use Rattle.pef_loader.specs.Export.{is_there};
 ghost use Rattle.pef_loader.specs.Views.{loaded};
-ghost use Rattle.cfm_libraries.specs.Fragments.{loader_at};
-ghost use Rattle.cfm_present.specs.Lists.{IsOnce, has};
+ghost use Rattle.cfm_closure.specs.Fragments.{loader_at};
+ghost use Rattle.cfm_prepare.specs.Lists.{IsOnce, has};
 ghost use Rattle.cfm_prepare.specs.Readers.{entries_of, export_address, main_address, symbol_address};
 
+use crate::entries::{Entries, find_entries};
+use crate::fragments::Fragments;
+use crate::places::section_address;
 use cfm_closure::Closure;
-use cfm_fragment::{Entries, find_entries, section_address};
-use cfm_present::Fragments;
 use pef_format::ExportValue;
 use pef_loader::Loader;
 use std::marker::Model;
@@ -26,7 +27,7 @@ impl<'a> Model for Connected<'a> {
     ghost Value = { Open };
 
     ghost use Rattle.std.specs.Prelude.{Contains};
-    ghost use Rattle.cfm_present.specs.Lists.{IsOnce};
+    ghost use Rattle.cfm_prepare.specs.Lists.{IsOnce};
 
     ghost view = { λ c. record { number = c.number; root = c.root; closed = c.closure } };
 

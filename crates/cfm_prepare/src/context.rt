@@ -1,21 +1,20 @@
 ghost use Rattle.std.specs.Prelude.{◌≡◌, ◌<◌, ◌≤◌, ◌+◌, ℕ, List, IfErr, IfOk, MatchOption, None, OnErr, OnOk, Some, length, option_map, slice_get};
 ghost use Rattle.std.specs.Option.{option_and_then, option_copied};
-ghost use Rattle.cfm_store.specs.Stores.{place_of};
-ghost use Rattle.cfm_present.specs.Fragments.{places_of};
-ghost use Rattle.cfm_present.specs.Sections.{section_present, section_seen};
+ghost use Rattle.cfm_closure.specs.Stores.{place_of};
+ghost use Rattle.cfm_prepare.specs.Fragments.{places_of};
+ghost use Rattle.cfm_prepare.specs.Sections.{section_present, section_seen};
 ghost use Rattle.cfm_prepare.specs.Contexts.{fresh_state, most_connections, open_of};
 ghost use Rattle.cfm_prepare.specs.Readers.{entries_of, main_address, root_section, symbol_address};
 ghost use Rattle.cfm_prepare.specs.Steps.{Closes, MayNotPrepare, Prepares};
 
 use crate::connected::Connected;
 use crate::connections::Connections;
+use crate::entries::Entries;
 use crate::fault::{CloseFault, PrepareFault};
+use crate::fragments::Fragments;
 use crate::releasing::release;
 use crate::users::{enter, leave, make_room};
-use cfm_closure::closure;
-use cfm_fragment::Entries;
-use cfm_present::Fragments;
-use cfm_store::Store;
+use cfm_closure::{Store, closure};
 use std::alloc::Global;
 use std::marker::Model;
 

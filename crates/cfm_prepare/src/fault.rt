@@ -1,8 +1,8 @@
 ghost use Rattle.std.specs.Prelude.{◌≡◌};
 ghost use Rattle.cfm_prepare.specs.Faults.{close_fault_name, close_fault_number, fault_name, fault_number};
 
+use crate::fragment_fault::FragmentFault;
 use cfm_closure::BindFault;
-use cfm_present::FragmentFault;
 use std::alloc::{AllocError, AllocFailed};
 use std::fmt;
 use thiserror::Error;

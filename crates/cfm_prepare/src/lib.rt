@@ -1,17 +1,36 @@
 //! Contexts: fragments that are prepared in one memory, shared by the connections that need them, and
 //! given back when the last of these is closed.
 //!
-//! That fragments are shared is the Code Fragment Manager's rule (Mac OS Runtime Architectures, "Code Fragment
-//! Manager"). How connections are numbered, and which of several refusals comes first, is this project's own.
+//! The new fragments of a closure take each of three steps together: their sections are placed, filled with
+//! their images, and relocated. Where one is refused, what was placed is given back.
+//!
+//! What a section's image is, and what relocation does to it, is the format's (Mac OS Runtime Architectures,
+//! "PEF Structure"). That fragments are shared is the Code Fragment Manager's rule ("Code Fragment Manager").
+//! Where sections lie, how connections are numbered, and which of several refusals comes first, is this
+//! project's own.
 #![tactic(auto)]
 
 mod connected;
 mod connections;
 mod context;
+mod entries;
 mod fault;
+mod filling;
+mod fragment_fault;
+mod fragments;
+mod giving_back;
+mod images;
+mod places;
+mod placing;
+mod preparing;
 mod releasing;
+mod relocating;
+mod relocation;
+mod slots;
 pub mod theorems;
 mod users;
 
 pub use context::{Connection, Context};
+pub use entries::Entries;
 pub use fault::{CloseFault, PrepareFault};
+pub use fragment_fault::FragmentFault;

@@ -1,9 +1,9 @@
 ghost use Rattle.std.specs.Prelude.{◌≡◌};
-ghost use Rattle.cfm_present.specs.Fragments.{all_given_back};
+ghost use Rattle.cfm_prepare.specs.Fragments.{all_given_back};
 ghost use Rattle.cfm_prepare.specs.Kept.Users.{AreUsedBut, unused_of, used_of};
 
+use crate::fragments::Fragments;
 use crate::users::has_users;
-use cfm_present::Fragments;
 
 /// Gives back the fragments of an order that have no users. All others have some.
 pub(crate) fn release(fragments: &mut Fragments, users: &[usize], order: &[usize])

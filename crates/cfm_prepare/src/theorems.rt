@@ -1,7 +1,7 @@
 //! Laws of the definitions, for the proofs of other crates. The functions do nothing.
 ghost use Rattle.std.specs.Prelude.{◌≡◌, ℕ, List, Contains, true};
-ghost use Rattle.cfm_store.specs.Stores.{Pair};
-ghost use Rattle.cfm_present.specs.Fragments.{is_present, places_of};
+ghost use Rattle.cfm_closure.specs.Stores.{Pair};
+ghost use Rattle.cfm_prepare.specs.Fragments.{is_present, places_of};
 ghost use Rattle.cfm_prepare.specs.Contexts.{ContextState, fresh_state, is_needed};
 ghost use Rattle.cfm_prepare.specs.Now.{IsPreparedNow};
 ghost use Rattle.cfm_prepare.specs.Runs.{AreClosed, Keeps, Runs, Step, Takes};

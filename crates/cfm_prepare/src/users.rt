@@ -1,5 +1,5 @@
 ghost use Rattle.std.specs.Prelude.{◌≡◌, ◌≤◌, ◌<◌, ◌^◌, ℕ, true, OnOk, length, nat_lt};
-ghost use Rattle.cfm_present.specs.Lists.{IsOnce, has};
+ghost use Rattle.cfm_prepare.specs.Lists.{IsOnce, has};
 ghost use Rattle.cfm_prepare.specs.Kept.Users.{CountsMore, count_at};
 
 use std::alloc::AllocError;

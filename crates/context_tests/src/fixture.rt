@@ -1,6 +1,5 @@
 use crate::many::FRAGMENTS;
-use cfm_prepare::{CloseFault, Connection, Context, PrepareFault};
-use cfm_present::FragmentFault;
+use cfm_prepare::{CloseFault, Connection, Context, FragmentFault, PrepareFault};
 use std::alloc::Global;
 use std::fmt::Write;
 use std::process::Abort;

@@ -1,7 +1,6 @@
 use cfm_closure::{BindFault, StoreFault};
 use cfm_memory::MemoryFault;
-use cfm_prepare::{CloseFault, PrepareFault};
-use cfm_present::FragmentFault;
+use cfm_prepare::{CloseFault, FragmentFault, PrepareFault};
 use pef_cert_text::CertFault;
 use pef_hash::HashFault;
 use pef_listing::ListFault;

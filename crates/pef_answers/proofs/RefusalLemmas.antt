@@ -1,9 +1,9 @@
 -- Names of refusals are short.
 use Rattle.std.proofs.Common.{◌≤◌, length, arith}
-use Rattle.cfm_libraries.specs.Faults as binds
-use Rattle.cfm_libraries.specs.declared.fault.BindFault.{BindFault}
-use Rattle.cfm_libraries.specs.declared.fault.BindFault.TheVariants as bind
-use Rattle.cfm_present.specs.declared.fault.FragmentFault.TheVariants as fragment
+use Rattle.cfm_closure.specs.Faults as binds
+use Rattle.cfm_closure.specs.declared.fault.BindFault.{BindFault}
+use Rattle.cfm_closure.specs.declared.fault.BindFault.TheVariants as bind
+use Rattle.cfm_prepare.specs.declared.fragment_fault.FragmentFault.TheVariants as fragment
 use Rattle.cfm_prepare.specs.Faults as prepares
 use Rattle.cfm_prepare.specs.declared.fault.PrepareFault.{PrepareFault}
 use Rattle.cfm_prepare.specs.declared.fault.PrepareFault.TheVariants as prepare

@@ -1,10 +1,10 @@
 -- The line that ends a refused run (docs/REFUSALS.md, "How a refusal is printed"). The numbers and names of the libraries'
 -- faults are theirs.
 use Rattle.std.specs.Prelude.{ℕ, List, [], ◌∷◌, ◌++◌, Option, None, Some, codes, decimal}
-use Rattle.cfm_libraries.specs.Faults as bind
-use Rattle.cfm_libraries.specs.declared.fault.BindFault.{BindFault}
-use Rattle.cfm_libraries.specs.declared.fault.BindFault.TheVariants as bind_fault
-use Rattle.cfm_present.specs.declared.fault.FragmentFault.TheVariants as fragment_fault
+use Rattle.cfm_closure.specs.Faults as bind
+use Rattle.cfm_closure.specs.declared.fault.BindFault.{BindFault}
+use Rattle.cfm_closure.specs.declared.fault.BindFault.TheVariants as bind_fault
+use Rattle.cfm_prepare.specs.declared.fragment_fault.FragmentFault.TheVariants as fragment_fault
 use Rattle.cfm_prepare.specs.Faults as prepare
 use Rattle.cfm_prepare.specs.declared.fault.PrepareFault.{PrepareFault}
 use Rattle.cfm_prepare.specs.declared.fault.PrepareFault.TheVariants as prepare_fault

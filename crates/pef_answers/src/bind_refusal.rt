@@ -1,5 +1,5 @@
 ghost use Rattle.std.specs.Prelude.{◌≡◌, ◌++◌, option_map};
-ghost use Rattle.cfm_libraries.specs.Faults.{fault_name, fault_number};
+ghost use Rattle.cfm_closure.specs.Faults.{fault_name, fault_number};
 ghost use Rattle.pef_ports.specs.Names.{name_text};
 ghost use Rattle.pef_ports.specs.Sent.{Sends};
 ghost use Rattle.pef_answers.specs.Answers.{answer_refused};

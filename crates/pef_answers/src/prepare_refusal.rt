@@ -7,8 +7,7 @@ ghost use Rattle.pef_answers.specs.Refusals.{prepare_refusal_text, refused_text,
 use crate::bind_refusal::print_told;
 use crate::refusal::refused_line;
 use crate::reply::{REFUSED, Reply};
-use cfm_prepare::PrepareFault;
-use cfm_present::FragmentFault;
+use cfm_prepare::{FragmentFault, PrepareFault};
 use pef_ports::{Line, Page, Sink, StreamFault, send};
 
 impl<'a> Reply for PrepareFault<'a> {

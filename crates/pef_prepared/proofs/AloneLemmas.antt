@@ -1,17 +1,17 @@
 -- A store of one fragment: its closure has that fragment and no other, and so has a context in which it is prepared.
 use Rattle.std.proofs.Common.{◌≡◌, ℕ, ◌≤◌, Bool, true, false, cond, List, [], ◌∷◌, ◌++◌, Option, None, Some, Result, Ok, Err, codes, length, refl, sym, ap, ap₂, subst, ◌∙◌, arith}
 use Rattle.std.proofs.lemmas.List.{length-append}
-use Rattle.cfm_store.specs.Stores.{Pair, place_of}
-use Rattle.cfm_libraries.specs.Faults.{BindRefusal}
-use Rattle.cfm_libraries.specs.Walk.{order_of, unwalked}
+use Rattle.cfm_closure.specs.Stores.{Pair, place_of}
+use Rattle.cfm_closure.specs.Faults.{BindRefusal}
+use Rattle.cfm_closure.specs.Walk.{order_of, unwalked}
 use Rattle.cfm_closure.specs.Closures.{Closed, closed_of, first_refused}
 use Rattle.cfm_closure.specs.Initialization.{init_order_of, is_ready, take_next, take_ready}
 use Rattle.cfm_closure.proofs.Laws.{closed-complete, closed-root}
 use Rattle.cfm_memory.specs.Extents.{given_back}
 use Rattle.cfm_memory.specs.Instances.{Layout}
 use Rattle.cfm_memory.specs.declared.place.Place.{Place}
-use Rattle.cfm_present.specs.Fragments.{Present, places_of, positions}
-use Rattle.cfm_present.specs.Placing.{ArePrepared}
+use Rattle.cfm_prepare.specs.Fragments.{Present, places_of, positions}
+use Rattle.cfm_prepare.specs.Placing.{ArePrepared}
 use Rattle.cfm_prepare.specs.Contexts.{ContextState, Open, fresh_state, open_of}
 use Rattle.cfm_prepare.specs.Now.{IsPreparedNow}
 use Rattle.cfm_prepare.specs.Steps.{HasClosure, Prepares, new_of}

@@ -1,14 +1,14 @@
 -- A preparation that gives a connection met the conditions of the headline: places are unique, and nothing was refused.
 use Rattle.std.proofs.Common.{◌≡◌, ℕ, zero, suc, ◌<◌, List, [], ◌∷◌, ◌++◌, Option, None, Some, Contains, length, slice_index_or, inl, inr, refl, sym, ap₂, subst, ◌∙◌, arith}
 use Rattle.std.specs.Option.{option_or}
-use Rattle.cfm_store.specs.Stores.{Pair}
+use Rattle.cfm_closure.specs.Stores.{Pair}
 use Rattle.cfm_memory.specs.Extents.{ArePlaced, Extent, IsPlaceFor, LackRoom}
 use Rattle.cfm_memory.specs.Instances.{Layout}
 use Rattle.cfm_memory.specs.Placement.{with_new}
 use Rattle.cfm_memory.specs.declared.place.Place.{Place}
-use Rattle.cfm_present.specs.Addresses.{addresses_of, first_bad_program}
-use Rattle.cfm_present.specs.Fragments.{Present, extents_in, first_bad_image, image_refusal_in, named, positions, reloc_refusal_in}
-use Rattle.cfm_present.specs.Placing.{AllPlaced, LacksRoom}
+use Rattle.cfm_prepare.specs.Addresses.{addresses_of, first_bad_program}
+use Rattle.cfm_prepare.specs.Fragments.{Present, extents_in, first_bad_image, image_refusal_in, named, positions, reloc_refusal_in}
+use Rattle.cfm_prepare.specs.Placing.{AllPlaced, LacksRoom}
 use Rattle.cfm_prepare.specs.Contexts.{ContextState}
 use Rattle.cfm_prepare.specs.Steps.{Prepares, new_of}
 use Rattle.pef_pidata.specs.declared.fault.PackFault.{PackFault}

@@ -3,9 +3,9 @@ use Rattle.std.proofs.Common.{◌≡◌, ℕ, true, List, [], ◌∷◌, None, R
 use Rattle.cfm_closure.specs.Closures.{Closed}
 use Rattle.cfm_memory.specs.Extents.{ArePlaced}
 use Rattle.cfm_memory.specs.Instances.{Layout}
-use Rattle.cfm_present.specs.Addresses.{addresses_of}
-use Rattle.cfm_present.specs.Fragments.{Present, extents_in, image_refusal_in, is_present, reloc_refusal_in}
-use Rattle.cfm_store.specs.Stores.{Pair}
+use Rattle.cfm_prepare.specs.Addresses.{addresses_of}
+use Rattle.cfm_prepare.specs.Fragments.{Present, extents_in, image_refusal_in, is_present, reloc_refusal_in}
+use Rattle.cfm_closure.specs.Stores.{Pair}
 use Rattle.cfm_prepare.specs.Contexts.{ContextState}
 use Rattle.cfm_prepare.specs.Runs.{Runs, Step, Takes, closed, prepared}
 use Rattle.cfm_prepare.specs.Steps.{HasClosure, Prepares}

@@ -4,7 +4,7 @@ use Rattle.std.specs.Option.{option_and_then}
 use Rattle.std.proofs.lemmas.List.{append-nil, at_drop_more, drop_all, take_all, take_more}
 use Rattle.cfm_memory.specs.Instances.{Layout, bytes_at}
 use Rattle.cfm_memory.specs.declared.place.Place.{Place}
-use Rattle.cfm_present.specs.Sections.{held_at}
+use Rattle.cfm_prepare.specs.Sections.{held_at}
 use Rattle.cfm_prepare.specs.Contexts.{ContextState}
 use Rattle.pef_ports.specs.Text.{word_text}
 use Rattle.pef_prepared.specs.Fragment.{PlacedSection, entry_text, placed_section}

@@ -2,16 +2,16 @@
 use Rattle.std.proofs.Common.{◌≡◌, ℕ, zero, suc, ◌+◌, true, List, [], None, Some, Ok, Contains, length, option_map, refl, ap, subst, ◌∙◌, arith}
 use Rattle.std.specs.Option.{option_and_then, option_map_or}
 use Rattle.std.specs.Result.{result_ok}
-use Rattle.cfm_store.specs.Stores.{Pair, pair_of}
-use Rattle.cfm_libraries.specs.Fragments.{Fragment, container_at, fragment_of, import_count, loader_at}
-use Rattle.cfm_fragment.specs.Images.{extents_of, first_image_refusal}
-use Rattle.cfm_fragment.specs.Prepared.{addresses_at, first_reloc_refusal, prepared_at}
+use Rattle.cfm_closure.specs.Stores.{Pair, pair_of}
+use Rattle.cfm_closure.specs.Fragments.{Fragment, container_at, fragment_of, import_count, loader_at}
+use Rattle.cfm_prepare.specs.Images.{extents_of, first_image_refusal}
+use Rattle.cfm_prepare.specs.Prepared.{addresses_at, first_reloc_refusal, prepared_at}
 use Rattle.cfm_memory.specs.Extents.{ArePlaced}
 use Rattle.cfm_memory.specs.Instances.{Layout}
 use Rattle.cfm_memory.specs.declared.place.Place.{Place}
 use Rattle.cfm_memory.proofs.Laws.{length-placed}
-use Rattle.cfm_present.specs.Addresses.{addresses_from, addresses_of}
-use Rattle.cfm_present.specs.Fragments.{Present, extents_in, image_refusal_in, is_present, places_of, prepared_in, reloc_refusal_in}
+use Rattle.cfm_prepare.specs.Addresses.{addresses_from, addresses_of}
+use Rattle.cfm_prepare.specs.Fragments.{Present, extents_in, image_refusal_in, is_present, places_of, prepared_in, reloc_refusal_in}
 use Rattle.cfm_prepare.specs.Contexts.{ContextState, fresh_state}
 use Rattle.cfm_prepare.specs.Now.{IsPreparedNow}
 use Rattle.cfm_prepare.specs.Runs.{Runs, Step}

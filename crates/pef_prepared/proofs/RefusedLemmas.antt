@@ -1,22 +1,21 @@
 -- Where new fragments are refused for an image or a relocation header, it is one with bytes that weren't linked.
 use Rattle.std.proofs.Common.{◌≡◌, ℕ, suc, List, [], ◌∷◌, ◌++◌, Option, None, Some, Ok, Err, Contains, inl, inr, refl, sym, ap, subst, ◌∙◌, arith}
 use Rattle.std.specs.Option.{option_or}
-use Rattle.cfm_store.specs.Stores.{Pair, pair_of, place_of}
-use Rattle.cfm_store.proofs.Laws.{place_of-below, place_of-named}
-use Rattle.cfm_libraries.specs.Faults.{BindRefusal, FailsAs, no_container, no_loader}
-use Rattle.cfm_libraries.specs.Faults as binds
-use Rattle.cfm_libraries.specs.declared.fault.BindFault.{BindFault}
-use Rattle.cfm_libraries.specs.declared.fault.BindFault.TheVariants as bind
+use Rattle.cfm_closure.specs.Stores.{Pair, pair_of, place_of}
+use Rattle.cfm_closure.proofs.Laws.{place_of-below, place_of-named, closed-no_container, closed-no_loader}
+use Rattle.cfm_closure.specs.Faults.{BindRefusal, FailsAs, no_container, no_loader}
+use Rattle.cfm_closure.specs.Faults as binds
+use Rattle.cfm_closure.specs.declared.fault.BindFault.{BindFault}
+use Rattle.cfm_closure.specs.declared.fault.BindFault.TheVariants as bind
 use Rattle.cfm_closure.specs.Closures.{Closed, closed_of}
 use Rattle.cfm_closure.specs.Promises.{IsOfUnread}
-use Rattle.cfm_closure.proofs.Laws.{closed-no_container, closed-no_loader}
 use Rattle.cfm_memory.specs.Extents.{ArePlaced}
 use Rattle.cfm_memory.specs.Instances.{Layout}
-use Rattle.cfm_present.specs.Addresses.{addresses_of, first_bad_program}
-use Rattle.cfm_present.specs.Fragments.{Present, extents_in, first_bad_image, image_refusal_in, named, positions, reloc_refusal_in}
-use Rattle.cfm_present.specs.Placing.{AllPlaced, LacksRoom}
-use Rattle.cfm_present.specs.Refusals.{HasBadImage, HasBadProgram}
-use Rattle.cfm_present.specs.declared.fault.FragmentFault.TheVariants as fragment
+use Rattle.cfm_prepare.specs.Addresses.{addresses_of, first_bad_program}
+use Rattle.cfm_prepare.specs.Fragments.{Present, extents_in, first_bad_image, image_refusal_in, named, positions, reloc_refusal_in}
+use Rattle.cfm_prepare.specs.Placing.{AllPlaced, LacksRoom}
+use Rattle.cfm_prepare.specs.Refusals.{HasBadImage, HasBadProgram}
+use Rattle.cfm_prepare.specs.declared.fragment_fault.FragmentFault.TheVariants as fragment
 use Rattle.cfm_prepare.specs.Contexts.{ContextState}
 use Rattle.cfm_prepare.specs.Faults.{fault_number}
 use Rattle.cfm_prepare.specs.Steps.{HasClosure, HasRoot, MayNotPrepare, new_of}

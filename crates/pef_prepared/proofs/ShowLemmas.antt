@@ -2,19 +2,19 @@
 -- be wanting, and none of its bytes is the reason.
 use Rattle.std.proofs.Common.{◌≡◌, ℕ, zero, suc, List, [], ◌∷◌, Some, Ok, Err, Contains, codes, inl, inr, slice_get, refl, sym, ap, subst, ◌∙◌, arith}
 use Rattle.std.specs.Option.{option_and_then, option_map_or}
-use Rattle.cfm_store.specs.Stores.{Pair, pair_of}
-use Rattle.cfm_libraries.specs.Faults.{BindRefusal, FailsAs}
-use Rattle.cfm_libraries.specs.Fragments.{loader_at}
-use Rattle.cfm_libraries.specs.declared.fault.BindFault.{BindFault}
-use Rattle.cfm_libraries.specs.declared.fault.BindFault.TheVariants as bind_fault
+use Rattle.cfm_closure.specs.Stores.{Pair, pair_of}
+use Rattle.cfm_closure.specs.Faults.{BindRefusal, FailsAs}
+use Rattle.cfm_closure.specs.Fragments.{loader_at}
+use Rattle.cfm_closure.specs.declared.fault.BindFault.{BindFault}
+use Rattle.cfm_closure.specs.declared.fault.BindFault.TheVariants as bind_fault
 use Rattle.cfm_closure.specs.Closures.{Closed, closed_of}
 use Rattle.cfm_closure.specs.Promises.{AllRead, IsOfBinding}
 use Rattle.cfm_closure.proofs.Laws.{closed-refused}
-use Rattle.cfm_fragment.specs.Prepared.{entry_address}
+use Rattle.cfm_prepare.specs.Prepared.{entry_address}
 use Rattle.cfm_memory.specs.Extents.{LackRoom, no_instances}
-use Rattle.cfm_present.specs.Fragments.{extents_in, places_of}
-use Rattle.cfm_present.specs.Placing.{LacksRoom}
-use Rattle.cfm_present.specs.declared.fault.FragmentFault.TheVariants as fragment_fault
+use Rattle.cfm_prepare.specs.Fragments.{extents_in, places_of}
+use Rattle.cfm_prepare.specs.Placing.{LacksRoom}
+use Rattle.cfm_prepare.specs.declared.fragment_fault.FragmentFault.TheVariants as fragment_fault
 use Rattle.cfm_prepare.specs.Contexts.{ContextState, Open, fresh_state}
 use Rattle.cfm_prepare.specs.Readers.{entries_of, main_address}
 use Rattle.cfm_prepare.specs.Steps.{MayNotPrepare, Prepares}

@@ -2,12 +2,12 @@
 -- sections find room, to exactly the memory that its script describes; and for each section its relocation program has
 -- no more halfwords than any repeat-free program that makes the script's fixups, each once and in address order."
 use Rattle.std.specs.Prelude.{◌≡◌, ℕ, ◌<◌, true, List, ◌++◌, None, Some, Result, Ok, Err, Contains, slice_get}
-use Rattle.cfm_store.specs.Stores.{Pair, pair_of, place_of}
-use Rattle.cfm_libraries.specs.Fragments.{Fragment, fragment_of}
+use Rattle.cfm_closure.specs.Stores.{Pair, pair_of, place_of}
+use Rattle.cfm_closure.specs.Fragments.{Fragment, fragment_of}
 use Rattle.cfm_closure.specs.Closures.{Closed, closed_of}
-use Rattle.cfm_present.specs.Addresses.{addresses_of}
-use Rattle.cfm_present.specs.Fragments.{Present, image_refusal_in, is_present, reloc_refusal_in}
-use Rattle.cfm_present.specs.Placing.{AreNew, LacksRoom}
+use Rattle.cfm_prepare.specs.Addresses.{addresses_of}
+use Rattle.cfm_prepare.specs.Fragments.{Present, image_refusal_in, is_present, reloc_refusal_in}
+use Rattle.cfm_prepare.specs.Placing.{AreNew, LacksRoom}
 use Rattle.cfm_prepare.specs.Contexts.{ContextState, fresh_state, most_connections}
 use Rattle.cfm_prepare.specs.Faults.{fault_number}
 use Rattle.cfm_prepare.specs.Runs.{Runs, Step}

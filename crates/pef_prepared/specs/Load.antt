@@ -2,7 +2,7 @@
 -- then it prepares the fragment of the first name in a store of all, and prints the memory of its closure. No other
 -- call is made on files.
 use Rattle.std.specs.Prelude.{◌≡◌, ◌⊎◌, ℕ, ◌<◌, List, [], ◌∷◌, ◌++◌, Ok, Err, length, take}
-use Rattle.cfm_store.specs.Stores.{Pair}
+use Rattle.cfm_closure.specs.Stores.{Pair}
 use Rattle.cfm_prepare.specs.Contexts.{ContextState, fresh_state}
 use Rattle.cfm_prepare.specs.Steps.{MayNotPrepare, Prepares}
 use Rattle.cfm_prepare.specs.declared.fault.PrepareFault.{PrepareFault}

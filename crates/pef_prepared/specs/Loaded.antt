@@ -3,10 +3,10 @@
 -- routines in the reverse order.
 use Rattle.std.specs.Prelude.{ℕ, List, [], ◌∷◌, ◌++◌, Option, codes, map, slice_get}
 use Rattle.std.specs.Option.{option_and_then, option_map_or}
-use Rattle.cfm_present.specs.Fragments.{places_of}
+use Rattle.cfm_prepare.specs.Fragments.{places_of}
 use Rattle.cfm_prepare.specs.Contexts.{ContextState, open_of}
 use Rattle.cfm_prepare.specs.Readers.{entries_of, main_address}
-use Rattle.cfm_fragment.specs.declared.entries.Entries.{Entries}
+use Rattle.cfm_prepare.specs.declared.entries.Entries.{Entries}
 use Rattle.pef_ports.specs.Names.{name_text}
 use Rattle.pef_prepared.specs.Fragment.{PlacedSection, entry_text, placed_section, sections_text}
 use Rattle.pef_answers.specs.Refusals.{name_end}

@@ -1,12 +1,12 @@
 -- When a fragment of a context has the memory that a script describes (docs/SCRIPTS.md, `section`, `bytes`, `fix`,
 -- `tvector`), with the addresses of now.
 use Rattle.std.specs.Prelude.{ℕ, List, length, map}
-use Rattle.cfm_store.specs.Stores.{Pair}
-use Rattle.cfm_fragment.specs.Prepared.{addresses_at}
+use Rattle.cfm_closure.specs.Stores.{Pair}
+use Rattle.cfm_prepare.specs.Prepared.{addresses_at}
 use Rattle.cfm_memory.specs.Extents.{ArePlaced, Extent, Stand}
 use Rattle.cfm_memory.specs.Instances.{Layout}
-use Rattle.cfm_present.specs.Addresses.{addresses_from}
-use Rattle.cfm_present.specs.Fragments.{places_of}
+use Rattle.cfm_prepare.specs.Addresses.{addresses_from}
+use Rattle.cfm_prepare.specs.Fragments.{places_of}
 use Rattle.cfm_prepare.specs.Contexts.{ContextState}
 use Rattle.pef_reloc.specs.Applied.{address_of}
 use Rattle.pef_script.specs.Described.{described_at}

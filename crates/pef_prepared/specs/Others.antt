@@ -1,6 +1,6 @@
 -- Fragments that are refused, and that aren't what the linker writes.
 use Rattle.std.specs.Prelude.{◌≡◌, ℕ, List, Contains, Some}
-use Rattle.cfm_store.specs.Stores.{Pair, pair_of, place_of}
+use Rattle.cfm_closure.specs.Stores.{Pair, pair_of, place_of}
 use Rattle.pef_prepared.specs.Headline.{IsForeign}
 
 -- among some fragments of a store there is one with a name that is foreign

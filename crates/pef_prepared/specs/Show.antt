@@ -1,18 +1,18 @@
 -- What `show` answers (README; docs/RULES.md, "A fragment alone"): it reads the whole input, and shows the memory that
 -- its script describes.
 use Rattle.std.specs.Prelude.{◌≡◌, ℕ, ◌≤◌, List, [], ◌∷◌, ◌++◌, Some, Ok, Err, codes, length}
-use Rattle.cfm_store.specs.Stores.{Pair}
-use Rattle.cfm_libraries.specs.Faults.{FailsAs}
-use Rattle.cfm_libraries.specs.declared.fault.BindFault.{BindFault}
-use Rattle.cfm_libraries.specs.declared.fault.BindFault.TheVariants as bind_fault
+use Rattle.cfm_closure.specs.Stores.{Pair}
+use Rattle.cfm_closure.specs.Faults.{FailsAs}
+use Rattle.cfm_closure.specs.declared.fault.BindFault.{BindFault}
+use Rattle.cfm_closure.specs.declared.fault.BindFault.TheVariants as bind_fault
 use Rattle.cfm_closure.specs.Closures.{Closed, closed_of}
-use Rattle.cfm_fragment.specs.Prepared.{entry_address}
-use Rattle.cfm_fragment.specs.declared.entries.Entries.{Entries}
+use Rattle.cfm_prepare.specs.Prepared.{entry_address}
+use Rattle.cfm_prepare.specs.declared.entries.Entries.{Entries}
 use Rattle.cfm_memory.specs.Extents.{LackRoom, given_back, no_instances}
 use Rattle.cfm_memory.specs.Faults as memory
 use Rattle.cfm_memory.specs.declared.place.MemoryFault.TheVariants.{NoRoom}
 use Rattle.cfm_memory.specs.declared.place.Place.{Place}
-use Rattle.cfm_present.specs.Fragments.{places_of}
+use Rattle.cfm_prepare.specs.Fragments.{places_of}
 use Rattle.cfm_prepare.specs.Contexts.{ContextState, fresh_state}
 use Rattle.cfm_prepare.specs.Steps.{Prepares}
 use Rattle.pef_answers.specs.Answers.{Answer, answer_done, answer_refused}

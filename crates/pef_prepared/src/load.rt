@@ -7,7 +7,7 @@ ghost use Rattle.pef_prepared.specs.Limits.{most_files};
 ghost use Rattle.pef_prepared.specs.Load.{LoadAnswers, WereRead, paired};
 
 use crate::loaded::deliver_root;
-use cfm_store::{MAX_PAIRS, Store, StoreFault};
+use cfm_closure::{MAX_PAIRS, Store, StoreFault};
 use pef_answers::{FileRefusal, Refusal, Usage, deliver};
 use pef_ports::{FileFault, Files, Sink};
 use pef_request::NamedFile;

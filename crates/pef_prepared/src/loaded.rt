@@ -10,9 +10,8 @@ ghost use Rattle.pef_prepared.specs.Limits.{memory_limit};
 ghost use Rattle.pef_prepared.specs.Loaded.{entry_label, fragment_name, fragment_text, fragments_text, init_order_in, loaded_text, order_in, sections_in};
 
 use crate::fragment::{entry_line, print_bytes};
-use cfm_fragment::Entries;
-use cfm_prepare::{Connection, Context, PrepareFault};
-use cfm_store::Store;
+use cfm_closure::Store;
+use cfm_prepare::{Connection, Context, Entries, PrepareFault};
 use pef_answers::{DONE, Reply, deliver, print_behind, print_name_end};
 use pef_ports::{Page, Sink, StreamFault, send};
 use std::alloc::Global;

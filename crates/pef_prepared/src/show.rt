@@ -6,7 +6,7 @@ ghost use Rattle.pef_prepared.specs.Kept.Showing.{ScriptEnds};
 ghost use Rattle.pef_prepared.specs.Show.{ShowAnswers, ShowOutcome, it_alone, show_answer};
 
 use crate::loaded::deliver_root;
-use cfm_store::{Store, StoreFault};
+use cfm_closure::{Store, StoreFault};
 use pef_answers::{Refusal, deliver, input_refusal, script_refusal};
 use pef_ports::{Sink, Source, read_input};
 use pef_script::Script;

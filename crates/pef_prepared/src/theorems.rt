@@ -1,14 +1,14 @@
 //! The headline, two laws of refusals, and one of room: laws of the definitions that the crates below promise by.
 //! The functions do nothing.
 ghost use Rattle.std.specs.Prelude.{◌≡◌, ◌≤◌, ℕ, List, None, Err, Contains, Result, length, true};
-ghost use Rattle.cfm_store.specs.Stores.{Pair};
-ghost use Rattle.cfm_libraries.specs.Faults.{no_container, no_loader};
+ghost use Rattle.cfm_closure.specs.Stores.{Pair};
+ghost use Rattle.cfm_closure.specs.Faults.{no_container, no_loader};
 ghost use Rattle.cfm_closure.specs.Closures.{closed_of};
 ghost use Rattle.cfm_memory.specs.Extents.{ArePlaced, LackRoom, no_instances};
 ghost use Rattle.cfm_memory.specs.Instances.{Layout};
-ghost use Rattle.cfm_present.specs.Addresses.{addresses_of};
-ghost use Rattle.cfm_present.specs.Fragments.{Present, extents_in, image_refusal_in, is_present, reloc_refusal_in};
-ghost use Rattle.cfm_present.specs.Refusals.{HasBadImage, HasBadProgram};
+ghost use Rattle.cfm_prepare.specs.Addresses.{addresses_of};
+ghost use Rattle.cfm_prepare.specs.Fragments.{Present, extents_in, image_refusal_in, is_present, reloc_refusal_in};
+ghost use Rattle.cfm_prepare.specs.Refusals.{HasBadImage, HasBadProgram};
 ghost use Rattle.cfm_prepare.specs.Contexts.{ContextState};
 ghost use Rattle.cfm_prepare.specs.Steps.{HasRoot, Prepares};
 ghost use Rattle.cfm_prepare.specs.declared.fault.PrepareFault.{PrepareFault};

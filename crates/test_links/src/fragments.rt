@@ -1,7 +1,7 @@
 //! Fragments from scripts, and stores of them.
 
 use crate::link_text;
-use cfm_store::Store;
+use cfm_closure::Store;
 use std::alloc::Global;
 use test_data::changes::{Change, change};
 

@@ -2,10 +2,10 @@
 use Rattle.std.specs.Prelude.{◌≡◌, ℕ, ◌<◌, List, Some, Result, Ok, Err, Contains}
 use Rattle.pef_format.specs.Exports.{Export, value_of}
 use Rattle.pef_loader.specs.Loader.{Loaded, export_of}
-use Rattle.cfm_store.specs.Stores.{Pair}
-use Rattle.cfm_libraries.specs.declared.fault.BindFault.{BindFault}
-use Rattle.cfm_libraries.specs.Faults.{BindRefusal, FailsAs}
-use Rattle.cfm_libraries.specs.Fragments.{import_count}
+use Rattle.cfm_closure.specs.Stores.{Pair}
+use Rattle.cfm_closure.specs.declared.fault.BindFault.{BindFault}
+use Rattle.cfm_closure.specs.Faults.{BindRefusal, FailsAs}
+use Rattle.cfm_closure.specs.Fragments.{import_count}
 use Rattle.cfm_closure.specs.declared.hops.Hop.{Hop as CodeHop}
 use Rattle.cfm_closure.specs.declared.hops.Hop.TheVariants as code
 use Rattle.cfm_closure.specs.Targets.{Hop, ends, hop_by, through}

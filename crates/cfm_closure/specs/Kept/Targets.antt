@@ -1,11 +1,11 @@
 -- What is known of imports while their targets are found.
 use Rattle.std.specs.Prelude.{◌≡◌, ℕ, ◌<◌, List, [], ◌∷◌, length, slice_index_or, slice_set, Option, None, Some, Result, Ok, Err, Contains, IsSome}
 use Rattle.pef_words.specs.Refusals.{unless}
-use Rattle.cfm_store.specs.Stores.{Pair}
-use Rattle.cfm_libraries.specs.declared.fault.BindFault.{BindFault}
-use Rattle.cfm_libraries.specs.Faults.{BindRefusal, FailsAs}
-use Rattle.cfm_libraries.specs.Fragments.{import_count}
-use Rattle.cfm_libraries.specs.Orders.{IsComplete}
+use Rattle.cfm_closure.specs.Stores.{Pair}
+use Rattle.cfm_closure.specs.declared.fault.BindFault.{BindFault}
+use Rattle.cfm_closure.specs.Faults.{BindRefusal, FailsAs}
+use Rattle.cfm_closure.specs.Fragments.{import_count}
+use Rattle.cfm_closure.specs.Orders.{IsComplete}
 use Rattle.cfm_closure.specs.declared.targets.Target.{Target}
 use Rattle.cfm_closure.specs.Targets.{exports_in, follow}
 

@@ -1,6 +1,6 @@
 -- What is kept of a context.
 use Rattle.std.specs.Prelude.{◌≡◌, ℕ, ◌<◌, ◌≤◌, true, List, length}
-use Rattle.cfm_present.specs.Fragments.{Present, is_present}
+use Rattle.cfm_prepare.specs.Fragments.{Present, is_present}
 use Rattle.cfm_prepare.specs.Contexts.{Open, most_connections}
 use Rattle.cfm_prepare.specs.Kept.Connections.{AllBelow}
 use Rattle.cfm_prepare.specs.Kept.Users.{CountUsers, count_at}

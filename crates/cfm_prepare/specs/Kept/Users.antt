@@ -1,7 +1,7 @@
 -- How many open connections have a fragment in their closures.
 use Rattle.std.specs.Prelude.{◌≡◌, ℕ, ◌+◌, Bool, false, true, List, [], ◌∷◌, filter, if◌then◌else◌, nat_lt, not, slice_index_or}
-use Rattle.cfm_present.specs.Fragments.{Present, is_present}
-use Rattle.cfm_present.specs.Lists.{has}
+use Rattle.cfm_prepare.specs.Fragments.{Present, is_present}
+use Rattle.cfm_prepare.specs.Lists.{has}
 use Rattle.cfm_prepare.specs.Contexts.{Open}
 
 -- 1 for a number of a list, 0 for any other

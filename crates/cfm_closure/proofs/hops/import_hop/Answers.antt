@@ -1,7 +1,7 @@
 -- A missing symbol is told by its fragment, library and name.
 use Rattle.std.proofs.Common.{subst, sym}
 use Rattle.pef_format.specs.Symbols.{import_seen}
-use Rattle.cfm_libraries.specs.Views.{fragment_seen}
+use Rattle.cfm_closure.specs.Views.{fragment_seen}
 use Rattle.cfm_closure.specs.Kept.Hops.{LeadsTo}
 use Rattle.cfm_closure.proofs.HopFacts.{hop-missing}
 use Rattle.cfm_closure.proofs.hops.import_hop.Goals as goal

@@ -1,7 +1,7 @@
 -- Each turn takes the next fragment that is ready.
 use Rattle.std.proofs.Common.{◌+◌, ◌-◌, ◌<◌, ◌≤◌, List, ℕ, length, sym, subst, ap, ◌∙◌}
-use Rattle.cfm_libraries.specs.Faults.{Answers}
-use Rattle.cfm_libraries.specs.Walk.{joining, marking}
+use Rattle.cfm_closure.specs.Faults.{Answers}
+use Rattle.cfm_closure.specs.Walk.{joining, marking}
 use Rattle.cfm_closure.specs.Initialization.{first_left, take_ready, taken_all}
 use Rattle.cfm_closure.specs.Kept.Taken.{IsFresh, taken_of}
 use Rattle.cfm_closure.proofs.InitLemmas.{take_ready-end, take_ready-none, take_ready-some, take_ready-start, taken-fresh, taking-fresh}

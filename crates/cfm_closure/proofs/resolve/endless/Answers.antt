@@ -1,7 +1,7 @@
 -- The names are those of the fragment and of its import.
 use Rattle.std.proofs.Common.{Err, ap, sym}
 use Rattle.pef_format.specs.Symbols.{import_seen}
-use Rattle.cfm_libraries.specs.Views.{fragment_seen}
+use Rattle.cfm_closure.specs.Views.{fragment_seen}
 use Rattle.cfm_closure.proofs.HopFacts.{endless-names}
 use Rattle.cfm_closure.proofs.resolve.endless.Goals as goal
 

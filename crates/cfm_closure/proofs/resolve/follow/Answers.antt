@@ -3,7 +3,7 @@ use Rattle.std.proofs.Common.{◌≡◌, ◌+◌, Ok, Err, [], ◌∷◌, refl, 
 use Rattle.std.specs.List.{AllByRecursion}
 use Rattle.std.proofs.lemmas.Result.{err_from_is_err_and}
 use Rattle.pef_words.proofs.Laws.Lists.{all-append}
-use Rattle.cfm_libraries.proofs.Laws.{Fails-also}
+use Rattle.cfm_closure.proofs.PathLemmas.{Fails-also}
 use Rattle.cfm_closure.specs.Targets.{hop, target_of}
 use Rattle.cfm_closure.specs.Kept.Targets.{IsOnWay}
 use Rattle.cfm_closure.proofs.LeadLemmas.{hops-more, hops-none, led-endless, led-ends, led-refused, on_way-more, target-endless, target-led}

@@ -2,8 +2,8 @@
 use Rattle.std.proofs.Common.{◌≡◌, ℕ, ◌<◌, ◌≤◌, List, length, Ok, None, get_or, sym, ap, subst, ◌∙◌, arith}
 use Rattle.std.proofs.lemmas.Result.{err_from_is_err_and}
 use Rattle.pef_words.specs.Refusals.{unless}
-use Rattle.cfm_libraries.specs.Faults.{FailsAs}
-use Rattle.cfm_libraries.proofs.Laws.{Fails-also}
+use Rattle.cfm_closure.specs.Faults.{FailsAs}
+use Rattle.cfm_closure.proofs.PathLemmas.{Fails-also}
 use Rattle.cfm_closure.specs.Closures.{first_refused, imports_refusal}
 use Rattle.cfm_closure.specs.Kept.Targets.{IsResolved}
 use Rattle.cfm_closure.proofs.KnownLemmas.{first_refused-here, first_refused-next, resolved-all, resolved-more, unless-err}

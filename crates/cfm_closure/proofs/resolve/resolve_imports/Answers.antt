@@ -5,8 +5,8 @@ use Rattle.std.proofs.lemmas.Bool.Decides.{eqb_tells}
 use Rattle.std.proofs.lemmas.Result.{err_from_is_err_and}
 use Rattle.pef_words.specs.Refusals.{unless}
 use Rattle.pef_words.proofs.Laws.Refusals.{first_among-here, first_among-next}
-use Rattle.cfm_libraries.specs.Fragments.{import_count}
-use Rattle.cfm_libraries.proofs.Laws.{Fails-also}
+use Rattle.cfm_closure.specs.Fragments.{import_count}
+use Rattle.cfm_closure.proofs.PathLemmas.{Fails-also}
 use Rattle.cfm_closure.specs.Closures.{import_refusal, imports_refusal}
 use Rattle.cfm_closure.specs.Targets.{target_of}
 use Rattle.cfm_closure.proofs.resolve.resolve_imports.Goals as goal

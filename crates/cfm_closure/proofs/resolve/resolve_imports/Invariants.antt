@@ -1,7 +1,7 @@
 -- What is left decides, and all targets so far are known.
 use Rattle.std.proofs.Common.{◌≡◌, ℕ, ◌-◌, ◌<◌}
 use Rattle.pef_words.specs.Refusals.{first_among}
-use Rattle.cfm_libraries.specs.Fragments.{import_count}
+use Rattle.cfm_closure.specs.Fragments.{import_count}
 use Rattle.cfm_closure.specs.Closures.{import_refusal, imports_refusal}
 use Rattle.cfm_closure.specs.Kept.Symbols.{AreSymbolsOf}
 use Rattle.cfm_closure.specs.Kept.Targets.{AreRows, IsKnown, KeepsKnown}

@@ -2,7 +2,7 @@
 use Rattle.std.proofs.Common.{◌≡◌, ◌<◌, ◌≤◌, ◌∙◌, ℕ, List, [], None, Contains, refl, length, get_or, replicate, set, ap, subst, sym, arith}
 use Rattle.std.proofs.lemmas.List.{length-set}
 use Rattle.std.proofs.lemmas.List.Elements.{Contains-get_or}
-use Rattle.cfm_libraries.specs.Fragments.{import_count}
+use Rattle.cfm_closure.specs.Fragments.{import_count}
 use Rattle.cfm_closure.specs.Kept.Targets.{Rows, known_at}
 use Rattle.cfm_closure.proofs.InitLemmas.{place_in_order}
 use Rattle.cfm_closure.proofs.KnownLemmas.{counts-set, rows-unknown, unknown-set}

@@ -1,6 +1,6 @@
 -- One row for each fragment so far, and nothing is known.
 use Rattle.std.proofs.Common.{◌≡◌, ℕ, ◌<◌, [], length, get_or}
-use Rattle.cfm_libraries.specs.Fragments.{import_count}
+use Rattle.cfm_closure.specs.Fragments.{import_count}
 use Rattle.cfm_closure.specs.Kept.Targets.{IsUnknown}
 use Rattle.cfm_closure.proofs.resolve.unknown_targets.Given as goal
 

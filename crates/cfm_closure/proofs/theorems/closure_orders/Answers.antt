@@ -1,4 +1,4 @@
-use Rattle.cfm_libraries.proofs.Laws.{order-complete, order-last}
+use Rattle.cfm_closure.proofs.OrderFacts.{order-complete, order-last}
 use Rattle.cfm_closure.proofs.ClosedLemmas.{closed-complete, closed-order, closed-root, closed-store}
 use Rattle.cfm_closure.proofs.theorems.closure_orders.Goals as goal
 

@@ -1,5 +1,5 @@
 use Rattle.std.proofs.Common.{◌≡◌, drop}
-use Rattle.cfm_present.specs.Lists.{has}
+use Rattle.cfm_prepare.specs.Lists.{has}
 use Rattle.cfm_prepare.proofs.connected.has.Given as goal
 
 abbrev pub invariant-loop-other : goal.invariant-loop-other

@@ -1,6 +1,6 @@
 -- A fragment that has no users is given back, and one that has some is passed.
 use Rattle.std.proofs.Common.{◌+◌, ◌≤◌, ℕ, Bool, drop, get_or, length, nat_lt, sym, ◌∙◌, arith}
-use Rattle.cfm_present.proofs.Laws.{given-first, given-gone, given-kept, given-past}
+use Rattle.cfm_prepare.proofs.ReleaseLemmas.{given-first, given-gone, given-kept, given-past}
 use Rattle.cfm_prepare.specs.Kept.Users.{count_at}
 use Rattle.cfm_prepare.proofs.releasing.release.Goals as goal
 use Rattle.cfm_prepare.proofs.releasing.release.Goals.{then-not-has_users, else-not-has_users}

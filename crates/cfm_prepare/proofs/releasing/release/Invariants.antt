@@ -1,6 +1,6 @@
 -- What is left of the order may go.
 use Rattle.std.proofs.Common.{drop, nat_lt}
-use Rattle.cfm_present.proofs.Laws.{AreGiven}
+use Rattle.cfm_prepare.proofs.ReleaseLemmas.{AreGiven}
 use Rattle.cfm_prepare.specs.Kept.Users.{count_at}
 use Rattle.cfm_prepare.proofs.releasing.release.Given as goal
 

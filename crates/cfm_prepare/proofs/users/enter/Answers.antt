@@ -1,8 +1,8 @@
 -- The first that is left is counted, and no other count changes.
 use Rattle.std.proofs.Common.{◌≡◌, ◌<◌, ◌+◌, ◌∷◌, ℕ, List, true, drop, length, get_or, ap, subst, sym, ◌∙◌, ◌^◌, arith}
 use Rattle.std.proofs.lemmas.List.{at_drop_more, get_or_default, length-set}
-use Rattle.cfm_present.specs.Lists.{IsOnce, has}
-use Rattle.cfm_present.proofs.Laws.{has-first, has-later}
+use Rattle.cfm_prepare.specs.Lists.{IsOnce, has}
+use Rattle.cfm_prepare.proofs.ListLemmas.{has-first, has-later}
 use Rattle.cfm_prepare.specs.Kept.Users.{CountsMore, count_at}
 use Rattle.cfm_prepare.proofs.UsersLemmas.{more-first, still-to-come}
 use Rattle.cfm_prepare.proofs.users.enter.Goals as goal

@@ -1,6 +1,6 @@
 -- What is left of the order stands to be counted.
 use Rattle.std.proofs.Common.{◌≡◌, ◌<◌, ℕ, List, true, drop}
-use Rattle.cfm_present.specs.Lists.{IsOnce, has}
+use Rattle.cfm_prepare.specs.Lists.{IsOnce, has}
 use Rattle.cfm_prepare.specs.Kept.Users.{CountsMore, count_at}
 use Rattle.cfm_prepare.proofs.users.leave.Given as goal
 

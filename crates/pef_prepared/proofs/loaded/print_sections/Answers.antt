@@ -2,7 +2,7 @@
 use Rattle.std.proofs.Common.{◌+◌, ◌<◌, ◌++◌, drop, length, map, ap, ◌∙◌, arith}
 use Rattle.std.proofs.lemmas.List.{at_drop_more}
 use Rattle.cfm_memory.specs.declared.place.Place.{Place}
-use Rattle.cfm_present.specs.Fragments.{places_of}
+use Rattle.cfm_prepare.specs.Fragments.{places_of}
 use Rattle.pef_ports.proofs.Laws.Sending.{Sends-short, sent-nothing, sent-piece, sent-short}
 use Rattle.pef_prepared.specs.Fragment.{PlacedSection, placed_section, section_text, sections_text}
 use Rattle.pef_prepared.proofs.LoadedLemmas.{held-section}

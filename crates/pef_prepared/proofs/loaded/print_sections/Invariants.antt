@@ -1,5 +1,5 @@
 use Rattle.std.proofs.Common.{drop, map}
-use Rattle.cfm_present.specs.Fragments.{places_of}
+use Rattle.cfm_prepare.specs.Fragments.{places_of}
 use Rattle.pef_ports.proofs.Laws.Sending.{IsSentUpTo}
 use Rattle.pef_prepared.specs.Fragment.{placed_section, sections_text}
 use Rattle.pef_prepared.proofs.loaded.print_sections.Given as goal

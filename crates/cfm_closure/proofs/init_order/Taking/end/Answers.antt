@@ -1,10 +1,10 @@
 -- The first fragment that is left is refused.
 use Rattle.std.proofs.Common.{◌≡◌, ◌<◌, List, ℕ, true, false, Ok, Err, length, get_or, sym, subst, ap, arith, ◌∙◌}
 use Rattle.std.proofs.lemmas.List.{get_or_default}
-use Rattle.cfm_libraries.specs.Faults.{init_loop}
-use Rattle.cfm_libraries.specs.Fragments.{fragment_of}
-use Rattle.cfm_libraries.specs.Walk.{is_marked}
-use Rattle.cfm_libraries.specs.Views.{fragment_seen}
+use Rattle.cfm_closure.specs.Faults.{init_loop}
+use Rattle.cfm_closure.specs.Fragments.{fragment_of}
+use Rattle.cfm_closure.specs.Walk.{is_marked}
+use Rattle.cfm_closure.specs.Views.{fragment_seen}
 use Rattle.cfm_closure.specs.Initialization.{taken_all}
 use Rattle.cfm_closure.specs.Kept.Taken.{taken_of}
 use Rattle.cfm_closure.proofs.HopFacts.{fragment-name}

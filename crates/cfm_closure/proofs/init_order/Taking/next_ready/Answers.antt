@@ -1,7 +1,7 @@
 -- The next fragment is one of the store, and is taken or passed over.
 use Rattle.std.proofs.Common.{◌≡◌, ◌<◌, List, ℕ, true, false, Some, length, drop, get_or, sym, subst, ap, arith, ◌∙◌}
 use Rattle.std.proofs.lemmas.List.{get_or_default}
-use Rattle.cfm_libraries.specs.Walk.{is_marked}
+use Rattle.cfm_closure.specs.Walk.{is_marked}
 use Rattle.cfm_closure.specs.Initialization.{is_ready, next_ready}
 use Rattle.cfm_closure.specs.Kept.Taken.{taken_of}
 use Rattle.cfm_closure.proofs.InitLemmas.{next_ready-here, place_in_order}

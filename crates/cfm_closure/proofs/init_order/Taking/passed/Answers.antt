@@ -1,7 +1,7 @@
 -- The first entry that waits decides.
 use Rattle.std.proofs.Common.{◌<◌, ◌==◌, length, sym, ap, ◌∙◌, arith}
 use Rattle.std.proofs.lemmas.List.{get_or_default}
-use Rattle.cfm_libraries.specs.Fragments.{library_count}
+use Rattle.cfm_closure.specs.Fragments.{library_count}
 use Rattle.cfm_closure.specs.Kept.Taken.{taken_of}
 use Rattle.cfm_closure.proofs.InitLemmas.{ready-all, ready-not}
 use Rattle.cfm_closure.proofs.init_order.Taking.passed.Goals as goal

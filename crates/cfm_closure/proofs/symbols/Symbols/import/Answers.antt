@@ -1,7 +1,7 @@
 -- What the table has is of the fragment.
 use Rattle.std.proofs.Common.{◌≡◌, ◌∙◌, Some, sym, ap}
-use Rattle.cfm_libraries.specs.Views.{fragment_seen}
-use Rattle.cfm_libraries.specs.Fragments.{loader_at}
+use Rattle.cfm_closure.specs.Views.{fragment_seen}
+use Rattle.cfm_closure.specs.Fragments.{loader_at}
 use Rattle.cfm_closure.proofs.HopFacts.{loader_at-is}
 use Rattle.cfm_closure.proofs.SymbolLemmas.{IsSymbol, symbol-is, table_found, table_inside, tables-set}
 use Rattle.cfm_closure.proofs.symbols.Symbols.import.Goals as goal

@@ -1,7 +1,7 @@
 -- The fragment is one of the closure.
 use Rattle.std.proofs.Common.{◌≡◌, true, sym, ap, ◌∙◌}
-use Rattle.cfm_present.specs.Lists.{has}
-use Rattle.cfm_present.proofs.Laws.{has-contains}
+use Rattle.cfm_prepare.specs.Lists.{has}
+use Rattle.cfm_prepare.proofs.ListLemmas.{has-contains}
 use Rattle.cfm_prepare.proofs.connected.Connected.entries.Goals as goal
 
 pub loader-loader-requires : goal.loader-loader-requires

@@ -1,8 +1,8 @@
 -- The connection is taken out by its number; what only it needed is given back.
 use Rattle.std.proofs.Common.{◌≡◌, ◌≤◌, ℕ, List, true, Some, length, sym, ap, subst, ◌∙◌, refl, arith}
 use Rattle.cfm_closure.specs.Closures.{Closed}
-use Rattle.cfm_present.specs.Lists.{has}
-use Rattle.cfm_present.specs.Fragments.{all_given_back, is_present}
+use Rattle.cfm_prepare.specs.Lists.{has}
+use Rattle.cfm_prepare.specs.Fragments.{all_given_back, is_present}
 use Rattle.cfm_prepare.specs.Contexts.{Open, open_of, open_without}
 use Rattle.cfm_prepare.specs.Kept.Connections.{AllBelow}
 use Rattle.cfm_prepare.specs.Kept.Users.{AreUsedBut, CountsMore, CountUsers, used_of}

@@ -5,14 +5,15 @@ use Rattle.std.specs.Option.{option_copied}
 use Rattle.std.proofs.lemmas.List.{length-append}
 use Rattle.std.proofs.lemmas.Result.{err_from_is_err_and}
 use Rattle.cfm_closure.specs.Closures.{Closed, closed_of}
-use Rattle.cfm_store.specs.Stores.{place_of}
-use Rattle.cfm_libraries.specs.Faults.{FailsAs}
+use Rattle.cfm_closure.specs.Stores.{place_of}
+use Rattle.cfm_closure.specs.Faults.{FailsAs}
 use Rattle.cfm_closure.proofs.Laws.{closed-complete, closed-root, closed-store}
-use Rattle.cfm_present.specs.Lists.{has}
-use Rattle.cfm_present.specs.Fragments.{Presence, is_present, new_among}
-use Rattle.cfm_present.specs.Placing.{ArePrepared}
-use Rattle.cfm_present.specs.Refusals.{MayNotPrepareNew}
-use Rattle.cfm_present.proofs.Laws.{has-contains, new-has, once-from-pairs, present-has}
+use Rattle.cfm_prepare.specs.Lists.{has}
+use Rattle.cfm_prepare.specs.Fragments.{Presence, is_present, new_among}
+use Rattle.cfm_prepare.specs.Placing.{ArePrepared}
+use Rattle.cfm_prepare.specs.Refusals.{MayNotPrepareNew}
+use Rattle.cfm_prepare.proofs.ListLemmas.{has-contains, once-from-pairs}
+use Rattle.cfm_prepare.proofs.FoundLemmas.{new-has, present-has}
 use Rattle.cfm_prepare.specs.Contexts.{ContextState, Open, most_connections, open_of, open_without}
 use Rattle.cfm_prepare.specs.Kept.Connections.{AllBelow}
 use Rattle.cfm_prepare.specs.Kept.Users.{CountsMore, CountUsers}

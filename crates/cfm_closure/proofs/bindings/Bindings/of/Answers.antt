@@ -1,0 +1,25 @@
+-- The tables of the walk are those of its order.
+use Rattle.std.proofs.Common.{map, ap, sym, subst, ◌∙◌, rules}
+use Rattle.cfm_closure.specs.Seen.{pair_seen}
+use Rattle.cfm_closure.specs.Kept.Bindings.{AreBindings}
+use Rattle.cfm_closure.proofs.OrderFacts.{order-complete}
+use Rattle.cfm_closure.proofs.bindings.Bindings.of.Goals as goal
+
+pub invariant_of-result : goal.invariant_of-result
+invariant_of-result c =
+    let pairs = ap (map pair_seen) c.in_ok-pairs.ensures.items ∙ c.pairs.ensures.pairs in
+    let tables = c.in_ok-walk.ensures.walk in
+    subst (λ pairs. AreBindings pairs c.in_ok-walk.walk.fragments c.in_ok-walk.walk.libraries c.in_ok-walk.walk.order.items) (sym pairs) (record {
+      fragments_size = tables.fragments_size;
+      libraries_size = tables.libraries_size;
+      read = tables.read;
+      walked = tables.walked;
+      complete = order-complete c.args.store.now c.args.root c.in_ok-walk.walk.order.items c.in_ok-walk.ensures.answer;
+      few = c.pairs.ensures.few;
+    })
+
+pub returns-in_err-walk-clause-answer : goal.returns-in_err-walk-clause-answer
+returns-in_err-walk-clause-answer c = search rules
+
+pub returns-clause-answer : goal.returns-clause-answer
+returns-clause-answer c = search rules

@@ -1,0 +1,51 @@
+-- What the fragments of a store are read as: a container and its loader section (Mac OS Runtime
+-- Architectures, "PEF Structure").
+use Rattle.std.specs.Prelude.{ℕ, List, Option, option_map, Result, Ok, Err}
+use Rattle.std.specs.Option.{option_and_then, option_map_or}
+use Rattle.std.specs.Result.{result_ok}
+use Rattle.pef_format.specs.Symbols.{Import}
+use Rattle.pef_views.specs.Container.{Contained, container_of}
+use Rattle.pef_views.specs.declared.fault.ViewFault.{ViewFault}
+use Rattle.pef_loader.specs.Loader.{Loaded, import_of, loaded_of}
+use Rattle.pef_loader.specs.declared.fault.LoaderFault.{LoaderFault}
+use Rattle.cfm_closure.specs.Stores.{Pair, pair_of}
+use Rattle.cfm_closure.specs.Faults.{BindRefusal, no_container, no_loader}
+
+pub record Fragment : Type 0 where
+  pub name : List ℕ
+  pub container : Contained
+  pub loader : Loaded
+
+abbrev pub with_loader : List ℕ → Contained → Result Loaded LoaderFault → Result Fragment BindRefusal
+with_loader name c (Ok l) = Ok (record { name = name; container = c; loader = l })
+with_loader name c (Err fault) = Err (no_loader name fault)
+
+abbrev pub with_container : List ℕ → Result Contained ViewFault → Result Fragment BindRefusal
+with_container name (Ok c) = with_loader name c (loaded_of c.header.instantiated_section_count c.loader)
+with_container name (Err fault) = Err (no_container name fault)
+
+-- the fragment in a place, or the first refusal of its container and its loader section
+unfoldable pub fragment_of : List Pair → ℕ → Result Fragment BindRefusal
+fragment_of pairs p = with_container (pair_of pairs p).name (container_of (pair_of pairs p).bytes)
+
+-- the container of the fragment in a place, where it can be read
+abbrev pub container_at : List Pair → ℕ → Option Contained
+container_at pairs p = option_map (λ f. f.container) (result_ok (fragment_of pairs p))
+
+-- its loader section
+abbrev pub loader_at : List Pair → ℕ → Option Loaded
+loader_at pairs p = option_map (λ f. f.loader) (result_ok (fragment_of pairs p))
+
+-- how many libraries, imports and exports it has
+abbrev pub library_count : List Pair → ℕ → ℕ
+library_count pairs p = option_map_or (λ l. l.header.library_count) (loader_at pairs p) 0
+
+abbrev pub import_count : List Pair → ℕ → ℕ
+import_count pairs p = option_map_or (λ l. l.header.import_count) (loader_at pairs p) 0
+
+abbrev pub export_count : List Pair → ℕ → ℕ
+export_count pairs p = option_map_or (λ l. l.header.export_count) (loader_at pairs p) 0
+
+-- import j of the fragment in a place
+abbrev pub import_at : List Pair → ℕ → ℕ → Option Import
+import_at pairs p j = option_and_then (λ l. import_of l j) (loader_at pairs p)

@@ -1,0 +1,20 @@
+-- Where the first pair of each name is.
+use Rattle.std.specs.Prelude.{◌≡◌, ℕ, ◌≤◌, List, [], ◌∷◌, ◌++◌, length}
+use Rattle.std.specs.Borrow.{Bor}
+use Rattle.std.specs.Map.{lookup}
+use Rattle.std.specs.Str.{bytes_eq}
+use Rattle.cfm_closure.specs.Stores.{Pair, place_of}
+use Rattle.cfm_closure.specs.Limits.{most_pairs}
+
+-- a table of names has for each name the place of its first pair
+abbrev pub ArePlaces : List Pair → List (Bor (List ℕ) × ℕ) → Type 0
+ArePlaces pairs entries = (name : List ℕ) → lookup (λ (k : Bor (List ℕ)). bytes_eq name k.now) entries ≡ place_of pairs name
+
+-- at most so many pairs, and the place of each name
+pub record IsStore (pairs : List Pair) (entries : List (Bor (List ℕ) × ℕ)) : Type 0 where
+  pub places : ArePlaces pairs entries
+  pub few : length pairs ≤ most_pairs
+
+-- a table with the place of each name has it still when a pair of this name goes behind all pairs
+abbrev pub NotesPlace : List (Bor (List ℕ) × ℕ) → List ℕ → ℕ → List (Bor (List ℕ) × ℕ) → Type 0
+NotesPlace old name place new = (pairs : List Pair) (x : Pair) → ArePlaces pairs old → x.name ≡ name → place ≡ length pairs → ArePlaces (pairs ++ x ∷ []) new

@@ -1,0 +1,18 @@
+-- The fragments of a store that were read.
+use Rattle.std.specs.Prelude.{◌≡◌, ℕ, List, slice_index_or, Option, Some, None, option_map, Ok}
+use Rattle.cfm_closure.specs.Stores.{Pair}
+use Rattle.cfm_closure.specs.declared.fragment.FragmentView.{FragmentView}
+use Rattle.cfm_closure.specs.Fragments.{Fragment, fragment_of}
+use Rattle.cfm_closure.specs.Views.{fragment_seen}
+
+-- the fragment that a table has in a place
+abbrev pub fragment_at : List (Option FragmentView) → ℕ → Option Fragment
+fragment_at table p = option_map fragment_seen (slice_index_or table p None)
+
+-- what a table has was read of the store
+abbrev pub AreRead : List Pair → List (Option FragmentView) → Type 0
+AreRead pairs table = (p : ℕ) (f : Fragment) → fragment_at table p ≡ Some f → fragment_of pairs p ≡ Ok f
+
+-- what one table has, another has too
+abbrev pub AreKept : List (Option FragmentView) → List (Option FragmentView) → Type 0
+AreKept old new = (p : ℕ) (f : Fragment) → fragment_at old p ≡ Some f → fragment_at new p ≡ Some f

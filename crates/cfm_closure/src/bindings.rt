@@ -1,0 +1,142 @@
+ghost use Rattle.std.specs.Prelude.{◌≡◌, ◌<◌, ◌≤◌, length, replicate, Contains, None, Ok, IfOk, IfSome};
+ghost use Rattle.cfm_closure.specs.Limits.{most_pairs};
+ghost use Rattle.cfm_closure.specs.Faults.{Answers};
+ghost use Rattle.cfm_closure.specs.Fragments.{fragment_of, import_count, library_count};
+ghost use Rattle.cfm_closure.specs.Libraries.{bound_to};
+ghost use Rattle.cfm_closure.specs.Orders.{IsComplete};
+ghost use Rattle.cfm_closure.specs.Walk.{order_of};
+ghost use Rattle.cfm_closure.specs.Views.{fragment_seen};
+
+use crate::fault::BindFault;
+use crate::fragment::FragmentView;
+use crate::libraries::Libraries;
+use crate::place_table::PlaceTable;
+use crate::store::Store;
+use crate::walk::Walk;
+use std::alloc::{AllocError, Global};
+use std::marker::Model;
+
+/// The closure order of a fragment: the fragment with its libraries, theirs, and so on. It has what these
+/// fragments are, and what their library entries stand for. No call takes memory but [`Bindings::of`] and
+/// [`Bindings::table`].
+#[derive(Drop)]
+pub struct Bindings<'a> {
+    /// The pairs of the store. All else goes by their places.
+    pairs: Vec<(&'a [u8], &'a [u8])>,
+    fragments: PlaceTable<FragmentView<'a>>,
+    /// What the library entries of each fragment of the order stand for.
+    libraries: PlaceTable<Libraries>,
+    order: Vec<usize>,
+}
+
+impl<'a> Model for Bindings<'a> {
+    ghost use Rattle.cfm_closure.specs.Orders.{Ordered};
+
+    ghost Value = { Ordered };
+
+    ghost use Rattle.std.specs.Prelude.{map};
+    ghost use Rattle.cfm_closure.specs.Seen.{pair_seen};
+    ghost use Rattle.cfm_closure.specs.Kept.Bindings.{AreBindings};
+
+    ghost view = { λ b. record { pairs = map pair_seen b.pairs.items; order = b.order.items } };
+
+    ghost invariant = { λ b. AreBindings (map pair_seen b.pairs.items) b.fragments b.libraries b.order.items };
+}
+
+impl<'a> Bindings<'a> {
+    /// What the fragment in a place of a store needs.
+    ///
+    /// # Errors
+    ///
+    /// The first refusal of a fragment or of a library entry, in the order in which they are met.
+    /// `OutOfMemory` may stand in the place of any later answer.
+    pub fn of(alloc: Global, store: &Store<'a>, root: usize) -> Result<Bindings<'a>, BindFault<'a>>
+        requires { root < length store.now }
+        ensures answer { Answers (λ b. b.order) result (order_of store.now root) }
+        ensures pairs { IfOk result (λ b. b.pairs ≡ store.now) }
+    {
+        let walk = Walk::from_root(alloc, store, root)?;
+        let pairs = Vec::from_slice(alloc, store.pairs())?;
+        let Walk {
+            fragments,
+            libraries,
+            order,
+            ..
+        } = walk;
+        Ok(Bindings {
+            pairs,
+            fragments,
+            libraries,
+            order,
+        })
+    }
+
+    /// How many places the store has.
+    pub fn places(&self) -> usize
+        ensures len { result ≡ length self.now.pairs }
+        ensures complete { IsComplete self.now.pairs self.now.order }
+    {
+        self.pairs.len()
+    }
+
+    /// A table for fragments of the store, without values.
+    pub fn table<T: Drop>(&self, alloc: Global) -> Result<PlaceTable<T>, AllocError>
+        ensures none { IfOk result (λ table. table ≡ replicate (length self.now.pairs) None) }
+        ensures complete { IsComplete self.now.pairs self.now.order }
+    {
+        PlaceTable::new(alloc, self.pairs.len())
+    }
+
+    /// The fragments by their places, each once: libraries before those that need them, as far as that can be,
+    /// and the one that needs all of them last.
+    pub fn order(&self) -> &[usize]
+        ensures order { result.now ≡ self.now.order }
+        ensures few { length self.now.order ≤ most_pairs }
+    {
+        &self.order
+    }
+
+    /// How many imports a fragment of the order has.
+    pub fn imports(&self, p: usize) -> usize
+        requires { Contains self.now.order p }
+        ensures { result ≡ import_count self.now.pairs p }
+    {
+        self.fragment(p).loader.imports()
+    }
+
+    /// A fragment of the order.
+    pub fn fragment(&self, p: usize) -> FragmentView<'a>
+        requires { Contains self.now.order p }
+        ensures { fragment_of self.now.pairs p ≡ Ok (fragment_seen result) }
+    {
+        match self.fragments.get(p) {
+            Some(fragment) => *fragment,
+            None => unreachable!(),
+        }
+    }
+
+    /// How many library entries a fragment of the order has.
+    pub fn libraries(&self, p: usize) -> usize
+        requires { Contains self.now.order p }
+        ensures { result ≡ library_count self.now.pairs p }
+    {
+        self.fragment(p).loader.libraries()
+    }
+
+    /// What an entry of a fragment of the order stands for.
+    pub fn library(&self, p: usize, l: usize) -> Option<usize>
+        requires there { Contains self.now.order p }
+        requires below { l < library_count self.now.pairs p }
+        ensures bound { bound_to self.now.pairs p l ≡ Ok result }
+        ensures inside { IfSome result (λ q. Contains self.now.order q) }
+    {
+        let libraries = match self.libraries.get(p) {
+            Some(libraries) => libraries,
+            None => unreachable!(),
+        };
+        match libraries.get(l) {
+            Some(bound) => bound,
+            None => unreachable!(),
+        }
+    }
+}

@@ -1,0 +1,137 @@
+ghost use Rattle.std.specs.Prelude.{◌≡◌};
+ghost use Rattle.cfm_closure.specs.Faults.{fault_name, fault_number};
+
+use pef_loader::LoaderFault;
+use pef_views::ViewFault;
+use std::alloc::{AllocError, AllocFailed};
+use std::fmt;
+use thiserror::Error;
+
+/// Why a fragment has no closure. Its text is its name; the other names are those of fragments, of
+/// their libraries and of their symbols.
+///
+/// A closure order is refused by the first two, by a library that is missing and by versions; what its
+/// symbols mean and how its fragments are initialized is refused by the others.
+#[derive(Clone, Copy, Debug, PartialEq, Eq, Error)]
+pub enum BindFault<'a> {
+    /// The fragment's bytes are no container.
+    Container {
+        fragment: &'a [u8],
+        fault: ViewFault,
+    },
+
+    /// The fragment's loader section breaks a rule.
+    Loader {
+        fragment: &'a [u8],
+        fault: LoaderFault,
+    },
+
+    /// The fragment needs a library that isn't there.
+    LibraryMissing {
+        fragment: &'a [u8],
+        library: &'a [u8],
+    },
+
+    /// The fragment needs a symbol that the library doesn't export.
+    SymbolMissing {
+        fragment: &'a [u8],
+        library: &'a [u8],
+        symbol: &'a [u8],
+    },
+
+    /// The library that is there is older than the fragment takes.
+    ImplementationTooOld {
+        fragment: &'a [u8],
+        library: &'a [u8],
+    },
+
+    /// The library that is there no longer serves a fragment that was linked with so old a one.
+    ImplementationTooNew {
+        fragment: &'a [u8],
+        library: &'a [u8],
+    },
+
+    /// The symbol leads from one re-exported import to the next without an end.
+    ReexportLoop {
+        fragment: &'a [u8],
+        symbol: &'a [u8],
+    },
+
+    /// The fragment is to be initialized after a library that is to be initialized after it.
+    InitLoop {
+        fragment: &'a [u8],
+    },
+
+    /// The machine refused memory.
+    OutOfMemory,
+}
+
+impl<'a> BindFault<'a> {
+    /// The refusal's number, which no refusal of another meaning has: that of the container or the loader
+    /// section, or from 61 to 66, or 99.
+    pub fn number(&self) -> u32
+        ensures { result ≡ fault_number self.now }
+    {
+        match self {
+            BindFault::Container { fault, .. } => fault.number(),
+            BindFault::Loader { fault, .. } => fault.number(),
+            BindFault::LibraryMissing { .. } => 61,
+            BindFault::SymbolMissing { .. } => 62,
+            BindFault::ImplementationTooOld { .. } => 63,
+            BindFault::ImplementationTooNew { .. } => 64,
+            BindFault::ReexportLoop { .. } => 65,
+            BindFault::InitLoop { .. } => 66,
+            BindFault::OutOfMemory => 99,
+        }
+    }
+
+    /// The refusal's name, which is its text.
+    pub fn name(&self) -> &'static str
+        ensures { result.now ≡ fault_name self.now }
+    {
+        match self {
+            BindFault::Container { fault, .. } => fault.name(),
+            BindFault::Loader { fault, .. } => fault.name(),
+            BindFault::LibraryMissing { .. } => "LibraryMissing",
+            BindFault::SymbolMissing { .. } => "SymbolMissing",
+            BindFault::ImplementationTooOld { .. } => "ImplementationTooOld",
+            BindFault::ImplementationTooNew { .. } => "ImplementationTooNew",
+            BindFault::ReexportLoop { .. } => "ReexportLoop",
+            BindFault::InitLoop { .. } => "InitLoop",
+            BindFault::OutOfMemory => "OutOfMemory",
+        }
+    }
+}
+
+impl<'a> fmt::Display for BindFault<'a> {
+    ghost use Rattle.std.specs.Prelude.{Some};
+    ghost use Rattle.cfm_closure.specs.Faults.{fault_name};
+
+    ghost output = { λ fault. Some (fault_name fault) };
+
+    fn fmt<W: fmt::Write>(&self, f: &mut fmt::Formatter<W>) -> fmt::Result {
+        f.write_str(self.name())
+    }
+}
+
+impl<'a> From<AllocError> for BindFault<'a> {
+    ghost use Rattle.std.specs.Prelude.{◌≡◌};
+    ghost use Rattle.cfm_closure.specs.declared.fault.BindFault.TheVariants.{OutOfMemory};
+
+    ghost from_gives = { λ _ e. e ≡ OutOfMemory };
+
+    fn from(_error: AllocError) -> BindFault<'a> {
+        BindFault::OutOfMemory
+    }
+}
+
+impl<'a, T: Drop> From<AllocFailed<T>> for BindFault<'a> {
+    ghost use Rattle.std.specs.Prelude.{◌≡◌};
+    ghost use Rattle.cfm_closure.specs.declared.fault.BindFault.TheVariants.{OutOfMemory};
+
+    ghost from_gives = { λ _ e. e ≡ OutOfMemory };
+
+    fn from(_error: AllocFailed<T>) -> BindFault<'a> {
+        BindFault::OutOfMemory
+    }
+}

@@ -1,0 +1,65 @@
+ghost use Rattle.std.specs.Prelude.{◌≡◌, ◌<◌, length, IfOk, Some};
+ghost use Rattle.cfm_closure.specs.Faults.{Answers};
+ghost use Rattle.cfm_closure.specs.Fragments.{fragment_of};
+ghost use Rattle.cfm_closure.specs.Kept.Views.{AreKept, AreRead, fragment_at};
+ghost use Rattle.cfm_closure.specs.Views.{fragment_seen};
+
+use crate::fault::BindFault;
+use crate::place_table::PlaceTable;
+use crate::store::Store;
+use pef_loader::Loader;
+use pef_views::Container;
+
+/// A fragment of a store: its name, its container and its loader section, seen in place.
+#[derive(Clone, Copy, Debug)]
+pub struct FragmentView<'a> {
+    pub name: &'a [u8],
+    pub container: Container<'a>,
+    pub loader: Loader<'a>,
+}
+
+impl<'a> FragmentView<'a> {
+    /// Reads the fragment in a place of a store.
+    #[tactic(auto, unfolding(crate::specs::Fragments::fragment_of))]
+    fn read(store: &Store<'a>, p: usize) -> Result<FragmentView<'a>, BindFault<'a>>
+        requires { p < length store.now }
+        ensures { Answers fragment_seen result (fragment_of store.now p) }
+    {
+        let (fragment, bytes) = store.at(p);
+        let container = match Container::read(bytes) {
+            Ok(container) => container,
+            Err(fault) => return Err(BindFault::Container { fragment, fault }),
+        };
+        match Loader::read(&container) {
+            Ok(loader) => Ok(FragmentView {
+                name: fragment,
+                container,
+                loader,
+            }),
+            Err(fault) => Err(BindFault::Loader { fragment, fault }),
+        }
+    }
+}
+
+/// The fragment in a place of a store. It is read once, and kept in a table.
+pub(crate) fn read_at<'a>(
+    store: &Store<'a>,
+    fragments: &mut PlaceTable<FragmentView<'a>>,
+    p: usize,
+) -> Result<FragmentView<'a>, BindFault<'a>>
+    requires place { p < length store.now }
+    requires size { length fragments.old ≡ length store.now }
+    requires read { AreRead store.now fragments.old }
+    ensures answer { Answers fragment_seen result (fragment_of store.now p) }
+    ensures size { length fragments.new ≡ length store.now }
+    ensures read { AreRead store.now fragments.new }
+    ensures kept { AreKept fragments.old fragments.new }
+    ensures here { IfOk result (λ f. fragment_at fragments.new p ≡ Some (fragment_seen f)) }
+{
+    if let Some(fragment) = fragments.get(p) {
+        return Ok(*fragment);
+    }
+    let fragment = FragmentView::read(store, p)?;
+    fragments.put(p, fragment)?;
+    Ok(fragment)
+}

@@ -1,0 +1,179 @@
+ghost use Rattle.std.specs.Prelude.{◌≡◌, ◌+◌, ◌<◌, [], List, ℕ, false, length, IfOk, OnOk};
+ghost use Rattle.std.specs.Option.{ForSome};
+ghost use Rattle.cfm_closure.specs.Faults.{Answers};
+ghost use Rattle.cfm_closure.specs.Walk.{is_marked, joining, order_of, unwalked};
+ghost use Rattle.cfm_closure.specs.Kept.Paths.{Continues, IsFrame, IsSameFrame, IsWalk, Next, count_of, frame_and_rest, rest_of_path, state_of, steps_left, visit_and_rest};
+ghost use Rattle.cfm_closure.specs.Kept.Views.{AreKept, AreRead};
+ghost use Rattle.cfm_closure.specs.Kept.Walks.{unmet_of};
+
+use crate::binding::bind;
+use crate::fault::BindFault;
+use crate::fragment::{FragmentView, read_at};
+use crate::libraries::Libraries;
+use crate::place_table::PlaceTable;
+use crate::store::Store;
+use std::alloc::{AllocError, Global};
+
+/// A fragment that was met and isn't done: the walk is in one of its libraries.
+#[derive(Drop)]
+pub(crate) struct Frame<'a> {
+    p: usize,
+    fragment: FragmentView<'a>,
+    /// What its library entries stand for, up to the one that the walk is in.
+    libraries: Libraries,
+}
+
+/// The walk from a fragment to all that it needs. Its tables go by the places of the store.
+#[derive(Drop)]
+pub(crate) struct Walk<'a> {
+    alloc: Global,
+    /// The fragments that were read.
+    pub fragments: PlaceTable<FragmentView<'a>>,
+    /// What the library entries of those that are done stand for.
+    pub libraries: PlaceTable<Libraries>,
+    marked: Vec<bool>,
+    /// From the root to the fragment that the walk is in.
+    path: Vec<Frame<'a>>,
+    /// The fragments that are done.
+    pub order: Vec<usize>,
+}
+
+/// The fragment of a library entry, if it is there and wasn't met yet.
+fn unmet(marked: &[bool], bound: Option<usize>) -> Option<usize>
+    requires { ForSome bound (λ q. q < length marked.now) }
+    ensures { result ≡ unmet_of marked.now bound }
+{
+    let q = bound?;
+    if marked[q] { None } else { Some(q) }
+}
+
+/// Binds library entries of a fragment until one stands for a fragment that wasn't met yet.
+fn bind_next<'a>(
+    store: &Store<'a>,
+    fragments: &mut PlaceTable<FragmentView<'a>>,
+    marked: &[bool],
+    frame: &mut Frame<'a>,
+) -> Result<Option<usize>, BindFault<'a>>
+    requires size { length fragments.old ≡ length store.now }
+    requires marks { length marked.now ≡ length store.now }
+    requires read { AreRead store.now fragments.old }
+    requires frame { IsFrame store.now fragments.old frame.old }
+    ensures next { (order : List ℕ) → Next store.now (record { marked = marked.now; order = order }) frame.old frame.new result }
+    ensures size { length fragments.new ≡ length store.now }
+    ensures read { AreRead store.now fragments.new }
+    ensures kept { AreKept fragments.old fragments.new }
+    ensures frame { OnOk result (IsFrame store.now fragments.new frame.new) }
+    ensures same { IsSameFrame frame.old frame.new }
+{
+    while let Some(library) = frame.fragment.loader.library(frame.libraries.len()) {
+        let bound = bind(store, fragments, frame.fragment.name, library)?;
+        frame.libraries.push(bound)?;
+        match unmet(marked, bound) {
+            Some(q) => return Ok(Some(q)),
+            None => {}
+        }
+    }
+    Ok(None)
+}
+
+impl<'a> Walk<'a> {
+    /// A walk that met no fragment yet.
+    fn new(alloc: Global, store: &Store<'a>) -> Result<Walk<'a>, AllocError>
+        ensures walk { IfOk result (λ w. IsWalk store.now w) }
+        ensures state { IfOk result (λ w. state_of w ≡ unwalked store.now) }
+        ensures path { IfOk result (λ w. w.path.items ≡ []) }
+    {
+        let len = store.len();
+        let fragments = PlaceTable::new(alloc, len)?;
+        let libraries = PlaceTable::new(alloc, len)?;
+        let marked = vec![in alloc; false; len]?;
+        Ok(Walk {
+            alloc,
+            fragments,
+            libraries,
+            marked,
+            path: Vec::new(alloc),
+            order: Vec::new(alloc),
+        })
+    }
+
+    /// The walk from a fragment, done.
+    pub fn from_root(
+        alloc: Global,
+        store: &Store<'a>,
+        root: usize,
+    ) -> Result<Walk<'a>, BindFault<'a>>
+        requires { root < length store.now }
+        ensures walk { IfOk result (λ w. IsWalk store.now w) }
+        ensures answer { Answers (λ w. w.order.items) result (order_of store.now root) }
+    {
+        let mut walk = Walk::new(alloc, store)?;
+        walk.enter(store, root)?;
+        walk.run(store)?;
+        Ok(walk)
+    }
+
+    /// Meets a fragment that wasn't met yet: it is read, and goes onto the path.
+    fn enter(&mut self, store: &Store<'a>, p: usize) -> Result<(), BindFault<'a>>
+        requires place { p < length store.now }
+        requires unmet { is_marked (state_of self.old) p ≡ false }
+        requires walk { IsWalk store.now self.old }
+        ensures walk { OnOk result (IsWalk store.now self.new) }
+        ensures continues { Continues result (rest_of_path store.now self.new.path.items (state_of self.new)) (visit_and_rest store.now p self.old.path.items (state_of self.old)) }
+        ensures fewer { OnOk result (steps_left self.new < steps_left self.old) }
+    {
+        let fragment = read_at(store, &mut self.fragments, p)?;
+        self.marked[p] = true;
+        self.path.push(Frame {
+            p,
+            fragment,
+            libraries: Libraries::new(self.alloc),
+        })?;
+        Ok(())
+    }
+
+    /// Ends with a fragment: it joins the order.
+    fn finish(&mut self, store: &Store<'a>, frame: Frame<'a>) -> Result<(), BindFault<'a>>
+        requires walk { IsWalk store.now self.old }
+        requires frame { IsFrame store.now self.old.fragments frame }
+        requires all { length frame.libraries ≡ count_of frame }
+        ensures walk { OnOk result (IsWalk store.now self.new) }
+        ensures continues { Continues result (rest_of_path store.now self.new.path.items (state_of self.new)) (rest_of_path store.now self.old.path.items (joining frame.entry.p (state_of self.old))) }
+        ensures fewer { OnOk result (steps_left self.new < steps_left self.old + 1) }
+    {
+        let p = frame.p;
+        self.libraries.put(p, frame.libraries)?;
+        self.order.push(p)?;
+        Ok(())
+    }
+
+    /// Goes on in the last fragment of the path, which was taken off it.
+    fn step(&mut self, store: &Store<'a>, frame: Frame<'a>) -> Result<(), BindFault<'a>>
+        requires walk { IsWalk store.now self.old }
+        requires frame { IsFrame store.now self.old.fragments frame }
+        ensures walk { OnOk result (IsWalk store.now self.new) }
+        ensures continues { Continues result (rest_of_path store.now self.new.path.items (state_of self.new)) (frame_and_rest store.now frame.entry self.old.path.items (state_of self.old)) }
+        ensures fewer { OnOk result (steps_left self.new < steps_left self.old + 1) }
+    {
+        let mut frame = frame;
+        match bind_next(store, &mut self.fragments, &self.marked, &mut frame)? {
+            Some(q) => {
+                self.path.push(frame)?;
+                self.enter(store, q)
+            }
+            None => self.finish(store, frame),
+        }
+    }
+
+    /// Goes on until no fragment is left on the path.
+    fn run(&mut self, store: &Store<'a>) -> Result<(), BindFault<'a>>
+        requires walk { IsWalk store.now self.old }
+        ensures walk { OnOk result (IsWalk store.now self.new) }
+        ensures answer { Answers (λ done. state_of self.new) result (rest_of_path store.now self.old.path.items (state_of self.old)) }
+    {
+        while let Some(frame) = self.path.pop() {
+            self.step(store, frame)?;
+        }
+        Ok(())
+    }
+}

@@ -1,4 +1,0 @@
-mod HeaderLemmas
-mod ImageLemmas
-pub mod Laws
-mod PlaceLemmas

@@ -1,7 +1,0 @@
-use Rattle.cfm_memory.specs.Extents.{ArePlaced}
-use Rattle.pef_views.specs.Views.{contained}
-use Rattle.cfm_fragment.specs.Images.{extents_from}
-use Rattle.cfm_fragment.proofs.places.place_each.Given as goal
-
-abbrev pub invariant-loop-i : goal.invariant-loop-i
-invariant-loop-i l = ArePlaced l.fn.memory (extents_from (contained l.container) 0 l.i) l.places.items l.memory

@@ -1,6 +1,0 @@
-use Rattle.std.proofs.Common.{arith}
-use Rattle.std.proofs.lemmas.Grind.{common_steps}
-use Rattle.cfm_libraries.proofs.bindings.Bindings.places.Goals as goal
-
-pub returns-clause-len : goal.returns-clause-len
-returns-clause-len c = grind (arith, common_steps)

@@ -1,5 +1,0 @@
-use Rattle.std.proofs.Common.{rules}
-use Rattle.cfm_libraries.proofs.fault.BindFault.number.Goals as goal
-
-pub returns-in-LibraryMissing : goal.returns-in-LibraryMissing
-returns-in-LibraryMissing c = search rules

@@ -1,8 +1,0 @@
--- What is seen of the fragments of a store, without places in memory.
-use Rattle.pef_views.specs.Views.{contained}
-use Rattle.pef_loader.specs.Views.{loaded}
-use Rattle.cfm_libraries.specs.declared.fragment.FragmentView.{FragmentView}
-use Rattle.cfm_libraries.specs.Fragments.{Fragment}
-
-abbrev pub fragment_seen : FragmentView → Fragment
-fragment_seen f = record { name = f.name.now; container = contained f.container; loader = loaded f.loader }

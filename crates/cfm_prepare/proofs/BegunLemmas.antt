@@ -1,0 +1,92 @@
+-- New fragments, from their placing to the end of their preparation or its first refusal.
+use Rattle.std.proofs.Common.{◌≡◌, ℕ, zero, suc, ◌<◌, Bool, true, false, List, [], ◌∷◌, ◌++◌, None, Some, Result, Ok, Err, All, Contains, OnOk, IfErr, length, get_or, cond, refl, sym, ap, subst, ◌∙◌, arith}
+use Rattle.cfm_memory.specs.Instances.{Layout}
+use Rattle.cfm_closure.specs.Stores.{Pair}
+use Rattle.cfm_prepare.specs.Addresses.{first_bad_program, section_of}
+use Rattle.cfm_prepare.specs.Lists.{has}
+use Rattle.cfm_prepare.specs.Fragments.{Present, StandAll, all_given_back, first_bad_image, is_present, new_among}
+use Rattle.cfm_prepare.specs.Placing.{AreNew, ArePrepared}
+use Rattle.cfm_prepare.specs.Refusals.{MayNotPrepareNew}
+use Rattle.cfm_prepare.specs.Kept.Ready.{AllHeld, AreReady, FillsUpTo, HaveBegun, HavePlaced, RelocatesUpTo}
+use Rattle.cfm_prepare.specs.declared.fragment_fault.FragmentFault.{FragmentFault}
+use Rattle.cfm_prepare.specs.declared.fragment_fault.FragmentFault.TheVariants as fault
+use Rattle.cfm_prepare.proofs.FoundLemmas.{present-has}
+use Rattle.cfm_prepare.proofs.ListLemmas.{contains-next}
+use Rattle.cfm_prepare.proofs.PlacedLemmas.{placed-back}
+use Rattle.cfm_prepare.proofs.ReadyLemmas.{held-rejoined, ready-behind}
+
+-- what was placed can be given back
+pub begun-of : (pairs : List Pair) (m : Layout) (there now : List Present) (ps new : List ℕ) (after : Layout) → AreReady m there → ((p : ℕ) → has ps p ≡ true → has new p ≡ true) → HavePlaced pairs m there ps now after → HaveBegun m there new now after
+begun-of pairs m there now ps new after ready inside have = record {
+  fresh = have.fresh;
+  behind = have.behind;
+  are = λ p there. inside p (ap (λ qs. has qs p) (sym have.are) ∙ (sym (present-has have.fresh p) ∙ there));
+  others = placed-back pairs m have.fresh after have.placed;
+  ready = subst (λ fs. AreReady after fs) (sym have.behind) (ready-behind pairs m there have.fresh after ready have.placed);
+}
+
+pub begun-after : (pairs : List Pair) (m : Layout) (there now : List Present) (ps : List ℕ) (mid after : Layout) (have : HavePlaced pairs m there ps now mid) → AreReady m there
+    → AllHeld after have.fresh → all_given_back after have.fresh ≡ all_given_back mid have.fresh → HaveBegun m there ps now after
+begun-after pairs m there now ps mid after have ready held same = record {
+  fresh = have.fresh;
+  behind = have.behind;
+  are = λ p there. ap (λ qs. has qs p) (sym have.are) ∙ (sym (present-has have.fresh p) ∙ there);
+  others = same ∙ placed-back pairs m have.fresh mid have.placed;
+  ready = subst (λ fs. AreReady after fs) (sym have.behind) (held-rejoined mid after there have.fresh (ready-behind pairs m there have.fresh mid ready have.placed) held same);
+}
+
+new-of : (pairs : List Pair) (m : Layout) (there now : List Present) (ps : List ℕ) (mid : Layout) (have : HavePlaced pairs m there ps now mid) → AreNew pairs m ps have.fresh
+new-of pairs m there now ps mid have = record { are = have.are; empty = mid; placed = have.placed }
+
+-- all is done, or it isn't
+pub prepared-after : {A : Type 0} (r : Result A FragmentFault) (pairs : List Pair) (m : Layout) (there now : List Present) (ps : List ℕ) (mid after : Layout) (all : List Present) (have : HavePlaced pairs m there ps now mid)
+    → all ≡ now → first_bad_image pairs have.fresh ≡ None → all_given_back after have.fresh ≡ all_given_back mid have.fresh
+    → RelocatesUpTo r (first_bad_program pairs all have.fresh) → OnOk r (StandAll after have.fresh (section_of pairs all))
+    → OnOk r ((fresh : List Present) × (now ≡ there ++ fresh) × ArePrepared pairs there m ps fresh after)
+prepared-after (Err e) pairs m there now ps mid after all have all_is filled same relocated stand = tt
+prepared-after (Ok x) pairs m there now ps mid after all have all_is filled same relocated stand =
+    let whole : all ≡ there ++ have.fresh = all_is ∙ have.behind in (
+      have.fresh,
+      have.behind,
+      record {
+        are = new-of pairs m there now ps mid have;
+        others = same ∙ placed-back pairs m have.fresh mid have.placed;
+        filled = filled;
+        relocated = subst (λ fs. first_bad_program pairs fs have.fresh ≡ None) whole relocated;
+        stand = subst (λ fs. StandAll after have.fresh (section_of pairs fs)) whole stand;
+      },
+    )
+
+pub image-refused : (e : FragmentFault) (pairs : List Pair) (m : Layout) (there now : List Present) (ps : List ℕ) (mid : Layout) (have : HavePlaced pairs m there ps now mid)
+    → FillsUpTo {A = Unit {0}} (Err e) (first_bad_image pairs have.fresh) → MayNotPrepareNew pairs there m ps e
+image-refused (fault.NoRoom f) pairs m there now ps mid have refused = absurd refused
+image-refused (fault.Pack f k) pairs m there now ps mid have refused = record { fresh = have.fresh; are = new-of pairs m there now ps mid have; first = refused }
+image-refused (fault.Reloc f k) pairs m there now ps mid have refused = absurd refused
+image-refused fault.OutOfMemory pairs m there now ps mid have refused = absurd refused
+
+program-refused : (e : FragmentFault) (pairs : List Pair) (m : Layout) (there now : List Present) (ps : List ℕ) (mid : Layout) (all : List Present) (have : HavePlaced pairs m there ps now mid)
+    → all ≡ now → first_bad_image pairs have.fresh ≡ None → RelocatesUpTo {A = Unit {0}} (Err e) (first_bad_program pairs all have.fresh) → MayNotPrepareNew pairs there m ps e
+program-refused (fault.NoRoom f) pairs m there now ps mid all have all_is filled refused = absurd refused
+program-refused (fault.Pack f k) pairs m there now ps mid all have all_is filled refused = absurd refused
+program-refused (fault.Reloc f k) pairs m there now ps mid all have all_is filled refused = record {
+  fresh = have.fresh;
+  are = new-of pairs m there now ps mid have;
+  filled = filled;
+  first = subst (λ fs. first_bad_program pairs fs have.fresh ≡ Some (f.now, k)) (all_is ∙ have.behind) refused;
+}
+program-refused fault.OutOfMemory pairs m there now ps mid all have all_is filled refused = tt
+
+pub relocating-refused : {A : Type 0} (r : Result A FragmentFault) (pairs : List Pair) (m : Layout) (there now : List Present) (ps : List ℕ) (mid : Layout) (all : List Present) (have : HavePlaced pairs m there ps now mid)
+    → all ≡ now → first_bad_image pairs have.fresh ≡ None → RelocatesUpTo r (first_bad_program pairs all have.fresh) → IfErr r (λ e. MayNotPrepareNew pairs there m ps e)
+relocating-refused (Ok x) pairs m there now ps mid all have all_is filled refused = tt
+relocating-refused (Err e) pairs m there now ps mid all have all_is filled refused = program-refused e pairs m there now ps mid all have all_is filled refused
+
+-- the new fragments of a closure are of it
+new-at : (b : Bool) (p : ℕ) (ps new : List ℕ) → ((k d : ℕ) → k < length new → Contains ps (get_or new k d)) → (k d : ℕ) → k < length (cond b new (p ∷ new)) → Contains (p ∷ ps) (get_or (cond b new (p ∷ new)) k d)
+new-at true p ps new each k d under = contains-next p (get_or new k d) ps (each k d under)
+new-at false p ps new each zero d under = (0, omega arith, refl)
+new-at false p ps new each (suc k) d under = contains-next p (get_or new k d) ps (each k d (omega (arith, under)))
+
+pub new-members : (fs : List Present) (order : List ℕ) → All (λ p. Contains order p) (new_among fs order)
+new-members fs [] k d under = absurd (omega (arith, under))
+new-members fs (p ∷ ps) k d under = new-at (is_present fs p) p ps (new_among fs ps) (new-members fs ps) k d under

@@ -1,0 +1,75 @@
+-- The extents of a container's sections, one behind the other.
+use Rattle.std.proofs.Common.{◌≡◌, ℕ, zero, suc, ◌+◌, ◌-◌, ◌<◌, List, [], ◌∷◌, ◌++◌, refl, sym, ap, subst, ◌∙◌, inl, length, get_or, arith}
+use Rattle.cfm_memory.specs.Extents.{ArePlaced, Extent, IsPlaceFor, MayNotPlace, place_at}
+use Rattle.cfm_memory.specs.Instances.{Layout}
+use Rattle.cfm_memory.specs.Placement.{MayRefuse, with_new}
+use Rattle.cfm_memory.specs.declared.place.MemoryFault.{MemoryFault}
+use Rattle.cfm_memory.specs.declared.place.MemoryFault.TheVariants.{NoRoom, OutOfMemory}
+use Rattle.cfm_memory.specs.declared.place.Place.{Place}
+use Rattle.cfm_memory.proofs.Laws.{lack-behind, length-placed, no_extent, placed-append, placed_size}
+use Rattle.pef_views.specs.Container.{Contained}
+use Rattle.cfm_prepare.specs.Images.{extent_at, extents_from, extents_of}
+
+-- some extents and those behind them
+extents_split : (c : Contained) (from i n : ℕ) → extents_from c from (i + n) ≡ extents_from c from i ++ extents_from c (from + i) n
+extents_split c from zero n =
+    let none : zero + n ≡ n = omega arith in
+    let here : from + 0 ≡ from = omega arith in
+    rw (none, here) refl
+extents_split c from (suc i) n =
+    let more : suc i + n ≡ suc (i + n) = omega arith in
+    let next : from + suc i ≡ from + 1 + i = omega arith in
+    rw (more, next) (ap (λ es. extent_at c from ∷ es) (extents_split c (from + 1) i n))
+
+-- one extent more
+pub extents_next : (c : Contained) (i : ℕ) → extents_from c 0 (i + 1) ≡ extents_from c 0 i ++ extent_at c i ∷ []
+extents_next c i =
+    let here : 0 + i ≡ i = omega arith in
+    extents_split c 0 i 1 ∙ ap (λ j. extents_from c 0 i ++ extent_at c j ∷ []) here
+
+-- an extent among others
+extents_around : (c : Contained) (i n : ℕ) → i < n → extents_from c 0 n ≡ extents_from c 0 i ++ extent_at c i ∷ extents_from c (i + 1) (n - (i + 1))
+extents_around c i n under =
+    let all : n ≡ i + suc (n - (i + 1)) = omega arith in
+    let here : 0 + i ≡ i = omega arith in
+    ap (extents_from c 0) all ∙ extents_split c 0 i (suc (n - (i + 1))) ∙ ap (λ j. extents_from c 0 i ++ extents_from c j (suc (n - (i + 1)))) here
+
+pub length-extents : (c : Contained) (from n : ℕ) → length (extents_from c from n) ≡ n
+length-extents c from zero = refl
+length-extents c from (suc n) = ap suc (length-extents c (from + 1) n)
+
+pub extent-is : (c : Contained) (from n k : ℕ) → k < n → get_or (extents_from c from n) k no_extent ≡ extent_at c (from + k)
+extent-is c from zero k under = absurd (omega arith)
+extent-is c from (suc n) zero under = let here : from ≡ from + 0 = omega arith in ap (extent_at c) here
+extent-is c from (suc n) (suc k) under =
+    let next : from + 1 + k ≡ from + suc k = omega arith in
+    extent-is c (from + 1) n k (omega arith) ∙ ap (extent_at c) next
+
+-- a section more is placed
+pub placed_next : (c : Contained) (m mid : Layout) (places : List Place) (i : ℕ) (p : Place) → ArePlaced m (extents_from c 0 i) places mid → IsPlaceFor mid (extent_at c i) p
+    → ArePlaced m (extents_from c 0 (i + 1)) (places ++ p ∷ []) (with_new mid p)
+placed_next c m mid places i p placed is =
+    subst (λ es. ArePlaced m es (places ++ p ∷ []) (with_new mid p)) (sym (extents_next c i))
+    (placed-append m mid (with_new mid p) (extents_from c 0 i) (extent_at c i ∷ []) places (p ∷ []) placed (is, refl))
+
+refused_behind : (fault : MemoryFault) (m mid : Layout) (extents others : List Extent) (e : Extent) (places : List Place) → ArePlaced m extents places mid → MayRefuse mid e.size e.alignment fault → MayNotPlace fault m (extents ++ e ∷ others)
+refused_behind NoRoom m mid extents others e places placed refused = lack-behind m mid extents (e ∷ others) places placed (inl refused)
+refused_behind OutOfMemory m mid extents others e places placed refused = tt
+
+-- a section that is refused is the first of them
+pub refused_here : (fault : MemoryFault) (c : Contained) (m mid : Layout) (places : List Place) (i n : ℕ) → i < n → ArePlaced m (extents_from c 0 i) places mid → MayRefuse mid (extent_at c i).size (extent_at c i).alignment fault
+    → MayNotPlace fault m (extents_from c 0 n)
+refused_here fault c m mid places i n under placed refused =
+    subst (λ es. MayNotPlace fault m es) (sym (extents_around c i n under)) (refused_behind fault m mid (extents_from c 0 i) (extents_from c (i + 1) (n - (i + 1))) (extent_at c i) places placed refused)
+
+-- there are as many places as instantiated sections
+pub length-fragment : (c : Contained) (m after : Layout) (places : List Place) → ArePlaced m (extents_of c) places after → length places ≡ c.header.instantiated_section_count
+length-fragment c m after places placed = length-placed m (extents_of c) places after placed ∙ length-extents c 0 c.header.instantiated_section_count
+
+-- and each has the size of its section
+pub size-fragment : (c : Contained) (m after : Layout) (places : List Place) → ArePlaced m (extents_of c) places after → (k : ℕ) → k < length places → (place_at places k).size ≡ (extent_at c k).size
+size-fragment c m after places placed k under =
+    let n = c.header.instantiated_section_count in
+    let len = length-fragment c m after places placed in
+    let here : 0 + k ≡ k = omega arith in
+    placed_size m (extents_of c) places after placed k ∙ ap (λ (e : Extent). e.size) (extent-is c 0 n k (omega (arith, under, len)) ∙ ap (extent_at c) here)

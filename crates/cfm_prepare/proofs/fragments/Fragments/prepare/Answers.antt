@@ -1,0 +1,24 @@
+-- What is new of the closure is of it, once, and absent.
+use Rattle.std.proofs.Common.{◌≡◌, ℕ, List, All, Contains, sym, ap, subst, ◌∙◌}
+use Rattle.cfm_prepare.specs.Fragments.{Present, new_among}
+use Rattle.cfm_prepare.specs.Lists.{IsOnce}
+use Rattle.cfm_prepare.specs.Kept.Ready.{AreAbsent}
+use Rattle.cfm_prepare.proofs.BegunLemmas.{new-members}
+use Rattle.cfm_prepare.proofs.FoundLemmas.{absent-new}
+use Rattle.cfm_prepare.proofs.fragments.Fragments.prepare.Goals as goal
+
+are-members : (there : List Present) (order whole new : List ℕ) → order ≡ whole → new ≡ new_among there order → All (λ p. Contains whole p) new
+are-members there order whole new order_is new_is =
+    let P : List ℕ → Type 0 = λ ps. All (λ p. Contains whole p) ps in
+    subst P (sym (new_is ∙ ap (new_among there) order_is)) (new-members there whole)
+
+are-absent : (there : List Present) (order whole new : List ℕ) → order ≡ whole → new ≡ new_among there order → IsOnce whole → AreAbsent there new
+are-absent there order whole new order_is new_is once =
+    let P : List ℕ → Type 0 = λ ps. AreAbsent there ps in
+    subst P (sym (new_is ∙ ap (new_among there) order_is)) (absent-new there whole once)
+
+pub prepare_new-requires-clause-members : goal.prepare_new-requires-clause-members
+prepare_new-requires-clause-members c = are-members c.self.inside.present.items c.order.result.now c.args.closure.now.order c.deref.result.now c.order.ensures.order (c.deref.ensures.value ∙ c.in_ok-new.ensures)
+
+pub prepare_new-requires-clause-new : goal.prepare_new-requires-clause-new
+prepare_new-requires-clause-new c = are-absent c.self.inside.present.items c.order.result.now c.args.closure.now.order c.deref.result.now c.order.ensures.order (c.deref.ensures.value ∙ c.in_ok-new.ensures) c.requires.once

@@ -1,0 +1,11 @@
+-- What is left of the positions goes.
+use Rattle.std.proofs.Common.{drop, not}
+use Rattle.cfm_prepare.specs.Kept.Ready.{AreReady}
+use Rattle.cfm_prepare.specs.Lists.{has}
+use Rattle.cfm_prepare.proofs.ReleaseLemmas.{AreGiven}
+use Rattle.cfm_prepare.proofs.giving_back.give_back_all.Given as goal
+
+abbrev pub invariant-loop-position : goal.invariant-loop-position
+invariant-loop-position l =
+    AreGiven (λ p. not (has l.positions p)) l.fn.present.items l.fn.memory l.present.items l.memory (drop l.position-index l.positions)
+    × AreReady l.memory l.present.items

@@ -1,0 +1,47 @@
+-- One section more is filled, or it is the first that is refused.
+use Rattle.std.proofs.Common.{◌≡◌, ◌<◌, ℕ, Some, length, refl, sym, ap, subst, ◌∙◌, inl, inr, arith, rules}
+use Rattle.std.proofs.lemmas.Bool.{cases_lt}
+use Rattle.std.proofs.lemmas.Result.{err_from_is_err_and}
+use Rattle.cfm_memory.specs.Extents.{place_at}
+use Rattle.cfm_memory.specs.Instances.{bytes_at}
+use Rattle.pef_views.specs.Views.{contained, seen}
+use Rattle.pef_views.proofs.Laws.{counts}
+use Rattle.pef_words.proofs.Laws.Refusals.{first_among-here, first_among-next}
+use Rattle.cfm_prepare.specs.Images.{filled_at, image_refusal}
+use Rattle.cfm_prepare.proofs.ImageLemmas.{filled_there, refusal_there}
+use Rattle.cfm_prepare.proofs.images.fill_sections.Goals as goal
+
+pub unreachable-requires : goal.unreachable-requires
+unreachable-requires c =
+    let fewer = counts (contained c.args.container.now) c.args.container.now.accepted in
+    let under : c.loop-k.k < c.args.container.now.header.section_count = omega (arith, c.loop-k-test.true, c.requires.there, fewer) in
+    search (rules, under)
+
+pub returns-in_err-fill_section-clause-refused : goal.returns-in_err-fill_section-clause-refused
+returns-in_err-fill_section-clause-refused c =
+    let at = c.loop-k in
+    let container = contained c.args.container.now in
+    let here = refusal_there container at.k (seen c.in-Some.section) c.in-Some.ensures.value ∙ sym c.in_err-fill_section.ensures.refused in
+    let p = err_from_is_err_and c.from_residual.result c.from_residual.ensures.1 in
+    rw (p.1, p.2) (sym (first_among-here (image_refusal container) at.k (length c.args.places.now) c.in_err-fill_section.field-0.0 c.loop-k-test.true here) ∙ at.invariant.left)
+
+pub loop-k-preserved : goal.loop-k-preserved
+loop-k-preserved c =
+    let at = c.loop-k in
+    let places = c.args.places.now in
+    let container = contained c.args.container.now in
+    let done = c.in_ok-fill_section.ensures in
+    let unrefused = refusal_there container at.k (seen c.in-Some.section) c.in-Some.ensures.value ∙ sym done.refused in
+    record {
+      left = sym (first_among-next (image_refusal container) at.k (length places) c.loop-k-test.true unrefused) ∙ at.invariant.left;
+      filled = λ j low under. elim (cases_lt j at.k) [
+        | inl less ↦ done.elsewhere (place_at places j).address (c.requires.apart j at.k less c.loop-k-test.true) ∙ at.invariant.filled j less under
+        | inr more ↦ (
+            let same : at.k ≡ j = omega (arith, low, more) in
+            let P : ℕ → Type 0 = λ i. bytes_at c.fill_section.new.memory.instances (place_at places i).address ≡ Some (filled_at container i) in
+            subst P same (done.here ∙ ap Some (sym (filled_there container at.k (seen c.in-Some.section) c.in-Some.ensures.value))))
+      ];
+      zeros = λ j low under. done.elsewhere (place_at places j).address (λ same. c.requires.apart at.k j (omega (arith, low)) under (sym same)) ∙ at.invariant.zeros j (omega (arith, low)) under;
+      others = done.others places at.k c.loop-k-test.true refl ∙ at.invariant.others;
+      held = λ before i d low. done.held _ (at.invariant.held before i d low);
+    }

@@ -1,0 +1,26 @@
+-- Where it is refused, what was placed goes, and nothing else.
+use Rattle.std.proofs.Common.{◌≡◌, ℕ, List, sym, ap, subst, ◌∙◌}
+use Rattle.cfm_memory.specs.Instances.{Layout}
+use Rattle.cfm_prepare.specs.Fragments.{Present, all_given_back}
+use Rattle.cfm_prepare.specs.Kept.Ready.{AreAbsent, AreReady, HaveBegun, others_of, these_of}
+use Rattle.cfm_prepare.proofs.ReleaseLemmas.{others-all}
+use Rattle.cfm_prepare.proofs.preparing.prepare_new.Goals as goal
+
+-- what is left when the new fragments are given back
+is-undone : (m mid after : Layout) (there now left : List Present) (new : List ℕ) → AreAbsent there new → HaveBegun m there new now mid → left ≡ others_of new now → after ≡ all_given_back mid (these_of new now)
+    → (after ≡ m) × (left ≡ there)
+is-undone m mid after there now left new absent begun left_is after_is =
+    let parts = others-all new there begun.fresh absent.none begun.are in
+    (after_is ∙ ap (all_given_back mid) (ap (these_of new) begun.behind ∙ parts.1) ∙ begun.others, left_is ∙ ap (others_of new) begun.behind ∙ parts.0)
+
+pub returns-in-Err-clause-unchanged : goal.returns-in-Err-clause-unchanged
+returns-in-Err-clause-unchanged c =
+    is-undone c.args.memory.now c.try_prepare.new.memory c.give_back_all.new.memory c.args.present.now.items c.try_prepare.new.present.items c.give_back_all.new.present.items c.args.new.now c.requires.new c.in-Err.ensures.begun
+    c.give_back_all.ensures.present c.give_back_all.ensures.memory
+
+pub returns-in-Err-clause-ready : goal.returns-in-Err-clause-ready
+returns-in-Err-clause-ready c =
+    let same = returns-in-Err-clause-unchanged c in
+    let L : Layout → Type 0 = λ m. AreReady m c.args.present.now.items in
+    let P : List Present → Type 0 = λ fs. AreReady c.give_back_all.new.memory fs in
+    subst P (sym same.1) (subst L (sym same.0) c.requires.ready)

@@ -1,0 +1,43 @@
+-- Where several fragments are placed, and what they become when they are prepared together. That their
+-- sections are placed in turn, that all are placed before any is filled, and all filled before any is
+-- relocated, is this project's own rule.
+use Rattle.std.specs.Prelude.{◌≡◌, ◌⊎◌, ℕ, List, [], ◌∷◌, ◌++◌, None}
+use Rattle.cfm_memory.specs.Extents.{ArePlaced, LackRoom}
+use Rattle.cfm_memory.specs.Instances.{Layout}
+use Rattle.cfm_memory.specs.declared.place.Place.{Place}
+use Rattle.cfm_closure.specs.Stores.{Pair, pair_of}
+use Rattle.cfm_prepare.specs.Addresses.{first_bad_program, section_of}
+use Rattle.cfm_prepare.specs.Fragments.{Present, StandAll, all_given_back, extents_in, first_bad_image, positions}
+
+-- a fragment's places are those of its sections: it was placed so in some memory
+pub record Fits (pairs : List Pair) (f : Present) : Type 0 where
+  pub before : Layout
+  pub after : Layout
+  pub placed : ArePlaced before (extents_in pairs f.position) f.places after
+
+-- fragments were placed in a memory, one behind the other, and it became another
+abbrev pub AllPlaced : List Pair → Layout → List Present → Layout → Type 0
+AllPlaced pairs m [] after = after ≡ m
+AllPlaced pairs m (f ∷ fs) after = (mid : Layout) × ArePlaced m (extents_in pairs f.position) f.places mid × AllPlaced pairs mid fs after
+
+-- of some fragments, the one with a name finds no room behind those before it
+abbrev pub LacksRoom : List Pair → Layout → List ℕ → List ℕ → Type 0
+LacksRoom pairs m [] name = ⊥
+LacksRoom pairs m (p ∷ ps) name =
+    (LackRoom m (extents_in pairs p) × (name ≡ (pair_of pairs p).name))
+    ⊎ ((places : List Place) × (mid : Layout) × ArePlaced m (extents_in pairs p) places mid × LacksRoom pairs mid ps name)
+
+-- fragments with new positions were placed
+pub record AreNew (pairs : List Pair) (m : Layout) (new : List ℕ) (fresh : List Present) : Type 0 where
+  pub are : positions fresh ≡ new
+  pub empty : Layout
+  pub placed : AllPlaced pairs m fresh empty
+
+-- new fragments were prepared in a memory beside those that are there, and it became another: they have new
+-- places, and nothing else changed; none is refused; and each section has its prepared memory
+pub record ArePrepared (pairs : List Pair) (there : List Present) (m : Layout) (new : List ℕ) (fresh : List Present) (after : Layout) : Type 0 where
+  pub are : AreNew pairs m new fresh
+  pub others : all_given_back after fresh ≡ m
+  pub filled : first_bad_image pairs fresh ≡ None
+  pub relocated : first_bad_program pairs (there ++ fresh) fresh ≡ None
+  pub stand : StandAll after fresh (section_of pairs (there ++ fresh))

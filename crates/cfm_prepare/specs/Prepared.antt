@@ -1,0 +1,28 @@
+-- What a fragment becomes in memory: its instantiated sections, which have some places, are filled, then
+-- relocated by its relocation headers, one after the other; and where it is entered (Mac OS Runtime
+-- Architectures, "PEF Structure").
+use Rattle.std.specs.Prelude.{ℕ, ◌+◌, ◌%◌, ◌^◌, List, Option, map, option_map}
+use Rattle.cfm_memory.specs.Extents.{place_at}
+use Rattle.cfm_memory.specs.declared.place.Place.{Place}
+use Rattle.pef_loader.specs.Loader.{Loaded, reloc_of}
+use Rattle.pef_reloc.specs.Applied.{Addresses}
+use Rattle.pef_reloc.specs.Headers.{first_refusal, relocated_by}
+use Rattle.pef_reloc.specs.declared.fault.RelocFault.{RelocFault}
+use Rattle.pef_views.specs.Container.{Contained}
+use Rattle.cfm_prepare.specs.Images.{filled_at}
+
+-- the addresses of a fragment's sections, which have some places, and of the targets of its imports
+abbrev pub addresses_at : List Place → List ℕ → Addresses
+addresses_at places imports = record { sections = map (λ p. p.address) places; imports = imports }
+
+-- the address of an entry, given by its section and the offset in it
+abbrev pub entry_address : List Place → Option (ℕ × ℕ) → Option ℕ
+entry_address places entry = option_map (λ e. ((place_at places e.0).address + e.1) % 2 ^ 32) entry
+
+-- the memory of section k under some addresses: filled, and then what the relocation headers make of it
+abbrev pub prepared_at : Contained → Loaded → Addresses → ℕ → List ℕ
+prepared_at c l a k = (relocated_by a k (reloc_of l) 0 l.header.reloc_count (filled_at c k)).memory
+
+-- the first refusal among the relocation headers, under some addresses
+abbrev pub first_reloc_refusal : Contained → Loaded → Addresses → Option RelocFault
+first_reloc_refusal c l a = first_refusal a (filled_at c) (reloc_of l) l.header.reloc_count

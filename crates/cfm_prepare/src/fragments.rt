@@ -1,0 +1,111 @@
+ghost use Rattle.std.specs.Prelude.{◌≡◌, ◌≤◌, ◌+◌, ◌++◌, List, IfErr, MatchOption, OnErr, OnOk, length, option_map};
+ghost use Rattle.cfm_prepare.specs.Addresses.{target_address};
+ghost use Rattle.cfm_prepare.specs.Fragments.{IsGivenBack, Present, new_among, none_present, places_of};
+ghost use Rattle.cfm_prepare.specs.Lists.{IsOnce};
+ghost use Rattle.cfm_prepare.specs.Placing.{ArePrepared};
+ghost use Rattle.cfm_prepare.specs.Refusals.{MayNotPrepareNew};
+ghost use Rattle.cfm_prepare.specs.Sections.{section_present, section_seen};
+
+use crate::fragment_fault::FragmentFault;
+use crate::preparing::prepare_new;
+use crate::giving_back::give_back_fragment;
+use crate::relocating::target_address;
+use crate::slots::{Slots, new_among};
+use cfm_closure::{Closure, Store, Target};
+use cfm_memory::{Memory, Place};
+use std::alloc::Global;
+use std::marker::Model;
+
+/// Fragments that are present in one memory, by their places in a store.
+#[derive(Drop)]
+pub struct Fragments {
+    alloc: Global,
+    memory: Memory,
+    present: Slots,
+}
+
+impl Model for Fragments {
+    ghost use Rattle.cfm_prepare.specs.Fragments.{Presence};
+
+    ghost Value = { Presence };
+
+    ghost use Rattle.cfm_prepare.specs.Kept.Ready.{AreReady};
+
+    ghost view = { λ f. record { memory = f.memory; present = f.present.items } };
+
+    ghost invariant = { λ f. AreReady f.memory f.present.items };
+}
+
+impl Fragments {
+    /// No fragments. No section of one may pass the address `limit`. Nothing is allocated yet.
+    pub fn new(alloc: Global, limit: u32) -> Fragments
+        ensures { result ≡ none_present limit }
+    {
+        Fragments {
+            alloc,
+            memory: Memory::new(alloc, limit),
+            present: Slots::new(alloc),
+        }
+    }
+
+    /// Prepares the fragments of a closure that aren't present: all are placed, then filled, then relocated,
+    /// each time in the order of the closure.
+    ///
+    /// # Errors
+    ///
+    /// The first refusal of placement, of the images, of the relocation headers, in this order; or
+    /// `OutOfMemory`. What is present is then as it was.
+    pub fn prepare<'a>(
+        &mut self,
+        store: &Store<'a>,
+        closure: &Closure<'_>,
+    ) -> Result<(), FragmentFault<'a>>
+        requires store { store.now ≡ closure.now.pairs }
+        requires once { IsOnce closure.now.order }
+        ensures prepared { OnOk result ((fresh : List Present) × (self.new.present ≡ self.old.present ++ fresh) × ArePrepared store.now self.old.present self.old.memory (new_among self.old.present closure.now.order) fresh self.new.memory) }
+        ensures refused { IfErr result (λ fault. MayNotPrepareNew store.now self.old.present self.old.memory (new_among self.old.present closure.now.order) fault) }
+        ensures unchanged { OnErr result (self.new ≡ self.old) }
+    {
+        let new = new_among(self.alloc, &self.present, closure.order())?;
+        prepare_new(
+            self.alloc,
+            &mut self.memory,
+            store,
+            closure,
+            &new,
+            &mut self.present,
+        )
+    }
+
+    /// Gives back the fragment in a place of the store, where it is present.
+    pub fn give_back(&mut self, position: usize)
+        ensures { IsGivenBack self.old.memory self.old.present position self.new.memory self.new.present }
+    {
+        give_back_fragment(&mut self.memory, &mut self.present, position);
+    }
+
+    /// Where the instantiated sections of the fragment in a place of the store lie, in their order; none where
+    /// it isn't present.
+    pub fn places(&self, position: usize) -> &[Place]
+        ensures { result.now ≡ places_of self.now.present position }
+    {
+        self.present.places(position)
+    }
+
+    /// The address and the bytes of section `i` of the fragment in a place of the store. `None` where the
+    /// fragment isn't present, or has no such section.
+    pub fn section(&self, position: usize, i: usize) -> Option<(u32, &[u8])>
+        ensures section { option_map section_seen result ≡ section_present self.now.memory self.now.present position i }
+        ensures within { MatchOption result (length (places_of self.now.present position) ≤ i) (λ s. s.0 + length s.1.now ≤ self.now.memory.limit) }
+    {
+        let place = *self.present.places(position).get(i)?;
+        Some((place.address, self.memory.part(place)))
+    }
+
+    /// The address of a target: 0 where there is none.
+    pub fn target_address(&self, target: Option<Target>) -> u32
+        ensures { result ≡ target_address self.now.present target }
+    {
+        target_address(&self.present, target)
+    }
+}

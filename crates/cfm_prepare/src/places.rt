@@ -1,0 +1,111 @@
+ghost use Rattle.std.specs.Prelude.{◌≡◌, ◌++◌, ℕ, [], ◌∷◌, Err, IfErr, IfOk, IsTrue, OnErr, OnOk, map};
+ghost use Rattle.cfm_memory.specs.Extents.{AreApart, AreHeld, ArePlaced, MayNotPlace, given_back, place_at};
+ghost use Rattle.cfm_memory.specs.Instances.{holds_place, with_instances, without};
+ghost use Rattle.cfm_memory.specs.declared.place.MemoryFault.TheVariants.{OutOfMemory};
+ghost use Rattle.pef_views.specs.Views.{contained};
+ghost use Rattle.cfm_prepare.specs.Images.{extents_from, extents_of};
+
+use cfm_memory::{Memory, MemoryFault, Place};
+use pef_views::Container;
+use std::alloc::Global;
+
+/// Places the instantiated sections of a container, each in turn at the lowest address with room. They
+/// are zeros.
+///
+/// # Errors
+///
+/// `NoRoom` where a section finds no room behind those before it, and `OutOfMemory` where the machine
+/// refuses memory. The memory is then as it was: what was placed is given back.
+pub fn place_sections(
+    alloc: Global,
+    memory: &mut Memory,
+    container: &Container<'_>,
+) -> Result<Vec<Place>, MemoryFault>
+    ensures placed { IfOk result (λ places. ArePlaced memory.old (extents_of (contained container.now)) places.items memory.new) }
+    ensures refused { IfErr result (λ fault. MayNotPlace fault memory.old (extents_of (contained container.now))) }
+    ensures unchanged { OnErr result (memory.new ≡ memory.old) }
+{
+    let mut places = Vec::new(alloc);
+    match place_each(memory, container, &mut places) {
+        Ok(()) => Ok(places),
+        Err(fault) => {
+            give_back(memory, places.as_slice());
+            Err(fault)
+        }
+    }
+}
+
+/// Places the instantiated sections of a container in turn, up to the first that is refused.
+fn place_each(
+    memory: &mut Memory,
+    container: &Container<'_>,
+    places: &mut Vec<Place>,
+) -> Result<(), MemoryFault>
+    requires { places.old.items ≡ [] }
+    ensures placed { OnOk result (ArePlaced memory.old (extents_of (contained container.now)) places.new.items memory.new) }
+    ensures refused { IfErr result (λ fault. MayNotPlace fault memory.old (extents_of (contained container.now))) }
+    ensures so_far { (n : ℕ) × ArePlaced memory.old (extents_from (contained container.now) 0 n) places.new.items memory.new }
+{
+    let count = usize::from(container.header().instantiated_section_count);
+    for i in 0..count {
+        let Some(section) = container.section(i) else {
+            unreachable!()
+        };
+        let place = memory.place(section.header.total_size, section.header.alignment)?;
+        keep(memory, places, place)?;
+    }
+    Ok(())
+}
+
+/// Appends the place of an instance. Where the machine refuses memory for it, the instance is given back.
+fn keep(memory: &mut Memory, places: &mut Vec<Place>, place: Place) -> Result<(), MemoryFault>
+    requires { IsTrue (holds_place memory.old place) }
+    ensures kept { OnOk result ((memory.new ≡ memory.old) × (places.new.items ≡ places.old.items ++ place ∷ [])) }
+    ensures refused { OnErr result ((memory.new ≡ with_instances memory.old (without memory.old.instances place.address)) × (places.new.items ≡ places.old.items)) }
+    ensures why { OnErr result (result ≡ Err OutOfMemory) }
+{
+    match places.push(place) {
+        Ok(()) => Ok(()),
+        Err(_) => {
+            memory.give_back(place);
+            Err(MemoryFault::OutOfMemory)
+        }
+    }
+}
+
+/// Gives back the instances at some places, whatever was written to them.
+pub fn give_back(memory: &mut Memory, places: &[Place])
+    requires held { AreHeld memory.old places.now }
+    requires apart { AreApart places.now }
+    ensures { memory.new ≡ given_back memory.old places.now }
+{
+    for place in places {
+        memory.give_back(*place);
+    }
+}
+
+/// The addresses of some places, in order.
+///
+/// # Errors
+///
+/// `OutOfMemory` where the machine refuses memory.
+pub fn section_addresses(alloc: Global, places: &[Place]) -> Result<Vec<u32>, MemoryFault>
+    ensures addresses { IfOk result (λ sections. sections.items ≡ map (λ p. p.address) places.now) }
+    ensures refused { OnErr result (result ≡ Err OutOfMemory) }
+{
+    let mut addresses = Vec::new(alloc);
+    for place in places {
+        addresses.push(place.address)?;
+    }
+    Ok(addresses)
+}
+
+/// The address of a section of a fragment whose sections have these places; 0 where it isn't there.
+pub fn section_address(places: &[Place], section: u32) -> u32
+    ensures { result ≡ (place_at places.now section).address }
+{
+    match places.get(section as usize) {
+        Some(place) => place.address,
+        None => 0,
+    }
+}

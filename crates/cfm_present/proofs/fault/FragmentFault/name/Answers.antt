@@ -1,5 +1,0 @@
-use Rattle.std.proofs.Common.{rules}
-use Rattle.cfm_present.proofs.fault.FragmentFault.name.Goals as goal
-
-pub returns-in-NoRoom : goal.returns-in-NoRoom
-returns-in-NoRoom c = search rules

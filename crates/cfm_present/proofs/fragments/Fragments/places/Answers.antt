@@ -1,4 +1,0 @@
-use Rattle.cfm_present.proofs.fragments.Fragments.places.Goals as goal
-
-pub returns : goal.returns
-returns c = rw (← c.self.view_is) c.places.ensures

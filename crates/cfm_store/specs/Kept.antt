@@ -1,2 +1,0 @@
--- What the code keeps. Private contracts and proofs speak of it, public ones don't.
-pub mod Places

@@ -1,2 +1,0 @@
--- What the code keeps. No public clause speaks of it.
-pub mod Numbers
