@@ -1,6 +1,7 @@
 -- What the code keeps. Private contracts and proofs speak of it, public ones don't.
 pub mod Bindings
 pub mod Hops
+pub mod Lending
 pub mod Numbers
 pub mod Paths
 pub mod Places

@@ -3,7 +3,6 @@ pub mod Faults
 pub mod Fragments
 pub mod Initialization
 pub mod Kept
-pub mod Lending
 pub mod Libraries
 pub mod Limits
 pub mod Orders

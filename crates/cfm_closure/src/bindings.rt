@@ -20,7 +20,7 @@ use std::marker::Model;
 /// fragments are, and what their library entries stand for. No call takes memory but [`Bindings::of`] and
 /// [`Bindings::table`].
 #[derive(Drop)]
-pub struct Bindings<'a> {
+pub(crate) struct Bindings<'a> {
     /// The pairs of the store. All else goes by their places.
     pairs: Vec<(&'a [u8], &'a [u8])>,
     fragments: PlaceTable<FragmentView<'a>>,

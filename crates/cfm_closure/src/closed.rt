@@ -5,6 +5,7 @@ ghost use Rattle.cfm_closure.specs.Fragments.{container_at, import_count, librar
 ghost use Rattle.cfm_closure.specs.Libraries.{bound_to};
 ghost use Rattle.cfm_closure.specs.Orders.{IsComplete};
 ghost use Rattle.cfm_closure.specs.Promises.{LiesInside};
+ghost use Rattle.cfm_closure.specs.Stores.{pair_of};
 ghost use Rattle.cfm_closure.specs.Targets.{target_of};
 
 use crate::bindings::Bindings;
@@ -53,6 +54,14 @@ impl<'a> Closure<'a> {
         ensures { result.now ≡ self.now.init_order }
     {
         &self.init_order
+    }
+
+    /// The name of a fragment of the closure.
+    pub fn name(&self, p: usize) -> &'a [u8]
+        requires { Contains self.now.order p }
+        ensures { result.now ≡ (pair_of self.now.pairs p).name }
+    {
+        self.bindings.fragment(p).name
     }
 
     /// The container of a fragment of the closure.

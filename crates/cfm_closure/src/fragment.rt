@@ -12,7 +12,7 @@ use pef_views::Container;
 
 /// A fragment of a store: its name, its container and its loader section, seen in place.
 #[derive(Clone, Copy, Debug)]
-pub struct FragmentView<'a> {
+pub(crate) struct FragmentView<'a> {
     pub name: &'a [u8],
     pub container: Container<'a>,
     pub loader: Loader<'a>,

@@ -1,7 +1,7 @@
 ghost use Rattle.std.specs.Prelude.{◌≡◌, ◌<◌, ◌^◌, None, Some, length, replicate, slice_index_or, slice_set, IfOk, IsSome, OnOk, OnErr};
 ghost use Rattle.std.specs.Option.{option_copied};
 ghost use Rattle.std.specs.Borrow.{sem};
-ghost use Rattle.cfm_closure.specs.Lending.{LendsValue};
+ghost use Rattle.cfm_closure.specs.Kept.Lending.{LendsValue};
 
 use std::alloc::{AllocError, Global};
 use std::marker::Model;
@@ -10,7 +10,7 @@ use std::marker::Model;
 ///
 /// A place takes two bytes. Only those that have a value take more.
 #[derive(Drop)]
-pub struct PlaceTable<T> {
+pub(crate) struct PlaceTable<T> {
     /// For each place one more than the index of its value, or 0 where it has none.
     numbers: Vec<u16>,
     /// The values, in the order in which they came.

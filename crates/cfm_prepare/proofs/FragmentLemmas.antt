@@ -40,12 +40,6 @@ pub container-of : (pairs : List Pair) (p : ℕ) (l : Loaded) → loader_at pair
 unfolding fragment_of
 container-of pairs p l loader = of-container (pair_of pairs p).name (container_of (pair_of pairs p).bytes) l loader
 
--- past the last pair there is no name
-pub pair-none : (pairs : List Pair) (p : ℕ) → slice_get pairs p ≡ None → (pair_of pairs p).name ≡ []
-pair-none [] p none = refl
-pair-none (x ∷ pairs) zero none = absurd (cc)
-pair-none (x ∷ pairs) (suc p) none = pair-none pairs p none
-
 -- the places of a fragment that was placed are those of its container's sections
 pub placed-there : (pairs : List Pair) (p : ℕ) (c : Contained) (before after : Layout) (places : List Place) → container_at pairs p ≡ Some c → ArePlaced before (extents_in pairs p) places after → ArePlaced before (extents_of c) places after
 placed-there pairs p c before after places is placed =

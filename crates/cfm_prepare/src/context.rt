@@ -106,7 +106,7 @@ impl<'a> Context<'a> {
         self.connections
             .push(Connected::new(number, root, closure))?;
         let closure = self.connections.get(number).unwrap().closure();
-        match self.fragments.prepare(&self.store, closure) {
+        match self.fragments.prepare(closure) {
             Ok(()) => {
                 enter(&mut self.users, closure.order());
                 self.given += 1;

@@ -16,7 +16,7 @@ pub struct Entries {
 }
 
 /// The addresses of a loader section's entries, of a fragment whose sections have these places.
-pub fn find_entries(loader: &Loader<'_>, places: &[Place]) -> Entries
+pub(crate) fn find_entries(loader: &Loader<'_>, places: &[Place]) -> Entries
     ensures init { result.init ≡ entry_address places.now (init_of (loaded loader.now)) }
     ensures main { result.main ≡ entry_address places.now (main_of (loaded loader.now)) }
     ensures term { result.term ≡ entry_address places.now (term_of (loaded loader.now)) }

@@ -6,32 +6,29 @@ ghost use Rattle.cfm_prepare.specs.Placing.{Fits};
 
 use crate::fragment_fault::FragmentFault;
 use crate::images::fill_sections;
-use crate::placing::name_of;
 use crate::slots::Slots;
-use cfm_closure::{Closure, Store};
+use cfm_closure::Closure;
 use cfm_memory::{Memory, Place};
 
 /// Fills the sections of new fragments, all zeros, with their images, up to the first that is refused.
 pub(crate) fn fill_fragments<'a>(
     memory: &mut Memory,
-    store: &Store<'a>,
-    closure: &Closure<'_>,
+    closure: &Closure<'a>,
     present: &Slots,
     new: &[usize],
 ) -> Result<(), FragmentFault<'a>>
-    requires store { store.now ≡ closure.now.pairs }
     requires members { AllIn closure.now.order (found_in present.now.items new.now) }
-    requires fit { AllFit store.now (found_in present.now.items new.now) }
+    requires fit { AllFit closure.now.pairs (found_in present.now.items new.now) }
     requires own { OwnApart (found_in present.now.items new.now) }
     requires apart { AllApart (found_in present.now.items new.now) }
     requires zeros { StandAll memory.old (found_in present.now.items new.now) (λ f. zeros_at f.places) }
-    ensures refused { FillsUpTo result (first_bad_image store.now (found_in present.now.items new.now)) }
-    ensures filled { OnOk result (StandAll memory.new (found_in present.now.items new.now) (λ f. section_filled store.now f.position)) }
+    ensures refused { FillsUpTo result (first_bad_image closure.now.pairs (found_in present.now.items new.now)) }
+    ensures filled { OnOk result (StandAll memory.new (found_in present.now.items new.now) (λ f. section_filled closure.now.pairs f.position)) }
     ensures others { all_given_back memory.new (found_in present.now.items new.now) ≡ all_given_back memory.old (found_in present.now.items new.now) }
     ensures held { AllHeld memory.old (found_in present.now.items new.now) → AllHeld memory.new (found_in present.now.items new.now) }
 {
     for position in new {
-        fill_fragment(memory, store, closure, *position, present.places(*position))?;
+        fill_fragment(memory, closure, *position, present.places(*position))?;
     }
     Ok(())
 }
@@ -39,18 +36,16 @@ pub(crate) fn fill_fragments<'a>(
 /// Fills the sections of a new fragment, which lie in these places.
 fn fill_fragment<'a>(
     memory: &mut Memory,
-    store: &Store<'a>,
-    closure: &Closure<'_>,
+    closure: &Closure<'a>,
     position: usize,
     places: &[Place],
 ) -> Result<(), FragmentFault<'a>>
-    requires store { store.now ≡ closure.now.pairs }
     requires member { Contains closure.now.order position }
-    requires fits { Fits store.now (record { position = position; places = places.now }) }
+    requires fits { Fits closure.now.pairs (record { position = position; places = places.now }) }
     requires own { AreApart places.now }
     requires zeros { Stand memory.old places.now (zeros_at places.now) }
-    ensures refused { FillsUpTo result (named store.now position (image_refusal_in store.now position)) }
-    ensures filled { OnOk result (Stand memory.new places.now (section_filled store.now position)) }
+    ensures refused { FillsUpTo result (named closure.now.pairs position (image_refusal_in closure.now.pairs position)) }
+    ensures filled { OnOk result (Stand memory.new places.now (section_filled closure.now.pairs position)) }
     ensures others { given_back memory.new places.now ≡ given_back memory.old places.now }
     ensures held { AreHeld memory.old places.now → AreHeld memory.new places.now }
 {
@@ -58,7 +53,7 @@ fn fill_fragment<'a>(
     match fill_sections(memory, places, &container) {
         Ok(()) => Ok(()),
         Err(fault) => Err(FragmentFault::Pack {
-            fragment: name_of(store, position),
+            fragment: closure.name(position),
             fault,
         }),
     }

@@ -7,18 +7,18 @@ ghost use Rattle.cfm_prepare.specs.Refusals.{MayNotPrepareNew};
 ghost use Rattle.cfm_prepare.specs.Sections.{section_present, section_seen};
 
 use crate::fragment_fault::FragmentFault;
-use crate::preparing::prepare_new;
 use crate::giving_back::give_back_fragment;
+use crate::preparing::prepare_new;
 use crate::relocating::target_address;
 use crate::slots::{Slots, new_among};
-use cfm_closure::{Closure, Store, Target};
+use cfm_closure::{Closure, Target};
 use cfm_memory::{Memory, Place};
 use std::alloc::Global;
 use std::marker::Model;
 
 /// Fragments that are present in one memory, by their places in a store.
 #[derive(Drop)]
-pub struct Fragments {
+pub(crate) struct Fragments {
     alloc: Global,
     memory: Memory,
     present: Slots,
@@ -55,22 +55,16 @@ impl Fragments {
     ///
     /// The first refusal of placement, of the images, of the relocation headers, in this order; or
     /// `OutOfMemory`. What is present is then as it was.
-    pub fn prepare<'a>(
-        &mut self,
-        store: &Store<'a>,
-        closure: &Closure<'_>,
-    ) -> Result<(), FragmentFault<'a>>
-        requires store { store.now ≡ closure.now.pairs }
-        requires once { IsOnce closure.now.order }
-        ensures prepared { OnOk result ((fresh : List Present) × (self.new.present ≡ self.old.present ++ fresh) × ArePrepared store.now self.old.present self.old.memory (new_among self.old.present closure.now.order) fresh self.new.memory) }
-        ensures refused { IfErr result (λ fault. MayNotPrepareNew store.now self.old.present self.old.memory (new_among self.old.present closure.now.order) fault) }
+    pub fn prepare<'a>(&mut self, closure: &Closure<'a>) -> Result<(), FragmentFault<'a>>
+        requires { IsOnce closure.now.order }
+        ensures prepared { OnOk result ((fresh : List Present) × (self.new.present ≡ self.old.present ++ fresh) × ArePrepared closure.now.pairs self.old.present self.old.memory (new_among self.old.present closure.now.order) fresh self.new.memory) }
+        ensures refused { IfErr result (λ fault. MayNotPrepareNew closure.now.pairs self.old.present self.old.memory (new_among self.old.present closure.now.order) fault) }
         ensures unchanged { OnErr result (self.new ≡ self.old) }
     {
         let new = new_among(self.alloc, &self.present, closure.order())?;
         prepare_new(
             self.alloc,
             &mut self.memory,
-            store,
             closure,
             &new,
             &mut self.present,

@@ -21,7 +21,7 @@ use pef_views::{Container, SectionView};
 ///
 /// The refusal of the first section of pattern-initialized data that has one. The sections up to that one
 /// then have any bytes; nothing is given back.
-pub fn fill_sections(
+pub(crate) fn fill_sections(
     memory: &mut Memory,
     places: &[Place],
     container: &Container<'_>,

@@ -16,7 +16,7 @@ use std::alloc::Global;
 ///
 /// `NoRoom` where a section finds no room behind those before it, and `OutOfMemory` where the machine
 /// refuses memory. The memory is then as it was: what was placed is given back.
-pub fn place_sections(
+pub(crate) fn place_sections(
     alloc: Global,
     memory: &mut Memory,
     container: &Container<'_>,
@@ -74,7 +74,7 @@ fn keep(memory: &mut Memory, places: &mut Vec<Place>, place: Place) -> Result<()
 }
 
 /// Gives back the instances at some places, whatever was written to them.
-pub fn give_back(memory: &mut Memory, places: &[Place])
+pub(crate) fn give_back(memory: &mut Memory, places: &[Place])
     requires held { AreHeld memory.old places.now }
     requires apart { AreApart places.now }
     ensures { memory.new ≡ given_back memory.old places.now }
@@ -89,7 +89,7 @@ pub fn give_back(memory: &mut Memory, places: &[Place])
 /// # Errors
 ///
 /// `OutOfMemory` where the machine refuses memory.
-pub fn section_addresses(alloc: Global, places: &[Place]) -> Result<Vec<u32>, MemoryFault>
+pub(crate) fn section_addresses(alloc: Global, places: &[Place]) -> Result<Vec<u32>, MemoryFault>
     ensures addresses { IfOk result (λ sections. sections.items ≡ map (λ p. p.address) places.now) }
     ensures refused { OnErr result (result ≡ Err OutOfMemory) }
 {
@@ -101,7 +101,7 @@ pub fn section_addresses(alloc: Global, places: &[Place]) -> Result<Vec<u32>, Me
 }
 
 /// The address of a section of a fragment whose sections have these places; 0 where it isn't there.
-pub fn section_address(places: &[Place], section: u32) -> u32
+pub(crate) fn section_address(places: &[Place], section: u32) -> u32
     ensures { result ≡ (place_at places.now section).address }
 {
     match places.get(section as usize) {

@@ -1,7 +1,6 @@
 ghost use Rattle.std.specs.Prelude.{◌≡◌, ◌++◌, ℕ, List, [], ◌∷◌, All, Contains, IfErr, OnErr, OnOk, false, take};
 ghost use Rattle.cfm_memory.specs.Extents.{ArePlaced};
 ghost use Rattle.cfm_memory.specs.declared.place.Place.{Place};
-ghost use Rattle.cfm_closure.specs.Stores.{pair_of};
 ghost use Rattle.cfm_prepare.specs.Fragments.{extents_in, is_present};
 ghost use Rattle.cfm_prepare.specs.Refusals.{MayNotPrepareNew};
 ghost use Rattle.cfm_prepare.specs.Kept.Ready.{AreAbsent, HavePlaced, IsNotPlaced};
@@ -9,38 +8,26 @@ ghost use Rattle.cfm_prepare.specs.Kept.Ready.{AreAbsent, HavePlaced, IsNotPlace
 use crate::fragment_fault::FragmentFault;
 use crate::places::place_sections;
 use crate::slots::Slots;
-use cfm_closure::{Closure, Store};
+use cfm_closure::Closure;
 use cfm_memory::{Memory, MemoryFault};
 use std::alloc::Global;
-
-/// The name of the fragment in a place of a store.
-pub(crate) fn name_of<'a>(store: &Store<'a>, position: usize) -> &'a [u8]
-    ensures { result.now ≡ (pair_of store.now position).name }
-{
-    match store.pair(position) {
-        Some((name, _)) => name,
-        None => b"",
-    }
-}
 
 /// Places new fragments of a closure, in turn, and puts them behind those that are present.
 pub(crate) fn place_fragments<'a>(
     alloc: Global,
     memory: &mut Memory,
-    store: &Store<'a>,
-    closure: &Closure<'_>,
+    closure: &Closure<'a>,
     new: &[usize],
     present: &mut Slots,
 ) -> Result<(), FragmentFault<'a>>
-    requires store { store.now ≡ closure.now.pairs }
     requires members { All (λ p. Contains closure.now.order p) new.now }
     requires new { AreAbsent present.old.items new.now }
-    ensures placed { OnOk result (HavePlaced store.now memory.old present.old.items new.now present.new.items memory.new) }
-    ensures refused { IfErr result (λ fault. MayNotPrepareNew store.now present.old.items memory.old new.now fault) }
-    ensures so_far { (n : ℕ) × HavePlaced store.now memory.old present.old.items (take n new.now) present.new.items memory.new }
+    ensures placed { OnOk result (HavePlaced closure.now.pairs memory.old present.old.items new.now present.new.items memory.new) }
+    ensures refused { IfErr result (λ fault. MayNotPrepareNew closure.now.pairs present.old.items memory.old new.now fault) }
+    ensures so_far { (n : ℕ) × HavePlaced closure.now.pairs memory.old present.old.items (take n new.now) present.new.items memory.new }
 {
     for position in new {
-        place_fragment(alloc, memory, store, closure, *position, present)?;
+        place_fragment(alloc, memory, closure, *position, present)?;
     }
     Ok(())
 }
@@ -49,16 +36,14 @@ pub(crate) fn place_fragments<'a>(
 fn place_fragment<'a>(
     alloc: Global,
     memory: &mut Memory,
-    store: &Store<'a>,
-    closure: &Closure<'_>,
+    closure: &Closure<'a>,
     position: usize,
     present: &mut Slots,
 ) -> Result<(), FragmentFault<'a>>
-    requires store { store.now ≡ closure.now.pairs }
     requires member { Contains closure.now.order position }
     requires absent { is_present present.old.items position ≡ false }
-    ensures placed { OnOk result ((places : List Place) × ArePlaced memory.old (extents_in store.now position) places memory.new × (present.new.items ≡ present.old.items ++ (record { position = position; places = places }) ∷ [])) }
-    ensures refused { IfErr result (λ fault. IsNotPlaced store.now position memory.old fault) }
+    ensures placed { OnOk result ((places : List Place) × ArePlaced memory.old (extents_in closure.now.pairs position) places memory.new × (present.new.items ≡ present.old.items ++ (record { position = position; places = places }) ∷ [])) }
+    ensures refused { IfErr result (λ fault. IsNotPlaced closure.now.pairs position memory.old fault) }
     ensures unchanged { OnErr result ((memory.new ≡ memory.old) × (present.new.items ≡ present.old.items)) }
 {
     present.make_room(position)?;
@@ -69,7 +54,7 @@ fn place_fragment<'a>(
             Ok(())
         }
         Err(MemoryFault::NoRoom) => Err(FragmentFault::NoRoom {
-            fragment: name_of(store, position),
+            fragment: closure.name(position),
         }),
         Err(MemoryFault::OutOfMemory) => Err(FragmentFault::OutOfMemory),
     }

@@ -8,10 +8,9 @@ ghost use Rattle.cfm_prepare.specs.Placing.{Fits};
 
 use crate::fragment_fault::FragmentFault;
 use crate::places::{section_address, section_addresses};
-use crate::placing::name_of;
 use crate::relocation::relocate_sections;
 use crate::slots::Slots;
-use cfm_closure::{Closure, Store, Target};
+use cfm_closure::{Closure, Target};
 use cfm_memory::Memory;
 use std::alloc::{AllocError, Global};
 
@@ -20,25 +19,23 @@ use std::alloc::{AllocError, Global};
 pub(crate) fn relocate_fragments<'a>(
     alloc: Global,
     memory: &mut Memory,
-    store: &Store<'a>,
-    closure: &Closure<'_>,
+    closure: &Closure<'a>,
     present: &Slots,
     new: &[usize],
 ) -> Result<(), FragmentFault<'a>>
-    requires store { store.now ≡ closure.now.pairs }
     requires members { AllIn closure.now.order (found_in present.now.items new.now) }
-    requires fit { AllFit store.now (found_in present.now.items new.now) }
+    requires fit { AllFit closure.now.pairs (found_in present.now.items new.now) }
     requires own { OwnApart (found_in present.now.items new.now) }
     requires apart { AllApart (found_in present.now.items new.now) }
     requires held { AllHeld memory.old (found_in present.now.items new.now) }
-    requires filled { StandAll memory.old (found_in present.now.items new.now) (λ f. section_filled store.now f.position) }
-    ensures refused { RelocatesUpTo result (first_bad_program store.now present.now.items (found_in present.now.items new.now)) }
-    ensures relocated { OnOk result (StandAll memory.new (found_in present.now.items new.now) (section_of store.now present.now.items)) }
+    requires filled { StandAll memory.old (found_in present.now.items new.now) (λ f. section_filled closure.now.pairs f.position) }
+    ensures refused { RelocatesUpTo result (first_bad_program closure.now.pairs present.now.items (found_in present.now.items new.now)) }
+    ensures relocated { OnOk result (StandAll memory.new (found_in present.now.items new.now) (section_of closure.now.pairs present.now.items)) }
     ensures others { all_given_back memory.new (found_in present.now.items new.now) ≡ all_given_back memory.old (found_in present.now.items new.now) }
     ensures held { AllHeld memory.new (found_in present.now.items new.now) }
 {
     for position in new {
-        relocate_fragment(alloc, memory, store, closure, present, *position)?;
+        relocate_fragment(alloc, memory, closure, present, *position)?;
     }
     Ok(())
 }
@@ -47,19 +44,17 @@ pub(crate) fn relocate_fragments<'a>(
 fn relocate_fragment<'a>(
     alloc: Global,
     memory: &mut Memory,
-    store: &Store<'a>,
-    closure: &Closure<'_>,
+    closure: &Closure<'a>,
     present: &Slots,
     position: usize,
 ) -> Result<(), FragmentFault<'a>>
-    requires store { store.now ≡ closure.now.pairs }
     requires member { Contains closure.now.order position }
-    requires fits { Fits store.now (present_of present.now.items position) }
+    requires fits { Fits closure.now.pairs (present_of present.now.items position) }
     requires own { AreApart (places_of present.now.items position) }
     requires held { AreHeld memory.old (places_of present.now.items position) }
-    requires filled { Stand memory.old (places_of present.now.items position) (section_filled store.now position) }
-    ensures refused { RelocatesUpTo result (named store.now position (reloc_refusal_in store.now (addresses_of store.now present.now.items (present_of present.now.items position)) position)) }
-    ensures relocated { OnOk result (Stand memory.new (places_of present.now.items position) (section_of store.now present.now.items (present_of present.now.items position))) }
+    requires filled { Stand memory.old (places_of present.now.items position) (section_filled closure.now.pairs position) }
+    ensures refused { RelocatesUpTo result (named closure.now.pairs position (reloc_refusal_in closure.now.pairs (addresses_of closure.now.pairs present.now.items (present_of present.now.items position)) position)) }
+    ensures relocated { OnOk result (Stand memory.new (places_of present.now.items position) (section_of closure.now.pairs present.now.items (present_of present.now.items position))) }
     ensures others { given_back memory.new (places_of present.now.items position) ≡ given_back memory.old (places_of present.now.items position) }
     ensures held { AreHeld memory.new (places_of present.now.items position) }
 {
@@ -72,7 +67,7 @@ fn relocate_fragment<'a>(
     match relocate_sections(memory, places, &loader, &sections, &imports) {
         Ok(()) => Ok(()),
         Err(fault) => Err(FragmentFault::Reloc {
-            fragment: name_of(store, position),
+            fragment: closure.name(position),
             fault,
         }),
     }

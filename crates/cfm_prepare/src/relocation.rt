@@ -21,7 +21,7 @@ use pef_reloc::{Program, RelocFault, apply};
 ///
 /// The first refusal, of a header's program or of what it does. The sections then have any bytes; nothing
 /// is given back.
-pub fn relocate_sections(
+pub(crate) fn relocate_sections(
     memory: &mut Memory,
     places: &[Place],
     loader: &Loader<'_>,

@@ -9,33 +9,33 @@ use Rattle.cfm_prepare.proofs.filling.fill_fragment.Goals as goal
 
 pub fill_sections-requires-clause-there : goal.fill_sections-requires-clause-there
 fill_sections-requires-clause-there c =
-    let is : container_at c.args.store.now c.args.position ≡ Some (contained c.container-container.result) = rw (c.requires.store) c.container-container.ensures in
+    let is : container_at c.args.closure.now.pairs c.args.position ≡ Some (contained c.container-container.result) = c.container-container.ensures in
     let fits = c.requires.fits in
-    let len = length-there c.args.store.now c.args.position (contained c.container-container.result) fits.before fits.after c.args.places.now is fits.placed in
+    let len = length-there c.args.closure.now.pairs c.args.position (contained c.container-container.result) fits.before fits.after c.args.places.now is fits.placed in
     omega (arith, len)
 
 pub fill_sections-requires-clause-sizes : goal.fill_sections-requires-clause-sizes
 fill_sections-requires-clause-sizes c =
     let container = contained c.container-container.result in
-    let is : container_at c.args.store.now c.args.position ≡ Some container = rw (c.requires.store) c.container-container.ensures in
+    let is : container_at c.args.closure.now.pairs c.args.position ≡ Some container = c.container-container.ensures in
     let fits = c.requires.fits in
-    (size-fragment container fits.before fits.after c.args.places.now (placed-there c.args.store.now c.args.position container fits.before fits.after c.args.places.now is fits.placed))
+    (size-fragment container fits.before fits.after c.args.places.now (placed-there c.args.closure.now.pairs c.args.position container fits.before fits.after c.args.places.now is fits.placed))
 
 pub returns-in-Ok-clause-refused : goal.returns-in-Ok-clause-refused
 returns-in-Ok-clause-refused c =
     let container = contained c.container-container.result in
     let p = c.args.position in
-    let is : container_at c.args.store.now p ≡ Some container = rw (c.requires.store) c.container-container.ensures in
+    let is : container_at c.args.closure.now.pairs p ≡ Some container = c.container-container.ensures in
     let fits = c.requires.fits in
-    let len = length-there c.args.store.now p container fits.before fits.after c.args.places.now is fits.placed in
-    ap (λ o. named c.args.store.now p o) (image-there c.args.store.now p container (length c.args.places.now) is len ∙ sym c.in-Ok.ensures.refused)
+    let len = length-there c.args.closure.now.pairs p container fits.before fits.after c.args.places.now is fits.placed in
+    ap (λ o. named c.args.closure.now.pairs p o) (image-there c.args.closure.now.pairs p container (length c.args.places.now) is len ∙ sym c.in-Ok.ensures.refused)
 
 pub returns-in-Err-clause-refused : goal.returns-in-Err-clause-refused
 returns-in-Err-clause-refused c =
     let container = contained c.container-container.result in
     let p = c.args.position in
-    let is : container_at c.args.store.now p ≡ Some container = rw (c.requires.store) c.container-container.ensures in
+    let is : container_at c.args.closure.now.pairs p ≡ Some container = c.container-container.ensures in
     let fits = c.requires.fits in
-    let len = length-there c.args.store.now p container fits.before fits.after c.args.places.now is fits.placed in
-    ap (λ o. named c.args.store.now p o) (image-there c.args.store.now p container (length c.args.places.now) is len ∙ sym c.in-Err.ensures.refused)
-    ∙ ap (λ n. Some (n, c.in-Err.fault)) (sym c.name_of.ensures)
+    let len = length-there c.args.closure.now.pairs p container fits.before fits.after c.args.places.now is fits.placed in
+    ap (λ o. named c.args.closure.now.pairs p o) (image-there c.args.closure.now.pairs p container (length c.args.places.now) is len ∙ sym c.in-Err.ensures.refused)
+    ∙ ap (λ n. Some (n, c.in-Err.fault)) (sym c.name.ensures)

@@ -56,7 +56,7 @@ returns-in_err-fill_fragment-clause-held c = λ before.
 pub loop-position-preserved : goal.loop-position-preserved
 loop-position-preserved c =
     let at = c.loop-position in
-    let store = c.args.store.now in
+    let store = c.args.closure.now.pairs in
     let fs = found_in c.args.present.now.items c.args.new.now in
     let i = at.position-index in
     let after = c.fill_fragment.new.memory in
@@ -83,7 +83,7 @@ fill_fragment-requires-clause-fits c =
     let i = at.position-index in
     let e = found-at c.args.present.now.items c.args.new.now i (c.places.result.now) c.loop-position-test.true c.places.ensures in
     let under = subst (λ n. i < n) (sym (length-found c.args.present.now.items c.args.new.now)) c.loop-position-test.true in
-    let P : Present → Type 0 = λ f. Fits c.args.store.now f in
+    let P : Present → Type 0 = λ f. Fits c.args.closure.now.pairs f in
     subst P (sym e) (c.requires.fit i under)
 
 pub fill_fragment-requires-clause-own : goal.fill_fragment-requires-clause-own
@@ -103,7 +103,7 @@ returns-in_err-fill_fragment-clause-refused c =
     let i = at.position-index in
     let e = found-at c.args.present.now.items c.args.new.now i (c.places.result.now) c.loop-position-test.true c.places.ensures in
     let under = subst (λ n. i < n) (sym (length-found c.args.present.now.items c.args.new.now)) c.loop-position-test.true in
-    let store = c.args.store.now in
+    let store = c.args.closure.now.pairs in
     let fault = c.in_err-fill_fragment.field-0.0 in
     let p = err_from_is_err_and c.from_residual.result c.from_residual.ensures.1 in
     let P : Present → Type 0 = λ f. FillsUpTo {A = Unit {0}} (Err fault) (named store f.position (image_refusal_in store f.position)) in
@@ -114,7 +114,7 @@ returns-clause-refused c =
     let at = c.loop-position in
     let fs = found_in c.args.present.now.items c.args.new.now in
     let past : length fs ≤ at.position-index = omega (arith, c.loop-position-test.false, length-found c.args.present.now.items c.args.new.now) in
-    sym at.invariant.left ∙ ap (first_bad_image c.args.store.now) (drop_all at.position-index fs past)
+    sym at.invariant.left ∙ ap (first_bad_image c.args.closure.now.pairs) (drop_all at.position-index fs past)
 
 pub returns-clause-filled : goal.returns-clause-filled
 returns-clause-filled c = λ j under.

@@ -14,12 +14,12 @@ use Rattle.cfm_prepare.proofs.preparing.try_prepare.Goals as goal
 pub returns-in_err-place_fragments-clause-begun : goal.returns-in_err-place_fragments-clause-begun
 returns-in_err-place_fragments-clause-begun c =
     let far = c.in_err-place_fragments.ensures.so_far in
-    begun-of c.args.store.now c.args.memory.now c.args.present.now.items c.place_fragments.new.present.items (take far.0 c.args.new.now) c.args.new.now c.place_fragments.new.memory c.requires.ready (take-has far.0 c.args.new.now) far.1
+    begun-of c.args.closure.now.pairs c.args.memory.now c.args.present.now.items c.place_fragments.new.present.items (take far.0 c.args.new.now) c.args.new.now c.place_fragments.new.memory c.requires.ready (take-has far.0 c.args.new.now) far.1
 
 pub fill_fragments-requires-clause-members : goal.fill_fragments-requires-clause-members
 fill_fragments-requires-clause-members c =
     let have = c.in_ok-place_fragments.ensures.placed in
-    let store = c.args.store.now in
+    let store = c.args.closure.now.pairs in
     let m = c.args.memory.now in
     let there = c.args.present.now.items in
     let now = c.place_fragments.new.present.items in
@@ -31,7 +31,7 @@ fill_fragments-requires-clause-members c =
 pub fill_fragments-requires-clause-fit : goal.fill_fragments-requires-clause-fit
 fill_fragments-requires-clause-fit c =
     let have = c.in_ok-place_fragments.ensures.placed in
-    let store = c.args.store.now in
+    let store = c.args.closure.now.pairs in
     let m = c.args.memory.now in
     let there = c.args.present.now.items in
     let now = c.place_fragments.new.present.items in
@@ -43,7 +43,7 @@ fill_fragments-requires-clause-fit c =
 pub fill_fragments-requires-clause-own : goal.fill_fragments-requires-clause-own
 fill_fragments-requires-clause-own c =
     let have = c.in_ok-place_fragments.ensures.placed in
-    let store = c.args.store.now in
+    let store = c.args.closure.now.pairs in
     let m = c.args.memory.now in
     let there = c.args.present.now.items in
     let now = c.place_fragments.new.present.items in
@@ -55,7 +55,7 @@ fill_fragments-requires-clause-own c =
 pub fill_fragments-requires-clause-apart : goal.fill_fragments-requires-clause-apart
 fill_fragments-requires-clause-apart c =
     let have = c.in_ok-place_fragments.ensures.placed in
-    let store = c.args.store.now in
+    let store = c.args.closure.now.pairs in
     let m = c.args.memory.now in
     let there = c.args.present.now.items in
     let now = c.place_fragments.new.present.items in
@@ -67,7 +67,7 @@ fill_fragments-requires-clause-apart c =
 pub fill_fragments-requires-clause-zeros : goal.fill_fragments-requires-clause-zeros
 fill_fragments-requires-clause-zeros c =
     let have = c.in_ok-place_fragments.ensures.placed in
-    let store = c.args.store.now in
+    let store = c.args.closure.now.pairs in
     let m = c.args.memory.now in
     let there = c.args.present.now.items in
     let now = c.place_fragments.new.present.items in
@@ -79,7 +79,7 @@ fill_fragments-requires-clause-zeros c =
 pub relocate_fragments-requires-clause-members : goal.relocate_fragments-requires-clause-members
 relocate_fragments-requires-clause-members c =
     let have = c.in_ok-place_fragments.ensures.placed in
-    let store = c.args.store.now in
+    let store = c.args.closure.now.pairs in
     let m = c.args.memory.now in
     let there = c.args.present.now.items in
     let now = c.place_fragments.new.present.items in
@@ -91,7 +91,7 @@ relocate_fragments-requires-clause-members c =
 pub relocate_fragments-requires-clause-fit : goal.relocate_fragments-requires-clause-fit
 relocate_fragments-requires-clause-fit c =
     let have = c.in_ok-place_fragments.ensures.placed in
-    let store = c.args.store.now in
+    let store = c.args.closure.now.pairs in
     let m = c.args.memory.now in
     let there = c.args.present.now.items in
     let now = c.place_fragments.new.present.items in
@@ -103,7 +103,7 @@ relocate_fragments-requires-clause-fit c =
 pub relocate_fragments-requires-clause-own : goal.relocate_fragments-requires-clause-own
 relocate_fragments-requires-clause-own c =
     let have = c.in_ok-place_fragments.ensures.placed in
-    let store = c.args.store.now in
+    let store = c.args.closure.now.pairs in
     let m = c.args.memory.now in
     let there = c.args.present.now.items in
     let now = c.place_fragments.new.present.items in
@@ -115,7 +115,7 @@ relocate_fragments-requires-clause-own c =
 pub relocate_fragments-requires-clause-apart : goal.relocate_fragments-requires-clause-apart
 relocate_fragments-requires-clause-apart c =
     let have = c.in_ok-place_fragments.ensures.placed in
-    let store = c.args.store.now in
+    let store = c.args.closure.now.pairs in
     let m = c.args.memory.now in
     let there = c.args.present.now.items in
     let now = c.place_fragments.new.present.items in
@@ -127,7 +127,7 @@ relocate_fragments-requires-clause-apart c =
 pub relocate_fragments-requires-clause-held : goal.relocate_fragments-requires-clause-held
 relocate_fragments-requires-clause-held c =
     let have = c.in_ok-place_fragments.ensures.placed in
-    let store = c.args.store.now in
+    let store = c.args.closure.now.pairs in
     let m = c.args.memory.now in
     let there = c.args.present.now.items in
     let now = c.place_fragments.new.present.items in
@@ -142,7 +142,7 @@ relocate_fragments-requires-clause-filled c = c.in_ok-fill_fragments.ensures.fil
 pub returns-in_err-fill_fragments-clause-begun : goal.returns-in_err-fill_fragments-clause-begun
 returns-in_err-fill_fragments-clause-begun c =
     let have = c.in_ok-place_fragments.ensures.placed in
-    let store = c.args.store.now in
+    let store = c.args.closure.now.pairs in
     let m = c.args.memory.now in
     let there = c.args.present.now.items in
     let now = c.place_fragments.new.present.items in
@@ -157,7 +157,7 @@ returns-in_err-fill_fragments-clause-begun c =
 pub returns-in_err-fill_fragments-clause-refused : goal.returns-in_err-fill_fragments-clause-refused
 returns-in_err-fill_fragments-clause-refused c =
     let have = c.in_ok-place_fragments.ensures.placed in
-    let store = c.args.store.now in
+    let store = c.args.closure.now.pairs in
     let m = c.args.memory.now in
     let there = c.args.present.now.items in
     let now = c.place_fragments.new.present.items in
@@ -171,7 +171,7 @@ returns-in_err-fill_fragments-clause-refused c =
 pub returns-clause-begun : goal.returns-clause-begun
 returns-clause-begun c =
     let have = c.in_ok-place_fragments.ensures.placed in
-    let store = c.args.store.now in
+    let store = c.args.closure.now.pairs in
     let m = c.args.memory.now in
     let there = c.args.present.now.items in
     let now = c.place_fragments.new.present.items in
@@ -187,7 +187,7 @@ returns-clause-begun c =
 pub returns-clause-prepared : goal.returns-clause-prepared
 returns-clause-prepared c =
     let have = c.in_ok-place_fragments.ensures.placed in
-    let store = c.args.store.now in
+    let store = c.args.closure.now.pairs in
     let m = c.args.memory.now in
     let there = c.args.present.now.items in
     let now = c.place_fragments.new.present.items in
@@ -205,7 +205,7 @@ returns-clause-prepared c =
 pub returns-clause-refused : goal.returns-clause-refused
 returns-clause-refused c =
     let have = c.in_ok-place_fragments.ensures.placed in
-    let store = c.args.store.now in
+    let store = c.args.closure.now.pairs in
     let m = c.args.memory.now in
     let there = c.args.present.now.items in
     let now = c.place_fragments.new.present.items in

@@ -18,24 +18,24 @@ pub relocate_sections-requires-clause-count : goal.relocate_sections-requires-cl
 relocate_sections-requires-clause-count c =
     let p = c.args.position in
     let loader = loaded c.loader-loader.result in
-    let is : loader_at c.args.store.now p ≡ Some loader = rw (c.requires.store) c.loader-loader.ensures in
-    let t = container-of c.args.store.now p loader is in
+    let is : loader_at c.args.closure.now.pairs p ≡ Some loader = c.loader-loader.ensures in
+    let t = container-of c.args.closure.now.pairs p loader is in
     let fits = c.requires.fits in
-    t.2 ∙ sym (length-there c.args.store.now p t.0 fits.before fits.after (places_of c.args.present.now.items c.args.position) t.1 fits.placed) ∙ ap length (sym c.places-places.ensures)
+    t.2 ∙ sym (length-there c.args.closure.now.pairs p t.0 fits.before fits.after (places_of c.args.present.now.items c.args.position) t.1 fits.placed) ∙ ap length (sym c.places-places.ensures)
 
 pub returns-in-Ok-relocate_sections-clause-relocated :
     goal.returns-in-Ok-relocate_sections-clause-relocated
 returns-in-Ok-relocate_sections-clause-relocated c =
-    let store = c.args.store.now in
+    let store = c.args.closure.now.pairs in
     let all = c.args.present.now.items in
     let f = present_of all c.args.position in
     let p = f.position in
     let loader = loaded c.loader-loader.result in
-    let is : loader_at store p ≡ Some loader = rw (c.requires.store) c.loader-loader.ensures in
+    let is : loader_at store p ≡ Some loader = c.loader-loader.ensures in
     let t = container-of store p loader is in
     let a : Addresses = record { sections = c.deref.result.now; imports = c.deref-2.result.now } in
     let sections_are = c.deref.ensures.value ∙ c.in-Ok.ensures.addresses ∙ ap (λ ps. map (λ (q : Place). q.address) ps) c.places-places.ensures in
-    let imports_are : c.deref-2.result.now ≡ addresses_from store all p 0 (import_count store p) = rw (c.requires.store) (c.deref-2.ensures.value ∙ c.in_ok-imports.ensures) in
+    let imports_are : c.deref-2.result.now ≡ addresses_from store all p 0 (import_count store p) = (c.deref-2.ensures.value ∙ c.in_ok-imports.ensures) in
     let same : a ≡ addresses_of store all f = ap₂ (λ s i. record { sections = s; imports = i }) sections_are imports_are in
     let after = c.relocate_sections.new.memory in
     let R : List Place → Type 0 = λ ps. (bytes : ℕ → List ℕ) → Stand c.args.memory.now ps bytes → Stand after ps (λ k. (relocated_by a k (reloc_of loader) 0 loader.header.reloc_count (bytes k)).memory) in
@@ -45,18 +45,18 @@ returns-in-Ok-relocate_sections-clause-relocated c =
 
 pub returns-clause-refused : goal.returns-clause-refused
 returns-clause-refused c =
-    let store = c.args.store.now in
+    let store = c.args.closure.now.pairs in
     let all = c.args.present.now.items in
     let f = present_of all c.args.position in
     let p = f.position in
     let loader = loaded c.loader-loader.result in
-    let is : loader_at store p ≡ Some loader = rw (c.requires.store) c.loader-loader.ensures in
+    let is : loader_at store p ≡ Some loader = c.loader-loader.ensures in
     let t = container-of store p loader is in
     let a : Addresses = record { sections = c.deref.result.now; imports = c.deref-2.result.now } in
     let sections_are = c.deref.ensures.value ∙ c.in-Ok.ensures.addresses ∙ ap (λ ps. map (λ (q : Place). q.address) ps) c.places-places.ensures in
-    let imports_are : c.deref-2.result.now ≡ addresses_from store all p 0 (import_count store p) = rw (c.requires.store) (c.deref-2.ensures.value ∙ c.in_ok-imports.ensures) in
+    let imports_are : c.deref-2.result.now ≡ addresses_from store all p 0 (import_count store p) = (c.deref-2.ensures.value ∙ c.in_ok-imports.ensures) in
     let same : a ≡ addresses_of store all f = ap₂ (λ s i. record { sections = s; imports = i }) sections_are imports_are in
     let R : List Place → Type 0 = λ ps. (bytes : ℕ → List ℕ) → Stand c.args.memory.now ps bytes → Some c.in-Err.fault ≡ first_refusal a bytes (reloc_of loader) loader.header.reloc_count in
     let done = subst R c.places-places.ensures c.in-Err.ensures.refused (filled_at t.0) (stand-there store p t.0 c.args.memory.now f.places t.1 c.requires.filled) in
     let D : Addresses → Type 0 = λ b. Some c.in-Err.fault ≡ first_refusal b (filled_at t.0) (reloc_of loader) loader.header.reloc_count in
-    ap (λ o. named store p o) (program-there store p t.0 loader (addresses_of store all f) t.1 is ∙ sym (subst D same done)) ∙ ap (λ n. Some (n, c.in-Err.fault)) (sym c.name_of.ensures)
+    ap (λ o. named store p o) (program-there store p t.0 loader (addresses_of store all f) t.1 is ∙ sym (subst D same done)) ∙ ap (λ n. Some (n, c.in-Err.fault)) (sym c.name.ensures)

@@ -47,7 +47,7 @@ returns-in_err-relocate_fragment-clause-held c =
 pub loop-position-preserved : goal.loop-position-preserved
 loop-position-preserved c =
     let at = c.loop-position in
-    let store = c.args.store.now in
+    let store = c.args.closure.now.pairs in
     let fs = found_in c.args.present.now.items c.args.new.now in
     let i = at.position-index in
     let after = c.relocate_fragment.new.memory in
@@ -74,7 +74,7 @@ relocate_fragment-requires-clause-fits c =
     let i = at.position-index in
     let e = found-at c.args.present.now.items c.args.new.now i (places_of c.args.present.now.items (get_or c.args.new.now i 0)) c.loop-position-test.true refl in
     let under = subst (λ n. i < n) (sym (length-found c.args.present.now.items c.args.new.now)) c.loop-position-test.true in
-    let P : Present → Type 0 = λ f. Fits c.args.store.now f in
+    let P : Present → Type 0 = λ f. Fits c.args.closure.now.pairs f in
     subst P (sym e) (c.requires.fit i under)
 
 pub relocate_fragment-requires-clause-own : goal.relocate_fragment-requires-clause-own
@@ -104,7 +104,7 @@ relocate_fragment-requires-clause-filled c =
     let i = at.position-index in
     let e = found-at c.args.present.now.items c.args.new.now i (places_of c.args.present.now.items (get_or c.args.new.now i 0)) c.loop-position-test.true refl in
     let under = subst (λ n. i < n) (sym (length-found c.args.present.now.items c.args.new.now)) c.loop-position-test.true in
-    let P : Present → Type 0 = λ f. Stand at.memory f.places (section_filled c.args.store.now f.position) in
+    let P : Present → Type 0 = λ f. Stand at.memory f.places (section_filled c.args.closure.now.pairs f.position) in
     subst P (sym e) (at.invariant.filled i (omega arith) under)
 
 pub returns-in_err-relocate_fragment-clause-refused : goal.returns-in_err-relocate_fragment-clause-refused
@@ -114,7 +114,7 @@ returns-in_err-relocate_fragment-clause-refused c =
     let i = at.position-index in
     let e = found-at c.args.present.now.items c.args.new.now i (places_of c.args.present.now.items (get_or c.args.new.now i 0)) c.loop-position-test.true refl in
     let under = subst (λ n. i < n) (sym (length-found c.args.present.now.items c.args.new.now)) c.loop-position-test.true in
-    let store = c.args.store.now in
+    let store = c.args.closure.now.pairs in
     let all = c.args.present.now.items in
     let fault = c.in_err-relocate_fragment.field-0.0 in
     let p = err_from_is_err_and c.from_residual.result c.from_residual.ensures.1 in
@@ -127,7 +127,7 @@ returns-clause-refused c =
     let all = c.args.present.now.items in
     let fs = found_in all c.args.new.now in
     let past : length fs ≤ at.position-index = omega (arith, c.loop-position-test.false, length-found all c.args.new.now) in
-    sym at.invariant.left ∙ ap (first_bad_program c.args.store.now all) (drop_all at.position-index fs past)
+    sym at.invariant.left ∙ ap (first_bad_program c.args.closure.now.pairs all) (drop_all at.position-index fs past)
 
 pub returns-clause-relocated : goal.returns-clause-relocated
 returns-clause-relocated c = λ j under.

@@ -5,7 +5,7 @@ use Rattle.std.specs.Option.{option_copied}
 use Rattle.std.proofs.lemmas.List.{length-append}
 use Rattle.std.proofs.lemmas.Result.{err_from_is_err_and}
 use Rattle.cfm_closure.specs.Closures.{Closed, closed_of}
-use Rattle.cfm_closure.specs.Stores.{place_of}
+use Rattle.cfm_closure.specs.Stores.{Pair, place_of}
 use Rattle.cfm_closure.specs.Faults.{FailsAs}
 use Rattle.cfm_closure.proofs.Laws.{closed-complete, closed-root, closed-store}
 use Rattle.cfm_prepare.specs.Lists.{has}
@@ -46,15 +46,6 @@ unwrap-requires c =
     let o : Open = record { number = c.self.inside.given; root = c.args.root; closed = c.in_ok-closure.closure } in
     some-got c.get.result o (got-last os c.push.new.self o c.new.result c.get.result c.self.invariant.numbered c.in_ok-push.ensures.pushed c.new.ensures c.get.ensures)
 
-pub prepare-requires-clause-store : goal.prepare-requires-clause-store
-prepare-requires-clause-store c =
-    let os = c.self.inside.connections in
-    let closed = c.in_ok-closure.closure in
-    let o : Open = record { number = c.self.inside.given; root = c.args.root; closed = closed } in
-    let got = got-last os c.push.new.self o c.new.result c.get.result c.self.invariant.numbered c.in_ok-push.ensures.pushed c.new.ensures c.get.ensures in
-    let is = closed-got c.get.result o c.unwrap.result c.closure-closure.result.now got c.unwrap.ensures c.closure-closure.ensures.closure in
-    sym (closed-store c.self.inside.store c.args.root closed c.in_ok-closure.ensures) ∙ ap (λ (k : Closed). k.pairs) (sym is)
-
 -- the order that is counted is that of the closure
 pub enter-requires-clause-inside : goal.enter-requires-clause-inside
 enter-requires-clause-inside c = λ p there.
@@ -85,13 +76,15 @@ returns-in-Ok-clause-prepared c = λ name is.
     let put = put-is os c.push.new.self o c.new.result c.get.result c.unwrap.result c.closure-closure.result.now c.self.invariant.numbered c.in_ok-push.ensures.pushed c.new.ensures c.get.ensures c.unwrap.ensures c.closure-closure.ensures.closure in
     let done = c.in-Ok.ensures.prepared in
     let there = c.self.inside.fragments.present in
-    let P : Closed → Type 0 = λ k. ArePrepared c.self.inside.store there c.self.inside.fragments.memory (new_among there k.order) done.0 c.prepare.new.self.memory in
+    let P : Closed → Type 0 = λ k. ArePrepared k.pairs there c.self.inside.fragments.memory (new_among there k.order) done.0 c.prepare.new.self.memory in
+    let S : List Pair → Type 0 = λ ps. ArePrepared ps there c.self.inside.fragments.memory (new_among there closed.order) done.0 c.prepare.new.self.memory in
+    let of_store = closed-store c.self.inside.store c.args.root closed c.in_ok-closure.ensures in
     let Q : ContextState → Type 0 = λ s. place_of s.pairs name ≡ Some c.args.root in
     let R : ContextState → Type 0 = λ s. s.given < most_connections in
     rw (← c.self.view_is) (record {
       closure = record { has = record { left = subst R (sym c.self.view_is) c.requires.left; root = c.args.root; is = subst Q (sym c.self.view_is) is }; closed = closed; is = c.in_ok-closure.ensures };
       fresh = done.0;
-      prepared = subst P put done.2;
+      prepared = subst S of_store (subst P put done.2);
       number = refl;
       pairs = refl;
       given = refl;
@@ -153,12 +146,14 @@ returns-in-Err-clause-refused c = λ name is.
     let closed = c.in_ok-closure.closure in
     let o : Open = record { number = c.self.inside.given; root = c.args.root; closed = closed } in
     let put = put-is os c.push.new.self o c.new.result c.get.result c.unwrap.result c.closure-closure.result.now c.self.invariant.numbered c.in_ok-push.ensures.pushed c.new.ensures c.get.ensures c.unwrap.ensures c.closure-closure.ensures.closure in
-    let P : Closed → Type 0 = λ k. MayNotPrepareNew c.self.inside.store c.self.inside.fragments.present c.self.inside.fragments.memory (new_among c.self.inside.fragments.present k.order) c.in-Err.fault in
+    let P : Closed → Type 0 = λ k. MayNotPrepareNew k.pairs c.self.inside.fragments.present c.self.inside.fragments.memory (new_among c.self.inside.fragments.present k.order) c.in-Err.fault in
+    let S : List Pair → Type 0 = λ ps. MayNotPrepareNew ps c.self.inside.fragments.present c.self.inside.fragments.memory (new_among c.self.inside.fragments.present closed.order) c.in-Err.fault in
+    let of_store = closed-store c.self.inside.store c.args.root closed c.in_ok-closure.ensures in
     let Q : ContextState → Type 0 = λ s. place_of s.pairs name ≡ Some c.args.root in
     let R : ContextState → Type 0 = λ s. s.given < most_connections in
     rw (← c.self.view_is) (record {
       closure = record { has = record { left = subst R (sym c.self.view_is) c.requires.left; root = c.args.root; is = subst Q (sym c.self.view_is) is }; closed = closed; is = c.in_ok-closure.ensures };
-      why = subst P put c.in-Err.ensures.refused;
+      why = subst S of_store (subst P put c.in-Err.ensures.refused);
     })
 
 pub returns-in-Err-clause-unchanged : goal.returns-in-Err-clause-unchanged

@@ -21,4 +21,4 @@ pub prepare_new-requires-clause-members : goal.prepare_new-requires-clause-membe
 prepare_new-requires-clause-members c = are-members c.self.inside.present.items c.order.result.now c.args.closure.now.order c.deref.result.now c.order.ensures.order (c.deref.ensures.value ∙ c.in_ok-new.ensures)
 
 pub prepare_new-requires-clause-new : goal.prepare_new-requires-clause-new
-prepare_new-requires-clause-new c = are-absent c.self.inside.present.items c.order.result.now c.args.closure.now.order c.deref.result.now c.order.ensures.order (c.deref.ensures.value ∙ c.in_ok-new.ensures) c.requires.once
+prepare_new-requires-clause-new c = are-absent c.self.inside.present.items c.order.result.now c.args.closure.now.order c.deref.result.now c.order.ensures.order (c.deref.ensures.value ∙ c.in_ok-new.ensures) c.requires
