@@ -5,6 +5,7 @@ pub mod Lending
 pub mod Numbers
 pub mod Paths
 pub mod Places
+pub mod Resolvers
 pub mod Rows
 pub mod Symbols
 pub mod Taken

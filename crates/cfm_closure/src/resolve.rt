@@ -6,7 +6,7 @@ ghost use Rattle.cfm_closure.specs.Fragments.{import_count};
 ghost use Rattle.cfm_closure.specs.Closures.{first_refused, imports_refusal};
 ghost use Rattle.cfm_closure.specs.Targets.{exports_among, symbol_of, target_of};
 ghost use Rattle.cfm_closure.specs.declared.targets.Target.{Target};
-ghost use Rattle.cfm_closure.specs.Kept.Symbols.{AreSymbolsOf};
+ghost use Rattle.cfm_closure.specs.Kept.Resolvers.{IsResolver};
 ghost use Rattle.cfm_closure.specs.Kept.Targets.{AreRows, AreTargets, IsInTable, IsKnown, IsOnWay, IsResolved, KeepsKnown, Passes, all_noted};
 
 use crate::bindings::Bindings;
@@ -16,6 +16,17 @@ use crate::rows::Rows;
 use crate::symbols::Symbols;
 use crate::targets::Target;
 use std::alloc::{AllocError, Global};
+
+/// The search for the targets of a closure's imports.
+#[derive(Drop)]
+pub(crate) struct Resolver<'a> {
+    alloc: Global,
+    /// How many exports the fragments have. An import that takes more hops has no end.
+    exports: usize,
+    symbols: Symbols<'a>,
+    /// The targets that are known.
+    rows: Rows,
+}
 
 /// A row for the imports of each fragment, of which nothing is known yet.
 fn unknown_targets<'a>(alloc: Global, bindings: &Bindings<'a>) -> Result<Rows, AllocError>
@@ -66,122 +77,101 @@ fn endless<'a>(bindings: &Bindings<'a>, p: usize, j: usize) -> BindFault<'a>
     }
 }
 
-/// Follows an import through the exports that pass it on, up to one whose target is known or that ends
-/// there, and tells the imports on the way.
-fn follow<'a>(
-    bindings: &Bindings<'a>,
-    symbols: &mut Symbols<'a>,
-    exports: usize,
-    rows: &Rows,
-    way: &mut Vec<(usize, usize)>,
-    p: usize,
-    j: usize,
-) -> Result<Option<Target>, BindFault<'a>>
-    requires place { Contains bindings.now.order p }
-    requires import { j < import_count bindings.now.pairs p }
-    requires exports { exports ≡ exports_among bindings.now.pairs bindings.now.order }
-    requires few { exports ≤ 2 ^ 40 }
-    requires rows { AreRows bindings.now.pairs bindings.now.order rows.now }
-    requires way { way.old.items ≡ [] }
-    requires symbols { AreSymbolsOf bindings.now.pairs bindings.now.order symbols.old }
-    ensures symbols { AreSymbolsOf bindings.now.pairs bindings.now.order symbols.new }
-    ensures answer { Answers (λ target. target) result (target_of bindings.now.pairs p j) }
-    ensures way { OnOk result (AllByRecursion (IsOnWay bindings.now.pairs bindings.now.order (p, j)) way.new.items) }
-{
-    let mut at = (p, j);
-    for _hop in 0..exports + 1 {
-        if let Some(target) = rows.get(at.0, at.1) {
-            return Ok(target);
+impl<'a> Resolver<'a> {
+    /// No target is known.
+    fn new(alloc: Global, bindings: &Bindings<'a>) -> Result<Resolver<'a>, AllocError>
+        ensures { IfOk result (λ resolver. IsResolver bindings.now.pairs bindings.now.order resolver) }
+    {
+        let rows = unknown_targets(alloc, bindings)?;
+        let symbols = Symbols::new(alloc, bindings)?;
+        Ok(Resolver {
+            alloc,
+            exports: exports(bindings),
+            symbols,
+            rows,
+        })
+    }
+
+    /// Follows an import through the exports that pass it on, up to one whose target is known or that ends
+    /// there, and tells the imports on the way.
+    fn follow(
+        &mut self,
+        bindings: &Bindings<'a>,
+        way: &mut Vec<(usize, usize)>,
+        p: usize,
+        j: usize,
+    ) -> Result<Option<Target>, BindFault<'a>>
+        requires place { Contains bindings.now.order p }
+        requires import { j < import_count bindings.now.pairs p }
+        requires resolver { IsResolver bindings.now.pairs bindings.now.order self.old }
+        requires way { way.old.items ≡ [] }
+        ensures resolver { IsResolver bindings.now.pairs bindings.now.order self.new }
+        ensures rows { self.new.rows ≡ self.old.rows }
+        ensures answer { Answers (λ target. target) result (target_of bindings.now.pairs p j) }
+        ensures way { OnOk result (AllByRecursion (IsOnWay bindings.now.pairs bindings.now.order (p, j)) way.new.items) }
+    {
+        let mut at = (p, j);
+        for _hop in 0..self.exports + 1 {
+            if let Some(target) = self.rows.get(at.0, at.1) {
+                return Ok(target);
+            }
+            match import_hop(bindings, &mut self.symbols, at.0, at.1)? {
+                Hop::Ends(target) => return Ok(target),
+                Hop::Through { fragment, import } => at = (fragment, import),
+            }
+            way.push(at)?;
         }
-        match import_hop(bindings, symbols, at.0, at.1)? {
-            Hop::Ends(target) => return Ok(target),
-            Hop::Through { fragment, import } => at = (fragment, import),
+        Err(endless(bindings, p, j))
+    }
+
+    /// Finds the target of an import, and notes it for all imports that were met on the way.
+    fn resolve(
+        &mut self,
+        bindings: &Bindings<'a>,
+        p: usize,
+        j: usize,
+    ) -> Result<Option<Target>, BindFault<'a>>
+        requires place { Contains bindings.now.order p }
+        requires import { j < import_count bindings.now.pairs p }
+        requires resolver { IsResolver bindings.now.pairs bindings.now.order self.old }
+        ensures resolver { IsResolver bindings.now.pairs bindings.now.order self.new }
+        ensures answer { Answers (λ target. target) result (target_of bindings.now.pairs p j) }
+        ensures kept { KeepsKnown self.old.rows self.new.rows }
+        ensures known { OnOk result (IsKnown self.new.rows p j) }
+    {
+        let mut way = Vec::new(self.alloc);
+        let target = self.follow(bindings, &mut way, p, j)?;
+        note_way(&mut self.rows, &way, target);
+        self.rows.note(p, j, target);
+        Ok(target)
+    }
+
+    /// Resolves the imports of a fragment, import by import.
+    fn resolve_imports(&mut self, bindings: &Bindings<'a>, p: usize) -> Result<(), BindFault<'a>>
+        requires place { Contains bindings.now.order p }
+        requires resolver { IsResolver bindings.now.pairs bindings.now.order self.old }
+        ensures resolver { IsResolver bindings.now.pairs bindings.now.order self.new }
+        ensures answer { Passes result (imports_refusal bindings.now.pairs p) }
+        ensures kept { KeepsKnown self.old.rows self.new.rows }
+        ensures known { OnOk result (IsResolved bindings.now.pairs self.new.rows p) }
+    {
+        for j in 0..bindings.imports(p) {
+            self.resolve(bindings, p, j)?;
         }
-        way.push(at)?;
+        self.symbols.release(bindings, p);
+        Ok(())
     }
-    Err(endless(bindings, p, j))
 }
 
-/// Finds the target of an import, and notes it for all imports that were met on the way.
-fn resolve<'a>(
-    alloc: Global,
-    bindings: &Bindings<'a>,
-    symbols: &mut Symbols<'a>,
-    exports: usize,
-    rows: &mut Rows,
-    p: usize,
-    j: usize,
-) -> Result<Option<Target>, BindFault<'a>>
-    requires place { Contains bindings.now.order p }
-    requires import { j < import_count bindings.now.pairs p }
-    requires exports { exports ≡ exports_among bindings.now.pairs bindings.now.order }
-    requires few { exports ≤ 2 ^ 40 }
-    requires rows { AreRows bindings.now.pairs bindings.now.order rows.old }
-    requires symbols { AreSymbolsOf bindings.now.pairs bindings.now.order symbols.old }
-    ensures symbols { AreSymbolsOf bindings.now.pairs bindings.now.order symbols.new }
-    ensures answer { Answers (λ target. target) result (target_of bindings.now.pairs p j) }
-    ensures rows { AreRows bindings.now.pairs bindings.now.order rows.new }
-    ensures kept { KeepsKnown rows.old rows.new }
-    ensures known { OnOk result (IsKnown rows.new p j) }
-{
-    let mut way = Vec::new(alloc);
-    let target = follow(bindings, symbols, exports, rows, &mut way, p, j)?;
-    note_way(rows, &way, target);
-    rows.note(p, j, target);
-    Ok(target)
-}
-
-/// Resolves the imports of a fragment, import by import.
-fn resolve_imports<'a>(
-    alloc: Global,
-    bindings: &Bindings<'a>,
-    symbols: &mut Symbols<'a>,
-    exports: usize,
-    rows: &mut Rows,
-    p: usize,
-) -> Result<(), BindFault<'a>>
-    requires place { Contains bindings.now.order p }
-    requires exports { exports ≡ exports_among bindings.now.pairs bindings.now.order }
-    requires few { exports ≤ 2 ^ 40 }
-    requires rows { AreRows bindings.now.pairs bindings.now.order rows.old }
-    requires symbols { AreSymbolsOf bindings.now.pairs bindings.now.order symbols.old }
-    ensures symbols { AreSymbolsOf bindings.now.pairs bindings.now.order symbols.new }
-    ensures answer { Passes result (imports_refusal bindings.now.pairs p) }
-    ensures rows { AreRows bindings.now.pairs bindings.now.order rows.new }
-    ensures kept { KeepsKnown rows.old rows.new }
-    ensures known { OnOk result (IsResolved bindings.now.pairs rows.new p) }
-{
-    for j in 0..bindings.imports(p) {
-        resolve(alloc, bindings, symbols, exports, rows, p, j)?;
-    }
-    symbols.release(bindings, p);
-    Ok(())
-}
-
-/// Resolves the imports of all fragments, fragment by fragment in closure order.
-fn resolve_all<'a>(
-    alloc: Global,
-    bindings: &Bindings<'a>,
-    rows: &mut Rows,
-) -> Result<(), BindFault<'a>>
-    requires { AreRows bindings.now.pairs bindings.now.order rows.old }
-    ensures answer { Passes result (first_refused bindings.now.pairs bindings.now.order) }
-    ensures targets { OnOk result (AreTargets bindings.now.pairs bindings.now.order rows.new) }
-{
-    let exports = exports(bindings);
-    let mut symbols = Symbols::new(alloc, bindings)?;
-    for p in bindings.order() {
-        resolve_imports(alloc, bindings, &mut symbols, exports, rows, *p)?;
-    }
-    Ok(())
-}
-
-/// The targets of all imports of a closure's fragments.
+/// The targets of all imports of a closure's fragments, which are resolved fragment by fragment in closure order.
 pub(crate) fn targets_of<'a>(alloc: Global, bindings: &Bindings<'a>) -> Result<Rows, BindFault<'a>>
     ensures answer { Passes result (first_refused bindings.now.pairs bindings.now.order) }
     ensures targets { IfOk result (λ rows. AreTargets bindings.now.pairs bindings.now.order rows) }
 {
-    let mut rows = unknown_targets(alloc, bindings)?;
-    resolve_all(alloc, bindings, &mut rows)?;
+    let mut resolver = Resolver::new(alloc, bindings)?;
+    for p in bindings.order() {
+        resolver.resolve_imports(bindings, *p)?;
+    }
+    let Resolver { rows, .. } = resolver;
     Ok(rows)
 }

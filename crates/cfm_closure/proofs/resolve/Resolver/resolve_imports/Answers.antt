@@ -9,7 +9,7 @@ use Rattle.cfm_closure.specs.Fragments.{import_count}
 use Rattle.cfm_closure.proofs.PathLemmas.{Fails-also}
 use Rattle.cfm_closure.specs.Closures.{import_refusal, imports_refusal}
 use Rattle.cfm_closure.specs.Targets.{target_of}
-use Rattle.cfm_closure.proofs.resolve.resolve_imports.Goals as goal
+use Rattle.cfm_closure.proofs.resolve.Resolver.resolve_imports.Goals as goal
 
 pub imports-j-end-requires : goal.imports-j-end-requires
 imports-j-end-requires c = c.requires.place
@@ -33,8 +33,7 @@ loop-j-preserved c =
     let kept = c.in_ok-resolve.ensures.kept in
     let known = c.in_ok-resolve.ensures.known in
     record {
-      symbols = c.in_ok-resolve.ensures.symbols;
-      are = c.in_ok-resolve.ensures.rows;
+      resolver = c.in_ok-resolve.ensures.resolver;
       kept = λ p j was. kept p j (c.loop-j.invariant.kept p j was);
       known = λ k less. elim (eqb_tells k c.loop-j.j) [
         | inl same ↦ rw same.1 known

@@ -7,7 +7,7 @@ use Rattle.cfm_closure.proofs.PathLemmas.{Fails-also}
 use Rattle.cfm_closure.specs.Closures.{first_refused, imports_refusal}
 use Rattle.cfm_closure.specs.Kept.Targets.{IsResolved}
 use Rattle.cfm_closure.proofs.KnownLemmas.{first_refused-here, first_refused-next, resolved-all, resolved-more, unless-err}
-use Rattle.cfm_closure.proofs.resolve.resolve_all.Goals as goal
+use Rattle.cfm_closure.proofs.resolve.targets_of.Goals as goal
 
 pub returns-in_err-resolve_imports-clause-answer : goal.returns-in_err-resolve_imports-clause-answer
 returns-in_err-resolve_imports-clause-answer c =
@@ -30,11 +30,10 @@ loop-p-preserved c =
     let same = c.order-p-items.ensures.order in
     let under = subst (λ (ps : List ℕ). i < length ps) same c.loop-p-test.true in
     let P : List ℕ → Type 0 = λ ps. imports_refusal pairs (get_or ps i 0) ≡ None in
-    let Q : List ℕ → Type 0 = λ ps. IsResolved pairs c.resolve_imports.new.rows (get_or ps i 0) in
+    let Q : List ℕ → Type 0 = λ ps. IsResolved pairs c.resolve_imports.new.self.rows (get_or ps i 0) in
     record {
-      symbols = c.in_ok-resolve_imports.ensures.symbols;
-      are = c.in_ok-resolve_imports.ensures.rows;
-      resolved = resolved-more pairs order c.loop-p.rows c.resolve_imports.new.rows i c.in_ok-resolve_imports.ensures.kept c.loop-p.invariant.resolved (subst Q same c.in_ok-resolve_imports.ensures.known);
+      resolver = c.in_ok-resolve_imports.ensures.resolver;
+      resolved = resolved-more pairs order c.loop-p.resolver.rows c.resolve_imports.new.self.rows i c.in_ok-resolve_imports.ensures.kept c.loop-p.invariant.resolved (subst Q same c.in_ok-resolve_imports.ensures.known);
       rest = first_refused-next pairs order i under (subst P same c.in_ok-resolve_imports.ensures.answer) ∙ c.loop-p.invariant.rest;
     }
 
@@ -44,6 +43,6 @@ returns-clause-targets c =
     let same = c.order-p-items.ensures.order in
     let all = subst (λ (ps : List ℕ). length ps ≤ c.loop-p.p-index) same c.loop-p-test.false in
     record {
-      are = c.loop-p.invariant.are;
-      resolved = resolved-all c.args.bindings.now.pairs order c.loop-p.rows (λ k under. c.loop-p.invariant.resolved k (omega arith));
+      are = c.loop-p.invariant.resolver.rows;
+      resolved = resolved-all c.args.bindings.now.pairs order c.loop-p.resolver.rows (λ k under. c.loop-p.invariant.resolved k (omega arith));
     }

@@ -3,15 +3,14 @@ use Rattle.std.proofs.Common.{◌≡◌, ℕ, ◌-◌, ◌<◌}
 use Rattle.pef_words.specs.Refusals.{first_among}
 use Rattle.cfm_closure.specs.Fragments.{import_count}
 use Rattle.cfm_closure.specs.Closures.{import_refusal, imports_refusal}
-use Rattle.cfm_closure.specs.Kept.Symbols.{AreSymbolsOf}
-use Rattle.cfm_closure.specs.Kept.Targets.{AreRows, IsKnown, KeepsKnown}
-use Rattle.cfm_closure.proofs.resolve.resolve_imports.Given as goal
+use Rattle.cfm_closure.specs.Kept.Resolvers.{IsResolver}
+use Rattle.cfm_closure.specs.Kept.Targets.{IsKnown, KeepsKnown}
+use Rattle.cfm_closure.proofs.resolve.Resolver.resolve_imports.Given as goal
 
 abbrev pub invariant-loop-j : goal.invariant-loop-j
 invariant-loop-j l = record {
-  symbols : AreSymbolsOf l.bindings.pairs l.bindings.order l.symbols;
-  are : AreRows l.bindings.pairs l.bindings.order l.rows;
-  kept : KeepsKnown l.fn.rows l.rows;
-  known : (k : ℕ) → k < l.j → IsKnown l.rows l.p k;
+  resolver : IsResolver l.bindings.pairs l.bindings.order l.self;
+  kept : KeepsKnown l.fn.self.rows l.self.rows;
+  known : (k : ℕ) → k < l.j → IsKnown l.self.rows l.p k;
   rest : first_among (import_refusal l.bindings.pairs l.p) l.j (import_count l.bindings.pairs l.p - l.j) ≡ imports_refusal l.bindings.pairs l.p;
 }

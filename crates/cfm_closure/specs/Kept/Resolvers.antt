@@ -1,0 +1,14 @@
+-- What the search for targets keeps.
+use Rattle.std.specs.Prelude.{◌≡◌, ℕ, ◌≤◌, ◌^◌, List}
+use Rattle.cfm_closure.specs.Stores.{Pair}
+use Rattle.cfm_closure.specs.declared.resolve.Resolver.{Resolver}
+use Rattle.cfm_closure.specs.Targets.{exports_among}
+use Rattle.cfm_closure.specs.Kept.Symbols.{AreSymbolsOf}
+use Rattle.cfm_closure.specs.Kept.Targets.{AreRows}
+
+-- it is of a closure order, and what it knows is right
+pub record IsResolver (pairs : List Pair) (order : List ℕ) (r : Resolver) : Type 0 where
+  pub exports : r.exports ≡ exports_among pairs order
+  pub few : r.exports ≤ 2 ^ 40
+  pub symbols : AreSymbolsOf pairs order r.symbols
+  pub rows : AreRows pairs order r.rows
