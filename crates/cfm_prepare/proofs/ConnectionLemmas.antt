@@ -1,88 +1,91 @@
--- Open connections, which are kept in a map by their numbers.
-use Rattle.std.proofs.Common.{◌≡◌, ◌==◌, ◌+◌, ◌<◌, ◌≤◌, ℕ, List, [], ◌∷◌, ◌++◌, Option, None, Some, length, refl, sym, ap, ◌∙◌, inl, inr, arith}
-use Rattle.std.specs.Borrow.{Bor}
-use Rattle.std.specs.BTreeMap.{insert_entry}
-use Rattle.std.specs.Map.{lookup, remove_entry}
-use Rattle.std.specs.Option.{IsSome, option_copied}
-use Rattle.std.specs.Ordering.{is_eq, nat_cmp}
+-- Open connections, which are kept in slots by their numbers.
+use Rattle.std.proofs.Common.{◌≡◌, ◌+◌, ◌<◌, ◌≤◌, ℕ, zero, suc, List, [], ◌∷◌, ◌++◌, Option, None, Some, length, refl, sym, ap, ◌∙◌, inl, inr, get_or, arith}
+use Rattle.std.specs.Option.{IfNone}
+use Rattle.std.proofs.Math.ListN.{set}
 use Rattle.std.proofs.lemmas.Bool.Decides.{eqb_tells}
-use Rattle.cfm_closure.specs.Closures.{Closed}
-use Rattle.std.proofs.lemmas.Option.{same_Some}
-use Rattle.pef_words.proofs.Laws.Numbers.{cmp_equal, cmp_greater}
 use Rattle.cfm_prepare.specs.Contexts.{Open, open_of, open_without}
-use Rattle.cfm_prepare.specs.Kept.Connections.{AllBelow, AreAtNumbers, open_in}
+use Rattle.cfm_prepare.specs.Kept.Connections.{AreAtNumbers, open_in}
 
--- an entry is found by the number of its connection
-key-is : (e : ℕ × Open) (number : ℕ) → e.1.number ≡ e.0 → is_eq (nat_cmp number e.0) ≡ (e.1.number == number)
-key-is e number at = cmp_equal number e.0 ∙ ap (λ k. k == number) (sym at)
+-- no connection has a number below that of the first slot
+none-before : (slots : List (Option Open)) (n number : ℕ) → number < n → AreAtNumbers n slots → open_of (open_in slots) number ≡ None
+none-before [] n number before at = refl
+none-before (None ∷ slots) n number before at = none-before slots (suc n) number (omega (arith, before)) at
+none-before (Some o ∷ slots) n number before at = elim (eqb_tells o.number number) [
+  | inl same ↦ absurd (omega (arith, same.1, at.0, before))
+  | inr other ↦ rw other.0 (none-before slots (suc n) number (omega (arith, before)) at.1)
+]
 
-pub found-is : (es : List (ℕ × Open)) (number : ℕ) → AreAtNumbers es → lookup (λ k. is_eq (nat_cmp number k)) es ≡ open_of (open_in es) number
-found-is [] number at = refl
-found-is (e ∷ es) number at =
-    elim (eqb_tells e.1.number number) [
-      | inl same ↦ rw (key-is e number at.0, same.0) refl
-      | inr other ↦ rw (key-is e number at.0, other.0) (found-is es number at.1)
-    ]
+same-before : (slots : List (Option Open)) (n number : ℕ) → number < n → AreAtNumbers n slots → open_without (open_in slots) number ≡ open_in slots
+same-before [] n number before at = refl
+same-before (None ∷ slots) n number before at = same-before slots (suc n) number (omega (arith, before)) at
+same-before (Some o ∷ slots) n number before at = elim (eqb_tells o.number number) [
+  | inl same ↦ absurd (omega (arith, same.1, at.0, before))
+  | inr other ↦ rw other.0 (ap (λ ys. o ∷ ys) (same-before slots (suc n) number (omega (arith, before)) at.1))
+]
+
+-- a connection is found in the slot of its number
+found-from : (slots : List (Option Open)) (n k number : ℕ) → number ≡ n + k → AreAtNumbers n slots → get_or slots k None ≡ open_of (open_in slots) number
+found-from [] n k number is at = refl
+found-from (None ∷ slots) n zero number is at = sym (none-before slots (suc n) number (omega (arith, is)) at)
+found-from (Some o ∷ slots) n zero number is at = elim (eqb_tells o.number number) [
+  | inl same ↦ rw same.0 refl
+  | inr other ↦ absurd (other.1 (omega (arith, is, at.0)))
+]
+found-from (None ∷ slots) n (suc k) number is at = found-from slots (suc n) k number (omega (arith, is)) at
+found-from (Some o ∷ slots) n (suc k) number is at = elim (eqb_tells o.number number) [
+  | inl same ↦ absurd (omega (arith, same.1, at.0, is))
+  | inr other ↦ rw other.0 (found-from slots (suc n) k number (omega (arith, is)) at.1)
+]
+
+pub found-is : (slots : List (Option Open)) (number : ℕ) → AreAtNumbers 0 slots → get_or slots number None ≡ open_of (open_in slots) number
+found-is slots number at = found-from slots 0 number number (omega arith) at
 
 -- one is taken out
-pub removed-is : (es : List (ℕ × Open)) (number : ℕ) → AreAtNumbers es → open_in (remove_entry (λ k. is_eq (nat_cmp number k)) es) ≡ open_without (open_in es) number
-removed-is [] number at = refl
-removed-is (e ∷ es) number at =
-    elim (eqb_tells e.1.number number) [
-      | inl same ↦ rw (key-is e number at.0, same.0) refl
-      | inr other ↦ rw (key-is e number at.0, other.0) (ap (λ ys. e.1 ∷ ys) (removed-is es number at.1))
-    ]
-
-pub removed-at : (es : List (ℕ × Open)) (number : ℕ) → AreAtNumbers es → AreAtNumbers (remove_entry (λ k. is_eq (nat_cmp number k)) es)
-removed-at [] number at = tt
-removed-at (e ∷ es) number at =
-    elim (eqb_tells e.1.number number) [
-      | inl same ↦ rw (key-is e number at.0, same.0) at.1
-      | inr other ↦ rw (key-is e number at.0, other.0) (at.0, removed-at es number at.1)
-    ]
-
--- one with a greater number comes last
-pub inserted-is : (es : List (ℕ × Open)) (o : Open) → AreAtNumbers es → AllBelow o.number (open_in es) → insert_entry nat_cmp es o.number o ≡ es ++ (o.number, o) ∷ []
-inserted-is [] o at below = refl
-inserted-is (e ∷ es) o at below =
-    let less : e.0 < o.number = omega (arith, at.0, below.0) in
-    rw (cmp_greater o.number e.0 less) (ap (λ ys. e ∷ ys) (inserted-is es o at.1 below.1))
-
-pub pushed-is : (es : List (ℕ × Open)) (e : ℕ × Open) → open_in (es ++ e ∷ []) ≡ open_in es ++ e.1 ∷ []
-pushed-is [] e = refl
-pushed-is (x ∷ es) e = ap (λ ys. x.1 ∷ ys) (pushed-is es e)
-
-pub pushed-at : (es : List (ℕ × Open)) (e : ℕ × Open) → AreAtNumbers es → e.1.number ≡ e.0 → AreAtNumbers (es ++ e ∷ [])
-pushed-at [] e at is = (is, tt)
-pushed-at (x ∷ es) e at is = (at.0, pushed-at es e at.1 is)
-
--- the last one is that of its number, and goes again
-pub last-found : (os : List Open) (o : Open) → AllBelow o.number os → open_of (os ++ o ∷ []) o.number ≡ Some o
-last-found [] o below = elim (eqb_tells o.number o.number) [ inl same ↦ rw same.0 refl | inr other ↦ absurd (other.1 refl) ]
-last-found (x ∷ os) o below = elim (eqb_tells x.number o.number) [
-  | inl same ↦ absurd (omega (arith, same.1, below.0))
-  | inr other ↦ rw other.0 (last-found os o below.1)
+emptied-from : (slots : List (Option Open)) (n k number : ℕ) → number ≡ n + k → AreAtNumbers n slots → open_in (set slots k None) ≡ open_without (open_in slots) number
+emptied-from [] n k number is at = refl
+emptied-from (None ∷ slots) n zero number is at = sym (same-before slots (suc n) number (omega (arith, is)) at)
+emptied-from (Some o ∷ slots) n zero number is at = elim (eqb_tells o.number number) [
+  | inl same ↦ rw same.0 refl
+  | inr other ↦ absurd (other.1 (omega (arith, is, at.0)))
+]
+emptied-from (None ∷ slots) n (suc k) number is at = emptied-from slots (suc n) k number (omega (arith, is)) at
+emptied-from (Some o ∷ slots) n (suc k) number is at = elim (eqb_tells o.number number) [
+  | inl same ↦ absurd (omega (arith, same.1, at.0, is))
+  | inr other ↦ rw other.0 (ap (λ ys. o ∷ ys) (emptied-from slots (suc n) k number (omega (arith, is)) at.1))
 ]
 
-pub last-without : (os : List Open) (o : Open) → AllBelow o.number os → open_without (os ++ o ∷ []) o.number ≡ os
-last-without [] o below = elim (eqb_tells o.number o.number) [ inl same ↦ rw same.0 refl | inr other ↦ absurd (other.1 refl) ]
-last-without (x ∷ os) o below = elim (eqb_tells x.number o.number) [
-  | inl same ↦ absurd (omega (arith, same.1, below.0))
-  | inr other ↦ rw other.0 (ap (λ ys. x ∷ ys) (last-without os o below.1))
+pub emptied-is : (slots : List (Option Open)) (number : ℕ) → AreAtNumbers 0 slots → open_in (set slots number None) ≡ open_without (open_in slots) number
+emptied-is slots number at = emptied-from slots 0 number number (omega arith) at
+
+-- the others stay at their numbers
+pub emptied-at : (slots : List (Option Open)) (n k : ℕ) → AreAtNumbers n slots → AreAtNumbers n (set slots k None)
+emptied-at [] n k at = tt
+emptied-at (None ∷ slots) n zero at = at
+emptied-at (Some o ∷ slots) n zero at = at.1
+emptied-at (None ∷ slots) n (suc k) at = emptied-at slots (suc n) k at
+emptied-at (Some o ∷ slots) n (suc k) at = (at.0, emptied-at slots (suc n) k at.1)
+
+-- one is put behind the others
+pub pushed-is : (slots : List (Option Open)) (o : Open) → open_in (slots ++ Some o ∷ []) ≡ open_in slots ++ o ∷ []
+pushed-is [] o = refl
+pushed-is (None ∷ slots) o = pushed-is slots o
+pushed-is (Some x ∷ slots) o = ap (λ ys. x ∷ ys) (pushed-is slots o)
+
+pub pushed-at : (slots : List (Option Open)) (n : ℕ) (o : Open) → AreAtNumbers n slots → o.number ≡ n + length slots → AreAtNumbers n (slots ++ Some o ∷ [])
+pushed-at [] n o at is = (omega (arith, is), tt)
+pushed-at (None ∷ slots) n o at is = pushed-at slots (suc n) o at (omega (arith, is))
+pushed-at (Some x ∷ slots) n o at is = (at.0, pushed-at slots (suc n) o at.1 (omega (arith, is)))
+
+-- a slot that is past the last has no connection
+pub past-without : (slots : List (Option Open)) (n number : ℕ) → n + length slots ≤ number → AreAtNumbers n slots → open_without (open_in slots) number ≡ open_in slots
+past-without [] n number past at = refl
+past-without (None ∷ slots) n number past at = past-without slots (suc n) number (omega (arith, past)) at
+past-without (Some o ∷ slots) n number past at = elim (eqb_tells o.number number) [
+  | inl same ↦ absurd (omega (arith, same.1, at.0, past))
+  | inr other ↦ rw other.0 (ap (λ ys. o ∷ ys) (past-without slots (suc n) number (omega (arith, past)) at.1))
 ]
 
--- the numbers stay below the next
-pub below-push : (os : List Open) (o : Open) → AllBelow o.number os → AllBelow (o.number + 1) (os ++ o ∷ [])
-below-push [] o below = (omega arith, tt)
-below-push (x ∷ os) o below = (omega (arith, below.0), below-push os o below.1)
-
-pub below-without : (os : List Open) (n number : ℕ) → AllBelow n os → AllBelow n (open_without os number)
-below-without [] n number below = tt
-below-without (o ∷ os) n number below = elim (eqb_tells o.number number) [
-  | inl same ↦ rw same.0 below.1
-  | inr other ↦ rw other.0 (below.0, below-without os n number below.1)
-]
-
+-- no more are left
 pub fewer-without : (os : List Open) (number : ℕ) → length (open_without os number) ≤ length os
 fewer-without [] number = omega arith
 fewer-without (o ∷ os) number = elim (eqb_tells o.number number) [
@@ -90,13 +93,14 @@ fewer-without (o ∷ os) number = elim (eqb_tells o.number number) [
   | inr other ↦ (let more = fewer-without os number in rw other.0 (omega (arith, more)))
 ]
 
--- the one that was put last is found
-pub got-last : (os now : List Open) (o made : Open) (got : Option (Bor Open)) → AllBelow o.number os → now ≡ os ++ made ∷ [] → made ≡ o → option_copied got ≡ open_of now o.number → option_copied got ≡ Some o
-got-last os now o made got below now_is made_is is = is ∙ ap (λ xs. open_of xs o.number) (now_is ∙ ap (λ x. os ++ x ∷ []) made_is) ∙ last-found os o below
+-- all are left where none has the number
+absent-without : (os : List Open) (number : ℕ) → open_of os number ≡ None → open_without os number ≡ os
+absent-without [] number none = refl
+absent-without (o ∷ os) number none = elim (eqb_tells o.number number) [
+  | inl same ↦ (let wrong : Some o ≡ None = rw same.0 at none in absurd (cc))
+  | inr other ↦ (let later : open_of os number ≡ None = rw other.0 at none in rw other.0 (ap (λ ys. o ∷ ys) (absent-without os number later)))
+]
 
-pub some-got : (got : Option (Bor Open)) (o : Open) → option_copied got ≡ Some o → IsSome got
-some-got None o is = absurd (cc)
-some-got (Some x) o is = refl
-
-pub closed-got : (got : Option (Bor Open)) (o : Open) (one : Bor Open) (closed : Closed) → option_copied got ≡ Some o → got ≡ Some one → closed ≡ one.now.closed → closed ≡ o.closed
-closed-got got o one closed is one_is closed_is = closed_is ∙ ap (λ (x : Open). x.closed) (same_Some one.now o (sym (ap option_copied one_is) ∙ is))
+pub none-unchanged : (r : Option Open) (os now : List Open) (number : ℕ) → r ≡ open_of os number → now ≡ open_without os number → IfNone r (now ≡ os)
+none-unchanged None os now number none now_is = now_is ∙ absent-without os number (sym none)
+none-unchanged (Some o) os now number is now_is = tt

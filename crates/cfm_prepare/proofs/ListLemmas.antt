@@ -1,5 +1,7 @@
 -- Whether a list has a number.
-use Rattle.std.proofs.Common.{◌≡◌, ◌≢◌, ℕ, zero, suc, ◌<◌, Bool, true, false, List, [], ◌∷◌, Contains, cond, get_or, length, refl, sym, ap, ◌∙◌, inl, inr, arith}
+use Rattle.std.proofs.Common.{◌≡◌, ◌≢◌, ℕ, zero, suc, ◌<◌, Bool, true, false, List, [], ◌∷◌, Ok, Err, Contains, cond, get_or, length, refl, sym, ap, ◌∙◌, inl, inr, arith}
+use Rattle.std.specs.Prelude.{Result}
+use Rattle.std.specs.Result.{is_err, is_ok}
 use Rattle.std.specs.List.{AllPairs}
 use Rattle.std.proofs.lemmas.Bool.Decides.{eqb_tells}
 use Rattle.cfm_prepare.specs.Lists.{IsOnce, has}
@@ -43,3 +45,8 @@ once-from-pairs (x ∷ xs) apart =
     go : (b : Bool) → has xs x ≡ b → b ≡ false
     go true is = let there = has-contains xs x is in absurd (apart 0 (suc there.0) x (omega arith) (let h = there.1 in omega (arith, h)) (sym there.2))
     go false is = refl
+
+-- what is pushed where the push isn't refused
+pub pushed-ok : {A E T : Type 0} (r : Result A E) (xs ys : List T) → is_err r ≡ false → cond (is_ok r) xs ys ≡ xs
+pushed-ok (Ok x) xs ys is = refl
+pushed-ok (Err e) xs ys is = absurd (cc)

@@ -1,64 +1,94 @@
-ghost use Rattle.std.specs.Prelude.{◌≡◌, ◌++◌, [], ◌∷◌, OnErr, OnOk, IfNone};
-ghost use Rattle.std.specs.Option.{option_copied};
+ghost use Rattle.std.specs.Prelude.{◌≡◌, ◌+◌, ◌++◌, ◌<◌, [], ◌∷◌, None, OnOk, slice_index_or};
+ghost use Rattle.std.specs.Option.{IfNone, option_copied};
 ghost use Rattle.cfm_prepare.specs.Contexts.{open_of, open_without};
-ghost use Rattle.cfm_prepare.specs.Kept.Connections.{AllBelow};
 
 use crate::connected::Connected;
 use std::alloc::{AllocError, Global};
-use std::collections::BTreeMap;
 use std::marker::Model;
 
-/// The open connections of a context, in the order of their numbers.
+/// The open connections of a context, each in the slot of its number.
 #[derive(Drop)]
 pub(crate) struct Connections<'a> {
-    by_number: BTreeMap<u32, Connected<'a>>,
+    /// A slot for each number that was given; empty where the connection was closed.
+    slots: Vec<Option<Connected<'a>>>,
 }
 
 impl<'a> Model for Connections<'a> {
-    ghost use Rattle.std.specs.Prelude.{List};
-    ghost use Rattle.cfm_prepare.specs.Contexts.{Open};
-    ghost use Rattle.cfm_prepare.specs.Kept.Connections.{AreAtNumbers, open_in};
+    ghost use Rattle.std.specs.Prelude.{◌-◌, length, vec_capacity, vec_len};
+    ghost use Rattle.cfm_prepare.specs.Kept.Connections.{AreAtNumbers, Numbered, open_in};
 
-    ghost Value = { List Open };
+    ghost Value = { Numbered };
 
-    ghost view = { λ c. open_in c.by_number.entries };
+    ghost view = { λ c. record { items = open_in c.slots.items; given = length c.slots.items; left = vec_capacity c.slots - vec_len c.slots } };
 
-    ghost invariant = { λ c. AreAtNumbers c.by_number.entries };
+    ghost invariant = { λ c. AreAtNumbers 0 c.slots.items };
 }
 
 impl<'a> Connections<'a> {
     /// No connections. Nothing is allocated yet.
     pub fn new(alloc: Global) -> Connections<'a>
-        ensures { result ≡ [] }
+        ensures none { result.items ≡ [] }
+        ensures given { result.given ≡ 0 }
     {
         Connections {
-            by_number: BTreeMap::new(alloc),
+            slots: Vec::new(alloc),
         }
+    }
+
+    /// How many numbers were given, which is the next one.
+    pub fn given(&self) -> usize
+        ensures { result ≡ self.now.given }
+    {
+        self.slots.len()
     }
 
     /// The connection of a number.
     pub fn get(&self, number: u32) -> Option<&Connected<'a>>
-        ensures { option_copied result ≡ open_of self.now number }
+        ensures { option_copied result ≡ open_of self.now.items number }
     {
-        self.by_number.get(&number)
+        slot(&self.slots, number as usize)
     }
 
-    /// Puts a connection behind the others, whose numbers are below its own.
-    pub fn push(&mut self, connected: Connected<'a>) -> Result<(), AllocError>
-        requires { AllBelow connected.number self.old }
-        ensures pushed { OnOk result (self.new ≡ self.old ++ connected.entry ∷ []) }
-        ensures unchanged { OnErr result (self.new ≡ self.old) }
+    /// Makes room for one connection more.
+    pub fn reserve(&mut self) -> Result<(), AllocError>
+        ensures room { OnOk result (0 < self.new.left) }
+        ensures items { self.new.items ≡ self.old.items }
+        ensures given { self.new.given ≡ self.old.given }
     {
-        self.by_number.insert(connected.number(), connected)?;
+        self.slots.reserve(1)?;
         Ok(())
+    }
+
+    /// Puts a connection behind the others, in the slot of its number.
+    pub fn push(&mut self, connected: Connected<'a>)
+        requires room { 0 < self.old.left }
+        requires number { connected.number ≡ self.old.given }
+        ensures items { self.new.items ≡ self.old.items ++ connected.entry ∷ [] }
+        ensures given { self.new.given ≡ self.old.given + 1 }
+    {
+        if self.slots.push(Some(connected)).is_err() {
+            unreachable!();
+        }
     }
 
     /// Takes out the connection of a number.
     pub fn remove(&mut self, number: u32) -> Option<Connected<'a>>
-        ensures taken { result ≡ open_of self.old number }
-        ensures left { self.new ≡ open_without self.old number }
-        ensures unchanged { IfNone result (self.new ≡ self.old) }
+        ensures taken { result ≡ open_of self.old.items number }
+        ensures items { self.new.items ≡ open_without self.old.items number }
+        ensures given { self.new.given ≡ self.old.given }
+        ensures unchanged { IfNone result (self.new.items ≡ self.old.items) }
     {
-        self.by_number.remove(&number)
+        let number = number as usize;
+        if number >= self.slots.len() {
+            return None;
+        }
+        self.slots[number].take()
     }
+}
+
+/// What stands in the slot of a number.
+fn slot<'s, 'a>(slots: &'s [Option<Connected<'a>>], number: usize) -> Option<&'s Connected<'a>>
+    ensures { option_copied result ≡ slice_index_or slots.now number None }
+{
+    slots.get(number)?.as_ref()
 }

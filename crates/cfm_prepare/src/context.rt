@@ -19,7 +19,7 @@ use std::alloc::Global;
 use std::marker::Model;
 
 /// How many connections a context gives in all.
-const MOST_CONNECTIONS: u32 = 65_536;
+const MOST_CONNECTIONS: usize = 65_536;
 
 /// A connection to a fragment that was prepared, by its number. No number comes twice in a context.
 #[derive(Clone, Copy, Debug, PartialEq, Eq)]
@@ -33,8 +33,6 @@ pub struct Connection(pub u32);
 pub struct Context<'a> {
     alloc: Global,
     store: Store<'a>,
-    /// How many connections were given.
-    given: u32,
     connections: Connections<'a>,
     /// How many of them have a fragment in their closures, by its place in the store.
     users: Vec<usize>,
@@ -48,9 +46,9 @@ impl<'a> Model for Context<'a> {
 
     ghost use Rattle.cfm_prepare.specs.Kept.Contexts.{IsKept};
 
-    ghost view = { λ c. record { pairs = c.store; memory = c.fragments.memory; given = c.given; connections = c.connections; present = c.fragments.present } };
+    ghost view = { λ c. record { pairs = c.store; memory = c.fragments.memory; given = c.connections.given; connections = c.connections.items; present = c.fragments.present } };
 
-    ghost invariant = { λ c. IsKept c.given c.users.items c.connections c.fragments.present };
+    ghost invariant = { λ c. IsKept c.connections.given c.users.items c.connections.items c.fragments.present };
 }
 
 impl<'a> Context<'a> {
@@ -62,7 +60,6 @@ impl<'a> Context<'a> {
         Context {
             alloc,
             store,
-            given: 0,
             connections: Connections::new(alloc),
             users: Vec::new(alloc),
             fragments: Fragments::new(alloc, limit),
@@ -82,7 +79,7 @@ impl<'a> Context<'a> {
         ensures refused { IfErr result (λ fault. MayNotPrepare self.old name.now fault) }
         ensures unchanged { OnErr result (self.new ≡ self.old) }
     {
-        if self.given >= MOST_CONNECTIONS {
+        if self.connections.given() >= MOST_CONNECTIONS {
             return Err(PrepareFault::TooManyConnections);
         }
         let Some(root) = self.store.find(name) else {
@@ -101,22 +98,13 @@ impl<'a> Context<'a> {
         ensures unchanged { OnErr result (self.new ≡ self.old) }
     {
         make_room(&mut self.users, self.store.len())?;
-        let number = self.given;
+        self.connections.reserve()?;
         let closure = closure(self.alloc, &self.store, root)?;
-        self.connections
-            .push(Connected::new(number, root, closure))?;
-        let closure = self.connections.get(number).unwrap().closure();
-        match self.fragments.prepare(closure) {
-            Ok(()) => {
-                enter(&mut self.users, closure.order());
-                self.given += 1;
-                Ok(Connection(number))
-            }
-            Err(fault) => {
-                self.connections.remove(number);
-                Err(PrepareFault::Fragment(fault))
-            }
-        }
+        self.fragments.prepare(&closure)?;
+        enter(&mut self.users, closure.order());
+        let number = self.connections.given() as u32;
+        self.connections.push(Connected::new(number, root, closure));
+        Ok(Connection(number))
     }
 
     /// Closes a connection: the fragments that no other open connection needs are given back.

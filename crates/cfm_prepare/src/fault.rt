@@ -76,6 +76,17 @@ impl<'a> From<BindFault<'a>> for PrepareFault<'a> {
     }
 }
 
+impl<'a> From<FragmentFault<'a>> for PrepareFault<'a> {
+    ghost use Rattle.std.specs.Prelude.{◌≡◌};
+    ghost use Rattle.cfm_prepare.specs.declared.fault.PrepareFault.TheVariants as prepare_fault;
+
+    ghost from_gives = { λ fault e. e ≡ prepare_fault.Fragment fault };
+
+    fn from(fault: FragmentFault<'a>) -> PrepareFault<'a> {
+        PrepareFault::Fragment(fault)
+    }
+}
+
 impl<'a> From<AllocError> for PrepareFault<'a> {
     ghost use Rattle.std.specs.Prelude.{◌≡◌};
     ghost use Rattle.cfm_prepare.specs.declared.fault.PrepareFault.TheVariants.{OutOfMemory};

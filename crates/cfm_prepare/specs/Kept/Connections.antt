@@ -1,17 +1,21 @@
--- How open connections are kept: in a map, each at its number.
-use Rattle.std.specs.Prelude.{◌≡◌, ◌<◌, ℕ, List, [], ◌∷◌, map}
+-- How open connections are kept: in slots, each in that of its number.
+use Rattle.std.specs.Prelude.{◌≡◌, ℕ, suc, List, [], ◌∷◌, Option, None, Some}
 use Rattle.cfm_prepare.specs.Contexts.{Open}
 
--- the connections of a map's entries
-abbrev pub open_in : List (ℕ × Open) → List Open
-open_in entries = map (λ (e : ℕ × Open). e.1) entries
+-- what is seen of them: those that are open, how many numbers were given, and for how many more there is room
+pub record Numbered : Type 0 where
+  pub items : List Open
+  pub given : ℕ
+  pub left : ℕ
 
--- each stands at its number
-abbrev pub AreAtNumbers : List (ℕ × Open) → Type 0
-AreAtNumbers [] = Unit {0}
-AreAtNumbers (e ∷ es) = (e.1.number ≡ e.0) × AreAtNumbers es
+-- the connections of slots
+abbrev pub open_in : List (Option Open) → List Open
+open_in [] = []
+open_in (None ∷ slots) = open_in slots
+open_in (Some o ∷ slots) = o ∷ open_in slots
 
--- the numbers of some connections are all below another
-abbrev pub AllBelow : ℕ → List Open → Type 0
-AllBelow n [] = Unit {0}
-AllBelow n (o ∷ os) = (o.number < n) × AllBelow n os
+-- each stands at its number, where that of the first slot is n
+abbrev pub AreAtNumbers : ℕ → List (Option Open) → Type 0
+AreAtNumbers n [] = Unit {0}
+AreAtNumbers n (None ∷ slots) = AreAtNumbers (suc n) slots
+AreAtNumbers n (Some o ∷ slots) = (o.number ≡ n) × AreAtNumbers (suc n) slots

@@ -1,27 +1,41 @@
--- The number is the greatest, so the connection comes last.
-use Rattle.std.proofs.Common.{◌≡◌, ◌++◌, ◌∷◌, ℕ, List, [], refl, sym, ap, subst, ◌∙◌}
-use Rattle.std.specs.BTreeMap.{insert_entry}
-use Rattle.std.specs.Ordering.{nat_cmp}
+-- The slot of the number is the one behind the others.
+use Rattle.std.proofs.Common.{◌≡◌, ◌+◌, ◌++◌, ◌∷◌, [], false, length, Option, List, Some, arith, ap, sym, subst, ◌∙◌}
+use Rattle.std.specs.Result.{is_err}
+use Rattle.std.proofs.lemmas.List.{length_push}
 use Rattle.cfm_prepare.specs.Contexts.{Open}
-use Rattle.cfm_prepare.specs.Kept.Connections.{AllBelow, AreAtNumbers, open_in}
-use Rattle.cfm_prepare.proofs.ConnectionLemmas.{inserted-is, pushed-at, pushed-is}
+use Rattle.cfm_prepare.specs.Kept.Connections.{AreAtNumbers, Numbered, open_in}
+use Rattle.cfm_prepare.proofs.ConnectionLemmas.{pushed-at, pushed-is}
+use Rattle.cfm_prepare.proofs.ListLemmas.{pushed-ok}
 use Rattle.cfm_prepare.proofs.connections.Connections.push.Goals as goal
 
-entries-are : (es now : List (ℕ × Open)) (o : Open) (number : ℕ) → number ≡ o.number → AreAtNumbers es → AllBelow o.number (open_in es) → now ≡ insert_entry nat_cmp es number o → now ≡ es ++ (o.number, o) ∷ []
-entries-are es now o number is at below now_is = now_is ∙ ap (λ n. insert_entry nat_cmp es n o) is ∙ inserted-is es o at below
-
-pub invariant_of-self-2 : goal.invariant_of-self-2
-invariant_of-self-2 c =
-    let es = c.self.inside.by_number.entries in
+pub invariant_of-self : goal.invariant_of-self
+invariant_of-self c =
+    let slots = c.self.inside.slots.items in
     let o = c.args.connected in
-    let P : List Open → Type 0 = λ os. AllBelow o.number os in
-    let now = entries-are es c.insert.new.self.entries o c.number.result c.number.ensures c.self.invariant (subst P (sym c.self.view_is) c.requires) c.in_ok-insert.ensures.entries in
-    subst AreAtNumbers (sym now) (pushed-at es (o.number, o) c.self.invariant refl)
+    let e = c.is_err.ensures.value in
+    let e' = c.if-is_err.false in
+    let went : is_err c.push.result ≡ false = cc in
+    let pushed : c.push.new.self.items ≡ slots ++ Some o ∷ [] = c.push.ensures.items ∙ pushed-ok c.push.result _ _ went in
+    let N : Numbered → Type 0 = λ n. o.number ≡ n.given in
+    let number : o.number ≡ length slots = subst N (sym c.self.view_is) c.requires.number in
+    subst (AreAtNumbers 0) (sym pushed) (pushed-at slots 0 o c.self.invariant (omega (arith, number)))
 
-pub returns-clause-pushed : goal.returns-clause-pushed
-returns-clause-pushed c =
-    let es = c.self.inside.by_number.entries in
+pub returns-clause-items : goal.returns-clause-items
+returns-clause-items c =
+    let slots = c.self.inside.slots.items in
     let o = c.args.connected in
-    let P : List Open → Type 0 = λ os. AllBelow o.number os in
-    let now = entries-are es c.insert.new.self.entries o c.number.result c.number.ensures c.self.invariant (subst P (sym c.self.view_is) c.requires) c.in_ok-insert.ensures.entries in
-    rw (← c.self.view_is) (ap open_in now ∙ pushed-is es (o.number, o))
+    let e = c.is_err.ensures.value in
+    let e' = c.if-is_err.false in
+    let went : is_err c.push.result ≡ false = cc in
+    let pushed : c.push.new.self.items ≡ slots ++ Some o ∷ [] = c.push.ensures.items ∙ pushed-ok c.push.result _ _ went in
+    rw (← c.self.view_is) (ap open_in pushed ∙ pushed-is slots o)
+
+pub returns-clause-given : goal.returns-clause-given
+returns-clause-given c =
+    let slots = c.self.inside.slots.items in
+    let o = c.args.connected in
+    let e = c.is_err.ensures.value in
+    let e' = c.if-is_err.false in
+    let went : is_err c.push.result ≡ false = cc in
+    let pushed : c.push.new.self.items ≡ slots ++ Some o ∷ [] = c.push.ensures.items ∙ pushed-ok c.push.result _ _ went in
+    rw (← c.self.view_is) (ap length pushed ∙ length_push slots (Some o))

@@ -4,16 +4,15 @@ use Rattle.cfm_closure.specs.Closures.{Closed}
 use Rattle.cfm_prepare.specs.Lists.{has}
 use Rattle.cfm_prepare.specs.Fragments.{all_given_back, is_present}
 use Rattle.cfm_prepare.specs.Contexts.{Open, open_of, open_without}
-use Rattle.cfm_prepare.specs.Kept.Connections.{AllBelow}
 use Rattle.cfm_prepare.specs.Kept.Users.{AreUsedBut, CountsMore, CountUsers, used_of}
-use Rattle.cfm_prepare.proofs.ConnectionLemmas.{below-without, fewer-without}
+use Rattle.cfm_prepare.proofs.ConnectionLemmas.{fewer-without}
 use Rattle.cfm_prepare.proofs.UsersLemmas.{left-count, still-used, unused-unneeded, used-but, used-needed, used-of}
 use Rattle.cfm_prepare.proofs.context.Context.close.Goals as goal
 
 pub leave-requires-clause-used : goal.leave-requires-clause-used
 leave-requires-clause-used c = λ p there.
     let order : c.order-order.result.now ≡ c.in-Some.closed.closed.order = c.order-order.ensures.order ∙ ap (λ (k : Closed). k.order) c.closure.ensures.closure in
-    used-of c.self.inside.connections c.args.connection.0 c.in-Some.closed c.self.inside.users.items p (sym c.in-Some.ensures.taken) c.self.invariant.counted (ap (λ ps. has ps p) (sym order) ∙ there)
+    used-of c.self.inside.connections.items c.args.connection.0 c.in-Some.closed c.self.inside.users.items p (sym c.in-Some.ensures.taken) c.self.invariant.counted (ap (λ ps. has ps p) (sym order) ∙ there)
 
 -- the counts are those of the connections that are left
 counts-left : (os now : List Open) (number : ℕ) (o : Open) (order before after : List ℕ) → Some o ≡ open_of os number → order ≡ o.closed.order → now ≡ open_without os number → CountUsers before os → CountsMore order after before → CountUsers after now
@@ -28,38 +27,35 @@ release-requires c =
 
 pub returns-clause-closed : goal.returns-clause-closed
 returns-clause-closed c =
-    let os = c.self.inside.connections in
+    let os = c.self.inside.connections.items in
     let number = c.args.connection.0 in
     let order : c.order-order.result.now ≡ c.in-Some.closed.closed.order = c.order-order.ensures.order ∙ ap (λ (k : Closed). k.order) c.closure.ensures.closure in
-    let left = counts-left os c.remove.new.self number c.in-Some.closed c.order-order.result.now c.self.inside.users.items c.leave.new.users.items c.in-Some.ensures.taken order c.in-Some.ensures.left c.self.invariant.counted c.leave.ensures in
-    let P : List ℕ → Type 0 = λ users. CountUsers users c.remove.new.self in
+    let left = counts-left os c.remove.new.self.items number c.in-Some.closed c.order-order.result.now c.self.inside.users.items c.leave.new.users.items c.in-Some.ensures.taken order c.in-Some.ensures.items c.self.invariant.counted c.leave.ensures in
+    let P : List ℕ → Type 0 = λ users. CountUsers users c.remove.new.self.items in
     let counts = subst P (sym c.deref.ensures.value) left in
     rw (← c.self.view_is) (record {
       closed = c.in-Some.closed;
       was = sym c.in-Some.ensures.taken;
       pairs = refl;
-      given = refl;
-      connections = c.in-Some.ensures.left;
-      present = c.release.ensures.present ∙ used-needed c.deref.result.now c.remove.new.self c.self.inside.fragments.present counts;
-      memory = c.release.ensures.memory ∙ ap (all_given_back c.self.inside.fragments.memory) (unused-unneeded c.deref.result.now c.remove.new.self c.self.inside.fragments.present counts);
+      given = c.in-Some.ensures.given;
+      connections = c.in-Some.ensures.items;
+      present = c.release.ensures.present ∙ used-needed c.deref.result.now c.remove.new.self.items c.self.inside.fragments.present counts;
+      memory = c.release.ensures.memory ∙ ap (all_given_back c.self.inside.fragments.memory) (unused-unneeded c.deref.result.now c.remove.new.self.items c.self.inside.fragments.present counts);
     })
 
 pub invariant_of-self-2 : goal.invariant_of-self-2
 invariant_of-self-2 c =
-    let os = c.self.inside.connections in
+    let os = c.self.inside.connections.items in
     let number = c.args.connection.0 in
-    let given = c.self.inside.given in
+    let given = c.self.inside.connections.given in
     let order : c.order-order.result.now ≡ c.in-Some.closed.closed.order = c.order-order.ensures.order ∙ ap (λ (k : Closed). k.order) c.closure.ensures.closure in
-    let P : List Open → Type 0 = λ xs. AllBelow given xs in
-    let Q : List Open → Type 0 = λ xs. length xs ≤ given in
     let stays : (p : ℕ) → is_present c.release.new.fragments.present p ≡ true → is_present (used_of c.leave.new.users.items c.self.inside.fragments.present) p ≡ true =
     λ p there. ap (λ fs. is_present fs p) (sym (c.release.ensures.present ∙ ap (λ users. used_of users c.self.inside.fragments.present) c.deref.ensures.value)) ∙ there in
     let fewer = fewer-without os number in
     let many : length (open_without os number) ≤ given = omega (arith, fewer, c.self.invariant.many) in
     record {
-      few = c.self.invariant.few;
-      numbered = subst P (sym c.in-Some.ensures.left) (below-without os given number c.self.invariant.numbered);
-      many = subst Q (sym c.in-Some.ensures.left) many;
-      counted = counts-left os c.remove.new.self number c.in-Some.closed c.order-order.result.now c.self.inside.users.items c.leave.new.users.items c.in-Some.ensures.taken order c.in-Some.ensures.left c.self.invariant.counted c.leave.ensures;
+      few = omega (arith, c.in-Some.ensures.given, c.self.invariant.few);
+      many = omega (arith, many, ap length c.in-Some.ensures.items, c.in-Some.ensures.given);
+      counted = counts-left os c.remove.new.self.items number c.in-Some.closed c.order-order.result.now c.self.inside.users.items c.leave.new.users.items c.in-Some.ensures.taken order c.in-Some.ensures.items c.self.invariant.counted c.leave.ensures;
       used = λ p there. still-used c.leave.new.users.items c.self.inside.fragments.present p (stays p there);
     }

@@ -7,13 +7,9 @@ use Rattle.cfm_prepare.specs.Fragments.{is_present}
 use Rattle.cfm_prepare.specs.Kept.Slots.{AreSlots, HasRoom, Table, in_slots}
 use Rattle.cfm_prepare.specs.Lists.{has}
 use Rattle.cfm_prepare.specs.declared.slots.Placed.{Placed}
+use Rattle.cfm_prepare.proofs.ListLemmas.{pushed-ok}
 use Rattle.cfm_prepare.proofs.SlotLemmas.{put-last, put-slots, seen-present}
 use Rattle.cfm_prepare.proofs.slots.Slots.put.Goals as goal
-
--- what is pushed where the push isn't refused
-pushed-ok : {A E : Type 0} (r : Result A E) (xs ys : List ℕ) → is_err r ≡ false → cond (is_ok r) xs ys ≡ xs
-pushed-ok (Ok x) xs ys is = refl
-pushed-ok (Err e) xs ys is = absurd (cc)
 
 pub invariant_of-self : goal.invariant_of-self
 invariant_of-self c =
