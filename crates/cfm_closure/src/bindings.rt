@@ -3,13 +3,13 @@ ghost use Rattle.cfm_closure.specs.Limits.{most_pairs};
 ghost use Rattle.cfm_closure.specs.Faults.{Answers};
 ghost use Rattle.cfm_closure.specs.Fragments.{fragment_of, import_count, library_count};
 ghost use Rattle.cfm_closure.specs.Libraries.{bound_to};
+ghost use Rattle.cfm_closure.specs.Kept.Paths.{IsClosed};
 ghost use Rattle.cfm_closure.specs.Orders.{IsComplete};
 ghost use Rattle.cfm_closure.specs.Walk.{order_of};
 ghost use Rattle.cfm_closure.specs.Views.{fragment_seen};
 
 use crate::fault::BindFault;
-use crate::fragment::FragmentView;
-use crate::libraries::Libraries;
+use crate::fragment::{ClosedFragment, FragmentView};
 use crate::place_table::PlaceTable;
 use crate::store::Store;
 use crate::walk::Walk;
@@ -23,9 +23,7 @@ use std::marker::Model;
 pub(crate) struct Bindings<'a> {
     /// The pairs of the store. All else goes by their places.
     pairs: Vec<(&'a [u8], &'a [u8])>,
-    fragments: PlaceTable<FragmentView<'a>>,
-    /// What the library entries of each fragment of the order stand for.
-    libraries: PlaceTable<Libraries>,
+    fragments: PlaceTable<ClosedFragment<'a>>,
     order: Vec<usize>,
 }
 
@@ -40,7 +38,7 @@ impl<'a> Model for Bindings<'a> {
 
     ghost view = { λ b. record { pairs = map pair_seen b.pairs.items; order = b.order.items } };
 
-    ghost invariant = { λ b. AreBindings (map pair_seen b.pairs.items) b.fragments b.libraries b.order.items };
+    ghost invariant = { λ b. AreBindings (map pair_seen b.pairs.items) b.fragments b.order.items };
 }
 
 impl<'a> Bindings<'a> {
@@ -57,16 +55,10 @@ impl<'a> Bindings<'a> {
     {
         let walk = Walk::from_root(alloc, store, root)?;
         let pairs = Vec::from_slice(alloc, store.pairs())?;
-        let Walk {
-            fragments,
-            libraries,
-            order,
-            ..
-        } = walk;
+        let Walk { closed, order, .. } = walk;
         Ok(Bindings {
             pairs,
-            fragments,
-            libraries,
+            fragments: closed,
             order,
         })
     }
@@ -109,10 +101,7 @@ impl<'a> Bindings<'a> {
         requires { Contains self.now.order p }
         ensures { fragment_of self.now.pairs p ≡ Ok (fragment_seen result) }
     {
-        match self.fragments.get(p) {
-            Some(fragment) => *fragment,
-            None => unreachable!(),
-        }
+        self.closed(p).view
     }
 
     /// How many library entries a fragment of the order has.
@@ -130,12 +119,20 @@ impl<'a> Bindings<'a> {
         ensures bound { bound_to self.now.pairs p l ≡ Ok result }
         ensures inside { IfSome result (λ q. Contains self.now.order q) }
     {
-        let libraries = match self.libraries.get(p) {
-            Some(libraries) => libraries,
-            None => unreachable!(),
-        };
-        match libraries.get(l) {
+        match self.closed(p).libraries.get(l) {
             Some(bound) => bound,
+            None => unreachable!(),
+        }
+    }
+
+    /// What is kept of a fragment of the order.
+    fn closed(&self, p: usize) -> &ClosedFragment<'a>
+        requires { Contains self.now.order p }
+        ensures closed { IsClosed self.now.pairs p result.now }
+        ensures complete { IsComplete self.now.pairs self.now.order }
+    {
+        match self.fragments.get(p) {
+            Some(fragment) => fragment,
             None => unreachable!(),
         }
     }

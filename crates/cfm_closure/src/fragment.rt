@@ -5,6 +5,7 @@ ghost use Rattle.cfm_closure.specs.Kept.Views.{AreKept, AreRead, fragment_at};
 ghost use Rattle.cfm_closure.specs.Views.{fragment_seen};
 
 use crate::fault::BindFault;
+use crate::libraries::Libraries;
 use crate::place_table::PlaceTable;
 use crate::store::Store;
 use pef_loader::Loader;
@@ -16,6 +17,14 @@ pub(crate) struct FragmentView<'a> {
     pub name: &'a [u8],
     pub container: Container<'a>,
     pub loader: Loader<'a>,
+}
+
+/// A fragment of a closure order.
+#[derive(Drop)]
+pub(crate) struct ClosedFragment<'a> {
+    pub view: FragmentView<'a>,
+    /// What its library entries stand for.
+    pub libraries: Libraries,
 }
 
 impl<'a> FragmentView<'a> {

@@ -1,9 +1,8 @@
-ghost use Rattle.std.specs.Prelude.{◌<◌, Contains, None, IfOk, IsTrue};
+ghost use Rattle.std.specs.Prelude.{◌<◌, Contains, None, IfOk};
 ghost use Rattle.pef_format.specs.Symbols.{import_seen};
-ghost use Rattle.pef_loader.specs.Export.{is_there};
 ghost use Rattle.pef_loader.specs.Views.{loaded};
-ghost use Rattle.cfm_closure.specs.Targets.{hop, hop_by, hop_to};
-ghost use Rattle.cfm_closure.specs.Kept.Hops.{HasHop, IsHop, LeadsTo, StaysInside, StaysBelow};
+ghost use Rattle.cfm_closure.specs.Targets.{hop, hop_to};
+ghost use Rattle.cfm_closure.specs.Kept.Hops.{HasHop, LeadsTo, StaysInside, StaysBelow};
 ghost use Rattle.cfm_closure.specs.Kept.Symbols.{AreSymbolsOf};
 
 use crate::bindings::Bindings;
@@ -23,14 +22,17 @@ pub(crate) enum Hop {
     Through { fragment: usize, import: usize },
 }
 
-/// Where an export of a fragment leads: into a section, to an absolute value, or to the import that it
+/// Where export `e` of a fragment leads: into a section, to an absolute value, or to the import that it
 /// passes on.
-fn export_hop(fragment: usize, loader: Loader<'_>, e: usize, value: ExportValue) -> Hop
-    requires { IsTrue (is_there (loaded loader).header (loaded loader).sections value) }
-    ensures answer { IsHop result (hop_by fragment e value) }
+fn export_hop(fragment: usize, loader: Loader<'_>, e: usize) -> Hop
+    requires { e < (loaded loader).header.export_count }
+    ensures answer { HasHop fragment (loaded loader.entry) e result }
     ensures below { StaysBelow (loaded loader.entry).header.import_count result }
 {
-    match value {
+    let Some(export) = loader.export(e) else {
+        unreachable!()
+    };
+    match export.value() {
         ExportValue::InSection { section, offset } => Hop::Ends(Some(Target::At {
             fragment,
             section,
@@ -41,18 +43,6 @@ fn export_hop(fragment: usize, loader: Loader<'_>, e: usize, value: ExportValue)
             fragment,
             import: import as usize,
         },
-    }
-}
-
-/// The same of export `e`.
-fn export_hop_at(fragment: usize, loader: Loader<'_>, e: usize) -> Hop
-    requires { e < (loaded loader).header.export_count }
-    ensures answer { HasHop fragment (loaded loader.entry) e result }
-    ensures below { StaysBelow (loaded loader.entry).header.import_count result }
-{
-    match loader.export(e) {
-        Some(export) => export_hop(fragment, loader, e, export.value()),
-        None => unreachable!(),
     }
 }
 
@@ -80,7 +70,7 @@ pub(crate) fn import_hop<'a>(
     };
     let library = bindings.fragment(q);
     match library.loader.export_named(symbol.name) {
-        Some(e) => Ok(export_hop_at(q, library.loader, e)),
+        Some(e) => Ok(export_hop(q, library.loader, e)),
         None => missing(bindings.fragment(p).name, library.name, symbol),
     }
 }

@@ -8,7 +8,7 @@ ghost use Rattle.cfm_closure.specs.Kept.Walks.{unmet_of};
 
 use crate::binding::bind;
 use crate::fault::BindFault;
-use crate::fragment::{FragmentView, read_at};
+use crate::fragment::{ClosedFragment, FragmentView, read_at};
 use crate::libraries::Libraries;
 use crate::place_table::PlaceTable;
 use crate::store::Store;
@@ -28,13 +28,13 @@ pub(crate) struct Frame<'a> {
 pub(crate) struct Walk<'a> {
     alloc: Global,
     /// The fragments that were read.
-    pub fragments: PlaceTable<FragmentView<'a>>,
-    /// What the library entries of those that are done stand for.
-    pub libraries: PlaceTable<Libraries>,
+    fragments: PlaceTable<FragmentView<'a>>,
+    /// Those that are done.
+    pub closed: PlaceTable<ClosedFragment<'a>>,
     marked: Vec<bool>,
     /// From the root to the fragment that the walk is in.
     path: Vec<Frame<'a>>,
-    /// The fragments that are done.
+    /// The same, in the order in which they were done.
     pub order: Vec<usize>,
 }
 
@@ -85,12 +85,12 @@ impl<'a> Walk<'a> {
     {
         let len = store.len();
         let fragments = PlaceTable::new(alloc, len)?;
-        let libraries = PlaceTable::new(alloc, len)?;
+        let closed = PlaceTable::new(alloc, len)?;
         let marked = vec![in alloc; false; len]?;
         Ok(Walk {
             alloc,
             fragments,
-            libraries,
+            closed,
             marked,
             path: Vec::new(alloc),
             order: Vec::new(alloc),
@@ -142,7 +142,11 @@ impl<'a> Walk<'a> {
         ensures fewer { OnOk result (steps_left self.new < steps_left self.old + 1) }
     {
         let p = frame.p;
-        self.libraries.put(p, frame.libraries)?;
+        let fragment = ClosedFragment {
+            view: frame.fragment,
+            libraries: frame.libraries,
+        };
+        self.closed.put(p, fragment)?;
         self.order.push(p)?;
         Ok(())
     }

@@ -5,11 +5,12 @@ use Rattle.std.specs.List.{AllByRecursion}
 use Rattle.cfm_closure.specs.Stores.{Pair}
 use Rattle.pef_words.specs.Results.{◌>>=◌}
 use Rattle.cfm_closure.specs.declared.fault.BindFault.{BindFault}
+use Rattle.cfm_closure.specs.declared.fragment.ClosedFragment.{ClosedFragment}
 use Rattle.cfm_closure.specs.declared.fragment.FragmentView.{FragmentView}
 use Rattle.cfm_closure.specs.declared.walk.Frame.{Frame}
 use Rattle.cfm_closure.specs.declared.walk.Walk.{Walk}
 use Rattle.cfm_closure.specs.Faults.{BindRefusal, FailsAs}
-use Rattle.cfm_closure.specs.Fragments.{Fragment}
+use Rattle.cfm_closure.specs.Fragments.{fragment_of}
 use Rattle.cfm_closure.specs.Libraries.{bound_to}
 use Rattle.cfm_closure.specs.Walk.{Walked, is_marked, joining, left, walk, walks_from}
 use Rattle.cfm_closure.specs.Kept.Views.{AreRead, fragment_at}
@@ -54,29 +55,32 @@ pub record IsFrame (pairs : List Pair) (table : List (Option FragmentView)) (f :
   pub few : length f.libraries ≤ count_of f
 
 -- a fragment that is done was read, and all its library entries were bound
-pub record IsWalked (pairs : List Pair) (table : List (Option FragmentView)) (libraries : List (Option (List (Option ℕ)))) (p : ℕ) : Type 0 where
+pub record IsClosed (pairs : List Pair) (p : ℕ) (f : ClosedFragment) : Type 0 where
+  pub read : fragment_of pairs p ≡ Ok (fragment_seen f.view)
+  pub bound : AreBound pairs p f.libraries
+  pub all : length f.libraries ≡ (fragment_seen f.view).loader.header.library_count
+
+-- one stands in this place
+pub record IsWalked (pairs : List Pair) (closed : List (Option ClosedFragment)) (p : ℕ) : Type 0 where
   pub inside : p < length pairs
-  pub fragment : Fragment
-  pub read : fragment_at table p ≡ Some fragment
-  pub bounds : List (Option ℕ)
-  pub stands : slice_index_or libraries p None ≡ Some bounds
-  pub bound : AreBound pairs p bounds
-  pub all : length bounds ≡ fragment.loader.header.library_count
+  pub fragment : ClosedFragment
+  pub stands : slice_index_or closed p None ≡ Some fragment
+  pub is : IsClosed pairs p fragment
 
 abbrev pub state_of : Walk → Walked
 state_of w = record { marked = w.marked.items; order = w.order.items }
 
 -- the tables of a walk are sound
-pub record AreTables (pairs : List Pair) (fragments : List (Option FragmentView)) (libraries : List (Option (List (Option ℕ)))) (marked : List Bool) (path : List Frame) (order : List ℕ) : Type 0 where
+pub record AreTables (pairs : List Pair) (fragments : List (Option FragmentView)) (closed : List (Option ClosedFragment)) (marked : List Bool) (path : List Frame) (order : List ℕ) : Type 0 where
   pub fragments_size : length fragments ≡ length pairs
-  pub libraries_size : length libraries ≡ length pairs
+  pub closed_size : length closed ≡ length pairs
   pub marked_size : length marked ≡ length pairs
   pub read : AreRead pairs fragments
   pub frames : AllByRecursion (IsFrame pairs fragments) path
-  pub walked : AllByRecursion (IsWalked pairs fragments libraries) order
+  pub walked : AllByRecursion (IsWalked pairs closed) order
 
 abbrev pub IsWalk : List Pair → Walk → Type 0
-IsWalk pairs w = AreTables pairs w.fragments w.libraries w.marked.items w.path.items w.order.items
+IsWalk pairs w = AreTables pairs w.fragments w.closed w.marked.items w.path.items w.order.items
 
 -- an answer leads on to what is left, or is the refusal that was to come
 abbrev pub Continues : {A : Type 0} → Result A BindFault → Result Walked BindRefusal → Result Walked BindRefusal → Type 0

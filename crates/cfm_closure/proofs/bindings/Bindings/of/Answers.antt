@@ -9,10 +9,8 @@ pub invariant_of-result : goal.invariant_of-result
 invariant_of-result c =
     let pairs = ap (map pair_seen) c.in_ok-pairs.ensures.items ∙ c.pairs.ensures.pairs in
     let tables = c.in_ok-walk.ensures.walk in
-    subst (λ pairs. AreBindings pairs c.in_ok-walk.walk.fragments c.in_ok-walk.walk.libraries c.in_ok-walk.walk.order.items) (sym pairs) (record {
-      fragments_size = tables.fragments_size;
-      libraries_size = tables.libraries_size;
-      read = tables.read;
+    subst (λ pairs. AreBindings pairs c.in_ok-walk.walk.closed c.in_ok-walk.walk.order.items) (sym pairs) (record {
+      size = tables.closed_size;
       walked = tables.walked;
       complete = order-complete c.args.store.now c.args.root c.in_ok-walk.walk.order.items c.in_ok-walk.ensures.answer;
       few = c.pairs.ensures.few;

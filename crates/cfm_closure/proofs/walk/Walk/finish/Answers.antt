@@ -6,7 +6,7 @@ use Rattle.cfm_closure.proofs.walk.Walk.finish.Goals as goal
 pub returns-clause-walk : goal.returns-clause-walk
 returns-clause-walk c =
     rw (c.in_ok-put.ensures.ok, c.in_ok-push.ensures.items)
-    (tables-joined c.args.store.now c.args.self.now.fragments c.args.self.now.libraries c.args.self.now.marked.items c.args.self.now.path.items c.args.self.now.order.items
+    (tables-joined c.args.store.now c.args.self.now.fragments c.args.self.now.closed c.args.self.now.marked.items c.args.self.now.path.items c.args.self.now.order.items
     c.requires.walk c.args.frame c.requires.frame c.requires.all)
 
 pub returns-clause-continues : goal.returns-clause-continues

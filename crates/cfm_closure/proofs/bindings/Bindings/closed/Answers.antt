@@ -1,0 +1,16 @@
+-- A fragment of the order stands in its place.
+use Rattle.std.proofs.Common.{◌≡◌, ◌∙◌, Some, None, map, sym, subst, get_or}
+use Rattle.cfm_closure.specs.Seen.{pair_seen}
+use Rattle.cfm_closure.specs.declared.fragment.ClosedFragment.{ClosedFragment}
+use Rattle.cfm_closure.specs.Kept.Paths.{IsClosed, IsWalked}
+use Rattle.cfm_closure.proofs.OrderFacts.{all-contains}
+use Rattle.cfm_closure.proofs.bindings.Bindings.closed.Goals as goal
+
+pub returns-clause-closed : goal.returns-clause-closed
+returns-clause-closed c =
+    let pairs = map pair_seen c.self.inside.pairs.items in
+    let there = rw (← c.self.view_is) at c.requires in
+    let walked = all-contains (IsWalked pairs c.self.inside.fragments) c.self.inside.order.items c.args.p c.self.invariant.walked there in
+    let both : Some c.in-Some.fragment.now ≡ Some walked.fragment = c.in-Some.ensures ∙ walked.stands in
+    let same : c.in-Some.fragment.now ≡ walked.fragment = cc in
+    rw (← c.self.view_is) (subst (IsClosed pairs c.args.p) (sym same) walked.is)
