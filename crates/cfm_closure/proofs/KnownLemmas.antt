@@ -13,6 +13,7 @@ use Rattle.cfm_closure.specs.Fragments.{import_count}
 use Rattle.cfm_closure.specs.Orders.{IsComplete}
 use Rattle.cfm_closure.specs.declared.targets.Target.{Target}
 use Rattle.cfm_closure.specs.Closures.{first_refused, imports_refusal}
+use Rattle.cfm_closure.proofs.RowLemmas.{none-at}
 use Rattle.cfm_closure.specs.Kept.Targets.{AreRows, IsInTable, IsKnown, IsOnWay, IsResolved, IsUnknown, KeepsKnown, Rows, all_noted, known_at, led_to, noted}
 
 module _ (rows : Rows) (p j : ℕ) (t : Option Target) (inside : IsInTable rows (p, j)) where
@@ -121,15 +122,9 @@ way_in_table pairs order rows start [] are all = tt
 way_in_table pairs order rows start (v ∷ way) are all = (in_table pairs order rows v.0 v.1 are all.0.place all.0.import, way_in_table pairs order rows start way are all.1)
 
 -- nothing is known in a new row
-get_or-unknown : (n j : ℕ) → get_or {A = Option (Option Target)} (replicate n None) j None ≡ None
-get_or-unknown n j = elim (cases_lt j n) [
-  | inl under ↦ get_or-replicate n j None None under
-  | inr past ↦ get_or_past (replicate n None) j None (omega (arith, length-replicate {A = Option (Option Target)} n None))
-]
-
 pub unknown-set : (rows : Rows) (p n : ℕ) → ((q k : ℕ) → known_at rows q k ≡ None) → p < length rows → (q k : ℕ) → known_at (set rows p (replicate n None)) q k ≡ None
 unknown-set rows p n none inside q k = elim (eqb_tells q p) [
-  | inl same ↦ ap (λ q. known_at (set rows p (replicate n None)) q k) same.1 ∙ ap (λ r. get_or r k None) (get_or-set_same rows p (replicate n None) [] inside) ∙ get_or-unknown n k
+  | inl same ↦ ap (λ q. known_at (set rows p (replicate n None)) q k) same.1 ∙ ap (λ r. get_or r k None) (get_or-set_same rows p (replicate n None) [] inside) ∙ none-at {T = Option Target} n k
   | inr other ↦ ap (λ r. get_or r k None) (get_or-set_other rows p q (replicate n None) [] other.1) ∙ none q k
 ]
 

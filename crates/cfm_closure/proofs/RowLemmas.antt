@@ -1,10 +1,11 @@
 -- The rows of a table.
-use Rattle.std.proofs.Common.{◌≡◌, ℕ, List, [], length, replicate, Option, None, Some, Ok, Err, ap, ◌∙◌, get_or, set, inl, inr, arith}
+use Rattle.std.proofs.Common.{◌≡◌, ℕ, zero, suc, List, [], ◌∷◌, refl, length, replicate, Option, None, Some, Ok, Err, ap, ◌∙◌, get_or, set, inl, inr, arith}
 use Rattle.std.specs.Prelude.{OnOk, Result}
 use Rattle.std.proofs.Math.ListN.{get_or-map}
 use Rattle.std.proofs.lemmas.Bool.{cases_lt}
 use Rattle.std.proofs.lemmas.List.{get_or-replicate, get_or_past, length-map, length-replicate, map-set}
 use Rattle.cfm_closure.specs.declared.targets.Target.{Target}
+use Rattle.cfm_closure.specs.Kept.Found.{all_meant}
 use Rattle.cfm_closure.specs.Kept.Rows.{row_of, rows_of}
 use Rattle.cfm_closure.specs.Kept.Targets.{IsUnknown}
 
@@ -39,3 +40,8 @@ unknown-none table n is = record {
   size = rows-length table ∙ ap length is ∙ length-replicate n None;
   none = λ p j. ap (λ (row : Row). get_or row j None) (row-at table p ∙ ap row_of (ap (λ (table : List (Option Row)). get_or table p None) is ∙ none-at {T = Row} n p));
 }
+
+-- of some imports nothing is known
+pub all_meant-none : (n : ℕ) → all_meant (replicate n None) ≡ replicate n None
+all_meant-none zero = refl
+all_meant-none (suc n) = ap (λ row. None ∷ row) (all_meant-none n)

@@ -12,6 +12,7 @@ use Rattle.cfm_closure.specs.declared.walk.Frame.{Frame}
 use Rattle.cfm_closure.specs.Kept.Paths.{AreTables, IsFrame, IsWalked, count_of}
 use Rattle.cfm_closure.specs.Kept.Views.{AreKept, AreRead, fragment_at}
 use Rattle.cfm_closure.specs.Views.{fragment_seen}
+use Rattle.cfm_closure.proofs.RowLemmas.{none-at}
 
 -- a table without values has as many places
 places-none : {T : Type 0} (table : List (Option T)) (n : ℕ) → table ≡ replicate n None → length table ≡ n
@@ -22,10 +23,7 @@ read-none : (pairs : List Pair) (table : List (Option FragmentView)) (n : ℕ) �
 read-none pairs table n is p f here = absurd (let e : None ≡ Some f = sym (ap (λ table. fragment_at table p) is ∙ absent) ∙ here in cc)
   where
     absent : fragment_at (replicate n None) p ≡ None
-    absent = ap (option_map fragment_seen) (elim (leb_tells n p) [
-      | inl past ↦ get_or_past (replicate n None) p None (let e : length (replicate {A = Option FragmentView} n None) ≡ n = length-replicate n None in omega arith)
-      | inr under ↦ get_or-replicate n p None None under.1
-    ])
+    absent = ap (option_map fragment_seen) (none-at {T = FragmentView} n p)
 
 -- the tables of a walk that met nothing
 pub tables-none : (pairs : List Pair) (fragments : List (Option FragmentView)) (closed : List (Option ClosedFragment)) (marked : List Bool) (path : List Frame) (order : List ℕ)

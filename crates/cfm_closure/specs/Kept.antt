@@ -1,5 +1,6 @@
 -- What the code keeps. Private contracts and proofs speak of it, public ones don't.
 pub mod Bindings
+pub mod Found
 pub mod Hops
 pub mod Lending
 pub mod Numbers

@@ -101,7 +101,7 @@ impl<'a> Closure<'a> {
         ensures inside { LiesInside self.now.pairs self.now.order result }
     {
         match self.targets.get(p, import) {
-            Some(target) => target,
+            Some(found) => found.target(),
             None => unreachable!(),
         }
     }

@@ -8,15 +8,15 @@ ghost use Rattle.cfm_closure.specs.Kept.Symbols.{AreSymbolsOf};
 use crate::bindings::Bindings;
 use crate::fault::BindFault;
 use crate::symbols::Symbols;
-use crate::targets::Target;
+use crate::targets::{Found, Target};
 use pef_format::{ExportValue, ImportView};
 use pef_loader::Loader;
 
 /// Where an import leads at once.
 #[derive(Clone, Copy)]
 pub(crate) enum Hop {
-    /// It has this target, or none.
-    Ends(Option<Target>),
+    /// It means this.
+    Ends(Found),
 
     /// It means what an import of another fragment means, which an export there passes on.
     Through { fragment: usize, import: usize },
@@ -33,12 +33,12 @@ fn export_hop(fragment: usize, loader: Loader<'_>, e: usize) -> Hop
         unreachable!()
     };
     match export.value() {
-        ExportValue::InSection { section, offset } => Hop::Ends(Some(Target::At {
+        ExportValue::InSection { section, offset } => Hop::Ends(Found::There(Target::At {
             fragment,
             section,
             offset,
         })),
-        ExportValue::Absolute(number) => Hop::Ends(Some(Target::Absolute(number))),
+        ExportValue::Absolute(number) => Hop::Ends(Found::There(Target::Absolute(number))),
         ExportValue::Reexport { import } => Hop::Through {
             fragment,
             import: import as usize,
@@ -62,11 +62,11 @@ pub(crate) fn import_hop<'a>(
 {
     let symbol = match symbols.import(bindings, p, j)? {
         Some(symbol) => symbol,
-        None => return Ok(Hop::Ends(None)),
+        None => return Ok(Hop::Ends(Found::Missing)),
     };
     let q = match bindings.library(p, symbol.library) {
         Some(q) => q,
-        None => return Ok(Hop::Ends(None)),
+        None => return Ok(Hop::Ends(Found::Missing)),
     };
     let library = bindings.fragment(q);
     match library.loader.export_named(symbol.name) {
@@ -84,7 +84,7 @@ fn missing<'a>(
     ensures { LeadsTo result (hop_to fragment.entry.now library.entry.now (import_seen symbol.entry) 0 None) }
 {
     if symbol.weak {
-        return Ok(Hop::Ends(None));
+        return Ok(Hop::Ends(Found::Missing));
     }
     Err(BindFault::SymbolMissing {
         fragment,

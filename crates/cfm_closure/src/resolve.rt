@@ -6,6 +6,7 @@ ghost use Rattle.cfm_closure.specs.Fragments.{import_count};
 ghost use Rattle.cfm_closure.specs.Closures.{first_refused, imports_refusal};
 ghost use Rattle.cfm_closure.specs.Targets.{exports_among, symbol_of, target_of};
 ghost use Rattle.cfm_closure.specs.declared.targets.Target.{Target};
+ghost use Rattle.cfm_closure.specs.Kept.Found.{meant};
 ghost use Rattle.cfm_closure.specs.Kept.Resolvers.{IsResolver};
 ghost use Rattle.cfm_closure.specs.Kept.Targets.{AreRows, AreTargets, IsInTable, IsKnown, IsOnWay, IsResolved, KeepsKnown, Passes, all_noted};
 
@@ -14,7 +15,7 @@ use crate::fault::BindFault;
 use crate::hops::{Hop, import_hop};
 use crate::rows::Rows;
 use crate::symbols::Symbols;
-use crate::targets::Target;
+use crate::targets::Found;
 use std::alloc::{AllocError, Global};
 
 /// The search for the targets of a closure's imports.
@@ -51,13 +52,13 @@ fn exports<'a>(bindings: &Bindings<'a>) -> usize
     exports
 }
 
-/// Notes the one target of all imports of a way.
-fn note_way(rows: &mut Rows, way: &[(usize, usize)], target: Option<Target>)
+/// Notes what all imports of a way mean.
+fn note_way(rows: &mut Rows, way: &[(usize, usize)], found: Found)
     requires { AllByRecursion (IsInTable rows.old) way.now }
-    ensures { rows.new ≡ all_noted rows.old way.now target }
+    ensures { rows.new ≡ all_noted rows.old way.now (meant found) }
 {
     for import in way {
-        rows.note(import.0, import.1, target);
+        rows.note(import.0, import.1, found);
     }
 }
 
@@ -92,7 +93,7 @@ impl<'a> Resolver<'a> {
         })
     }
 
-    /// Follows an import through the exports that pass it on, up to one whose target is known or that ends
+    /// Follows an import through the exports that pass it on, up to one whose meaning is known or that ends
     /// there, and tells the imports on the way.
     fn follow(
         &mut self,
@@ -100,23 +101,23 @@ impl<'a> Resolver<'a> {
         way: &mut Vec<(usize, usize)>,
         p: usize,
         j: usize,
-    ) -> Result<Option<Target>, BindFault<'a>>
+    ) -> Result<Found, BindFault<'a>>
         requires place { Contains bindings.now.order p }
         requires import { j < import_count bindings.now.pairs p }
         requires resolver { IsResolver bindings.now.pairs bindings.now.order self.old }
         requires way { way.old.items ≡ [] }
         ensures resolver { IsResolver bindings.now.pairs bindings.now.order self.new }
         ensures rows { self.new.rows ≡ self.old.rows }
-        ensures answer { Answers (λ target. target) result (target_of bindings.now.pairs p j) }
+        ensures answer { Answers meant result (target_of bindings.now.pairs p j) }
         ensures way { OnOk result (AllByRecursion (IsOnWay bindings.now.pairs bindings.now.order (p, j)) way.new.items) }
     {
         let mut at = (p, j);
         for _hop in 0..self.exports + 1 {
-            if let Some(target) = self.rows.get(at.0, at.1) {
-                return Ok(target);
+            if let Some(found) = self.rows.get(at.0, at.1) {
+                return Ok(found);
             }
             match import_hop(bindings, &mut self.symbols, at.0, at.1)? {
-                Hop::Ends(target) => return Ok(target),
+                Hop::Ends(found) => return Ok(found),
                 Hop::Through { fragment, import } => at = (fragment, import),
             }
             way.push(at)?;
@@ -124,26 +125,26 @@ impl<'a> Resolver<'a> {
         Err(endless(bindings, p, j))
     }
 
-    /// Finds the target of an import, and notes it for all imports that were met on the way.
+    /// Finds what an import means, and notes it for all imports that were met on the way.
     fn resolve(
         &mut self,
         bindings: &Bindings<'a>,
         p: usize,
         j: usize,
-    ) -> Result<Option<Target>, BindFault<'a>>
+    ) -> Result<Found, BindFault<'a>>
         requires place { Contains bindings.now.order p }
         requires import { j < import_count bindings.now.pairs p }
         requires resolver { IsResolver bindings.now.pairs bindings.now.order self.old }
         ensures resolver { IsResolver bindings.now.pairs bindings.now.order self.new }
-        ensures answer { Answers (λ target. target) result (target_of bindings.now.pairs p j) }
+        ensures answer { Answers meant result (target_of bindings.now.pairs p j) }
         ensures kept { KeepsKnown self.old.rows self.new.rows }
         ensures known { OnOk result (IsKnown self.new.rows p j) }
     {
         let mut way = Vec::new(self.alloc);
-        let target = self.follow(bindings, &mut way, p, j)?;
-        note_way(&mut self.rows, &way, target);
-        self.rows.note(p, j, target);
-        Ok(target)
+        let found = self.follow(bindings, &mut way, p, j)?;
+        note_way(&mut self.rows, &way, found);
+        self.rows.note(p, j, found);
+        Ok(found)
     }
 
     /// Resolves the imports of a fragment, import by import.

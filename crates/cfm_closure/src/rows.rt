@@ -1,10 +1,11 @@
-ghost use Rattle.std.specs.Prelude.{◌≡◌, ◌<◌, None, length, replicate, slice_set, IfOk, OnOk};
+ghost use Rattle.std.specs.Prelude.{◌≡◌, ◌<◌, None, length, option_map, replicate, slice_set, IfOk, OnOk};
 ghost use Rattle.cfm_closure.specs.Orders.{IsComplete};
+ghost use Rattle.cfm_closure.specs.Kept.Found.{meant};
 ghost use Rattle.cfm_closure.specs.Kept.Targets.{IsInTable, IsUnknown, known_at, noted};
 
 use crate::bindings::Bindings;
 use crate::place_table::PlaceTable;
-use crate::targets::{Target, Targets};
+use crate::targets::{Found, Targets};
 use std::alloc::{AllocError, Global};
 use std::marker::Model;
 
@@ -44,19 +45,19 @@ impl Rows {
         self.rows.put(p, row)
     }
 
-    /// The target of import `j` of the fragment in a place, where it is known.
-    pub fn get(&self, p: usize, j: usize) -> Option<Option<Target>>
-        ensures { result ≡ known_at self.now p j }
+    /// What import `j` of the fragment in a place means, where that is known.
+    pub fn get(&self, p: usize, j: usize) -> Option<Found>
+        ensures { option_map meant result ≡ known_at self.now p j }
     {
         self.rows.get(p)?.get(j)
     }
 
-    /// Notes the target of an import.
-    pub fn note(&mut self, p: usize, j: usize, target: Option<Target>)
+    /// Notes what an import means.
+    pub fn note(&mut self, p: usize, j: usize, found: Found)
         requires { IsInTable self.old (p, j) }
-        ensures { self.new ≡ noted self.old p j target }
+        ensures { self.new ≡ noted self.old p j (meant found) }
     {
         let row = self.rows.value_mut(p);
-        row.note(j, target);
+        row.note(j, found);
     }
 }

@@ -1,4 +1,5 @@
-ghost use Rattle.std.specs.Prelude.{◌≡◌, ◌<◌, None, Some, length, replicate, slice_index_or, slice_set, IfOk};
+ghost use Rattle.std.specs.Prelude.{◌≡◌, ◌<◌, None, Some, length, option_map, replicate, slice_index_or, slice_set, IfOk};
+ghost use Rattle.cfm_closure.specs.Kept.Found.{meant};
 
 use std::alloc::{AllocError, Global};
 use std::marker::Model;
@@ -17,10 +18,30 @@ pub enum Target {
     },
 }
 
-/// What the imports of a fragment mean, so far as that is known: the outer `None` stands where it isn't.
+/// What was found that an import means.
+#[derive(Clone, Copy)]
+pub(crate) enum Found {
+    /// Nothing: its library is absent, or it is weak and its symbol is missing.
+    Missing,
+
+    There(Target),
+}
+
+impl Found {
+    pub fn target(self) -> Option<Target>
+        ensures { result ≡ meant self }
+    {
+        match self {
+            Found::Missing => None,
+            Found::There(target) => Some(target),
+        }
+    }
+}
+
+/// What the imports of a fragment mean, so far as that is known.
 #[derive(Drop)]
 pub(crate) struct Targets {
-    known: Vec<Option<Option<Target>>>,
+    known: Vec<Option<Found>>,
 }
 
 impl Model for Targets {
@@ -29,7 +50,9 @@ impl Model for Targets {
 
     ghost Value = { List (Option (Option Target)) };
 
-    ghost view = { λ t. t.known.items };
+    ghost use Rattle.cfm_closure.specs.Kept.Found.{all_meant};
+
+    ghost view = { λ t. all_meant t.known.items };
 }
 
 impl Targets {
@@ -42,18 +65,25 @@ impl Targets {
         })
     }
 
-    /// The target of import `j`, where it is known.
-    pub fn get(&self, j: usize) -> Option<Option<Target>>
-        ensures { result ≡ slice_index_or self.now j None }
+    /// What import `j` means, where that is known.
+    pub fn get(&self, j: usize) -> Option<Found>
+        ensures { option_map meant result ≡ slice_index_or self.now j None }
     {
-        *self.known.get(j)?
+        known_at(&self.known, j)
     }
 
-    /// Notes the target of import `j`.
-    pub fn note(&mut self, j: usize, target: Option<Target>)
+    /// Notes what import `j` means.
+    pub fn note(&mut self, j: usize, found: Found)
         requires { j < length self.old }
-        ensures { self.new ≡ slice_set self.old j (Some target) }
+        ensures { self.new ≡ slice_set self.old j (Some (meant found)) }
     {
-        self.known[j] = Some(target);
+        self.known[j] = Some(found);
     }
+}
+
+/// What is known of import `j`.
+fn known_at(known: &[Option<Found>], j: usize) -> Option<Found>
+    ensures { result ≡ slice_index_or known.now j None }
+{
+    *known.get(j)?
 }

@@ -1,8 +1,9 @@
-ghost use Rattle.std.specs.Prelude.{◌≡◌, ◌+◌, ◌++◌, ◌<◌, [], ◌∷◌, None, OnOk, slice_index_or};
+ghost use Rattle.std.specs.Prelude.{◌≡◌, ◌+◌, ◌++◌, ◌<◌, [], ◌∷◌, OnOk};
 ghost use Rattle.std.specs.Option.{IfNone, option_copied};
 ghost use Rattle.cfm_prepare.specs.Contexts.{open_of, open_without};
 
 use crate::connected::Connected;
+use crate::slots::slot;
 use std::alloc::{AllocError, Global};
 use std::marker::Model;
 
@@ -84,11 +85,4 @@ impl<'a> Connections<'a> {
         }
         self.slots[number].take()
     }
-}
-
-/// What stands in the slot of a number.
-fn slot<'s, 'a>(slots: &'s [Option<Connected<'a>>], number: usize) -> Option<&'s Connected<'a>>
-    ensures { option_copied result ≡ slice_index_or slots.now number None }
-{
-    slots.get(number)?.as_ref()
 }

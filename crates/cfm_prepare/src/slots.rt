@@ -128,11 +128,11 @@ fn take_out(order: &mut Vec<usize>, position: usize)
     }
 }
 
-/// What stands in the slot of a place of the store.
-fn slot(slots: &[Option<Placed>], position: usize) -> Option<&Placed>
-    ensures { option_copied result ≡ slice_index_or slots.now position None }
+/// What stands in a slot.
+pub(crate) fn slot<T>(slots: &[Option<T>], number: usize) -> Option<&T>
+    ensures { option_copied result ≡ slice_index_or slots.now number None }
 {
-    slots.get(position)?.as_ref()
+    slots.get(number)?.as_ref()
 }
 
 /// The fragments of a closure that aren't present, in its order.

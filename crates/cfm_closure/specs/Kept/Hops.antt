@@ -9,10 +9,11 @@ use Rattle.cfm_closure.specs.Fragments.{import_count}
 use Rattle.cfm_closure.specs.declared.hops.Hop.{Hop as CodeHop}
 use Rattle.cfm_closure.specs.declared.hops.Hop.TheVariants as code
 use Rattle.cfm_closure.specs.Targets.{Hop, ends, hop_by, through}
+use Rattle.cfm_closure.specs.Kept.Found.{meant}
 
 -- a hop of the code doesn't tell which export it goes through
 abbrev pub IsHop : CodeHop → Hop → Type 0
-IsHop (code.Ends target) h = h ≡ ends target
+IsHop (code.Ends found) h = h ≡ ends (meant found)
 IsHop (code.Through q k) h = (e : ℕ) × (h ≡ through q e k)
 
 -- the hop by an export of a fragment
@@ -21,16 +22,16 @@ HasHop q l e h = (x : Export) × (export_of l e ≡ Some x) × IsHop h (hop_by q
 
 -- an answer is the hop, or the refusal
 abbrev pub LeadsTo : Result CodeHop BindFault → Result Hop BindRefusal → Type 0
-LeadsTo (Ok (code.Ends target)) expected = expected ≡ Ok (ends target)
+LeadsTo (Ok (code.Ends found)) expected = expected ≡ Ok (ends (meant found))
 LeadsTo (Ok (code.Through q k)) expected = (e : ℕ) × (expected ≡ Ok (through q e k))
 LeadsTo (Err e) expected = FailsAs e expected
 
 -- an import that is passed on is one of so many
 abbrev pub StaysBelow : ℕ → CodeHop → Type 0
-StaysBelow count (code.Ends target) = Unit {0}
+StaysBelow count (code.Ends found) = Unit {0}
 StaysBelow count (code.Through q k) = k < count
 
 -- it is an import of a fragment of the order
 abbrev pub StaysInside : List Pair → List ℕ → CodeHop → Type 0
-StaysInside pairs order (code.Ends target) = Unit {0}
+StaysInside pairs order (code.Ends found) = Unit {0}
 StaysInside pairs order (code.Through q k) = Contains order q × (k < import_count pairs q)

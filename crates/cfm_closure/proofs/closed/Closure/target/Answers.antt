@@ -1,5 +1,6 @@
 -- What is known of an import is its target.
-use Rattle.std.proofs.Common.{Ok, sym}
+use Rattle.std.proofs.Common.{◌≡◌, ◌∙◌, Ok, Some, ap, sym}
+use Rattle.cfm_closure.specs.Kept.Targets.{known_at}
 use Rattle.cfm_closure.proofs.LeadLemmas.{target-led}
 use Rattle.cfm_closure.proofs.TargetLemmas.{target-inside}
 use Rattle.cfm_closure.proofs.closed.Closure.target.Goals as goal
@@ -11,8 +12,8 @@ returns-clause-target c =
     let rows = c.self.inside.targets in
     let are = c.self.invariant.are in
     let there = rw (← c.self.view_is) at c.requires.there in
-    let known = sym c.in-Some.ensures in
-    rw (← c.self.view_is) (target-led pairs c.args.p c.args.import (Ok c.in-Some.target) (are.right c.args.p c.args.import c.in-Some.target known))
+    let known : known_at rows c.args.p c.args.import ≡ Some c.target.result = sym c.in-Some.ensures ∙ ap Some (sym c.target.ensures) in
+    rw (← c.self.view_is) (target-led pairs c.args.p c.args.import (Ok c.target.result) (are.right c.args.p c.args.import c.target.result known))
 
 pub returns-clause-inside : goal.returns-clause-inside
 returns-clause-inside c =
@@ -21,6 +22,6 @@ returns-clause-inside c =
     let rows = c.self.inside.targets in
     let are = c.self.invariant.are in
     let there = rw (← c.self.view_is) at c.requires.there in
-    let known = sym c.in-Some.ensures in
-    let is = target-led pairs c.args.p c.args.import (Ok c.in-Some.target) (are.right c.args.p c.args.import c.in-Some.target known) in
-    rw (← c.self.view_is) (target-inside pairs order are.complete c.args.p c.args.import c.in-Some.target there is)
+    let known : known_at rows c.args.p c.args.import ≡ Some c.target.result = sym c.in-Some.ensures ∙ ap Some (sym c.target.ensures) in
+    let is = target-led pairs c.args.p c.args.import (Ok c.target.result) (are.right c.args.p c.args.import c.target.result known) in
+    rw (← c.self.view_is) (target-inside pairs order are.complete c.args.p c.args.import c.target.result there is)

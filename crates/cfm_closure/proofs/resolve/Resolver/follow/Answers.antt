@@ -5,6 +5,7 @@ use Rattle.std.proofs.lemmas.Result.{err_from_is_err_and}
 use Rattle.pef_words.proofs.Laws.Lists.{all-append}
 use Rattle.cfm_closure.proofs.PathLemmas.{Fails-also}
 use Rattle.cfm_closure.specs.Targets.{hop, target_of}
+use Rattle.cfm_closure.specs.Kept.Found.{meant}
 use Rattle.cfm_closure.specs.Kept.Targets.{IsOnWay}
 use Rattle.cfm_closure.proofs.LeadLemmas.{hops-more, hops-none, led-endless, led-ends, led-refused, on_way-more, target-endless, target-led}
 use Rattle.cfm_closure.proofs.resolve.Resolver.follow.Goals as goal
@@ -26,23 +27,23 @@ returns-in-Some-clause-answer c =
     let at = c.loop-hop.at in
     let on = c.loop-hop.invariant.at in
     let known = sym c.in-Some.ensures in
-    target-led pairs c.args.p c.args.j (Ok c.in-Some.target) (sym on.leads ∙ c.loop-hop.invariant.resolver.rows.right at.0 at.1 c.in-Some.target known)
+    target-led pairs c.args.p c.args.j (Ok (meant c.in-Some.found)) (sym on.leads ∙ c.loop-hop.invariant.resolver.rows.right at.0 at.1 (meant c.in-Some.found) known)
 
-pub returns-in_err-target-clause-answer : goal.returns-in_err-target-clause-answer
-returns-in_err-target-clause-answer c =
+pub returns-in_err-found-clause-answer : goal.returns-in_err-found-clause-answer
+returns-in_err-found-clause-answer c =
     let pairs = c.args.bindings.now.pairs in
     let at = c.loop-hop.at in
     let p = err_from_is_err_and c.from_residual.result c.from_residual.ensures.1 in
-    rw (p.1, p.2) (Fails-also c.in_err-target.field-0.0 (hop pairs at.0 at.1) (target_of pairs c.args.p c.args.j)
+    rw (p.1, p.2) (Fails-also c.in_err-found.field-0.0 (hop pairs at.0 at.1) (target_of pairs c.args.p c.args.j)
     (λ r refused. target-led pairs c.args.p c.args.j (Err r) (sym c.loop-hop.invariant.at.leads ∙ led-refused pairs at.0 at.1 r refused))
-    c.in_err-target.ensures.answer)
+    c.in_err-found.ensures.answer)
 
 pub returns-in-Ends-clause-answer : goal.returns-in-Ends-clause-answer
 returns-in-Ends-clause-answer c =
     let pairs = c.args.bindings.now.pairs in
     let at = c.loop-hop.at in
-    let is = rw c.in-Ends.is at c.in_ok-target.ensures.answer in
-    target-led pairs c.args.p c.args.j (Ok c.in-Ends.target) (sym c.loop-hop.invariant.at.leads ∙ led-ends pairs at.0 at.1 c.in-Ends.target is)
+    let is = rw c.in-Ends.is at c.in_ok-found.ensures.answer in
+    target-led pairs c.args.p c.args.j (Ok (meant c.in-Ends.found)) (sym c.loop-hop.invariant.at.leads ∙ led-ends pairs at.0 at.1 (meant c.in-Ends.found) is)
 
 pub loop-hop-preserved : goal.loop-hop-preserved
 loop-hop-preserved c =
@@ -51,12 +52,12 @@ loop-hop-preserved c =
     let at = c.loop-hop.at in
     let q = c.in-Through.fragment in
     let k = c.in-Through.import in
-    let is = rw c.in-Through.is at c.in_ok-target.ensures.answer in
-    let inside = rw c.in-Through.is at c.in_ok-target.ensures.inside in
+    let is = rw c.in-Through.is at c.in_ok-found.ensures.answer in
+    let inside = rw c.in-Through.is at c.in_ok-found.ensures.inside in
     let P = IsOnWay pairs order (c.args.p, c.args.j) in
     let here = on_way-more pairs order (c.args.p, c.args.j) at.0 at.1 q is.0 k c.loop-hop.invariant.at is.1 inside.0 inside.1 in
     record {
-      resolver = record { exports = c.loop-hop.invariant.resolver.exports; few = c.loop-hop.invariant.resolver.few; symbols = c.in_ok-target.ensures.symbols; rows = c.loop-hop.invariant.resolver.rows };
+      resolver = record { exports = c.loop-hop.invariant.resolver.exports; few = c.loop-hop.invariant.resolver.few; symbols = c.in_ok-found.ensures.symbols; rows = c.loop-hop.invariant.resolver.rows };
       rows = c.loop-hop.invariant.rows;
       at = here;
       way = subst (AllByRecursion P) (sym c.in_ok-push.ensures.items) (all-append P c.loop-hop.way.items ((q, k) ∷ []) c.loop-hop.invariant.way (here, tt));

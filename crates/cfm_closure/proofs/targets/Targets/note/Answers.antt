@@ -1,0 +1,8 @@
+-- It is known of the import, and of no other.
+use Rattle.std.proofs.Common.{◌∙◌, Some, option_map, ap, sym}
+use Rattle.std.proofs.lemmas.List.{map-set}
+use Rattle.cfm_closure.specs.Kept.Found.{meant}
+use Rattle.cfm_closure.proofs.targets.Targets.note.Goals as goal
+
+pub returns : goal.returns
+returns c = rw (← c.self.view_is) (map-set (option_map meant) c.self.inside.known.items c.args.j (Some c.args.found))
