@@ -3,9 +3,8 @@ use Rattle.std.proofs.Common.{◌≡◌, ◌≢◌, ℕ, ◌+◌, ◌<◌, List,
 use Rattle.std.specs.Prelude.{IsSome, replicate}
 use Rattle.std.specs.List.{AllByRecursion}
 use Rattle.std.specs.Option.{option_or}
-use Rattle.std.proofs.lemmas.Bool.{cases_lt}
 use Rattle.std.proofs.lemmas.Bool.Decides.{eqb_tells}
-use Rattle.std.proofs.lemmas.List.{at_drop_more, get_or-set_same, get_or-set_other, get_or-replicate, get_or_default, get_or_past, length-replicate, length-set}
+use Rattle.std.proofs.lemmas.List.{at_drop_more, get_or-set_same, get_or-set_other, get_or_default, length-replicate, length-set}
 use Rattle.pef_words.specs.Refusals.{unless}
 use Rattle.cfm_closure.specs.Stores.{Pair}
 use Rattle.cfm_closure.specs.Faults.{BindRefusal}

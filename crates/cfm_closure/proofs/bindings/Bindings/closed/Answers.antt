@@ -1,7 +1,6 @@
 -- A fragment of the order stands in its place.
-use Rattle.std.proofs.Common.{◌≡◌, ◌∙◌, Some, None, map, sym, subst, get_or}
+use Rattle.std.proofs.Common.{◌≡◌, ◌∙◌, Some, map, sym, subst}
 use Rattle.cfm_closure.specs.Seen.{pair_seen}
-use Rattle.cfm_closure.specs.declared.fragment.ClosedFragment.{ClosedFragment}
 use Rattle.cfm_closure.specs.Kept.Paths.{IsClosed, IsWalked}
 use Rattle.cfm_closure.proofs.OrderFacts.{all-contains}
 use Rattle.cfm_closure.proofs.bindings.Bindings.closed.Goals as goal

@@ -1,5 +1,5 @@
 -- It is known of the import, and of no other.
-use Rattle.std.proofs.Common.{◌∙◌, Some, option_map, ap, sym}
+use Rattle.std.proofs.Common.{Some, option_map}
 use Rattle.std.proofs.lemmas.List.{map-set}
 use Rattle.cfm_closure.specs.Kept.Found.{meant}
 use Rattle.cfm_closure.proofs.targets.Targets.note.Goals as goal
