@@ -1,8 +1,7 @@
 -- The slot of the number is the one behind the others.
-use Rattle.std.proofs.Common.{◌≡◌, ◌+◌, ◌++◌, ◌∷◌, [], false, length, Option, List, Some, arith, ap, sym, subst, ◌∙◌}
+use Rattle.std.proofs.Common.{◌≡◌, ◌++◌, ◌∷◌, [], false, length, Some, arith, ap, sym, subst, ◌∙◌}
 use Rattle.std.specs.Result.{is_err}
 use Rattle.std.proofs.lemmas.List.{length_push}
-use Rattle.cfm_prepare.specs.Contexts.{Open}
 use Rattle.cfm_prepare.specs.Kept.Connections.{AreAtNumbers, Numbered, open_in}
 use Rattle.cfm_prepare.proofs.ConnectionLemmas.{pushed-at, pushed-is}
 use Rattle.cfm_prepare.proofs.ListLemmas.{pushed-ok}

@@ -1,7 +1,6 @@
 -- The place comes last, and its slot has the fragment.
-use Rattle.std.proofs.Common.{◌≡◌, ◌++◌, ◌∷◌, [], false, cond, List, ℕ, Ok, Err, Some, ap, refl, subst, sym, ◌∙◌}
-use Rattle.std.specs.Prelude.{Result}
-use Rattle.std.specs.Result.{is_err, is_ok}
+use Rattle.std.proofs.Common.{◌≡◌, ◌++◌, ◌∷◌, [], false, List, ℕ, Some, ap, subst, sym, ◌∙◌}
+use Rattle.std.specs.Result.{is_err}
 use Rattle.std.proofs.Math.ListN.{set}
 use Rattle.cfm_prepare.specs.Fragments.{is_present}
 use Rattle.cfm_prepare.specs.Kept.Slots.{AreSlots, HasRoom, Table, in_slots}
