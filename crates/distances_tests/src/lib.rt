@@ -8,4 +8,6 @@ mod check;
 #[cfg(test)]
 mod distances;
 #[cfg(test)]
+mod large;
+#[cfg(test)]
 mod plans;
