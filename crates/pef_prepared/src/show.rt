@@ -45,7 +45,7 @@ fn show_script<W: Sink>(alloc: Global, script: &Script<'_>, out: &mut W) -> u8
 }
 
 /// Prepares a linked container alone under the name `it`, and shows it. It may have no closure, and its sections may
-/// find no room. Of the other faults of preparation only want of memory can come: the images aren't packed, and the
+/// find no room. Of the other faults of preparation only want of memory can come: packed images expand, and the
 /// relocation programs are sound.
 fn show_linked<W: Sink>(alloc: Global, linked: &Linked, out: &mut W) -> u8
     ensures { (script : DescribedScript) → IsLinked script linked.now → (outcome : ShowOutcome)
