@@ -1,15 +1,21 @@
-//! Scripts at all limits at once: 8 sections of 16,384 fixups that don't adjoin, 4,096 libraries, 65,536
-//! imports and 16,383 exports.
+//! Scripts at several limits at once: 4,096 libraries, 65,536 imports and 16,383 exports, and 8 sections of 16,384 fixups
+//! that don't adjoin; and sections that find no room.
 
 use std::alloc::Global;
 use std::fmt::Write;
 use std::test::Fail;
-use test_bench::limits::{EVERY_OTHER, SECTIONS, at_all_limits, push_every_other, push_sections};
+use test_bench::limits::{IN_TURN, MOST, at_all_limits, push_every_other, push_sections};
 use test_bench::runs::{Handed, assert_prints, assert_shows};
+
+/// How many sections there are.
+const SECTIONS: u32 = 8;
+
+/// The length of each: its fixups stand at every other word.
+const TOTAL: u32 = 131_072;
 
 /// The address of a section.
 fn address_of(k: u32) -> u32 {
-    k.wrapping_mul(EVERY_OTHER).wrapping_add(0x0001_0000)
+    k.wrapping_mul(TOTAL).wrapping_add(0x0001_0000)
 }
 
 /// A line of memory of a section, in which every other word has an address: that of the first section, or behind the
@@ -30,8 +36,8 @@ fn push_row(text: &mut String, k: u32, row: u32) -> Result<(), Fail> {
 /// sections in turn.
 fn own_import(alloc: Global) -> Result<String, Fail> {
     let mut text = String::from_str(alloc, "library it 0 0 -\nimport u data strong\n")?;
-    push_sections(&mut text, 4, EVERY_OTHER)?;
-    push_every_other(&mut text, "import u")?;
+    push_sections(&mut text, IN_TURN.sections, 4, TOTAL)?;
+    push_every_other(&mut text, IN_TURN, "import u")?;
     text.push_str("export u data s0 0\n")?;
     Ok(text)
 }
@@ -39,8 +45,8 @@ fn own_import(alloc: Global) -> Result<String, Fail> {
 /// The lines of a section.
 fn push_section(text: &mut String, k: u32) -> Result<(), Fail> {
     let address = address_of(k);
-    writeln!(text, "section {k} at {address:08X} size {EVERY_OTHER}")?;
-    for row in 0..EVERY_OTHER / 16 {
+    writeln!(text, "section {k} at {address:08X} size {TOTAL}")?;
+    for row in 0..TOTAL / 16 {
         push_row(text, k, row)?;
     }
     Ok(())
@@ -49,7 +55,7 @@ fn push_section(text: &mut String, k: u32) -> Result<(), Fail> {
 /// What `show` prints of the script.
 fn shown(alloc: Global) -> Result<String, Fail> {
     let mut text = String::from_str(alloc, "fragment it\n")?;
-    for k in 0..SECTIONS.len() as u32 {
+    for k in 0..SECTIONS {
         push_section(&mut text, k)?;
     }
     Ok(text)
@@ -60,6 +66,15 @@ fn show_at_the_limits(rt: HostRuntime) -> Result<(), Fail> {
     let script = own_import(rt.alloc())?;
     let shown = shown(rt.alloc())?;
     assert_shows(rt.alloc(), script.as_bytes(), shown.as_bytes(), 0)
+}
+
+/// Sixteen sections of the greatest length: the last one finds no room behind the others.
+#[test]
+fn show_finds_no_room(rt: HostRuntime) -> Result<(), Fail> {
+    let mut script = String::new(rt.alloc());
+    push_sections(&mut script, MOST.sections, 4, 0x0100_0000)?;
+    let refused = b"refused 67 NoRoom in it\n";
+    assert_shows(rt.alloc(), script.as_bytes(), refused, 1)
 }
 
 /// What `link` prints: a program has two halfwords for each fixup by a far import, and one for each move, of
@@ -73,7 +88,7 @@ const LINKED: &[u8] =
 
 #[test]
 fn link_at_the_limits(rt: HostRuntime) -> Result<(), Fail> {
-    let script = at_all_limits(rt.alloc())?;
+    let script = at_all_limits(rt.alloc(), IN_TURN)?;
     let words = ["link", "a", "out"];
     assert_prints(
         rt.alloc(),

@@ -90,8 +90,8 @@ const SHOWN: &[(&[u8], &[u8], u8)] = &[
         1,
     ),
     (
-        b"section a data process 4 1\nsection b data process 4 1\nsection c data process 4 1\nsection d data process 4 1\nsection e data process 4 1\nsection f data process 4 1\nsection g data process 4 1\nsection h data process 4 1\nsection i data process 4 1\n",
-        b"refused 48 TooMany line 9\n",
+        b"section a data process 4 1\nsection b data process 4 1\nsection c data process 4 1\nsection d data process 4 1\nsection e data process 4 1\nsection f data process 4 1\nsection g data process 4 1\nsection h data process 4 1\nsection i data process 4 1\nsection j data process 4 1\nsection k data process 4 1\nsection l data process 4 1\nsection m data process 4 1\nsection n data process 4 1\nsection o data process 4 1\nsection p data process 4 1\nsection q data process 4 1\n",
+        b"refused 48 TooMany line 17\n",
         1,
     ),
     (

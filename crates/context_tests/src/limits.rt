@@ -152,16 +152,19 @@ fn most_fragments(rt: HostRuntime) {
 /// How many bytes a section may have.
 const TOTAL: u32 = 0x0100_0000;
 
+/// How many sections of that length are placed.
+const COUNT: usize = 8;
+
 /// Eight sections of the greatest length, in which the last word is the section's own address.
 fn greatest(rt: &impl Abort, alloc: Global) -> String {
     let mut text = String::new(alloc);
-    push_sections(&mut text, 4, TOTAL).expect(rt, "memory");
+    push_sections(&mut text, COUNT, 4, TOTAL).expect(rt, "memory");
     let last = Spaced {
         first: TOTAL - 4,
         step: 4,
         count: 1,
     };
-    for section in SECTIONS {
+    for section in SECTIONS.iter().take(COUNT) {
         let base = format!(in alloc; "section {section}").expect(rt, "memory");
         push_fixups(&mut text, section, last, base.as_str()).expect(rt, "memory");
     }
@@ -171,7 +174,7 @@ fn greatest(rt: &impl Abort, alloc: Global) -> String {
 /// Tests the address, the length and the last word of each of the greatest sections.
 fn test_greatest(rt: &impl Abort, context: &mut Context<'_>) {
     assert!(rt; prepared(context, b"G") == Ok(0));
-    for k in 0..SECTIONS.len() {
+    for k in 0..COUNT {
         let wanted = (k as u32).wrapping_mul(TOTAL).wrapping_add(0x0001_0000);
         test_section(rt, context, k, wanted);
     }

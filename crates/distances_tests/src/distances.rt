@@ -2,7 +2,7 @@ use std::alloc::{AllocError, Global};
 use std::fmt::Write;
 use std::process::Abort;
 use std::test::Fail;
-use test_bench::limits::{EVERY_OTHER, push_in_turn, push_sections};
+use test_bench::limits::{IN_TURN, push_in_turn, push_sections};
 use test_bench::runs::{Handed, assert_cut_output, assert_prints, assert_unreadable, run_tool};
 use test_bench::scripts::{VECTORS, VECTORS_CERTIFIED};
 
@@ -178,23 +178,23 @@ fn distances_of_runs(rt: HostRuntime) -> Result<(), Fail> {
     Ok(())
 }
 
-/// Eight sections, of which the last has as many fixups as one may have, at every other word, by all sections in turn.
-fn most_in_turn(alloc: Global) -> Result<String, AllocError> {
+/// Eight sections, of which the last has 16,384 fixups, at every other word, by all sections in turn.
+fn many_in_turn(alloc: Global) -> Result<String, AllocError> {
     let mut text = String::new(alloc);
-    push_sections(&mut text, 4, EVERY_OTHER)?;
-    push_in_turn(&mut text, "s7")?;
+    push_sections(&mut text, IN_TURN.sections, 4, IN_TURN.every_other())?;
+    push_in_turn(&mut text, "s7", IN_TURN)?;
     Ok(text)
 }
 
 /// What `check` prints of them: the length is `IN_TURN_LENGTH`.
-const MOST_IN_TURN: &[u8] =
+const MANY_IN_TURN: &[u8] =
     b"section 0 yes 0\nsection 1 yes 0\nsection 2 yes 0\nsection 3 yes 0\nsection 4 yes 0\nsection 5 yes 0\nsection 6 yes 0\nsection 7 yes 30719\n";
 
 /// A certificate of 16,385 rows of 81 labels.
 #[test]
-fn distances_of_most_in_turn(rt: HostRuntime) -> Result<(), Fail> {
-    let script = most_in_turn(rt.alloc())?;
-    assert_checked(rt.alloc(), script.as_bytes(), MOST_IN_TURN)
+fn distances_of_many_in_turn(rt: HostRuntime) -> Result<(), Fail> {
+    let script = many_in_turn(rt.alloc())?;
+    assert_checked(rt.alloc(), script.as_bytes(), MANY_IN_TURN)
 }
 
 #[test]

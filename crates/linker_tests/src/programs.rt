@@ -8,7 +8,7 @@ use std::alloc::Global;
 use std::fmt::Write;
 use std::process::Abort;
 use test_data::labels::{VECTORS_LABELS, labels};
-use test_data::limits::FIXUPS;
+use test_data::limits::{self, MOST};
 use test_data::lists::{Listed, S0, S1, S2, spelled};
 use test_links::link_text;
 
@@ -58,7 +58,7 @@ fn push_imports(rt: &impl Abort, text: &mut String) {
 /// The lines of three sections.
 fn push_sections(rt: &impl Abort, text: &mut String) {
     for number in 0..3 {
-        write!(text, "section s{number} data process 4 8192\n").expect(rt, "memory");
+        write!(text, "section s{number} data process 4 262144\n").expect(rt, "memory");
     }
 }
 
@@ -181,6 +181,7 @@ const IN_A_ROW: &[(u32, u32, u32, &[u8])] = &[
     (512, 0, 1, &[0x43, 0xFF]),
     (513, 0, 2, &[]),
     (64, 4, 2, &[]),
+    (65_536, 0, 65, &[]),
 ];
 
 #[test]
@@ -192,26 +193,39 @@ fn words_in_a_row(rt: HostRuntime) {
     }
 }
 
+/// As many sections as there may be, of which the second has the address of the last.
+const LAST_SECTION: &[u8] = &[0x66, 0x0F];
+
+#[test]
+fn address_of_the_last_section(rt: HostRuntime) {
+    let mut text = String::new(rt.alloc());
+    limits::push_sections(&mut text, MOST.sections, 4, 4).expect(&rt, "memory");
+    text.push_str("fix s1 0 section s15\n")
+        .expect(&rt, "memory");
+    let linked = link_text(rt.alloc(), text.as_bytes()).expect(&rt, "a container");
+    test_linked(&rt, rt.alloc(), &linked, 1, 1, LAST_SECTION);
+}
+
 /// The most bytes that a section may have.
 const TOTAL: u32 = 16_777_216;
 
 /// How many of the fixups below have more than 4,096 bytes before them.
-const FAR: u32 = 4_076;
+const FAR: u32 = 4_016;
 
-/// How many halfwords the longest program has that the limits allow: three for each of 16,384 fixups, and one more for
+/// How many halfwords the longest program has that the limits allow: three for each of 65,536 fixups, and one more for
 /// each far one.
 ///
 /// A fixup takes two halfwords where its import is above 511, and no base takes more. To get to its offset takes none
 /// where it adjoins the one before, one past 4,096 bytes or fewer, and two past any more. A section has room for
-/// 16,711,680 bytes between its fixups: one before each, and 4,096 more before 4,076 of them. So no fixups take more.
+/// 16,515,072 bytes between its fixups: one before each, and 4,096 more before 4,016 of them. So no fixups take more.
 /// These don't take fewer: all are by one import, so no instruction makes two, and no move of one halfword passes more
 /// than 4,096 bytes.
-const LONGEST: u32 = 53_228;
+const LONGEST: u32 = 200_624;
 
 /// The lines of these fixups.
 fn push_longest(rt: &impl Abort, text: &mut String) {
     let mut end = 0u32;
-    for i in 0..FIXUPS {
+    for i in 0..MOST.fixups {
         let gap = if i < FAR { 4097 } else { 1 };
         let offset = end.wrapping_add(gap);
         push_fixup(rt, text, offset, Base::Import(600));
@@ -235,7 +249,7 @@ fn longest_script(rt: &impl Abort, alloc: Global) -> String {
 fn longest_program(rt: HostRuntime) {
     let text = longest_script(&rt, rt.alloc());
     let linked = link_text(rt.alloc(), text.as_bytes()).expect(&rt, "a container");
-    test_linked(&rt, rt.alloc(), &linked, FIXUPS as usize, LONGEST, &[]);
+    test_linked(&rt, rt.alloc(), &linked, MOST.fixups as usize, LONGEST, &[]);
 }
 
 /// Two transition vectors, side by side, of which each has the code's address and the data's.

@@ -4,7 +4,7 @@ use pef_script::Script;
 use std::alloc::Global;
 use std::fmt::Write;
 use std::process::Abort;
-use test_data::limits::{Spaced, at_all_limits, push_fixups};
+use test_data::limits::{MOST, Spaced, at_all_limits, push_fixups};
 use test_data::scripts::VECTORS;
 
 /// The number and the line of a refusal, or `None` where the text is read.
@@ -463,7 +463,7 @@ fn names(
 
 /// A first line, what the lines behind it begin and end with, and how many of them are read.
 const COUNTS: &[(&str, &str, &str, u32)] = &[
-    ("", "section s", " data process 0 0", 8),
+    ("", "section s", " data process 0 0", 16),
     ("", "library l", " 1 0 -", 4096),
     ("library l 1 0 -", "import i", " data weak", 65_536),
     (
@@ -543,17 +543,17 @@ fn read_longest_names(rt: HostRuntime) {
 
 /// How many fixups side by side, a last line, and the refusal.
 const FIXUPS: &[(u32, &str, Refusal)] = &[
-    (16_384, "", None),
-    (16_384, "fix s 65536 section s", Some((48, 16_386))),
-    (16_384, "fix s 0 section s", Some((48, 16_386))),
-    (16_382, "tvector s 65528 s s", None),
-    (16_383, "tvector s 65532 s s", Some((48, 16_385))),
-    (16_383, "tvector s 0 s s", Some((48, 16_385))),
+    (65_536, "", None),
+    (65_536, "fix s 262144 section s", Some((48, 65_538))),
+    (65_536, "fix s 0 section s", Some((48, 65_538))),
+    (65_534, "tvector s 262136 s s", None),
+    (65_535, "tvector s 262140 s s", Some((48, 65_537))),
+    (65_535, "tvector s 0 s s", Some((48, 65_537))),
 ];
 
 /// The refusal of a section with so many fixups side by side, and a last line.
 fn refusal_of_fixups(rt: &impl Abort, alloc: Global, count: u32, last: &str) -> Refusal {
-    let mut text = format!(in alloc; "section s data process 0 65544\n").expect(rt, "memory");
+    let mut text = format!(in alloc; "section s data process 0 262152\n").expect(rt, "memory");
     let fixups = Spaced {
         first: 0,
         step: 4,
@@ -575,8 +575,8 @@ fn read_most_fixups(rt: HostRuntime) {
 
 /// Tests how many there are of each in the script at all limits.
 fn test_most_of_all(rt: &impl Abort, script: &Script) {
-    assert!(rt; counts(script) == (4096, 65_536, 8, 16_383));
-    assert!(rt; script.fixups(7).unwrap_or(&[]).len() == 16_384);
+    assert!(rt; counts(script) == (4096, 65_536, 16, 16_383));
+    assert!(rt; script.fixups(15).unwrap_or(&[]).len() == 65_536);
 }
 
 /// Tests the script at all limits, which is read from this text.
@@ -587,6 +587,6 @@ fn test_most_of_text(rt: &impl Abort, alloc: Global, text: &str) {
 
 #[test]
 fn read_most_of_all(rt: HostRuntime) {
-    let text = at_all_limits(rt.alloc()).expect(&rt, "memory");
+    let text = at_all_limits(rt.alloc(), MOST).expect(&rt, "memory");
     test_most_of_text(&rt, rt.alloc(), &text);
 }

@@ -6,7 +6,7 @@ use std::process::Abort;
 use test_data::changes::{At, Change, change};
 use test_data::containers::VECTORS_LEAST;
 use test_data::limits::{
-    EXPORTS, FIXUPS, IMPORTS, IMPORTS_EACH, LIBRARIES, SECTIONS, Spaced, push_fixups, push_sections,
+    EXPORTS, IMPORTS, IMPORTS_EACH, LIBRARIES, MOST, SECTIONS, Spaced, push_fixups, push_sections,
 };
 use test_data::scripts::{EMPTY_CONTAINER, VECTORS};
 use test_links::link_text;
@@ -236,7 +236,7 @@ fn greatest_script(rt: &impl Abort, alloc: Global) -> String {
 /// The lines of the greatest script.
 fn push_greatest(rt: &impl Abort, alloc: Global, text: &mut String) {
     push_libraries(rt, text);
-    push_sections(text, 12, TOTAL).expect(rt, "memory");
+    push_sections(text, MOST.sections, 12, TOTAL).expect(rt, "memory");
     push_contents(rt, alloc, text);
     push_exports(rt, text);
 }
@@ -275,27 +275,37 @@ fn push_exports(rt: &impl Abort, text: &mut String) {
 fn push_imports(rt: &impl Abort, text: &mut String, library: u32) {
     for import in 0..IMPORTS_EACH {
         let number = library.wrapping_mul(IMPORTS_EACH).wrapping_add(import);
-        write!(text, "import {number:095} data weak\n").expect(rt, "memory");
+        push_import(rt, text, number);
     }
 }
 
-/// The fixups of a section: 1,024 bytes apart.
+/// The line for an import. The last one has a short name, since all fixups spell it, and the first one a long name.
+fn push_import(rt: &impl Abort, text: &mut String, number: u32) {
+    const LAST: u32 = IMPORTS - 1;
+    let pushed = match number {
+        0 => write!(text, "import {:0189} data weak\n", 0),
+        LAST => text.push_str("import i data weak\n"),
+        _ => write!(text, "import {number:095} data weak\n"),
+    };
+    pushed.expect(rt, "memory");
+}
+
+/// The fixups of a section: 256 bytes apart.
 const FAR: Spaced = Spaced {
     first: 4,
-    step: 1024,
-    count: FIXUPS,
+    step: 256,
+    count: MOST.fixups,
 };
 
 /// The lines for the contents of all sections: the bytes of the first two, and in each the address of the
-/// last import, 1,024 bytes apart.
+/// last import, 256 bytes apart.
 fn push_contents(rt: &impl Abort, alloc: Global, text: &mut String) {
-    let base = format!(in alloc; "import {:095}", IMPORTS - 1).expect(rt, "memory");
     for section in &SECTIONS[..2] {
         push_full_section(rt, alloc, text, section);
-        push_fixups(text, section, FAR, &base).expect(rt, "memory");
+        push_fixups(text, section, FAR, "import i").expect(rt, "memory");
     }
     for section in &SECTIONS[2..] {
-        push_fixups(text, section, FAR, &base).expect(rt, "memory");
+        push_fixups(text, section, FAR, "import i").expect(rt, "memory");
     }
 }
 
@@ -319,19 +329,19 @@ fn program_of(rt: &impl Abort, loader: &Loader<'_>, h: usize) -> (u32, usize) {
 /// Tests how many there are of each in the loader section of the greatest script.
 fn test_greatest_counts(rt: &impl Abort, loader: &Loader<'_>) {
     assert!(rt; (loader.libraries(), loader.imports()) == (4096, 65_536));
-    assert!(rt; (loader.relocs(), loader.exports()) == (8, 16_383));
+    assert!(rt; (loader.relocs(), loader.exports()) == (16, 16_383));
 }
 
 /// Tests the last library, the last import and the last program of the greatest script.
 fn test_greatest_last(rt: &impl Abort, loader: &Loader<'_>) {
     assert!(rt; imports_of(rt, loader, 4095) == (65_520, 16));
     assert!(rt; library_of(rt, loader, 65_535) == 4095);
-    assert!(rt; program_of(rt, loader, 7) == (7, 98_304));
+    assert!(rt; program_of(rt, loader, 15) == (15, 393_216));
 }
 
 /// Tests the container of the greatest script: how many sections it has, and the length of the second.
 fn test_greatest_container(rt: &impl Abort, container: &Container<'_>) {
-    assert!(rt; container.header().section_count == 9);
+    assert!(rt; container.header().section_count == 17);
     assert!(rt; container.raw(1).unwrap_or(&[]).len() == 16_777_216);
 }
 
@@ -351,14 +361,14 @@ fn test_greatest(rt: &impl Abort, bytes: &[u8]) {
 
 /// Tests how many halfwords the programs of the greatest script have, and its container.
 fn test_greatest_linked(rt: &impl Abort, linked: &Linked) {
-    for k in 0..8 {
-        assert!(rt; linked.length(k) == Some(49_152), "section {k}");
+    for k in 0..MOST.sections {
+        assert!(rt; linked.length(k) == Some(196_608), "section {k}");
     }
-    assert!(rt; linked.bytes().len() == 43_311_550);
+    assert!(rt; linked.bytes().len() == 48_816_894);
     test_greatest(rt, linked.bytes());
 }
 
-/// The greatest script is linked, and read back. Its container has 304 bytes of headers, the two full
+/// The greatest script is linked, and read back. Its container has 528 bytes of headers, the two full
 /// sections, and a loader section: 56 bytes, 24 a library, 4 an import and 12 a relocated section, six bytes
 /// a fixup, the names without the ends of those of exports and 3 zeros, and 2,048 slots, a key and ten bytes
 /// an export.

@@ -1,7 +1,7 @@
 ghost use Rattle.std.specs.Prelude.{◌≡◌, true};
 ghost use Rattle.pef_reloc.specs.Instrs.{instr_fits, instrs_fit};
 
-use pef_reloc::{Base, Fixup, Instr, MAX_FIXUPS, Program, apply, encode, fixups_fit};
+use pef_reloc::{Base, Fixup, Instr, Program, apply, encode, fixups_fit};
 use std::alloc::Global;
 use std::process::Abort;
 
@@ -370,7 +370,7 @@ fn shortest_and_longest_applied(rt: HostRuntime) {
     assert!(rt; apply_number(MOST_STEPS, &mut [], &[], &[]) == 0);
 }
 
-const SECTION: Base = Base::Section(7);
+const SECTION: Base = Base::Section(15);
 
 const IMPORT: Base = Base::Import(65_535);
 
@@ -384,7 +384,7 @@ const FITTING: &[(&[(u32, Base)], bool)] = &[
     (&[(4, SECTION), (7, SECTION)], false),
     (&[(4, SECTION), (4, SECTION)], false),
     (&[(0xFF_FFFD, SECTION)], false),
-    (&[(0, Base::Section(8))], false),
+    (&[(0, Base::Section(16))], false),
     (&[(0, Base::Import(65_536))], false),
 ];
 
@@ -410,9 +410,12 @@ fn fixups_that_fit(rt: HostRuntime) {
     }
 }
 
+/// How many fixups there may be.
+const MOST_FIXUPS: u32 = 65_536;
+
 /// As many fixups as there may be, one for each of as many imports.
 fn push_most_fixups(rt: &impl Abort, fixups: &mut Vec<Fixup>) {
-    for i in 0..MAX_FIXUPS as u32 {
+    for i in 0..MOST_FIXUPS {
         push_fixup(rt, fixups, 8 * i, Base::Import(i));
     }
 }
@@ -431,7 +434,7 @@ fn test_most_fixups(rt: &impl Abort, fixups: &mut Vec<Fixup>) {
 
 #[test]
 fn most_fixups(rt: HostRuntime) {
-    let mut fixups = Vec::with_capacity(rt.alloc(), MAX_FIXUPS + 1).expect(&rt, "memory");
+    let mut fixups = Vec::with_capacity(rt.alloc(), MOST_FIXUPS as usize + 1).expect(&rt, "memory");
     test_most_fixups(&rt, &mut fixups);
 }
 

@@ -1,10 +1,10 @@
 //! Plans of worked lists and of long runs against the plain method.
 use crate::compared::compare_with;
 use crate::plans::in_a_row;
-use pef_reloc::{Base, Fixup, MAX_SECTIONS};
+use pef_reloc::{Base, Fixup};
 use std::alloc::Global;
 use std::process::Abort;
-use test_data::limits::{FIXUPS, IN_TURN_LENGTH};
+use test_data::limits::{IN_TURN, IN_TURN_LENGTH};
 use test_data::lists::{Listed, S0, S1, S2, fixups};
 
 /// Lists of a few fixups, and the least length.
@@ -61,12 +61,12 @@ fn labels_of_long_runs(rt: HostRuntime) {
     }
 }
 
-/// As many fixups as a section may have, at every other word, by all sections in turn.
+/// 16,384 fixups at every other word, by eight sections in turn.
 fn all_in_turn(rt: &impl Abort, alloc: Global) -> Vec<Fixup> {
     let mut fixups = Vec::new(alloc);
-    for i in 0..FIXUPS {
-        let offset = 8 * i;
-        let base = Base::Section(i % MAX_SECTIONS);
+    for i in 0..IN_TURN.fixups {
+        let offset = i.wrapping_mul(8);
+        let base = Base::Section(i % 8);
         fixups.push(Fixup { offset, base }).expect(rt, "memory");
     }
     fixups
