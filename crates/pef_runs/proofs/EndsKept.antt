@@ -14,7 +14,7 @@ use Rattle.pef_runs.specs.declared.ends.RunEnds.{RunEnds}
 use Rattle.pef_runs.specs.declared.known.Known.{Known}
 use Rattle.pef_runs.specs.declared.place.Place.{Place}
 use Rattle.pef_runs.specs.declared.place.At.{At}
-use Rattle.pef_runs.specs.Ends.{Brought, BroughtMaybe, EndRows, EndsAt, EndsOf, FarAt, FarKept, FarPairsAt, FarPairsKept, Holding, HoldingTwo, NearKept, PairBehind, PairsAt, PairsKept, SkipsAt, SkipsKept, SpacedAt, SpacedKept, WordsAt, WordsKept, base_import, far_pairs_run, pairs_run, rest_of, second_of, sections_of, words_run}
+use Rattle.pef_runs.specs.Ends.{Brought, BroughtMaybe, EndRows, EndsAt, EndsOf, FarAt, FarKept, FarPairsAt, FarPairsKept, Holding, HoldingTwo, NearKept, NearSmall, PairBehind, PairsAt, PairsKept, SkipsAt, SkipsKept, SpacedAt, SpacedKept, WordsAt, WordsKept, base_import, far_pairs_run, pairs_run, rest_of, second_of, sections_of, words_run}
 use Rattle.pef_runs.specs.Tables.{Agrees, place_of}
 use Rattle.pef_squares.specs.Windows.{WindowOf, Windowed}
 
@@ -252,6 +252,7 @@ pub record Passed (k : Known) (a : At) (start : Place) (old new : RunEnds) (pair
   pub far_pairs : BringsMaybe (far_pairs_run (sections_of a.first.base a.others.now)) start (far_pair ∷ []) old.far_pairs.next new.far_pairs.here
   pub near_len : length new.near.items ≡ length old.near.items
   pub near : (l : Labels) → Agrees l k a.others.now → NearKept l (a.first ∷ a.others.now) new.near.items
+  pub near_small : NearSmall (length k.registers.now + 1) (a.first ∷ a.others.now) new.near.items
   pub words : Brings (words_run a.first.base) start new.near.items old.words new.words
 
 -- all windows, at a fixup with a section and at one with an import
@@ -274,6 +275,7 @@ section_passed k a section start old new near far base p column_len far_len far_
       column_len = column_len;
       far_len = far_len;
       near = p.near;
+      near_small = p.near_small;
       far = λ l agrees. far_section l section a.first a.others.now new.far.items base (far_at l agrees);
     }
 
@@ -293,6 +295,7 @@ import_passed k a import start old new near far base p column far_same skips spa
       column_len = ap (λ v. length v.items) column ∙ p.ends.column_len;
       far_len = ap (λ v. length v.items) far_same ∙ p.ends.far_len;
       near = p.near;
+      near_small = p.near_small;
       far = λ l agrees. far_import l import a.first a.others.now new.far.items base;
     }
 
@@ -317,5 +320,6 @@ ends-map P Q count fixups e to ends = record {
   column_len = ends.column_len;
   far_len = ends.far_len;
   near = λ l q. ends.near l (to l q);
+  near_small = ends.near_small;
   far = λ l q. ends.far l (to l q);
 }

@@ -1,12 +1,13 @@
 -- What tables tell of the extension.
-use Rattle.std.proofs.Common.{◌≡◌, ◌≢◌, ℕ, ◌+◌, ◌-◌, ◌<◌, ◌≤◌, List, [], ◌∷◌, ◌++◌, length, Option, None, Some, ap, ap₂, sym, ◌∙◌, subst, arith}
+use Rattle.std.proofs.Common.{◌≡◌, ◌≢◌, ℕ, ◌+◌, ◌-◌, ◌<◌, ◌≤◌, List, [], ◌∷◌, ◌++◌, length, Option, None, Some, true, refl, slice_index, ap, ap₂, sym, ◌∙◌, subst, arith}
 use Rattle.pef_reloc.specs.declared.fixup.Base.TheVariants.{Section, Import}
 use Rattle.pef_reloc.specs.declared.fixup.Fixup.{Fixup}
-use Rattle.pef_cert.specs.Labels.{Labels, class_of}
+use Rattle.pef_cert.specs.Labels.{Labels, class_of, classes}
 use Rattle.pef_cert.specs.Extension.{change, extension, moved_value, offer_at}
 use Rattle.pef_cert.proofs.Laws.{extension-away, extension-end, extension-here, offer-kept_import, offer-kept_section}
 use Rattle.pef_runs.specs.declared.known.Known.{Known}
-use Rattle.pef_runs.specs.Tables.{Agrees, SameLabels, Shaped, label_in, skip_in}
+use Rattle.pef_runs.specs.Tables.{Agrees, IsRow, SameLabels, Shaped, begin_at, label_in, number_in, place_of, skip_in}
+use Rattle.std.proofs.lemmas.Bool.{eqb-true}
 
 pub value-end : (l : Labels) (fixups : List Fixup) (p c d : ℕ) → length fixups ≡ 0 → 0 ≡ extension l fixups p c d
 value-end l [] p c d none = sym (extension-end l p c d)
@@ -73,3 +74,11 @@ shaped_fewer k most m s low = record {
   label_small = λ left c d under. s.label_small left c d (omega (arith, under, low));
   skip_small = λ left c under. s.skip_small left c (omega (arith, under, low));
 }
+
+-- a row of labels is the extension right behind a fixup, where the next one is there
+pub near_copied : (l : Labels) (k : Known) (others : List Fixup) (p c d : ℕ) (row : List ℕ) → begin_at p others ≡ true → Agrees l k others → IsRow k (length others) row → c < classes l → d < classes l → slice_index row (place_of (classes l) c d) ≡ extension l others p c d
+near_copied l k [] p c d row at agrees is under_c under_d = absurd (cc)
+near_copied l k (g ∷ rest) p c d row at agrees is under_c under_d =
+    let same : classes l ≡ length k.registers.now + 1 = ap (λ rs. length rs + 1) agrees.same.registers_are in
+    value-here l k g rest (length (g ∷ rest)) p c d (slice_index row (place_of (classes l) c d)) refl agrees (omega (arith, under_c, same)) (omega (arith, under_d, same)) (sym (eqb-true g.offset p at))
+    (ap₂ (λ r n. number_in n r c d) is.is same)

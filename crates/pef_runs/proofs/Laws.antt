@@ -15,4 +15,4 @@ pub use Rattle.pef_runs.proofs.EndsKept.{ends-map}
 -- one more place of a line is filled
 pub use Rattle.pef_runs.proofs.LineLemmas.{line-set}
 -- places of pairs of classes, and one more that is filled
-pub use Rattle.pef_runs.proofs.PlaceLemmas.{Filled, class_under, filled-set, line_inside, next_along, next_line, place_under, same_place}
+pub use Rattle.pef_runs.proofs.PlaceLemmas.{Filled, class_under, filled-set, line_inside, next_along, next_line, place_under, same_place, zeros_at}

@@ -1,6 +1,6 @@
 -- Places of pairs of classes in a row, and rows that are filled place by place.
-use Rattle.std.proofs.Common.{◌≡◌, ℕ, zero, suc, ◌+◌, ◌*◌, ◌<◌, ◌≤◌, ◌⊎◌, inl, inr, List, length, slice_index, ap, ap₂, sym, ◌∙◌, subst, arith}
-use Rattle.std.specs.Prelude.{slice_set}
+use Rattle.std.proofs.Common.{◌≡◌, ℕ, zero, suc, ◌+◌, ◌*◌, ◌<◌, ◌≤◌, ◌⊎◌, inl, inr, refl, List, length, slice_index, ap, ap₂, sym, ◌∙◌, subst, arith}
+use Rattle.std.specs.Prelude.{replicate, slice_set}
 use Rattle.std.proofs.lemmas.Bool.Decides.{eqb_tells}
 use Rattle.std.proofs.lemmas.List.{get_or-set_other, get_or-set_same}
 use Rattle.std.proofs.lemmas.Nat.{mul-add-lt}
@@ -67,3 +67,12 @@ pub next_along : (r place c d c' d' : ℕ) → place ≡ place_of r c d → d < 
 next_along r place c d c' d' is under on c_is d_is =
     let there : place_of r c' d' ≡ c * r + (d + 1) = ap₂ (λ x y. x * r + y) c_is d_is in
     (omega (arith, is, there), omega (arith, under, on, d_is))
+
+-- zeros at each place
+zeros_line : (n i : ℕ) → slice_index (replicate n 0) i ≡ 0
+zeros_line zero i = refl
+zeros_line (suc n) zero = refl
+zeros_line (suc n) (suc i) = zeros_line n i
+
+pub zeros_at : (n i : ℕ) (row : List ℕ) → row ≡ replicate n 0 → slice_index row i ≡ 0
+zeros_at n i row is = ap (λ r. slice_index r i) is ∙ zeros_line n i

@@ -1,5 +1,5 @@
 -- The ends of runs, as windows keep what lies behind them.
-use Rattle.std.specs.Prelude.{◌≡◌, ◌<◌, ◌⊎◌, ℕ, suc, ◌+◌, ◌*◌, List, [], ◌∷◌, ◌++◌, length, Option, None, Some, slice_index}
+use Rattle.std.specs.Prelude.{◌≡◌, ◌≤◌, ◌<◌, ◌⊎◌, ℕ, suc, ◌+◌, ◌-◌, ◌*◌, List, [], ◌∷◌, ◌++◌, length, Option, None, Some, slice_index}
 use Rattle.pef_reloc.specs.declared.fixup.Base.{Base}
 use Rattle.pef_reloc.specs.declared.fixup.Base.TheVariants.{Section, Import}
 use Rattle.pef_reloc.specs.declared.fixup.Fixup.{Fixup}
@@ -11,7 +11,7 @@ use Rattle.pef_runs.specs.declared.runs.Run.TheVariants.{WordsOfC, WordsOfD, Spa
 use Rattle.pef_runs.specs.declared.ends.InTurn.{InTurn}
 use Rattle.pef_runs.specs.declared.ends.RunEnds.{RunEnds}
 use Rattle.pef_runs.specs.Runs.{imports, stride, unit}
-use Rattle.pef_runs.specs.Tables.{Agrees, place_of}
+use Rattle.pef_runs.specs.Tables.{Agrees, number_in, place_of}
 use Rattle.pef_squares.specs.Windows.{WindowOf, Windowed}
 
 -- rows have at a place the extension behind each end of a run, of up to so many units, the shortest first, at
@@ -119,6 +119,10 @@ abbrev pub NearKept : Labels → List Fixup → List ℕ → Type 0
 NearKept l [] row = Unit {0}
 NearKept l (f ∷ rest) row = (c d : ℕ) → c < classes l → d < classes l → slice_index row (place_of (classes l) c d) ≡ extension l rest (f.offset + 4) c d
 
+-- its numbers are small, with so many classes
+abbrev pub NearSmall : ℕ → List Fixup → List ℕ → Type 0
+NearSmall count fixups row = (c d : ℕ) → c < count → d < count → number_in count row c d ≤ 4 * (length fixups - 1) + 2
+
 abbrev pub FarAt : Labels → ℕ → List Fixup → List ℕ → Base → Type 0
 FarAt l p rest row (Section k) = (c d : ℕ) → c < classes l → d ≡ class_of l.registers k → slice_index row c ≡ extension l rest (p + 8) c d
 FarAt l p rest row (Import i) = Unit {0}
@@ -160,6 +164,7 @@ pub record EndsOf (P : Labels → Type 0) (count : ℕ) (fixups : List Fixup) (e
   pub column_len : length e.column.items ≡ count
   pub far_len : length e.far.items ≡ count
   pub near : (l : Labels) → P l → NearKept l fixups e.near.items
+  pub near_small : NearSmall count fixups e.near.items
   pub far : (l : Labels) → P l → FarKept l fixups e.far.items
 
 -- what is known of labels where tables agree with them

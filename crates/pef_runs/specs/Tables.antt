@@ -1,8 +1,8 @@
 -- Tables of labels and least skips, by how many fixups are left, and the labels that they agree with.
-use Rattle.std.specs.Prelude.{◌≡◌, ◌≤◌, ◌<◌, ℕ, ◌+◌, ◌*◌, List, [], ◌∷◌, length, slice_index, slice_index_or}
+use Rattle.std.specs.Prelude.{◌≡◌, ◌≤◌, ◌<◌, ℕ, ◌+◌, ◌*◌, ◌==◌, Bool, false, List, [], ◌∷◌, length, slice_index, slice_index_or}
 use Rattle.pef_reloc.specs.declared.fixup.Fixup.{Fixup}
 use Rattle.pef_cert.specs.Labels.{Labels, classes}
-use Rattle.pef_cert.specs.Extension.{OfferIs}
+use Rattle.pef_cert.specs.Extension.{OfferIs, extension}
 use Rattle.pef_runs.specs.declared.known.Known.{Known}
 use Rattle.pef_reloc.specs.Limits.{most_fixups, most_sections}
 
@@ -53,3 +53,13 @@ pub record SameLabels (l : Labels) (registers : List ℕ) (labels : List (List �
 pub record Agrees (l : Labels) (k : Known) (fixups : List Fixup) : Type 0 where
   pub same : SameLabels l k.registers.now k.labels.now.rows (length fixups)
   pub offers : OffersFrom l k.skips.now.rows fixups
+
+-- the first of some fixups is at a position
+abbrev pub begin_at : ℕ → List Fixup → Bool
+begin_at p [] = false
+begin_at p (f ∷ rest) = f.offset == p
+
+-- a value is the extension where fixups are left, and small
+pub record ValueIs (k : Known) (rest : List Fixup) (p c d value : ℕ) : Type 0 where
+  pub is : (l : Labels) → Agrees l k rest → value ≡ extension l rest p c d
+  pub small : value ≤ 4 * length rest + 2

@@ -1,9 +1,9 @@
 ghost use Rattle.std.specs.Prelude.{◌≡◌, ◌+◌, ◌*◌, ◌<◌, ◌≤◌, ◌∷◌, [], ℕ, IfSome, List, length, slice_index};
 ghost use Rattle.pef_cert.specs.Extension.{extension, offer_at};
 ghost use Rattle.pef_cert.specs.Labels.{Labels};
-ghost use Rattle.pef_runs.specs.Ends.{FarAt, NearKept};
+ghost use Rattle.pef_runs.specs.Ends.{FarAt, NearKept, NearSmall};
 ghost use Rattle.pef_runs.specs.Places.{AtOf};
-ghost use Rattle.pef_runs.specs.Tables.{Agrees, IsRow, Shaped, place_of};
+ghost use Rattle.pef_runs.specs.Tables.{Agrees, IsRow, Shaped, ValueIs, begin_at, number_in, place_of};
 ghost use Rattle.pef_reloc.specs.declared.fixup.Base.TheVariants.{Section};
 ghost use Rattle.pef_reloc.specs.declared.fixup.Fixup.{Fixup};
 ghost use Rattle.pef_reloc.specs.Limits.{most_sections};
@@ -137,13 +137,30 @@ impl<'a> Known<'a> {
         requires len { length near.old ≡ (length self.registers.now + 1) * (length self.registers.now + 1) }
         ensures len { length near.new ≡ length near.old }
         ensures is { (l : Labels) → Agrees l self.entry at.entry.others.now → NearKept l (at.entry.first ∷ at.entry.others.now) near.new }
+        ensures small { NearSmall (length self.entry.registers.now + 1) (at.entry.first ∷ at.entry.others.now) near.new }
     {
         let position = u64::from(at.first.offset) + WORD;
         let row = self.row(at.others.len());
+        if begin_at(at.others, position) {
+            self.looks.add(row.len() as u64);
+            near.copy_from_slice(row);
+        } else {
+            self.fill_values(row, at.others, position, near);
+        }
+    }
+
+    /// Fills in the extension where these fixups are left, at a position in bytes, for each pair of classes.
+    fn fill_values(self, row: &[u32], rest: &[Fixup], position: u64, values: &mut [u32])
+        requires row { IsRow self (length rest.now) row.now }
+        requires shaped { Shaped self (length rest.now) }
+        requires len { length values.old ≡ (length self.registers.now + 1) * (length self.registers.now + 1) }
+        ensures len { length values.new ≡ length values.old }
+        ensures are { (c d : ℕ) → c < length self.entry.registers.now + 1 → d < length self.entry.registers.now + 1 → ValueIs self.entry rest.now position c d (number_in (length self.entry.registers.now + 1) values.new c d) }
+    {
         let classes = self.classes();
         let (mut c, mut d) = (0, 0);
-        'places: for place in 0..near.len() {
-            near[place] = self.value_in(row, at.others, position, c, d) as u32;
+        'places: for place in 0..values.len() {
+            values[place] = self.value_in(row, rest, position, c, d) as u32;
             d += 1;
             if d == classes {
                 (c, d) = (c + 1, 0);
@@ -179,5 +196,15 @@ impl<'a> Known<'a> {
         'classes: for c in 0..column.len() {
             column[c] = row[self.place(c, class)];
         }
+    }
+}
+
+/// Whether the first of some fixups is at a position.
+fn begin_at(fixups: &[Fixup], position: u64) -> bool
+    ensures { result ≡ begin_at position fixups.now }
+{
+    match fixups.first() {
+        Some(first) => u64::from(first.offset) == position,
+        None => false,
     }
 }

@@ -1,7 +1,7 @@
-use Rattle.std.proofs.Common.{◌∙◌, [], ◌∷◌, List, Option, ap, length, refl, subst, sym, ℕ}
+use Rattle.std.proofs.Common.{◌+◌, ◌∙◌, [], ◌∷◌, List, Option, ap, length, refl, subst, sym, ℕ}
 use Rattle.std.proofs.lemmas.List.{with_items_is}
 use Rattle.pef_runs.specs.declared.runs.Run.{Run}
-use Rattle.pef_runs.specs.Ends.{NearKept, far_pairs_run, pairs_run, sections_of, words_run}
+use Rattle.pef_runs.specs.Ends.{NearKept, NearSmall, far_pairs_run, pairs_run, sections_of, words_run}
 use Rattle.pef_runs.specs.declared.ends.InTurn.{InTurn}
 use Rattle.pef_squares.specs.Windows.{Windowed}
 use Rattle.pef_runs.proofs.EndsKept.{Brings, BringsMaybe, StartAt, import_passed, section_passed}
@@ -24,6 +24,7 @@ returns-in-Import c =
       far_pairs = subst (λ (r : Option Run). BringsMaybe r c.start-start.result (c.behind_pair-near.result.1 ∷ []) a.self.now.far_pairs.next c.pass-2.new.self.here) c.far_pairs_at.ensures c.in_ok-pass-2.ensures.here;
       near_len = ap length items ∙ len;
       near = λ l agrees. subst (λ (row : List ℕ). NearKept l (a.at.first ∷ a.at.others.now) row) (sym items) (c.fill_behind.ensures.is l agrees);
+      near_small = subst (λ (row : List ℕ). NearSmall (length a.known.registers.now + 1) (a.at.first ∷ a.at.others.now) row) (sym items) c.fill_behind.ensures.small;
       words = subst (λ (row : List ℕ). Brings (words_run a.at.first.base) c.start-start.result row a.self.now.words c.bring.new.window) c.deref.ensures.value
           (subst (λ (r : Run). Brings r c.start-start.result c.deref.result.now a.self.now.words c.bring.new.window) c.words_at.ensures c.in_ok-bring.ensures);
     }) refl refl refl refl
@@ -50,6 +51,7 @@ returns-in_ok-pass_section-in-Section c =
           (subst (λ (r : Option Run). BringsMaybe r c.start-start.result (c.behind_pair-near.result.1 ∷ []) a.self.now.far_pairs.next c.pass-2.new.self.here) c.far_pairs_at.ensures c.in_ok-pass-2.ensures.here);
       near_len = ap length near_items ∙ len;
       near = λ l agrees. subst (λ (row : List ℕ). NearKept l (a.at.first ∷ a.at.others.now) row) (sym near_items) (c.fill_behind.ensures.is l agrees);
+      near_small = subst (λ (row : List ℕ). NearSmall (length a.known.registers.now + 1) (a.at.first ∷ a.at.others.now) row) (sym near_items) c.fill_behind.ensures.small;
       words = subst (λ (w : Windowed). Brings (words_run a.at.first.base) c.start-start.result new.near.items a.self.now.words w) (sym p.words)
           (subst (λ (row : List ℕ). Brings (words_run a.at.first.base) c.start-start.result row a.self.now.words c.bring.new.window) (c.deref.ensures.value ∙ sym p.same_near)
           (subst (λ (r : Run). Brings r c.start-start.result c.deref.result.now a.self.now.words c.bring.new.window) c.words_at.ensures c.in_ok-bring.ensures));
