@@ -14,7 +14,7 @@ use pef_reloc::{Base, Instr};
 use pef_runs::{Choice, Here, Known, Place, Run, Step};
 
 /// How many imports can be named in nine bits.
-const SMALL_IMPORTS: u32 = 512;
+pub(crate) const SMALL_IMPORTS: u32 = 512;
 
 /// The place behind the first fixup.
 pub(crate) fn place_behind<'a>(here: Here<'a>, import_index: u64) -> Place<'a>
@@ -60,7 +60,7 @@ fn direct_section<'a>(known: Known<'a>, here: Here<'a>, section: u32) -> Choice<
 }
 
 /// The addition of a section alone.
-pub(crate) fn single_section<'a>(known: Known<'a>, here: Here<'a>, section: u32) -> Choice<'a>
+fn single_section<'a>(known: Known<'a>, here: Here<'a>, section: u32) -> Choice<'a>
     requires here { HereOf known here }
     requires at { here.place.position ≡ here.first.offset }
     requires base { here.first.base ≡ Section section }
@@ -193,7 +193,7 @@ fn direct_import<'a>(known: Known<'a>, here: Here<'a>, import: u32) -> Choice<'a
 }
 
 /// The addition of an import alone.
-pub(crate) fn single_import<'a>(known: Known<'a>, here: Here<'a>, import: u32) -> Choice<'a>
+fn single_import<'a>(known: Known<'a>, here: Here<'a>, import: u32) -> Choice<'a>
     requires here { HereOf known here }
     requires at { here.place.position ≡ here.first.offset }
     requires base { here.first.base ≡ Import import }

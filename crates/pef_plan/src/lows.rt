@@ -1,6 +1,7 @@
 ghost use Rattle.std.specs.Prelude.{◌≡◌, ◌+◌, ◌*◌, ◌==◌, ◌<◌, ◌≤◌, ◌∷◌, ℕ, length, true};
 ghost use Rattle.pef_cert.specs.Labels.{Labels, class_of};
-ghost use Rattle.pef_cert.specs.LabelTests.{base_test, second_test};
+ghost use Rattle.pef_cert.specs.Extension.{extension};
+ghost use Rattle.pef_cert.specs.LabelTests.{base_test, import_cost, second_test};
 ghost use Rattle.pef_runs.specs.Ends.{EndsAt};
 ghost use Rattle.pef_runs.specs.Runs.{Holds, NextBase};
 ghost use Rattle.pef_runs.specs.Places.{HereOf, Led};
@@ -8,7 +9,7 @@ ghost use Rattle.pef_plan.specs.Kept.Met.{MetInC, MetInD, PairsMet};
 ghost use Rattle.pef_runs.specs.Tables.{Agrees};
 ghost use Rattle.pef_reloc.specs.declared.fixup.Base.TheVariants.{Import, Section};
 
-use crate::direct::{single_import, single_section};
+use crate::direct::SMALL_IMPORTS;
 use pef_cert::class_of;
 use pef_reloc::Base;
 use pef_runs::{Here, Known, Run, RunEnds};
@@ -37,9 +38,21 @@ fn low_section(known: Known<'_>, here: Here<'_>, ends: &RunEnds, section: u32) -
     ensures least { (l : Labels) (value : ℕ) → Agrees l known.entry here.entry.others.now → value ≤ result → base_test l value here.entry.place.import_index here.entry.first here.entry.others.now here.entry.place.c here.entry.place.d (Section section) ≡ true }
     ensures small { result ≤ 4 * length here.entry.others.now + 4 }
 {
-    let one = single_section(known, here, section);
-    let best = low_in_c(known, here, ends, section, one.value);
+    let one = section_alone(known, here, ends);
+    let best = low_in_c(known, here, ends, section, one);
     low_in_d(known, here, ends, section, best)
+}
+
+/// What the addition of a section alone leads to.
+fn section_alone(known: Known<'_>, here: Here<'_>, ends: &RunEnds) -> u64
+    requires here { HereOf known here }
+    requires at { here.place.position ≡ here.first.offset }
+    requires ends { EndsAt known here.others.now (here.first ∷ here.others.now) ends.now }
+    ensures led { (section : ℕ) → here.entry.first.base ≡ Section section → Led known.entry here.entry result }
+    ensures value { (l : Labels) → Agrees l known.entry here.entry.others.now → result ≡ 1 + extension l here.entry.others.now (here.entry.first.offset + 4) here.entry.place.c here.entry.place.d }
+    ensures small { result ≤ 4 * length here.entry.others.now + 4 }
+{
+    1 + ends.behind(known, here)
 }
 
 /// The lesser of a value and of what runs of a section lead to, where register C holds it.
@@ -143,9 +156,27 @@ fn low_import(known: Known<'_>, here: Here<'_>, ends: &RunEnds, import: u32) -> 
     ensures least { (l : Labels) (value : ℕ) → Agrees l known.entry here.entry.others.now → value ≤ result → base_test l value here.entry.place.import_index here.entry.first here.entry.others.now here.entry.place.c here.entry.place.d (Import import) ≡ true }
     ensures small { result ≤ 4 * length here.entry.others.now + 4 }
 {
-    let one = single_import(known, here, import);
+    let one = import_alone(known, here, ends, import);
     if u64::from(import) != here.place.import_index {
-        return one.value;
+        return one;
     }
-    ends.low_of_run(known, here, Run::Imports, one.value)
+    ends.low_of_run(known, here, Run::Imports, one)
+}
+
+/// What the addition of an import alone leads to.
+fn import_alone(known: Known<'_>, here: Here<'_>, ends: &RunEnds, import: u32) -> u64
+    requires here { HereOf known here }
+    requires at { here.place.position ≡ here.first.offset }
+    requires base { here.first.base ≡ Import import }
+    requires ends { EndsAt known here.others.now (here.first ∷ here.others.now) ends.now }
+    ensures led { Led known.entry here.entry result }
+    ensures value { (l : Labels) → Agrees l known.entry here.entry.others.now → result ≡ import_cost import + extension l here.entry.others.now (here.entry.first.offset + 4) here.entry.place.c here.entry.place.d }
+    ensures small { result ≤ 4 * length here.entry.others.now + 4 }
+{
+    let behind = ends.behind(known, here);
+    if import < SMALL_IMPORTS {
+        1 + behind
+    } else {
+        2 + behind
+    }
 }

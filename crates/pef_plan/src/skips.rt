@@ -29,13 +29,7 @@ pub(crate) fn fill_skips(known: Known<'_>, at: At<'_>, ends: &RunEnds, skips: &m
 }
 
 /// The same where the fixup has a section.
-fn fill_section(
-    known: Known<'_>,
-    at: At<'_>,
-    ends: &RunEnds,
-    section: u32,
-    skips: &mut [u32],
-)
+fn fill_section(known: Known<'_>, at: At<'_>, ends: &RunEnds, section: u32, skips: &mut [u32])
     requires at { AtOf known at }
     requires ends { EndsAt known at.others.now (at.first ∷ at.others.now) ends.now }
     requires base { at.first.base ≡ Section section }
@@ -59,8 +53,8 @@ fn low_skip(known: Known<'_>, here: Here<'_>, ends: &RunEnds, section: u32) -> u
     ensures is { (l : Labels) → Agrees l known.entry here.entry.others.now → skips_at l here.entry.first here.entry.others.now here.entry.place.c here.entry.place.d ≡ Some result }
     ensures small { result ≤ 4 * length here.entry.others.now + 4 }
 {
-    let one = single_skip(known, here, 0, section);
-    ends.low_of_run(known, here, Run::Skip { words: 0, section }, one.value)
+    let one = 1 + ends.behind(known, here);
+    ends.low_of_run(known, here, Run::Skip { words: 0, section }, one)
 }
 
 /// The best skip that passes so many words and then adds at the fixup, which has a section.

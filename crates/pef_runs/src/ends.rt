@@ -1,4 +1,5 @@
 ghost use Rattle.std.specs.Prelude.{◌≡◌, ◌+◌, ◌*◌, ◌^◌, ◌<◌, ◌≤◌, ◌∷◌, ◌⊎◌, [], ℕ, IfOk, List, OnOk, length};
+ghost use Rattle.pef_cert.specs.Extension.{extension};
 ghost use Rattle.pef_cert.specs.Labels.{Labels};
 ghost use Rattle.pef_runs.specs.Places.{AtOf, HereOf, Led};
 ghost use Rattle.pef_runs.specs.Runs.{EndOf, Ends, RunBegins, RunOf};
@@ -72,11 +73,14 @@ impl RunEnds {
         })
     }
 
-    /// What lies right behind the fixup, for each pair of classes.
-    pub fn near(&self) -> &[u32]
-        ensures { result.now ≡ self.now.near.items }
+    /// The extension right behind the fixup, in halfwords.
+    pub fn behind(&self, known: Known<'_>, here: Here<'_>) -> u64
+        requires here { HereOf known here }
+        requires ends { EndsAt known here.others.now (here.first ∷ here.others.now) self.now }
+        ensures is { (l : Labels) → Agrees l known.entry here.entry.others.now → result ≡ extension l here.entry.others.now (here.entry.first.offset + 4) here.entry.place.c here.entry.place.d }
+        ensures small { result ≤ 4 * length here.entry.others.now + 2 }
     {
-        &self.near
+        u64::from(self.near[known.place(here.place.c, here.place.d)])
     }
 
     /// Goes on to the fixup before, whose tables are not filled yet.
@@ -95,7 +99,13 @@ impl RunEnds {
         self.pairs.pass(pairs_at(at), start, &[near], looks)?;
         self.far_pairs.pass(far_pairs_at(at), start, &[far], looks)?;
         known.fill_behind(at, &mut self.near);
-        bring(&mut self.words, words_at(at.first.base), start, &self.near, looks)?;
+        bring(
+            &mut self.words,
+            words_at(at.first.base),
+            start,
+            &self.near,
+            looks,
+        )?;
         match at.first.base {
             Base::Section(section) => {
                 self.pass_section(known, at, section)?;
@@ -127,10 +137,26 @@ impl RunEnds {
     {
         let start = at.start();
         let looks = known.looks;
-        known.copy_column(&self.near, class_of(known.registers, section), &mut self.column);
+        known.copy_column(
+            &self.near,
+            class_of(known.registers, section),
+            &mut self.column,
+        );
         known.fill_beyond(at, section, &mut self.far);
-        bring(&mut self.skips, Run::WordsOfD(section), start, &self.column, looks)?;
-        bring(&mut self.spaced, Run::Spaced(section), start, &self.far, looks)?;
+        bring(
+            &mut self.skips,
+            Run::WordsOfD(section),
+            start,
+            &self.column,
+            looks,
+        )?;
+        bring(
+            &mut self.spaced,
+            Run::Spaced(section),
+            start,
+            &self.far,
+            looks,
+        )?;
         Ok(())
     }
 

@@ -114,10 +114,10 @@ aged_low width older newer low row lower got is (inl old) = row-both width older
 aged_low width older newer low row lower got is (inr first) =
     let same : low ≡ row = same_Some low row (sym first.1 ∙ got) in
     let alone : LowRow width (row ∷ []) lower = λ i under.
-        let both : slice_index lower i ≡ min (slice_index low i) (slice_index row i) = is i under in
-        let one : slice_index low i ≡ slice_index row i = ap (λ l. slice_index l i) same in
-        let equal : slice_index lower i ≡ slice_index row i = omega (arith, both, one) in
-        subst (λ (v : ℕ). LowIn (row ∷ []) i v) (sym equal) (row-one width row i under) in
+    let both : slice_index lower i ≡ min (slice_index low i) (slice_index row i) = is i under in
+    let one : slice_index low i ≡ slice_index row i = ap (λ l. slice_index l i) same in
+    let equal : slice_index lower i ≡ slice_index row i = omega (arith, both, one) in
+    subst (λ (v : ℕ). LowIn (row ∷ []) i v) (sym equal) (row-one width row i under) in
     subst (λ (rows : List (List ℕ)). LowRow width (rows ++ row ∷ []) lower) (sym first.0) alone
 
 pub aged-start : (width : ℕ) (lows newer : List (List ℕ)) (low : List ℕ) → lows ≡ [] → (0 < length newer → slice_get newer (length newer - 1) ≡ Some low) → Aged width (reverse newer) lows newer low

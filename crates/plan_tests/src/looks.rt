@@ -24,14 +24,13 @@ fn looks_and_labels(rt: &impl Abort, alloc: Global, fixups: &[Fixup]) -> (u64, u
 /// So many words of section 1 in a row, and the looks that their plan takes. Section 1 and every other section are two
 /// classes of a register, so a row has four labels, and a column of it two.
 ///
-/// For each word the values right after it (4), a word further on if register D holds the section (2), for its
-/// labels (4) and for a skip (2) are read, and three windows take in a row: of words (4), of skips (2), of words a word
-/// apart (2). The two windows of pairs take in a number each (2) for each word but the last. That is 20 for each word,
-/// and 2 for each but the last. Then the program is read off at the first word: the end after one word, each end of
-/// the run of words, and the one end of a run a word apart. For two words that makes 40 + 2 + 4. For 64 words it makes
-/// 1,280 + 126 + 66; and the window of skips, which has room for 63, looks once more at 63 rows of two as they grow
-/// old, 126 looks.
-const LOOKS: &[(u32, u64)] = &[(2, 46), (64, 1_598)];
+/// For each word the values right after it (4) and a word further on if register D holds the section (2) are read, and
+/// three windows take in a row: of words (4), of skips (2), of words a word apart (2). The two windows of pairs take in a
+/// number each (2) for each word but the last. That is 14 for each word, and 2 for each but the last. Then the program
+/// is read off at the first word: the end after one word, each end of the run of words, and the one end of a run a word
+/// apart. For two words that makes 28 + 2 + 4. For 64 words it makes 896 + 126 + 66; and the window of skips, which has
+/// room for 63, looks once more at 63 rows of two as they grow old, 126 looks.
+const LOOKS: &[(u32, u64)] = &[(2, 34), (64, 1_214)];
 
 #[test]
 fn looks_of_words_in_a_row(rt: HostRuntime) {

@@ -1,18 +1,17 @@
 use Rattle.std.proofs.Common.{◌≡◌, ◌∷◌, ℕ, true, arith, subst}
 use Rattle.pef_cert.specs.LabelTests.{numbered_test}
 use Rattle.pef_runs.specs.declared.runs.Run.TheVariants.{Imports}
-use Rattle.pef_runs.proofs.Laws.{chosen-led}
 use Rattle.pef_plan.proofs.RunTests.{ends_here, import_met, imports_met}
 use Rattle.pef_plan.proofs.lows.low_import.Goals as goal
 
 pub returns-clause-led : goal.returns-clause-led
-returns-clause-led c = c.low_of_run.ensures.led (chosen-led c.args.known c.args.here c.single_import-one.result c.single_import-one.ensures.chosen)
+returns-clause-led c = c.low_of_run.ensures.led c.import_alone-one.ensures.led
 
 pub returns-clause-least : goal.returns-clause-least
 returns-clause-least c = λ l value agrees low.
     let h = c.args.here in
     let better = c.low_of_run.ensures.better in
-    let one = c.single_import-one.ensures.value l agrees in
+    let one = c.import_alone-one.ensures.value l agrees in
     let same : h.place.import_index ≡ c.args.import = (let e = c.from.ensures in let t = c.if-from-here.false in omega (arith, e, t)) in
     import_met l h c.args.import value (omega (arith, low, better, one)) (λ is.
     subst (λ (m : ℕ). numbered_test l value h.place.c h.place.d 512 h.first.offset m (h.first ∷ h.others.now) ≡ true) same

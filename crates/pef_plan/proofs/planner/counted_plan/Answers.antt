@@ -1,4 +1,4 @@
-use Rattle.std.proofs.Common.{List, ℕ, refl, subst, sym, ◌∙◌, ap}
+use Rattle.std.proofs.Common.{List, ℕ, subst, sym, ◌∙◌, ap}
 use Rattle.pef_cert.specs.Valid.{RegistersOf}
 use Rattle.pef_labels.specs.Certified.{Certified}
 use Rattle.pef_plan.specs.Kept.Tables.{TablesOf}

@@ -1,4 +1,4 @@
-use Rattle.std.proofs.Common.{◌≡◌, ◌+◌, ◌*◌, ◌<◌, ◌≤◌, ◌∙◌, ap, arith, length, refl, subst, sym, ℕ}
+use Rattle.std.proofs.Common.{◌≡◌, ◌+◌, ◌<◌, ◌≤◌, ◌∙◌, arith, length, sym, ℕ}
 use Rattle.std.proofs.lemmas.List.{length-set}
 use Rattle.pef_runs.specs.Tables.{place_of}
 use Rattle.pef_runs.proofs.Laws.{class_under, filled-set, line-set, next_along, next_line, place_under}

@@ -1,4 +1,4 @@
-use Rattle.std.proofs.Common.{◌≡◌, ◌∙◌, ℕ, arith, length, subst}
+use Rattle.std.proofs.Common.{◌∙◌, ℕ, arith, length, subst}
 use Rattle.std.proofs.lemmas.List.{length-set}
 use Rattle.pef_runs.specs.Tables.{number_in}
 use Rattle.pef_runs.proofs.Laws.{line-set}

@@ -1,7 +1,6 @@
 use Rattle.std.proofs.Common.{◌≡◌, ◌∙◌, ◌+◌, ◌-◌, ◌*◌, ◌++◌, ◌∷◌, List, ℕ, [], ap, ap₂, drop, length, rules, take, refl, subst, sym, arith}
-use Rattle.std.proofs.lemmas.List.{drop_all, get_or_read, length-drop, length-replicate, with_items_is}
+use Rattle.std.proofs.lemmas.List.{drop_all, get_or_read, length-replicate, with_items_is}
 use Rattle.pef_reloc.specs.Deliveries.{index_after}
-use Rattle.pef_reloc.proofs.Laws.{fixups_fit-parts}
 use Rattle.pef_runs.specs.Ends.{EndsOf}
 use Rattle.pef_runs.specs.Tables.{SameLabels}
 use Rattle.pef_plan.specs.Kept.Tables.{TablesOf}

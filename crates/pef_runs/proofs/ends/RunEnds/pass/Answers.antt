@@ -4,7 +4,7 @@ use Rattle.pef_runs.specs.declared.runs.Run.{Run}
 use Rattle.pef_runs.specs.Ends.{NearKept, NearSmall, far_pairs_run, pairs_run, sections_of, words_run}
 use Rattle.pef_runs.specs.declared.ends.InTurn.{InTurn}
 use Rattle.pef_squares.specs.Windows.{Windowed}
-use Rattle.pef_runs.proofs.EndsKept.{Brings, BringsMaybe, StartAt, import_passed, section_passed}
+use Rattle.pef_runs.proofs.EndsKept.{Brings, BringsMaybe, import_passed, section_passed}
 use Rattle.pef_runs.proofs.ends.RunEnds.pass.Goals as goal
 
 pub returns-in-Import : goal.returns-in-Import

@@ -1,11 +1,10 @@
-use Rattle.std.proofs.Common.{◌≡◌, ◌+◌, ◌<◌, ◌∙◌, ap, ap₂, length, slice_index, refl, subst, sym, List, ℕ}
+use Rattle.std.proofs.Common.{◌+◌, ◌∙◌, ap, ap₂, length, slice_index, subst, sym, List, ℕ}
 use Rattle.std.proofs.lemmas.List.{with_items_is}
-use Rattle.pef_cert.specs.Labels.{Labels, class_of}
+use Rattle.pef_cert.specs.Labels.{Labels}
 use Rattle.pef_reloc.specs.declared.fixup.Base.TheVariants.{Section}
 use Rattle.pef_runs.specs.Ends.{FarAt}
 use Rattle.pef_runs.specs.Tables.{Agrees, place_of}
-use Rattle.pef_runs.specs.declared.runs.Run.TheVariants.{Spaced, WordsOfD}
-use Rattle.pef_runs.proofs.EndsKept.{Brings, ColumnAt, StartAt, column_at, skips_brought, spaced_brought}
+use Rattle.pef_runs.proofs.EndsKept.{ColumnAt, StartAt, column_at, skips_brought, spaced_brought}
 use Rattle.pef_runs.proofs.ends.RunEnds.pass_section.Goals as goal
 
 pub returns-clause-skips : goal.returns-clause-skips
@@ -18,7 +17,7 @@ returns-clause-skips c =
     let row = c.deref-2.ensures.value ∙ items in
     skips_brought P (length a.known.registers.now + 1) a.section a.at.first a.at.others.now c.start-start.result c.deref-2.result.now a.self.now.skips c.bring.new.window at c.requires.base c.requires.skips
     (λ l agrees. subst (λ (r : List ℕ). ColumnAt l a.at.first a.at.others.now r a.section) (sym row) (column_at l a.known a.at a.section a.self.now.near.items c.copy_column.new.column agrees (c.requires.near l agrees)
-        (λ x under. c.copy_column.ensures.is x under ∙ ap₂ (λ near class. slice_index near (place_of (length a.known.registers.now + 1) x class)) c.deref.ensures.value c.class_of.ensures)))
+    (λ x under. c.copy_column.ensures.is x under ∙ ap₂ (λ near class. slice_index near (place_of (length a.known.registers.now + 1) x class)) c.deref.ensures.value c.class_of.ensures)))
     c.in_ok-bring.ensures
 
 pub returns-clause-spaced : goal.returns-clause-spaced

@@ -1,4 +1,4 @@
-use Rattle.std.proofs.Common.{◌≡◌, ◌+◌, ◌*◌, ◌<◌, ◌∙◌, arith, length, sym, ℕ}
+use Rattle.std.proofs.Common.{◌≡◌, ◌+◌, ◌<◌, ◌∙◌, arith, length, sym, ℕ}
 use Rattle.std.proofs.lemmas.List.{length-set}
 use Rattle.pef_runs.specs.Tables.{ValueIs, place_of}
 use Rattle.pef_runs.proofs.PlaceLemmas.{class_under, filled-set, next_along, next_line, place_under}

@@ -1,4 +1,4 @@
-use Rattle.std.proofs.Common.{◌∙◌, ◌++◌, ◌∷◌, [], ap, sym, take, ◌-◌}
+use Rattle.std.proofs.Common.{◌∙◌, ◌++◌, ◌∷◌, [], ap, take, ◌-◌}
 use Rattle.pef_squares.proofs.WindowLemmas.{window-add}
 use Rattle.pef_squares.proofs.window.Window.add.Goals as goal
 

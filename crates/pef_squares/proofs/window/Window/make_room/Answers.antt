@@ -1,4 +1,4 @@
-use Rattle.std.proofs.Common.{◌∙◌, ap, arith, refl}
+use Rattle.std.proofs.Common.{ap, arith, refl}
 use Rattle.pef_squares.proofs.WindowLemmas.{window-pop}
 use Rattle.pef_squares.proofs.window.Window.make_room.Goals as goal
 
