@@ -5,7 +5,7 @@ ghost use Rattle.pef_cert.specs.LabelTests.{base_test, import_cost, second_test}
 ghost use Rattle.pef_runs.specs.Ends.{EndsAt};
 ghost use Rattle.pef_runs.specs.Runs.{Holds, NextBase};
 ghost use Rattle.pef_runs.specs.Places.{HereOf, Led};
-ghost use Rattle.pef_plan.specs.Kept.Met.{MetInC, MetInD, PairsMet};
+ghost use Rattle.pef_plan.specs.Kept.Met.{ClassOf, MetInC, MetInD, PairsMet};
 ghost use Rattle.pef_runs.specs.Tables.{Agrees};
 ghost use Rattle.pef_reloc.specs.declared.fixup.Base.TheVariants.{Import, Section};
 
@@ -14,33 +14,43 @@ use pef_cert::class_of;
 use pef_reloc::Base;
 use pef_runs::{Here, Known, Run, RunEnds};
 
-/// What the best instruction leads to that begins by adding at a fixup.
-pub(crate) fn low(known: Known<'_>, here: Here<'_>, ends: &RunEnds) -> u64
+/// A section and its class.
+#[derive(Clone, Copy)]
+struct Classed {
+    section: u32,
+    class: usize,
+}
+
+/// What the best instruction leads to that begins by adding at a fixup, whose section, if it has one, is of
+/// this class.
+pub(crate) fn low(known: Known<'_>, here: Here<'_>, ends: &RunEnds, class: usize) -> u64
     requires here { HereOf known here }
     requires at { here.place.position ≡ here.first.offset }
+    requires class { ClassOf known.registers.now here.first.base class }
     requires ends { EndsAt known here.others.now (here.first ∷ here.others.now) ends.now }
     ensures led { Led known.entry here.entry result }
     ensures least { (l : Labels) (value : ℕ) → Agrees l known.entry here.entry.others.now → value ≤ result → base_test l value here.entry.place.import_index here.entry.first here.entry.others.now here.entry.place.c here.entry.place.d here.entry.first.base ≡ true }
     ensures small { result ≤ 4 * length here.entry.others.now + 4 }
 {
     match here.first.base {
-        Base::Section(section) => low_section(known, here, ends, section),
+        Base::Section(section) => low_section(known, here, ends, Classed { section, class }),
         Base::Import(import) => low_import(known, here, ends, import),
     }
 }
 
-fn low_section(known: Known<'_>, here: Here<'_>, ends: &RunEnds, section: u32) -> u64
+fn low_section(known: Known<'_>, here: Here<'_>, ends: &RunEnds, of: Classed) -> u64
     requires here { HereOf known here }
     requires at { here.place.position ≡ here.first.offset }
-    requires base { here.first.base ≡ Section section }
+    requires base { here.first.base ≡ Section of.section }
+    requires class { class_of known.registers.now of.section ≡ of.class }
     requires ends { EndsAt known here.others.now (here.first ∷ here.others.now) ends.now }
     ensures led { Led known.entry here.entry result }
-    ensures least { (l : Labels) (value : ℕ) → Agrees l known.entry here.entry.others.now → value ≤ result → base_test l value here.entry.place.import_index here.entry.first here.entry.others.now here.entry.place.c here.entry.place.d (Section section) ≡ true }
+    ensures least { (l : Labels) (value : ℕ) → Agrees l known.entry here.entry.others.now → value ≤ result → base_test l value here.entry.place.import_index here.entry.first here.entry.others.now here.entry.place.c here.entry.place.d (Section of.section) ≡ true }
     ensures small { result ≤ 4 * length here.entry.others.now + 4 }
 {
     let one = section_alone(known, here, ends);
-    let best = low_in_c(known, here, ends, section, one);
-    low_in_d(known, here, ends, section, best)
+    let best = low_in_c(known, here, ends, of, one);
+    low_in_d(known, here, ends, of, best)
 }
 
 /// What the addition of a section alone leads to.
@@ -56,17 +66,19 @@ fn section_alone(known: Known<'_>, here: Here<'_>, ends: &RunEnds) -> u64
 }
 
 /// The lesser of a value and of what runs of a section lead to, where register C holds it.
-fn low_in_c(known: Known<'_>, here: Here<'_>, ends: &RunEnds, section: u32, first: u64) -> u64
+fn low_in_c(known: Known<'_>, here: Here<'_>, ends: &RunEnds, of: Classed, first: u64) -> u64
     requires here { HereOf known here }
     requires at { here.place.position ≡ here.first.offset }
-    requires base { here.first.base ≡ Section section }
+    requires base { here.first.base ≡ Section of.section }
+    requires class { class_of known.registers.now of.section ≡ of.class }
     requires ends { EndsAt known here.others.now (here.first ∷ here.others.now) ends.now }
     requires first { Led known here first }
     ensures led { Led known.entry here.entry result }
     ensures better { result ≤ first }
-    ensures least { (l : Labels) (value : ℕ) → Agrees l known.entry here.entry.others.now → value ≤ result → (class_of l.registers section == here.entry.place.c) ≡ true → MetInC l here.entry section value }
+    ensures least { (l : Labels) (value : ℕ) → Agrees l known.entry here.entry.others.now → value ≤ result → (class_of l.registers of.section == here.entry.place.c) ≡ true → MetInC l here.entry of.section value }
 {
-    if class_of(known.registers, section) != here.place.c {
+    let Classed { section, class } = of;
+    if class != here.place.c {
         return first;
     }
     let words = ends.low_of_run(known, here, Run::WordsOfC(section), first);
@@ -74,17 +86,19 @@ fn low_in_c(known: Known<'_>, here: Here<'_>, ends: &RunEnds, section: u32, firs
 }
 
 /// The same, where register D holds it.
-fn low_in_d(known: Known<'_>, here: Here<'_>, ends: &RunEnds, section: u32, first: u64) -> u64
+fn low_in_d(known: Known<'_>, here: Here<'_>, ends: &RunEnds, of: Classed, first: u64) -> u64
     requires here { HereOf known here }
     requires at { here.place.position ≡ here.first.offset }
-    requires base { here.first.base ≡ Section section }
+    requires base { here.first.base ≡ Section of.section }
+    requires class { class_of known.registers.now of.section ≡ of.class }
     requires ends { EndsAt known here.others.now (here.first ∷ here.others.now) ends.now }
     requires first { Led known here first }
     ensures led { Led known.entry here.entry result }
     ensures better { result ≤ first }
-    ensures least { (l : Labels) (value : ℕ) → Agrees l known.entry here.entry.others.now → value ≤ result → (class_of l.registers section == here.entry.place.d) ≡ true → MetInD l here.entry section value }
+    ensures least { (l : Labels) (value : ℕ) → Agrees l known.entry here.entry.others.now → value ≤ result → (class_of l.registers of.section == here.entry.place.d) ≡ true → MetInD l here.entry of.section value }
 {
-    if class_of(known.registers, section) != here.place.d {
+    let Classed { section, class } = of;
+    if class != here.place.d {
         return first;
     }
     let words = ends.low_of_run(known, here, Run::WordsOfD(section), first);

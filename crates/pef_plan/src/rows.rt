@@ -2,10 +2,13 @@ ghost use Rattle.std.specs.Prelude.{◌≡◌, ◌+◌, ◌*◌, ◌<◌, ◌≤
 ghost use Rattle.pef_runs.specs.Ends.{EndsAt};
 ghost use Rattle.pef_runs.specs.Places.{AtOf};
 ghost use Rattle.pef_runs.specs.Tables.{number_in, place_of};
-ghost use Rattle.pef_plan.specs.Kept.Rows.{ClosedOf, DirectIs, DirectRow, LeastOf, LineOf, LinesOf, RowOf, SmallLine};
+ghost use Rattle.pef_plan.specs.Kept.Met.{ClassOf};
+ghost use Rattle.pef_plan.specs.Kept.Rows.{ClosedOf, DirectRow, LeastOf, LineOf, LinesOf, RowOf, SmallLine};
 ghost use Rattle.pef_reloc.specs.Limits.{most_sections};
 
 use crate::lows::low;
+use pef_cert::class_of;
+use pef_reloc::Base;
 use pef_runs::{At, Here, Known, Place, RunEnds};
 
 /// Fills in the labels at a fixup, from what is known behind it. `lows` is room for a number of each class.
@@ -38,10 +41,11 @@ fn fill_direct(known: Known<'_>, at: At<'_>, ends: &RunEnds, row: &mut [u32])
     ensures direct { DirectRow known.entry at.entry row.new }
     ensures small { SmallLine (length row.old) row.new }
 {
+    let class = class_at(known, at.first.base);
     let classes = known.classes();
     let (mut c, mut d) = (0, 0);
     'places: for place in 0..row.len() {
-        row[place] = low_at(known, at, ends, c, d) as u32;
+        row[place] = low(known, at_classes(at, c, d), ends, class) as u32;
         d += 1;
         if d == classes {
             (c, d) = (c + 1, 0);
@@ -49,15 +53,14 @@ fn fill_direct(known: Known<'_>, at: At<'_>, ends: &RunEnds, row: &mut [u32])
     }
 }
 
-/// What the best instruction leads to that adds at a fixup, with the registers in these classes.
-fn low_at(known: Known<'_>, at: At<'_>, ends: &RunEnds, c: usize, d: usize) -> u64
-    requires at { AtOf known at }
-    requires ends { EndsAt known at.others.now (at.first ∷ at.others.now) ends.now }
-    requires c { c < length known.registers.now + 1 }
-    requires d { d < length known.registers.now + 1 }
-    ensures { DirectIs known.entry at.entry c d result }
+/// The class of a base's section. An import has none.
+fn class_at(known: Known<'_>, base: Base) -> usize
+    ensures { ClassOf known.entry.registers.now base result }
 {
-    low(known, at_classes(at, c, d), ends)
+    match base {
+        Base::Section(section) => class_of(known.registers, section),
+        Base::Import(_) => 0,
+    }
 }
 
 /// The state with the registers in these classes.

@@ -8,7 +8,7 @@ returns-clause-least c = λ l value agrees low is.
     let h = c.args.here in
     let better = c.low_of_pairs.ensures.better in
     record {
-      words = words_c_met l value c.args.section h.first.offset h.place.import_index h.place.c h.place.d (h.first ∷ h.others.now)
-          (ends_here l c.args.known h (WordsOfC c.args.section) value c.requires.here c.requires.at (c.low_of_run-words.ensures.ends l value agrees (omega (arith, low, better))));
+      words = words_c_met l value c.args.of.section h.first.offset h.place.import_index h.place.c h.place.d (h.first ∷ h.others.now)
+          (ends_here l c.args.known h (WordsOfC c.args.of.section) value c.requires.here c.requires.at (c.low_of_run-words.ensures.ends l value agrees (omega (arith, low, better))));
       second = c.low_of_pairs.ensures.least l value agrees low;
     }

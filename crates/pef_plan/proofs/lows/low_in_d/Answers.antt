@@ -8,8 +8,8 @@ returns-clause-least c = λ l value agrees low is.
     let h = c.args.here in
     let better = c.low_of_run.ensures.better in
     record {
-      words = words_d_met l value c.args.section h.first.offset h.place.import_index h.place.c h.place.d (h.first ∷ h.others.now)
-          (ends_here l c.args.known h (WordsOfD c.args.section) value c.requires.here c.requires.at (c.low_of_run-words.ensures.ends l value agrees (omega (arith, low, better))));
-      spaced = spaced_met l value c.args.section h.first.offset h.place.import_index h.place.c h.place.d (h.first ∷ h.others.now)
-          (ends_here l c.args.known h (Spaced c.args.section) value c.requires.here c.requires.at (c.low_of_run.ensures.ends l value agrees low));
+      words = words_d_met l value c.args.of.section h.first.offset h.place.import_index h.place.c h.place.d (h.first ∷ h.others.now)
+          (ends_here l c.args.known h (WordsOfD c.args.of.section) value c.requires.here c.requires.at (c.low_of_run-words.ensures.ends l value agrees (omega (arith, low, better))));
+      spaced = spaced_met l value c.args.of.section h.first.offset h.place.import_index h.place.c h.place.d (h.first ∷ h.others.now)
+          (ends_here l c.args.known h (Spaced c.args.of.section) value c.requires.here c.requires.at (c.low_of_run.ensures.ends l value agrees low));
     }

@@ -1,18 +1,21 @@
 use Rattle.std.proofs.Common.{◌≡◌, ◌+◌, ◌<◌, ◌≤◌, ◌∙◌, arith, length, sym, ℕ}
 use Rattle.std.proofs.lemmas.List.{length-set}
 use Rattle.pef_runs.specs.Tables.{place_of}
-use Rattle.pef_runs.proofs.Laws.{class_under, filled-set, line-set, next_along, next_line, place_under}
+use Rattle.pef_runs.proofs.Laws.{filled-set, line-set, next_along, next_line, place_under}
 use Rattle.pef_plan.specs.Kept.Rows.{DirectIs}
+use Rattle.pef_plan.proofs.LowFacts.{low-is}
+use Rattle.pef_plan.proofs.RowLemmas.{With}
 use Rattle.pef_plan.proofs.rows.fill_direct.Goals.{then-d-classes, else-d-classes}
 use Rattle.pef_plan.proofs.rows.fill_direct.Goals as goal
 
-pub low_at-requires-clause-c : goal.low_at-requires-clause-c
-low_at-requires-clause-c c =
-    let i = c.places.invariant in
-    let place = i.place in
-    let under = c.places-test.true in
-    let len = c.requires.row in
-    class_under (length c.args.known.registers.now + 1) c.places.c c.places.d (omega (arith, place, under, len))
+with : (c : goal.Joined-d-classes) → With c.args.at c.places.c c.places.d c.at_classes.result
+with c = let e = c.at_classes.ensures in record { first = e.first; others = e.others; left = e.left; position = e.position; import_index = e.import_index; c_is = e.c; d_is = e.d }
+
+direct : (c : goal.Joined-d-classes) → DirectIs c.args.known c.args.at c.places.c c.places.d c.low.result
+direct c =
+    let a = c.args in
+    let e = c.low.ensures in
+    low-is a.known a.at c.places.c c.places.d c.at_classes.result c.low.result c.requires.at (with c) e.led e.least e.small
 
 pub places-preserved : goal.places-preserved
 places-preserved c =
@@ -29,14 +32,15 @@ places-preserved c =
       | else-d-classes w ↦ next_along r c.places.place c.places.c c.places.d c.if-d-classes.c c.if-d-classes.d place low (λ end. w.if-d-classes.false (end ∙ sym count)) w.c-is w.d-is
     ] in
     let few = c.requires.at.shaped.count in
-    let small = c.low_at.ensures.small in
+    let is = direct c in
+    let small = is.small in
     record {
-      len = length-set c.places.row c.places.place c.low_at.result ∙ len;
+      len = length-set c.places.row c.places.place c.low.result ∙ len;
       place = next.0;
       d = next.1;
-      filled = filled-set r (λ x y v. DirectIs a.known a.at x y v) c.places.row c.places.place c.places.c c.places.d c.low_at.result place (omega (arith, under, len)) low
-          c.low_at.ensures i.filled;
-      small = line-set (λ j v. v ≤ 1048576) c.places.row c.places.place c.low_at.result (omega (arith, under, len)) i.small (omega (arith, few, small));
+      filled = filled-set r (λ x y v. DirectIs a.known a.at x y v) c.places.row c.places.place c.places.c c.places.d c.low.result place (omega (arith, under, len)) low
+          is i.filled;
+      small = line-set (λ j v. v ≤ 1048576) c.places.row c.places.place c.low.result (omega (arith, under, len)) i.small (omega (arith, few, small));
     }
 
 pub returns-clause-direct : goal.returns-clause-direct
@@ -46,8 +50,3 @@ returns-clause-direct c = λ x y under_x under_y.
     let len = c.requires.row in
     let low = place_under (length c.args.known.registers.now + 1) x y under_x under_y in
     i.filled x y under_y (omega (arith, low, past, len))
-
-pub returns-clause-small : goal.returns-clause-small
-returns-clause-small c = λ x under.
-    let past = c.places-test.false in
-    c.places.invariant.small x (omega (arith, under, past))
