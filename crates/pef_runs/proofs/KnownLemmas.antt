@@ -1,13 +1,16 @@
 -- What tables tell of the extension.
-use Rattle.std.proofs.Common.{◌≡◌, ◌≢◌, ℕ, ◌+◌, ◌-◌, ◌<◌, ◌≤◌, List, [], ◌∷◌, ◌++◌, length, Option, None, Some, true, refl, slice_index, ap, ap₂, sym, ◌∙◌, subst, arith}
+use Rattle.std.proofs.Common.{◌≡◌, ◌≢◌, ℕ, ◌+◌, ◌-◌, ◌*◌, ◌<◌, ◌≤◌, List, [], ◌∷◌, ◌++◌, length, Option, None, Some, false, true, refl, slice_index, slice_index_or, ap, ap₂, sym, ◌∙◌, subst, arith}
+use Rattle.pef_reloc.specs.declared.fixup.Base.{Base}
 use Rattle.pef_reloc.specs.declared.fixup.Base.TheVariants.{Section, Import}
 use Rattle.pef_reloc.specs.declared.fixup.Fixup.{Fixup}
 use Rattle.pef_cert.specs.Labels.{Labels, class_of, classes}
 use Rattle.pef_cert.specs.Extension.{change, extension, moved_value, offer_at}
 use Rattle.pef_cert.proofs.Laws.{extension-away, extension-end, extension-here, offer-kept_import, offer-kept_section}
+use Rattle.pef_runs.specs.declared.ahead.Ahead.{Ahead}
 use Rattle.pef_runs.specs.declared.known.Known.{Known}
+use Rattle.pef_runs.specs.Kept.Ahead.{IsAhead, class_ahead, offer_ahead, value_ahead}
 use Rattle.pef_runs.specs.Tables.{Agrees, IsRow, SameLabels, Shaped, begin_at, label_in, number_in, place_of, skip_in}
-use Rattle.std.proofs.lemmas.Bool.{eqb-true}
+use Rattle.std.proofs.lemmas.Bool.{eqb-false, eqb-true}
 
 pub value-end : (l : Labels) (fixups : List Fixup) (p c d : ℕ) → length fixups ≡ 0 → 0 ≡ extension l fixups p c d
 value-end l [] p c d none = sym (extension-end l p c d)
@@ -40,6 +43,36 @@ offer-import_kept l k f rest left c d import count agrees under_c under_d base =
     let regs = agrees.same.registers_are in
     offer-kept_import l f rest c d (skip_in k.skips.now.rows (length (f ∷ rest)) c) import base
     (agrees.offers.0 c d (subst (λ rs. c < length rs + 1) (sym regs) under_c) (subst (λ rs. d < length rs + 1) (sym regs) under_d))
+
+-- the least offer at the next fixup, from what is known there
+offer-ahead : (l : Labels) (k : Known) (f : Fixup) (rest : List Fixup) (c d : ℕ) (b : Base) → Agrees l k (f ∷ rest) → c < length k.registers.now + 1 → d < length k.registers.now + 1 → f.base ≡ b → offer_ahead (class_ahead k.registers.now b) (slice_index_or k.skips.now.rows (length (f ∷ rest)) []) c d ≡ offer_at l f rest c d
+offer-ahead l k f rest c d (Section s) agrees under_c under_d base =
+    offer-section_kept l k f rest (length (f ∷ rest)) c d s (change d (class_of k.registers.now s)) (skip_in k.skips.now.rows (length (f ∷ rest)) c) refl agrees under_c under_d base refl refl
+offer-ahead l k f rest c d (Import i) agrees under_c under_d base =
+    offer-import_kept l k f rest (length (f ∷ rest)) c d i refl agrees under_c under_d base
+
+-- and the extension
+value-before : (l : Labels) (k : Known) (f : Fixup) (rest : List Fixup) (p c d : ℕ) (a : Ahead) → a.bytes ≡ f.offset - p → a.row.now ≡ slice_index_or k.labels.now.rows (length (f ∷ rest)) [] → a.skips.now ≡ slice_index_or k.skips.now.rows (length (f ∷ rest)) [] → a.class ≡ class_ahead k.registers.now f.base → begin_at p (f ∷ rest) ≡ false → Agrees l k (f ∷ rest) → c < length k.registers.now + 1 → d < length k.registers.now + 1 → value_ahead (length k.registers.now + 1) a c d ≡ extension l (f ∷ rest) p c d
+value-before l k f rest p c d a bytes row skips class away agrees under_c under_d =
+    let r : ℕ = length k.registers.now + 1 in
+    let offer : offer_ahead a.class a.skips.now c d ≡ offer_at l f rest c d = ap₂ (λ x line. offer_ahead x line c d) class skips ∙ offer-ahead l k f rest c d f.base agrees under_c under_d refl in
+    value-away l k f rest (length (f ∷ rest)) p c d (number_in r a.row.now c d) (value_ahead r a c d) (offer_ahead a.class a.skips.now c d) refl agrees under_c under_d
+    (λ same. eqb-false f.offset p away (sym same))
+    (ap (λ line. number_in r line c d) row) offer
+    (ap (λ n. moved_value n (number_in r a.row.now c d) (offer_ahead a.class a.skips.now c d)) bytes)
+
+pub value-ahead : (l : Labels) (k : Known) (fixups : List Fixup) (p c d : ℕ) (a : Ahead) → IsAhead k fixups p a → begin_at p fixups ≡ false → Agrees l k fixups → c < length k.registers.now + 1 → d < length k.registers.now + 1 → value_ahead (length k.registers.now + 1) a c d ≡ extension l fixups p c d
+value-ahead l k fixups p c d a is away agrees under_c under_d =
+    subst (λ (fs : List Fixup). value_ahead (length k.registers.now + 1) a c d ≡ extension l fs p c d) (sym is.parts)
+    (value-before l k is.first is.others p c d a is.bytes
+    (is.row.is ∙ ap (λ (fs : List Fixup). slice_index_or k.labels.now.rows (length fs) []) is.parts)
+    (is.skips ∙ ap (λ (fs : List Fixup). slice_index_or k.skips.now.rows (length fs) []) is.parts)
+    is.class (subst (λ (fs : List Fixup). begin_at p fs ≡ false) is.parts away) (subst (λ (fs : List Fixup). Agrees l k fs) is.parts agrees) under_c under_d)
+
+-- a label of a row is small
+pub label_under : (k : Known) (left c d : ℕ) (row : List ℕ) → Shaped k left → IsRow k left row → c < length k.registers.now + 1 → d < length k.registers.now + 1 → number_in (length k.registers.now + 1) row c d ≤ 4 * left
+label_under k left c d row shaped is under_c under_d =
+    subst (λ (r : List ℕ). number_in (length k.registers.now + 1) r c d ≤ 4 * left) (sym is.is) (shaped.label_small left c d (omega arith) under_c under_d)
 
 -- where fewer are left
 pub same_fewer : (l : Labels) (registers : List ℕ) (labels : List (List ℕ)) (most m : ℕ) → SameLabels l registers labels most → m ≤ most → SameLabels l registers labels m

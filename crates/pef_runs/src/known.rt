@@ -1,15 +1,16 @@
-ghost use Rattle.std.specs.Prelude.{◌≡◌, ◌+◌, ◌*◌, ◌<◌, ◌≤◌, ◌∷◌, [], ℕ, IfSome, List, length, slice_index};
-ghost use Rattle.pef_cert.specs.Extension.{extension, offer_at};
+ghost use Rattle.std.specs.Prelude.{◌≡◌, ◌+◌, ◌*◌, ◌^◌, ◌<◌, ◌≤◌, ◌∷◌, [], ℕ, MatchOption, false, length, slice_index};
+ghost use Rattle.pef_cert.specs.Extension.{extension};
 ghost use Rattle.pef_cert.specs.Labels.{Labels};
 ghost use Rattle.pef_runs.specs.Ends.{FarAt, NearKept, NearSmall};
+ghost use Rattle.pef_runs.specs.Kept.Ahead.{IsAhead, class_ahead, value_ahead};
 ghost use Rattle.pef_runs.specs.Places.{AtOf};
 ghost use Rattle.pef_runs.specs.Tables.{Agrees, IsRow, Shaped, ValueIs, begin_at, number_in, place_of};
 ghost use Rattle.pef_reloc.specs.declared.fixup.Base.TheVariants.{Section};
-ghost use Rattle.pef_reloc.specs.declared.fixup.Fixup.{Fixup};
 ghost use Rattle.pef_reloc.specs.Limits.{most_sections};
 
+use crate::ahead::Ahead;
 use crate::place::At;
-use pef_cert::{change, class_of, moved_value};
+use pef_cert::class_of;
 use pef_fixups::WORD;
 use pef_labels::LabelRows;
 use pef_reloc::{Base, Fixup};
@@ -72,7 +73,7 @@ impl<'a> Known<'a> {
     }
 
     /// The same from the labels where these are left.
-    pub fn value_in(self, row: &[u32], rest: &[Fixup], position: u64, c: usize, d: usize) -> u64
+    pub fn value_in(self, row: &'a [u32], rest: &[Fixup], position: u64, c: usize, d: usize) -> u64
         requires row { IsRow self (length rest.now) row.now }
         requires shaped { Shaped self (length rest.now) }
         requires c { c < length self.registers.now + 1 }
@@ -81,52 +82,37 @@ impl<'a> Known<'a> {
         ensures small { result ≤ 4 * length rest.now + 2 }
     {
         self.looks.add(1);
-        match rest.split_first() {
-            Some((first, _)) => self.value_before(row, rest.len(), *first, position, c, d),
+        let place = self.place(c, d);
+        if begin_at(rest, position) {
+            return u64::from(row[place]);
+        }
+        match self.ahead(row, rest, position) {
+            Some(ahead) => ahead.value(place, c, d),
             None => 0,
         }
     }
 
-    /// The same where so many are left, of which this is the first.
-    fn value_before(
-        self,
-        row: &[u32],
-        left: usize,
-        first: Fixup,
-        position: u64,
-        c: usize,
-        d: usize,
-    ) -> u64
-        requires row { IsRow self left row.now }
-        requires shaped { Shaped self left }
-        requires c { c < length self.registers.now + 1 }
-        requires d { d < length self.registers.now + 1 }
-        ensures is { (l : Labels) (rest : List Fixup) → length (first ∷ rest) ≡ left → Agrees l self.entry (first ∷ rest) → result ≡ extension l (first ∷ rest) position c d }
-        ensures small { result ≤ 4 * left + 2 }
+    /// The first of these fixups, from a position.
+    fn ahead(self, row: &'a [u32], rest: &[Fixup], position: u64) -> Option<Ahead<'a>>
+        requires row { IsRow self (length rest.now) row.now }
+        requires shaped { Shaped self (length rest.now) }
+        ensures { MatchOption result (rest.now ≡ []) (λ ahead. IsAhead self.entry rest.now position ahead) }
     {
-        let label = row[self.place(c, d)];
-        let offset = u64::from(first.offset);
-        if position == offset {
-            return u64::from(label);
-        }
-        let ahead = offset.saturating_sub(position);
-        moved_value(ahead, label, self.offer(left, first.base, c, d))
+        let first = rest.first()?;
+        Some(Ahead {
+            bytes: u64::from(first.offset).saturating_sub(position),
+            row,
+            skips: self.skips.row(rest.len()),
+            class: self.class_ahead(first.base),
+        })
     }
 
-    /// The least offer where so many fixups are left, of which the first has this base.
-    fn offer(self, left: usize, base: Base, c: usize, d: usize) -> Option<u64>
-        requires shaped { Shaped self left }
-        requires c { c < length self.registers.now + 1 }
-        requires d { d < length self.registers.now + 1 }
-        ensures is { (l : Labels) (first : Fixup) (rest : List Fixup) → length (first ∷ rest) ≡ left → first.base ≡ base → Agrees l self.entry (first ∷ rest) → result ≡ offer_at l first rest c d }
-        ensures small { IfSome result (λ x. x ≤ 4 * left + 1) }
+    /// The class of a base's section. An import has none.
+    fn class_ahead(self, base: Base) -> Option<usize>
+        ensures { result ≡ class_ahead self.entry.registers.now base }
     {
         match base {
-            Base::Section(section) => {
-                let change = change(d, class_of(self.registers, section));
-                let skip = self.skips.row(left)[c];
-                Some(change + u64::from(skip))
-            }
+            Base::Section(section) => Some(class_of(self.registers, section)),
             Base::Import(_) => None,
         }
     }
@@ -149,22 +135,19 @@ impl<'a> Known<'a> {
         }
     }
 
-    /// Fills in the extension where these fixups are left, at a position in bytes, for each pair of classes.
-    fn fill_values(self, row: &[u32], rest: &[Fixup], position: u64, values: &mut [u32])
+    /// Fills in the extension at a position where none of these fixups is, for each pair of classes.
+    fn fill_values(self, row: &'a [u32], rest: &[Fixup], position: u64, values: &mut [u32])
         requires row { IsRow self (length rest.now) row.now }
         requires shaped { Shaped self (length rest.now) }
+        requires away { begin_at position rest.now ≡ false }
         requires len { length values.old ≡ (length self.registers.now + 1) * (length self.registers.now + 1) }
         ensures len { length values.new ≡ length values.old }
         ensures are { (c d : ℕ) → c < length self.entry.registers.now + 1 → d < length self.entry.registers.now + 1 → ValueIs self.entry rest.now position c d (number_in (length self.entry.registers.now + 1) values.new c d) }
     {
-        let classes = self.classes();
-        let (mut c, mut d) = (0, 0);
-        'places: for place in 0..values.len() {
-            values[place] = self.value_in(row, rest, position, c, d) as u32;
-            d += 1;
-            if d == classes {
-                (c, d) = (c + 1, 0);
-            }
+        self.looks.add(values.len() as u64);
+        match self.ahead(row, rest, position) {
+            Some(ahead) => fill_ahead(ahead, self.classes(), values),
+            None => values.fill(0),
         }
     }
 
@@ -195,6 +178,28 @@ impl<'a> Known<'a> {
     {
         'classes: for c in 0..column.len() {
             column[c] = row[self.place(c, class)];
+        }
+    }
+}
+
+/// Fills in the extension for each pair of so many classes.
+fn fill_ahead(ahead: Ahead<'_>, classes: usize, values: &mut [u32])
+    requires some { 0 < classes }
+    requires few { classes ≤ most_sections + 1 }
+    requires row { length ahead.row.now ≡ classes * classes }
+    requires skips { length ahead.skips.now ≡ classes }
+    requires small { (c d : ℕ) → c < classes → d < classes → number_in classes ahead.row.now c d + 2 < 2 ^ 32 }
+    requires len { length values.old ≡ classes * classes }
+    ensures len { length values.new ≡ length values.old }
+    ensures are { (c d : ℕ) → c < classes → d < classes → number_in classes values.new c d ≡ value_ahead classes ahead.entry c d }
+    ensures small { (c d : ℕ) → c < classes → d < classes → number_in classes values.new c d ≤ 2 + number_in classes ahead.entry.row.now c d }
+{
+    let (mut c, mut d) = (0, 0);
+    'places: for place in 0..values.len() {
+        values[place] = ahead.value(place, c, d) as u32;
+        d += 1;
+        if d == classes {
+            (c, d) = (c + 1, 0);
         }
     }
 }

@@ -3,6 +3,7 @@
 //! windows, from fixup to fixup back.
 #![tactic(auto)]
 
+mod ahead;
 mod ends;
 mod known;
 mod place;

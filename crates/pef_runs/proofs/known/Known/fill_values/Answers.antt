@@ -1,44 +1,34 @@
-use Rattle.std.proofs.Common.{◌≡◌, ◌+◌, ◌<◌, ◌∙◌, arith, length, sym, ℕ}
-use Rattle.std.proofs.lemmas.List.{length-set}
-use Rattle.pef_runs.specs.Tables.{ValueIs, place_of}
-use Rattle.pef_runs.proofs.PlaceLemmas.{class_under, filled-set, next_along, next_line, place_under}
-use Rattle.pef_runs.proofs.known.Known.fill_values.Goals.{then-d-classes, else-d-classes}
+use Rattle.std.proofs.Common.{◌≡◌, ◌+◌, ◌<◌, ◌≤◌, ◌∙◌, ap, arith, length, subst, sym}
+use Rattle.pef_runs.specs.Kept.Ahead.{value_ahead}
+use Rattle.pef_runs.specs.Tables.{number_in, place_of}
+use Rattle.pef_runs.proofs.KnownLemmas.{label_under, value-ahead, value-end}
+use Rattle.pef_runs.proofs.PlaceLemmas.{zeros_at}
 use Rattle.pef_runs.proofs.known.Known.fill_values.Goals as goal
 
-pub value_in-requires-clause-c : goal.value_in-requires-clause-c
-value_in-requires-clause-c c =
-    let i = c.places.invariant in
-    let place = i.place in
-    let under = c.places-test.true in
-    let len = c.requires.len in
-    class_under (length c.args.self.registers.now + 1) c.places.c c.places.d (omega (arith, place, under, len))
+pub fill_ahead-requires-clause-small : goal.fill_ahead-requires-clause-small
+fill_ahead-requires-clause-small c = λ x y under_x under_y.
+    let is = c.in-Some.ensures in
+    let count = c.requires.shaped.count in
+    subst (λ r. number_in r c.in-Some.ahead.row.now x y + 2 < 4294967296) (sym c.classes.ensures)
+    (let low = label_under c.args.self (length c.args.rest.now) x y c.in-Some.ahead.row.now c.requires.shaped is.row (subst (λ r. x < r) c.classes.ensures under_x) (subst (λ r. y < r) c.classes.ensures under_y) in omega (arith, low, count))
 
-pub places-preserved : goal.places-preserved
-places-preserved c =
+pub returns-in-Some-clause-are : goal.returns-in-Some-clause-are
+returns-in-Some-clause-are c = λ x y under_x under_y.
     let a = c.args in
-    let i = c.places.invariant in
-    let r : ℕ = length a.self.registers.now + 1 in
-    let len = i.len in
-    let place = i.place in
-    let low = i.d in
-    let under = c.places-test.true in
-    let count = c.classes-classes.ensures in
-    let next : (c.places.place + 1 ≡ place_of r c.if-d-classes.c c.if-d-classes.d) × (c.if-d-classes.d < r) = elim c.if-d-classes.branch [
-      | then-d-classes w ↦ next_line r c.places.place c.places.c c.places.d c.if-d-classes.c c.if-d-classes.d place low (w.if-d-classes.true ∙ count) w.c-is w.d-is
-      | else-d-classes w ↦ next_along r c.places.place c.places.c c.places.d c.if-d-classes.c c.if-d-classes.d place low (λ end. w.if-d-classes.false (end ∙ sym count)) w.c-is w.d-is
-    ] in
+    let is = c.in-Some.ensures in
+    let e = c.classes.ensures in
+    let value = subst (λ r. (x < r → y < r → number_in r c.fill_ahead.new.values x y ≡ value_ahead r c.in-Some.ahead x y)) e (c.fill_ahead.ensures.are x y) in
+    let low = subst (λ r. (x < r → y < r → number_in r c.fill_ahead.new.values x y ≤ 2 + number_in r c.in-Some.ahead.row.now x y)) e (c.fill_ahead.ensures.small x y) in
     record {
-      len = length-set c.places.values c.places.place c.value_in.result ∙ len;
-      place = next.0;
-      d = next.1;
-      filled = filled-set r (λ x y v. ValueIs a.self a.rest.now a.position x y v) c.places.values c.places.place c.places.c c.places.d c.value_in.result place (omega (arith, under, len)) low
-          (record { is = c.value_in.ensures.is; small = c.value_in.ensures.small }) i.filled;
+      is = λ l agrees. value under_x under_y ∙ value-ahead l a.self a.rest.now a.position x y c.in-Some.ahead is c.requires.away agrees under_x under_y;
+      small = (let one = low under_x under_y in let two = label_under a.self (length a.rest.now) x y c.in-Some.ahead.row.now c.requires.shaped is.row under_x under_y in omega (arith, one, two));
     }
 
-pub returns-clause-are : goal.returns-clause-are
-returns-clause-are c = λ x y under_x under_y.
-    let i = c.places.invariant in
-    let past = c.places-test.false in
-    let len = c.requires.len in
-    let low = place_under (length c.args.self.registers.now + 1) x y under_x under_y in
-    i.filled x y under_y (omega (arith, low, past, len))
+pub returns-in-None-clause-are : goal.returns-in-None-clause-are
+returns-in-None-clause-are c = λ x y under_x under_y.
+    let a = c.args in
+    let zero = zeros_at (length a.values.now) (place_of (length a.self.registers.now + 1) x y) c.fill.new.self (c.fill.ensures.after (λ v is. is)) in
+    record {
+      is = λ l agrees. zero ∙ value-end l a.rest.now a.position x y (ap length c.in-None.ensures);
+      small = omega (arith, zero);
+    }
