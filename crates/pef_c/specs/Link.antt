@@ -1,0 +1,27 @@
+-- What `pef_link` answers. 99 means that memory was refused, and 200 that the room is too small.
+use Rattle.std.specs.Prelude.{◌≡◌, ◌⊎◌, ◌==◌, ℕ, List, Ok, Err, MatchBool}
+use Rattle.pef_script.specs.Script.{DescribedScript}
+use Rattle.pef_script_text.specs.Faults.{fault_number}
+use Rattle.pef_script_text.specs.Grammar.{script_of}
+use Rattle.pef_script_text.specs.declared.fault.LineFault.{LineFault}
+use Rattle.pef_write.specs.Linked.{IsLinked, LinkedContainer}
+use Rattle.pef_c.specs.Rooms.{Fills, IsTooLong}
+
+-- the text is a script, and this was linked of it
+abbrev pub IsLinkedOf : List ℕ → LinkedContainer → Type 0
+IsLinkedOf text l = (script : DescribedScript) × (script_of text ≡ Ok script) × IsLinked script l
+
+-- the text's first refusal, by its number, and its line
+abbrev pub IsRefusal : List ℕ → ℕ → ℕ → Type 0
+IsRefusal text line answer = (fault : LineFault) × (script_of text ≡ Err (record { fault = fault; line = line })) × (answer ≡ fault_number fault)
+
+-- memory was refused, or the text is
+abbrev pub LinkRefuses : List ℕ → ℕ → ℕ → Type 0
+LinkRefuses text line answer = ((answer ≡ 99) × (line ≡ 0)) ⊎ IsRefusal text line answer
+
+-- 0, and the container is in the room; or 200, where it is longer; or a refusal, at which the room and the length stay
+abbrev pub LinkAnswers : List ℕ → List ℕ → List ℕ → ℕ → ℕ → ℕ → ℕ → Type 0
+LinkAnswers text old new before after line answer =
+    MatchBool (answer == 0) ((l : LinkedContainer) × IsLinkedOf text l × Fills l.bytes old new after × (line ≡ 0))
+    (MatchBool (answer == 200) ((l : LinkedContainer) × IsLinkedOf text l × IsTooLong l.bytes old new after × (line ≡ 0))
+    ((new ≡ old) × (after ≡ before) × LinkRefuses text line answer))

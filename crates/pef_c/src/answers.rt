@@ -1,0 +1,42 @@
+//! What the calls answer, and how a text gets into the caller's room.
+ghost use Rattle.std.specs.Prelude.{◌≡◌, ◌==◌, false};
+ghost use Rattle.pef_c.specs.Rooms.{IsCopied};
+ghost use Rattle.pef_listing.specs.Faults as listing;
+ghost use Rattle.pef_script_text.specs.Faults as script;
+
+use pef_listing::ListFault;
+use pef_script_text::LineFault;
+
+/// A growth of memory was refused.
+pub(crate) const OUT_OF_MEMORY: u32 = 99;
+
+/// The caller's room is too small.
+pub(crate) const ROOM_TOO_SMALL: u32 = 200;
+
+/// Copies a text to the front of the caller's room, if it fits. Its length is written in both cases.
+pub(crate) fn copy_out(text: &[u8], room: &mut [u8], written: &mut usize) -> Option<()>
+    ensures { IsCopied text.now room.old room.new written.new result }
+{
+    *written = text.len();
+    let (front, _) = room.split_at_mut_checked(text.len())?;
+    front.copy_from_slice(text);
+    Some(())
+}
+
+/// The number of a line's refusal, which is no answer of this crate's own.
+pub(crate) fn line_number(fault: LineFault) -> u32
+    ensures number { result ≡ script.fault_number fault }
+    ensures refused { (result == 0) ≡ false }
+    ensures foreign { (result == 200) ≡ false }
+{
+    fault.number()
+}
+
+/// The number of a listing's refusal, which is no answer of this crate's own.
+pub(crate) fn list_number(fault: ListFault) -> u32
+    ensures number { result ≡ listing.fault_number fault }
+    ensures refused { (result == 0) ≡ false }
+    ensures foreign { (result == 200) ≡ false }
+{
+    fault.number()
+}

@@ -1,0 +1,13 @@
+//! The library for C: `include/pef.h` says what each call takes, gives and asks of its caller.
+//!
+//! Every call answers a number: 0, or that of a refusal, or one of this crate's own from 200 on. What is
+//! written goes into places that the caller owns.
+#![tactic(auto)]
+
+mod answers;
+mod link;
+mod list;
+mod text;
+
+pub use link::pef_link;
+pub use list::pef_list;

@@ -1,0 +1,38 @@
+ghost use Rattle.pef_c.specs.Link.{LinkAnswers};
+
+use crate::answers::{OUT_OF_MEMORY, ROOM_TOO_SMALL, copy_out, line_number};
+use pef_script_text::{ScriptFault, read};
+use pef_write::link;
+use std::alloc::Global;
+
+/// Links the script of a text, and copies its container to the front of `room`.
+///
+/// The answer is 0; or 200 where the room is too small, with the container's length in `written`; or the
+/// number of the script's first refusal, with its line in `line`, which is 0 in all other cases; or 99.
+#[unsafe(no_mangle)]
+pub extern "C" fn pef_link(
+    alloc: Global,
+    script: &[u8],
+    room: &mut [u8],
+    written: &mut usize,
+    line: &mut usize,
+) -> u32
+    ensures { LinkAnswers script.now room.old room.new written.old written.new line.new result }
+{
+    *line = 0;
+    let script = match read(alloc, script) {
+        Ok(script) => script,
+        Err(ScriptFault::Refused { fault, line: at }) => {
+            *line = at;
+            return line_number(fault);
+        }
+        Err(ScriptFault::OutOfMemory) => return OUT_OF_MEMORY,
+    };
+    let Ok(linked) = link(alloc, &script) else {
+        return OUT_OF_MEMORY;
+    };
+    match copy_out(linked.bytes(), room, written) {
+        Some(()) => 0,
+        None => ROOM_TOO_SMALL,
+    }
+}

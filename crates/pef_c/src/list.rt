@@ -1,0 +1,32 @@
+ghost use Rattle.pef_c.specs.List.{ListAnswers};
+
+use crate::answers::{OUT_OF_MEMORY, ROOM_TOO_SMALL, copy_out, list_number};
+use crate::text::listing_text;
+use pef_listing::Listing;
+use std::alloc::Global;
+
+/// Lists a container, and copies the lines to the front of `room`.
+///
+/// The answer is 0; or 200 where the room is too small, with the length of the lines in `written`; or the
+/// number of the first refusal; or 99.
+#[unsafe(no_mangle)]
+pub extern "C" fn pef_list(
+    alloc: Global,
+    container: &[u8],
+    room: &mut [u8],
+    written: &mut usize,
+) -> u32
+    ensures { ListAnswers container.now room.old room.new written.old written.new result }
+{
+    let listing = match Listing::read(container) {
+        Ok(listing) => listing,
+        Err(fault) => return list_number(fault),
+    };
+    let Ok(text) = listing_text(alloc, &listing) else {
+        return OUT_OF_MEMORY;
+    };
+    match copy_out(text.as_slice(), room, written) {
+        Some(()) => 0,
+        None => ROOM_TOO_SMALL,
+    }
+}
