@@ -1,3 +1,4 @@
 pub mod Rooms
 pub mod Link
 pub mod List
+pub mod Names

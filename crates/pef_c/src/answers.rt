@@ -13,6 +13,9 @@ pub(crate) const OUT_OF_MEMORY: u32 = 99;
 /// The caller's room is too small.
 pub(crate) const ROOM_TOO_SMALL: u32 = 200;
 
+/// Nothing has this number.
+pub(crate) const NOT_THERE: u32 = 201;
+
 /// Copies a text to the front of the caller's room, if it fits. Its length is written in both cases.
 pub(crate) fn copy_out(text: &[u8], room: &mut [u8], written: &mut usize) -> Option<()>
     ensures { IsCopied text.now room.old room.new written.new result }

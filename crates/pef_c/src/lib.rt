@@ -7,7 +7,9 @@
 mod answers;
 mod link;
 mod list;
+mod names;
 mod text;
 
 pub use link::pef_link;
 pub use list::pef_list;
+pub use names::pef_name;
