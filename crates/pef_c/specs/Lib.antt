@@ -2,3 +2,4 @@ pub mod Rooms
 pub mod Link
 pub mod List
 pub mod Names
+pub mod Containers

@@ -3,9 +3,11 @@ ghost use Rattle.std.specs.Prelude.{◌≡◌, ◌==◌, false};
 ghost use Rattle.pef_c.specs.Rooms.{IsCopied};
 ghost use Rattle.pef_listing.specs.Faults as listing;
 ghost use Rattle.pef_script_text.specs.Faults as script;
+ghost use Rattle.pef_views.specs.Faults as views;
 
 use pef_listing::ListFault;
 use pef_script_text::LineFault;
+use pef_views::ViewFault;
 
 /// A growth of memory was refused.
 pub(crate) const OUT_OF_MEMORY: u32 = 99;
@@ -40,6 +42,14 @@ pub(crate) fn list_number(fault: ListFault) -> u32
     ensures number { result ≡ listing.fault_number fault }
     ensures refused { (result == 0) ≡ false }
     ensures foreign { (result == 200) ≡ false }
+{
+    fault.number()
+}
+
+/// The number of a container's refusal, which isn't 0.
+pub(crate) fn view_number(fault: ViewFault) -> u32
+    ensures number { result ≡ views.fault_number fault }
+    ensures refused { (result == 0) ≡ false }
 {
     fault.number()
 }

@@ -5,11 +5,15 @@
 #![tactic(auto)]
 
 mod answers;
+mod container;
 mod link;
 mod list;
 mod names;
+mod structs;
 mod text;
 
+pub use container::{pef_header, pef_section, pef_section_name};
 pub use link::pef_link;
 pub use list::pef_list;
 pub use names::pef_name;
+pub use structs::{PefHeader, PefSection};

@@ -1,0 +1,86 @@
+//! Containers, read anew from their bytes by each call. None takes memory.
+ghost use Rattle.pef_c.specs.Containers.{HeaderAnswers, SectionAnswers, SectionNameAnswers};
+
+use crate::answers::{NOT_THERE, view_number};
+use crate::structs::{PefHeader, PefSection};
+use pef_views::Container;
+
+/// Reads a container's header.
+///
+/// The answer is 0, or the number of the first refusal.
+#[unsafe(no_mangle)]
+pub extern "C" fn pef_header(container: &[u8], header: &mut PefHeader) -> u32
+    ensures { HeaderAnswers container.now header.old header.new result }
+{
+    let found = match Container::read(container) {
+        Ok(container) => container.header(),
+        Err(fault) => return view_number(fault),
+    };
+    *header = PefHeader {
+        date_time_stamp: found.date_time_stamp,
+        old_def_version: found.old_def_version,
+        old_imp_version: found.old_imp_version,
+        current_version: found.current_version,
+        section_count: found.section_count,
+        instantiated_section_count: found.instantiated_section_count,
+    };
+    0
+}
+
+/// Reads a section, with its raw bytes: a part of the container.
+///
+/// The answer is 0; or the number of the container's first refusal; or 201 past the last section.
+#[unsafe(no_mangle)]
+pub extern "C" fn pef_section<'a>(
+    container: &'a [u8],
+    index: usize,
+    section: &mut PefSection,
+    raw: &mut &'a [u8],
+) -> u32
+    ensures { SectionAnswers container.entry.now index section.old section.new raw.old.now raw.new.now result }
+{
+    let container = match Container::read(container) {
+        Ok(container) => container,
+        Err(fault) => return view_number(fault),
+    };
+    let Some(found) = container.section(index) else {
+        return NOT_THERE;
+    };
+    let header = found.header;
+    *section = PefSection {
+        default_address: header.default_address,
+        total_size: header.total_size,
+        unpacked_size: header.unpacked_size,
+        packed_size: header.packed_size,
+        container_offset: header.container_offset,
+        kind: header.section_kind,
+        share: header.share_kind,
+        alignment: header.alignment,
+    };
+    *raw = found.raw;
+    0
+}
+
+/// Gives a section's name: a part of the container.
+///
+/// The answer is 0; or the number of the container's first refusal; or 201 where there is no name.
+#[unsafe(no_mangle)]
+pub extern "C" fn pef_section_name<'a>(
+    container: &'a [u8],
+    index: usize,
+    name: &mut &'a [u8],
+) -> u32
+    ensures { SectionNameAnswers container.entry.now index name.old.now name.new.now result }
+{
+    let container = match Container::read(container) {
+        Ok(container) => container,
+        Err(fault) => return view_number(fault),
+    };
+    match container.section_name(index) {
+        Some(found) => {
+            *name = found;
+            0
+        }
+        None => NOT_THERE,
+    }
+}
