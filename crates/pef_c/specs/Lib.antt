@@ -3,3 +3,5 @@ pub mod Link
 pub mod List
 pub mod Names
 pub mod Containers
+pub mod Packed
+pub mod Loaders

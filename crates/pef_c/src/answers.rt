@@ -2,10 +2,14 @@
 ghost use Rattle.std.specs.Prelude.{◌≡◌, ◌==◌, false};
 ghost use Rattle.pef_c.specs.Rooms.{IsCopied};
 ghost use Rattle.pef_listing.specs.Faults as listing;
+ghost use Rattle.pef_loader.specs.Faults as loader;
+ghost use Rattle.pef_pidata.specs.Faults as pidata;
 ghost use Rattle.pef_script_text.specs.Faults as script;
 ghost use Rattle.pef_views.specs.Faults as views;
 
 use pef_listing::ListFault;
+use pef_loader::LoaderFault;
+use pef_pidata::PackFault;
 use pef_script_text::LineFault;
 use pef_views::ViewFault;
 
@@ -49,6 +53,22 @@ pub(crate) fn list_number(fault: ListFault) -> u32
 /// The number of a container's refusal, which isn't 0.
 pub(crate) fn view_number(fault: ViewFault) -> u32
     ensures number { result ≡ views.fault_number fault }
+    ensures refused { (result == 0) ≡ false }
+{
+    fault.number()
+}
+
+/// The number of the refusal of packed bytes, which isn't 0.
+pub(crate) fn pack_number(fault: PackFault) -> u32
+    ensures number { result ≡ pidata.fault_number fault }
+    ensures refused { (result == 0) ≡ false }
+{
+    fault.number()
+}
+
+/// The number of a loader section's refusal, which isn't 0.
+pub(crate) fn loader_number(fault: LoaderFault) -> u32
+    ensures number { result ≡ loader.fault_number fault }
     ensures refused { (result == 0) ≡ false }
 {
     fault.number()

@@ -6,14 +6,18 @@
 
 mod answers;
 mod container;
+mod expand;
 mod link;
 mod list;
+mod loader;
 mod names;
 mod structs;
 mod text;
 
 pub use container::{pef_header, pef_section, pef_section_name};
+pub use expand::pef_expand;
 pub use link::pef_link;
 pub use list::pef_list;
+pub use loader::pef_loader;
 pub use names::pef_name;
 pub use structs::{PefHeader, PefSection};

@@ -25,3 +25,51 @@ pub struct PefSection {
     pub share: u8,
     pub alignment: u8,
 }
+
+/// How many things of each kind a loader section has, and its entries. A section of -1 stands for no entry.
+#[repr(C)]
+#[derive(Clone, Copy, Debug, PartialEq, Eq)]
+pub struct PefLoader {
+    pub main_section: i32,
+    pub main_offset: u32,
+    pub init_section: i32,
+    pub init_offset: u32,
+    pub term_section: i32,
+    pub term_offset: u32,
+    pub library_count: u32,
+    pub import_count: u32,
+    pub relocation_count: u32,
+    pub export_count: u32,
+}
+
+/// An imported library.
+#[repr(C)]
+#[derive(Clone, Copy, Debug)]
+pub struct PefLibrary<'a> {
+    pub name: &'a [u8],
+    pub current_version: u32,
+    pub old_imp_version: u32,
+    pub import_count: u32,
+    pub first_import: u32,
+    pub options: u8,
+}
+
+/// An imported symbol.
+#[repr(C)]
+#[derive(Clone, Copy, Debug)]
+pub struct PefImport<'a> {
+    pub name: &'a [u8],
+    pub library: usize,
+    pub class: u8,
+    pub weak: bool,
+}
+
+/// An exported symbol.
+#[repr(C)]
+#[derive(Clone, Copy, Debug)]
+pub struct PefExport<'a> {
+    pub name: &'a [u8],
+    pub section: i32,
+    pub value: u32,
+    pub class: u8,
+}

@@ -1,0 +1,11 @@
+-- What `pef_expand` answers.
+use Rattle.std.specs.Prelude.{◌≡◌, ◌==◌, ℕ, List, Ok, Err, MatchBool, length}
+use Rattle.pef_pidata.specs.Faults.{fault_number}
+use Rattle.pef_pidata.specs.Pattern.{pattern_text}
+use Rattle.pef_pidata.specs.declared.fault.PackFault.{PackFault}
+
+-- 0, and the room has what the packed bytes spell at its length; or their first refusal, by its number
+abbrev pub ExpandAnswers : List ℕ → List ℕ → List ℕ → ℕ → Type 0
+ExpandAnswers packed old new answer =
+    MatchBool (answer == 0) (pattern_text packed (length old) ≡ Ok new)
+    ((fault : PackFault) × (pattern_text packed (length old) ≡ Err fault) × (answer ≡ fault_number fault))

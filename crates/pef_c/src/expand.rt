@@ -1,0 +1,17 @@
+ghost use Rattle.pef_c.specs.Packed.{ExpandAnswers};
+
+use crate::answers::pack_number;
+use pef_pidata::expand;
+
+/// Expands packed bytes until `out` is full.
+///
+/// The answer is 0, or the number of the first refusal; `out` has any bytes then.
+#[unsafe(no_mangle)]
+pub extern "C" fn pef_expand(packed: &[u8], out: &mut [u8]) -> u32
+    ensures { ExpandAnswers packed.now out.old out.new result }
+{
+    match expand(packed, out) {
+        Ok(()) => 0,
+        Err(fault) => pack_number(fault),
+    }
+}
