@@ -5,3 +5,4 @@ pub mod Names
 pub mod Containers
 pub mod Packed
 pub mod Loaders
+pub mod Rows

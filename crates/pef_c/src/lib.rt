@@ -11,6 +11,7 @@ mod link;
 mod list;
 mod loader;
 mod names;
+mod rows;
 mod structs;
 mod text;
 
@@ -20,4 +21,5 @@ pub use link::pef_link;
 pub use list::pef_list;
 pub use loader::pef_loader;
 pub use names::pef_name;
-pub use structs::{PefHeader, PefSection};
+pub use rows::{pef_exports, pef_imports, pef_libraries};
+pub use structs::{PefExport, PefHeader, PefImport, PefLibrary, PefLoader, PefSection};

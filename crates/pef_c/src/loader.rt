@@ -10,7 +10,7 @@ use pef_loader::{Loader, LoaderHeader};
 use pef_views::Container;
 
 /// Reads the loader section of a container, or gives the number of the first refusal.
-fn read_tables<'a>(container: &'a [u8]) -> Result<Loader<'a>, u32>
+pub(crate) fn read_tables<'a>(container: &'a [u8]) -> Result<Loader<'a>, u32>
     ensures reads { ReadsTables container.entry.now (result_map loaded result) }
     ensures refused { IfErr result (λ number. (number == 0) ≡ false) }
 {

@@ -1,0 +1,53 @@
+-- What C sees of the rows of a loader section's tables, and what a call writes into the caller's array of them.
+use Rattle.std.specs.Prelude.{◌≡◌, ℕ, zero, suc, ◌+◌, ◌-◌, ◌==◌, List, [], ◌∷◌, Option, MatchBool, length, map, min}
+use Rattle.std.specs.Option.{option_map_or}
+use Rattle.pef_format.specs.Exports.{Export}
+use Rattle.pef_format.specs.Symbols.{Import}
+use Rattle.pef_loader.specs.Library.{Library}
+use Rattle.pef_loader.specs.Loader.{Loaded, export_of, import_of, library_of}
+use Rattle.pef_c.specs.Loaders.{HasTables, IsTablesRefusal}
+use Rattle.pef_c.specs.declared.structs.PefExport.{PefExport}
+use Rattle.pef_c.specs.declared.structs.PefImport.{PefImport}
+use Rattle.pef_c.specs.declared.structs.PefLibrary.{PefLibrary}
+
+-- the rows that C's structs show
+
+abbrev pub library_shown : PefLibrary → Library
+library_shown v = record { name = v.name.now; current = v.current_version; old_imp = v.old_imp_version; count = v.import_count; first = v.first_import; options = v.options }
+
+abbrev pub import_shown : PefImport → Import
+import_shown v = record { name = v.name.now; class = v.class; weak = v.weak; library = v.library }
+
+abbrev pub export_shown : PefExport → Export
+export_shown v = record { name = v.name.now; class = v.class; section = v.section; value = v.value }
+
+-- the first n places have the rows from a number on, and the others stay
+abbrev pub filled : {A : Type 0} → (ℕ → Option A) → ℕ → ℕ → List A → List A
+filled row from zero places = places
+filled row from (suc n) [] = []
+filled row from (suc n) (place ∷ places) = option_map_or (λ r. r) (row from) place ∷ filled row (from + 1) n places
+
+-- how many of so many rows, from a number on, have a place
+abbrev pub fitting : ℕ → ℕ → ℕ → ℕ
+fitting many from places = min places (many - from)
+
+-- 0, and the rows from a number on are in the first places, and counted; or a refusal, at which all stays
+abbrev pub RowsAnswer : {A : Type 0} → List ℕ → (Loaded → ℕ → Option A) → (Loaded → ℕ) → ℕ → List A → List A → ℕ → ℕ → ℕ → Type 0
+RowsAnswer bytes row many from old new before after answer =
+    MatchBool (answer == 0)
+    ((l : Loaded) × HasTables bytes l × (after ≡ fitting (many l) from (length old)) × (new ≡ filled (row l) from after old))
+    ((new ≡ old) × (after ≡ before) × IsTablesRefusal bytes answer)
+
+-- what `pef_libraries`, `pef_imports` and `pef_exports` answer
+
+abbrev pub LibrariesAnswer : List ℕ → ℕ → List PefLibrary → List PefLibrary → ℕ → ℕ → ℕ → Type 0
+LibrariesAnswer bytes from old new before after answer =
+    RowsAnswer bytes library_of (λ l. l.header.library_count) from (map library_shown old) (map library_shown new) before after answer
+
+abbrev pub ImportsAnswer : List ℕ → ℕ → List PefImport → List PefImport → ℕ → ℕ → ℕ → Type 0
+ImportsAnswer bytes from old new before after answer =
+    RowsAnswer bytes import_of (λ l. l.header.import_count) from (map import_shown old) (map import_shown new) before after answer
+
+abbrev pub ExportsAnswer : List ℕ → ℕ → List PefExport → List PefExport → ℕ → ℕ → ℕ → Type 0
+ExportsAnswer bytes from old new before after answer =
+    RowsAnswer bytes export_of (λ l. l.header.export_count) from (map export_shown old) (map export_shown new) before after answer

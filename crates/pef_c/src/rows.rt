@@ -1,0 +1,151 @@
+//! The rows of a loader section's tables, as many at once as the caller has places for: a walk over n rows in
+//! one call costs n.
+ghost use Rattle.std.specs.Prelude.{◌≡◌, length, map};
+ghost use Rattle.pef_loader.specs.Loader.{export_of, import_of, library_of};
+ghost use Rattle.pef_format.specs.Exports.{export_seen};
+ghost use Rattle.pef_format.specs.Symbols.{import_seen};
+ghost use Rattle.pef_loader.specs.Views.{library_seen, loaded};
+ghost use Rattle.pef_c.specs.Rows.{ExportsAnswer, ImportsAnswer, LibrariesAnswer, export_shown, filled, fitting, import_shown, library_shown};
+
+use crate::loader::read_tables;
+use crate::structs::{PefExport, PefImport, PefLibrary};
+use pef_format::{ExportView, ImportView};
+use pef_loader::{ImportReader, LibraryView, Loader};
+
+/// Reads the imported libraries from number `from` on into the first places, and counts them.
+///
+/// The answer is 0, or the number of the first refusal.
+#[unsafe(no_mangle)]
+pub extern "C" fn pef_libraries<'a>(
+    container: &'a [u8],
+    from: usize,
+    places: &mut [PefLibrary<'a>],
+    count: &mut usize,
+) -> u32
+    ensures { LibrariesAnswer container.entry.now from places.old places.new count.old count.new result }
+{
+    let loader = match read_tables(container) {
+        Ok(loader) => loader,
+        Err(number) => return number,
+    };
+    *count = fill_libraries(loader, from, places);
+    0
+}
+
+/// Reads the imported symbols from number `from` on into the first places, and counts them.
+///
+/// The answer is 0, or the number of the first refusal.
+#[unsafe(no_mangle)]
+pub extern "C" fn pef_imports<'a>(
+    container: &'a [u8],
+    from: usize,
+    places: &mut [PefImport<'a>],
+    count: &mut usize,
+) -> u32
+    ensures { ImportsAnswer container.entry.now from places.old places.new count.old count.new result }
+{
+    let loader = match read_tables(container) {
+        Ok(loader) => loader,
+        Err(number) => return number,
+    };
+    *count = fill_imports(loader, from, places);
+    0
+}
+
+/// Reads the exported symbols from number `from` on into the first places, and counts them.
+///
+/// The answer is 0, or the number of the first refusal.
+#[unsafe(no_mangle)]
+pub extern "C" fn pef_exports<'a>(
+    container: &'a [u8],
+    from: usize,
+    places: &mut [PefExport<'a>],
+    count: &mut usize,
+) -> u32
+    ensures { ExportsAnswer container.entry.now from places.old places.new count.old count.new result }
+{
+    let loader = match read_tables(container) {
+        Ok(loader) => loader,
+        Err(number) => return number,
+    };
+    *count = fill_exports(loader, from, places);
+    0
+}
+
+fn fill_libraries<'a>(loader: Loader<'a>, from: usize, places: &mut [PefLibrary<'a>]) -> usize
+    ensures count { result ≡ fitting (loaded loader.entry).header.library_count from (length places.old) }
+    ensures rows { map library_shown places.new ≡ filled (library_of (loaded loader.entry)) from result (map library_shown places.old) }
+{
+    let count = places.len().min(loader.libraries().saturating_sub(from));
+    for k in 0..count {
+        let Some(library) = loader.library(from + k) else {
+            unreachable!()
+        };
+        places[k] = library_given(library);
+    }
+    count
+}
+
+fn fill_imports<'a>(loader: Loader<'a>, from: usize, places: &mut [PefImport<'a>]) -> usize
+    ensures count { result ≡ fitting (loaded loader.entry).header.import_count from (length places.old) }
+    ensures rows { map import_shown places.new ≡ filled (import_of (loaded loader.entry)) from result (map import_shown places.old) }
+{
+    let count = places.len().min(loader.imports().saturating_sub(from));
+    let mut imports = ImportReader::new(loader);
+    for k in 0..count {
+        let Some(import) = imports.import(from + k) else {
+            unreachable!()
+        };
+        places[k] = import_given(import);
+    }
+    count
+}
+
+fn fill_exports<'a>(loader: Loader<'a>, from: usize, places: &mut [PefExport<'a>]) -> usize
+    ensures count { result ≡ fitting (loaded loader.entry).header.export_count from (length places.old) }
+    ensures rows { map export_shown places.new ≡ filled (export_of (loaded loader.entry)) from result (map export_shown places.old) }
+{
+    let count = places.len().min(loader.exports().saturating_sub(from));
+    for k in 0..count {
+        let Some(export) = loader.export(from + k) else {
+            unreachable!()
+        };
+        places[k] = export_given(export);
+    }
+    count
+}
+
+fn library_given<'a>(library: LibraryView<'a>) -> PefLibrary<'a>
+    ensures { library_shown result ≡ library_seen library.entry }
+{
+    PefLibrary {
+        name: library.name,
+        current_version: library.current,
+        old_imp_version: library.old_imp,
+        import_count: library.count,
+        first_import: library.first,
+        options: library.options,
+    }
+}
+
+fn import_given<'a>(import: ImportView<'a>) -> PefImport<'a>
+    ensures { import_shown result ≡ import_seen import.entry }
+{
+    PefImport {
+        name: import.name,
+        library: import.library,
+        class: import.class,
+        weak: import.weak,
+    }
+}
+
+fn export_given<'a>(export: ExportView<'a>) -> PefExport<'a>
+    ensures { export_shown result ≡ export_seen export.entry }
+{
+    PefExport {
+        name: export.name,
+        section: export.section,
+        value: export.value,
+        class: export.class,
+    }
+}
