@@ -13,6 +13,8 @@ mod loader;
 mod names;
 mod rows;
 mod structs;
+#[cfg(test)]
+mod tests;
 mod text;
 
 pub use container::{pef_header, pef_section, pef_section_name};

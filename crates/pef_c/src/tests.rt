@@ -1,0 +1,148 @@
+//! Each call once, on a container and a listing that docs/FORMATS.md has.
+use crate::{
+    PefExport, PefHeader, PefSection, pef_expand, pef_exports, pef_header, pef_imports,
+    pef_libraries, pef_link, pef_list, pef_name, pef_section, pef_section_name,
+};
+
+/// Two transition vectors, of which the first is exported.
+const SCRIPT: &[u8] = b"versions 1 0 0
+section code code global 4 8
+section data data process 4 16
+bytes code 0011223344556677
+bytes data 00000000000000000000000400000000
+tvector data 0 code data
+tvector data 8 code data
+export go tvector data 0
+main data 0
+";
+
+const LINES: &[u8] = b"container current 1 olddef 0 oldimp 0 date 0
+section 0 kind 0 share 4 align 4 total 8 unpacked 8 packed 8 default 00000000 name -
+section 1 kind 1 share 1 align 4 total 16 unpacked 16 packed 16 default 00000000 name -
+section 2 kind 4 share 4 align 4 total 0 unpacked 0 packed 90 default 00000000 name -
+main 1 00000000
+reloc section 1 halfwords 1
+4601 TVector8 2
+export go class 2 section 1 value 00000000
+";
+
+/// A script is linked, and its container is listed.
+#[test]
+fn linked_and_listed(rt: HostRuntime) {
+    let mut room = [0; 512];
+    let mut written = 0;
+    let mut line = 7;
+    let linked = pef_link(rt.alloc(), SCRIPT, &mut room, &mut written, &mut line);
+    assert!(rt; linked == 0 && line == 0 && written == 250);
+    let (container, _) = room.split_at(250);
+    let mut text = [0; 1024];
+    let listed = pef_list(rt.alloc(), container, &mut text, &mut written);
+    assert!(rt; listed == 0 && written == LINES.len());
+    let (lines, _) = text.split_at(LINES.len());
+    assert!(rt; lines == LINES);
+}
+
+/// A container is read part by part.
+#[test]
+fn parts(rt: HostRuntime) {
+    let mut room = [0; 250];
+    let mut written = 0;
+    let mut line = 0;
+    let linked = pef_link(rt.alloc(), SCRIPT, &mut room, &mut written, &mut line);
+    assert!(rt; linked == 0);
+
+    let mut header = PefHeader {
+        date_time_stamp: 7,
+        old_def_version: 7,
+        old_imp_version: 7,
+        current_version: 7,
+        section_count: 7,
+        instantiated_section_count: 7,
+    };
+    assert!(rt; pef_header(&room, &mut header) == 0);
+    assert!(rt; header.current_version == 1 && header.section_count == 3);
+    assert!(rt; header.instantiated_section_count == 2 && header.date_time_stamp == 0);
+
+    let mut section = PefSection {
+        default_address: 7,
+        total_size: 7,
+        unpacked_size: 7,
+        packed_size: 7,
+        container_offset: 7,
+        kind: 7,
+        share: 7,
+        alignment: 7,
+    };
+    let mut raw: &[u8] = b"";
+    assert!(rt; pef_section(&room, 0, &mut section, &mut raw) == 0);
+    assert!(rt; section.kind == 0 && section.share == 4 && section.total_size == 8);
+    assert!(rt; raw == b"\x00\x11\x22\x33\x44\x55\x66\x77".as_slice());
+    assert!(rt; pef_section(&room, 3, &mut section, &mut raw) == 201);
+    assert!(rt; pef_section_name(&room, 0, &mut raw) == 201);
+}
+
+/// The tables of a loader section are read.
+#[test]
+fn tables(rt: HostRuntime) {
+    let mut room = [0; 250];
+    let mut written = 0;
+    let mut line = 0;
+    let linked = pef_link(rt.alloc(), SCRIPT, &mut room, &mut written, &mut line);
+    assert!(rt; linked == 0);
+
+    let none = PefExport {
+        name: b"",
+        section: 7,
+        value: 7,
+        class: 7,
+    };
+    let mut exports = [none; 3];
+    assert!(rt; pef_exports(&room, 0, &mut exports, &mut written) == 0);
+    assert!(rt; written == 1 && exports[0].name == b"go".as_slice());
+    assert!(rt; exports[0].section == 1 && exports[0].class == 2 && exports[1].class == 7);
+    assert!(rt; pef_imports(&room, 0, &mut [], &mut written) == 0 && written == 0);
+    assert!(rt; pef_libraries(&room, 5, &mut [], &mut written) == 0 && written == 0);
+}
+
+/// A room that is too small is told with the length that is needed.
+#[test]
+fn small_rooms(rt: HostRuntime) {
+    let mut room = [7; 249];
+    let mut written = 0;
+    let mut line = 7;
+    let linked = pef_link(rt.alloc(), SCRIPT, &mut room, &mut written, &mut line);
+    assert!(rt; linked == 200 && line == 0 && written == 250);
+    assert!(rt; room == [7; 249]);
+}
+
+/// A refusal is told by its number, its line and its name.
+#[test]
+fn refusals(rt: HostRuntime) {
+    let mut room = [7; 8];
+    let mut written = 3;
+    let mut line = 0;
+    let linked = pef_link(
+        rt.alloc(),
+        b"# a\nsection a\n",
+        &mut room,
+        &mut written,
+        &mut line,
+    );
+    assert!(rt; linked == 41 && line == 2 && written == 3);
+    let listed = pef_list(rt.alloc(), SCRIPT, &mut room, &mut written);
+    assert!(rt; listed == 2 && written == 3);
+    let mut name: &'static [u8] = b"";
+    assert!(rt; pef_name(listed, &mut name) == 0);
+    assert!(rt; name == b"BadTag".as_slice());
+    assert!(rt; pef_name(70, &mut name) == 201);
+    assert!(rt; name == b"BadTag".as_slice());
+}
+
+/// Packed bytes are expanded (FORMATS.md, section 3).
+#[test]
+fn expanded(rt: HostRuntime) {
+    let mut out = [7; 3];
+    assert!(rt; pef_expand(&[0x41, 0x02, 0x7F], &mut out) == 0);
+    assert!(rt; out == [0x7F; 3]);
+    assert!(rt; pef_expand(&[0xA0], &mut out) == 22);
+}

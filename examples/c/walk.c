@@ -1,0 +1,163 @@
+/*
+ * Walks over a container: walk FILE prints what `pef list` prints, but for its relocation programs, and takes each line
+ * from the calls that read a container part by part. Packed sections are expanded, to see that they can be.
+ */
+#include "file.h"
+
+#include <string.h>
+
+/* How many rows are read at once. */
+enum { ROWS = 256 };
+
+static struct pef_bytes container;
+
+/* Prints a name, with each byte that isn't printable and each % as % and two digits. */
+static void print_name(struct pef_bytes name)
+{
+    for (size_t i = 0; i < name.length; i++)
+        printf(name.at[i] > 0x20 && name.at[i] < 0x7f && name.at[i] != '%' ? "%c" : "%%%02X", name.at[i]);
+}
+
+static uint32_t expand(struct pef_bytes packed, size_t length)
+{
+    uint8_t *image = malloc(length == 0 ? 1 : length);
+    if (image == NULL)
+        return PEF_OUT_OF_MEMORY;
+    uint32_t answer = pef_expand(packed.at, packed.length, image, length);
+    free(image);
+    return answer;
+}
+
+static uint32_t print_section(size_t number)
+{
+    struct pef_section section = {0};
+    struct pef_bytes raw = PEF_NO_BYTES, name = PEF_NO_BYTES;
+    uint32_t answer = pef_section(container.at, container.length, number, &section, &raw);
+    if (answer != PEF_OK)
+        return answer;
+    printf("section %zu kind %u share %u align %u total %u unpacked %u packed %zu default %08X name ", number, section.kind,
+           section.share, section.alignment, section.total_size, section.unpacked_size, raw.length, section.default_address);
+    answer = pef_section_name(container.at, container.length, number, &name);
+    if (answer == PEF_NOT_THERE)
+        fputs("-", stdout);
+    else
+        print_name(name);
+    puts("");
+    if (section.packed_size != 0 && raw.at != container.at + section.container_offset)
+        return PEF_SECTION_OUTSIDE;
+    return section.kind == PEF_KIND_PACKED ? expand(raw, section.unpacked_size) : PEF_OK;
+}
+
+/* Prints the libraries, whose names the imports are printed with. They need room for all of them. */
+static uint32_t print_libraries(struct pef_library *libraries, size_t room, size_t *count)
+{
+    for (size_t i = 0; i < room; i++)
+        libraries[i] = (struct pef_library){.name = PEF_NO_BYTES};
+    uint32_t answer = pef_libraries(container.at, container.length, 0, libraries, room, count);
+    for (size_t i = 0; answer == PEF_OK && i < *count; i++) {
+        fputs("library ", stdout);
+        print_name(libraries[i].name);
+        printf(" current %u oldimp %u options %02X\n", libraries[i].current_version, libraries[i].old_imp_version, libraries[i].options);
+    }
+    return answer;
+}
+
+static uint32_t print_imports(const struct pef_library *libraries)
+{
+    struct pef_import imports[ROWS];
+    size_t count = ROWS;
+    for (size_t i = 0; i < ROWS; i++)
+        imports[i] = (struct pef_import){.name = PEF_NO_BYTES};
+    for (size_t from = 0; count == ROWS; from += count) {
+        uint32_t answer = pef_imports(container.at, container.length, from, imports, ROWS, &count);
+        if (answer != PEF_OK)
+            return answer;
+        for (size_t i = 0; i < count; i++) {
+            printf("import %zu ", from + i);
+            print_name(imports[i].name);
+            fputs(" of ", stdout);
+            print_name(libraries[imports[i].library].name);
+            printf(" class %u %s\n", imports[i].symbol_class, imports[i].weak ? "weak" : "strong");
+        }
+    }
+    return PEF_OK;
+}
+
+static uint32_t print_exports(void)
+{
+    struct pef_export exports[ROWS];
+    size_t count = ROWS;
+    for (size_t i = 0; i < ROWS; i++)
+        exports[i] = (struct pef_export){.name = PEF_NO_BYTES};
+    for (size_t from = 0; count == ROWS; from += count) {
+        uint32_t answer = pef_exports(container.at, container.length, from, exports, ROWS, &count);
+        if (answer != PEF_OK)
+            return answer;
+        for (size_t i = 0; i < count; i++) {
+            fputs("export ", stdout);
+            print_name(exports[i].name);
+            printf(" class %u section %d value %08X\n", exports[i].symbol_class, exports[i].section, exports[i].value);
+        }
+    }
+    return PEF_OK;
+}
+
+static void print_entry(const char *label, int32_t section, uint32_t offset)
+{
+    if (section != PEF_NO_ENTRY)
+        printf("%s %d %08X\n", label, section, offset);
+}
+
+/* Prints all lines of the loader section. */
+static uint32_t print_loader(void)
+{
+    struct pef_loader loader;
+    memset(&loader, 0, sizeof loader);
+    uint32_t answer = pef_loader(container.at, container.length, &loader);
+    if (answer != PEF_OK)
+        return answer;
+    size_t count = 0;
+    struct pef_library *libraries = malloc((loader.library_count + (size_t)1) * sizeof *libraries);
+    if (libraries == NULL)
+        return PEF_OUT_OF_MEMORY;
+    answer = print_libraries(libraries, loader.library_count, &count);
+    if (answer == PEF_OK)
+        answer = print_imports(libraries);
+    free(libraries);
+    print_entry("main", loader.main_section, loader.main_offset);
+    print_entry("init", loader.init_section, loader.init_offset);
+    print_entry("term", loader.term_section, loader.term_offset);
+    return answer == PEF_OK ? print_exports() : answer;
+}
+
+static uint32_t print_container(void)
+{
+    struct pef_header header = {0};
+    uint32_t answer = pef_header(container.at, container.length, &header);
+    if (answer != PEF_OK)
+        return answer;
+    printf("container current %u olddef %u oldimp %u date %u\n", header.current_version, header.old_def_version,
+           header.old_imp_version, header.date_time_stamp);
+    for (size_t number = 0; answer == PEF_OK && number < header.section_count; number++)
+        answer = print_section(number);
+    return answer == PEF_OK ? print_loader() : answer;
+}
+
+int main(int count, char **words)
+{
+    if (count != 2) {
+        fputs("usage: walk FILE\n", stderr);
+        return 2;
+    }
+    uint8_t *bytes = read_file(words[1], &container.length);
+    if (bytes == NULL) {
+        perror(words[1]);
+        return 1;
+    }
+    container.at = bytes;
+    uint32_t answer = print_container();
+    free(bytes);
+    if (answer != PEF_OK)
+        print_refusal(words[1], answer, 0);
+    return answer == PEF_OK ? 0 : 1;
+}
