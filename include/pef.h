@@ -11,7 +11,8 @@
  * - No pointer is null, not even one to no bytes. PEF_NO_BYTES is an empty slice that is fit to be handed in.
  * - A pointer with a length points to at least that many bytes, which nobody else changes during the call.
  * - What a call writes overlaps nothing else that it takes.
- * - No call is made from a signal handler. Calls on different threads may run at once, each with memory of its own.
+ * - Calls are made one at a time, and none from a signal handler. The library keeps no state, but several threads at once
+ *   were not tried.
  * - malloc, realloc and free are the C library's, or as good: blocks are aligned to 16 bytes.
  *
  * What is borrowed is read during the call only, unless a call says that a result points into it. Then the bytes have to

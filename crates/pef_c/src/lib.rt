@@ -16,6 +16,7 @@ mod structs;
 #[cfg(test)]
 mod tests;
 mod text;
+mod theorems;
 
 pub use container::{pef_header, pef_section, pef_section_name};
 pub use expand::pef_expand;
@@ -25,3 +26,4 @@ pub use loader::pef_loader;
 pub use names::pef_name;
 pub use rows::{pef_exports, pef_imports, pef_libraries};
 pub use structs::{PefExport, PefHeader, PefImport, PefLibrary, PefLoader, PefSection};
+pub use theorems::{container_names, listing_names, loader_names, packed_names, script_names};

@@ -72,6 +72,7 @@ pub extern "C" fn pef_exports<'a>(
     0
 }
 
+/// Fills the first places with the libraries from number `from` on, and says how many they are.
 fn fill_libraries<'a>(loader: Loader<'a>, from: usize, places: &mut [PefLibrary<'a>]) -> usize
     ensures count { result ≡ fitting (loaded loader.entry).header.library_count from (length places.old) }
     ensures rows { map library_shown places.new ≡ filled (library_of (loaded loader.entry)) from result (map library_shown places.old) }
@@ -86,6 +87,7 @@ fn fill_libraries<'a>(loader: Loader<'a>, from: usize, places: &mut [PefLibrary<
     count
 }
 
+/// Fills the first places with the imports from number `from` on, and says how many they are.
 fn fill_imports<'a>(loader: Loader<'a>, from: usize, places: &mut [PefImport<'a>]) -> usize
     ensures count { result ≡ fitting (loaded loader.entry).header.import_count from (length places.old) }
     ensures rows { map import_shown places.new ≡ filled (import_of (loaded loader.entry)) from result (map import_shown places.old) }
@@ -101,6 +103,7 @@ fn fill_imports<'a>(loader: Loader<'a>, from: usize, places: &mut [PefImport<'a>
     count
 }
 
+/// Fills the first places with the exports from number `from` on, and says how many they are.
 fn fill_exports<'a>(loader: Loader<'a>, from: usize, places: &mut [PefExport<'a>]) -> usize
     ensures count { result ≡ fitting (loaded loader.entry).header.export_count from (length places.old) }
     ensures rows { map export_shown places.new ≡ filled (export_of (loaded loader.entry)) from result (map export_shown places.old) }
@@ -115,6 +118,7 @@ fn fill_exports<'a>(loader: Loader<'a>, from: usize, places: &mut [PefExport<'a>
     count
 }
 
+/// A library as C sees it.
 fn library_given<'a>(library: LibraryView<'a>) -> PefLibrary<'a>
     ensures { library_shown result ≡ library_seen library.entry }
 {
@@ -128,6 +132,7 @@ fn library_given<'a>(library: LibraryView<'a>) -> PefLibrary<'a>
     }
 }
 
+/// An import as C sees it.
 fn import_given<'a>(import: ImportView<'a>) -> PefImport<'a>
     ensures { import_shown result ≡ import_seen import.entry }
 {
@@ -139,6 +144,7 @@ fn import_given<'a>(import: ImportView<'a>) -> PefImport<'a>
     }
 }
 
+/// An export as C sees it.
 fn export_given<'a>(export: ExportView<'a>) -> PefExport<'a>
     ensures { export_shown result ≡ export_seen export.entry }
 {
