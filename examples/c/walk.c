@@ -1,13 +1,11 @@
 /*
  * Walks over a container: walk FILE prints what `pef list` prints, but for its relocation programs, and takes each line
- * from the calls that read a container part by part. Packed sections are expanded, to see that they can be.
+ * from the calls that read a container part by part. Packed sections are expanded, to see that they can be. Each table is
+ * read by one call, since each call reads the loader section anew.
  */
 #include "file.h"
 
 #include <string.h>
-
-/* How many rows are read at once. */
-enum { ROWS = 256 };
 
 static struct pef_bytes container;
 
@@ -48,13 +46,20 @@ static uint32_t print_section(size_t number)
     return section.kind == PEF_KIND_PACKED ? expand(raw, section.unpacked_size) : PEF_OK;
 }
 
-/* Prints the libraries, whose names the imports are printed with. They need room for all of them. */
-static uint32_t print_libraries(struct pef_library *libraries, size_t room, size_t *count)
+/* Makes an array of `count` rows, of which each starts as `row`. The caller frees it. It isn't NULL for no rows. */
+static void *make_rows(size_t count, const void *row, size_t size)
 {
-    for (size_t i = 0; i < room; i++)
-        libraries[i] = (struct pef_library){.name = PEF_NO_BYTES};
-    uint32_t answer = pef_libraries(container.at, container.length, 0, libraries, room, count);
-    for (size_t i = 0; answer == PEF_OK && i < *count; i++) {
+    char *rows = malloc((count + 1) * size);
+    for (size_t i = 0; rows != NULL && i < count; i++)
+        memcpy(rows + i * size, row, size);
+    return rows;
+}
+
+static uint32_t print_libraries(struct pef_library *libraries, size_t room)
+{
+    size_t count = 0;
+    uint32_t answer = pef_libraries(container.at, container.length, 0, libraries, room, &count);
+    for (size_t i = 0; answer == PEF_OK && i < count; i++) {
         fputs("library ", stdout);
         print_name(libraries[i].name);
         printf(" current %u oldimp %u options %02X\n", libraries[i].current_version, libraries[i].old_imp_version, libraries[i].options);
@@ -62,50 +67,50 @@ static uint32_t print_libraries(struct pef_library *libraries, size_t room, size
     return answer;
 }
 
-static uint32_t print_imports(const struct pef_library *libraries)
+static uint32_t print_imports(struct pef_import *imports, size_t room, const struct pef_library *libraries)
 {
-    struct pef_import imports[ROWS];
-    size_t count = ROWS;
-    for (size_t i = 0; i < ROWS; i++)
-        imports[i] = (struct pef_import){.name = PEF_NO_BYTES};
-    for (size_t from = 0; count == ROWS; from += count) {
-        uint32_t answer = pef_imports(container.at, container.length, from, imports, ROWS, &count);
-        if (answer != PEF_OK)
-            return answer;
-        for (size_t i = 0; i < count; i++) {
-            printf("import %zu ", from + i);
-            print_name(imports[i].name);
-            fputs(" of ", stdout);
-            print_name(libraries[imports[i].library].name);
-            printf(" class %u %s\n", imports[i].symbol_class, imports[i].weak ? "weak" : "strong");
-        }
+    size_t count = 0;
+    uint32_t answer = pef_imports(container.at, container.length, 0, imports, room, &count);
+    for (size_t i = 0; answer == PEF_OK && i < count; i++) {
+        printf("import %zu ", i);
+        print_name(imports[i].name);
+        fputs(" of ", stdout);
+        print_name(libraries[imports[i].library].name);
+        printf(" class %u %s\n", imports[i].symbol_class, imports[i].weak ? "weak" : "strong");
     }
-    return PEF_OK;
+    return answer;
 }
 
-static uint32_t print_exports(void)
+static uint32_t print_exports(struct pef_export *exports, size_t room)
 {
-    struct pef_export exports[ROWS];
-    size_t count = ROWS;
-    for (size_t i = 0; i < ROWS; i++)
-        exports[i] = (struct pef_export){.name = PEF_NO_BYTES};
-    for (size_t from = 0; count == ROWS; from += count) {
-        uint32_t answer = pef_exports(container.at, container.length, from, exports, ROWS, &count);
-        if (answer != PEF_OK)
-            return answer;
-        for (size_t i = 0; i < count; i++) {
-            fputs("export ", stdout);
-            print_name(exports[i].name);
-            printf(" class %u section %d value %08X\n", exports[i].symbol_class, exports[i].section, exports[i].value);
-        }
+    size_t count = 0;
+    uint32_t answer = pef_exports(container.at, container.length, 0, exports, room, &count);
+    for (size_t i = 0; answer == PEF_OK && i < count; i++) {
+        fputs("export ", stdout);
+        print_name(exports[i].name);
+        printf(" class %u section %d value %08X\n", exports[i].symbol_class, exports[i].section, exports[i].value);
     }
-    return PEF_OK;
+    return answer;
 }
 
 static void print_entry(const char *label, int32_t section, uint32_t offset)
 {
     if (section != PEF_NO_ENTRY)
         printf("%s %d %08X\n", label, section, offset);
+}
+
+static uint32_t print_rows(const struct pef_loader *loader, struct pef_library *libraries, struct pef_import *imports,
+                           struct pef_export *exports)
+{
+    if (libraries == NULL || imports == NULL || exports == NULL)
+        return PEF_OUT_OF_MEMORY;
+    uint32_t answer = print_libraries(libraries, loader->library_count);
+    if (answer == PEF_OK)
+        answer = print_imports(imports, loader->import_count, libraries);
+    print_entry("main", loader->main_section, loader->main_offset);
+    print_entry("init", loader->init_section, loader->init_offset);
+    print_entry("term", loader->term_section, loader->term_offset);
+    return answer == PEF_OK ? print_exports(exports, loader->export_count) : answer;
 }
 
 /* Prints all lines of the loader section. */
@@ -116,18 +121,17 @@ static uint32_t print_loader(void)
     uint32_t answer = pef_loader(container.at, container.length, &loader);
     if (answer != PEF_OK)
         return answer;
-    size_t count = 0;
-    struct pef_library *libraries = malloc((loader.library_count + (size_t)1) * sizeof *libraries);
-    if (libraries == NULL)
-        return PEF_OUT_OF_MEMORY;
-    answer = print_libraries(libraries, loader.library_count, &count);
-    if (answer == PEF_OK)
-        answer = print_imports(libraries);
+    const struct pef_library library = {.name = PEF_NO_BYTES};
+    const struct pef_import import = {.name = PEF_NO_BYTES};
+    const struct pef_export export = {.name = PEF_NO_BYTES};
+    struct pef_library *libraries = make_rows(loader.library_count, &library, sizeof library);
+    struct pef_import *imports = make_rows(loader.import_count, &import, sizeof import);
+    struct pef_export *exports = make_rows(loader.export_count, &export, sizeof export);
+    answer = print_rows(&loader, libraries, imports, exports);
     free(libraries);
-    print_entry("main", loader.main_section, loader.main_offset);
-    print_entry("init", loader.init_section, loader.init_offset);
-    print_entry("term", loader.term_section, loader.term_offset);
-    return answer == PEF_OK ? print_exports() : answer;
+    free(imports);
+    free(exports);
+    return answer;
 }
 
 static uint32_t print_container(void)
