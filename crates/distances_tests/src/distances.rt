@@ -2,7 +2,7 @@ use std::alloc::{AllocError, Global};
 use std::fmt::Write;
 use std::process::Abort;
 use std::test::Fail;
-use test_bench::limits::{IN_TURN, push_in_turn, push_sections};
+use test_bench::limits::{IN_TURN, MOST, push_in_turn, push_sections};
 use test_bench::runs::{Handed, assert_cut_output, assert_prints, assert_unreadable, run_tool};
 use test_bench::scripts::{VECTORS, VECTORS_CERTIFIED};
 
@@ -195,6 +195,53 @@ const MANY_IN_TURN: &[u8] =
 fn distances_of_many_in_turn(rt: HostRuntime) -> Result<(), Fail> {
     let script = many_in_turn(rt.alloc())?;
     assert_checked(rt.alloc(), script.as_bytes(), MANY_IN_TURN)
+}
+
+/// Lines for the words of a section, by two sections in turn.
+fn push_two_in_turn(text: &mut String, section: u32, other: u32) -> Result<(), AllocError> {
+    for word in 0..MOST.fixups {
+        let base = if word % 2 == 0 { section } else { other };
+        writeln!(
+            text,
+            "fix s{section} {} section s{base}",
+            word.wrapping_mul(4)
+        )?;
+    }
+    Ok(())
+}
+
+/// Sixteen sections with as many fixups as there can be, by each section and the one so far on in turn.
+fn most_in_turn(alloc: Global, apart: u32) -> Result<String, AllocError> {
+    let mut text = String::new(alloc);
+    push_sections(&mut text, MOST.sections, 4, MOST.fixups.wrapping_mul(4))?;
+    for section in 0..16 {
+        push_two_in_turn(&mut text, section, section.wrapping_add(apart) % 16)?;
+    }
+    Ok(text)
+}
+
+/// How far the second section is, and what `check` prints. A pair of words is one unit, and 512 units are one
+/// halfword: 64 halfwords, and one more for each register that doesn't hold its section at the start.
+const MOST_IN_TURN: &[(u32, &[u8])] = &[
+    (
+        0,
+        b"section 0 yes 65\nsection 1 yes 65\nsection 2 yes 66\nsection 3 yes 66\nsection 4 yes 66\nsection 5 yes 66\nsection 6 yes 66\nsection 7 yes 66\nsection 8 yes 66\nsection 9 yes 66\nsection 10 yes 66\nsection 11 yes 66\nsection 12 yes 66\nsection 13 yes 66\nsection 14 yes 66\nsection 15 yes 66\n",
+    ),
+    (
+        1,
+        b"section 0 yes 64\nsection 1 yes 66\nsection 2 yes 66\nsection 3 yes 66\nsection 4 yes 66\nsection 5 yes 66\nsection 6 yes 66\nsection 7 yes 66\nsection 8 yes 66\nsection 9 yes 66\nsection 10 yes 66\nsection 11 yes 66\nsection 12 yes 66\nsection 13 yes 66\nsection 14 yes 66\nsection 15 yes 66\n",
+    ),
+];
+
+/// Certificates of as many sections and fixups as there can be.
+#[test]
+fn distances_of_most_in_turn(rt: HostRuntime) -> Result<(), Fail> {
+    for row in MOST_IN_TURN {
+        let (apart, printed) = *row;
+        let script = most_in_turn(rt.alloc(), apart)?;
+        assert_checked(rt.alloc(), script.as_bytes(), printed)?;
+    }
+    Ok(())
 }
 
 #[test]
