@@ -23,7 +23,7 @@ pub(crate) struct FragmentView<'a> {
 #[derive(Drop)]
 pub(crate) struct ClosedFragment<'a> {
     pub view: FragmentView<'a>,
-    /// What its library entries stand for.
+    /// What its library entries refer to.
     pub libraries: Libraries,
 }
 

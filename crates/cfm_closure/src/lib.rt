@@ -2,7 +2,7 @@
 //! initialization routines run.
 //!
 //! The rules are those of Mac OS Runtime Architectures, "Code Fragment Manager". A [`Store`] has fragments by
-//! name, and a name stands for the first fragment of that name. A fragment names libraries and imports their
+//! name, and a name means the first fragment of that name. A fragment names libraries and imports their
 //! symbols, and the closure of a fragment is the fragment with all that it needs, where versions fit. Names
 //! and bytes are borrowed, and nothing of a container is copied.
 #![tactic(auto)]

@@ -19,7 +19,7 @@ use std::alloc::{AllocError, Global};
 pub(crate) struct Frame<'a> {
     p: usize,
     fragment: FragmentView<'a>,
-    /// What its library entries stand for, up to the one that the walk is in.
+    /// What its library entries refer to, up to the one that the walk is in.
     libraries: Libraries,
 }
 

@@ -128,7 +128,7 @@ fn take_out(order: &mut Vec<usize>, position: usize)
     }
 }
 
-/// What stands in a slot.
+/// What a slot holds.
 pub(crate) fn slot<T>(slots: &[Option<T>], number: usize) -> Option<&T>
     ensures { option_copied result ≡ slice_index_or slots.now number None }
 {

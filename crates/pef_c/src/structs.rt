@@ -26,7 +26,7 @@ pub struct PefSection {
     pub alignment: u8,
 }
 
-/// How many things of each kind a loader section has, and its entries. A section of -1 stands for no entry.
+/// How many things of each kind a loader section has, and its entries. A section of -1 means no entry.
 #[repr(C)]
 #[derive(Clone, Copy, Debug, PartialEq, Eq)]
 pub struct PefLoader {

@@ -104,7 +104,7 @@ fn tables(rt: HostRuntime) {
     assert!(rt; pef_libraries(&room, 5, &mut [], &mut written) == 0 && written == 0);
 }
 
-/// A room that is too small is told with the length that is needed.
+/// If a room is too small, the length that is needed is reported.
 #[test]
 fn small_rooms(rt: HostRuntime) {
     let mut room = [7; 249];
@@ -115,7 +115,7 @@ fn small_rooms(rt: HostRuntime) {
     assert!(rt; room == [7; 249]);
 }
 
-/// A refusal is told by its number, its line and its name.
+/// A refusal is reported by its number, its line and its name.
 #[test]
 fn refusals(rt: HostRuntime) {
     let mut room = [7; 8];

@@ -11,7 +11,7 @@ use pef_cert::class_of;
 use pef_reloc::Base;
 use pef_runs::{At, Here, Known, Place, RunEnds};
 
-/// Fills in the labels at a fixup, from what is known behind it. `lows` is room for a number of each class.
+/// Fills in the labels at a fixup, from what is known after it. `lows` is room for a number of each class.
 pub(crate) fn fill_labels(
     known: Known<'_>,
     at: At<'_>,
