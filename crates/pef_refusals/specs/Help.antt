@@ -1,0 +1,108 @@
+-- What refusals mean and what to do, by their numbers (docs/REFUSALS.md says it at length).
+use Rattle.std.specs.Prelude.{◌==◌, ℕ, List, Option, None, Some, codes, if◌then◌else◌, nat_le}
+
+-- of a container
+unfoldable pub container_help : ℕ → Option (List ℕ)
+container_help number =
+    if number == 1 then Some (codes "The file ends inside the headers of a container. It is truncated, or it isn't a PEF container.")
+    else if number == 2 then Some (codes "The file doesn't begin with Joy!peff, so it isn't a PEF container. Hand in the data fork, and cut out what comes before the container.")
+    else if number == 3 then Some (codes "The container isn't for PowerPC. CFM-68K containers aren't read.")
+    else if number == 4 then Some (codes "The container's format version isn't 1, and the format has no other. The file is damaged.")
+    else if number == 5 then Some (codes "The header counts more instantiated sections than sections. The file is damaged.")
+    else if number == 6 then Some (codes "A section's raw data passes the end of the file. The file is truncated, or a section header is damaged.")
+    else if number == 7 then Some (codes "An instantiated section has a kind that can't be instantiated. The file is damaged, or its linker instantiates debug or traceback sections.")
+    else if number == 8 then Some (codes "A section's image is larger than its memory, or larger than its raw data. The file is damaged.")
+    else if number == 9 then Some (codes "A section's alignment is above 31. The file is damaged.")
+    else if number == 10 then Some (codes "The container has no loader section. Without one it can be neither listed nor loaded.")
+    else None
+
+-- of a loader section
+unfoldable pub loader_help : ℕ → Option (List ℕ)
+loader_help number =
+    if number == 11 then Some (codes "The loader section is shorter than its own header. The file is damaged.")
+    else if number == 12 then Some (codes "The tables of libraries, imports and relocation headers pass the end of the loader section. A count is damaged, or the section is truncated.")
+    else if number == 13 then Some (codes "The name of a library, an import or an export passes the end of the loader section. The name's offset or loaderStringsOffset is damaged.")
+    else if number == 14 then Some (codes "A library counts more imports than the container has. The file is damaged.")
+    else if number == 15 then Some (codes "An import belongs to no library. The file is damaged.")
+    else if number == 16 then Some (codes "The main, initialization or termination entry is in a section that isn't instantiated. The file is damaged.")
+    else if number == 17 then Some (codes "A relocation header names a section that isn't instantiated. The file is damaged.")
+    else if number == 18 then Some (codes "A relocation program passes the end of the loader section. The file is damaged.")
+    else if number == 19 then Some (codes "The table of exports passes the end of the loader section, or has too many slots. The file is damaged.")
+    else if number == 20 then Some (codes "An export is in a section that isn't instantiated, or passes on an import that isn't there. The file is damaged.")
+    else None
+
+-- of packed data
+unfoldable pub packed_help : ℕ → Option (List ℕ)
+packed_help number =
+    if number == 21 then Some (codes "A section's packed data ends inside an instruction. The data is truncated.")
+    else if number == 22 then Some (codes "A section's packed data has an instruction that doesn't exist. The data is damaged, or isn't packed at all.")
+    else if number == 23 then Some (codes "A section's packed data has a count that doesn't fit 32 bits. The data is damaged.")
+    else if number == 24 then Some (codes "A section's packed data expands to more bytes than its image has. The data or unpackedSize is damaged.")
+    else if number == 25 then Some (codes "A section's packed data expands to fewer bytes than its image has. unpackedSize is damaged, or the data is truncated.")
+    else None
+
+-- of relocation programs
+unfoldable pub relocation_help : ℕ → Option (List ℕ)
+relocation_help number =
+    if number == 31 then Some (codes "A relocation program has an instruction that doesn't exist. The program is damaged, or relocCount is too large.")
+    else if number == 32 then Some (codes "A relocation program ends inside an instruction. Its relocCount is too small.")
+    else if number == 33 then Some (codes "A repeat reaches back past the start of its relocation program. The program is damaged.")
+    else if number == 34 then Some (codes "A repeat begins inside an instruction of two halfwords. The relocation program is damaged.")
+    else if number == 35 then Some (codes "A repeat contains another one, and the format has no nested repeats. The relocation program is damaged.")
+    else if number == 36 then Some (codes "A relocation program takes more than 16,777,216 steps. It is damaged, or made to keep a loader busy.")
+    else if number == 37 then Some (codes "A relocation program changes a word that passes the end of its section's memory. The program belongs to another section, or totalSize is damaged.")
+    else if number == 38 then Some (codes "A relocation program adds an import that isn't there. The program is damaged.")
+    else if number == 39 then Some (codes "A relocation program names a section that isn't instantiated. The program is damaged.")
+    else None
+
+-- of scripts
+unfoldable pub script_help : ℕ → Option (List ℕ)
+script_help number =
+    if number == 41 then Some (codes "The line isn't one of a script. Compare its words with docs/SCRIPTS.md, and look for carriage returns, tabs, double spaces and spaces at its end.")
+    else if number == 42 then Some (codes "A number is spelled wrongly, or is too large. A decimal number has no leading zero, a hex number is 0x and at most eight digits, ALIGN is at most 12, and TOTAL at most 16,777,216.")
+    else if number == 43 then Some (codes "The line uses a section or an import that no line above declares. Declare it first; upper and lower case differ.")
+    else if number == 44 then Some (codes "An earlier line of this kind has the same name. Rename one of the two, or write a library once with all its imports after it.")
+    else if number == 45 then Some (codes "The line comes too late, a second time, or as an import before any library. The order is versions, libraries with their imports, sections, contents, exports, main, init, term.")
+    else if number == 46 then Some (codes "Two fixups of a section are less than 4 bytes apart, so their words overlap. Correct one of the offsets; a tvector has words at OFFSET and OFFSET + 4.")
+    else if number == 47 then Some (codes "Bytes, a fixup's word or an offset pass the section's TOTAL. Raise TOTAL, or correct the offset.")
+    else if number == 48 then Some (codes "The script passes a limit of docs/SCRIPTS.md. No option raises a limit, so split the script.")
+    else if number == 49 then Some (codes "A word of the line isn't among the words that can be there. Use a word of docs/SCRIPTS.md, in lower case; both options together are weak,before.")
+    else None
+
+-- of certificates, closures, placement and connections
+unfoldable pub closure_help : ℕ → Option (List ℕ)
+closure_help number =
+    if number == 51 then Some (codes "The line isn't one that a certificate has there. Compare it with section 9 of docs/FORMATS.md, and look for carriage returns, spaces at its end and a missing last line feed.")
+    else if number == 52 then Some (codes "The certificates aren't one for each section of the script, in order. They may be those of another script.")
+    else if number == 60 then Some (codes "No fragment of this name was handed in. Hand it in under exactly this name; upper and lower case differ.")
+    else if number == 61 then Some (codes "The fragment needs a library that wasn't handed in. Hand in its container, or a stub that exports what is used, under exactly this name; upper and lower case differ.")
+    else if number == 62 then Some (codes "The library doesn't export a symbol that the fragment needs. Hand in a library that exports it, or link the fragment with the import weak.")
+    else if number == 63 then Some (codes "The library is older than the oldest that the fragment accepts. Hand in a newer library.")
+    else if number == 64 then Some (codes "The library no longer serves a fragment that was linked with so old a version. Hand in an older library, or link the fragment again with this one.")
+    else if number == 65 then Some (codes "Libraries pass the symbol on in a circle, and none of them defines it. Hand in a library that defines it.")
+    else if number == 66 then Some (codes "Fragments have to be initialized before each other in a circle, and this one is in it or waits for it. Take the option before from one library of the circle.")
+    else if number == 67 then Some (codes "No address below the limit has room for the next section. Place less, or raise the limit; that of the commands is 0x10000000.")
+    else if number == 68 then Some (codes "No open connection has this number. It was closed already, or belongs to another context.")
+    else if number == 69 then Some (codes "The context has given 65,536 connections, open or closed. Make a new context.")
+    else None
+
+-- of files, inputs and memory
+unfoldable pub port_help : ℕ → Option (List ℕ)
+port_help number =
+    if number == 71 then Some (codes "The file couldn't be read, and nothing was written. Check that it exists and that you may read it.")
+    else if number == 72 then Some (codes "The file couldn't be written, and may be missing or hold any bytes now. Check its folder, your permissions and the room on the disk, and run the command again.")
+    else if number == 73 then Some (codes "Reading the standard input failed. Check the program at the other end of the pipe, and run the command again.")
+    else if number == 74 then Some (codes "The standard input has more than 536,870,912 bytes. Check what was piped in: a script isn't that long.")
+    else if number == 99 then Some (codes "An allocation failed. Give the program more memory.")
+    else None
+
+-- all of them
+abbrev pub help_of : ℕ → Option (List ℕ)
+help_of number =
+    if nat_le number 10 then container_help number
+    else if nat_le number 20 then loader_help number
+    else if nat_le number 30 then packed_help number
+    else if nat_le number 40 then relocation_help number
+    else if nat_le number 50 then script_help number
+    else if nat_le number 70 then closure_help number
+    else port_help number
