@@ -1,3 +1,4 @@
+mod AddLemmas
 mod BegunLemmas
 mod ConnectionLemmas
 mod FoundLemmas

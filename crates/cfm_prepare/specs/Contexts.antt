@@ -2,7 +2,7 @@
 -- Architectures, "Code Fragment Manager", "Preparing a Fragment", "Releasing Fragments"). That there is one
 -- context, whose fragments are shared by all its connections, and how connections are numbered, is this
 -- project's own rule.
-use Rattle.std.specs.Prelude.{◌==◌, ℕ, Bool, false, true, List, [], ◌∷◌, Option, None, Some, if◌then◌else◌}
+use Rattle.std.specs.Prelude.{◌==◌, ℕ, Bool, false, true, List, [], ◌∷◌, ◌++◌, Option, None, Some, if◌then◌else◌}
 use Rattle.cfm_memory.specs.Extents.{no_instances}
 use Rattle.cfm_memory.specs.Instances.{Layout}
 use Rattle.cfm_closure.specs.Stores.{Pair}
@@ -33,6 +33,10 @@ pub record ContextState : Type 0 where
 -- nothing was prepared
 abbrev pub fresh_state : List Pair → ℕ → ContextState
 fresh_state pairs limit = record { pairs = pairs; memory = no_instances limit; given = 0; connections = []; present = [] }
+
+-- a context with one fragment more in its store, behind the others
+abbrev pub added : ContextState → List ℕ → List ℕ → ContextState
+added s name bytes = record s { pairs = s.pairs ++ (record { name = name; bytes = bytes }) ∷ [] }
 
 -- the open connection of a number
 abbrev pub open_of : List Open → ℕ → Option Open

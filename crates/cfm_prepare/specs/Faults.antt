@@ -3,6 +3,8 @@
 use Rattle.std.specs.Prelude.{ℕ, List, codes}
 use Rattle.cfm_closure.specs.Faults as bind
 use Rattle.cfm_prepare.specs.FragmentFaults as fragment
+use Rattle.cfm_prepare.specs.declared.add_fault.AddFault.{AddFault}
+use Rattle.cfm_prepare.specs.declared.add_fault.AddFault.TheVariants as add
 use Rattle.cfm_prepare.specs.declared.fault.CloseFault.{CloseFault}
 use Rattle.cfm_prepare.specs.declared.fault.CloseFault.TheVariants.{BadConnection}
 use Rattle.cfm_prepare.specs.declared.fault.PrepareFault.{PrepareFault}
@@ -29,3 +31,14 @@ close_fault_number BadConnection = 68
 
 abbrev pub close_fault_name : CloseFault → List ℕ
 close_fault_name BadConnection = codes "BadConnection"
+
+-- of a fragment that isn't added. Only a library has such calls, so two of the numbers are from 200 on
+abbrev pub add_fault_number : AddFault → ℕ
+add_fault_number add.AddedTooLate = 203
+add_fault_number add.StoreFull = 204
+add_fault_number add.OutOfMemory = 99
+
+abbrev pub add_fault_name : AddFault → List ℕ
+add_fault_name add.AddedTooLate = codes "AddedTooLate"
+add_fault_name add.StoreFull = codes "StoreFull"
+add_fault_name add.OutOfMemory = codes "OutOfMemory"

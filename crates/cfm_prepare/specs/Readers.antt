@@ -1,13 +1,15 @@
--- What a context tells of its connections: the sections of their roots, and where their fragments are entered
--- (Mac OS Runtime Architectures, "Code Fragment Manager", "Finding Symbols").
+-- What a context tells of its connections: the sections of their roots, where their fragments are entered, and
+-- what these export (Mac OS Runtime Architectures, "Code Fragment Manager", "Finding Symbols").
 use Rattle.std.specs.Prelude.{ℕ, List, Option, None, Some, if◌then◌else◌, option_map}
 use Rattle.std.specs.Option.{option_and_then}
 use Rattle.pef_format.specs.declared.export.ExportValue.{ExportValue}
 use Rattle.pef_format.specs.declared.export.ExportValue.TheVariants.{Absolute, InSection, Reexport}
 use Rattle.pef_format.specs.Exports.{value_of}
+use Rattle.pef_views.specs.Container.{section_of}
+use Rattle.pef_views.specs.declared.section.SectionHeader.{SectionHeader}
 use Rattle.pef_loader.specs.Loader.{export_of, init_of, main_of, named_of, term_of}
 use Rattle.cfm_closure.specs.Stores.{Pair}
-use Rattle.cfm_closure.specs.Fragments.{loader_at}
+use Rattle.cfm_closure.specs.Fragments.{container_at, loader_at}
 use Rattle.cfm_closure.specs.declared.targets.Target.TheVariants.{At}
 use Rattle.cfm_prepare.specs.Prepared.{entry_address}
 use Rattle.cfm_prepare.specs.declared.entries.Entries.{Entries}
@@ -28,11 +30,24 @@ export_address pairs all p (InSection section offset) = target_address all (Some
 export_address pairs all p (Absolute number) = number
 export_address pairs all p (Reexport import) = import_address pairs all p import
 
--- the address of the first export of a name, of a connection's root
+-- the address of a fragment's first export of a name
+abbrev pub symbol_at : List Pair → List Present → ℕ → List ℕ → Option ℕ
+symbol_at pairs all p name =
+    option_map (λ x. export_address pairs all p (value_of x.section x.value))
+    (option_and_then (λ l. option_and_then (export_of l) (named_of l name)) (loader_at pairs p))
+
+-- the same of a connection's root
 abbrev pub symbol_address : List Present → Open → List ℕ → Option ℕ
-symbol_address all o name =
-    option_map (λ x. export_address o.closed.pairs all o.root (value_of x.section x.value))
-    (option_and_then (λ l. option_and_then (export_of l) (named_of l name)) (loader_at o.closed.pairs o.root))
+symbol_address all o name = symbol_at o.closed.pairs all o.root name
+
+-- and of a fragment that a connection's closure has
+abbrev pub symbol_of : List Present → Open → ℕ → List ℕ → Option ℕ
+symbol_of all o p name = if has o.closed.order p then symbol_at o.closed.pairs all p name else None
+
+-- the header of section i in the container of a fragment that a connection's closure has
+abbrev pub section_header_of : Open → ℕ → ℕ → Option SectionHeader
+section_header_of o p i =
+    if has o.closed.order p then option_map (λ s. s.header) (option_and_then (λ c. section_of c i) (container_at o.closed.pairs p)) else None
 
 -- the address of the main entry of a connection's root
 abbrev pub main_address : List Present → Open → Option ℕ

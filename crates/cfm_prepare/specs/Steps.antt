@@ -1,6 +1,7 @@
--- The steps of a context: a fragment is prepared, or a connection closed; and why a fragment isn't prepared.
--- The order of the refusals is this project's own rule.
-use Rattle.std.specs.Prelude.{◌≡◌, ◌≤◌, ◌<◌, ℕ, ◌+◌, List, [], ◌∷◌, ◌++◌, None, Some, Ok}
+-- The steps of a context: a fragment is prepared, or a connection closed; and why a fragment isn't added or
+-- prepared. The order of the refusals is this project's own rule.
+use Rattle.std.specs.Prelude.{◌≡◌, ◌≤◌, ◌<◌, ℕ, ◌+◌, List, [], ◌∷◌, ◌++◌, None, Some, Ok, length}
+use Rattle.cfm_closure.specs.Limits.{most_pairs}
 use Rattle.cfm_closure.specs.Stores.{place_of}
 use Rattle.cfm_closure.specs.Faults.{FailsAs}
 use Rattle.cfm_closure.specs.Closures.{Closed, closed_of}
@@ -9,8 +10,16 @@ use Rattle.cfm_prepare.specs.Placing.{ArePrepared}
 use Rattle.cfm_prepare.specs.Refusals.{MayNotPrepareNew}
 use Rattle.cfm_prepare.specs.declared.fragment_fault.FragmentFault.{FragmentFault}
 use Rattle.cfm_prepare.specs.Contexts.{ContextState, Open, most_connections, needed_of, open_of, open_without, unneeded_of}
+use Rattle.cfm_prepare.specs.declared.add_fault.AddFault.{AddFault}
+use Rattle.cfm_prepare.specs.declared.add_fault.AddFault.TheVariants as add
 use Rattle.cfm_prepare.specs.declared.fault.PrepareFault.{PrepareFault}
 use Rattle.cfm_prepare.specs.declared.fault.PrepareFault.TheVariants as fault
+
+-- why a fragment isn't added: a connection was given; else the store is full; or memory is refused
+abbrev pub MayNotAdd : ContextState → AddFault → Type 0
+MayNotAdd s add.AddedTooLate = 0 < s.given
+MayNotAdd s add.StoreFull = (s.given ≡ 0) × (most_pairs ≤ length s.pairs)
+MayNotAdd s add.OutOfMemory = (s.given ≡ 0) × (length s.pairs < most_pairs)
 
 -- a number is left, and a name has a fragment, in this place
 pub record HasRoot (s : ContextState) (name : List ℕ) : Type 0 where

@@ -3,7 +3,7 @@ ghost use Rattle.pef_loader.specs.Export.{is_there};
 ghost use Rattle.pef_loader.specs.Views.{loaded};
 ghost use Rattle.cfm_closure.specs.Fragments.{loader_at};
 ghost use Rattle.cfm_prepare.specs.Lists.{IsOnce, has};
-ghost use Rattle.cfm_prepare.specs.Readers.{entries_of, export_address, main_address, symbol_address};
+ghost use Rattle.cfm_prepare.specs.Readers.{entries_of, export_address, main_address, section_header_of, symbol_address, symbol_at, symbol_of};
 
 use crate::entries::{Entries, find_entries};
 use crate::fragments::Fragments;
@@ -11,6 +11,7 @@ use crate::places::section_address;
 use cfm_closure::Closure;
 use pef_format::ExportValue;
 use pef_loader::Loader;
+use pef_views::SectionHeader;
 use std::marker::Model;
 
 /// An open connection.
@@ -67,33 +68,69 @@ impl<'a> Connected<'a> {
     }
 
     /// The address of the root's first export of a name.
-    #[tactic(auto, unfolding(crate::specs::Readers::symbol_address))]
-    pub fn symbol(&self, fragments: &Fragments, name: &[u8]) -> Option<u32>
+    pub fn root_symbol(&self, fragments: &Fragments, name: &[u8]) -> Option<u32>
         ensures { result ≡ symbol_address fragments.now.present self.now name.now }
     {
-        let loader = self.closure.loader(self.root);
-        let index = loader.export_named(name)?;
-        let export = loader.export(index)?;
-        Some(self.export_address(fragments, &loader, export.value()))
+        self.symbol_at(fragments, self.root, name)
     }
 
-    /// The address of an export of the root.
-    fn export_address(&self, fragments: &Fragments, loader: &Loader<'_>, value: ExportValue) -> u32
-        requires loader { loader_at self.now.closed.pairs self.now.root ≡ Some (loaded loader.now) }
+    /// The address of the first export of a name, of a fragment of the closure.
+    pub fn symbol(&self, fragments: &Fragments, position: usize, name: &[u8]) -> Option<u32>
+        ensures { result ≡ symbol_of fragments.now.present self.now position name.now }
+    {
+        if !has(self.closure.order(), position) {
+            return None;
+        }
+        self.symbol_at(fragments, position, name)
+    }
+
+    /// The same of a fragment that the closure has.
+    #[tactic(auto, unfolding(crate::specs::Readers::symbol_at))]
+    fn symbol_at(&self, fragments: &Fragments, position: usize, name: &[u8]) -> Option<u32>
+        requires { Contains self.now.closed.order position }
+        ensures { result ≡ symbol_at self.now.closed.pairs fragments.now.present position name.now }
+    {
+        let loader = self.closure.loader(position);
+        let index = loader.export_named(name)?;
+        let export = loader.export(index)?;
+        Some(self.export_address(fragments, position, &loader, export.value()))
+    }
+
+    /// The address of an export of a fragment that the closure has.
+    fn export_address(
+        &self,
+        fragments: &Fragments,
+        position: usize,
+        loader: &Loader<'_>,
+        value: ExportValue,
+    ) -> u32
+        requires place { Contains self.now.closed.order position }
+        requires loader { loader_at self.now.closed.pairs position ≡ Some (loaded loader.now) }
         requires there { IsTrue (is_there (loaded loader.now).header (loaded loader.now).sections value) }
-        ensures { result ≡ export_address self.now.closed.pairs fragments.now.present self.now.root value }
+        ensures { result ≡ export_address self.now.closed.pairs fragments.now.present position value }
     {
         match value {
             ExportValue::InSection { section, offset } => {
-                let places = fragments.places(self.root);
+                let places = fragments.places(position);
                 section_address(places, section).wrapping_add(offset)
             }
             ExportValue::Absolute(number) => number,
             ExportValue::Reexport { import } => {
-                let target = self.closure.target(self.root, import as usize);
+                let target = self.closure.target(position, import as usize);
                 fragments.target_address(target)
             }
         }
+    }
+
+    /// The header of section `i` in the container of a fragment of the closure.
+    pub fn section_header(&self, position: usize, i: usize) -> Option<SectionHeader>
+        ensures { result ≡ section_header_of self.now position i }
+    {
+        if !has(self.closure.order(), position) {
+            return None;
+        }
+        let section = self.closure.container(position).section(i)?;
+        Some(section.header)
     }
 
     /// The address of the root's main entry.

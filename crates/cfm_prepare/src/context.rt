@@ -3,10 +3,11 @@ ghost use Rattle.std.specs.Option.{option_and_then, option_copied};
 ghost use Rattle.cfm_closure.specs.Stores.{place_of};
 ghost use Rattle.cfm_prepare.specs.Fragments.{places_of};
 ghost use Rattle.cfm_prepare.specs.Sections.{section_present, section_seen};
-ghost use Rattle.cfm_prepare.specs.Contexts.{fresh_state, most_connections, open_of};
-ghost use Rattle.cfm_prepare.specs.Readers.{entries_of, main_address, root_section, symbol_address};
-ghost use Rattle.cfm_prepare.specs.Steps.{Closes, MayNotPrepare, Prepares};
+ghost use Rattle.cfm_prepare.specs.Contexts.{added, fresh_state, most_connections, open_of};
+ghost use Rattle.cfm_prepare.specs.Readers.{entries_of, main_address, root_section, section_header_of, symbol_address, symbol_of};
+ghost use Rattle.cfm_prepare.specs.Steps.{Closes, MayNotAdd, MayNotPrepare, Prepares};
 
+use crate::add_fault::AddFault;
 use crate::connected::Connected;
 use crate::connections::Connections;
 use crate::entries::Entries;
@@ -14,7 +15,8 @@ use crate::fault::{CloseFault, PrepareFault};
 use crate::fragments::Fragments;
 use crate::releasing::release;
 use crate::users::{enter, leave, make_room};
-use cfm_closure::{Store, closure};
+use cfm_closure::{Store, StoreFault, closure};
+use pef_views::SectionHeader;
 use std::alloc::Global;
 use std::marker::Model;
 
@@ -63,6 +65,29 @@ impl<'a> Context<'a> {
             connections: Connections::new(alloc),
             users: Vec::new(alloc),
             fragments: Fragments::new(alloc, limit),
+        }
+    }
+
+    /// Adds a fragment to the store. Its name may be there already: the first fragment of a name counts.
+    ///
+    /// # Errors
+    ///
+    /// `AddedTooLate` if a connection was ever given; else `StoreFull` if the store is full; or
+    /// `OutOfMemory`. The context is then as it was.
+    pub fn add(&mut self, name: &'a [u8], bytes: &'a [u8]) -> Result<(), AddFault>
+        ensures added { OnOk result ((self.old.given ≡ 0) × (self.new ≡ added self.old name.now bytes.now)) }
+        ensures refused { IfErr result (λ fault. MayNotAdd self.old fault) }
+        ensures unchanged { OnErr result (self.new ≡ self.old) }
+    {
+        if self.connections.given() > 0 {
+            return Err(AddFault::AddedTooLate);
+        }
+        if self.store.is_full() {
+            return Err(AddFault::StoreFull);
+        }
+        match self.store.add(name, bytes) {
+            Ok(()) => Ok(()),
+            Err(StoreFault::OutOfMemory) => Err(AddFault::OutOfMemory),
         }
     }
 
@@ -132,7 +157,7 @@ impl<'a> Context<'a> {
         ensures { result ≡ option_and_then (λ o. symbol_address self.now.present o name.now) (open_of self.now.connections connection.0) }
     {
         let connected = self.connections.get(connection.0)?;
-        connected.symbol(&self.fragments, name)
+        connected.root_symbol(&self.fragments, name)
     }
 
     /// The address and the bytes of section `i` of the fragment that a connection was opened to.
@@ -191,6 +216,35 @@ impl<'a> Context<'a> {
     {
         let connected = self.connections.get(connection.0)?;
         connected.entries(&self.fragments, position)
+    }
+
+    /// The address of the first export of a name, of a fragment of a connection's closure, given by its place
+    /// in the store. `None` where there is none, the closure lacks the fragment, or the connection isn't open.
+    pub fn fragment_symbol(
+        &self,
+        connection: Connection,
+        position: usize,
+        name: &[u8],
+    ) -> Option<u32>
+        ensures { result ≡ option_and_then (λ o. symbol_of self.now.present o position name.now) (open_of self.now.connections connection.0) }
+    {
+        let connected = self.connections.get(connection.0)?;
+        connected.symbol(&self.fragments, position, name)
+    }
+
+    /// The header of section `i` in the container of a fragment of a connection's closure, given by its place
+    /// in the store. `None` past the last section, where the closure lacks the fragment, or the connection
+    /// isn't open.
+    pub fn fragment_section_header(
+        &self,
+        connection: Connection,
+        position: usize,
+        i: usize,
+    ) -> Option<SectionHeader>
+        ensures { result ≡ option_and_then (λ o. section_header_of o position i) (open_of self.now.connections connection.0) }
+    {
+        let connected = self.connections.get(connection.0)?;
+        connected.section_header(position, i)
     }
 
     /// The name of the fragment in a place of the store. `None` past the last place.

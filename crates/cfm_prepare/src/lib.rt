@@ -10,6 +10,7 @@
 //! project's own.
 #![tactic(auto)]
 
+mod add_fault;
 mod connected;
 mod connections;
 mod context;
@@ -30,6 +31,7 @@ mod slots;
 pub mod theorems;
 mod users;
 
+pub use add_fault::AddFault;
 pub use context::{Connection, Context};
 pub use entries::Entries;
 pub use fault::{CloseFault, PrepareFault};

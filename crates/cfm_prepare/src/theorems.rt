@@ -1,8 +1,8 @@
 //! Laws of the definitions, for the proofs of other crates. The functions do nothing.
-ghost use Rattle.std.specs.Prelude.{◌≡◌, ℕ, List, Contains, true};
+ghost use Rattle.std.specs.Prelude.{◌≡◌, ◌++◌, ℕ, List, [], ◌∷◌, Contains, true};
 ghost use Rattle.cfm_closure.specs.Stores.{Pair};
 ghost use Rattle.cfm_prepare.specs.Fragments.{is_present, places_of};
-ghost use Rattle.cfm_prepare.specs.Contexts.{ContextState, fresh_state, is_needed};
+ghost use Rattle.cfm_prepare.specs.Contexts.{ContextState, added, fresh_state, is_needed};
 ghost use Rattle.cfm_prepare.specs.Now.{IsPreparedNow};
 ghost use Rattle.cfm_prepare.specs.Runs.{AreClosed, Keeps, Runs, Step, Takes};
 ghost use Rattle.cfm_prepare.specs.Steps.{Prepares};
@@ -27,4 +27,11 @@ pub fn prepared_fragments()
     ensures now { (pairs : List Pair) (limit : ℕ) (steps : List Step) (s : ContextState) (p : ℕ) → Runs (fresh_state pairs limit) steps s → is_present s.present p ≡ true → IsPreparedNow pairs s p }
     ensures closure { (pairs : List Pair) (limit : ℕ) (steps : List Step) (s t : ContextState) (name : List ℕ) (number p : ℕ) → Runs (fresh_state pairs limit) steps s → (step : Prepares s name number t) → Contains step.closure.closed.order p
         → (is_present t.present p ≡ true) × IsPreparedNow pairs t p }
+{}
+
+/// A context that never gave a connection is as it was made. If a fragment is added to it, it is one over the longer
+/// store, as it is made. So the other laws also hold of contexts to which fragments were added.
+pub fn added_fragments()
+    ensures unused { (pairs : List Pair) (limit : ℕ) (steps : List Step) (t : ContextState) → Runs (fresh_state pairs limit) steps t → t.given ≡ 0 → t ≡ fresh_state pairs limit }
+    ensures added { (pairs : List Pair) (limit : ℕ) (name bytes : List ℕ) → added (fresh_state pairs limit) name bytes ≡ fresh_state (pairs ++ (record { name = name; bytes = bytes }) ∷ []) limit }
 {}

@@ -1,4 +1,4 @@
-//! What `docs/LOADING.md` shows to the author of an emulator: its lines stand in `store_of`, `load` and
+//! What `docs/EMBEDDING.md` shows to the author of an emulator: its lines stand in `store_of`, `load` and
 //! `prepare_app` as they stand there.
 
 use cfm_closure::Store;

@@ -7,7 +7,7 @@ use test_data::scripts::LIBRARY;
 use test_links::fragments::{Fragment, containers};
 
 /// A fragment with a main entry, an export of its own, and one of a library that is initialized before it.
-const A: Fragment = (
+pub(crate) const A: Fragment = (
     "A",
     "library L 1 0 before\nimport v data strong\nsection a data process 4 8\nfix a 0 import v\nexport own data a 4\nmain a 4\n",
     &[],

@@ -1,10 +1,11 @@
 //! Calls to which memory is refused. That shows where these tests are run with one growth refused after another, as by
 //! `tools/refuse-memory`.
 
+use crate::added::empty;
 use crate::fixture::{LIMIT, context_of, tell_memory};
 use crate::readers::{prepared, test_told, told};
 use cfm_memory::{Memory, MemoryFault, Place};
-use cfm_prepare::{Connection, Context};
+use cfm_prepare::{AddFault, Connection, Context};
 use std::alloc::Global;
 use std::fmt::Write;
 use std::process::Abort;
@@ -164,5 +165,29 @@ fn placed_again(rt: HostRuntime) -> Result<(), Fail> {
     let refused = place_until_answered(&rt, &mut memory);
     say_answered(&rt, refused)?;
     assert!(rt; memory.holds(FIRST));
+    Ok(())
+}
+
+/// If an allocation fails, nothing is added, and the next `add` adds. Returns whether it failed.
+fn add_until_answered(rt: &impl Abort, context: &mut Context<'_>) -> bool {
+    let mut answer = context.add(b"B", b"b");
+    let refused = answer == Err(AddFault::OutOfMemory);
+    if refused {
+        assert!(rt; context.name(0) == Some(b"A".as_slice()) && context.name(1).is_none());
+        answer = context.add(b"B", b"b");
+    }
+    assert!(rt; answer.is_ok());
+    refused
+}
+
+/// If memory is refused to `add`, the context is as before.
+#[test]
+fn added_again(rt: HostRuntime) -> Result<(), Fail> {
+    let mut context = empty(rt.alloc());
+    assert!(rt; context.add(b"A", b"a").is_ok());
+    say_begins(&rt)?;
+    let refused = add_until_answered(&rt, &mut context);
+    say_answered(&rt, refused)?;
+    assert!(rt; context.name(1) == Some(b"B".as_slice()));
     Ok(())
 }
