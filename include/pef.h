@@ -1,22 +1,24 @@
 /*
- * libpef: a linker, lister and reader for PEF containers, the executable format of the classic Mac OS on PowerPC.
+ * libpef: a linker, lister, reader and loader for PEF containers, the executable format of the classic Mac OS on PowerPC.
  *
  * Build it by tools/build-library, and link with out/libpef.a or out/libpef.so. It needs nothing but the C library.
  *
  * Every call returns a number: PEF_OK; or that of a refusal, below 200; or one of the library's own, from 200 on.
- * docs/REFUSALS.md explains the refusals, and pef_name() gives their names. Only the first refusal is reported.
+ * docs/REFUSALS.md explains the refusals; pef_name() gives their names, and pef_help() a sentence or two on each. Only the
+ * first refusal is reported.
  *
  * What the caller owes, in every call:
  *
  * - No pointer is null, not even one to no bytes. PEF_NO_BYTES is an empty slice that is fit to be handed in.
  * - A pointer with a length points to at least that many bytes, which nobody else changes during the call.
  * - What a call writes overlaps nothing else that it takes.
- * - Calls are made one at a time, and none from a signal handler. The library keeps no state, but several threads at once
- *   were not tried.
+ * - Calls are made one at a time, and none from a signal handler. The library keeps no state outside of contexts, but
+ *   several threads at once were not tried.
  * - malloc, realloc and free are the C library's, or as good: blocks are aligned to 16 bytes.
  *
  * What is borrowed is read during the call only, unless a call says that a result points into it. Then the bytes have to
- * stay, unchanged, while the result is used. Nothing that the library gives has to be freed.
+ * stay, unchanged, while the result is used. What pef_add() takes has to stay until the program ends. Nothing that the
+ * library gives has to be freed, except for a context.
  */
 #ifndef PEF_H
 #define PEF_H
@@ -85,6 +87,9 @@ struct pef_bytes {
 #define PEF_RELOC_REPEAT_CUTS 34
 #define PEF_RELOC_NESTED_REPEAT 35
 #define PEF_RELOC_TOO_MANY_STEPS 36
+#define PEF_RELOC_WORD_OUTSIDE 37
+#define PEF_RELOC_IMPORT_OUTSIDE 38
+#define PEF_RELOC_SECTION_OUTSIDE 39
 
 /* A line of a script is refused. */
 #define PEF_SCRIPT_BAD_LINE 41
@@ -97,12 +102,31 @@ struct pef_bytes {
 #define PEF_SCRIPT_TOO_MANY 48
 #define PEF_SCRIPT_BAD_KIND 49
 
+/* A fragment isn't prepared, or a connection isn't closed. */
+#define PEF_ROOT_MISSING 60
+#define PEF_LIBRARY_MISSING 61
+#define PEF_SYMBOL_MISSING 62
+#define PEF_IMPLEMENTATION_TOO_OLD 63
+#define PEF_IMPLEMENTATION_TOO_NEW 64
+#define PEF_REEXPORT_LOOP 65
+#define PEF_INIT_LOOP 66
+#define PEF_NO_ROOM 67
+#define PEF_BAD_CONNECTION 68
+#define PEF_TOO_MANY_CONNECTIONS 69
+
 /* An allocation failed. */
 #define PEF_OUT_OF_MEMORY 99
 
-/* Only this library returns these. */
+/* Only this library returns these: the caller's room is too small; there is no such thing; the context isn't open; a
+ * fragment is added after a connection was given; the context has as many fragments as it may. */
 #define PEF_ROOM_TOO_SMALL 200
 #define PEF_NOT_THERE 201
+#define PEF_NOT_OPEN 202
+#define PEF_ADDED_TOO_LATE 203
+#define PEF_STORE_FULL 204
+
+/* How many fragments a context has at most. */
+#define PEF_MAX_FRAGMENTS 256
 
 /* Section kinds. PEF_KIND_PACKED is pattern-initialized data, which pef_expand() expands. */
 #define PEF_KIND_CODE 0
@@ -167,6 +191,13 @@ uint32_t pef_list(const uint8_t *container, size_t container_length, uint8_t *ro
  * has the number, and leaves `*name` unchanged. `*name` starts as PEF_NO_BYTES, or as any slice that isn't null.
  */
 uint32_t pef_name(uint32_t number, struct pef_bytes *name);
+
+/*
+ * Gives one or two sentences of ASCII on a number that a call returned: what it means, and what to do.
+ *
+ * Returns and stores as pef_name() does: each number that has a name has help.
+ */
+uint32_t pef_help(uint32_t number, struct pef_bytes *help);
 
 /*
  * The calls below read a container anew from its bytes each time, and take no memory. They return PEF_OK; or the first
@@ -273,6 +304,137 @@ struct pef_export {
 uint32_t pef_libraries(const uint8_t *container, size_t container_length, size_t from, struct pef_library *places, size_t place_count, size_t *count);
 uint32_t pef_imports(const uint8_t *container, size_t container_length, size_t from, struct pef_import *places, size_t place_count, size_t *count);
 uint32_t pef_exports(const uint8_t *container, size_t container_length, size_t from, struct pef_export *places, size_t place_count, size_t *count);
+
+/*
+ * A context: fragments by name, and the memory in which they are prepared. Start it as zero bytes:
+ *
+ *     struct pef_context context = {0};
+ *
+ * Only the calls below change it, and it isn't copied. Each of these calls returns PEF_NOT_OPEN, and changes nothing, if
+ * the context isn't open: pef_open() wasn't called, failed, or was followed by pef_free(). A context is used by one
+ * thread, the one that opened it. Several contexts may be open at once.
+ *
+ * A fragment is named by its number, counted from 0 in the order in which fragments were added. It is present while the
+ * closure of an open connection has it: the fragment that was prepared, with all fragments that it needs. A present
+ * fragment keeps its addresses. Its sections are numbered as in its container, and only instantiated sections are in
+ * memory. A call on a fragment looks it up, however many there are.
+ */
+struct pef_context {
+    void *handle;
+    bool is_open;
+};
+
+/*
+ * Opens a context without fragments. Sections are placed from address 00010000 on, and none passes `limit`; `pef load`
+ * has the limit 10000000 (hexadecimal). A context that is open already is freed first.
+ *
+ * Returns PEF_OK; or PEF_OUT_OF_MEMORY, and then the context isn't open.
+ */
+uint32_t pef_open(struct pef_context *context, uint32_t limit);
+
+/* Frees a context with all that it took. It may be opened again. A context that isn't open stays as it is. */
+void pef_free(struct pef_context *context);
+
+/*
+ * Adds a fragment: its name, and the bytes of its container. They are read by each preparation, and refused then. If two
+ * fragments have the same name, the first is used.
+ *
+ * `name` and `bytes` are kept, not copied: both have to stay, unchanged, until the program ends.
+ *
+ * Returns PEF_OK; or PEF_ADDED_TOO_LATE, if the context ever gave a connection; or PEF_STORE_FULL, if it has
+ * PEF_MAX_FRAGMENTS fragments; or PEF_OUT_OF_MEMORY. The context is changed only if PEF_OK is returned.
+ */
+uint32_t pef_add(struct pef_context *context, const uint8_t *name, size_t name_length, const uint8_t *bytes, size_t bytes_length);
+
+/* The names that a refusal tells. A name that it doesn't tell is empty. Start all three as PEF_NO_BYTES. */
+struct pef_names {
+    struct pef_bytes fragment;
+    struct pef_bytes library;
+    struct pef_bytes symbol;
+};
+
+/* No names: struct pef_names names = PEF_NO_NAMES; */
+#define PEF_NO_NAMES {PEF_NO_BYTES, PEF_NO_BYTES, PEF_NO_BYTES}
+
+/*
+ * Prepares the fragment of a name and all that it needs: places them, fills them and relocates them, unless they are
+ * present already.
+ *
+ * Returns PEF_OK, and stores the number of the connection in `*connection`. Or returns the first refusal (1 to 39, or 60
+ * to 69) or PEF_OUT_OF_MEMORY, stores its names in `*names`, and leaves the context and `*connection` unchanged. Names
+ * are parts of what was added.
+ */
+uint32_t pef_prepare(struct pef_context *context, const uint8_t *name, size_t name_length, uint32_t *connection, struct pef_names *names);
+
+/*
+ * Closes a connection. Fragments that no other open connection needs are no longer present.
+ *
+ * Returns PEF_OK; or PEF_BAD_CONNECTION, if no open connection has this number, and changes nothing.
+ */
+uint32_t pef_close(struct pef_context *context, uint32_t connection);
+
+/*
+ * The calls below read a context and don't change it. They return PEF_OK; or PEF_NOT_THERE, and then they leave all that
+ * they would write unchanged.
+ */
+
+/*
+ * Give the fragments of a connection's closure: the first in closure order, in which the fragment that was prepared is the
+ * last; the other in the order in which the fragments are initialized.
+ *
+ * Return PEF_OK, and store the numbers in the first of `places`; or PEF_ROOM_TOO_SMALL, if there are fewer places than
+ * fragments; and both times store how many fragments there are in `*count`. Or return PEF_NOT_THERE, if the connection
+ * isn't open. PEF_MAX_FRAGMENTS places are enough.
+ */
+uint32_t pef_fragments(struct pef_context *context, uint32_t connection, size_t *places, size_t place_count, size_t *count);
+uint32_t pef_init_order(struct pef_context *context, uint32_t connection, size_t *places, size_t place_count, size_t *count);
+
+/* Gives a fragment's name, which is what was added. It needn't be present. Returns PEF_NOT_THERE past the last fragment. */
+uint32_t pef_fragment_name(struct pef_context *context, size_t fragment, struct pef_bytes *name);
+
+/* Counts the sections that a fragment has in memory: none, if it isn't present. */
+uint32_t pef_fragment_sections(struct pef_context *context, size_t fragment, size_t *count);
+
+/* A section in memory. `kind` is one of PEF_KIND_CODE and the others, `share` of PEF_SHARE_PROCESS and the others. */
+struct pef_fragment_section {
+    uint32_t address;
+    size_t size;
+    uint8_t kind;
+    uint8_t share;
+};
+
+/*
+ * Reads where a section lies. Returns PEF_NOT_THERE, if the fragment has no such section in memory, or the connection
+ * isn't open, or its closure lacks the fragment.
+ */
+uint32_t pef_fragment_section(struct pef_context *context, uint32_t connection, size_t fragment, size_t number, struct pef_fragment_section *section);
+
+/*
+ * Copies a section's bytes to the front of `room`, as the memory of a machine.
+ *
+ * Returns PEF_OK; or PEF_ROOM_TOO_SMALL; and both times stores the section's size in `*written`. Or returns PEF_NOT_THERE,
+ * if the fragment has no such section in memory.
+ */
+uint32_t pef_fragment_bytes(struct pef_context *context, size_t fragment, size_t number, uint8_t *room, size_t room_length, size_t *written);
+
+/* The addresses at which a fragment is entered. The address of an entry that isn't there is 0. */
+struct pef_entries {
+    uint32_t init;
+    uint32_t main;
+    uint32_t term;
+    bool has_init;
+    bool has_main;
+    bool has_term;
+};
+
+/* Reads a fragment's entries. Returns PEF_NOT_THERE, if the connection isn't open, or its closure lacks the fragment. */
+uint32_t pef_fragment_entries(struct pef_context *context, uint32_t connection, size_t fragment, struct pef_entries *entries);
+
+/*
+ * Gives the address of a fragment's first export of a name. Returns PEF_NOT_THERE, if there is none, or the connection
+ * isn't open, or its closure lacks the fragment.
+ */
+uint32_t pef_fragment_symbol(struct pef_context *context, uint32_t connection, size_t fragment, const uint8_t *name, size_t name_length, uint32_t *address);
 
 #ifdef __cplusplus
 }

@@ -1,1 +1,3 @@
 mod Filling
+mod HandleValues
+mod NumberLemmas

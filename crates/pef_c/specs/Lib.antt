@@ -6,3 +6,6 @@ pub mod Containers
 pub mod Packed
 pub mod Loaders
 pub mod Rows
+pub mod Handles
+pub mod Contexts
+pub mod Reading

@@ -1,9 +1,9 @@
 -- What `pef_link` answers. 99 means that memory was refused, and 200 that the room is too small.
 use Rattle.std.specs.Prelude.{◌≡◌, ◌⊎◌, ◌==◌, ℕ, List, Ok, Err, MatchBool}
 use Rattle.pef_script.specs.Script.{DescribedScript}
-use Rattle.pef_script_text.specs.Faults.{fault_number}
-use Rattle.pef_script_text.specs.Grammar.{script_of}
-use Rattle.pef_script_text.specs.declared.fault.LineFault.{LineFault}
+use Rattle.pef_script.specs.Text.Faults.{fault_number}
+use Rattle.pef_script.specs.Text.Grammar.{script_of}
+use Rattle.pef_script.specs.declared.text.fault.LineFault.{LineFault}
 use Rattle.pef_write.specs.Linked.{IsLinked, LinkedContainer}
 use Rattle.pef_c.specs.Rooms.{Fills, IsTooLong}
 

@@ -1,120 +1,36 @@
--- What refusals are called, by their numbers (docs/REFUSALS.md), and the answers that only this library gives.
+-- What refusals and the answers that only this library gives are called and mean, by their numbers (docs/REFUSALS.md).
 use Rattle.std.specs.Prelude.{◌≡◌, ◌==◌, ℕ, List, Option, None, Some, MatchBool, codes, if◌then◌else◌, nat_le}
+use Rattle.pef_refusals.specs.Help.{help_of as refusal_help}
+use Rattle.pef_refusals.specs.Names.{name_of as refusal_name}
 
--- of a container
-unfoldable pub container_name : ℕ → Option (List ℕ)
-container_name number =
-    if number == 1 then Some (codes "TooShort")
-    else if number == 2 then Some (codes "BadTag")
-    else if number == 3 then Some (codes "BadArchitecture")
-    else if number == 4 then Some (codes "BadFormatVersion")
-    else if number == 5 then Some (codes "BadSectionCounts")
-    else if number == 6 then Some (codes "SectionOutside")
-    else if number == 7 then Some (codes "BadSectionKind")
-    else if number == 8 then Some (codes "BadSizes")
-    else if number == 9 then Some (codes "BadAlignment")
-    else if number == 10 then Some (codes "NoLoader")
-    else None
-
--- of a loader section
-unfoldable pub loader_name : ℕ → Option (List ℕ)
-loader_name number =
-    if number == 11 then Some (codes "LoaderShort")
-    else if number == 12 then Some (codes "BadTableOffset")
-    else if number == 13 then Some (codes "BadName")
-    else if number == 14 then Some (codes "BadLibraryRange")
-    else if number == 15 then Some (codes "OrphanImport")
-    else if number == 16 then Some (codes "BadEntry")
-    else if number == 17 then Some (codes "BadRelocSection")
-    else if number == 18 then Some (codes "RelocOutside")
-    else if number == 19 then Some (codes "BadExportTable")
-    else if number == 20 then Some (codes "BadExportSection")
-    else None
-
--- of packed data
-unfoldable pub packed_name : ℕ → Option (List ℕ)
-packed_name number =
-    if number == 21 then Some (codes "Truncated")
-    else if number == 22 then Some (codes "BadOpcode")
-    else if number == 23 then Some (codes "CountTooLarge")
-    else if number == 24 then Some (codes "TooLong")
-    else if number == 25 then Some (codes "TooShort")
-    else None
-
--- of relocation programs
-unfoldable pub relocation_name : ℕ → Option (List ℕ)
-relocation_name number =
-    if number == 31 then Some (codes "BadOpcode")
-    else if number == 32 then Some (codes "CutInstruction")
-    else if number == 33 then Some (codes "RepeatTooFar")
-    else if number == 34 then Some (codes "RepeatCuts")
-    else if number == 35 then Some (codes "NestedRepeat")
-    else if number == 36 then Some (codes "TooManySteps")
-    else if number == 37 then Some (codes "WordOutside")
-    else if number == 38 then Some (codes "ImportOutside")
-    else if number == 39 then Some (codes "SectionOutside")
-    else None
-
--- of scripts
-unfoldable pub script_name : ℕ → Option (List ℕ)
-script_name number =
-    if number == 41 then Some (codes "BadLine")
-    else if number == 42 then Some (codes "BadNumber")
-    else if number == 43 then Some (codes "UnknownName")
-    else if number == 44 then Some (codes "RepeatedName")
-    else if number == 45 then Some (codes "OutOfOrder")
-    else if number == 46 then Some (codes "Overlap")
-    else if number == 47 then Some (codes "OutsideSection")
-    else if number == 48 then Some (codes "TooMany")
-    else if number == 49 then Some (codes "BadKind")
-    else None
-
--- of certificates, closures, placement and connections
-unfoldable pub closure_name : ℕ → Option (List ℕ)
-closure_name number =
-    if number == 51 then Some (codes "BadCertificate")
-    else if number == 52 then Some (codes "SectionsDiffer")
-    else if number == 60 then Some (codes "RootMissing")
-    else if number == 61 then Some (codes "LibraryMissing")
-    else if number == 62 then Some (codes "SymbolMissing")
-    else if number == 63 then Some (codes "ImplementationTooOld")
-    else if number == 64 then Some (codes "ImplementationTooNew")
-    else if number == 65 then Some (codes "ReexportLoop")
-    else if number == 66 then Some (codes "InitLoop")
-    else if number == 67 then Some (codes "NoRoom")
-    else if number == 68 then Some (codes "BadConnection")
-    else if number == 69 then Some (codes "TooManyConnections")
-    else None
-
--- of files, inputs and memory
-unfoldable pub port_name : ℕ → Option (List ℕ)
-port_name number =
-    if number == 71 then Some (codes "FileUnreadable")
-    else if number == 72 then Some (codes "FileUnwritable")
-    else if number == 73 then Some (codes "InputUnreadable")
-    else if number == 74 then Some (codes "InputTooLong")
-    else if number == 99 then Some (codes "OutOfMemory")
-    else None
-
--- of this library alone
+-- the names of this library's own answers
 unfoldable pub library_name : ℕ → Option (List ℕ)
 library_name number =
     if number == 200 then Some (codes "RoomTooSmall")
     else if number == 201 then Some (codes "NotThere")
+    else if number == 202 then Some (codes "NotOpen")
+    else if number == 203 then Some (codes "AddedTooLate")
+    else if number == 204 then Some (codes "StoreFull")
     else None
 
--- all of them
-abbrev pub name_of : ℕ → Option (List ℕ)
-name_of number =
-    if nat_le number 10 then container_name number
-    else if nat_le number 20 then loader_name number
-    else if nat_le number 30 then packed_name number
-    else if nat_le number 40 then relocation_name number
-    else if nat_le number 50 then script_name number
-    else if nat_le number 70 then closure_name number
-    else if nat_le number 99 then port_name number
-    else library_name number
+-- their help
+unfoldable pub library_help : ℕ → Option (List ℕ)
+library_help number =
+    if number == 200 then Some (codes "The room for the result is too small. Call again with a room of the length that was stored.")
+    else if number == 201 then Some (codes "There is nothing under this number.")
+    else if number == 202 then Some (codes "The context isn't open. Open it by pef_open first.")
+    else if number == 203 then Some (codes "The context has already given a connection. Add all fragments before the first preparation.")
+    else if number == 204 then Some (codes "The context has 256 fragments, and takes no more.")
+    else None
 
--- what `pef_name` answers: 0 and the name, or 201, where nothing has the number
-abbrev pub NameAnswers : ℕ → List ℕ → List ℕ → ℕ → Type 0
-NameAnswers number old new answer = MatchBool (answer == 0) (name_of number ≡ Some new) ((answer ≡ 201) × (name_of number ≡ None) × (new ≡ old))
+-- all names: refusals have the numbers up to 99
+abbrev pub name_of : ℕ → Option (List ℕ)
+name_of number = if nat_le number 99 then refusal_name number else library_name number
+
+-- all help
+abbrev pub help_of : ℕ → Option (List ℕ)
+help_of number = if nat_le number 99 then refusal_help number else library_help number
+
+-- what a call answers that gives the text of a number: 0 and the text, or 201, where the number has none
+abbrev pub TextAnswers : Option (List ℕ) → List ℕ → List ℕ → ℕ → Type 0
+TextAnswers text old new answer = MatchBool (answer == 0) (text ≡ Some new) ((answer ≡ 201) × (text ≡ None) × (new ≡ old))

@@ -1,15 +1,15 @@
--- What a call writes into the caller's room.
+-- What a call writes into the caller's room: bytes or numbers.
 use Rattle.std.specs.Prelude.{◌≡◌, ℕ, ◌<◌, List, ◌++◌, Option, None, Some, drop, length}
 
--- the text is at the front of the room, the rest of which stays, and the text's length is written
-abbrev pub Fills : List ℕ → List ℕ → List ℕ → ℕ → Type 0
-Fills text old new written = (new ≡ text ++ drop (length text) old) × (written ≡ length text)
+-- the items are at the front of the room, the rest of which stays, and their number is written
+abbrev pub Fills : {A : Type 0} → List A → List A → List A → ℕ → Type 0
+Fills items old new written = (new ≡ items ++ drop (length items) old) × (written ≡ length items)
 
--- the text is longer than the room, all of which stays, and the text's length is written
-abbrev pub IsTooLong : List ℕ → List ℕ → List ℕ → ℕ → Type 0
-IsTooLong text old new written = (length old < length text) × (new ≡ old) × (written ≡ length text)
+-- the items are more than the room has places, all of which stay, and their number is written
+abbrev pub IsTooLong : {A : Type 0} → List A → List A → List A → ℕ → Type 0
+IsTooLong items old new written = (length old < length items) × (new ≡ old) × (written ≡ length items)
 
 -- the one or the other
-abbrev pub IsCopied : {A : Type 0} → List ℕ → List ℕ → List ℕ → ℕ → Option A → Type 0
-IsCopied text old new written (Some done) = Fills text old new written
-IsCopied text old new written None = IsTooLong text old new written
+abbrev pub IsCopied : {A B : Type 0} → List A → List A → List A → ℕ → Option B → Type 0
+IsCopied items old new written (Some done) = Fills items old new written
+IsCopied items old new written None = IsTooLong items old new written

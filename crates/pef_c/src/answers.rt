@@ -1,16 +1,16 @@
-//! What the calls answer, and how a text gets into the caller's room.
+//! What the calls answer, and how bytes and numbers get into the caller's room.
 ghost use Rattle.std.specs.Prelude.{◌≡◌, ◌==◌, false};
 ghost use Rattle.pef_c.specs.Rooms.{IsCopied};
 ghost use Rattle.pef_listing.specs.Faults as listing;
 ghost use Rattle.pef_loader.specs.Faults as loader;
 ghost use Rattle.pef_pidata.specs.Faults as pidata;
-ghost use Rattle.pef_script_text.specs.Faults as script;
+ghost use Rattle.pef_script.specs.Text.Faults as script;
 ghost use Rattle.pef_views.specs.Faults as views;
 
 use pef_listing::ListFault;
 use pef_loader::LoaderFault;
 use pef_pidata::PackFault;
-use pef_script_text::LineFault;
+use pef_script::LineFault;
 use pef_views::ViewFault;
 
 /// A growth of memory was refused.
@@ -22,13 +22,16 @@ pub(crate) const ROOM_TOO_SMALL: u32 = 200;
 /// Nothing has this number.
 pub(crate) const NOT_THERE: u32 = 201;
 
-/// Copies a text to the front of the caller's room, if it fits. Its length is written in both cases.
-pub(crate) fn copy_out(text: &[u8], room: &mut [u8], written: &mut usize) -> Option<()>
-    ensures { IsCopied text.now room.old room.new written.new result }
+/// A context isn't open: it never was, or it was freed.
+pub(crate) const NOT_OPEN: u32 = 202;
+
+/// Copies items to the front of the caller's room, if they fit. Their number is written in both cases.
+pub(crate) fn copy_out<T: Copy>(items: &[T], room: &mut [T], written: &mut usize) -> Option<()>
+    ensures { IsCopied items.now room.old room.new written.new result }
 {
-    *written = text.len();
-    let (front, _) = room.split_at_mut_checked(text.len())?;
-    front.copy_from_slice(text);
+    *written = items.len();
+    let (front, _) = room.split_at_mut_checked(items.len())?;
+    front.copy_from_slice(items);
     Some(())
 }
 

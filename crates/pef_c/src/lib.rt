@@ -6,11 +6,18 @@
 
 mod answers;
 mod container;
+mod context;
+#[cfg(test)]
+mod context_tests;
 mod expand;
+mod fragments;
+mod handle;
 mod link;
 mod list;
 mod loader;
+mod loose;
 mod names;
+mod refusal_names;
 mod rows;
 mod structs;
 #[cfg(test)]
@@ -19,11 +26,20 @@ mod text;
 mod theorems;
 
 pub use container::{pef_header, pef_section, pef_section_name};
+pub use context::{pef_add, pef_close, pef_free, pef_open, pef_prepare};
 pub use expand::pef_expand;
+pub use fragments::{
+    pef_fragment_bytes, pef_fragment_entries, pef_fragment_name, pef_fragment_section,
+    pef_fragment_sections, pef_fragment_symbol, pef_fragments, pef_init_order,
+};
+pub use handle::PefContext;
 pub use link::pef_link;
 pub use list::pef_list;
 pub use loader::pef_loader;
-pub use names::pef_name;
+pub use names::{pef_help, pef_name};
 pub use rows::{pef_exports, pef_imports, pef_libraries};
-pub use structs::{PefExport, PefHeader, PefImport, PefLibrary, PefLoader, PefSection};
+pub use structs::{
+    PefEntries, PefExport, PefFragmentSection, PefHeader, PefImport, PefLibrary, PefLoader,
+    PefNames, PefSection,
+};
 pub use theorems::{container_names, listing_names, loader_names, packed_names, script_names};

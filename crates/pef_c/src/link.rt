@@ -1,7 +1,7 @@
 ghost use Rattle.pef_c.specs.Link.{LinkAnswers};
 
 use crate::answers::{OUT_OF_MEMORY, ROOM_TOO_SMALL, copy_out, line_number};
-use pef_script_text::{ScriptFault, read};
+use pef_script::{Script, ScriptFault};
 use pef_write::link;
 use std::alloc::Global;
 
@@ -20,7 +20,7 @@ pub extern "C" fn pef_link(
     ensures { LinkAnswers script.now room.old room.new written.old written.new line.new result }
 {
     *line = 0;
-    let script = match read(alloc, script) {
+    let script = match Script::read(alloc, script) {
         Ok(script) => script,
         Err(ScriptFault::Refused { fault, line: at }) => {
             *line = at;

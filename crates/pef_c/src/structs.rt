@@ -1,4 +1,4 @@
-//! What C sees of a container's parts, field by field.
+//! What C sees of containers and contexts, field by field.
 
 /// A container's header.
 #[repr(C)]
@@ -72,4 +72,35 @@ pub struct PefExport<'a> {
     pub section: i32,
     pub value: u32,
     pub class: u8,
+}
+
+/// The names that a refusal tells. One that it doesn't tell is empty.
+#[repr(C)]
+#[derive(Clone, Copy, Debug)]
+pub struct PefNames {
+    pub fragment: &'static [u8],
+    pub library: &'static [u8],
+    pub symbol: &'static [u8],
+}
+
+/// A section of a fragment that is present.
+#[repr(C)]
+#[derive(Clone, Copy, Debug, PartialEq, Eq)]
+pub struct PefFragmentSection {
+    pub address: u32,
+    pub size: usize,
+    pub kind: u8,
+    pub share: u8,
+}
+
+/// The addresses at which a fragment is entered. An entry that isn't there has the address 0.
+#[repr(C)]
+#[derive(Clone, Copy, Debug, PartialEq, Eq)]
+pub struct PefEntries {
+    pub init: u32,
+    pub main: u32,
+    pub term: u32,
+    pub has_init: bool,
+    pub has_main: bool,
+    pub has_term: bool,
 }

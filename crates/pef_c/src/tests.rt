@@ -1,6 +1,6 @@
 //! Each call once, on a container and a listing that docs/FORMATS.md has.
 use crate::{
-    PefExport, PefHeader, PefSection, pef_expand, pef_exports, pef_header, pef_imports,
+    PefExport, PefHeader, PefSection, pef_expand, pef_exports, pef_header, pef_help, pef_imports,
     pef_libraries, pef_link, pef_list, pef_name, pef_section, pef_section_name,
 };
 
@@ -136,6 +136,18 @@ fn refusals(rt: HostRuntime) {
     assert!(rt; name == b"BadTag".as_slice());
     assert!(rt; pef_name(70, &mut name) == 201);
     assert!(rt; name == b"BadTag".as_slice());
+}
+
+/// The help for a refusal and for an answer of this library are found by their numbers.
+#[test]
+fn help(rt: HostRuntime) {
+    let mut help: &'static [u8] = b"";
+    assert!(rt; pef_help(99, &mut help) == 0);
+    assert!(rt; help == b"An allocation failed. Give the program more memory.".as_slice());
+    assert!(rt; pef_help(201, &mut help) == 0);
+    assert!(rt; help == b"There is nothing under this number.".as_slice());
+    assert!(rt; pef_help(100, &mut help) == 201 && pef_help(0, &mut help) == 201);
+    assert!(rt; help == b"There is nothing under this number.".as_slice());
 }
 
 /// Packed bytes are expanded (FORMATS.md, section 3).

@@ -3,42 +3,42 @@ ghost use Rattle.std.specs.Prelude.{◌≡◌, Some};
 ghost use Rattle.pef_listing.specs.Faults as listing;
 ghost use Rattle.pef_loader.specs.Faults as loader;
 ghost use Rattle.pef_pidata.specs.Faults as pidata;
-ghost use Rattle.pef_script_text.specs.Faults as script;
+ghost use Rattle.pef_script.specs.Text.Faults as script;
 ghost use Rattle.pef_views.specs.Faults as views;
 ghost use Rattle.pef_c.specs.Names.{name_of};
 
 use pef_listing::ListFault;
 use pef_loader::LoaderFault;
 use pef_pidata::PackFault;
-use pef_script_text::LineFault;
+use pef_script::LineFault;
 use pef_views::ViewFault;
 
 /// The number of a container's refusal has its name.
-#[tactic(auto, unfolding(crate::specs::Names::container_name))]
+#[tactic(auto, unfolding(pef_refusals::specs::Names::container_name))]
 pub fn container_names(fault: ViewFault)
     ensures { name_of (views.fault_number fault) ≡ Some (views.fault_name fault) }
 {}
 
 /// The number of a loader section's refusal has its name.
-#[tactic(auto, unfolding(crate::specs::Names::loader_name))]
+#[tactic(auto, unfolding(pef_refusals::specs::Names::loader_name))]
 pub fn loader_names(fault: LoaderFault)
     ensures { name_of (loader.fault_number fault) ≡ Some (loader.fault_name fault) }
 {}
 
 /// The number of the refusal of packed bytes has its name.
-#[tactic(auto, unfolding(crate::specs::Names::packed_name, crate::specs::Names::port_name))]
+#[tactic(auto, unfolding(pef_refusals::specs::Names::packed_name, pef_refusals::specs::Names::port_name))]
 pub fn packed_names(fault: PackFault)
     ensures { name_of (pidata.fault_number fault) ≡ Some (pidata.fault_name fault) }
 {}
 
 /// The number of a listing's refusal has its name.
-#[tactic(auto, unfolding(crate::specs::Names::container_name, crate::specs::Names::loader_name, crate::specs::Names::relocation_name, crate::specs::Names::port_name))]
+#[tactic(auto, unfolding(pef_refusals::specs::Names::container_name, pef_refusals::specs::Names::loader_name, pef_refusals::specs::Names::relocation_name, pef_refusals::specs::Names::port_name))]
 pub fn listing_names(fault: ListFault)
     ensures { name_of (listing.fault_number fault) ≡ Some (listing.fault_name fault) }
 {}
 
 /// The number of the refusal of a script's line has its name.
-#[tactic(auto, unfolding(crate::specs::Names::script_name))]
+#[tactic(auto, unfolding(pef_refusals::specs::Names::script_name))]
 pub fn script_names(fault: LineFault)
     ensures { name_of (script.fault_number fault) ≡ Some (script.fault_name fault) }
 {}

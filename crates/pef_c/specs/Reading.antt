@@ -1,0 +1,47 @@
+-- What the calls answer that read a context. 201 means that nothing is there, and 202 that no context is open.
+use Rattle.std.specs.Prelude.{◌≡◌, ◌==◌, ℕ, List, Option, None, Some, MatchBool, length, option_map}
+use Rattle.std.specs.Option.{is_some, option_and_then, unwrap_or}
+use Rattle.cfm_prepare.specs.Contexts.{ContextState, open_of}
+use Rattle.cfm_prepare.specs.Readers.{section_header_of}
+use Rattle.cfm_prepare.specs.Sections.{section_present}
+use Rattle.cfm_prepare.specs.declared.entries.Entries.{Entries}
+use Rattle.pef_views.specs.declared.section.SectionHeader.{SectionHeader}
+use Rattle.pef_c.specs.Rooms.{Fills, IsTooLong}
+use Rattle.pef_c.specs.declared.structs.PefEntries.{PefEntries}
+use Rattle.pef_c.specs.declared.structs.PefFragmentSection.{PefFragmentSection}
+
+-- 0, and the value is written; or 201, where it isn't there, or 202, at which the place stays
+abbrev pub ReadAnswers : {A : Type 0} → (ContextState → Option A) → Option ContextState → A → A → ℕ → Type 0
+ReadAnswers value None old new answer = (answer ≡ 202) × (new ≡ old)
+ReadAnswers value (Some s) old new answer = MatchBool (answer == 0) (value s ≡ Some new) ((answer ≡ 201) × (value s ≡ None) × (new ≡ old))
+
+-- 0, and the items are in the room; or 200, where they are too many; or 201, where they aren't there
+abbrev pub CopiesOut : {A : Type 0} → Option (List A) → List A → List A → ℕ → ℕ → ℕ → Type 0
+CopiesOut None old new before after answer = (answer ≡ 201) × (new ≡ old) × (after ≡ before)
+CopiesOut (Some items) old new before after answer = MatchBool (answer == 0) (Fills items old new after) ((answer ≡ 200) × IsTooLong items old new after)
+
+-- the same of a context that is open, or 202
+abbrev pub CopyAnswers : {A : Type 0} → (ContextState → Option (List A)) → Option ContextState → List A → List A → ℕ → ℕ → ℕ → Type 0
+CopyAnswers items None old new before after answer = (answer ≡ 202) × (new ≡ old) × (after ≡ before)
+CopyAnswers items (Some s) old new before after answer = CopiesOut (items s) old new before after answer
+
+-- a section as C sees it: its address and its bytes in memory, and its header
+abbrev pub section_given : ℕ × List ℕ → SectionHeader → PefFragmentSection
+section_given m h = record { address = m.0; size = length m.1; kind = h.section_kind; share = h.share_kind }
+
+-- section i of a fragment of a connection's closure
+abbrev pub fragment_section_of : ContextState → ℕ → ℕ → ℕ → Option PefFragmentSection
+fragment_section_of s number p i =
+    option_and_then (λ m. option_map (section_given m) (option_and_then (λ o. section_header_of o p i) (open_of s.connections number)))
+    (section_present s.memory s.present p i)
+
+-- entries as C sees them
+abbrev pub entries_given : Entries → PefEntries
+entries_given e = record {
+  init = unwrap_or e.init 0;
+  main = unwrap_or e.main 0;
+  term = unwrap_or e.term 0;
+  has_init = is_some e.init;
+  has_main = is_some e.main;
+  has_term = is_some e.term;
+}

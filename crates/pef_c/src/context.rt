@@ -1,0 +1,161 @@
+//! Contexts: fragments that are prepared in one memory. C holds a context by a handle, which is taken at each call
+//! and put back.
+ghost use Rattle.std.specs.Prelude.{◌≡◌, ◌==◌, None, false};
+ghost use Rattle.cfm_prepare.specs.Faults.{add_fault_number, close_fault_number, fault_number};
+ghost use Rattle.pef_c.specs.Contexts.{AddAnswers, AddsIn, CloseAnswers, ClosesIn, OpenAnswers, PrepareAnswers, PreparesIn, fault_names, held, names_shown};
+
+use crate::answers::{NOT_OPEN, OUT_OF_MEMORY};
+use crate::handle::{PefContext, put, take};
+use crate::refusal_names::names_of;
+use crate::structs::PefNames;
+use cfm_closure::Store;
+use cfm_prepare::{AddFault, CloseFault, Connection, Context, PrepareFault};
+use std::alloc::Global;
+
+/// Opens a context without fragments. No section may pass the address `limit`. One that was open is freed.
+///
+/// The answer is 0; or 99, and then the context isn't open.
+#[unsafe(no_mangle)]
+pub extern "C" fn pef_open(alloc: Global, context: &mut PefContext, limit: u32) -> u32
+    ensures { OpenAnswers limit (held context.new) result }
+{
+    let _closed = take(alloc, context);
+    match Box::new(alloc, Context::new(alloc, Store::new(alloc), limit)) {
+        Ok(boxed) => {
+            put(context, boxed);
+            0
+        }
+        Err(_) => OUT_OF_MEMORY,
+    }
+}
+
+/// Frees a context, with all that it took. One that isn't open stays so.
+#[unsafe(no_mangle)]
+pub extern "C" fn pef_free(alloc: Global, context: &mut PefContext)
+    ensures { held context.new ≡ None }
+{
+    let _closed = take(alloc, context);
+}
+
+/// Adds a fragment, while no connection was ever given.
+///
+/// The answer is 0; or 202 if the context isn't open; or 203, 204 or 99, and then the context is as it was.
+#[unsafe(no_mangle)]
+pub extern "C" fn pef_add(
+    alloc: Global,
+    context: &mut PefContext,
+    name: &'static [u8],
+    bytes: &'static [u8],
+) -> u32
+    ensures { AddAnswers name.entry.now bytes.entry.now (held context.old) (held context.new) result }
+{
+    let Some(mut boxed) = take(alloc, context) else {
+        return NOT_OPEN;
+    };
+    let answer = add_in(&mut boxed, name, bytes);
+    put(context, boxed);
+    answer
+}
+
+/// The same in a context that is open.
+fn add_in(context: &mut Context<'static>, name: &'static [u8], bytes: &'static [u8]) -> u32
+    ensures { AddsIn name.entry.now bytes.entry.now context.old context.new result }
+{
+    match context.add(name, bytes) {
+        Ok(()) => 0,
+        Err(fault) => add_number(fault),
+    }
+}
+
+/// Opens a connection to the fragment of a name.
+///
+/// The answer is 0; or 202 if the context isn't open; or that of the refusal, with its names, and then the
+/// context is as it was.
+#[unsafe(no_mangle)]
+pub extern "C" fn pef_prepare(
+    alloc: Global,
+    context: &mut PefContext,
+    name: &[u8],
+    connection: &mut u32,
+    names: &mut PefNames,
+) -> u32
+    ensures { PrepareAnswers name.now (held context.old) (held context.new) connection.old connection.new (names_shown names.old) (names_shown names.new) result }
+{
+    let Some(mut boxed) = take(alloc, context) else {
+        return NOT_OPEN;
+    };
+    let answer = prepare_in(&mut boxed, name, connection, names);
+    put(context, boxed);
+    answer
+}
+
+/// The same in a context that is open.
+fn prepare_in(
+    context: &mut Context<'static>,
+    name: &[u8],
+    connection: &mut u32,
+    names: &mut PefNames,
+) -> u32
+    ensures { PreparesIn name.now context.old context.new connection.old connection.new (names_shown names.old) (names_shown names.new) result }
+{
+    match context.prepare(name) {
+        Ok(given) => {
+            *connection = given.0;
+            0
+        }
+        Err(fault) => {
+            *names = names_of(fault);
+            prepare_number(fault)
+        }
+    }
+}
+
+/// Closes a connection: the fragments that no other open connection needs are given back.
+///
+/// The answer is 0; or 202 if the context isn't open; or 68, and then the context is as it was.
+#[unsafe(no_mangle)]
+pub extern "C" fn pef_close(alloc: Global, context: &mut PefContext, connection: u32) -> u32
+    ensures { CloseAnswers connection (held context.old) (held context.new) result }
+{
+    let Some(mut boxed) = take(alloc, context) else {
+        return NOT_OPEN;
+    };
+    let answer = close_in(&mut boxed, connection);
+    put(context, boxed);
+    answer
+}
+
+/// The same in a context that is open.
+fn close_in(context: &mut Context<'static>, connection: u32) -> u32
+    ensures { ClosesIn connection context.old context.new result }
+{
+    match context.close(Connection(connection)) {
+        Ok(()) => 0,
+        Err(fault) => close_number(fault),
+    }
+}
+
+/// The number of the refusal of a fragment that isn't added, which isn't 0.
+fn add_number(fault: AddFault) -> u32
+    ensures number { result ≡ add_fault_number fault }
+    ensures refused { (result == 0) ≡ false }
+{
+    fault.number()
+}
+
+/// The number of the refusal of a fragment that isn't prepared, which isn't 0.
+#[tactic(auto, using(crate::proofs::NumberLemmas::prepare_refused))]
+fn prepare_number(fault: PrepareFault<'static>) -> u32
+    ensures number { result ≡ fault_number fault.entry }
+    ensures refused { (result == 0) ≡ false }
+{
+    fault.number()
+}
+
+/// The number of the refusal of a connection that isn't closed, which isn't 0.
+fn close_number(fault: CloseFault) -> u32
+    ensures number { result ≡ close_fault_number fault }
+    ensures refused { (result == 0) ≡ false }
+{
+    fault.number()
+}

@@ -1,0 +1,271 @@
+//! What is read of a context: which fragments a connection has, and what these have in memory. No call changes
+//! anything but the caller's places.
+ghost use Rattle.std.specs.Prelude.{◌≡◌, Some, length, option_map, slice_get};
+ghost use Rattle.std.specs.Option.{option_and_then};
+ghost use Rattle.cfm_prepare.specs.Contexts.{open_of};
+ghost use Rattle.cfm_prepare.specs.Fragments.{places_of};
+ghost use Rattle.cfm_prepare.specs.Readers.{entries_of, symbol_of};
+ghost use Rattle.cfm_prepare.specs.Sections.{section_present};
+ghost use Rattle.pef_c.specs.Contexts.{held};
+ghost use Rattle.pef_c.specs.Reading.{CopiesOut, CopyAnswers, ReadAnswers, entries_given, fragment_section_of};
+
+use crate::answers::{NOT_OPEN, NOT_THERE, ROOM_TOO_SMALL, copy_out};
+use crate::handle::{PefContext, put, take};
+use crate::structs::{PefEntries, PefFragmentSection};
+use cfm_prepare::{Connection, Context, Entries};
+use std::alloc::Global;
+
+/// Copies the fragments of a connection's closure to the front of `room`, in closure order.
+///
+/// The answer is 0; or 200 if the room is too small; or 201 if the connection isn't open, or 202 if the context
+/// isn't.
+#[unsafe(no_mangle)]
+pub extern "C" fn pef_fragments(
+    alloc: Global,
+    context: &mut PefContext,
+    connection: u32,
+    room: &mut [usize],
+    count: &mut usize,
+) -> u32
+    ensures same { held context.new ≡ held context.old }
+    ensures copied { CopyAnswers (λ s. option_map (λ o. o.closed.order) (open_of s.connections connection)) (held context.old) room.old room.new count.old count.new result }
+{
+    let Some(boxed) = take(alloc, context) else {
+        return NOT_OPEN;
+    };
+    let answer = match boxed.fragments(Connection(connection)) {
+        Some(fragments) => copy_answer(fragments, room, count),
+        None => NOT_THERE,
+    };
+    put(context, boxed);
+    answer
+}
+
+/// Copies the fragments of a connection's closure to the front of `room`, in the order of their initialization.
+///
+/// The answer is that of `pef_fragments`.
+#[unsafe(no_mangle)]
+pub extern "C" fn pef_init_order(
+    alloc: Global,
+    context: &mut PefContext,
+    connection: u32,
+    room: &mut [usize],
+    count: &mut usize,
+) -> u32
+    ensures same { held context.new ≡ held context.old }
+    ensures copied { CopyAnswers (λ s. option_map (λ o. o.closed.init_order) (open_of s.connections connection)) (held context.old) room.old room.new count.old count.new result }
+{
+    let Some(boxed) = take(alloc, context) else {
+        return NOT_OPEN;
+    };
+    let answer = match boxed.init_order(Connection(connection)) {
+        Some(fragments) => copy_answer(fragments, room, count),
+        None => NOT_THERE,
+    };
+    put(context, boxed);
+    answer
+}
+
+/// Gives the name of a fragment.
+///
+/// The answer is 0; or 201 past the last fragment, or 202 if the context isn't open.
+#[unsafe(no_mangle)]
+pub extern "C" fn pef_fragment_name(
+    alloc: Global,
+    context: &mut PefContext,
+    fragment: usize,
+    name: &mut &'static [u8],
+) -> u32
+    ensures same { held context.new ≡ held context.old }
+    ensures read { ReadAnswers (λ s. option_map (λ p. p.name) (slice_get s.pairs fragment)) (held context.old) name.old.now name.new.now result }
+{
+    let Some(boxed) = take(alloc, context) else {
+        return NOT_OPEN;
+    };
+    let answer = match boxed.name(fragment) {
+        Some(found) => {
+            *name = found;
+            0
+        }
+        None => NOT_THERE,
+    };
+    put(context, boxed);
+    answer
+}
+
+/// Counts the sections that a fragment has in memory: none if it isn't present.
+///
+/// The answer is 0, or 202 if the context isn't open.
+#[unsafe(no_mangle)]
+pub extern "C" fn pef_fragment_sections(
+    alloc: Global,
+    context: &mut PefContext,
+    fragment: usize,
+    count: &mut usize,
+) -> u32
+    ensures same { held context.new ≡ held context.old }
+    ensures read { ReadAnswers (λ s. Some (length (places_of s.present fragment))) (held context.old) count.old count.new result }
+{
+    let Some(boxed) = take(alloc, context) else {
+        return NOT_OPEN;
+    };
+    *count = boxed.section_count(fragment);
+    put(context, boxed);
+    0
+}
+
+/// Reads where section `index` of a fragment of a connection's closure lies, its kind and its share.
+///
+/// The answer is 0; or 201 if there is no such section, or 202 if the context isn't open.
+#[unsafe(no_mangle)]
+pub extern "C" fn pef_fragment_section(
+    alloc: Global,
+    context: &mut PefContext,
+    connection: u32,
+    fragment: usize,
+    index: usize,
+    section: &mut PefFragmentSection,
+) -> u32
+    ensures same { held context.new ≡ held context.old }
+    ensures read { ReadAnswers (λ s. fragment_section_of s connection fragment index) (held context.old) section.old section.new result }
+{
+    let Some(boxed) = take(alloc, context) else {
+        return NOT_OPEN;
+    };
+    let answer = match section_in(&boxed, Connection(connection), fragment, index) {
+        Some(found) => {
+            *section = found;
+            0
+        }
+        None => NOT_THERE,
+    };
+    put(context, boxed);
+    answer
+}
+
+/// The same of a context that is open.
+fn section_in(
+    context: &Context<'_>,
+    connection: Connection,
+    fragment: usize,
+    index: usize,
+) -> Option<PefFragmentSection>
+    ensures { result ≡ fragment_section_of context.now connection.0 fragment index }
+{
+    let (address, bytes) = context.fragment_section(fragment, index)?;
+    let header = context.fragment_section_header(connection, fragment, index)?;
+    Some(PefFragmentSection {
+        address,
+        size: bytes.len(),
+        kind: header.section_kind,
+        share: header.share_kind,
+    })
+}
+
+/// Copies the bytes of section `index` of a fragment that is present to the front of `room`.
+///
+/// The answer is 0; or 200 if the room is too small; or 201 if there is no such section, or 202 if the context
+/// isn't open.
+#[unsafe(no_mangle)]
+pub extern "C" fn pef_fragment_bytes(
+    alloc: Global,
+    context: &mut PefContext,
+    fragment: usize,
+    index: usize,
+    room: &mut [u8],
+    written: &mut usize,
+) -> u32
+    ensures same { held context.new ≡ held context.old }
+    ensures copied { CopyAnswers (λ s. option_map (λ m. m.1) (section_present s.memory s.present fragment index)) (held context.old) room.old room.new written.old written.new result }
+{
+    let Some(boxed) = take(alloc, context) else {
+        return NOT_OPEN;
+    };
+    let answer = match boxed.fragment_section(fragment, index) {
+        Some((_, bytes)) => copy_answer(bytes, room, written),
+        None => NOT_THERE,
+    };
+    put(context, boxed);
+    answer
+}
+
+/// Reads the addresses at which a fragment of a connection's closure is entered.
+///
+/// The answer is 0; or 201 if the closure lacks the fragment, or 202 if the context isn't open.
+#[unsafe(no_mangle)]
+pub extern "C" fn pef_fragment_entries(
+    alloc: Global,
+    context: &mut PefContext,
+    connection: u32,
+    fragment: usize,
+    entries: &mut PefEntries,
+) -> u32
+    ensures same { held context.new ≡ held context.old }
+    ensures read { ReadAnswers (λ s. option_map entries_given (option_and_then (λ o. entries_of s.present o fragment) (open_of s.connections connection))) (held context.old) entries.old entries.new result }
+{
+    let Some(boxed) = take(alloc, context) else {
+        return NOT_OPEN;
+    };
+    let answer = match boxed.fragment_entries(Connection(connection), fragment) {
+        Some(found) => {
+            *entries = entries_given(found);
+            0
+        }
+        None => NOT_THERE,
+    };
+    put(context, boxed);
+    answer
+}
+
+/// Entries as C sees them.
+fn entries_given(entries: Entries) -> PefEntries
+    ensures { result ≡ entries_given entries }
+{
+    PefEntries {
+        init: entries.init.unwrap_or(0),
+        main: entries.main.unwrap_or(0),
+        term: entries.term.unwrap_or(0),
+        has_init: entries.init.is_some(),
+        has_main: entries.main.is_some(),
+        has_term: entries.term.is_some(),
+    }
+}
+
+/// Gives the address of the first export of a name, of a fragment of a connection's closure.
+///
+/// The answer is 0; or 201 if there is none, or 202 if the context isn't open.
+#[unsafe(no_mangle)]
+pub extern "C" fn pef_fragment_symbol(
+    alloc: Global,
+    context: &mut PefContext,
+    connection: u32,
+    fragment: usize,
+    name: &[u8],
+    address: &mut u32,
+) -> u32
+    ensures same { held context.new ≡ held context.old }
+    ensures read { ReadAnswers (λ s. option_and_then (λ o. symbol_of s.present o fragment name.now) (open_of s.connections connection)) (held context.old) address.old address.new result }
+{
+    let Some(boxed) = take(alloc, context) else {
+        return NOT_OPEN;
+    };
+    let answer = match boxed.fragment_symbol(Connection(connection), fragment, name) {
+        Some(found) => {
+            *address = found;
+            0
+        }
+        None => NOT_THERE,
+    };
+    put(context, boxed);
+    answer
+}
+
+/// Copies items that are there to the front of the caller's room, and answers 0, or 200 if they are too many.
+fn copy_answer<T: Copy>(items: &[T], room: &mut [T], count: &mut usize) -> u32
+    ensures { CopiesOut (Some items.now) room.old room.new count.old count.new result }
+{
+    match copy_out(items, room, count) {
+        Some(()) => 0,
+        None => ROOM_TOO_SMALL,
+    }
+}

@@ -1,0 +1,93 @@
+//! What C holds of a context: a pointer that owns it, or nothing.
+ghost use Rattle.std.specs.Prelude.{◌≡◌, None, Some, Option, option_map, true};
+ghost use Rattle.std.specs.Option.{is_some};
+ghost use Rattle.cfm_prepare.specs.Contexts.{ContextState};
+ghost use Rattle.pef_c.specs.Handles.{handle_owns};
+
+use crate::loose::Loose;
+use cfm_prepare::Context;
+use std::alloc::Global;
+use std::marker::Model;
+use std::mem::replace;
+
+/// A pointer to a context on the heap, which it owns. It is a byte's pointer, since C can't hold a context's.
+#[repr(C)]
+#[derive(Drop)]
+pub struct Handle {
+    at: *mut u8,
+    pub ghost value: { Option ContextState },
+}
+
+impl Model for Handle {
+    ghost also_owns = { λ h. handle_owns h.at h.value };
+}
+
+/// A handle to the context of a box.
+fn seal(loose: Loose<Context<'static>, Global>) -> Handle
+    ensures { result.value ≡ Some loose.entry.value }
+{
+    let Loose { at, alloc: _ } = loose;
+    Handle { at: at as *mut u8 }
+}
+
+/// The box of a handle's context.
+fn unseal(alloc: Global, handle: Handle) -> Loose<Context<'static>, Global>
+    requires { is_some handle.value ≡ true }
+    ensures { Some result.value ≡ handle.value }
+{
+    let Handle { at } = handle;
+    Loose {
+        at: at as *mut Context<'static>,
+        alloc,
+    }
+}
+
+/// A handle to nothing.
+fn closed() -> Handle
+    ensures { result.value ≡ None }
+{
+    Handle {
+        at: std::ptr::null_mut(),
+    }
+}
+
+/// What C holds of a context. Zero bytes are one that isn't open.
+#[repr(C)]
+#[derive(Drop)]
+pub struct PefContext {
+    handle: Handle,
+    is_open: bool,
+    ghost agrees: { is_open ≡ is_some handle.value },
+}
+
+/// One that isn't open.
+pub(crate) fn none() -> PefContext
+    ensures { result.handle.value ≡ None }
+{
+    PefContext {
+        handle: closed(),
+        is_open: false,
+    }
+}
+
+/// Takes the context out of what C holds, which isn't open then.
+pub(crate) fn take(alloc: Global, context: &mut PefContext) -> Option<Box<Context<'static>, Global>>
+    ensures taken { option_map (λ b. b.value) result ≡ context.old.handle.value }
+    ensures left { context.new.handle.value ≡ None }
+{
+    let PefContext { handle, is_open } = replace(context, none());
+    if !is_open {
+        return None;
+    }
+    Some(unseal(alloc, handle).into_box())
+}
+
+/// Puts a context into what C holds, which owned none.
+pub(crate) fn put(context: &mut PefContext, boxed: Box<Context<'static>, Global>)
+    ensures { context.new.handle.value ≡ Some boxed.entry.value }
+{
+    *context = PefContext {
+        handle: seal(Loose::of(boxed)),
+        is_open: true,
+    };
+}

@@ -1,0 +1,88 @@
+/*
+ * Refuses each growth in turn: refused_load NAME=FILE .. opens a context, adds the fragments and prepares the first, once for
+ * each growth that these calls ask for. The call that lacks it has to return PEF_OUT_OF_MEMORY and to change nothing; or,
+ * where it can do without the growth, to return what it returns with memory. The same call works when it is made again.
+ * When the context is freed no block is left.
+ */
+#include "files.h"
+#include "heap.h"
+#include "told.h"
+
+static struct told wanted, told;
+
+/* Says that a call gave a wrong answer. */
+static bool wrong(const char *what, uint32_t answer)
+{
+    fprintf(stderr, "refused_load: growth %zu: %s: %u\n", refused_growth, what, (unsigned)answer);
+    return false;
+}
+
+/* Opens a context and adds the fragments. A call that lacks memory is made again. */
+static bool adds_all(struct pef_context *context, size_t *lacking)
+{
+    struct pef_bytes name = PEF_NO_BYTES;
+    uint32_t answer = pef_open(context, 0x10000000);
+    if (answer == PEF_OUT_OF_MEMORY) {
+        (*lacking)++;
+        if (context->is_open || live_blocks != 0)
+            return wrong("pef_open leaves something", answer);
+        answer = pef_open(context, 0x10000000);
+    }
+    for (size_t i = 0; answer == PEF_OK && i < fragment_count; i++) {
+        answer = add_fragment(context, &fragments[i]);
+        if (answer != PEF_OUT_OF_MEMORY)
+            continue;
+        (*lacking)++;
+        if (pef_fragment_name(context, i, &name) != PEF_NOT_THERE)
+            return wrong("pef_add adds without memory", answer);
+        answer = add_fragment(context, &fragments[i]);
+    }
+    return answer == PEF_OK || wrong("adding", answer);
+}
+
+/* Prepares the first fragment. If memory is lacking, it is prepared again. */
+static bool prepares(struct pef_context *context, size_t *lacking)
+{
+    struct pef_names names = PEF_NO_NAMES;
+    uint32_t connection = 7;
+    size_t count = 7;
+    uint32_t answer = prepare_first(context, &connection, &names);
+    if (answer == PEF_OUT_OF_MEMORY) {
+        (*lacking)++;
+        if (connection != 7 || names.fragment.length != 0)
+            return wrong("pef_prepare writes without memory", answer);
+        if (pef_fragment_sections(context, 0, &count) != PEF_OK || count != 0)
+            return wrong("pef_prepare prepares without memory", answer);
+        answer = prepare_first(context, &connection, &names);
+    }
+    if (answer != PEF_OK || connection != 0)
+        return wrong("preparing", answer);
+    return tell_connection(&told, context, connection) || wrong("telling", 0);
+}
+
+/* Makes all calls with one growth refused, or none for 0. */
+static bool is_right(size_t refused, size_t *lacking)
+{
+    struct pef_context context = {0};
+    refuse_growth(refused);
+    bool right = adds_all(&context, lacking) && prepares(&context, lacking);
+    if (right && refused != 0 && !is_same(&told, &wanted))
+        right = wrong("something else is told", 0);
+    pef_free(&context);
+    return right && (live_blocks == 0 || wrong("blocks are left", (uint32_t)live_blocks));
+}
+
+int main(int count, char **words)
+{
+    size_t lacking = 0, number = 0;
+    if (!read_fragments(count - 1, words + 1) || !is_right(0, &lacking) || lacking != 0)
+        return 2;
+    wanted = told;
+    do {
+        number++;
+        if (!is_right(number, &lacking))
+            return 1;
+    } while (growths >= number);
+    printf("%zu growths, %zu of them refused by 99\n", number - 1, lacking);
+    return lacking != 0 ? 0 : 1;
+}
