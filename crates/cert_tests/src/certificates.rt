@@ -1,6 +1,5 @@
 use crate::tables::{certificate, push};
-use pef_cert::check;
-use pef_labels::{Certificate, LabelRows};
+use pef_cert::{Certificate, LabelRows, check};
 use pef_reloc::{Base, Fixup, Instr, fixups_fit};
 use std::alloc::Global;
 use std::process::Abort;

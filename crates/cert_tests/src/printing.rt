@@ -2,7 +2,7 @@ use crate::texts::{
     LARGE_NUMBERS, LARGE_NUMBERS_RANGES, MOST_ROWS_RANGES, NOTHING, NOTHING_RANGES, ONE_SECTION,
     ONE_SECTION_RANGES, TWO_SECTIONS, TWO_SECTIONS_RANGES, WORDS, WORDS_RANGES,
 };
-use pef_cert_text::{print, read};
+use pef_cert::Certificate;
 use std::alloc::Global;
 use std::fmt::Write;
 use std::process::Abort;
@@ -24,8 +24,8 @@ const TEXTS: &[(&str, &str)] = &[
 
 /// What is printed of what is read of a text.
 fn read_and_printed(rt: &impl Abort, alloc: Global, text: &str) -> Vec<u8> {
-    let certificates = read(alloc, text.as_bytes()).expect(rt, "certificates");
-    print(alloc, &certificates).expect(rt, "a text")
+    let certificates = Certificate::read(alloc, text.as_bytes()).expect(rt, "certificates");
+    Certificate::print(alloc, &certificates).expect(rt, "a text")
 }
 
 #[test]

@@ -1,6 +1,5 @@
 use crate::texts::{MOST_ROWS_RANGES, TWO_SECTIONS, TWO_SECTIONS_RANGES};
-use pef_cert_text::read;
-use pef_labels::Certificate;
+use pef_cert::Certificate;
 use pef_reloc::Instr;
 use std::alloc::Global;
 use std::process::Abort;
@@ -8,7 +7,7 @@ use test_data::labels::{VECTORS_LABELS, labels};
 
 /// The line of a refusal, or `None` where the text is read. Stops where memory is refused.
 fn refused_line(rt: &impl Abort, alloc: Global, text: &str) -> Option<usize> {
-    match read(alloc, text.as_bytes()) {
+    match Certificate::read(alloc, text.as_bytes()) {
         Ok(_) => None,
         Err(fault) => Some(fault.line().expect(rt, "memory")),
     }
@@ -36,7 +35,10 @@ fn assert_sections(rt: &impl Abort, certificates: &[Certificate]) {
 
 #[test]
 fn sections(rt: HostRuntime) {
-    let certificates = read(rt.alloc(), TWO_SECTIONS.as_bytes()).expect(&rt, "certificates");
+    let certificates = Certificate::read(rt.alloc(), TWO_SECTIONS.as_bytes()).expect(
+        &rt,
+        "certificates",
+    );
     assert_sections(&rt, &certificates);
 }
 
@@ -51,7 +53,10 @@ fn assert_labels(rt: &impl Abort, alloc: Global, certificates: &[Certificate]) {
 #[test]
 fn labels_in_rows(rt: HostRuntime) {
     for text in [TWO_SECTIONS, TWO_SECTIONS_RANGES] {
-        let certificates = read(rt.alloc(), text.as_bytes()).expect(&rt, "certificates");
+        let certificates = Certificate::read(rt.alloc(), text.as_bytes()).expect(
+            &rt,
+            "certificates",
+        );
         assert_labels(&rt, rt.alloc(), &certificates);
     }
 }
@@ -59,7 +64,10 @@ fn labels_in_rows(rt: HostRuntime) {
 /// A range of few bytes may have as many rows as there may be.
 #[test]
 fn most_rows(rt: HostRuntime) {
-    let certificates = read(rt.alloc(), MOST_ROWS_RANGES.as_bytes()).expect(&rt, "certificates");
+    let certificates = Certificate::read(rt.alloc(), MOST_ROWS_RANGES.as_bytes()).expect(
+        &rt,
+        "certificates",
+    );
     assert!(rt; certificates.len() == 1);
     assert!(rt; has(&certificates[0], 0, &[], &[], 65_537));
 }
@@ -293,7 +301,7 @@ fn versions(rt: HostRuntime) {
 #[test]
 fn faults(rt: HostRuntime) {
     let alloc = rt.alloc();
-    let fault = read(alloc, b"pefcert 3\nend\n")
+    let fault = Certificate::read(alloc, b"pefcert 3\nend\n")
         .err()
         .expect(&rt, "refused");
     assert!(rt; fault.number() == 51);

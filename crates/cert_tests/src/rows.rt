@@ -1,6 +1,6 @@
 //! Rows of labels, and what is kept of them.
 use crate::tables::push;
-use pef_labels::LabelRows;
+use pef_cert::LabelRows;
 use std::alloc::Global;
 use std::process::Abort;
 

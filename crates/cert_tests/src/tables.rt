@@ -1,5 +1,5 @@
 //! Certificates from tables.
-use pef_labels::{Certificate, LabelRows};
+use pef_cert::{Certificate, LabelRows};
 use pef_reloc::Instr;
 use std::alloc::Global;
 use std::process::Abort;

@@ -1,7 +1,6 @@
 //! What `distances` prints is read as the plans of the sections' fixups.
 
-use pef_cert_text::read;
-use pef_labels::Certificate;
+use pef_cert::Certificate;
 use pef_plan::plan;
 use pef_reloc::fixups_fit;
 use pef_script::Script;
@@ -38,7 +37,7 @@ fn distances_are_plans(rt: HostRuntime) -> Result<(), Fail> {
 /// The certificates that `distances` prints of a script.
 fn printed_certificates(alloc: Global, text: &[u8]) -> Result<Vec<Certificate>, Fail> {
     let printed = run_tool(alloc, Handed::file(&["distances", "a"], text))?.printed;
-    Ok(read(alloc, printed.as_slice())?)
+    Ok(Certificate::read(alloc, printed.as_slice())?)
 }
 
 /// Tests that certificates are the plans of a script's sections.
@@ -48,7 +47,7 @@ fn test_plans(
     text: &[u8],
     certificates: &[Certificate],
 ) -> Result<(), Fail> {
-    let script = pef_script_text::read(alloc, text)?;
+    let script = Script::read(alloc, text)?;
     for (k, certificate) in certificates.iter().enumerate() {
         assert!(rt; certificate.section as usize == k);
         test_plan(rt, alloc, &script, certificate)?;

@@ -1,7 +1,7 @@
 use cfm_closure::{BindFault, StoreFault};
 use cfm_memory::MemoryFault;
 use cfm_prepare::{CloseFault, FragmentFault, PrepareFault};
-use pef_cert_text::CertFault;
+use pef_cert::CertFault;
 use pef_hash::HashFault;
 use pef_listing::ListFault;
 use pef_loader::LoaderFault;
@@ -9,7 +9,7 @@ use pef_pidata::PackFault;
 use pef_plan::PlanFault;
 use pef_ports::InputFault;
 use pef_reloc::RelocFault;
-use pef_script_text::{LineFault, ScriptFault};
+use pef_script::{LineFault, ScriptFault};
 use pef_views::ViewFault;
 use pef_write::LinkFault;
 use std::alloc::Global;

@@ -4,7 +4,7 @@
 //! It is a program and no test, since a program has files and an input, and is built by two compilers.
 #![tactic(auto)]
 
-use pef_files::{DiskFiles, Input, Output};
+use pef_ports::system::{DiskFiles, Input, Output};
 use pef_tool::run;
 use std::io;
 

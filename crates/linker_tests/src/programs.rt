@@ -1,5 +1,5 @@
 //! The relocation programs that are linked, and their certificates.
-use pef_labels::Certificate;
+use pef_cert::Certificate;
 use pef_loader::Loader;
 use pef_reloc::{Base, Instr};
 use pef_views::Container;

@@ -39,6 +39,6 @@ fn link_again(
 #[test]
 fn linked_again(rt: HostRuntime) -> Result<(), Fail> {
     let alloc = rt.alloc();
-    let script = pef_script_text::read(alloc, VECTORS).expect(&rt, "a script");
+    let script = Script::read(alloc, VECTORS).expect(&rt, "a script");
     link_again(&rt, alloc, &script, VECTORS_LEAST)
 }

@@ -12,7 +12,7 @@ type Refusal = Option<(u32, usize)>;
 
 /// The refusal of a text.
 fn refusal(alloc: Global, text: &str) -> Refusal {
-    match pef_script_text::read(alloc, text.as_bytes()) {
+    match Script::read(alloc, text.as_bytes()) {
         Ok(_) => None,
         Err(fault) => Some((fault.number(), fault.line().unwrap_or(0))),
     }
@@ -368,7 +368,7 @@ fn test_parts(rt: &impl Abort, script: &Script) {
 
 #[test]
 fn parts(rt: HostRuntime) {
-    let read = pef_script_text::read(rt.alloc(), EVERY_LINE.as_bytes());
+    let read = Script::read(rt.alloc(), EVERY_LINE.as_bytes());
     test_parts(&rt, &read.expect(&rt, "a script"));
 }
 
@@ -437,7 +437,7 @@ fn test_worked_entries(rt: &impl Abort, script: &Script) {
 /// Tests each call on the worked script, with values from its lines.
 #[test]
 fn worked(rt: HostRuntime) {
-    let script = pef_script_text::read(rt.alloc(), VECTORS).expect(&rt, "a script");
+    let script = Script::read(rt.alloc(), VECTORS).expect(&rt, "a script");
     test_worked_sections(&rt, &script);
     test_worked_fixups(&rt, &script);
     test_worked_tables(&rt, &script);
@@ -581,7 +581,7 @@ fn test_most_of_all(rt: &impl Abort, script: &Script) {
 
 /// Tests the script at all limits, which is read from this text.
 fn test_most_of_text(rt: &impl Abort, alloc: Global, text: &str) {
-    let script = pef_script_text::read(alloc, text.as_bytes()).expect(rt, "a script");
+    let script = Script::read(alloc, text.as_bytes()).expect(rt, "a script");
     test_most_of_all(rt, &script);
 }
 

@@ -1,9 +1,8 @@
 //! The program `pef`: the commands of `pef_tool` over real files, standard input and standard output.
 #![tactic(auto)]
 
-use pef_answers::{Refusal, deliver};
-use pef_files::{DiskFiles, Input, Output};
-use pef_tool::run;
+use pef_ports::system::{DiskFiles, Input, Output};
+use pef_tool::{Refusal, deliver, run};
 use std::alloc::AllocError;
 use std::env;
 use std::io::ErrorKind;

@@ -14,11 +14,11 @@ use Rattle.pef_words.proofs.Laws.Lists.{all-append}
 use Rattle.pef_cert.specs.declared.claim.Claim.{Claim}
 use Rattle.pef_cert.specs.Extension.{extension_at}
 use Rattle.pef_cert.specs.Labels.{Labels, class_of, classes}
-use Rattle.pef_labels.specs.Certified.{Certified}
+use Rattle.pef_cert.specs.Certified.{Certified}
 use Rattle.pef_cert.specs.Valid.{RegistersOf, Valid}
 use Rattle.pef_cert.specs.Kept.Claims.{Holds, IsClaim, RowsFit, Shaped, labels_claimed}
-use Rattle.pef_labels.specs.Rows.{RowsFull, rows_from}
-use Rattle.pef_fixups.specs.Answers.{Says}
+use Rattle.pef_cert.specs.Rows.{RowsFull, rows_from}
+use Rattle.pef_cert.specs.Fixups.Answers.{Says}
 use Rattle.pef_cert.proofs.ClaimLemmas.{few_rising}
 use Rattle.pef_cert.proofs.ExtensionLemmas.{extension-end}
 use Rattle.pef_cert.proofs.LabelFacts.{extension-label}

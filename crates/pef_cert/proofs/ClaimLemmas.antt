@@ -12,16 +12,16 @@ use Rattle.pef_reloc.specs.declared.fixup.Fixup.{Fixup}
 use Rattle.pef_reloc.specs.Limits.{most_sections}
 use Rattle.pef_reloc.proofs.Laws.{used_section-below}
 use Rattle.pef_words.proofs.Laws.Lists.{drop-here}
-use Rattle.pef_cert.specs.declared.claim.Behind.{Behind}
+use Rattle.pef_cert.specs.declared.claim.CheckedSuffix.{CheckedSuffix}
 use Rattle.pef_cert.specs.declared.claim.Claim.{Claim}
-use Rattle.pef_labels.specs.Rising.{above_all}
+use Rattle.pef_cert.specs.Rising.{above_all}
 use Rattle.pef_cert.specs.Valid.{is_among, rises}
 use Rattle.pef_cert.proofs.ExtensionLemmas.{extension-away, extension-end, extension-here}
 use Rattle.pef_cert.specs.Labels.{Labels, class_of}
 use Rattle.pef_cert.specs.Extension.{OfferIs, change, extension, moved_value, offer_at}
 use Rattle.pef_cert.specs.Kept.Claims.{IsRowOf, Knows, Sees, Shaped, rows_before}
-use Rattle.pef_labels.specs.Rows.{RowsFull, rows_from}
-use Rattle.pef_labels.proofs.Laws.{end_before, end_before-suc, end_before-zero, rows-at}
+use Rattle.pef_cert.specs.Rows.{RowsFull, rows_from}
+use Rattle.pef_cert.proofs.RowLemmas.{end_before, end_before-suc, end_before-zero, rows-at}
 
 -- the place of a label in a row
 pub place_under : (r c d : ℕ) → c < r → d < r → c * r + d < r * r
@@ -131,7 +131,7 @@ pub value-end : (l : Labels) (fixups : List Fixup) (at p c d : ℕ) → length f
 value-end l fixups at p c d past = sym (ap (λ fs. extension l fs p c d) (drop_all at fixups past) ∙ extension-end l p c d)
 
 -- an index that is known of
-pub knows-sees : (b : Behind) (from j : ℕ) → Knows b from → from ≤ j → j < from + 1024 → j ≤ length b.claim.fixups.now → Sees b j
+pub knows-sees : (b : CheckedSuffix) (from j : ℕ) → Knows b from → from ≤ j → j < from + 1024 → j ≤ length b.claim.fixups.now → Sees b j
 knows-sees b from j k after before inside = record {
   shaped = k.shaped;
   rows = k.rows;

@@ -9,8 +9,8 @@ use Rattle.pef_reloc.specs.declared.fixup.Fixup.{Fixup}
 use Rattle.pef_reloc.specs.Deliveries.{index_after, index_past}
 use Rattle.pef_reloc.specs.Steps.{added}
 use Rattle.pef_words.proofs.Laws.Lists.{drop-here}
-use Rattle.pef_cert.specs.declared.claim.Behind.{Behind}
-use Rattle.pef_cert.specs.declared.runs.Tested.{Tested}
+use Rattle.pef_cert.specs.declared.claim.CheckedSuffix.{CheckedSuffix}
+use Rattle.pef_cert.specs.declared.runs.TestedState.{TestedState}
 use Rattle.pef_cert.specs.Labels.{Labels, class_of}
 use Rattle.pef_cert.specs.Feasible.{FeasibleAt, FeasibleFrom}
 use Rattle.pef_cert.specs.Kept.Claims.{PairsMet, RowMet, Tests, label_behind, labels_claimed}
@@ -34,7 +34,7 @@ feasible-later l index (g ∷ fixups) (suc from) (suc j) f beyond after e =
     (feasible-later l (index_past g.base index) fixups from j f beyond (omega (arith, after)) e)
 
 -- what a label behind the tested one meets
-tests_behind : (b : Behind) (t : Tested) (j : ℕ) (g : Fixup) → Tests b t → t.at < j → slice_get b.claim.fixups.now j ≡ Some g → adds_test (labels_claimed b.claim) (index_after (take j b.claim.fixups.now) 0) g (drop (j + 1) b.claim.fixups.now) t.c t.d ≡ true
+tests_behind : (b : CheckedSuffix) (t : TestedState) (j : ℕ) (g : Fixup) → Tests b t → t.at < j → slice_get b.claim.fixups.now j ≡ Some g → adds_test (labels_claimed b.claim) (index_after (take j b.claim.fixups.now) 0) g (drop (j + 1) b.claim.fixups.now) t.c t.d ≡ true
 tests_behind b t j g tests after e =
     let fixups = b.claim.fixups.now in
     let feasible = feasible-later (labels_claimed b.claim) 0 fixups (t.at + 1) j g tests.beyond (omega (arith, after)) e in
@@ -42,35 +42,35 @@ tests_behind b t j g tests after e =
     needed.adds t.c t.d tests.c_class tests.d_class
 
 -- the label of an addition behind, and what is left there
-abbrev label_added : Behind → Tested → ℕ → ℕ → Base → ℕ
+abbrev label_added : CheckedSuffix → TestedState → ℕ → ℕ → Base → ℕ
 label_added b t j p base = (labels_claimed b.claim).label (length (added p base ∷ drop (j + 1) b.claim.fixups.now)) t.c t.d
 
-section_behind : (b : Behind) (t : Tested) (j p k : ℕ) → Tests b t → t.at < j → adds_first p (Section k) (drop j b.claim.fixups.now) ≡ true → SectionTests (labels_claimed b.claim) (label_added b t j p (Section k)) k (added p (Section k)) (drop (j + 1) b.claim.fixups.now) t.c t.d
+section_behind : (b : CheckedSuffix) (t : TestedState) (j p k : ℕ) → Tests b t → t.at < j → adds_first p (Section k) (drop j b.claim.fixups.now) ≡ true → SectionTests (labels_claimed b.claim) (label_added b t j p (Section k)) k (added p (Section k)) (drop (j + 1) b.claim.fixups.now) t.c t.d
 section_behind b t j p k tests after adds =
     let fixups = b.claim.fixups.now in
     let e = added_there fixups j p (Section k) adds in
     section_tests (labels_claimed b.claim) (label_added b t j p (Section k)) (index_after (take j fixups) 0) k (added p (Section k)) (drop (j + 1) fixups) t.c t.d (tests_behind b t j (added p (Section k)) tests after e)
 
 -- runs of a section that a register holds
-row_behind : (b : Behind) (t : Tested) (j p k w : ℕ) → adds_first p (Section k) (drop j b.claim.fixups.now) ≡ true → row_test (labels_claimed b.claim) (label_added b t j p (Section k)) w (Section k) t.c t.d 512 p (added p (Section k) ∷ drop (j + 1) b.claim.fixups.now) ≡ true → row_test (labels_claimed b.claim) (label_behind b t j) w (Section k) t.c t.d 512 p (drop j b.claim.fixups.now) ≡ true
+row_behind : (b : CheckedSuffix) (t : TestedState) (j p k w : ℕ) → adds_first p (Section k) (drop j b.claim.fixups.now) ≡ true → row_test (labels_claimed b.claim) (label_added b t j p (Section k)) w (Section k) t.c t.d 512 p (added p (Section k) ∷ drop (j + 1) b.claim.fixups.now) ≡ true → row_test (labels_claimed b.claim) (label_behind b t j) w (Section k) t.c t.d 512 p (drop j b.claim.fixups.now) ≡ true
 row_behind b t j p k w adds met =
     let l = labels_claimed b.claim in
     let fixups = b.claim.fixups.now in
     let e = added_there fixups j p (Section k) adds in
     ap₂ (λ n fs. row_test l n w (Section k) t.c t.d 512 p fs) (label_there l fixups j (added p (Section k)) t.c t.d e) (drop-here fixups j (added p (Section k)) e) ∙ met
 
-pub words-met : (b : Behind) (t : Tested) (k class : ℕ) → Tests b t → class ≡ class_of b.claim.registers.now k → (class == t.c || class == t.d) ≡ true → RowMet b t 4 (Section k)
+pub words-met : (b : CheckedSuffix) (t : TestedState) (k class : ℕ) → Tests b t → class ≡ class_of b.claim.registers.now k → (class == t.c || class == t.d) ≡ true → RowMet b t 4 (Section k)
 words-met b t k class tests is either = λ j p after adds.
     let behind = section_behind b t j p k tests after adds in
     row_behind b t j p k 4 adds (behind.words (subst (λ (n : ℕ). (n == t.c || n == t.d) ≡ true) is either))
 
-pub spaced-met : (b : Behind) (t : Tested) (k class : ℕ) → Tests b t → class ≡ class_of b.claim.registers.now k → class ≡ t.d → RowMet b t 8 (Section k)
+pub spaced-met : (b : CheckedSuffix) (t : TestedState) (k class : ℕ) → Tests b t → class ≡ class_of b.claim.registers.now k → class ≡ t.d → RowMet b t 8 (Section k)
 spaced-met b t k class tests is in_d = λ j p after adds.
     let behind = section_behind b t j p k tests after adds in
     row_behind b t j p k 8 adds (behind.spaced (eq-eqb (class_of b.claim.registers.now k) t.d (sym is ∙ in_d)))
 
 -- runs of pairs of sections
-pairs_behind : (b : Behind) (t : Tested) (j p k i : ℕ) → Tests b t → t.at < j → class_of b.claim.registers.now k ≡ t.c → class_of b.claim.registers.now i ≡ t.d → (adds_first p (Section k) (drop j b.claim.fixups.now) && adds_first (p + 4) (Section i) (drop (j + 1) b.claim.fixups.now)) ≡ true → PairTests (labels_claimed b.claim) (label_behind b t j) k i t.c t.d p (drop j b.claim.fixups.now)
+pairs_behind : (b : CheckedSuffix) (t : TestedState) (j p k i : ℕ) → Tests b t → t.at < j → class_of b.claim.registers.now k ≡ t.c → class_of b.claim.registers.now i ≡ t.d → (adds_first p (Section k) (drop j b.claim.fixups.now) && adds_first (p + 4) (Section i) (drop (j + 1) b.claim.fixups.now)) ≡ true → PairTests (labels_claimed b.claim) (label_behind b t j) k i t.c t.d p (drop j b.claim.fixups.now)
 pairs_behind b t j p k i tests after in_c in_d adds =
     let l = labels_claimed b.claim in
     let fixups = b.claim.fixups.now in
@@ -85,14 +85,14 @@ pairs_behind b t j p k i tests after in_c in_d adds =
     subst (λ (n : ℕ). PairTests l n k i t.c t.d p (drop j fixups)) (sym (label_there l fixups j (added p (Section k)) t.c t.d e))
     (subst (λ (fs : List Fixup). PairTests l (label_added b t j p (Section k)) k i t.c t.d p fs) (sym whole) two)
 
-pub near-met : (b : Behind) (t : Tested) (k i : ℕ) → Tests b t → class_of b.claim.registers.now k ≡ t.c → class_of b.claim.registers.now i ≡ t.d → PairsMet b t 8 (Section k) (Section i)
+pub near-met : (b : CheckedSuffix) (t : TestedState) (k i : ℕ) → Tests b t → class_of b.claim.registers.now k ≡ t.c → class_of b.claim.registers.now i ≡ t.d → PairsMet b t 8 (Section k) (Section i)
 near-met b t k i tests in_c in_d = λ j p after adds. (pairs_behind b t j p k i tests after in_c in_d adds).near
 
-pub far-met : (b : Behind) (t : Tested) (k i : ℕ) → Tests b t → class_of b.claim.registers.now k ≡ t.c → class_of b.claim.registers.now i ≡ t.d → PairsMet b t 12 (Section k) (Section i)
+pub far-met : (b : CheckedSuffix) (t : TestedState) (k i : ℕ) → Tests b t → class_of b.claim.registers.now k ≡ t.c → class_of b.claim.registers.now i ≡ t.d → PairsMet b t 12 (Section k) (Section i)
 far-met b t k i tests in_c in_d = λ j p after adds. (pairs_behind b t j p k i tests after in_c in_d adds).far
 
 -- runs of imports
-pub imports-met : (b : Behind) (t : Tested) (j p m : ℕ) → Tests b t → t.at < j → m ≡ index_after (take j b.claim.fixups.now) 0 → adds_first p (Import m) (drop j b.claim.fixups.now) ≡ true → numbered_test (labels_claimed b.claim) (label_behind b t j) t.c t.d 512 p m (drop j b.claim.fixups.now) ≡ true
+pub imports-met : (b : CheckedSuffix) (t : TestedState) (j p m : ℕ) → Tests b t → t.at < j → m ≡ index_after (take j b.claim.fixups.now) 0 → adds_first p (Import m) (drop j b.claim.fixups.now) ≡ true → numbered_test (labels_claimed b.claim) (label_behind b t j) t.c t.d 512 p m (drop j b.claim.fixups.now) ≡ true
 imports-met b t j p m tests after index adds =
     let l = labels_claimed b.claim in
     let fixups = b.claim.fixups.now in

@@ -9,15 +9,15 @@ use Rattle.pef_reloc.specs.Deliveries.{index_after}
 use Rattle.pef_reloc.proofs.Laws.{fixup_fits-parts}
 use Rattle.pef_words.proofs.Laws.Lists.{all-get}
 use Rattle.std.proofs.lemmas.Bool.{and_from, and_parts}
-use Rattle.pef_cert.specs.declared.claim.Behind.{Behind}
+use Rattle.pef_cert.specs.declared.claim.CheckedSuffix.{CheckedSuffix}
 use Rattle.pef_cert.specs.declared.claim.Claim.{Claim}
-use Rattle.pef_cert.specs.declared.feasible.Under.{Under}
+use Rattle.pef_cert.specs.declared.feasible.TestedFixup.{TestedFixup}
 use Rattle.pef_cert.specs.Labels.{Labels, class_of}
 use Rattle.pef_cert.specs.Feasible.{FeasibleAt}
 use Rattle.pef_cert.specs.Kept.Claims.{Shaped, UnderTest, labels_claimed}
-use Rattle.pef_labels.specs.Rows.{rows_from}
+use Rattle.pef_cert.specs.Rows.{rows_from}
 use Rattle.pef_cert.specs.Kept.Sets.{RowHolds}
-use Rattle.pef_fixups.specs.Answers.{Says}
+use Rattle.pef_cert.specs.Fixups.Answers.{Says}
 use Rattle.pef_cert.specs.Kept.Tests.{AllTests}
 use Rattle.pef_cert.specs.LabelTests.{SetsHold, TestsHold}
 use Rattle.pef_cert.proofs.AdditionLemmas.{got-fits}
@@ -56,7 +56,7 @@ both_say a b P Q R p q join first second =
     (λ e. let both = and_parts a b e in join (p.0 both.0) (q.0 both.1), λ r. and_from a b (p.1 (first r)) (q.1 (second r)))
 
 -- what a check says of a fixup is whether labels are feasible there
-pub fixup-says : (b : Behind) (u : Under) (row : List ℕ) (sets adds : Bool) → UnderTest b u
+pub fixup-says : (b : CheckedSuffix) (u : TestedFixup) (row : List ℕ) (sets adds : Bool) → UnderTest b u
     → row ≡ slice_index_or (rows_from b.claim.kept.width 0 b.claim.kept.ends.now b.claim.kept.values.now) u.at []
     → Says sets (RowHolds row (length b.claim.registers.now + 1))
     → Says adds (AllTests (labels_claimed b.claim) (index_after (take u.at b.claim.fixups.now) 0) u.fixup (drop (u.at + 1) b.claim.fixups.now))
@@ -79,7 +79,7 @@ fixup-says b u row sets adds under is first second =
     (λ feasible. (needed_of b.claim u.at index u.fixup under.knows.shaped under.here feasible).adds)
 
 -- where the change of a register costs too much they aren't
-pub fixup-fails : (b : Behind) (u : Under) (row : List ℕ) → UnderTest b u
+pub fixup-fails : (b : CheckedSuffix) (u : TestedFixup) (row : List ℕ) → UnderTest b u
     → row ≡ slice_index_or (rows_from b.claim.kept.width 0 b.claim.kept.ends.now b.claim.kept.values.now) u.at []
     → Says false (RowHolds row (length b.claim.registers.now + 1))
     → Says false (FeasibleAt (labels_claimed b.claim) (index_after (take u.at b.claim.fixups.now) 0) u.fixup (drop (u.at + 1) b.claim.fixups.now))

@@ -5,11 +5,11 @@ use Rattle.pef_reloc.specs.declared.fixup.Base.{Base}
 use Rattle.pef_reloc.specs.declared.fixup.Base.TheVariants.{Section, Import}
 use Rattle.pef_reloc.specs.declared.fixup.Fixup.{Fixup}
 use Rattle.pef_words.proofs.Laws.Lists.{drop-here}
-use Rattle.pef_fixups.specs.Answers.{Says}
-use Rattle.pef_cert.specs.declared.claim.Behind.{Behind}
+use Rattle.pef_cert.specs.Fixups.Answers.{Says}
+use Rattle.pef_cert.specs.declared.claim.CheckedSuffix.{CheckedSuffix}
 use Rattle.pef_cert.specs.declared.claim.Claim.{Claim}
-use Rattle.pef_cert.specs.declared.feasible.Under.{Under}
-use Rattle.pef_cert.specs.declared.runs.Tested.{Tested}
+use Rattle.pef_cert.specs.declared.feasible.TestedFixup.{TestedFixup}
+use Rattle.pef_cert.specs.declared.runs.TestedState.{TestedState}
 use Rattle.pef_cert.specs.Labels.{Labels, class_of, classes}
 use Rattle.pef_cert.specs.Extension.{extension}
 use Rattle.pef_cert.specs.Kept.Claims.{Sees, UnderTest, labels_claimed, state_of}
@@ -20,7 +20,7 @@ use Rattle.pef_cert.proofs.ClassLemmas.{class_of-below}
 use Rattle.pef_cert.proofs.TestLemmas.{ImportTests, SectionTests, import_tests, import_tests-met, section_tests, section_tests-met}
 
 -- what lies right behind the fixup
-pub under-sees : (b : Behind) (u : Under) → UnderTest b u → Sees b (u.at + 1)
+pub under-sees : (b : CheckedSuffix) (u : TestedFixup) → UnderTest b u → Sees b (u.at + 1)
 under-sees b u under =
     let low = get_under b.claim.fixups.now u.at u.fixup under.here in
     knows-sees b (u.at + 1) (u.at + 1) under.knows (omega arith) (omega arith) (omega (arith, low))
@@ -120,35 +120,35 @@ import-says l index k cost f rest answer base is next singles runs = (
 )
 
 -- the tests of a state, with what it has looked up
-pub row-here : (claim : Claim) (u : Under) (c d w p : ℕ) (b : Base) (t : Tested) (x : Bool) → slice_get claim.fixups.now u.at ≡ Some u.fixup → t ≡ state_of claim u c d → p ≡ u.fixup.offset → x ≡ row_test (labels_claimed claim) t.label w b t.c t.d 512 p (drop t.at claim.fixups.now) → x ≡ row_test (labels_claimed claim) (label_of (labels_claimed claim) u.fixup (drop (u.at + 1) claim.fixups.now) c d) w b c d 512 u.fixup.offset (u.fixup ∷ drop (u.at + 1) claim.fixups.now)
+pub row-here : (claim : Claim) (u : TestedFixup) (c d w p : ℕ) (b : Base) (t : TestedState) (x : Bool) → slice_get claim.fixups.now u.at ≡ Some u.fixup → t ≡ state_of claim u c d → p ≡ u.fixup.offset → x ≡ row_test (labels_claimed claim) t.label w b t.c t.d 512 p (drop t.at claim.fixups.now) → x ≡ row_test (labels_claimed claim) (label_of (labels_claimed claim) u.fixup (drop (u.at + 1) claim.fixups.now) c d) w b c d 512 u.fixup.offset (u.fixup ∷ drop (u.at + 1) claim.fixups.now)
 row-here claim u c d w p b t x here is at test =
     let l = labels_claimed claim in
     let fixups = claim.fixups.now in
     test
-    ∙ (ap (λ (s : Tested). row_test l s.label w b s.c s.d 512 p (drop s.at fixups)) is
+    ∙ (ap (λ (s : TestedState). row_test l s.label w b s.c s.d 512 p (drop s.at fixups)) is
     ∙ (ap (λ n. row_test l n w b c d 512 p (drop u.at fixups)) (label_there l fixups u.at u.fixup c d here)
     ∙ (ap (λ q. row_test l (label_of l u.fixup (drop (u.at + 1) fixups) c d) w b c d 512 q (drop u.at fixups)) at
     ∙ ap (λ fs. row_test l (label_of l u.fixup (drop (u.at + 1) fixups) c d) w b c d 512 u.fixup.offset fs) (drop-here fixups u.at u.fixup here))))
 
-pub second-here : (claim : Claim) (u : Under) (c d k : ℕ) (t : Tested) (x : Bool) → slice_get claim.fixups.now u.at ≡ Some u.fixup → t ≡ state_of claim u c d → x ≡ second_test (labels_claimed claim) t.label k t.c t.d t.fixup (drop (t.at + 1) claim.fixups.now) → x ≡ second_test (labels_claimed claim) (label_of (labels_claimed claim) u.fixup (drop (u.at + 1) claim.fixups.now) c d) k c d u.fixup (drop (u.at + 1) claim.fixups.now)
+pub second-here : (claim : Claim) (u : TestedFixup) (c d k : ℕ) (t : TestedState) (x : Bool) → slice_get claim.fixups.now u.at ≡ Some u.fixup → t ≡ state_of claim u c d → x ≡ second_test (labels_claimed claim) t.label k t.c t.d t.fixup (drop (t.at + 1) claim.fixups.now) → x ≡ second_test (labels_claimed claim) (label_of (labels_claimed claim) u.fixup (drop (u.at + 1) claim.fixups.now) c d) k c d u.fixup (drop (u.at + 1) claim.fixups.now)
 second-here claim u c d k t x here is test =
     let l = labels_claimed claim in
     let fixups = claim.fixups.now in
     test
-    ∙ (ap (λ (s : Tested). second_test l s.label k s.c s.d s.fixup (drop (s.at + 1) fixups)) is
+    ∙ (ap (λ (s : TestedState). second_test l s.label k s.c s.d s.fixup (drop (s.at + 1) fixups)) is
     ∙ ap (λ n. second_test l n k c d u.fixup (drop (u.at + 1) fixups)) (label_there l fixups u.at u.fixup c d here))
 
-pub numbered-here : (claim : Claim) (u : Under) (c d k p : ℕ) (t : Tested) (x : Bool) → slice_get claim.fixups.now u.at ≡ Some u.fixup → t ≡ state_of claim u c d → p ≡ u.fixup.offset → x ≡ numbered_test (labels_claimed claim) t.label t.c t.d 512 p k (drop t.at claim.fixups.now) → numbered_test (labels_claimed claim) (label_of (labels_claimed claim) u.fixup (drop (u.at + 1) claim.fixups.now) c d) c d 512 u.fixup.offset k (u.fixup ∷ drop (u.at + 1) claim.fixups.now) ≡ x
+pub numbered-here : (claim : Claim) (u : TestedFixup) (c d k p : ℕ) (t : TestedState) (x : Bool) → slice_get claim.fixups.now u.at ≡ Some u.fixup → t ≡ state_of claim u c d → p ≡ u.fixup.offset → x ≡ numbered_test (labels_claimed claim) t.label t.c t.d 512 p k (drop t.at claim.fixups.now) → numbered_test (labels_claimed claim) (label_of (labels_claimed claim) u.fixup (drop (u.at + 1) claim.fixups.now) c d) c d 512 u.fixup.offset k (u.fixup ∷ drop (u.at + 1) claim.fixups.now) ≡ x
 numbered-here claim u c d k p t x here is at test =
     let l = labels_claimed claim in
     let fixups = claim.fixups.now in
     sym (test
-    ∙ (ap (λ (s : Tested). numbered_test l s.label s.c s.d 512 p k (drop s.at fixups)) is
+    ∙ (ap (λ (s : TestedState). numbered_test l s.label s.c s.d 512 p k (drop s.at fixups)) is
     ∙ (ap (λ n. numbered_test l n c d 512 p k (drop u.at fixups)) (label_there l fixups u.at u.fixup c d here)
     ∙ (ap (λ q. numbered_test l (label_of l u.fixup (drop (u.at + 1) fixups) c d) c d 512 q k (drop u.at fixups)) at
     ∙ ap (λ fs. numbered_test l (label_of l u.fixup (drop (u.at + 1) fixups) c d) c d 512 u.fixup.offset k fs) (drop-here fixups u.at u.fixup here)))))
 
-pub single-here : (claim : Claim) (u : Under) (c d cost label n p value : ℕ) (x : Bool) → slice_get claim.fixups.now u.at ≡ Some u.fixup → label ≡ (labels_claimed claim).label (length claim.fixups.now - u.at) c d → n ≡ cost → p ≡ u.fixup.offset → value ≡ extension (labels_claimed claim) (drop (u.at + 1) claim.fixups.now) (p + 4) c d → x ≡ nat_le label (n + value) → x ≡ single_test (labels_claimed claim) cost u.fixup (drop (u.at + 1) claim.fixups.now) c d
+pub single-here : (claim : Claim) (u : TestedFixup) (c d cost label n p value : ℕ) (x : Bool) → slice_get claim.fixups.now u.at ≡ Some u.fixup → label ≡ (labels_claimed claim).label (length claim.fixups.now - u.at) c d → n ≡ cost → p ≡ u.fixup.offset → value ≡ extension (labels_claimed claim) (drop (u.at + 1) claim.fixups.now) (p + 4) c d → x ≡ nat_le label (n + value) → x ≡ single_test (labels_claimed claim) cost u.fixup (drop (u.at + 1) claim.fixups.now) c d
 single-here claim u c d cost label n p value x here is cost_is at value_is test =
     let l = labels_claimed claim in
     let rest = drop (u.at + 1) claim.fixups.now in

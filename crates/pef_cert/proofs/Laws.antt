@@ -65,3 +65,8 @@ pub use Rattle.pef_cert.proofs.TestLemmas.{import_tests-met, section_tests-met}
 pub use Rattle.pef_cert.proofs.TestLemmas.{tested}
 -- labels that meet all of them are feasible at the fixup
 pub use Rattle.pef_cert.proofs.TestLemmas.{feasible-tested}
+-- Texts.
+-- a valid certificate can be printed
+pub use Rattle.pef_cert.proofs.TextProofs.ValidPrints.{valid_prints}
+-- what is printed of certificates is read as these
+pub use Rattle.pef_cert.proofs.TextProofs.ReadsBack.{reads_back}

@@ -21,3 +21,6 @@ mod Soundness
 mod StepLemmas
 mod SweepLemmas
 mod TestLemmas
+mod FixupsProofs
+mod RowLemmas
+mod TextProofs

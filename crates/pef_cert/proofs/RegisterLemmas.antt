@@ -10,7 +10,7 @@ use Rattle.pef_reloc.specs.Deliveries.{all_meet, is_section, uses_section}
 use Rattle.pef_cert.specs.Labels.{class_of}
 use Rattle.pef_cert.specs.Valid.{RegistersOf, is_among, rises}
 use Rattle.pef_cert.specs.Kept.Registers.{all_registered, is_registered}
-use Rattle.pef_fixups.specs.Answers.{Says}
+use Rattle.pef_cert.specs.Fixups.Answers.{Says}
 use Rattle.pef_cert.proofs.ClassLemmas.{RegisteredBase, all_registered as each_registered, class_of-other}
 
 -- each of a list meets a test

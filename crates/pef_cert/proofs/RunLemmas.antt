@@ -7,8 +7,8 @@ use Rattle.pef_reloc.specs.declared.fixup.Fixup.{Fixup}
 use Rattle.pef_reloc.specs.Steps.{added, numbered, pairs, row}
 use Rattle.pef_cert.specs.Labels.{Labels}
 use Rattle.pef_cert.specs.Extension.{extension}
-use Rattle.pef_fixups.specs.Additions.{is_added}
-use Rattle.pef_fixups.proofs.Laws.{is_added-is, is_added-refl}
+use Rattle.pef_cert.specs.Fixups.Additions.{is_added}
+use Rattle.pef_cert.proofs.FixupsProofs.FixupLemmas.{is_added-is, is_added-refl}
 use Rattle.pef_cert.specs.LabelTests.{numbered_test, one_from, pairs_test, row_test, run_on}
 
 run_on-here : (b here more : Bool) → b ≡ true → run_on b here more ≡ true → here ≡ true

@@ -9,12 +9,12 @@ use Rattle.pef_reloc.specs.Steps.{added}
 use Rattle.pef_reloc.specs.declared.fixup.Base.{Base}
 use Rattle.pef_reloc.specs.declared.fixup.Base.TheVariants.{Section, Import}
 use Rattle.pef_reloc.specs.declared.fixup.Fixup.{Fixup}
-use Rattle.pef_fixups.specs.Answers.{Says}
-use Rattle.pef_labels.specs.Rows.{rows_from}
+use Rattle.pef_cert.specs.Fixups.Answers.{Says}
+use Rattle.pef_cert.specs.Rows.{rows_from}
 use Rattle.pef_words.proofs.Laws.Lists.{drop-here}
-use Rattle.pef_cert.specs.declared.claim.Behind.{Behind}
-use Rattle.pef_cert.specs.declared.feasible.Under.{Under}
-use Rattle.pef_cert.specs.declared.runs.Tested.{Tested}
+use Rattle.pef_cert.specs.declared.claim.CheckedSuffix.{CheckedSuffix}
+use Rattle.pef_cert.specs.declared.feasible.TestedFixup.{TestedFixup}
+use Rattle.pef_cert.specs.declared.runs.TestedState.{TestedState}
 use Rattle.pef_cert.specs.Extension.{extension}
 use Rattle.pef_cert.specs.Labels.{Labels, class_of}
 use Rattle.pef_cert.specs.Kept.Claims.{GoesOn, SharesRow, Tests, UnderTest, label_behind, labels_claimed, row_at, state_of}
@@ -32,7 +32,7 @@ use Rattle.pef_cert.proofs.StepLemmas.{added_there, row_stops}
 use Rattle.pef_cert.proofs.SweepLemmas.{index_next}
 
 -- both rows are the kept one
-shared_row : (b : Behind) (u : Under) → UnderTest b u → SharesRow b u → row_at b.claim u.at ≡ row_at b.claim (u.at + 1)
+shared_row : (b : CheckedSuffix) (u : TestedFixup) → UnderTest b u → SharesRow b u → row_at b.claim u.at ≡ row_at b.claim (u.at + 1)
 shared_row b u under shares =
     let kept = b.claim.kept in
     let full = under.knows.shaped.full in
@@ -43,7 +43,7 @@ shared_row b u under shares =
 next_there : (fixups : List Fixup) (at : ℕ) (f : Fixup) → at + 1 < length fixups → slice_get fixups (at + 1) ≡ Some (slice_index_or fixups (at + 1) f)
 next_there fixups at f under = slice_get-get_or fixups (at + 1) f under
 
-pub sets-shared : (b : Behind) (u : Under) → UnderTest b u → SharesRow b u → RowHolds (row_at b.claim u.at) (length b.claim.registers.now + 1)
+pub sets-shared : (b : CheckedSuffix) (u : TestedFixup) → UnderTest b u → SharesRow b u → RowHolds (row_at b.claim u.at) (length b.claim.registers.now + 1)
 sets-shared b u under shares =
     let fixups = b.claim.fixups.now in
     let l = labels_claimed b.claim in
@@ -56,7 +56,7 @@ sets-shared b u under shares =
     (subst (SetsHold l) (sym (left_count fixups (u.at + 1) g next)) needed.sets)
 
 -- so are both labels
-shared_label : (b : Behind) (u : Under) (c d : ℕ) → UnderTest b u → SharesRow b u → label_of (labels_claimed b.claim) u.fixup (drop (u.at + 1) b.claim.fixups.now) c d ≡ (labels_claimed b.claim).label (length b.claim.fixups.now - (u.at + 1)) c d
+shared_label : (b : CheckedSuffix) (u : TestedFixup) (c d : ℕ) → UnderTest b u → SharesRow b u → label_of (labels_claimed b.claim) u.fixup (drop (u.at + 1) b.claim.fixups.now) c d ≡ (labels_claimed b.claim).label (length b.claim.fixups.now - (u.at + 1)) c d
 shared_label b u c d under shares =
     let fixups = b.claim.fixups.now in
     let n = length fixups in
@@ -70,7 +70,7 @@ shared_label b u c d under shares =
     ∙ sym (ap (λ i. slice_index (slice_index_or rows i []) place) there)))
 
 -- the state at the fixup
-state_tests : (b : Behind) (u : Under) (c d : ℕ) → UnderTest b u → c < length b.claim.registers.now + 1 → d < length b.claim.registers.now + 1 → Tests b (state_of b.claim u c d)
+state_tests : (b : CheckedSuffix) (u : TestedFixup) (c d : ℕ) → UnderTest b u → c < length b.claim.registers.now + 1 → d < length b.claim.registers.now + 1 → Tests b (state_of b.claim u c d)
 state_tests b u c d under under_c under_d = record {
   knows = under.knows;
   beyond = under.beyond;
@@ -80,7 +80,7 @@ state_tests b u c d under under_c under_d = record {
 }
 
 -- the addition alone
-near_low : (b : Behind) (u : Under) (base : Base) (c d : ℕ) → UnderTest b u → GoesOn b u base → label_of (labels_claimed b.claim) u.fixup (drop (u.at + 1) b.claim.fixups.now) c d ≡ extension (labels_claimed b.claim) (drop (u.at + 1) b.claim.fixups.now) (u.fixup.offset + 4) c d
+near_low : (b : CheckedSuffix) (u : TestedFixup) (base : Base) (c d : ℕ) → UnderTest b u → GoesOn b u base → label_of (labels_claimed b.claim) u.fixup (drop (u.at + 1) b.claim.fixups.now) c d ≡ extension (labels_claimed b.claim) (drop (u.at + 1) b.claim.fixups.now) (u.fixup.offset + 4) c d
 near_low b u base c d under on =
     let l = labels_claimed b.claim in
     let fixups = b.claim.fixups.now in
@@ -88,7 +88,7 @@ near_low b u base c d under on =
     shared_label b u c d under on.shares
     ∙ value-here l fixups (u.at + 1) (added (u.fixup.offset + 4) base) (u.fixup.offset + 4) c d (l.label (length fixups - (u.at + 1)) c d) next refl refl
 
-singles_shared : (b : Behind) (u : Under) (base : Base) (cost : ℕ) → UnderTest b u → GoesOn b u base → 1 ≤ cost → AllSingles (labels_claimed b.claim) cost u.fixup (drop (u.at + 1) b.claim.fixups.now)
+singles_shared : (b : CheckedSuffix) (u : TestedFixup) (base : Base) (cost : ℕ) → UnderTest b u → GoesOn b u base → 1 ≤ cost → AllSingles (labels_claimed b.claim) cost u.fixup (drop (u.at + 1) b.claim.fixups.now)
 singles_shared b u base cost under on some = λ c under_c d under_d.
     let l = labels_claimed b.claim in
     let rest = drop (u.at + 1) b.claim.fixups.now in
@@ -96,7 +96,7 @@ singles_shared b u base cost under on some = λ c under_c d under_d.
     le-leb (label_of l u.fixup rest c d) (cost + extension l rest (u.fixup.offset + 4) c d) (omega (arith, same))
 
 -- runs of a section, side by side and a word apart
-words_shared : (b : Behind) (u : Under) (k c d : ℕ) → UnderTest b u → GoesOn b u (Section k) → c < length b.claim.registers.now + 1 → d < length b.claim.registers.now + 1 → (class_of b.claim.registers.now k == c || class_of b.claim.registers.now k == d) ≡ true → row_test (labels_claimed b.claim) (label_of (labels_claimed b.claim) u.fixup (drop (u.at + 1) b.claim.fixups.now) c d) 4 (Section k) c d 512 u.fixup.offset (u.fixup ∷ drop (u.at + 1) b.claim.fixups.now) ≡ true
+words_shared : (b : CheckedSuffix) (u : TestedFixup) (k c d : ℕ) → UnderTest b u → GoesOn b u (Section k) → c < length b.claim.registers.now + 1 → d < length b.claim.registers.now + 1 → (class_of b.claim.registers.now k == c || class_of b.claim.registers.now k == d) ≡ true → row_test (labels_claimed b.claim) (label_of (labels_claimed b.claim) u.fixup (drop (u.at + 1) b.claim.fixups.now) c d) 4 (Section k) c d 512 u.fixup.offset (u.fixup ∷ drop (u.at + 1) b.claim.fixups.now) ≡ true
 words_shared b u k c d under on under_c under_d either =
     let l = labels_claimed b.claim in
     let rest = drop (u.at + 1) b.claim.fixups.now in
@@ -111,7 +111,7 @@ words_shared b u k c d under on under_c under_d either =
 not_added : (p q : ℕ) (b b' : Base) (more : List Fixup) → q ≢ p → adds_first p b (added q b' ∷ more) ≡ false
 not_added p q b b' more apart = rw (ne_eqb q p apart) refl
 
-spaced_shared : (b : Behind) (u : Under) (k c d : ℕ) → UnderTest b u → GoesOn b u (Section k) → row_test (labels_claimed b.claim) (label_of (labels_claimed b.claim) u.fixup (drop (u.at + 1) b.claim.fixups.now) c d) 8 (Section k) c d 512 u.fixup.offset (u.fixup ∷ drop (u.at + 1) b.claim.fixups.now) ≡ true
+spaced_shared : (b : CheckedSuffix) (u : TestedFixup) (k c d : ℕ) → UnderTest b u → GoesOn b u (Section k) → row_test (labels_claimed b.claim) (label_of (labels_claimed b.claim) u.fixup (drop (u.at + 1) b.claim.fixups.now) c d) 8 (Section k) c d 512 u.fixup.offset (u.fixup ∷ drop (u.at + 1) b.claim.fixups.now) ≡ true
 spaced_shared b u k c d under on =
     let l = labels_claimed b.claim in
     let fixups = b.claim.fixups.now in
@@ -131,7 +131,7 @@ pairs_apart : (l : Labels) (label k c x : ℕ) (f g : Fixup) (more : List Fixup)
 pairs_apart l label k c x f g more base apart =
     subst (λ (b : Base). pair_test l label k c x f.offset (f ∷ g ∷ more) b ≡ true) (sym base) (rw apart refl)
 
-second_shared : (b : Behind) (u : Under) (k x : ℕ) → UnderTest b u → GoesOn b u (Section k) → second_test (labels_claimed b.claim) (label_of (labels_claimed b.claim) u.fixup (drop (u.at + 1) b.claim.fixups.now) (class_of b.claim.registers.now k) (class_of b.claim.registers.now k)) k (class_of b.claim.registers.now k) (class_of b.claim.registers.now k) u.fixup (drop (u.at + 1) b.claim.fixups.now) ≡ true → second_test (labels_claimed b.claim) (label_of (labels_claimed b.claim) u.fixup (drop (u.at + 1) b.claim.fixups.now) (class_of b.claim.registers.now k) x) k (class_of b.claim.registers.now k) x u.fixup (drop (u.at + 1) b.claim.fixups.now) ≡ true
+second_shared : (b : CheckedSuffix) (u : TestedFixup) (k x : ℕ) → UnderTest b u → GoesOn b u (Section k) → second_test (labels_claimed b.claim) (label_of (labels_claimed b.claim) u.fixup (drop (u.at + 1) b.claim.fixups.now) (class_of b.claim.registers.now k) (class_of b.claim.registers.now k)) k (class_of b.claim.registers.now k) (class_of b.claim.registers.now k) u.fixup (drop (u.at + 1) b.claim.fixups.now) ≡ true → second_test (labels_claimed b.claim) (label_of (labels_claimed b.claim) u.fixup (drop (u.at + 1) b.claim.fixups.now) (class_of b.claim.registers.now k) x) k (class_of b.claim.registers.now k) x u.fixup (drop (u.at + 1) b.claim.fixups.now) ≡ true
 second_shared b u k x under on here =
     let l = labels_claimed b.claim in
     let fixups = b.claim.fixups.now in
@@ -145,7 +145,7 @@ second_shared b u k x under on here =
           (pairs_apart l (label_of l u.fixup rest class x) k class x u.fixup g (drop (u.at + 1 + 1) fixups) refl other.0)
     ]
 
-pub same-says : (b : Behind) (u : Under) (k index class : ℕ) (t : Tested) (answer : Bool) → UnderTest b u → u.fixup.base ≡ Section k → GoesOn b u (Section k) → class ≡ class_of b.claim.registers.now k → t ≡ state_of b.claim u class class → answer ≡ second_test (labels_claimed b.claim) t.label k t.c t.d t.fixup (drop (t.at + 1) b.claim.fixups.now) → Says answer (AllTests (labels_claimed b.claim) index u.fixup (drop (u.at + 1) b.claim.fixups.now))
+pub same-says : (b : CheckedSuffix) (u : TestedFixup) (k index class : ℕ) (t : TestedState) (answer : Bool) → UnderTest b u → u.fixup.base ≡ Section k → GoesOn b u (Section k) → class ≡ class_of b.claim.registers.now k → t ≡ state_of b.claim u class class → answer ≡ second_test (labels_claimed b.claim) t.label k t.c t.d t.fixup (drop (t.at + 1) b.claim.fixups.now) → Says answer (AllTests (labels_claimed b.claim) index u.fixup (drop (u.at + 1) b.claim.fixups.now))
 same-says b u k index class t answer under base on of is test =
     let l = labels_claimed b.claim in
     let rest = drop (u.at + 1) b.claim.fixups.now in
@@ -169,7 +169,7 @@ least_cost m = go (nat_lt m 512)
     go true = omega arith
     go false = omega arith
 
-imports_shared : (b : Behind) (u : Under) (m c d : ℕ) → UnderTest b u → u.fixup.base ≡ Import m → GoesOn b u (Import (m + 1)) → c < length b.claim.registers.now + 1 → d < length b.claim.registers.now + 1 → numbered_test (labels_claimed b.claim) (label_of (labels_claimed b.claim) u.fixup (drop (u.at + 1) b.claim.fixups.now) c d) c d 512 u.fixup.offset m (u.fixup ∷ drop (u.at + 1) b.claim.fixups.now) ≡ true
+imports_shared : (b : CheckedSuffix) (u : TestedFixup) (m c d : ℕ) → UnderTest b u → u.fixup.base ≡ Import m → GoesOn b u (Import (m + 1)) → c < length b.claim.registers.now + 1 → d < length b.claim.registers.now + 1 → numbered_test (labels_claimed b.claim) (label_of (labels_claimed b.claim) u.fixup (drop (u.at + 1) b.claim.fixups.now) c d) c d 512 u.fixup.offset m (u.fixup ∷ drop (u.at + 1) b.claim.fixups.now) ≡ true
 imports_shared b u m c d under base on under_c under_d =
     let l = labels_claimed b.claim in
     let fixups = b.claim.fixups.now in
@@ -183,7 +183,7 @@ imports_shared b u m c d under base on under_c under_d =
     numbered_test-first l label c d 511 u.fixup.offset m u.fixup rest (omega (arith, low))
     (numbered_test-weaker l label (label_behind b t (u.at + 1)) c d 511 512 (u.fixup.offset + 4) (m + 1) rest (omega (arith, same)) (omega arith) met)
 
-pub next-holds : (b : Behind) (u : Under) (m index : ℕ) → UnderTest b u → u.fixup.base ≡ Import m → GoesOn b u (Import (m + 1)) → AllTests (labels_claimed b.claim) index u.fixup (drop (u.at + 1) b.claim.fixups.now)
+pub next-holds : (b : CheckedSuffix) (u : TestedFixup) (m index : ℕ) → UnderTest b u → u.fixup.base ≡ Import m → GoesOn b u (Import (m + 1)) → AllTests (labels_claimed b.claim) index u.fixup (drop (u.at + 1) b.claim.fixups.now)
 next-holds b u m index under base on =
     import_all (labels_claimed b.claim) index m u.fixup (drop (u.at + 1) b.claim.fixups.now) base (singles_shared b u (Import (m + 1)) (import_cost m) under on (least_cost m))
     (λ is c under_c d under_d. imports_shared b u m c d under base on under_c under_d)

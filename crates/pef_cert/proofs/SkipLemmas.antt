@@ -11,7 +11,7 @@ use Rattle.std.proofs.lemmas.Option.{same_Some}
 use Rattle.pef_cert.specs.Labels.{Labels, class_of, classes, has_class}
 use Rattle.pef_cert.specs.Minima.{lesser}
 use Rattle.pef_cert.specs.Extension.{change, extension, offer_at, skip, skips_at}
-use Rattle.pef_fixups.specs.Additions.{same_base}
+use Rattle.pef_cert.specs.Fixups.Additions.{same_base}
 use Rattle.pef_cert.specs.Kept.Tests.{adds_first}
 use Rattle.pef_cert.proofs.ClassLemmas.{class_of-same}
 use Rattle.pef_cert.proofs.ExtensionLemmas.{extension-end, skip-is, skip-most, skips-is}

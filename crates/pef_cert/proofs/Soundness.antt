@@ -10,7 +10,7 @@ use Rattle.pef_reloc.proofs.Laws.{first_delivers, flat_parts}
 use Rattle.pef_cert.specs.Labels.{Labels, class_of, classes}
 use Rattle.pef_cert.specs.Extension.{extension, extension_at, offer_at}
 use Rattle.pef_cert.specs.Feasible.{Feasible}
-use Rattle.pef_labels.specs.Certified.{Certified}
+use Rattle.pef_cert.specs.Certified.{Certified}
 use Rattle.pef_cert.specs.Valid.{RegistersOf, Trusted, Valid, labels_of}
 use Rattle.pef_cert.proofs.ClassLemmas.{all_registered, numbers}
 use Rattle.pef_cert.proofs.ExtensionLemmas.{extension-end}

@@ -8,8 +8,8 @@ use Rattle.pef_reloc.specs.declared.fixup.Fixup.{Fixup}
 use Rattle.pef_reloc.specs.Steps.{added}
 use Rattle.std.proofs.lemmas.Bool.{and_parts}
 use Rattle.pef_cert.specs.Labels.{Labels}
-use Rattle.pef_fixups.specs.Additions.{is_added}
-use Rattle.pef_fixups.proofs.Laws.{is_added-is}
+use Rattle.pef_cert.specs.Fixups.Additions.{is_added}
+use Rattle.pef_cert.proofs.FixupsProofs.FixupLemmas.{is_added-is}
 use Rattle.pef_cert.specs.Kept.Claims.{word_end}
 use Rattle.pef_cert.specs.Kept.Tests.{adds_first}
 use Rattle.pef_cert.specs.LabelTests.{numbered_test, one_from, pairs_test, row_test, run_on}

@@ -177,16 +177,16 @@ any_cost k = go (nat_lt k 512)
     go false = omega arith
 
 -- what has to be shown of a number that meets the tests of a state's label
-abbrev Tested : Labels → ℕ → Instr → State → List Fixup → Type 0
-Tested l label x s left = label ≤ instr_length x + extension_at l left (next_state x s)
+abbrev TestedState : Labels → ℕ → Instr → State → List Fixup → Type 0
+TestedState l label x s left = label ≤ instr_length x + extension_at l left (next_state x s)
 
-nothing_made : (l : Labels) (label : ℕ) (x : Instr) (s : State) (f : Fixup) (rest left : List Fixup) → f ∷ rest ≡ left → length left < length (f ∷ rest) → Tested l label x s left
+nothing_made : (l : Labels) (label : ℕ) (x : Instr) (s : State) (f : Fixup) (rest left : List Fixup) → f ∷ rest ≡ left → length left < length (f ∷ rest) → TestedState l label x s left
 nothing_made l label x s f rest left same shorter = let e = ap length same in absurd (omega (arith, e))
 
 count_under : (n : ℕ) → (nat_le 1 (suc n) && nat_le (suc n) 512) ≡ true → n < 512
 count_under n fits = let under = leb-true (suc n) 512 (and_parts (nat_le 1 (suc n)) (nat_le (suc n) 512) fits).1 in omega (arith, under)
 
-pub tested : (l : Labels) (label : ℕ) (x : Instr) (s : State) (f : Fixup) (rest left : List Fixup) → base_test l label s.import_index f rest (class_of l.registers s.c) (class_of l.registers s.d) f.base ≡ true → s.position ≡ f.offset → is_flat_instr x ≡ true → f ∷ rest ≡ additions x s ++ left → length left < length (f ∷ rest) → Tested l label x s left
+pub tested : (l : Labels) (label : ℕ) (x : Instr) (s : State) (f : Fixup) (rest left : List Fixup) → base_test l label s.import_index f rest (class_of l.registers s.c) (class_of l.registers s.d) f.base ≡ true → s.position ≡ f.offset → is_flat_instr x ≡ true → f ∷ rest ≡ additions x s ++ left → length left < length (f ∷ rest) → TestedState l label x s left
 unfolding row pairs numbered
 tested l label (BySectDWithSkip u zero) s f rest left met at flat words shorter = nothing_made l label (BySectDWithSkip u zero) s f rest left words shorter
 tested l label (BySectDWithSkip zero (suc t)) s f rest left met at flat words shorter =

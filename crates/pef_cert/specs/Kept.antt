@@ -3,3 +3,4 @@ pub mod Registers
 pub mod Sets
 pub mod Tests
 pub mod Values
+pub mod RowsKept

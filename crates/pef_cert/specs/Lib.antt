@@ -5,3 +5,8 @@ pub mod LabelTests
 pub mod Labels
 pub mod Minima
 pub mod Valid
+pub mod Certified
+pub mod Fixups
+pub mod Rising
+pub mod Rows
+pub mod Text

@@ -3,20 +3,20 @@ ghost use Rattle.pef_cert.specs.Kept.Claims.{GoesOn, Tests, UnderTest, labels_cl
 ghost use Rattle.pef_cert.specs.Kept.Tests.{AllTests, SectionRuns, runs_of_c, runs_of_d};
 ghost use Rattle.pef_cert.specs.Labels.{class_of};
 ghost use Rattle.pef_cert.specs.LabelTests.{pair_test, second_test};
-ghost use Rattle.pef_fixups.specs.Answers.{Says};
+ghost use Rattle.pef_cert.specs.Fixups.Answers.{Says};
 ghost use Rattle.pef_reloc.specs.Deliveries.{index_after};
 ghost use Rattle.pef_reloc.specs.declared.fixup.Base.TheVariants.{Section};
 
-use crate::claim::Behind;
+use crate::claim::CheckedSuffix;
 use crate::classes::class_of;
-use crate::feasible::Under;
-use crate::runs::Tested;
-use pef_fixups::WORD;
+use crate::feasible::TestedFixup;
+use crate::fixups::WORD;
+use crate::runs::TestedState;
 use pef_reloc::Base;
 
-impl<'a> Behind<'a> {
+impl<'a> CheckedSuffix<'a> {
     /// Tests the labels of a section's fixup against the instructions that begin by adding it.
-    pub(crate) fn section_holds(self, under: Under, section: u32) -> bool
+    pub(crate) fn section_holds(self, under: TestedFixup, section: u32) -> bool
         requires under { UnderTest self under }
         requires base { under.fixup.base ≡ Section section }
         ensures { Says result (AllTests (labels_claimed self.entry.claim) (index_after (take under.at self.entry.claim.fixups.now) 0) under.fixup (drop (under.at + 1) self.entry.claim.fixups.now)) }
@@ -32,7 +32,7 @@ impl<'a> Behind<'a> {
 
     /// The same if the section goes on with the same labels. Then all runs hold but the pairs of the section
     /// with itself, where both registers hold it.
-    fn same_pairs_hold(self, under: Under, section: u32) -> bool
+    fn same_pairs_hold(self, under: TestedFixup, section: u32) -> bool
         requires under { UnderTest self under }
         requires base { under.fixup.base ≡ Section section }
         requires on { GoesOn self under (Section section) }
@@ -43,7 +43,7 @@ impl<'a> Behind<'a> {
     }
 
     /// Tests the labels of all states in which a register holds the section against runs of it.
-    fn section_runs_hold(self, under: Under, section: u32) -> bool
+    fn section_runs_hold(self, under: TestedFixup, section: u32) -> bool
         requires { UnderTest self under }
         ensures { Says result (SectionRuns (labels_claimed self.entry.claim) section under.fixup (drop (under.at + 1) self.entry.claim.fixups.now)) }
     {
@@ -60,7 +60,7 @@ impl<'a> Behind<'a> {
     }
 
     /// Tests a label where register C holds the section.
-    fn c_runs_hold(self, under: Under, section: u32, c: usize, d: usize) -> bool
+    fn c_runs_hold(self, under: TestedFixup, section: u32, c: usize, d: usize) -> bool
         requires under { UnderTest self under }
         requires c { c ≡ class_of self.claim.registers.now section }
         requires d { d < length self.claim.registers.now + 1 }
@@ -75,7 +75,7 @@ impl<'a> Behind<'a> {
     }
 
     /// Tests a label where register D holds the section.
-    fn d_runs_hold(self, under: Under, section: u32, c: usize, d: usize) -> bool
+    fn d_runs_hold(self, under: TestedFixup, section: u32, c: usize, d: usize) -> bool
         requires under { UnderTest self under }
         requires c { c < length self.claim.registers.now + 1 }
         requires d { d ≡ class_of self.claim.registers.now section }
@@ -90,7 +90,7 @@ impl<'a> Behind<'a> {
     }
 
     /// Tests a label against pairs of a section in register C and the base that comes next.
-    fn second_holds(self, tested: Tested, section: u32) -> bool
+    fn second_holds(self, tested: TestedState, section: u32) -> bool
         requires tests { Tests self tested }
         requires class { class_of self.claim.registers.now section ≡ tested.c }
         ensures { result ≡ second_test (labels_claimed self.entry.claim) tested.label section tested.c tested.d tested.fixup (drop (tested.at + 1) self.entry.claim.fixups.now) }
@@ -102,7 +102,7 @@ impl<'a> Behind<'a> {
     }
 
     /// Tests a label against pairs of a section in register C and a base.
-    fn pair_holds(self, tested: Tested, section: u32, second: Base) -> bool
+    fn pair_holds(self, tested: TestedState, section: u32, second: Base) -> bool
         requires tests { Tests self tested }
         requires class { class_of self.claim.registers.now section ≡ tested.c }
         ensures { result ≡ pair_test (labels_claimed self.entry.claim) tested.label section tested.c tested.d tested.fixup.offset (drop tested.at self.entry.claim.fixups.now) second }
@@ -114,7 +114,7 @@ impl<'a> Behind<'a> {
     }
 
     /// Tests a label against pairs of sections in registers C and D.
-    fn sections_hold(self, tested: Tested, section: u32, other: u32) -> bool
+    fn sections_hold(self, tested: TestedState, section: u32, other: u32) -> bool
         requires tests { Tests self tested }
         requires class { class_of self.claim.registers.now section ≡ tested.c }
         ensures { result ≡ pair_test (labels_claimed self.entry.claim) tested.label section tested.c tested.d tested.fixup.offset (drop tested.at self.entry.claim.fixups.now) (Section other) }

@@ -1,15 +1,15 @@
 ghost use Rattle.std.specs.Prelude.{◌≡◌, ◌↔◌, ◌*◌, ◌+◌, IsTrue, MatchOption, length, true};
 ghost use Rattle.pef_cert.specs.Kept.Claims.{Holds, IsClaim, RowsFit, Shaped};
-ghost use Rattle.pef_fixups.specs.Answers.{Says};
+ghost use Rattle.pef_cert.specs.Fixups.Answers.{Says};
 ghost use Rattle.pef_cert.specs.Valid.{RegistersOf, Valid};
 ghost use Rattle.pef_reloc.specs.Fixups.{fixups_fit};
 ghost use Rattle.pef_reloc.specs.Steps.{Least};
 
 use crate::claim::Claim;
 use crate::classes::class_of;
+use crate::fixups::{makes, program_length};
 use crate::registers::registers_hold;
-use pef_fixups::{makes, program_length};
-use pef_labels::{Certificate, LabelRows};
+use crate::{Certificate, LabelRows};
 use pef_reloc::{Fixup, Instr};
 
 /// Whether a certificate is valid for the fixups of its section; then its program makes them, and no

@@ -1,11 +1,11 @@
 ghost use Rattle.std.specs.Prelude.{◌≡◌, ◌+◌, ◌-◌, ◌*◌, ◌%◌, ◌^◌, ◌<◌, ◌≤◌, ℕ, IfSome, Some, [], drop, length, slice_get, slice_index_or};
 ghost use Rattle.pef_cert.specs.Extension.{change, extension, offer_at};
 ghost use Rattle.pef_cert.specs.Labels.{class_of};
-ghost use Rattle.pef_labels.specs.Rows.{rows_from};
+ghost use Rattle.pef_cert.specs.Rows.{rows_from};
 ghost use Rattle.pef_cert.specs.Kept.Claims.{IsRowOf, Sees, Shaped, labels_claimed, word_end};
 
+use crate::KeptRows;
 use crate::extension::moved_value;
-use pef_labels::KeptRows;
 use pef_reloc::{Base, Fixup, MAX_SECTIONS};
 
 /// How many indices behind the fixup under test can be asked for: no instruction makes more fixups.
@@ -24,7 +24,7 @@ pub(crate) struct Claim<'a> {
 
 /// A claim, and what was found behind the fixup under test.
 #[derive(Clone, Copy)]
-pub(crate) struct Behind<'a> {
+pub(crate) struct CheckedSuffix<'a> {
     pub(crate) claim: Claim<'a>,
     /// For each index, which kept row is its own; at the index modulo 1,024.
     pub(crate) rows: &'a [usize],
@@ -79,7 +79,7 @@ impl<'a> Claim<'a> {
     }
 }
 
-impl<'a> Behind<'a> {
+impl<'a> CheckedSuffix<'a> {
     /// The extension where the fixups from index `at` on are left, at a position after the word of the
     /// fixup before and in classes of the registers.
     pub(crate) fn value(self, at: usize, position: u64, c: usize, d: usize) -> u64

@@ -2,7 +2,7 @@ ghost use Rattle.std.specs.Prelude.{◌≡◌, ◌+◌, ◌^◌, ◌<◌, ◌≤
 ghost use Rattle.pef_cert.specs.Extension.{moved_value};
 ghost use Rattle.pef_cert.specs.Kept.Values.{offered};
 
-use pef_fixups::WORD;
+use crate::fixups::WORD;
 
 /// How many bytes an increment moves, at most.
 pub const REACH: u64 = 4096;

@@ -3,26 +3,26 @@ ghost use Rattle.pef_cert.specs.Feasible.{FeasibleAt};
 ghost use Rattle.pef_cert.specs.Kept.Claims.{GoesOn, SharesRow, Tests, UnderTest, labels_claimed, row_at, state_of};
 ghost use Rattle.pef_cert.specs.Kept.Sets.{RowHolds};
 ghost use Rattle.pef_cert.specs.Kept.Tests.{AllTests};
-ghost use Rattle.pef_fixups.specs.Answers.{Says};
+ghost use Rattle.pef_cert.specs.Fixups.Answers.{Says};
 ghost use Rattle.pef_reloc.specs.Deliveries.{index_after};
 
-use crate::claim::{Behind, WINDOW};
-use crate::runs::Tested;
+use crate::claim::{CheckedSuffix, WINDOW};
+use crate::fixups::WORD;
+use crate::runs::TestedState;
 use crate::sets::sets_hold;
-use pef_fixups::WORD;
 use pef_reloc::{Base, Fixup};
 
 /// A fixup under test: its index, and which kept row has its labels.
 #[derive(Clone, Copy)]
-pub(crate) struct Under {
+pub(crate) struct TestedFixup {
     pub(crate) at: usize,
     pub(crate) fixup: Fixup,
     pub(crate) row: usize,
 }
 
-impl<'a> Behind<'a> {
+impl<'a> CheckedSuffix<'a> {
     /// Whether the labels of a fixup are feasible.
-    pub(crate) fn fixup_holds(self, under: Under) -> bool
+    pub(crate) fn fixup_holds(self, under: TestedFixup) -> bool
         requires { UnderTest self under }
         ensures { Says result (FeasibleAt (labels_claimed self.entry.claim) (index_after (take under.at self.entry.claim.fixups.now) 0) under.fixup (drop (under.at + 1) self.entry.claim.fixups.now)) }
     {
@@ -34,7 +34,7 @@ impl<'a> Behind<'a> {
 
     /// Whether the change of one register changes the labels of a fixup by at most 1. If the fixup behind
     /// has the same kept row, that was tested there.
-    fn row_sets_hold(self, under: Under) -> bool
+    fn row_sets_hold(self, under: TestedFixup) -> bool
         requires { UnderTest self under }
         ensures { Says result (RowHolds (row_at self.entry.claim under.at) (length self.entry.claim.registers.now + 1)) }
     {
@@ -45,7 +45,7 @@ impl<'a> Behind<'a> {
     }
 
     /// Whether the fixup behind has the same kept row.
-    fn shares_row(self, under: Under) -> bool
+    fn shares_row(self, under: TestedFixup) -> bool
         requires { UnderTest self under }
         ensures { IsTrue result → SharesRow self.entry under }
     {
@@ -56,7 +56,7 @@ impl<'a> Behind<'a> {
     }
 
     /// Tests the labels of a fixup against all instructions that begin by adding at it.
-    fn all_additions_hold(self, under: Under) -> bool
+    fn all_additions_hold(self, under: TestedFixup) -> bool
         requires { UnderTest self under }
         ensures { Says result (AllTests (labels_claimed self.entry.claim) (index_after (take under.at self.entry.claim.fixups.now) 0) under.fixup (drop (under.at + 1) self.entry.claim.fixups.now)) }
     {
@@ -68,7 +68,7 @@ impl<'a> Behind<'a> {
 
     /// Whether the next word adds a base, by a fixup with the same kept row. If this base goes on with the
     /// runs of the fixup under test, they were tested there with the same labels.
-    pub(crate) fn goes_on(self, under: Under, base: Base) -> bool
+    pub(crate) fn goes_on(self, under: TestedFixup, base: Base) -> bool
         requires { UnderTest self under }
         ensures { IsTrue result → GoesOn self.entry under base }
     {
@@ -80,7 +80,7 @@ impl<'a> Behind<'a> {
     }
 
     /// The state of a fixup in two classes, with its label.
-    pub(crate) fn state(self, under: Under, c: usize, d: usize) -> Tested
+    pub(crate) fn state(self, under: TestedFixup, c: usize, d: usize) -> TestedState
         requires under { UnderTest self under }
         requires c { c < length self.claim.registers.now + 1 }
         requires d { d < length self.claim.registers.now + 1 }
@@ -89,7 +89,7 @@ impl<'a> Behind<'a> {
     {
         let label = self.claim.label(under.row, c, d);
         let (at, fixup) = (under.at, under.fixup);
-        Tested {
+        TestedState {
             at,
             fixup,
             c,

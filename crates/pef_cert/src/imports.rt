@@ -2,12 +2,12 @@ ghost use Rattle.std.specs.Prelude.{◌≡◌, ◌+◌, ◌^◌, ◌<◌, ◌≤
 ghost use Rattle.pef_cert.specs.Kept.Claims.{UnderTest, labels_claimed};
 ghost use Rattle.pef_cert.specs.Kept.Tests.{AllTests, ImportRuns, LineImports};
 ghost use Rattle.pef_cert.specs.LabelTests.{import_cost};
-ghost use Rattle.pef_fixups.specs.Answers.{Says};
+ghost use Rattle.pef_cert.specs.Fixups.Answers.{Says};
 ghost use Rattle.pef_reloc.specs.Deliveries.{index_after};
 ghost use Rattle.pef_reloc.specs.declared.fixup.Base.TheVariants.{Import};
 
-use crate::claim::{Behind, Claim};
-use crate::feasible::Under;
+use crate::claim::{CheckedSuffix, Claim};
+use crate::feasible::TestedFixup;
 use pef_reloc::Base;
 
 /// How many imports can be named in nine bits.
@@ -38,9 +38,9 @@ impl<'a> Claim<'a> {
     }
 }
 
-impl<'a> Behind<'a> {
+impl<'a> CheckedSuffix<'a> {
     /// Tests the labels of an import's fixup against the instructions that begin by adding it.
-    pub(crate) fn import_holds(self, under: Under, import: u32) -> bool
+    pub(crate) fn import_holds(self, under: TestedFixup, import: u32) -> bool
         requires under { UnderTest self under }
         requires base { under.fixup.base ≡ Import import }
         ensures { Says result (AllTests (labels_claimed self.entry.claim) (index_after (take under.at self.entry.claim.fixups.now) 0) under.fixup (drop (under.at + 1) self.entry.claim.fixups.now)) }
@@ -58,7 +58,7 @@ impl<'a> Behind<'a> {
     }
 
     /// Tests the labels of the next import's fixup against runs of imports.
-    fn import_runs_hold(self, under: Under, import: u32) -> bool
+    fn import_runs_hold(self, under: TestedFixup, import: u32) -> bool
         requires under { UnderTest self under }
         requires import { import < 2 ^ 31 }
         requires index { import ≡ index_after (take under.at self.claim.fixups.now) 0 }
@@ -73,7 +73,7 @@ impl<'a> Behind<'a> {
     }
 
     /// Tests those with register C in a class.
-    fn line_imports_hold(self, under: Under, import: u32, c: usize) -> bool
+    fn line_imports_hold(self, under: TestedFixup, import: u32, c: usize) -> bool
         requires under { UnderTest self under }
         requires import { import < 2 ^ 31 }
         requires index { import ≡ index_after (take under.at self.claim.fixups.now) 0 }

@@ -1,26 +1,36 @@
-//! Certificates: that a relocation program has no more halfwords than any other that makes the same
-//! fixups.
+//! Certificates: that a relocation program has no more halfwords than any other that makes the same fixups.
+//!
+//! [`check`] says whether a [`Certificate`] is valid for some fixups. [`Certificate::read`] and [`Certificate::print`] are the text of
+//! certificates: a certificate for each section of a script.
 #![tactic(auto)]
 
 mod additions;
+mod certificate;
 mod checking;
 mod claim;
 mod classes;
 mod extension;
 mod feasible;
+mod fixups;
 mod imports;
 mod registers;
+mod rows;
 mod runs;
 mod sets;
 mod singles;
 mod skips;
 mod sweep;
+mod text;
 mod theorems;
 
+pub use certificate::Certificate;
 pub use checking::check;
 pub use classes::{change, class_of};
 pub use extension::{REACH, SKIP_REACH, moved_value};
+pub use fixups::{WORD, adds_at, behind_first, behind_import, program_length};
 pub use registers::{rise, uses_section};
+pub use rows::{KeptRows, LabelRows, LabelRun, LabelRuns};
+pub use text::{CertFault, printed_texts, read_texts, valid_certificates_print};
 pub use theorems::{
     extension_of_labels, extensions_fall, labels_are_near, valid_programs_are_least,
 };

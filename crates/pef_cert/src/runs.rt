@@ -4,8 +4,8 @@ ghost use Rattle.pef_cert.specs.Kept.Tests.{adds_first};
 ghost use Rattle.pef_cert.specs.LabelTests.{numbered_test, one_from, pairs_test, row_test};
 ghost use Rattle.pef_reloc.specs.Deliveries.{index_after};
 
-use crate::claim::{Behind, Claim};
-use pef_fixups::{WORD, adds_at};
+use crate::claim::{CheckedSuffix, Claim};
+use crate::fixups::{WORD, adds_at};
 use pef_reloc::{Base, Fixup};
 
 /// The most words, pairs or imports of a run.
@@ -13,7 +13,7 @@ const MAX_RUN: u32 = 512;
 
 /// A state at a fixup's offset: the fixup and its index, the classes of the registers, and the label.
 #[derive(Clone, Copy)]
-pub(crate) struct Tested {
+pub(crate) struct TestedState {
     pub(crate) at: usize,
     pub(crate) fixup: Fixup,
     pub(crate) c: usize,
@@ -42,9 +42,9 @@ impl<'a> Claim<'a> {
     }
 }
 
-impl<'a> Behind<'a> {
+impl<'a> CheckedSuffix<'a> {
     /// Whether the label is at most 1 and the extension from index `at` on.
-    pub(crate) fn follows(self, tested: Tested, at: usize, position: u64) -> bool
+    pub(crate) fn follows(self, tested: TestedState, at: usize, position: u64) -> bool
         requires tests { Tests self tested }
         requires sees { Sees self at }
         requires after { word_end self.claim.fixups.now at ≤ position }
@@ -55,7 +55,7 @@ impl<'a> Behind<'a> {
 
     /// Whether an index is behind the fixup under test and its label in the same classes is at least the
     /// tested one. If a run goes on there, the tests of that label cover every longer end.
-    fn covers(self, tested: Tested, at: usize) -> bool
+    fn covers(self, tested: TestedState, at: usize) -> bool
         requires tests { Tests self tested }
         requires from { tested.at ≤ at }
         requires before { at < tested.at + 1024 }
@@ -69,7 +69,13 @@ impl<'a> Behind<'a> {
     }
 
     /// Tests a label behind each run of a base, `stride` bytes apart, that begins at a position.
-    pub(crate) fn row_holds(self, tested: Tested, position: u64, stride: u64, base: Base) -> bool
+    pub(crate) fn row_holds(
+        self,
+        tested: TestedState,
+        position: u64,
+        stride: u64,
+        base: Base,
+    ) -> bool
         requires tests { Tests self tested }
         requires position { position < 2 ^ 32 }
         requires stride { 4 ≤ stride }
@@ -99,7 +105,7 @@ impl<'a> Behind<'a> {
     /// position.
     pub(crate) fn pairs_hold(
         self,
-        tested: Tested,
+        tested: TestedState,
         position: u64,
         stride: u64,
         first: Base,
@@ -131,7 +137,7 @@ impl<'a> Behind<'a> {
     }
 
     /// Tests a label behind each run of imports, from one on, that begins at a position.
-    pub(crate) fn imports_hold(self, tested: Tested, position: u64, first: u32) -> bool
+    pub(crate) fn imports_hold(self, tested: TestedState, position: u64, first: u32) -> bool
         requires tests { Tests self tested }
         requires position { position < 2 ^ 32 }
         requires first { first < 2 ^ 31 }

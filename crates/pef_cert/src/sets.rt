@@ -1,6 +1,6 @@
 ghost use Rattle.std.specs.Prelude.{◌≡◌, ◌+◌, ◌*◌, ◌<◌, ℕ, length};
 ghost use Rattle.pef_cert.specs.Kept.Sets.{LineHolds, LinesHold, RowHolds};
-ghost use Rattle.pef_fixups.specs.Answers.{Says};
+ghost use Rattle.pef_cert.specs.Fixups.Answers.{Says};
 
 /// Whether the change of one register changes the labels of a row by at most 1, with so many classes.
 pub(crate) fn sets_hold(row: &[u32], classes: usize) -> bool

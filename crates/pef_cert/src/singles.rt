@@ -1,15 +1,15 @@
 ghost use Rattle.std.specs.Prelude.{◌≡◌, ◌+◌, ◌<◌, drop, length};
 ghost use Rattle.pef_cert.specs.Kept.Claims.{UnderTest, labels_claimed};
 ghost use Rattle.pef_cert.specs.Kept.Tests.{AllSingles, LineSingles, single_test};
-ghost use Rattle.pef_fixups.specs.Answers.{Says};
+ghost use Rattle.pef_cert.specs.Fixups.Answers.{Says};
 
-use crate::claim::Behind;
-use crate::feasible::Under;
-use pef_fixups::WORD;
+use crate::claim::CheckedSuffix;
+use crate::feasible::TestedFixup;
+use crate::fixups::WORD;
 
-impl<'a> Behind<'a> {
+impl<'a> CheckedSuffix<'a> {
     /// Tests the labels of a fixup against its addition alone, in `cost` halfwords.
-    pub(crate) fn singles_hold(self, under: Under, cost: u32) -> bool
+    pub(crate) fn singles_hold(self, under: TestedFixup, cost: u32) -> bool
         requires { UnderTest self under }
         ensures { Says result (AllSingles (labels_claimed self.entry.claim) cost under.fixup (drop (under.at + 1) self.entry.claim.fixups.now)) }
     {
@@ -22,7 +22,7 @@ impl<'a> Behind<'a> {
     }
 
     /// Tests those with register C in a class.
-    fn line_singles_hold(self, under: Under, cost: u32, c: usize) -> bool
+    fn line_singles_hold(self, under: TestedFixup, cost: u32, c: usize) -> bool
         requires under { UnderTest self under }
         requires c { c < length self.claim.registers.now + 1 }
         ensures { Says result (LineSingles (labels_claimed self.entry.claim) cost under.fixup (drop (under.at + 1) self.entry.claim.fixups.now) c) }
@@ -36,7 +36,7 @@ impl<'a> Behind<'a> {
     }
 
     /// Tests that of a state.
-    fn single_holds(self, under: Under, cost: u32, c: usize, d: usize) -> bool
+    fn single_holds(self, under: TestedFixup, cost: u32, c: usize, d: usize) -> bool
         requires under { UnderTest self under }
         requires c { c < length self.claim.registers.now + 1 }
         requires d { d < length self.claim.registers.now + 1 }

@@ -4,15 +4,15 @@ ghost use Rattle.pef_cert.specs.Kept.Claims.{Skips, labels_claimed};
 ghost use Rattle.pef_cert.specs.Labels.{class_of};
 ghost use Rattle.pef_reloc.specs.declared.fixup.Base.TheVariants.{Section};
 
-use crate::claim::{Behind, MAX_CLASSES};
+use crate::claim::{CheckedSuffix, MAX_CLASSES};
 use crate::classes::class_of;
-use pef_fixups::WORD;
+use crate::fixups::WORD;
 use pef_reloc::{Base, Fixup};
 
 /// The most words that a skip adds to behind the first.
 const MORE_WORDS: u32 = 62;
 
-impl<'a> Behind<'a> {
+impl<'a> CheckedSuffix<'a> {
     /// The least that a skip of no words leads to at index `at`, whose fixup has a section, with register C
     /// in a class: 1 and the extension behind some of the words of the section there.
     pub(crate) fn least_skip(self, at: usize, fixup: Fixup, section: u32, c: usize) -> u64

@@ -3,13 +3,13 @@ ghost use Rattle.pef_cert.specs.Extension.{extension_at};
 ghost use Rattle.pef_cert.specs.Feasible.{Feasible};
 ghost use Rattle.pef_cert.specs.Kept.Claims.{FeasibleBehind, IsRowOf, Knows, Shaped, Skips, SkipsAre, labels_claimed, word_end};
 ghost use Rattle.pef_cert.specs.Kept.Sets.{RowIsZero};
-ghost use Rattle.pef_fixups.specs.Answers.{Says};
+ghost use Rattle.pef_cert.specs.Fixups.Answers.{Says};
 ghost use Rattle.pef_reloc.specs.Steps.{start};
 
-use crate::claim::{Behind, Claim, MAX_CLASSES, WINDOW};
+use crate::claim::{CheckedSuffix, Claim, MAX_CLASSES, WINDOW};
 use crate::classes::class_of;
-use crate::feasible::Under;
-use pef_fixups::WORD;
+use crate::feasible::TestedFixup;
+use crate::fixups::WORD;
 use pef_reloc::{Base, Fixup};
 
 impl<'a> Claim<'a> {
@@ -31,12 +31,12 @@ impl<'a> Claim<'a> {
             at -= 1;
             row = self.row_before(row, at);
             let fixup = self.fixups[at];
-            let behind = Behind {
+            let behind = CheckedSuffix {
                 claim: self,
                 rows: &rows,
                 skips: &skips,
             };
-            if !behind.fixup_holds(Under { at, fixup, row }) {
+            if !behind.fixup_holds(TestedFixup { at, fixup, row }) {
                 return None;
             }
             let least = behind.skips_after_gap(at, fixup);
@@ -45,7 +45,7 @@ impl<'a> Claim<'a> {
                 skips[at % WINDOW] = least;
             }
         }
-        let behind = Behind {
+        let behind = CheckedSuffix {
             claim: self,
             rows: &rows,
             skips: &skips,
@@ -91,7 +91,7 @@ fn is_zero(row: &[u32]) -> bool
     true
 }
 
-impl<'a> Behind<'a> {
+impl<'a> CheckedSuffix<'a> {
     /// The least skips at index `at`, which has this fixup, by the class of register C. `None` if the word
     /// before leaves no gap: no move leads to the fixup then.
     fn skips_after_gap(self, at: usize, fixup: Fixup) -> Option<[u32; MAX_CLASSES]>

@@ -2,7 +2,7 @@
 ghost use Rattle.std.specs.Prelude.{◌≡◌, ◌≤◌, ◌<◌, ◌+◌, ◌-◌, ◌==◌, ◌∷◌, ℕ, List, Some, length, true};
 ghost use Rattle.pef_cert.specs.Extension.{at_offset, extension, extension_at, moved_value, offer_at};
 ghost use Rattle.pef_cert.specs.Labels.{Labels, classes};
-ghost use Rattle.pef_labels.specs.Certified.{Certified};
+ghost use Rattle.pef_cert.specs.Certified.{Certified};
 ghost use Rattle.pef_cert.specs.Valid.{Trusted, Valid};
 ghost use Rattle.pef_reloc.specs.Deliveries.{Delivers, StandsBehind, is_flat_instr};
 ghost use Rattle.pef_reloc.specs.Fixups.{fixups_fit};

@@ -19,19 +19,19 @@ use Rattle.pef_cert.specs.Extension.{OfferIs, extension, skips_at}
 use Rattle.pef_cert.specs.Feasible.{FeasibleAt}
 use Rattle.pef_cert.specs.Valid.{RegistersOf}
 use Rattle.pef_cert.proofs.Laws.{Numbers, RegisteredBase, World, all_registered, class_of-below, extension-here, feasible-tested, few_rising, index_behind, numbers, offer-import, offer-section}
-use Rattle.pef_runs.specs.declared.known.Known.{Known}
-use Rattle.pef_runs.specs.declared.place.At.{At}
-use Rattle.pef_runs.specs.declared.ends.RunEnds.{RunEnds}
-use Rattle.pef_runs.specs.Ends.{EndsAt, EndsOf}
-use Rattle.pef_runs.specs.Places.{AtOf, Counts}
+use Rattle.pef_plan.specs.declared.runs.suffix.SolvedSuffix.{SolvedSuffix}
+use Rattle.pef_plan.specs.declared.runs.state.FixupState.{FixupState}
+use Rattle.pef_plan.specs.declared.runs.ends.RunEnds.{RunEnds}
+use Rattle.pef_plan.specs.Runs.Ends.{EndsAt, EndsOf}
+use Rattle.pef_plan.specs.Runs.Places.{AtOf, Counts}
 use Rattle.pef_plan.specs.Kept.Rows.{RowOf, SkipsOf}
-use Rattle.pef_runs.specs.Tables.{Agrees, OffersAre, OffersFrom, SameLabels, Shaped, label_in, number_in, place_of, skip_in}
-use Rattle.pef_labels.specs.Rows.{LaidRows}
+use Rattle.pef_plan.specs.Runs.Tables.{Agrees, OffersAre, OffersFrom, SameLabels, Shaped, label_in, number_in, place_of, skip_in}
+use Rattle.pef_cert.specs.Rows.{LaidRows}
 use Rattle.pef_words.proofs.Laws.Lists.{all-append}
 use Rattle.pef_plan.specs.Kept.Tables.{Tabled, TablesOf}
-use Rattle.pef_runs.specs.Leads.{LeadsWithin}
+use Rattle.pef_plan.specs.Runs.Leads.{LeadsWithin}
 use Rattle.pef_plan.specs.Reached.{ReachedAt}
-use Rattle.pef_runs.proofs.Laws.{ends-map}
+use Rattle.pef_plan.proofs.RunsProofs.EndsKept.{ends-map}
 use Rattle.pef_reloc.specs.Limits.{most_imports, most_sections}
 
 counts-one : (rs : List ℕ) (b : Base) → RegisteredBase rs b → Counts rs b
@@ -94,16 +94,16 @@ offers_before l skips line (f ∷ rest) count offers = (
 )
 
 -- labels that are those of a row, at its fixup
-record RowLabels (l : Labels) (k : Known) (a : At) (row : List ℕ) : Type 0 where
+record RowLabels (l : Labels) (k : SolvedSuffix) (a : FixupState) (row : List ℕ) : Type 0 where
   agrees : Agrees l k a.others.now
   numbers : Numbers l
   row_is : RowOf k a row
   is : (c d : ℕ) → c < classes l → d < classes l → l.label (length (a.first ∷ a.others.now)) c d ≡ number_in (length k.registers.now + 1) row c d
 
-under_same : (l : Labels) (k : Known) (c : ℕ) → l.registers ≡ k.registers.now → c < classes l → c < length k.registers.now + 1
+under_same : (l : Labels) (k : SolvedSuffix) (c : ℕ) → l.registers ≡ k.registers.now → c < classes l → c < length k.registers.now + 1
 under_same l k c same under = let e = ap length same in omega (arith, e, under)
 
-row_feasible : (l : Labels) (k : Known) (a : At) (row : List ℕ) → RowLabels l k a row → FeasibleAt l a.import_index a.first a.others.now
+row_feasible : (l : Labels) (k : SolvedSuffix) (a : FixupState) (row : List ℕ) → RowLabels l k a row → FeasibleAt l a.import_index a.first a.others.now
 row_feasible l k a row r =
     let same = r.agrees.same.registers_are in
     let closed = r.row_is.closed in
@@ -126,7 +126,7 @@ row_feasible l k a row r =
           (r.row_is.direct_is c d (under_same l k c same under_c) (under_same l k d same under_d)).least l (l.label (length (a.first ∷ a.others.now)) c d) r.agrees (omega (arith, low, here));
     })
 
-row_reached : (l : Labels) (k : Known) (a : At) (row : List ℕ) → RowLabels l k a row → ReachedAt l a.import_index a.first a.others.now
+row_reached : (l : Labels) (k : SolvedSuffix) (a : FixupState) (row : List ℕ) → RowLabels l k a row → ReachedAt l a.import_index a.first a.others.now
 row_reached l k a row r s at =
     let same = r.agrees.same.registers_are in
     let c : ℕ = class_of l.registers s.c in
@@ -172,7 +172,7 @@ row_reached l k a row r s at =
     ]
 
 -- the offers at the fixup of a line of least skips
-line_offers : (l : Labels) (k : Known) (a : At) (line : List ℕ) (index c d : ℕ) (b : Base) → World l index a.others.now → Agrees l k a.others.now → SkipsOf k a line → Counts l.registers b → a.first.base ≡ b → c < classes l → OfferIs l a.first a.others.now c d (slice_index line c) b
+line_offers : (l : Labels) (k : SolvedSuffix) (a : FixupState) (line : List ℕ) (index c d : ℕ) (b : Base) → World l index a.others.now → Agrees l k a.others.now → SkipsOf k a line → Counts l.registers b → a.first.base ≡ b → c < classes l → OfferIs l a.first a.others.now c d (slice_index line c) b
 line_offers l k a line index c d (Section section) world agrees skips counts base under =
     let same = agrees.same.registers_are in
     let is = skips.is l section c agrees base (under_same l k c same under) in
@@ -181,7 +181,7 @@ line_offers l k a line index c d (Section section) world agrees skips counts bas
 line_offers l k a line index c d (Import import) world agrees skips counts base under = offer-import l a.first a.others.now c d import base
 
 -- tables with a row more
-pub record RowMore (rs : List ℕ) (k : Known) (a : At) (labels : List (List ℕ)) (skips : List (List ℕ)) (row : List ℕ) (line : List ℕ) : Type 0 where
+pub record RowMore (rs : List ℕ) (k : SolvedSuffix) (a : FixupState) (labels : List (List ℕ)) (skips : List (List ℕ)) (row : List ℕ) (line : List ℕ) : Type 0 where
   pub at : AtOf k a
   pub registers_are : k.registers.now ≡ rs
   pub labels_are : k.labels.now.rows ≡ labels
@@ -189,13 +189,13 @@ pub record RowMore (rs : List ℕ) (k : Known) (a : At) (labels : List (List ℕ
   pub row_is : RowOf k a row
   pub line_is : SkipsOf k a line
 
-row_agrees : (l : Labels) (rs : List ℕ) (labels : List (List ℕ)) (skips : List (List ℕ)) (k : Known) (a : At) (row : List ℕ) (line : List ℕ) (index : ℕ) → Tabled rs labels skips index a.others.now → RowMore rs k a labels skips row line → SameLabels l rs labels (length a.others.now) → Agrees l k a.others.now
+row_agrees : (l : Labels) (rs : List ℕ) (labels : List (List ℕ)) (skips : List (List ℕ)) (k : SolvedSuffix) (a : FixupState) (row : List ℕ) (line : List ℕ) (index : ℕ) → Tabled rs labels skips index a.others.now → RowMore rs k a labels skips row line → SameLabels l rs labels (length a.others.now) → Agrees l k a.others.now
 row_agrees l rs labels skips k a row line index t m same = record {
   same = subst (λ (xs : List ℕ). SameLabels l xs k.labels.now.rows (length a.others.now)) (sym m.registers_are) (subst (λ (xs : List (List ℕ)). SameLabels l rs xs (length a.others.now)) (sym m.labels_are) same);
   offers = subst (λ (xs : List (List ℕ)). OffersFrom l xs a.others.now) (sym m.skips_are) (t.offers l same);
 }
 
-row_labels : (l : Labels) (rs : List ℕ) (labels : List (List ℕ)) (skips : List (List ℕ)) (k : Known) (a : At) (row : List ℕ) (line : List ℕ) (index : ℕ) → Tabled rs labels skips index a.others.now → RowMore rs k a labels skips row line → Numbers l → SameLabels l rs (labels ++ row ∷ []) (suc (length a.others.now)) → RowLabels l k a row
+row_labels : (l : Labels) (rs : List ℕ) (labels : List (List ℕ)) (skips : List (List ℕ)) (k : SolvedSuffix) (a : FixupState) (row : List ℕ) (line : List ℕ) (index : ℕ) → Tabled rs labels skips index a.others.now → RowMore rs k a labels skips row line → Numbers l → SameLabels l rs (labels ++ row ∷ []) (suc (length a.others.now)) → RowLabels l k a row
 row_labels l rs labels skips k a row line index t m numbers same = record {
   agrees = row_agrees l rs labels skips k a row line index t m (same_before l rs labels row (length a.others.now) t.labels_count same);
   numbers = numbers;
@@ -206,7 +206,7 @@ row_labels l rs labels skips k a row line index t m numbers same = record {
       ∙ ap (λ xs. number_in (length xs + 1) row c d) (sym m.registers_are);
 }
 
-row_offers : (l : Labels) (rs : List ℕ) (labels : List (List ℕ)) (skips : List (List ℕ)) (k : Known) (a : At) (row : List ℕ) (line : List ℕ) (index : ℕ) → Tabled rs labels skips index a.others.now → RowMore rs k a labels skips row line → Numbers l → SameLabels l rs (labels ++ row ∷ []) (suc (length a.others.now)) → OffersAre l (skips ++ line ∷ []) a.first a.others.now
+row_offers : (l : Labels) (rs : List ℕ) (labels : List (List ℕ)) (skips : List (List ℕ)) (k : SolvedSuffix) (a : FixupState) (row : List ℕ) (line : List ℕ) (index : ℕ) → Tabled rs labels skips index a.others.now → RowMore rs k a labels skips row line → Numbers l → SameLabels l rs (labels ++ row ∷ []) (suc (length a.others.now)) → OffersAre l (skips ++ line ∷ []) a.first a.others.now
 row_offers l rs labels skips k a row line index t m numbers same c d under_c under_d =
     let before = same_before l rs labels row (length a.others.now) t.labels_count same in
     let agrees = row_agrees l rs labels skips k a row line index t m before in
@@ -220,7 +220,7 @@ row_offers l rs labels skips k a row line index t m numbers same c d under_c und
     subst (λ (x : ℕ). OfferIs l a.first a.others.now c d x a.first.base) (sym value)
     (line_offers l k a line index c d a.first.base world agrees m.line_is counts.0 refl under_c)
 
-label_small_more : (rs : List ℕ) (labels : List (List ℕ)) (skips : List (List ℕ)) (k : Known) (a : At) (row : List ℕ) (line : List ℕ) (index left c d : ℕ) → Tabled rs labels skips index a.others.now → RowMore rs k a labels skips row line → left ≤ suc (length a.others.now) → c < length rs + 1 → d < length rs + 1 → label_in (length rs + 1) (labels ++ row ∷ []) left c d ≤ 4 * left
+label_small_more : (rs : List ℕ) (labels : List (List ℕ)) (skips : List (List ℕ)) (k : SolvedSuffix) (a : FixupState) (row : List ℕ) (line : List ℕ) (index left c d : ℕ) → Tabled rs labels skips index a.others.now → RowMore rs k a labels skips row line → left ≤ suc (length a.others.now) → c < length rs + 1 → d < length rs + 1 → label_in (length rs + 1) (labels ++ row ∷ []) left c d ≤ 4 * left
 label_small_more rs labels skips k a row line index left c d t m under under_c under_d =
     let count = t.labels_count in
     elim (eqb_tells left (suc (length a.others.now))) [
@@ -243,7 +243,7 @@ label_small_more rs labels skips k a row line index left c d t m under under_c u
           omega (arith, same, low, small, is, wide))
     ]
 
-skip_small_more : (rs : List ℕ) (labels : List (List ℕ)) (skips : List (List ℕ)) (k : Known) (a : At) (row : List ℕ) (line : List ℕ) (index left c : ℕ) → Tabled rs labels skips index a.others.now → RowMore rs k a labels skips row line → left ≤ suc (length a.others.now) → c < length rs + 1 → skip_in (skips ++ line ∷ []) left c ≤ 4 * left
+skip_small_more : (rs : List ℕ) (labels : List (List ℕ)) (skips : List (List ℕ)) (k : SolvedSuffix) (a : FixupState) (row : List ℕ) (line : List ℕ) (index left c : ℕ) → Tabled rs labels skips index a.others.now → RowMore rs k a labels skips row line → left ≤ suc (length a.others.now) → c < length rs + 1 → skip_in (skips ++ line ∷ []) left c ≤ 4 * left
 skip_small_more rs labels skips k a row line index left c t m under under_c =
     let count = t.skips_count in
     elim (eqb_tells left (suc (length a.others.now))) [
@@ -262,7 +262,7 @@ skip_small_more rs labels skips k a row line index left c t m under under_c =
           omega (arith, same, small, is))
     ]
 
-tabled-next : (rs : List ℕ) (labels : List (List ℕ)) (skips : List (List ℕ)) (k : Known) (a : At) (row : List ℕ) (line : List ℕ) (index : ℕ) → Tabled rs labels skips (index_past a.first.base index) a.others.now → RowMore rs k a labels skips row line → a.import_index ≡ index → ((l : Labels) → l.registers ≡ rs → Numbers l) → Tabled rs (labels ++ row ∷ []) (skips ++ line ∷ []) index (a.first ∷ a.others.now)
+tabled-next : (rs : List ℕ) (labels : List (List ℕ)) (skips : List (List ℕ)) (k : SolvedSuffix) (a : FixupState) (row : List ℕ) (line : List ℕ) (index : ℕ) → Tabled rs labels skips (index_past a.first.base index) a.others.now → RowMore rs k a labels skips row line → a.import_index ≡ index → ((l : Labels) → l.registers ≡ rs → Numbers l) → Tabled rs (labels ++ row ∷ []) (skips ++ line ∷ []) index (a.first ∷ a.others.now)
 tabled-next rs labels skips k a row line index t m here numbers = record {
   labels_count = (let count = t.labels_count in let sum = length-append labels (row ∷ []) in omega (arith, count, sum));
   skips_count = (let count = t.skips_count in let sum = length-append skips (line ∷ []) in omega (arith, count, sum));
@@ -304,21 +304,21 @@ indices-more P indices at index count are is i under =
     ]
 
 -- the state at the fixup of an index
-pub record StateAt (fixups : List Fixup) (at : ℕ) (a : At) : Type 0 where
+pub record StateAt (fixups : List Fixup) (at : ℕ) (a : FixupState) : Type 0 where
   pub left : a.left.now ≡ drop at fixups
   pub parts : drop at fixups ≡ a.first ∷ a.others.now
   pub others : a.others.now ≡ drop (at + 1) fixups
   pub import_index : a.import_index ≡ index_after (take at fixups) 0
 
 -- the tables are those that are known there
-pub record KnownOf (k : Known) (rs : List ℕ) (labels : List (List ℕ)) (skips : List (List ℕ)) : Type 0 where
+pub record KnownOf (k : SolvedSuffix) (rs : List ℕ) (labels : List (List ℕ)) (skips : List (List ℕ)) : Type 0 where
   pub registers_are : k.registers.now ≡ rs
   pub labels_are : k.labels.now.rows ≡ labels
   pub skips_are : k.skips.now.rows ≡ skips
   pub labels_wide : k.labels.now.width ≡ (length rs + 1) * (length rs + 1)
   pub skips_wide : k.skips.now.width ≡ length rs + 1
 
-pub known_shaped : (fixups : List Fixup) (rs : List ℕ) (labels : List (List ℕ)) (skips : List (List ℕ)) (k : Known) (index : ℕ) (rest : List Fixup) → fixups_fit fixups ≡ true → RegistersOf fixups rs → length rest ≤ length fixups → Tabled rs labels skips index rest → KnownOf k rs labels skips → Shaped k (length rest)
+pub known_shaped : (fixups : List Fixup) (rs : List ℕ) (labels : List (List ℕ)) (skips : List (List ℕ)) (k : SolvedSuffix) (index : ℕ) (rest : List Fixup) → fixups_fit fixups ≡ true → RegistersOf fixups rs → length rest ≤ length fixups → Tabled rs labels skips index rest → KnownOf k rs labels skips → Shaped k (length rest)
 known_shaped fixups rs labels skips k index rest fit right few t known =
     let regs = known.registers_are in
     let e = ap length regs in
@@ -340,7 +340,7 @@ known_shaped fixups rs labels skips k index rest fit right few t known =
           omega (arith, low, same);
     }
 
-pub fill-at : (fixups : List Fixup) (rs : List ℕ) (labels : List (List ℕ)) (skips : List (List ℕ)) (at n index : ℕ) (k : Known) (a : At) → fixups_fit fixups ≡ true → RegistersOf fixups rs → n ≡ at + 1 → n ≤ length fixups → Tabled rs labels skips index (drop n fixups) → KnownOf k rs labels skips → StateAt fixups at a → AtOf k a
+pub fill-at : (fixups : List Fixup) (rs : List ℕ) (labels : List (List ℕ)) (skips : List (List ℕ)) (at n index : ℕ) (k : SolvedSuffix) (a : FixupState) → fixups_fit fixups ≡ true → RegistersOf fixups rs → n ≡ at + 1 → n ≤ length fixups → Tabled rs labels skips index (drop n fixups) → KnownOf k rs labels skips → StateAt fixups at a → AtOf k a
 fill-at fixups rs labels skips at n index k a fit right step inside t known state =
     let rest : drop n fixups ≡ a.others.now = ap (λ m. drop m fixups) step ∙ sym state.others in
     let fewer = length-drop n fixups in
@@ -355,13 +355,13 @@ fill-at fixups rs labels skips at n index k a fit right step inside t known stat
       import_small = (let low = index-small (take at fixups) 0 (all-take (λ f. fixup_fits f ≡ true) at fixups (each_fits fixups fit)) (omega arith) in let is = state.import_index in omega (arith, low, is));
     }
 
-first_is : (fixups : List Fixup) (at : ℕ) (a : At) → at < length fixups → StateAt fixups at a → index_after (take (at + 1) fixups) 0 ≡ index_past a.first.base (index_after (take at fixups) 0)
+first_is : (fixups : List Fixup) (at : ℕ) (a : FixupState) → at < length fixups → StateAt fixups at a → index_after (take (at + 1) fixups) 0 ≡ index_past a.first.base (index_after (take at fixups) 0)
 first_is fixups at a under state =
     let whole : slice_index_or fixups at a.first ∷ drop (suc at) fixups ≡ a.first ∷ a.others.now = sym (drop-cons fixups at a.first under) ∙ state.parts in
     let same : slice_index_or fixups at a.first ≡ a.first = cc in
     index_behind fixups at a.first under ∙ ap (λ (f : Fixup). index_past f.base (index_after (take at fixups) 0)) same
 
-pub fill-next : (fixups : List Fixup) (rs : List ℕ) (labels : List (List ℕ)) (skips : List (List ℕ)) (at n : ℕ) (k : Known) (a : At) (row : List ℕ) (line : List ℕ) → fixups_fit fixups ≡ true → RegistersOf fixups rs → n ≡ at + 1 → n ≤ length fixups → Tabled rs labels skips (index_after (take n fixups) 0) (drop n fixups) → KnownOf k rs labels skips → StateAt fixups at a → RowOf k a row → SkipsOf k a line → Tabled rs (labels ++ row ∷ []) (skips ++ line ∷ []) (index_after (take at fixups) 0) (drop at fixups)
+pub fill-next : (fixups : List Fixup) (rs : List ℕ) (labels : List (List ℕ)) (skips : List (List ℕ)) (at n : ℕ) (k : SolvedSuffix) (a : FixupState) (row : List ℕ) (line : List ℕ) → fixups_fit fixups ≡ true → RegistersOf fixups rs → n ≡ at + 1 → n ≤ length fixups → Tabled rs labels skips (index_after (take n fixups) 0) (drop n fixups) → KnownOf k rs labels skips → StateAt fixups at a → RowOf k a row → SkipsOf k a line → Tabled rs (labels ++ row ∷ []) (skips ++ line ∷ []) (index_after (take at fixups) 0) (drop at fixups)
 fill-next fixups rs labels skips at n k a row line fit right step inside t known state row_is line_is =
     let index : index_after (take n fixups) 0 ≡ index_past a.first.base (index_after (take at fixups) 0) = ap (λ m. index_after (take m fixups) 0) step ∙ first_is fixups at a (omega (arith, step, inside)) state in
     let rest : drop n fixups ≡ a.others.now = ap (λ m. drop m fixups) step ∙ sym state.others in
@@ -377,7 +377,7 @@ fill-next fixups rs labels skips at n k a row line fit right step inside t known
     }) state.import_index (λ l same. numbers fixups l fit (subst (λ (xs : List ℕ). RegistersOf fixups xs) (sym same) right)))
 
 -- the windows at the fixup of an index, and at the next one that is filled
-pub ends-at : (fixups : List Fixup) (rs : List ℕ) (labels : List (List ℕ)) (skips : List (List ℕ)) (at n : ℕ) (k : Known) (a : At) (e : RunEnds) → n ≡ at + 1 → KnownOf k rs labels skips → StateAt fixups at a → EndsOf (λ l. SameLabels l rs labels (length (drop n fixups))) (length rs + 1) (drop n fixups) e → EndsAt k a.others.now a.others.now e
+pub ends-at : (fixups : List Fixup) (rs : List ℕ) (labels : List (List ℕ)) (skips : List (List ℕ)) (at n : ℕ) (k : SolvedSuffix) (a : FixupState) (e : RunEnds) → n ≡ at + 1 → KnownOf k rs labels skips → StateAt fixups at a → EndsOf (λ l. SameLabels l rs labels (length (drop n fixups))) (length rs + 1) (drop n fixups) e → EndsAt k a.others.now a.others.now e
 ends-at fixups rs labels skips at n k a e step known state ends =
     let rest : drop n fixups ≡ a.others.now = ap (λ m. drop m fixups) step ∙ sym state.others in
     let here = subst (λ (fs : List Fixup). EndsOf (λ l. SameLabels l rs labels (length fs)) (length rs + 1) fs e) rest ends in
@@ -386,7 +386,7 @@ ends-at fixups rs labels skips at n k a e step known state ends =
     (λ l agrees. subst (λ (xs : List ℕ). SameLabels l xs labels (length a.others.now)) known.registers_are (subst (λ (xs : List (List ℕ)). SameLabels l k.registers.now xs (length a.others.now)) known.labels_are agrees.same))
     counted
 
-agrees_before : (l : Labels) (rs : List ℕ) (labels : List (List ℕ)) (skips : List (List ℕ)) (k : Known) (others : List Fixup) (row : List ℕ) (index : ℕ) → Tabled rs labels skips index others → KnownOf k rs labels skips → SameLabels l rs (labels ++ row ∷ []) (suc (length others)) → Agrees l k others
+agrees_before : (l : Labels) (rs : List ℕ) (labels : List (List ℕ)) (skips : List (List ℕ)) (k : SolvedSuffix) (others : List Fixup) (row : List ℕ) (index : ℕ) → Tabled rs labels skips index others → KnownOf k rs labels skips → SameLabels l rs (labels ++ row ∷ []) (suc (length others)) → Agrees l k others
 agrees_before l rs labels skips k others row index t known same =
     let before = same_before l rs labels row (length others) t.labels_count same in
     record {
@@ -394,7 +394,7 @@ agrees_before l rs labels skips k others row index t known same =
       offers = subst (λ (xs : List (List ℕ)). OffersFrom l xs others) (sym known.skips_are) (t.offers l before);
     }
 
-pub ends-next : (fixups : List Fixup) (rs : List ℕ) (labels : List (List ℕ)) (skips : List (List ℕ)) (at n index : ℕ) (k : Known) (a : At) (row : List ℕ) (e : RunEnds) → n ≡ at + 1 → Tabled rs labels skips index (drop n fixups) → KnownOf k rs labels skips → StateAt fixups at a → EndsAt k a.others.now (a.first ∷ a.others.now) e → EndsOf (λ l. SameLabels l rs (labels ++ row ∷ []) (length (drop at fixups))) (length rs + 1) (drop at fixups) e
+pub ends-next : (fixups : List Fixup) (rs : List ℕ) (labels : List (List ℕ)) (skips : List (List ℕ)) (at n index : ℕ) (k : SolvedSuffix) (a : FixupState) (row : List ℕ) (e : RunEnds) → n ≡ at + 1 → Tabled rs labels skips index (drop n fixups) → KnownOf k rs labels skips → StateAt fixups at a → EndsAt k a.others.now (a.first ∷ a.others.now) e → EndsOf (λ l. SameLabels l rs (labels ++ row ∷ []) (length (drop at fixups))) (length rs + 1) (drop at fixups) e
 ends-next fixups rs labels skips at n index k a row e step t known state ends =
     let rest : drop n fixups ≡ a.others.now = ap (λ m. drop m fixups) step ∙ sym state.others in
     let t' = subst (λ (fs : List Fixup). Tabled rs labels skips index fs) rest t in
@@ -428,7 +428,7 @@ ends-none rest rs labels count e none same ends =
     rw (none, ← same) (ends-map (λ l. Unit {0}) (λ l. SameLabels l rs labels 0) count [] e (λ l s. tt) ends)
 
 -- tables as they are kept, with one row more
-pub tables-next : (fixups : List Fixup) (rs : List ℕ) (labels skips new_labels new_skips : LaidRows) (at n : ℕ) (k : Known) (a : At) (row : List ℕ) (line : List ℕ) → fixups_fit fixups ≡ true → RegistersOf fixups rs → n ≡ at + 1 → n ≤ length fixups → TablesOf rs labels skips (index_after (take n fixups) 0) (drop n fixups) → KnownOf k rs labels.rows skips.rows → StateAt fixups at a → RowOf k a row → SkipsOf k a line → length row ≡ (length rs + 1) * (length rs + 1)
+pub tables-next : (fixups : List Fixup) (rs : List ℕ) (labels skips new_labels new_skips : LaidRows) (at n : ℕ) (k : SolvedSuffix) (a : FixupState) (row : List ℕ) (line : List ℕ) → fixups_fit fixups ≡ true → RegistersOf fixups rs → n ≡ at + 1 → n ≤ length fixups → TablesOf rs labels skips (index_after (take n fixups) 0) (drop n fixups) → KnownOf k rs labels.rows skips.rows → StateAt fixups at a → RowOf k a row → SkipsOf k a line → length row ≡ (length rs + 1) * (length rs + 1)
     → new_labels ≡ record { width = labels.width; rows = labels.rows ++ row ∷ [] } → new_skips ≡ record { width = skips.width; rows = skips.rows ++ line ∷ [] } → TablesOf rs new_labels new_skips (index_after (take at fixups) 0) (drop at fixups)
 tables-next fixups rs labels skips new_labels new_skips at n k a row line fit right step inside t known state row_is line_is wide labels_are skips_are =
     rw (labels_are, skips_are) (record {

@@ -14,3 +14,5 @@ mod RunTests
 mod SkipFacts
 mod StepFacts
 mod WordByWord
+mod RunsProofs
+mod WindowsProofs

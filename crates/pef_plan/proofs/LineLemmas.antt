@@ -3,8 +3,8 @@ use Rattle.std.proofs.Common.{◌≡◌, ℕ, ◌+◌, ◌*◌, ◌<◌, ◌≤�
 use Rattle.std.proofs.lemmas.Bool.Decides.{eqb_tells}
 use Rattle.pef_words.proofs.Laws.Numbers.{min_is}
 use Rattle.pef_plan.specs.Kept.Rows.{ClosedOf, LeastOf, LineOf, LinesOf, SmallLine}
-use Rattle.pef_runs.proofs.Laws.{place_under}
-use Rattle.pef_runs.specs.Tables.{number_in, place_of}
+use Rattle.pef_plan.proofs.RunsProofs.PlaceLemmas.{place_under}
+use Rattle.pef_plan.specs.Runs.Tables.{number_in, place_of}
 
 -- the least of one more number
 pub least-more : (i : ℕ) (f : ℕ → ℕ) (low next : ℕ) → LeastOf i f low → f i ≡ next → LeastOf (i + 1) f (min low next)

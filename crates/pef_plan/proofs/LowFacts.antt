@@ -11,23 +11,23 @@ use Rattle.pef_reloc.proofs.Laws.{fixup_fits-parts}
 use Rattle.pef_reloc.specs.declared.fixup.Fixup.{Fixup}
 use Rattle.pef_cert.specs.Labels.{Labels, class_of}
 use Rattle.pef_cert.specs.Extension.{extension, extension_at, skips_at}
-use Rattle.pef_runs.specs.declared.known.Known.{Known}
-use Rattle.pef_runs.specs.declared.place.Here.{Here}
-use Rattle.pef_runs.specs.declared.runs.Run.TheVariants.{Skip}
-use Rattle.pef_runs.specs.declared.place.At.{At}
-use Rattle.pef_runs.specs.declared.ends.RunEnds.{RunEnds}
-use Rattle.pef_runs.specs.Runs.{EndOf, Ends, Holds}
-use Rattle.pef_runs.specs.Ends.{EndsAt}
-use Rattle.pef_runs.specs.Leads.{LeadsWithin}
-use Rattle.pef_runs.specs.Places.{AtOf, HereOf, InPlace, Led}
+use Rattle.pef_plan.specs.declared.runs.suffix.SolvedSuffix.{SolvedSuffix}
+use Rattle.pef_plan.specs.declared.runs.state.OpenState.{OpenState}
+use Rattle.pef_plan.specs.declared.runs.run.Run.TheVariants.{Skip}
+use Rattle.pef_plan.specs.declared.runs.state.FixupState.{FixupState}
+use Rattle.pef_plan.specs.declared.runs.ends.RunEnds.{RunEnds}
+use Rattle.pef_plan.specs.Runs.Runs.{EndOf, Ends, Holds}
+use Rattle.pef_plan.specs.Runs.Ends.{EndsAt}
+use Rattle.pef_plan.specs.Runs.Leads.{LeadsWithin}
+use Rattle.pef_plan.specs.Runs.Places.{AtOf, HereOf, InPlace, Led}
 use Rattle.pef_plan.specs.Kept.Rows.{DirectIs}
-use Rattle.pef_runs.specs.Tables.{Agrees}
+use Rattle.pef_plan.specs.Runs.Tables.{Agrees}
 use Rattle.pef_cert.specs.LabelTests.{base_test}
 use Rattle.pef_plan.proofs.RowLemmas.{With}
 use Rattle.pef_plan.proofs.SkipFacts.{best_skip-is}
 
 -- the best skip at a fixup is the least skip there
-pub skip_is : (k : Known) (h : Here) (section first value : ℕ) (l : Labels) → HereOf k h → h.first.base ≡ Section section → Holds k.registers.now section h.place.d → h.first.offset ≡ h.place.position → ((l : Labels) → Agrees l k h.others.now → first ≡ 1 + extension l h.others.now (h.first.offset + 4) h.place.c h.place.d)
+pub skip_is : (k : SolvedSuffix) (h : OpenState) (section first value : ℕ) (l : Labels) → HereOf k h → h.first.base ≡ Section section → Holds k.registers.now section h.place.d → h.first.offset ≡ h.place.position → ((l : Labels) → Agrees l k h.others.now → first ≡ 1 + extension l h.others.now (h.first.offset + 4) h.place.c h.place.d)
     → ((l : Labels) → Agrees l k h.others.now → (value ≡ first) ⊎ EndOf l (Skip 0 section) h h.place.position value) → ((l : Labels) (low : ℕ) → Agrees l k h.others.now → low ≤ value → Ends l (Skip 0 section) h h.place.position low) → Agrees l k h.others.now → skips_at l h.first h.others.now h.place.c h.place.d ≡ Some value
 skip_is k h section first value l here base holds from is one ends agrees =
     best_skip-is l k h 0 section value first here agrees base holds (is l agrees)
@@ -35,7 +35,7 @@ skip_is k h section first value l here base holds from is one ends agrees =
     (subst (λ (p : ℕ). Ends l (Skip 0 section) h p value) (sym from) (ends l value agrees (omega arith)))
 
 -- what lies behind the first fixup, from a state at it
-behind_first : (l : Labels) (k : Known) (h : Here) (s t : State) → Agrees l k h.others.now → h.place.position ≡ h.first.offset → InPlace k.registers.now h.place s → t.position ≡ s.position + 4 → t.c ≡ s.c → t.d ≡ s.d → extension_at l h.others.now t ≡ extension l h.others.now (h.first.offset + 4) h.place.c h.place.d
+behind_first : (l : Labels) (k : SolvedSuffix) (h : OpenState) (s t : State) → Agrees l k h.others.now → h.place.position ≡ h.first.offset → InPlace k.registers.now h.place s → t.position ≡ s.position + 4 → t.c ≡ s.c → t.d ≡ s.d → extension_at l h.others.now t ≡ extension l h.others.now (h.first.offset + 4) h.place.c h.place.d
 behind_first l k h s t agrees at in_place position c d =
     let same = agrees.same.registers_are in
     let there : t.position ≡ h.first.offset + 4 = position ∙ ap (λ p. p + 4) (in_place.position ∙ at) in
@@ -43,16 +43,16 @@ behind_first l k h s t agrees at in_place position c d =
     ∙ ap₂ (λ x y. extension l h.others.now (h.first.offset + 4) x y) (ap (class_of l.registers) c ∙ (ap (λ rs. class_of rs s.c) same ∙ in_place.c)) (ap (class_of l.registers) d ∙ (ap (λ rs. class_of rs s.d) same ∙ in_place.d))
 
 -- the addition of a base alone
-added_first : (k : Known) (h : Here) (b : Base) (p : ℕ) → HereOf k h → h.first.base ≡ b → p ≡ h.first.offset → h.place.left.now ≡ added p b ∷ h.others.now
+added_first : (k : SolvedSuffix) (h : OpenState) (b : Base) (p : ℕ) → HereOf k h → h.first.base ≡ b → p ≡ h.first.offset → h.place.left.now ≡ added p b ∷ h.others.now
 added_first k h b p here base at =
     let word : h.first ≡ added h.first.offset b = (λ i. record { offset = h.first.offset; base = base i }) in
     here.parts ∙ ap (λ f. f ∷ h.others.now) (word ∙ ap (λ n. added n b) (sym at))
 
-base_of : (k : Known) (h : Here) (b : Base) → HereOf k h → h.first.base ≡ b → base_fits b ≡ true
+base_of : (k : SolvedSuffix) (h : OpenState) (b : Base) → HereOf k h → h.first.base ≡ b → base_fits b ≡ true
 base_of k h b here base = subst (λ (x : Base). base_fits x ≡ true) base (fixup_fits-parts h.first here.fit.0).base
 
 -- leads within what it takes and what lies behind: a section, and an import
-pub section_led : (k : Known) (h : Here) (section value : ℕ) → HereOf k h → h.place.position ≡ h.first.offset → h.first.base ≡ Section section → ((l : Labels) → Agrees l k h.others.now → value ≡ 1 + extension l h.others.now (h.first.offset + 4) h.place.c h.place.d) → Led k h value
+pub section_led : (k : SolvedSuffix) (h : OpenState) (section value : ℕ) → HereOf k h → h.place.position ≡ h.first.offset → h.first.base ≡ Section section → ((l : Labels) → Agrees l k h.others.now → value ≡ 1 + extension l h.others.now (h.first.offset + 4) h.place.c h.place.d) → Led k h value
 section_led k h section value here at base is l s agrees in_place =
     let low = ltb-true section most_sections (base_of k h (Section section) here base) in
     let behind = behind_first l k h s (next_state (SmBySection section) s) agrees at in_place refl refl refl in
@@ -65,7 +65,7 @@ section_led k h section value here at base is l s agrees in_place =
       falls = omega (arith, behind, worth);
     }
 
-pub import_by : (k : Known) (h : Here) (import value : ℕ) (small : Bool) → HereOf k h → h.place.position ≡ h.first.offset → h.first.base ≡ Import import → nat_lt import 512 ≡ small → ((l : Labels) → Agrees l k h.others.now → value ≡ cond small 1 2 + extension l h.others.now (h.first.offset + 4) h.place.c h.place.d) → Led k h value
+pub import_by : (k : SolvedSuffix) (h : OpenState) (import value : ℕ) (small : Bool) → HereOf k h → h.place.position ≡ h.first.offset → h.first.base ≡ Import import → nat_lt import 512 ≡ small → ((l : Labels) → Agrees l k h.others.now → value ≡ cond small 1 2 + extension l h.others.now (h.first.offset + 4) h.place.c h.place.d) → Led k h value
 import_by k h import value true here at base small is l s agrees in_place =
     let behind = behind_first l k h s (next_state (SmByImport import) s) agrees at in_place refl refl refl in
     let worth = is l agrees in
@@ -89,7 +89,7 @@ import_by k h import value false here at base small is l s agrees in_place =
     }
 
 -- what is led to with the registers in two classes
-pub low-is : (k : Known) (a : At) (c d : ℕ) (h : Here) (value : ℕ) → AtOf k a → With a c d h → Led k h value → ((l : Labels) (n : ℕ) → Agrees l k h.others.now → n ≤ value → base_test l n h.place.import_index h.first h.others.now h.place.c h.place.d h.first.base ≡ true) → value ≤ 4 * length h.others.now + 4 → DirectIs k a c d value
+pub low-is : (k : SolvedSuffix) (a : FixupState) (c d : ℕ) (h : OpenState) (value : ℕ) → AtOf k a → With a c d h → Led k h value → ((l : Labels) (n : ℕ) → Agrees l k h.others.now → n ≤ value → base_test l n h.place.import_index h.first h.others.now h.place.c h.place.d h.first.base ≡ true) → value ≤ 4 * length h.others.now + 4 → DirectIs k a c d value
 low-is k a c d h value at w led least small = record {
   least = λ l n agrees low.
       subst (λ (m : ℕ). base_test l n m a.first a.others.now c d a.first.base ≡ true) w.import_index
@@ -111,6 +111,6 @@ low-is k a c d h value at w led least small = record {
 }
 
 -- the windows at the state of a row, with the registers in two classes
-pub ends-with : (k : Known) (a : At) (c d : ℕ) (h : Here) (e : RunEnds) → With a c d h → EndsAt k a.others.now (a.first ∷ a.others.now) e → EndsAt k h.others.now (h.first ∷ h.others.now) e
+pub ends-with : (k : SolvedSuffix) (a : FixupState) (c d : ℕ) (h : OpenState) (e : RunEnds) → With a c d h → EndsAt k a.others.now (a.first ∷ a.others.now) e → EndsAt k h.others.now (h.first ∷ h.others.now) e
 ends-with k a c d h e w ends =
     subst (λ (fs : List Fixup). EndsAt k fs (h.first ∷ fs) e) (sym w.others) (subst (λ (f : Fixup). EndsAt k a.others.now (f ∷ a.others.now) e) (sym w.first) ends)

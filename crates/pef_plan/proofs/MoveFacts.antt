@@ -9,26 +9,26 @@ use Rattle.pef_reloc.specs.declared.fixup.Fixup.{Fixup}
 use Rattle.pef_cert.specs.Labels.{Labels, class_of}
 use Rattle.pef_cert.specs.Extension.{OfferIs, change, extension, moved_value, offer_at, skips_at}
 use Rattle.pef_cert.proofs.Laws.{Moved, World, class_of-below, extension-away, extension-here, far, label-offer, late, moved-is, moved-near, moved-skip, near, offer-import, offer-section, skips, world-first, world-next}
-use Rattle.pef_runs.specs.declared.known.Known.{Known}
-use Rattle.pef_runs.specs.declared.place.Here.{Here}
-use Rattle.pef_runs.specs.Places.{Counts, extension_in}
+use Rattle.pef_plan.specs.declared.runs.suffix.SolvedSuffix.{SolvedSuffix}
+use Rattle.pef_plan.specs.declared.runs.state.OpenState.{OpenState}
+use Rattle.pef_plan.specs.Runs.Places.{Counts, extension_in}
 use Rattle.std.proofs.lemmas.Option.{same_Some}
 use Rattle.pef_plan.specs.Kept.Steps.{SkipsTo, TrackedHere, labels_tabled}
-use Rattle.pef_runs.specs.Tables.{Agrees, label_in, skip_in}
+use Rattle.pef_plan.specs.Runs.Tables.{Agrees, label_in, skip_in}
 use Rattle.pef_plan.proofs.StepFacts.{tracked_world}
 
 -- the label at the fixup
-abbrev here_label : Known → Here → ℕ
+abbrev here_label : SolvedSuffix → OpenState → ℕ
 here_label k h = label_in (length k.registers.now + 1) k.labels.now.rows (length h.place.left.now) h.place.c h.place.d
 
-pub label-there : (k : Known) (h : Here) (p : ℕ) → TrackedHere k h → p ≡ h.first.offset → extension (labels_tabled k) h.place.left.now p h.place.c h.place.d ≡ here_label k h
+pub label-there : (k : SolvedSuffix) (h : OpenState) (p : ℕ) → TrackedHere k h → p ≡ h.first.offset → extension (labels_tabled k) h.place.left.now p h.place.c h.place.d ≡ here_label k h
 label-there k h p t at =
     ap (λ fs. extension (labels_tabled k) fs p h.place.c h.place.d) t.parts
     ∙ (extension-here (labels_tabled k) h.first h.others.now p h.place.c h.place.d at
     ∙ ap (λ fs. label_in (length k.registers.now + 1) k.labels.now.rows (length fs) h.place.c h.place.d) (sym t.parts))
 
 -- the extension away from it is one of four
-pub moved-there : (k : Known) (h : Here) → TrackedHere k h → h.place.position ≢ h.first.offset → Moved (h.first.offset - h.place.position) (here_label k h) (offer_at (labels_tabled k) h.first h.others.now h.place.c h.place.d) (extension_in (labels_tabled k) h.place)
+pub moved-there : (k : SolvedSuffix) (h : OpenState) → TrackedHere k h → h.place.position ≢ h.first.offset → Moved (h.first.offset - h.place.position) (here_label k h) (offer_at (labels_tabled k) h.first h.others.now h.place.c h.place.d) (extension_in (labels_tabled k) h.place)
 moved-there k h t away =
     let whole = ap (λ fs. extension (labels_tabled k) fs h.place.position h.place.c h.place.d) t.parts ∙ extension-away (labels_tabled k) h.first h.others.now h.place.position h.place.c h.place.d away in
     let label = ap (λ fs. label_in (length k.registers.now + 1) k.labels.now.rows (length fs) h.place.c h.place.d) (sym t.parts) in
@@ -37,7 +37,7 @@ moved-there k h t away =
     subst (λ (x : ℕ). Moved ahead (here_label k h) o x) (sym (whole ∙ ap (λ n. moved_value ahead n o) label)) (moved-is ahead (here_label k h) o)
 
 -- a move short of the fixup, so that a skip does the rest
-pub short_move : (k : Known) (h : Here) → TrackedHere k h → h.place.position ≢ h.first.offset → 4096 < h.first.offset - h.place.position → extension_in (labels_tabled k) h.place ≢ 2 + here_label k h → (1 + extension (labels_tabled k) h.place.left.now (h.place.position + (h.first.offset - h.place.position - 1020)) h.place.c h.place.d ≤ extension_in (labels_tabled k) h.place) × (h.first.offset - h.place.position ≤ 5116)
+pub short_move : (k : SolvedSuffix) (h : OpenState) → TrackedHere k h → h.place.position ≢ h.first.offset → 4096 < h.first.offset - h.place.position → extension_in (labels_tabled k) h.place ≢ 2 + here_label k h → (1 + extension (labels_tabled k) h.place.left.now (h.place.position + (h.first.offset - h.place.position - 1020)) h.place.c h.place.d ≤ extension_in (labels_tabled k) h.place) × (h.first.offset - h.place.position ≤ 5116)
 short_move k h t away beyond other = go _ refl (moved-there k h t away)
   where
     go : (x : ℕ) → extension_in (labels_tabled k) h.place ≡ x → Moved (h.first.offset - h.place.position) (here_label k h) (offer_at (labels_tabled k) h.first h.others.now h.place.c h.place.d) x → (1 + extension (labels_tabled k) h.place.left.now (h.place.position + (h.first.offset - h.place.position - 1020)) h.place.c h.place.d ≤ extension_in (labels_tabled k) h.place) × (h.first.offset - h.place.position ≤ 5116)
@@ -53,7 +53,7 @@ short_move k h t away beyond other = go _ refl (moved-there k h t away)
         (omega (arith, next, low, is, sum), before)
 
 -- and otherwise the extension is an offer that a skip takes
-pub skips_to : (k : Known) (h : Here) → TrackedHere k h → h.place.position ≢ h.first.offset → h.first.offset - h.place.position ≤ 4096 → extension_in (labels_tabled k) h.place ≢ 2 + here_label k h → (1 ≤ h.first.offset - h.place.position → extension_in (labels_tabled k) h.place ≢ 1 + here_label k h) → SkipsTo k h
+pub skips_to : (k : SolvedSuffix) (h : OpenState) → TrackedHere k h → h.place.position ≢ h.first.offset → h.first.offset - h.place.position ≤ 4096 → extension_in (labels_tabled k) h.place ≢ 2 + here_label k h → (1 ≤ h.first.offset - h.place.position → extension_in (labels_tabled k) h.place ≢ 1 + here_label k h) → SkipsTo k h
 skips_to k h t away within other also = go _ refl (moved-there k h t away)
   where
     world : World (labels_tabled k) h.place.import_index (h.first ∷ h.others.now)
@@ -75,20 +75,20 @@ none_some : (o : Option ℕ) (v : ℕ) → o ≡ None → o ≡ Some v → ⊥
 none_some o v none some = absurd (cc)
 
 -- with an import at the fixup there is no offer
-pub no_offer : (k : Known) (h : Here) (import : ℕ) → SkipsTo k h → h.first.base ≡ Import import → ⊥
+pub no_offer : (k : SolvedSuffix) (h : OpenState) (import : ℕ) → SkipsTo k h → h.first.base ≡ Import import → ⊥
 no_offer k h import at base = none_some _ _ (offer-import (labels_tabled k) h.first h.others.now h.place.c h.place.d import base) at.offer
 
-here_world : (k : Known) (h : Here) → TrackedHere k h → World (labels_tabled k) h.place.import_index (h.first ∷ h.others.now)
+here_world : (k : SolvedSuffix) (h : OpenState) → TrackedHere k h → World (labels_tabled k) h.place.import_index (h.first ∷ h.others.now)
 here_world k h t = subst (λ (fs : List Fixup). World (labels_tabled k) h.place.import_index fs) t.parts (tracked_world k h.place t.at)
 
 -- the offers of the table, with any class of D
-offers_here : (k : Known) (h : Here) (section d : ℕ) → TrackedHere k h → h.first.base ≡ Section section → d < length k.registers.now + 1 → offer_at (labels_tabled k) h.first h.others.now h.place.c d ≡ Some (change d (class_of k.registers.now section) + skip_in k.skips.now.rows (length (h.first ∷ h.others.now)) h.place.c)
+offers_here : (k : SolvedSuffix) (h : OpenState) (section d : ℕ) → TrackedHere k h → h.first.base ≡ Section section → d < length k.registers.now + 1 → offer_at (labels_tabled k) h.first h.others.now h.place.c d ≡ Some (change d (class_of k.registers.now section) + skip_in k.skips.now.rows (length (h.first ∷ h.others.now)) h.place.c)
 offers_here k h section d t base under =
     let whole = subst (λ (fs : List Fixup). Agrees (labels_tabled k) k fs) t.parts t.at.agrees in
     subst (λ (b : Base). OfferIs (labels_tabled k) h.first h.others.now h.place.c d (skip_in k.skips.now.rows (length (h.first ∷ h.others.now)) h.place.c) b) base (whole.offers.0 h.place.c d t.at.c under)
 
 -- register D is set before a skip
-pub skip_set : (k : Known) (h : Here) (section class : ℕ) → TrackedHere k h → SkipsTo k h → h.place.position ≢ h.first.offset → h.first.base ≡ Section section → class ≡ class_of k.registers.now section → class ≢ h.place.d → 1 + extension (labels_tabled k) h.place.left.now h.place.position h.place.c class ≤ extension_in (labels_tabled k) h.place
+pub skip_set : (k : SolvedSuffix) (h : OpenState) (section class : ℕ) → TrackedHere k h → SkipsTo k h → h.place.position ≢ h.first.offset → h.first.base ≡ Section section → class ≡ class_of k.registers.now section → class ≢ h.place.d → 1 + extension (labels_tabled k) h.place.left.now h.place.position h.place.c class ≤ extension_in (labels_tabled k) h.place
 skip_set k h section class t at away base of other =
     let l : Labels = labels_tabled k in
     let x : ℕ = skip_in k.skips.now.rows (length (h.first ∷ h.others.now)) h.place.c in
@@ -104,7 +104,7 @@ skip_set k h section class t at away base of other =
     omega (arith, worth, one, low, next)
 
 -- the skip itself is worth the extension
-pub skip_taken : (k : Known) (h : Here) (section value : ℕ) → TrackedHere k h → SkipsTo k h → h.first.base ≡ Section section → class_of k.registers.now section ≡ h.place.d → class_of k.registers.now section < length k.registers.now → skips_at (labels_tabled k) h.first h.others.now h.place.c h.place.d ≡ Some value → value ≡ extension_in (labels_tabled k) h.place
+pub skip_taken : (k : SolvedSuffix) (h : OpenState) (section value : ℕ) → TrackedHere k h → SkipsTo k h → h.first.base ≡ Section section → class_of k.registers.now section ≡ h.place.d → class_of k.registers.now section < length k.registers.now → skips_at (labels_tabled k) h.first h.others.now h.place.c h.place.d ≡ Some value → value ≡ extension_in (labels_tabled k) h.place
 skip_taken k h section value t at base of counts is =
     let l : Labels = labels_tabled k in
     let there = subst (λ (d : ℕ). skips_at l h.first h.others.now h.place.c d ≡ Some value) (sym of) is in
@@ -113,5 +113,5 @@ skip_taken k h section value t at base of counts is =
     let worth = same_Some _ _ (sym at.offer ∙ offer) in
     omega (arith, worth, none)
 
-pub counts_here : (k : Known) (h : Here) (section : ℕ) → TrackedHere k h → h.first.base ≡ Section section → class_of k.registers.now section < length k.registers.now
+pub counts_here : (k : SolvedSuffix) (h : OpenState) (section : ℕ) → TrackedHere k h → h.first.base ≡ Section section → class_of k.registers.now section < length k.registers.now
 counts_here k h section t base = subst (λ (b : Base). Counts k.registers.now b) base (subst (λ (fs : List Fixup). AllByRecursion (λ f. Counts k.registers.now f.base) fs) t.parts t.at.counts).0

@@ -8,12 +8,12 @@ use Rattle.pef_reloc.specs.Steps.{Least, start}
 use Rattle.pef_reloc.proofs.Laws.{used_section-below}
 use Rattle.pef_cert.specs.Labels.{Labels}
 use Rattle.pef_cert.specs.Feasible.{Feasible}
-use Rattle.pef_labels.specs.Rows.{LaidRows}
-use Rattle.pef_labels.specs.Certified.{Certified}
+use Rattle.pef_cert.specs.Rows.{LaidRows}
+use Rattle.pef_cert.specs.Certified.{Certified}
 use Rattle.pef_cert.specs.Valid.{RegistersOf, Valid, labels_of}
 use Rattle.pef_cert.proofs.Laws.{few_rising}
 use Rattle.pef_plan.specs.Exact.{Exact}
-use Rattle.pef_runs.specs.Tables.{SameLabels, number_in}
+use Rattle.pef_plan.specs.Runs.Tables.{SameLabels, number_in}
 use Rattle.std.specs.Prelude.{reverse}
 use Rattle.std.proofs.lemmas.List.{get_or-reverse, length-reverse, reverse-append}
 use Rattle.pef_words.proofs.Laws.Lists.{all-append}

@@ -16,16 +16,16 @@ use Rattle.pef_cert.specs.Extension.{extension}
 use Rattle.pef_cert.specs.Feasible.{Feasible, FeasibleFrom}
 use Rattle.pef_cert.specs.Valid.{RegistersOf}
 use Rattle.pef_cert.proofs.Laws.{all_registered, class_of-below, extension-small, none_shorter, whole_world}
-use Rattle.pef_runs.specs.declared.known.Known.{Known}
-use Rattle.pef_runs.specs.declared.place.Place.{Place}
-use Rattle.pef_runs.specs.declared.place.Step.{Step}
-use Rattle.pef_runs.specs.Places.{InPlace, extension_in}
+use Rattle.pef_plan.specs.declared.runs.suffix.SolvedSuffix.{SolvedSuffix}
+use Rattle.pef_plan.specs.declared.runs.state.PlanState.{PlanState}
+use Rattle.pef_plan.specs.declared.runs.state.Step.{Step}
+use Rattle.pef_plan.specs.Runs.Places.{InPlace, extension_in}
 use Rattle.pef_plan.specs.Kept.Steps.{Falls, ReadTo, Tracked, labels_tabled, most_halfwords, most_position}
-use Rattle.pef_runs.specs.Tables.{Agrees, SameLabels}
+use Rattle.pef_plan.specs.Runs.Tables.{Agrees, SameLabels}
 use Rattle.pef_plan.specs.Kept.Tables.{TablesOf}
 use Rattle.pef_plan.specs.Reached.{ReachedFrom}
 use Rattle.pef_plan.proofs.FillLemmas.{counts-all, index-small, known_shaped}
-use Rattle.pef_runs.proofs.Laws.{agrees-behind, shaped_fewer}
+use Rattle.pef_plan.proofs.RunsProofs.KnownLemmas.{agrees-behind, shaped_fewer}
 use Rattle.pef_plan.proofs.Leading.{Planned, planned_left}
 use Rattle.pef_plan.proofs.StepFacts.{tracked_world}
 
@@ -69,11 +69,11 @@ all-before : (P : Fixup → Type 0) (made left : List Fixup) → AllByRecursion 
 all-before P [] left all = tt
 all-before P (f ∷ made) left all = (all.0, all-before P made left all.1)
 
-tracked_planned : (k : Known) (p : Place) → Tracked k p → Planned (labels_tabled k) p.import_index p.left.now
+tracked_planned : (k : SolvedSuffix) (p : PlanState) → Tracked k p → Planned (labels_tabled k) p.import_index p.left.now
 tracked_planned k p t = record { world = tracked_world k p t; reached = t.reached; fit = t.fit }
 
 -- the place behind a step has tables as well
-tracked_next : (k : Known) (p : Place) (x : Step) (s : State) → Tracked k p → InPlace k.registers.now p s → Falls k p x s → x.next.position ≤ most_position → Tracked k x.next
+tracked_next : (k : SolvedSuffix) (p : PlanState) (x : Step) (s : State) → Tracked k p → InPlace k.registers.now p s → Falls k p x s → x.next.position ≤ most_position → Tracked k x.next
 tracked_next k p x s t in_place f low =
     let l : Labels = labels_tabled k in
     let goes = f.goes in
@@ -106,14 +106,14 @@ tracked_next k p x s t in_place f low =
       reached = planned.reached;
     }
 
-tracked_small : (k : Known) (p : Place) → Tracked k p → extension_in (labels_tabled k) p ≤ most_halfwords
+tracked_small : (k : SolvedSuffix) (p : PlanState) → Tracked k p → extension_in (labels_tabled k) p ≤ most_halfwords
 tracked_small k p t =
     let most = extension-small (labels_tabled k) p.import_index p.left.now p.position p.c p.d (tracked_world k p t) t.fit t.c t.d in
     let few = t.shaped.count in
     omega (arith, most, few)
 
 -- one more instruction
-pub read_next : (k : Known) (fixups : List Fixup) (instrs : List Instr) (p : Place) (x : Step) → ReadTo k fixups instrs p → Falls k p x (state_after instrs start) → ReadTo k fixups (instrs ++ x.instr ∷ []) x.next
+pub read_next : (k : SolvedSuffix) (fixups : List Fixup) (instrs : List Instr) (p : PlanState) (x : Step) → ReadTo k fixups instrs p → Falls k p x (state_after instrs start) → ReadTo k fixups (instrs ++ x.instr ∷ []) x.next
 read_next k fixups instrs p x r f =
     let s : State = state_after instrs start in
     let goes = f.goes in
@@ -139,11 +139,11 @@ read_next k fixups instrs p x r f =
       near = omega (arith, near, to);
     }
 
-same_tabled : (k : Known) (n : ℕ) → SameLabels (labels_tabled k) k.registers.now k.labels.now.rows n
+same_tabled : (k : SolvedSuffix) (n : ℕ) → SameLabels (labels_tabled k) k.registers.now k.labels.now.rows n
 same_tabled k n = record { registers_are = refl; label_is = λ left c d under under_c under_d. refl }
 
 -- none yet
-pub read_start : (k : Known) (p : Place) → fixups_fit p.left.now ≡ true → RegistersOf p.left.now k.registers.now → TablesOf k.registers.now k.labels.now k.skips.now 0 p.left.now → p.import_index ≡ 0 → InPlace k.registers.now p start → ReadTo k p.left.now [] p
+pub read_start : (k : SolvedSuffix) (p : PlanState) → fixups_fit p.left.now ≡ true → RegistersOf p.left.now k.registers.now → TablesOf k.registers.now k.labels.now k.skips.now 0 p.left.now → p.import_index ≡ 0 → InPlace k.registers.now p start → ReadTo k p.left.now [] p
 read_start k p fit right t index in_place =
     let l : Labels = labels_tabled k in
     let same = same_tabled k (length p.left.now) in
@@ -179,7 +179,7 @@ none_of [] e = refl
 none_of (f ∷ fs) e = absurd (omega (arith, e))
 
 -- and where none are left
-pub read_least : (k : Known) (fixups : List Fixup) (instrs : List Instr) (p : Place) → fixups_fit fixups ≡ true → RegistersOf fixups k.registers.now → TablesOf k.registers.now k.labels.now k.skips.now 0 fixups → ReadTo k fixups instrs p → length p.left.now ≡ 0 → Least fixups instrs
+pub read_least : (k : SolvedSuffix) (fixups : List Fixup) (instrs : List Instr) (p : PlanState) → fixups_fit fixups ≡ true → RegistersOf fixups k.registers.now → TablesOf k.registers.now k.labels.now k.skips.now 0 fixups → ReadTo k fixups instrs p → length p.left.now ≡ 0 → Least fixups instrs
 read_least k fixups instrs p fit right t r none =
     let l : Labels = labels_tabled k in
     let end = none_of p.left.now none in

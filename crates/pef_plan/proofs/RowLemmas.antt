@@ -5,14 +5,14 @@ use Rattle.pef_cert.specs.Labels.{Labels, class_of}
 use Rattle.pef_cert.specs.Extension.{skips_at}
 use Rattle.pef_reloc.specs.declared.fixup.Base.{Base}
 use Rattle.pef_reloc.specs.declared.fixup.Base.TheVariants.{Section}
-use Rattle.pef_runs.specs.declared.known.Known.{Known}
-use Rattle.pef_runs.specs.declared.place.Here.{Here}
-use Rattle.pef_runs.specs.declared.place.At.{At}
+use Rattle.pef_plan.specs.declared.runs.suffix.SolvedSuffix.{SolvedSuffix}
+use Rattle.pef_plan.specs.declared.runs.state.OpenState.{OpenState}
+use Rattle.pef_plan.specs.declared.runs.state.FixupState.{FixupState}
 use Rattle.pef_plan.specs.Kept.Rows.{SkipsOf}
-use Rattle.pef_runs.specs.Tables.{Agrees}
+use Rattle.pef_plan.specs.Runs.Tables.{Agrees}
 
 -- a state of a row, with the registers in two classes
-pub record With (a : At) (c d : ℕ) (h : Here) : Type 0 where
+pub record With (a : FixupState) (c d : ℕ) (h : OpenState) : Type 0 where
   pub first : h.first ≡ a.first
   pub others : h.others.now ≡ a.others.now
   pub left : h.place.left.now ≡ a.left.now
@@ -22,11 +22,11 @@ pub record With (a : At) (c d : ℕ) (h : Here) : Type 0 where
   pub d_is : h.place.d ≡ d
 
 -- the least skip with register C in a class
-pub record SkipIs (k : Known) (a : At) (section c value : ℕ) : Type 0 where
+pub record SkipIs (k : SolvedSuffix) (a : FixupState) (section c value : ℕ) : Type 0 where
   pub is : (l : Labels) → Agrees l k a.others.now → skips_at l a.first a.others.now c (class_of k.registers.now section) ≡ Some value
   pub small : value ≤ 4 * length a.others.now + 4
 
-pub skip-with : (k : Known) (a : At) (section c : ℕ) (h : Here) (value : ℕ) → With a c (class_of k.registers.now section) h → ((l : Labels) → Agrees l k h.others.now → skips_at l h.first h.others.now h.place.c h.place.d ≡ Some value) → value ≤ 4 * length h.others.now + 4 → SkipIs k a section c value
+pub skip-with : (k : SolvedSuffix) (a : FixupState) (section c : ℕ) (h : OpenState) (value : ℕ) → With a c (class_of k.registers.now section) h → ((l : Labels) → Agrees l k h.others.now → skips_at l h.first h.others.now h.place.c h.place.d ≡ Some value) → value ≤ 4 * length h.others.now + 4 → SkipIs k a section c value
 skip-with k a section c h value w is small = record {
   is = λ l agrees.
       subst (λ (f : Fixup). skips_at l f a.others.now c (class_of k.registers.now section) ≡ Some value) w.first
@@ -40,7 +40,7 @@ skip-with k a section c h value w is small = record {
 section_same : (j k : ℕ) (b : Base) → b ≡ Section j → b ≡ Section k → j ≡ k
 section_same j k b one two = cc
 
-pub skips-of : (k : Known) (a : At) (section : ℕ) (line : List ℕ) → a.first.base ≡ Section section → ((c : ℕ) → c < length k.registers.now + 1 → SkipIs k a section c (slice_index line c)) → SkipsOf k a line
+pub skips-of : (k : SolvedSuffix) (a : FixupState) (section : ℕ) (line : List ℕ) → a.first.base ≡ Section section → ((c : ℕ) → c < length k.registers.now + 1 → SkipIs k a section c (slice_index line c)) → SkipsOf k a line
 skips-of k a section line base each = record {
   is = λ l other c agrees is under.
       subst (λ (j : ℕ). skips_at l a.first a.others.now c (class_of k.registers.now j) ≡ Some (slice_index line c)) (section_same section other a.first.base base is) ((each c under).is l agrees);

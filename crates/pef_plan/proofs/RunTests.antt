@@ -7,18 +7,18 @@ use Rattle.pef_cert.specs.Labels.{Labels, class_of}
 use Rattle.pef_cert.specs.Extension.{extension}
 use Rattle.pef_cert.specs.LabelTests.{base_test, import_cost, numbered_test, pairs_test, row_test}
 use Rattle.pef_cert.proofs.Laws.{asked-met, import_tests-met, numbered_test-met, pairs_test-met, row_test-met, section_tests-met}
-use Rattle.pef_runs.specs.declared.known.Known.{Known}
-use Rattle.pef_runs.specs.declared.place.Here.{Here}
-use Rattle.pef_runs.specs.declared.runs.Run.{Run}
-use Rattle.pef_runs.specs.declared.runs.Run.TheVariants.{WordsOfC, WordsOfD, Spaced, Pairs, SpacedPairs, Imports}
-use Rattle.pef_runs.specs.Places.{HereOf}
-use Rattle.pef_runs.specs.Runs.{Ends, EndsFrom, limit}
+use Rattle.pef_plan.specs.declared.runs.suffix.SolvedSuffix.{SolvedSuffix}
+use Rattle.pef_plan.specs.declared.runs.state.OpenState.{OpenState}
+use Rattle.pef_plan.specs.declared.runs.run.Run.{Run}
+use Rattle.pef_plan.specs.declared.runs.run.Run.TheVariants.{WordsOfC, WordsOfD, Spaced, Pairs, SpacedPairs, Imports}
+use Rattle.pef_plan.specs.Runs.Places.{HereOf}
+use Rattle.pef_plan.specs.Runs.Runs.{Ends, EndsFrom, limit}
 use Rattle.pef_words.proofs.Laws.Tests.{or_either}
 use Rattle.pef_plan.specs.Kept.Met.{MetInC, MetInD, PairsMet}
-use Rattle.pef_runs.proofs.Laws.{units_c, units_d, units_far, units_imports, units_pairs, units_spaced}
+use Rattle.pef_plan.proofs.RunsProofs.RunFacts.{units_c, units_d, units_far, units_imports, units_pairs, units_spaced}
 
 -- the ends of a run that begins at the fixup
-pub ends_here : (l : Labels) (k : Known) (h : Here) (r : Run) (value : ℕ) → HereOf k h → h.place.position ≡ h.first.offset → Ends l r h h.place.position value → EndsFrom l r value (limit r) (h.first ∷ h.others.now) h.first.offset h.place.import_index h.place.c h.place.d
+pub ends_here : (l : Labels) (k : SolvedSuffix) (h : OpenState) (r : Run) (value : ℕ) → HereOf k h → h.place.position ≡ h.first.offset → Ends l r h h.place.position value → EndsFrom l r value (limit r) (h.first ∷ h.others.now) h.first.offset h.place.import_index h.place.c h.place.d
 ends_here l k h r value here at ends =
     subst (λ (p : ℕ). EndsFrom l r value (limit r) (h.first ∷ h.others.now) p h.place.import_index h.place.c h.place.d) at
     (subst (λ (fs : List Fixup). EndsFrom l r value (limit r) fs h.place.position h.place.import_index h.place.c h.place.d) here.parts ends)
@@ -42,13 +42,13 @@ pub imports_met : (l : Labels) (value p m c d : ℕ) (fixups : List Fixup) → E
 imports_met l value p m c d fixups ends = numbered_test-met l value c d 512 p m fixups (λ j left under is. ends j left under (is ∙ ap (λ fs. fs ++ left) (units_imports (suc j) p m)))
 
 -- both kinds of pairs
-pub both_pairs_met : (l : Labels) (h : Here) (j k value : ℕ) → EndsFrom l (Pairs j k) value 512 (h.first ∷ h.others.now) h.first.offset h.place.import_index h.place.c h.place.d → EndsFrom l (SpacedPairs j k) value 512 (h.first ∷ h.others.now) h.first.offset h.place.import_index h.place.c h.place.d → PairsMet l h j k value
+pub both_pairs_met : (l : Labels) (h : OpenState) (j k value : ℕ) → EndsFrom l (Pairs j k) value 512 (h.first ∷ h.others.now) h.first.offset h.place.import_index h.place.c h.place.d → EndsFrom l (SpacedPairs j k) value 512 (h.first ∷ h.others.now) h.first.offset h.place.import_index h.place.c h.place.d → PairsMet l h j k value
 both_pairs_met l h j k value near far =
     asked-met (class_of l.registers k == h.place.d) _ (λ is.
     and_from _ _ (pairs_met l value j k h.first.offset h.place.import_index h.place.c h.place.d (h.first ∷ h.others.now) near) (far_met l value j k h.first.offset h.place.import_index h.place.c h.place.d (h.first ∷ h.others.now) far))
 
 -- all that can begin by adding a section
-pub section_met : (l : Labels) (h : Here) (index k value : ℕ) → value ≤ 1 + extension l h.others.now (h.first.offset + 4) h.place.c h.place.d → ((class_of l.registers k == h.place.c) ≡ true → MetInC l h k value) → ((class_of l.registers k == h.place.d) ≡ true → MetInD l h k value) → base_test l value index h.first h.others.now h.place.c h.place.d (Section k) ≡ true
+pub section_met : (l : Labels) (h : OpenState) (index k value : ℕ) → value ≤ 1 + extension l h.others.now (h.first.offset + 4) h.place.c h.place.d → ((class_of l.registers k == h.place.c) ≡ true → MetInC l h k value) → ((class_of l.registers k == h.place.d) ≡ true → MetInD l h k value) → base_test l value index h.first h.others.now h.place.c h.place.d (Section k) ≡ true
 section_met l h index k value low in_c in_d =
     section_tests-met l value index k h.first h.others.now h.place.c h.place.d (record {
       single = le-leb value (1 + extension l h.others.now (h.first.offset + 4) h.place.c h.place.d) low;
@@ -58,6 +58,6 @@ section_met l h index k value low in_c in_d =
     })
 
 -- and an import
-pub import_met : (l : Labels) (h : Here) (k value : ℕ) → value ≤ import_cost k + extension l h.others.now (h.first.offset + 4) h.place.c h.place.d → ((k == h.place.import_index) ≡ true → numbered_test l value h.place.c h.place.d 512 h.first.offset k (h.first ∷ h.others.now) ≡ true) → base_test l value h.place.import_index h.first h.others.now h.place.c h.place.d (Import k) ≡ true
+pub import_met : (l : Labels) (h : OpenState) (k value : ℕ) → value ≤ import_cost k + extension l h.others.now (h.first.offset + 4) h.place.c h.place.d → ((k == h.place.import_index) ≡ true → numbered_test l value h.place.c h.place.d 512 h.first.offset k (h.first ∷ h.others.now) ≡ true) → base_test l value h.place.import_index h.first h.others.now h.place.c h.place.d (Import k) ≡ true
 import_met l h k value low run =
     import_tests-met l value h.place.import_index k h.first h.others.now h.place.c h.place.d (record { single = low; imports = run })

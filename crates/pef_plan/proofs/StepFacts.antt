@@ -10,18 +10,18 @@ use Rattle.pef_cert.specs.Extension.{extension, extension_at}
 use Rattle.pef_cert.specs.Valid.{is_among}
 use Rattle.pef_cert.specs.LabelTests.{base_test}
 use Rattle.pef_cert.proofs.Laws.{NumberOf, World, class_of-below, class_of-index, class_of-other, extension-here, is_among-index, label-extension, tested, world-first}
-use Rattle.pef_runs.specs.declared.known.Known.{Known}
-use Rattle.pef_runs.specs.declared.place.Place.{Place}
-use Rattle.pef_runs.specs.declared.place.Here.{Here}
-use Rattle.pef_runs.specs.declared.place.Choice.{Choice}
-use Rattle.pef_runs.specs.Places.{Chosen, InPlace}
+use Rattle.pef_plan.specs.declared.runs.suffix.SolvedSuffix.{SolvedSuffix}
+use Rattle.pef_plan.specs.declared.runs.state.PlanState.{PlanState}
+use Rattle.pef_plan.specs.declared.runs.state.OpenState.{OpenState}
+use Rattle.pef_plan.specs.declared.runs.state.Choice.{Choice}
+use Rattle.pef_plan.specs.Runs.Places.{Chosen, InPlace}
 use Rattle.std.proofs.lemmas.Bool.{false_from_ne_true}
 use Rattle.pef_words.proofs.Laws.Numbers.{below_or}
 use Rattle.pef_plan.specs.Kept.Steps.{FallsOn, Sections, Tracked, TrackedHere, labels_tabled}
-use Rattle.pef_runs.specs.Tables.{Agrees, label_in}
+use Rattle.pef_plan.specs.Runs.Tables.{Agrees, label_in}
 use Rattle.pef_plan.specs.Reached.{LeadsOn, ReachedFrom}
 use Rattle.pef_plan.proofs.FillLemmas.{registered-all}
-use Rattle.pef_runs.proofs.Laws.{agrees-behind}
+use Rattle.pef_plan.proofs.RunsProofs.KnownLemmas.{agrees-behind}
 use Rattle.pef_reloc.specs.Limits.{most_sections}
 
 -- a section of each class
@@ -44,20 +44,20 @@ number_of : (rs : List ℕ) (class : ℕ) → Sections rs → (class < length rs
 number_of rs class s (inl under) = let there = section_there rs class s under in let low = there.1 in record { number = slice_index rs class; small = omega (arith, low); is = there.0 }
 number_of rs class s (inr last) = record { number = most_sections; small = omega arith; is = section_free rs s ∙ sym last }
 
-pub tracked_world : (k : Known) (p : Place) → Tracked k p → World (labels_tabled k) p.import_index p.left.now
+pub tracked_world : (k : SolvedSuffix) (p : PlanState) → Tracked k p → World (labels_tabled k) p.import_index p.left.now
 tracked_world k p t = record {
   numbers = record { of = λ class under. number_of k.registers.now class t.sections (below_or class (length k.registers.now) under) };
   registered = registered-all k.registers.now p.left.now t.counts;
   feasible = t.feasible;
 }
 
-pub agrees_others : (k : Known) (h : Here) → TrackedHere k h → Agrees (labels_tabled k) k h.others.now
+pub agrees_others : (k : SolvedSuffix) (h : OpenState) → TrackedHere k h → Agrees (labels_tabled k) k h.others.now
 agrees_others k h t =
     let whole = subst (λ (fs : List Fixup). Agrees (labels_tabled k) k fs) t.parts t.at.agrees in
     agrees-behind (labels_tabled k) k (h.first ∷ []) h.others.now whole
 
 -- the extension at a fixup is its label
-pub extension_label : (k : Known) (h : Here) (c d : ℕ) → TrackedHere k h → h.place.position ≡ h.first.offset → extension (labels_tabled k) h.place.left.now h.place.position c d ≡ label_in (length k.registers.now + 1) k.labels.now.rows (length h.place.left.now) c d
+pub extension_label : (k : SolvedSuffix) (h : OpenState) (c d : ℕ) → TrackedHere k h → h.place.position ≡ h.first.offset → extension (labels_tabled k) h.place.left.now h.place.position c d ≡ label_in (length k.registers.now + 1) k.labels.now.rows (length h.place.left.now) c d
 extension_label k h c d t at =
     ap (λ fs. extension (labels_tabled k) fs h.place.position c d) t.parts
     ∙ (extension-here (labels_tabled k) h.first h.others.now h.place.position c d at
@@ -98,7 +98,7 @@ none_left (a ∷ additions) left f rest e =
     let sum = length-append (a ∷ additions) left in
     inl (omega (arith, count, sum))
 
-pub best_falls : (k : Known) (h : Here) (s : State) (value label : ℕ) → TrackedHere k h → h.place.position ≡ h.first.offset → InPlace k.registers.now h.place s
+pub best_falls : (k : SolvedSuffix) (h : OpenState) (s : State) (value label : ℕ) → TrackedHere k h → h.place.position ≡ h.first.offset → InPlace k.registers.now h.place s
     → base_test (labels_tabled k) value h.place.import_index h.first h.others.now h.place.c h.place.d h.first.base ≡ true
     → label ≡ label_in (length k.registers.now + 1) k.labels.now.rows (length h.place.left.now) h.place.c h.place.d
     → ((e : ℕ) → e < length k.registers.now + 1 → label ≤ label_in (length k.registers.now + 1) k.labels.now.rows (length h.place.left.now) e h.place.d)
@@ -165,7 +165,7 @@ best_falls k h s value label t at in_place met is by_c by_d =
     go l world here x (inr same) = stuck x world here same (kind_of x.instr s)
 
 -- the chosen step falls where its value is at most the label
-pub chosen_falls : (k : Known) (h : Here) (x : Choice) → TrackedHere k h → h.place.position ≡ h.first.offset → Chosen k h x → x.value ≤ label_in (length k.registers.now + 1) k.labels.now.rows (length h.place.left.now) h.place.c h.place.d → FallsOn k h.place x.step
+pub chosen_falls : (k : SolvedSuffix) (h : OpenState) (x : Choice) → TrackedHere k h → h.place.position ≡ h.first.offset → Chosen k h x → x.value ≤ label_in (length k.registers.now + 1) k.labels.now.rows (length h.place.left.now) h.place.c h.place.d → FallsOn k h.place x.step
 chosen_falls k h x t at chosen low s in_place =
     let worth = chosen.worth (labels_tabled k) (agrees_others k h t) in
     let here = extension_label k h h.place.c h.place.d t at in

@@ -2,3 +2,5 @@ pub mod Exact
 pub mod Faults
 pub mod Kept
 pub mod Reached
+pub mod Runs
+pub mod Windows

@@ -7,7 +7,7 @@ use Rattle.pef_reloc.specs.Steps.{State}
 use Rattle.pef_cert.specs.Labels.{Labels}
 use Rattle.pef_cert.specs.Extension.{extension_at}
 use Rattle.pef_cert.specs.Feasible.{AtFixup}
-use Rattle.pef_runs.specs.Leads.{LeadsWithin}
+use Rattle.pef_plan.specs.Runs.Leads.{LeadsWithin}
 
 -- the extension falls by its halfwords at least
 abbrev pub LeadsOn : Labels → State → List Fixup → Type 0

@@ -2,29 +2,28 @@ ghost use Rattle.std.specs.Prelude.{◌≡◌, ◌+◌, ◌*◌, ◌==◌, ◌<�
 ghost use Rattle.pef_cert.specs.Extension.{extension};
 ghost use Rattle.pef_cert.specs.Labels.{Labels, class_of};
 ghost use Rattle.pef_cert.specs.LabelTests.{base_test, import_cost, second_test};
-ghost use Rattle.pef_runs.specs.Places.{Chosen, HereOf};
-ghost use Rattle.pef_runs.specs.Runs.{Holds};
+ghost use Rattle.pef_plan.specs.Runs.Places.{Chosen, HereOf};
+ghost use Rattle.pef_plan.specs.Runs.Runs.{Holds};
 ghost use Rattle.pef_plan.specs.Kept.Met.{MetInC, MetInD, PairsMet};
-ghost use Rattle.pef_runs.specs.Tables.{Agrees};
+ghost use Rattle.pef_plan.specs.Runs.Tables.{Agrees};
 ghost use Rattle.pef_reloc.specs.declared.fixup.Base.TheVariants.{Import, Section};
 
-use pef_cert::class_of;
-use pef_fixups::WORD;
+use crate::runs::{Choice, OpenState, PlanState, Run, SolvedSuffix, Step};
+use pef_cert::{WORD, class_of};
 use pef_reloc::{Base, Instr};
-use pef_runs::{Choice, Here, Known, Place, Run, Step};
 
 /// How many imports can be named in nine bits.
 pub(crate) const SMALL_IMPORTS: u32 = 512;
 
 /// The place behind the first fixup.
-pub(crate) fn place_behind<'a>(here: Here<'a>, import_index: u64) -> Place<'a>
+pub(crate) fn place_behind<'a>(here: OpenState<'a>, import_index: u64) -> PlanState<'a>
     ensures left { result.left.now ≡ here.entry.others.now }
     ensures position { result.position ≡ here.entry.first.offset + 4 }
     ensures import_index { result.import_index ≡ import_index }
     ensures c { result.c ≡ here.entry.place.c }
     ensures d { result.d ≡ here.entry.place.d }
 {
-    Place {
+    PlanState {
         left: here.others,
         position: u64::from(here.first.offset) + WORD,
         import_index,
@@ -33,7 +32,7 @@ pub(crate) fn place_behind<'a>(here: Here<'a>, import_index: u64) -> Place<'a>
 }
 
 /// The best instruction that begins by adding at a fixup.
-pub(crate) fn direct<'a>(known: Known<'a>, here: Here<'a>) -> Choice<'a>
+pub(crate) fn direct<'a>(known: SolvedSuffix<'a>, here: OpenState<'a>) -> Choice<'a>
     requires here { HereOf known here }
     requires at { here.place.position ≡ here.first.offset }
     ensures chosen { Chosen known.entry here.entry result }
@@ -46,7 +45,7 @@ pub(crate) fn direct<'a>(known: Known<'a>, here: Here<'a>) -> Choice<'a>
     }
 }
 
-fn direct_section<'a>(known: Known<'a>, here: Here<'a>, section: u32) -> Choice<'a>
+fn direct_section<'a>(known: SolvedSuffix<'a>, here: OpenState<'a>, section: u32) -> Choice<'a>
     requires here { HereOf known here }
     requires at { here.place.position ≡ here.first.offset }
     requires base { here.first.base ≡ Section section }
@@ -60,7 +59,7 @@ fn direct_section<'a>(known: Known<'a>, here: Here<'a>, section: u32) -> Choice<
 }
 
 /// The addition of a section alone.
-fn single_section<'a>(known: Known<'a>, here: Here<'a>, section: u32) -> Choice<'a>
+fn single_section<'a>(known: SolvedSuffix<'a>, here: OpenState<'a>, section: u32) -> Choice<'a>
     requires here { HereOf known here }
     requires at { here.place.position ≡ here.first.offset }
     requires base { here.first.base ≡ Section section }
@@ -76,7 +75,7 @@ fn single_section<'a>(known: Known<'a>, here: Here<'a>, section: u32) -> Choice<
 }
 
 /// The extension behind the first fixup.
-pub(crate) fn value_behind(known: Known<'_>, here: Here<'_>) -> u64
+pub(crate) fn value_behind(known: SolvedSuffix<'_>, here: OpenState<'_>) -> u64
     requires here { HereOf known here }
     ensures is { (l : Labels) → Agrees l known.entry here.entry.others.now → result ≡ extension l here.entry.others.now (here.entry.first.offset + 4) here.entry.place.c here.entry.place.d }
     ensures small { result ≤ 4 * length here.entry.others.now + 2 }
@@ -86,7 +85,12 @@ pub(crate) fn value_behind(known: Known<'_>, here: Here<'_>) -> u64
 }
 
 /// The better of a choice and of runs of a section, where register C holds it.
-fn best_in_c<'a>(known: Known<'a>, here: Here<'a>, section: u32, first: Choice<'a>) -> Choice<'a>
+fn best_in_c<'a>(
+    known: SolvedSuffix<'a>,
+    here: OpenState<'a>,
+    section: u32,
+    first: Choice<'a>,
+) -> Choice<'a>
     requires here { HereOf known here }
     requires at { here.place.position ≡ here.first.offset }
     requires base { here.first.base ≡ Section section }
@@ -104,7 +108,12 @@ fn best_in_c<'a>(known: Known<'a>, here: Here<'a>, section: u32, first: Choice<'
 }
 
 /// The same, where register D holds it.
-fn best_in_d<'a>(known: Known<'a>, here: Here<'a>, section: u32, first: Choice<'a>) -> Choice<'a>
+fn best_in_d<'a>(
+    known: SolvedSuffix<'a>,
+    here: OpenState<'a>,
+    section: u32,
+    first: Choice<'a>,
+) -> Choice<'a>
     requires here { HereOf known here }
     requires at { here.place.position ≡ here.first.offset }
     requires base { here.first.base ≡ Section section }
@@ -123,8 +132,8 @@ fn best_in_d<'a>(known: Known<'a>, here: Here<'a>, section: u32, first: Choice<'
 
 /// The better of a choice and of pairs of a section in register C and one in D.
 fn best_of_pairs<'a>(
-    known: Known<'a>,
-    here: Here<'a>,
+    known: SolvedSuffix<'a>,
+    here: OpenState<'a>,
     section: u32,
     first: Choice<'a>,
 ) -> Choice<'a>
@@ -146,8 +155,8 @@ fn best_of_pairs<'a>(
 }
 
 fn best_of_two<'a>(
-    known: Known<'a>,
-    here: Here<'a>,
+    known: SolvedSuffix<'a>,
+    here: OpenState<'a>,
     section: u32,
     second: u32,
     first: Choice<'a>,
@@ -177,7 +186,7 @@ fn best_of_two<'a>(
     known.best_of_run(here, spaced, from, near)
 }
 
-fn direct_import<'a>(known: Known<'a>, here: Here<'a>, import: u32) -> Choice<'a>
+fn direct_import<'a>(known: SolvedSuffix<'a>, here: OpenState<'a>, import: u32) -> Choice<'a>
     requires here { HereOf known here }
     requires at { here.place.position ≡ here.first.offset }
     requires base { here.first.base ≡ Import import }
@@ -193,7 +202,7 @@ fn direct_import<'a>(known: Known<'a>, here: Here<'a>, import: u32) -> Choice<'a
 }
 
 /// The addition of an import alone.
-fn single_import<'a>(known: Known<'a>, here: Here<'a>, import: u32) -> Choice<'a>
+fn single_import<'a>(known: SolvedSuffix<'a>, here: OpenState<'a>, import: u32) -> Choice<'a>
     requires here { HereOf known here }
     requires at { here.place.position ≡ here.first.offset }
     requires base { here.first.base ≡ Import import }

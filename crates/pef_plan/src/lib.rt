@@ -10,13 +10,15 @@ mod program;
 mod reading;
 mod registers;
 mod rows;
+mod runs;
 mod skips;
 mod tables;
 mod theorems;
+mod windows;
 
 pub use fault::PlanFault;
-pub use pef_squares::Looks;
 pub use planner::{counted_plan, plan};
 pub use theorems::{
     least_programs_are_short, least_programs_name_what_is_used, reached_labels_are_least,
 };
+pub use windows::Looks;

@@ -2,17 +2,17 @@ ghost use Rattle.std.specs.Prelude.{◌≡◌, ◌+◌, ◌*◌, ◌==◌, ◌<�
 ghost use Rattle.pef_cert.specs.Labels.{Labels, class_of};
 ghost use Rattle.pef_cert.specs.Extension.{extension};
 ghost use Rattle.pef_cert.specs.LabelTests.{base_test, import_cost, second_test};
-ghost use Rattle.pef_runs.specs.Ends.{EndsAt};
-ghost use Rattle.pef_runs.specs.Runs.{Holds, NextBase};
-ghost use Rattle.pef_runs.specs.Places.{HereOf, Led};
+ghost use Rattle.pef_plan.specs.Runs.Ends.{EndsAt};
+ghost use Rattle.pef_plan.specs.Runs.Runs.{Holds, NextBase};
+ghost use Rattle.pef_plan.specs.Runs.Places.{HereOf, Led};
 ghost use Rattle.pef_plan.specs.Kept.Met.{ClassOf, MetInC, MetInD, PairsMet};
-ghost use Rattle.pef_runs.specs.Tables.{Agrees};
+ghost use Rattle.pef_plan.specs.Runs.Tables.{Agrees};
 ghost use Rattle.pef_reloc.specs.declared.fixup.Base.TheVariants.{Import, Section};
 
 use crate::direct::SMALL_IMPORTS;
+use crate::runs::{OpenState, Run, RunEnds, SolvedSuffix};
 use pef_cert::class_of;
 use pef_reloc::Base;
-use pef_runs::{Here, Known, Run, RunEnds};
 
 /// A section and its class.
 #[derive(Clone, Copy)]
@@ -23,7 +23,7 @@ struct Classed {
 
 /// What the best instruction leads to that begins by adding at a fixup, whose section, if it has one, is of
 /// this class.
-pub(crate) fn low(known: Known<'_>, here: Here<'_>, ends: &RunEnds, class: usize) -> u64
+pub(crate) fn low(known: SolvedSuffix<'_>, here: OpenState<'_>, ends: &RunEnds, class: usize) -> u64
     requires here { HereOf known here }
     requires at { here.place.position ≡ here.first.offset }
     requires class { ClassOf known.registers.now here.first.base class }
@@ -38,7 +38,7 @@ pub(crate) fn low(known: Known<'_>, here: Here<'_>, ends: &RunEnds, class: usize
     }
 }
 
-fn low_section(known: Known<'_>, here: Here<'_>, ends: &RunEnds, of: Classed) -> u64
+fn low_section(known: SolvedSuffix<'_>, here: OpenState<'_>, ends: &RunEnds, of: Classed) -> u64
     requires here { HereOf known here }
     requires at { here.place.position ≡ here.first.offset }
     requires base { here.first.base ≡ Section of.section }
@@ -54,7 +54,7 @@ fn low_section(known: Known<'_>, here: Here<'_>, ends: &RunEnds, of: Classed) ->
 }
 
 /// What the addition of a section alone leads to.
-fn section_alone(known: Known<'_>, here: Here<'_>, ends: &RunEnds) -> u64
+fn section_alone(known: SolvedSuffix<'_>, here: OpenState<'_>, ends: &RunEnds) -> u64
     requires here { HereOf known here }
     requires at { here.place.position ≡ here.first.offset }
     requires ends { EndsAt known here.others.now (here.first ∷ here.others.now) ends.now }
@@ -66,7 +66,13 @@ fn section_alone(known: Known<'_>, here: Here<'_>, ends: &RunEnds) -> u64
 }
 
 /// The lesser of a value and of what runs of a section lead to, where register C holds it.
-fn low_in_c(known: Known<'_>, here: Here<'_>, ends: &RunEnds, of: Classed, first: u64) -> u64
+fn low_in_c(
+    known: SolvedSuffix<'_>,
+    here: OpenState<'_>,
+    ends: &RunEnds,
+    of: Classed,
+    first: u64,
+) -> u64
     requires here { HereOf known here }
     requires at { here.place.position ≡ here.first.offset }
     requires base { here.first.base ≡ Section of.section }
@@ -86,7 +92,13 @@ fn low_in_c(known: Known<'_>, here: Here<'_>, ends: &RunEnds, of: Classed, first
 }
 
 /// The same, where register D holds it.
-fn low_in_d(known: Known<'_>, here: Here<'_>, ends: &RunEnds, of: Classed, first: u64) -> u64
+fn low_in_d(
+    known: SolvedSuffix<'_>,
+    here: OpenState<'_>,
+    ends: &RunEnds,
+    of: Classed,
+    first: u64,
+) -> u64
     requires here { HereOf known here }
     requires at { here.place.position ≡ here.first.offset }
     requires base { here.first.base ≡ Section of.section }
@@ -106,7 +118,13 @@ fn low_in_d(known: Known<'_>, here: Here<'_>, ends: &RunEnds, of: Classed, first
 }
 
 /// The lesser of a value and of what pairs lead to, of a section in register C and one in D.
-fn low_of_pairs(known: Known<'_>, here: Here<'_>, ends: &RunEnds, section: u32, first: u64) -> u64
+fn low_of_pairs(
+    known: SolvedSuffix<'_>,
+    here: OpenState<'_>,
+    ends: &RunEnds,
+    section: u32,
+    first: u64,
+) -> u64
     requires here { HereOf known here }
     requires at { here.place.position ≡ here.first.offset }
     requires base { here.first.base ≡ Section section }
@@ -127,8 +145,8 @@ fn low_of_pairs(known: Known<'_>, here: Here<'_>, ends: &RunEnds, section: u32, 
 }
 
 fn low_of_two(
-    known: Known<'_>,
-    here: Here<'_>,
+    known: SolvedSuffix<'_>,
+    here: OpenState<'_>,
     ends: &RunEnds,
     sections: (u32, u32),
     first: u64,
@@ -161,7 +179,7 @@ fn low_of_two(
     ends.low_of_run(known, here, spaced, near)
 }
 
-fn low_import(known: Known<'_>, here: Here<'_>, ends: &RunEnds, import: u32) -> u64
+fn low_import(known: SolvedSuffix<'_>, here: OpenState<'_>, ends: &RunEnds, import: u32) -> u64
     requires here { HereOf known here }
     requires at { here.place.position ≡ here.first.offset }
     requires base { here.first.base ≡ Import import }
@@ -178,7 +196,7 @@ fn low_import(known: Known<'_>, here: Here<'_>, ends: &RunEnds, import: u32) -> 
 }
 
 /// What the addition of an import alone leads to.
-fn import_alone(known: Known<'_>, here: Here<'_>, ends: &RunEnds, import: u32) -> u64
+fn import_alone(known: SolvedSuffix<'_>, here: OpenState<'_>, ends: &RunEnds, import: u32) -> u64
     requires here { HereOf known here }
     requires at { here.place.position ≡ here.first.offset }
     requires base { here.first.base ≡ Import import }

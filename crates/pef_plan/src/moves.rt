@@ -1,16 +1,16 @@
 ghost use Rattle.std.specs.Prelude.{◌≡◌, ◌+◌, ◌*◌, ◌<◌, ◌≤◌, length};
 ghost use Rattle.pef_cert.specs.Extension.{extension};
 ghost use Rattle.pef_cert.specs.Labels.{class_of};
-ghost use Rattle.pef_runs.specs.Places.{extension_in};
+ghost use Rattle.pef_plan.specs.Runs.Places.{extension_in};
 ghost use Rattle.pef_plan.specs.Kept.Steps.{FallsOn, Sections, Tracked, TrackedHere, labels_tabled};
-ghost use Rattle.pef_runs.specs.Tables.{number_in};
+ghost use Rattle.pef_plan.specs.Runs.Tables.{number_in};
 ghost use Rattle.pef_reloc.specs.Limits.{most_sections};
 
+use crate::runs::{OpenState, PlanState, SolvedSuffix, Step};
 use pef_reloc::{Instr, MAX_SECTIONS};
-use pef_runs::{Here, Known, Place, Step};
 
 /// The label of a row in classes of the registers.
-pub(crate) fn label_of(known: Known<'_>, row: &[u32], c: usize, d: usize) -> u64
+pub(crate) fn label_of(known: SolvedSuffix<'_>, row: &[u32], c: usize, d: usize) -> u64
     requires few { length known.registers.now ≤ most_sections }
     requires row { length row.now ≡ (length known.registers.now + 1) * (length known.registers.now + 1) }
     requires c { c < length known.registers.now + 1 }
@@ -22,7 +22,7 @@ pub(crate) fn label_of(known: Known<'_>, row: &[u32], c: usize, d: usize) -> u64
 
 /// A section of a class.
 #[tactic(auto, using(crate::proofs::StepFacts::section_is, crate::proofs::StepFacts::section_small, crate::proofs::StepFacts::section_last))]
-pub(crate) fn section_of(known: Known<'_>, class: usize) -> u32
+pub(crate) fn section_of(known: SolvedSuffix<'_>, class: usize) -> u32
     requires sections { Sections known.registers.now }
     requires class { class < length known.registers.now + 1 }
     ensures is { class_of known.entry.registers.now result ≡ class }
@@ -36,38 +36,38 @@ pub(crate) fn section_of(known: Known<'_>, class: usize) -> u32
 }
 
 /// The step that sets register C to a section of a class.
-pub(crate) fn set_c<'a>(known: Known<'a>, place: Place<'a>, class: usize) -> Step<'a>
+pub(crate) fn set_c<'a>(known: SolvedSuffix<'a>, place: PlanState<'a>, class: usize) -> Step<'a>
     requires tracked { Tracked known place }
     requires class { class < length known.registers.now + 1 }
     requires low { 1 + extension (labels_tabled known) place.left.now place.position class place.d ≤ extension_in (labels_tabled known) place }
     ensures { FallsOn known.entry place.entry result }
 {
-    let next = Place { c: class, ..place };
+    let next = PlanState { c: class, ..place };
     let instr = Instr::SmSetSectC(section_of(known, class));
     Step { instr, next }
 }
 
 /// The step that sets register D to a section of a class.
-pub(crate) fn set_d<'a>(known: Known<'a>, place: Place<'a>, class: usize) -> Step<'a>
+pub(crate) fn set_d<'a>(known: SolvedSuffix<'a>, place: PlanState<'a>, class: usize) -> Step<'a>
     requires tracked { Tracked known place }
     requires class { class < length known.registers.now + 1 }
     requires low { 1 + extension (labels_tabled known) place.left.now place.position place.c class ≤ extension_in (labels_tabled known) place }
     ensures { FallsOn known.entry place.entry result }
 {
-    let next = Place { d: class, ..place };
+    let next = PlanState { d: class, ..place };
     let instr = Instr::SmSetSectD(section_of(known, class));
     Step { instr, next }
 }
 
 /// The step to the offset of the next fixup, from anywhere.
-pub(crate) fn set_position<'a>(known: Known<'a>, here: Here<'a>) -> Step<'a>
+pub(crate) fn set_position<'a>(known: SolvedSuffix<'a>, here: OpenState<'a>) -> Step<'a>
     requires here { TrackedHere known here }
     requires low { 2 + extension (labels_tabled known) here.place.left.now here.first.offset here.place.c here.place.d ≤ extension_in (labels_tabled known) here.place }
     requires fits { here.first.offset < 67108864 }
     ensures { FallsOn known.entry here.entry.place result }
 {
     let position = u64::from(here.first.offset);
-    let next = Place {
+    let next = PlanState {
         position,
         ..here.place
     };
@@ -76,7 +76,7 @@ pub(crate) fn set_position<'a>(known: Known<'a>, here: Here<'a>) -> Step<'a>
 }
 
 /// The step by so many bytes.
-pub(crate) fn increment<'a>(known: Known<'a>, place: Place<'a>, bytes: u64) -> Step<'a>
+pub(crate) fn increment<'a>(known: SolvedSuffix<'a>, place: PlanState<'a>, bytes: u64) -> Step<'a>
     requires tracked { Tracked known place }
     requires some { 1 ≤ bytes }
     requires few { bytes ≤ 4096 }
@@ -84,7 +84,7 @@ pub(crate) fn increment<'a>(known: Known<'a>, place: Place<'a>, bytes: u64) -> S
     ensures { FallsOn known.entry place.entry result }
 {
     let position = place.position + bytes;
-    let next = Place { position, ..place };
+    let next = PlanState { position, ..place };
     let instr = Instr::IncrPosition(bytes as u32);
     Step { instr, next }
 }

@@ -7,11 +7,11 @@ ghost use Rattle.pef_reloc.specs.Fixups.{fixups_fit};
 use crate::fault::PlanFault;
 use crate::program::least_program;
 use crate::registers::registers_of;
+use crate::runs::SolvedSuffix;
 use crate::tables::fill;
-use pef_labels::Certificate;
+use crate::windows::Looks;
+use pef_cert::Certificate;
 use pef_reloc::Fixup;
-use pef_runs::Known;
-use pef_squares::Looks;
 use std::alloc::Global;
 use std::cell::Cell;
 
@@ -51,7 +51,7 @@ pub fn counted_plan(
 {
     let registers = registers_of(alloc, fixups)?;
     let tables = fill(alloc, fixups, &registers, looks)?;
-    let known = Known {
+    let known = SolvedSuffix {
         registers: &registers,
         labels: &tables.labels,
         skips: &tables.skips,

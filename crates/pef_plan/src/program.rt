@@ -6,14 +6,14 @@ ghost use Rattle.pef_reloc.specs.Fixups.{fixups_fit};
 ghost use Rattle.pef_reloc.specs.Steps.{Least};
 
 use crate::reading::{step_at, step_to};
+use crate::runs::{OpenState, PlanState, SolvedSuffix, Step};
 use pef_cert::class_of;
 use pef_reloc::{Fixup, Instr};
-use pef_runs::{Here, Known, Place, Step};
 use std::alloc::{AllocError, Global};
 
 /// A program of the fewest halfwords that makes fixups, read off their tables.
 pub(crate) fn least_program<'a>(
-    known: Known<'a>,
+    known: SolvedSuffix<'a>,
     alloc: Global,
     fixups: &'a [Fixup],
 ) -> Result<Vec<Instr>, AllocError>
@@ -23,7 +23,7 @@ pub(crate) fn least_program<'a>(
     ensures { IfOk result (λ program. Least fixups.entry.now program.items) }
 {
     let mut program = Vec::new(alloc);
-    let mut place = Place {
+    let mut place = PlanState {
         left: fixups,
         position: 0,
         import_index: 0,
@@ -34,7 +34,7 @@ pub(crate) fn least_program<'a>(
         let first = *first;
         let step = next_step(
             known,
-            Here {
+            OpenState {
                 place,
                 first,
                 others,
@@ -47,7 +47,7 @@ pub(crate) fn least_program<'a>(
 }
 
 /// An instruction that leads on.
-fn next_step<'a>(known: Known<'a>, here: Here<'a>) -> Step<'a>
+fn next_step<'a>(known: SolvedSuffix<'a>, here: OpenState<'a>) -> Step<'a>
     requires { TrackedHere known here }
     ensures { FallsOn known.entry here.entry.place result }
 {

@@ -4,20 +4,19 @@ ghost use Rattle.pef_reloc.specs.declared.fixup.Base.TheVariants.{Section};
 
 use crate::direct::direct;
 use crate::moves::{increment, label_of, set_c, set_d, set_position};
+use crate::runs::{OpenState, PlanState, SolvedSuffix, Step};
 use crate::skips::best_skip;
-use pef_cert::{REACH, SKIP_REACH, class_of};
-use pef_fixups::WORD;
+use pef_cert::{REACH, SKIP_REACH, WORD, class_of};
 use pef_reloc::Base;
-use pef_runs::{Here, Known, Place, Step};
 
 /// An instruction that leads on from a fixup.
-pub(crate) fn step_at<'a>(known: Known<'a>, here: Here<'a>) -> Step<'a>
+pub(crate) fn step_at<'a>(known: SolvedSuffix<'a>, here: OpenState<'a>) -> Step<'a>
     requires here { TrackedHere known here }
     requires at { here.place.position ≡ here.first.offset }
     ensures { FallsOn known.entry here.entry.place result }
 {
     let best = direct(known, here);
-    let Place { c, d, .. } = here.place;
+    let PlanState { c, d, .. } = here.place;
     let row = known.row(here.place.left.len());
     let label = label_of(known, row, c, d);
     if best.value <= label {
@@ -35,7 +34,7 @@ pub(crate) fn step_at<'a>(known: Known<'a>, here: Here<'a>) -> Step<'a>
 }
 
 /// An instruction that leads on from before or behind a fixup.
-pub(crate) fn step_to<'a>(known: Known<'a>, here: Here<'a>) -> Step<'a>
+pub(crate) fn step_to<'a>(known: SolvedSuffix<'a>, here: OpenState<'a>) -> Step<'a>
     requires here { TrackedHere known here }
     requires away { here.place.position ≢ here.first.offset }
     ensures { FallsOn known.entry here.entry.place result }
@@ -58,7 +57,7 @@ pub(crate) fn step_to<'a>(known: Known<'a>, here: Here<'a>) -> Step<'a>
 }
 
 /// The skip to a fixup so many bytes ahead, or the change of register D before it.
-fn skip_to<'a>(known: Known<'a>, here: Here<'a>, ahead: u64) -> Step<'a>
+fn skip_to<'a>(known: SolvedSuffix<'a>, here: OpenState<'a>, ahead: u64) -> Step<'a>
     requires here { TrackedHere known here }
     requires away { here.place.position ≢ here.first.offset }
     requires ahead { ahead ≡ here.first.offset - here.place.position }
@@ -72,7 +71,12 @@ fn skip_to<'a>(known: Known<'a>, here: Here<'a>, ahead: u64) -> Step<'a>
 }
 
 /// The same where the fixup has a section, so many words ahead.
-fn skip_words<'a>(known: Known<'a>, here: Here<'a>, words: u64, section: u32) -> Step<'a>
+fn skip_words<'a>(
+    known: SolvedSuffix<'a>,
+    here: OpenState<'a>,
+    words: u64,
+    section: u32,
+) -> Step<'a>
     requires here { TrackedHere known here }
     requires away { here.place.position ≢ here.first.offset }
     requires words { words ≡ (here.first.offset - here.place.position) / 4 }

@@ -1,20 +1,20 @@
 ghost use Rattle.std.specs.Prelude.{◌≡◌, ◌+◌, ◌*◌, ◌<◌, ◌≤◌, ◌⊎◌, ◌∷◌, ℕ, length, slice_index};
-ghost use Rattle.pef_runs.specs.Ends.{EndsAt};
-ghost use Rattle.pef_runs.specs.Places.{AtOf};
-ghost use Rattle.pef_runs.specs.Tables.{number_in, place_of};
+ghost use Rattle.pef_plan.specs.Runs.Ends.{EndsAt};
+ghost use Rattle.pef_plan.specs.Runs.Places.{AtOf};
+ghost use Rattle.pef_plan.specs.Runs.Tables.{number_in, place_of};
 ghost use Rattle.pef_plan.specs.Kept.Met.{ClassOf};
 ghost use Rattle.pef_plan.specs.Kept.Rows.{ClosedOf, DirectRow, LeastOf, LineOf, LinesOf, RowOf, SmallLine};
 ghost use Rattle.pef_reloc.specs.Limits.{most_sections};
 
 use crate::lows::low;
+use crate::runs::{FixupState, OpenState, PlanState, RunEnds, SolvedSuffix};
 use pef_cert::class_of;
 use pef_reloc::Base;
-use pef_runs::{At, Here, Known, Place, RunEnds};
 
 /// Fills in the labels at a fixup, from what is known after it. `lows` is room for a number of each class.
 pub(crate) fn fill_labels(
-    known: Known<'_>,
-    at: At<'_>,
+    known: SolvedSuffix<'_>,
+    at: FixupState<'_>,
     ends: &RunEnds,
     row: &mut [u32],
     lows: &mut [u32],
@@ -33,7 +33,7 @@ pub(crate) fn fill_labels(
 }
 
 /// Fills in what the best instructions that add at a fixup lead to, without a change of registers.
-fn fill_direct(known: Known<'_>, at: At<'_>, ends: &RunEnds, row: &mut [u32])
+fn fill_direct(known: SolvedSuffix<'_>, at: FixupState<'_>, ends: &RunEnds, row: &mut [u32])
     requires at { AtOf known at }
     requires ends { EndsAt known at.others.now (at.first ∷ at.others.now) ends.now }
     requires row { length row.old ≡ (length known.registers.now + 1) * (length known.registers.now + 1) }
@@ -54,7 +54,7 @@ fn fill_direct(known: Known<'_>, at: At<'_>, ends: &RunEnds, row: &mut [u32])
 }
 
 /// The class of a base's section. An import has none.
-fn class_at(known: Known<'_>, base: Base) -> usize
+fn class_at(known: SolvedSuffix<'_>, base: Base) -> usize
     ensures { ClassOf known.entry.registers.now base result }
 {
     match base {
@@ -64,7 +64,7 @@ fn class_at(known: Known<'_>, base: Base) -> usize
 }
 
 /// The state with the registers in these classes.
-pub(crate) fn at_classes<'a>(at: At<'a>, c: usize, d: usize) -> Here<'a>
+pub(crate) fn at_classes<'a>(at: FixupState<'a>, c: usize, d: usize) -> OpenState<'a>
     ensures first { result.first ≡ at.entry.first }
     ensures others { result.others.now ≡ at.entry.others.now }
     ensures left { result.place.left.now ≡ at.entry.left.now }
@@ -73,8 +73,8 @@ pub(crate) fn at_classes<'a>(at: At<'a>, c: usize, d: usize) -> Here<'a>
     ensures c { result.place.c ≡ c }
     ensures d { result.place.d ≡ d }
 {
-    Here {
-        place: Place {
+    OpenState {
+        place: PlanState {
             left: at.left,
             position: u64::from(at.first.offset),
             import_index: at.import_index,

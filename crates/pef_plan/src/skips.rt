@@ -1,21 +1,26 @@
 ghost use Rattle.std.specs.Prelude.{◌≡◌, ◌+◌, ◌*◌, ◌<◌, ◌≤◌, ◌∷◌, Some, length};
 ghost use Rattle.pef_cert.specs.Extension.{extension, skips_at};
 ghost use Rattle.pef_cert.specs.Labels.{Labels, class_of};
-ghost use Rattle.pef_runs.specs.Ends.{EndsAt};
-ghost use Rattle.pef_runs.specs.Places.{AtOf, Chosen, HereOf};
+ghost use Rattle.pef_plan.specs.Runs.Ends.{EndsAt};
+ghost use Rattle.pef_plan.specs.Runs.Places.{AtOf, Chosen, HereOf};
 ghost use Rattle.pef_plan.specs.Kept.Rows.{SkipsOf};
-ghost use Rattle.pef_runs.specs.Runs.{Holds};
-ghost use Rattle.pef_runs.specs.Tables.{Agrees};
+ghost use Rattle.pef_plan.specs.Runs.Runs.{Holds};
+ghost use Rattle.pef_plan.specs.Runs.Tables.{Agrees};
 ghost use Rattle.pef_reloc.specs.declared.fixup.Base.TheVariants.{Section};
 
 use crate::direct::{place_behind, value_behind};
 use crate::rows::at_classes;
+use crate::runs::{Choice, FixupState, OpenState, Run, RunEnds, SolvedSuffix, Step};
 use pef_cert::class_of;
 use pef_reloc::{Base, Instr};
-use pef_runs::{At, Choice, Here, Known, Run, RunEnds, Step};
 
 /// Fills in the least skips at a fixup, by the class of register C.
-pub(crate) fn fill_skips(known: Known<'_>, at: At<'_>, ends: &RunEnds, skips: &mut [u32])
+pub(crate) fn fill_skips(
+    known: SolvedSuffix<'_>,
+    at: FixupState<'_>,
+    ends: &RunEnds,
+    skips: &mut [u32],
+)
     requires at { AtOf known at }
     requires ends { EndsAt known at.others.now (at.first ∷ at.others.now) ends.now }
     requires skips { length skips.old ≡ length known.registers.now + 1 }
@@ -29,7 +34,13 @@ pub(crate) fn fill_skips(known: Known<'_>, at: At<'_>, ends: &RunEnds, skips: &m
 }
 
 /// The same where the fixup has a section.
-fn fill_section(known: Known<'_>, at: At<'_>, ends: &RunEnds, section: u32, skips: &mut [u32])
+fn fill_section(
+    known: SolvedSuffix<'_>,
+    at: FixupState<'_>,
+    ends: &RunEnds,
+    section: u32,
+    skips: &mut [u32],
+)
     requires at { AtOf known at }
     requires ends { EndsAt known at.others.now (at.first ∷ at.others.now) ends.now }
     requires base { at.first.base ≡ Section section }
@@ -44,7 +55,7 @@ fn fill_section(known: Known<'_>, at: At<'_>, ends: &RunEnds, section: u32, skip
 }
 
 /// The least that a skip leads to which adds at the fixup, where register D holds its section.
-fn low_skip(known: Known<'_>, here: Here<'_>, ends: &RunEnds, section: u32) -> u64
+fn low_skip(known: SolvedSuffix<'_>, here: OpenState<'_>, ends: &RunEnds, section: u32) -> u64
     requires here { HereOf known here }
     requires base { here.first.base ≡ Section section }
     requires holds { Holds known.registers.now section here.place.d }
@@ -59,8 +70,8 @@ fn low_skip(known: Known<'_>, here: Here<'_>, ends: &RunEnds, section: u32) -> u
 
 /// The best skip that passes so many words and then adds at the fixup, which has a section.
 pub(crate) fn best_skip<'a>(
-    known: Known<'a>,
-    here: Here<'a>,
+    known: SolvedSuffix<'a>,
+    here: OpenState<'a>,
     words: u32,
     section: u32,
 ) -> Choice<'a>
@@ -79,7 +90,12 @@ pub(crate) fn best_skip<'a>(
 }
 
 /// The skip that adds at the fixup alone.
-fn single_skip<'a>(known: Known<'a>, here: Here<'a>, words: u32, section: u32) -> Choice<'a>
+fn single_skip<'a>(
+    known: SolvedSuffix<'a>,
+    here: OpenState<'a>,
+    words: u32,
+    section: u32,
+) -> Choice<'a>
     requires here { HereOf known here }
     requires base { here.first.base ≡ Section section }
     requires holds { Holds known.registers.now section here.place.d }

@@ -5,11 +5,11 @@ ghost use Rattle.pef_reloc.specs.Deliveries.{index_after, index_past};
 ghost use Rattle.pef_reloc.specs.Fixups.{fixups_fit};
 
 use crate::rows::fill_labels;
+use crate::runs::{FixupState, RunEnds, SolvedSuffix};
 use crate::skips::fill_skips;
-use pef_labels::LabelRows;
+use crate::windows::{Looks, Table, zeros};
+use pef_cert::LabelRows;
 use pef_reloc::{Base, Fixup};
-use pef_runs::{At, Known, RunEnds};
-use pef_squares::{Looks, Table, zeros};
 use std::alloc::{AllocError, Global};
 
 /// Labels and least skips, by how many fixups are left.
@@ -46,7 +46,7 @@ pub(crate) fn fill(
     'fixups: while at > 0 {
         at -= 1;
         let state = state_at(fixups, at, indices[at]);
-        let known = Known {
+        let known = SolvedSuffix {
             registers,
             labels: &labels,
             skips: &skips,
@@ -62,7 +62,7 @@ pub(crate) fn fill(
 }
 
 /// The state at the fixup of an index, with the index of the next import.
-fn state_at(fixups: &[Fixup], at: usize, import_index: u64) -> At<'_>
+fn state_at(fixups: &[Fixup], at: usize, import_index: u64) -> FixupState<'_>
     requires at { at < length fixups.now }
     requires import_index { import_index ≡ index_after (take at fixups.now) 0 }
     ensures left { result.left.now ≡ drop at fixups.now }
@@ -72,7 +72,7 @@ fn state_at(fixups: &[Fixup], at: usize, import_index: u64) -> At<'_>
 {
     let (_, left) = fixups.split_at(at);
     let (_, others) = fixups.split_at(at + 1);
-    At {
+    FixupState {
         left,
         first: fixups[at],
         others,

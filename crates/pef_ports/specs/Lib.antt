@@ -5,3 +5,4 @@ pub mod Names
 pub mod Ports
 pub mod Sent
 pub mod Text
+pub mod System

@@ -8,6 +8,7 @@ mod line;
 mod name;
 mod page;
 mod ports;
+pub mod system;
 
 pub use dump::print_memory;
 pub use input::{InputFault, read_input};

@@ -4,3 +4,4 @@ pub mod Parts
 pub mod Script
 pub mod Views
 pub mod WellFormed
+pub mod Text

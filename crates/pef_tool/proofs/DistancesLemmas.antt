@@ -1,24 +1,24 @@
 -- The certificates of what was linked can be printed, and `check` says yes to each.
 use Rattle.std.proofs.Common.{◌≡◌, ℕ, ◌+◌, ◌^◌, ◌≤◌, ◌==◌, suc, true, false, List, [], ◌∷◌, Result, Ok, Err, length, map, refl, sym, ap, ap₂, subst, ◌∙◌, eq-eqb, arith}
 use Rattle.std.specs.List.{AllByRecursion}
-use Rattle.pef_labels.specs.Certified.{Certified}
-use Rattle.pef_cert_text.specs.Grammar.{certificates_of}
-use Rattle.pef_cert_text.specs.Printed.{Printable, certificates_text}
-use Rattle.pef_cert_text.proofs.Laws.{reads_back, valid_prints}
+use Rattle.pef_cert.specs.Certified.{Certified}
+use Rattle.pef_cert.specs.Text.Grammar.{certificates_of}
+use Rattle.pef_cert.specs.Text.Printed.{Printable, certificates_text}
+use Rattle.pef_cert.proofs.Laws.{reads_back, valid_prints}
 use Rattle.pef_ports.specs.Ports.{FilesPort, Reads}
 use Rattle.pef_reloc.specs.Instrs.{program_length}
-use Rattle.pef_script_text.specs.Grammar as grammar
-use Rattle.pef_script_text.specs.Grammar.{script_of}
+use Rattle.pef_script.specs.Text.Grammar as grammar
+use Rattle.pef_script.specs.Text.Grammar.{script_of}
 use Rattle.pef_script.specs.Script.{DescribedScript, DescribedSection}
 use Rattle.pef_script.specs.WellFormed.{SectionHolds}
 use Rattle.pef_write.specs.Linked.{AreCertified, IsLinked, LinkedContainer}
-use Rattle.pef_verdicts.specs.Check.{AreVerdicts, Judges, Texts, are_numbered, match_sections}
+use Rattle.pef_tool.specs.Check.{AreVerdicts, Judges, Texts, are_numbered, match_sections}
 use Rattle.std.proofs.lemmas.Bool.{and_from}
 use Rattle.pef_tool.specs.Distances.{IsYesToAll, LinksFile}
-use Rattle.pef_verdicts.specs.declared.check.Verdict.{Verdict}
-use Rattle.pef_verdicts.specs.declared.check.Verdict.TheVariants.{Yes, No}
-use Rattle.pef_answers.specs.declared.refusal.Refusal.{Refusal}
-use Rattle.pef_answers.specs.declared.refusal.Refusal.TheVariants.{Script, Listing, BadCertificate, SectionsDiffer, InputUnreadable, InputTooLong, OutOfMemory}
+use Rattle.pef_tool.specs.declared.check.Verdict.{Verdict}
+use Rattle.pef_tool.specs.declared.check.Verdict.TheVariants.{Yes, No}
+use Rattle.pef_tool.specs.declared.answers.refusal.Refusal.{Refusal}
+use Rattle.pef_tool.specs.declared.answers.refusal.Refusal.TheVariants.{Script, Listing, BadCertificate, SectionsDiffer, InputUnreadable, InputTooLong, OutOfMemory}
 
 -- certificates for the sections of a script can be printed
 certified_print : (sections imports k : ℕ) (each : List DescribedSection) (certificates : List Certified) → AllByRecursion (SectionHolds sections imports) each → AreCertified k each certificates → k + length each ≤ 2 ^ 32 → AllByRecursion Printable certificates

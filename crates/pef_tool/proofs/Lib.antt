@@ -1,3 +1,12 @@
 mod DistancesLemmas
 mod LinkLemmas
 mod OutcomeLemmas
+mod AloneLemmas
+mod AnswersProofs
+mod CheckLemmas
+mod EndLemmas
+mod LoadLemmas
+mod LoadedLemmas
+mod RequestProofs
+mod RoomLemmas
+mod ShowLemmas

@@ -2,7 +2,7 @@
 use Rattle.std.proofs.Common.{◌≡◌, List, ℕ, Result, Ok, sym, ap, subst, ◌∙◌}
 use Rattle.pef_ports.specs.Ports.{FilesPort, Reads, Writes}
 use Rattle.pef_ports.specs.declared.ports.FileFault.{FileFault}
-use Rattle.pef_script_text.specs.Grammar.{script_of}
+use Rattle.pef_script.specs.Text.Grammar.{script_of}
 use Rattle.pef_script.specs.Script.{DescribedScript}
 use Rattle.pef_tool.specs.Link.{WritesLinked}
 use Rattle.pef_write.specs.Linked.{IsLinked, LinkedContainer}

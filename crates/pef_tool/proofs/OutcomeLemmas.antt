@@ -1,15 +1,15 @@
 -- How a command ends, from what it did before.
 use Rattle.std.proofs.Common.{◌≡◌, List, [], ℕ, Option, None, Some, Ok, Err, refl, sym, ap, ◌∙◌, inl, inr, arith}
 use Rattle.pef_ports.specs.Ports.{Begins, FilesPort, Reads, Stream}
-use Rattle.pef_request.specs.Requests.{Asked, check, distances, link, list, load, show}
-use Rattle.pef_script_text.specs.Grammar.{script_of}
-use Rattle.pef_answers.specs.Answers.{answer_refused}
-use Rattle.pef_answers.specs.Refusals.{refusal_text}
-use Rattle.pef_answers.specs.declared.refusal.Refusal.{Refusal}
-use Rattle.pef_answers.specs.declared.refusal.Refusal.TheVariants as refusal
-use Rattle.pef_prepared.specs.Load as load
-use Rattle.pef_prepared.specs.Show as show
-use Rattle.pef_verdicts.specs.Check as check
+use Rattle.pef_tool.specs.Request.Requests.{Asked, check, distances, link, list, load, show}
+use Rattle.pef_script.specs.Text.Grammar.{script_of}
+use Rattle.pef_tool.specs.Answers.Answers.{answer_refused}
+use Rattle.pef_tool.specs.Answers.Refusals.{refusal_text}
+use Rattle.pef_tool.specs.declared.answers.refusal.Refusal.{Refusal}
+use Rattle.pef_tool.specs.declared.answers.refusal.Refusal.TheVariants as refusal
+use Rattle.pef_tool.specs.Load as load
+use Rattle.pef_tool.specs.Show as show
+use Rattle.pef_tool.specs.Check as check
 use Rattle.pef_tool.specs.Distances as distances
 use Rattle.pef_tool.specs.Link as link
 use Rattle.pef_tool.specs.Kept.Linking.{LinksText}

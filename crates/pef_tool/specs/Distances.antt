@@ -1,20 +1,20 @@
 -- What `distances SCRIPT` answers (README): it reads SCRIPT, links it, and prints the certificates of its sections. No
 -- other call is made on files: the container isn't written.
 use Rattle.std.specs.Prelude.{◌≡◌, ◌⊎◌, ℕ, List, Result, Ok, Err, map}
-use Rattle.pef_labels.specs.Certified.{Certified}
-use Rattle.pef_cert_text.specs.Printed.{certificates_text}
+use Rattle.pef_cert.specs.Certified.{Certified}
+use Rattle.pef_cert.specs.Text.Printed.{certificates_text}
 use Rattle.pef_ports.specs.Ports.{FilesPort, Reads}
 use Rattle.pef_ports.specs.declared.ports.FileFault.TheVariants as file_fault
 use Rattle.pef_reloc.specs.Instrs.{program_length}
-use Rattle.pef_script_text.specs.Grammar.{script_of}
+use Rattle.pef_script.specs.Text.Grammar.{script_of}
 use Rattle.pef_script.specs.Script.{DescribedScript}
-use Rattle.pef_answers.specs.Answers.{Answer, answer_done, answer_refused}
+use Rattle.pef_tool.specs.Answers.Answers.{Answer, answer_done, answer_refused}
 use Rattle.pef_tool.specs.Link.{RefusesFile}
-use Rattle.pef_answers.specs.Refusals.{refusal_text, unreadable_text}
-use Rattle.pef_verdicts.specs.declared.check.Verdict.{Verdict}
-use Rattle.pef_verdicts.specs.declared.check.Verdict.TheVariants.{Yes}
-use Rattle.pef_answers.specs.declared.refusal.Refusal.{Refusal}
-use Rattle.pef_answers.specs.declared.refusal.Refusal.TheVariants.{Script, OutOfMemory}
+use Rattle.pef_tool.specs.Answers.Refusals.{refusal_text, unreadable_text}
+use Rattle.pef_tool.specs.declared.check.Verdict.{Verdict}
+use Rattle.pef_tool.specs.declared.check.Verdict.TheVariants.{Yes}
+use Rattle.pef_tool.specs.declared.answers.refusal.Refusal.{Refusal}
+use Rattle.pef_tool.specs.declared.answers.refusal.Refusal.TheVariants.{Script, OutOfMemory}
 use Rattle.pef_write.specs.Linked.{IsLinked, LinkedContainer}
 
 -- SCRIPT was read, and its script linked

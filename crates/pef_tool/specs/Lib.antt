@@ -3,3 +3,11 @@ pub mod Kept
 pub mod Link
 pub mod List
 pub mod Run
+pub mod Answers
+pub mod Check
+pub mod Fragment
+pub mod Limits
+pub mod Load
+pub mod Loaded
+pub mod Request
+pub mod Show

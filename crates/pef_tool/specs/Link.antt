@@ -4,13 +4,13 @@ use Rattle.std.specs.Prelude.{◌≡◌, ◌⊎◌, ℕ, ◌+◌, List, [], ◌�
 use Rattle.pef_ports.specs.Ports.{FilesPort, Reads, Writes}
 use Rattle.pef_ports.specs.declared.ports.FileFault.{FileFault}
 use Rattle.pef_ports.specs.declared.ports.FileFault.TheVariants as file_fault
-use Rattle.pef_script_text.specs.Grammar.{script_of}
+use Rattle.pef_script.specs.Text.Grammar.{script_of}
 use Rattle.pef_script.specs.Script.{DescribedScript}
-use Rattle.pef_script_text.specs.declared.fault.LineFault.{LineFault}
-use Rattle.pef_answers.specs.declared.refusal.Refusal.{Refusal}
-use Rattle.pef_answers.specs.declared.refusal.Refusal.TheVariants.{Script, OutOfMemory}
-use Rattle.pef_answers.specs.Answers.{Answer, answer_done, answer_refused}
-use Rattle.pef_answers.specs.Refusals.{refusal_text, unreadable_text, unwritable_text}
+use Rattle.pef_script.specs.declared.text.fault.LineFault.{LineFault}
+use Rattle.pef_tool.specs.declared.answers.refusal.Refusal.{Refusal}
+use Rattle.pef_tool.specs.declared.answers.refusal.Refusal.TheVariants.{Script, OutOfMemory}
+use Rattle.pef_tool.specs.Answers.Answers.{Answer, answer_done, answer_refused}
+use Rattle.pef_tool.specs.Answers.Refusals.{refusal_text, unreadable_text, unwritable_text}
 use Rattle.pef_write.specs.Linked.{IsLinked, LinkedContainer}
 
 -- SCRIPT was read; it is no script, by its first refusal

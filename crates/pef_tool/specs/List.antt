@@ -6,9 +6,9 @@ use Rattle.pef_listing.specs.Listing.{listing_text}
 use Rattle.pef_listing.specs.declared.fault.ListFault.{ListFault}
 use Rattle.pef_ports.specs.Ports.{FilesPort, Reads}
 use Rattle.pef_ports.specs.declared.ports.FileFault.TheVariants as file_fault
-use Rattle.pef_answers.specs.Answers.{Answer, answer_done, answer_refused}
-use Rattle.pef_answers.specs.Refusals.{refusal_text, unreadable_text}
-use Rattle.pef_answers.specs.declared.refusal.Refusal.TheVariants.{Listing, OutOfMemory}
+use Rattle.pef_tool.specs.Answers.Answers.{Answer, answer_done, answer_refused}
+use Rattle.pef_tool.specs.Answers.Refusals.{refusal_text, unreadable_text}
+use Rattle.pef_tool.specs.declared.answers.refusal.Refusal.TheVariants.{Listing, OutOfMemory}
 
 -- FILE was read; this is what it can be listed as, or the first refusal of its readers
 pub record ReadsParts {F : Type 0} (port : FilesPort F) (before after : F) (path : List ℕ) (listed : Result Parts ListFault) : Type 0 where

@@ -1,16 +1,16 @@
 -- What a run answers: a command has a line here, and its answers in a file of their own.
 use Rattle.std.specs.Prelude.{◌≡◌, ◌⊎◌, Option, None, Some}
 use Rattle.pef_ports.specs.Ports.{FilesPort, Stream}
-use Rattle.pef_request.specs.Requests.{Asked, check, distances, link, list, load, show}
-use Rattle.pef_answers.specs.Answers.{Answer, answer_refused, answer_usage}
-use Rattle.pef_prepared.specs.Load.{LoadAnswers}
-use Rattle.pef_prepared.specs.Show.{ShowAnswers}
-use Rattle.pef_verdicts.specs.Check.{CheckAnswers}
+use Rattle.pef_tool.specs.Request.Requests.{Asked, check, distances, link, list, load, show}
+use Rattle.pef_tool.specs.Answers.Answers.{Answer, answer_refused, answer_usage}
+use Rattle.pef_tool.specs.Load.{LoadAnswers}
+use Rattle.pef_tool.specs.Show.{ShowAnswers}
+use Rattle.pef_tool.specs.Check.{CheckAnswers}
 use Rattle.pef_tool.specs.Distances.{DistancesAnswers}
 use Rattle.pef_tool.specs.Link.{LinkAnswers}
 use Rattle.pef_tool.specs.List.{ListAnswers}
-use Rattle.pef_answers.specs.Refusals.{refusal_text}
-use Rattle.pef_answers.specs.declared.refusal.Refusal.TheVariants.{OutOfMemory}
+use Rattle.pef_tool.specs.Answers.Refusals.{refusal_text}
+use Rattle.pef_tool.specs.declared.answers.refusal.Refusal.TheVariants.{OutOfMemory}
 
 -- what words that ask for no command are answered; memory may be refused before that is seen
 abbrev pub UsageAnswers : Answer → Type 0

@@ -1,17 +1,18 @@
 ghost use Rattle.std.specs.Prelude.{Some, map, string_bytes};
-ghost use Rattle.pef_request.specs.CommandLine.{asked_by};
-ghost use Rattle.pef_request.specs.Requests.{asked_of};
-ghost use Rattle.pef_answers.specs.Answers.{Answer, IsDelivered};
+ghost use Rattle.pef_tool.specs.Request.CommandLine.{asked_by};
+ghost use Rattle.pef_tool.specs.Request.Requests.{asked_of};
+ghost use Rattle.pef_tool.specs.Answers.Answers.{Answer, IsDelivered};
 ghost use Rattle.pef_tool.specs.Run.{RunAnswers};
 
+use crate::answers::{Refusal, Usage, deliver};
+use crate::check::check_files;
 use crate::distances::print_distances;
 use crate::link::link_files;
 use crate::list::list_file;
-use pef_answers::{Refusal, Usage, deliver};
+use crate::load::load_files;
+use crate::request::{Request, WordsFault, read_words};
+use crate::show::show_input;
 use pef_ports::{Files, Sink, Source};
-use pef_prepared::{load_files, show_input};
-use pef_request::{Request, WordsFault, read_words};
-use pef_verdicts::check_files;
 use std::alloc::Global;
 
 /// Runs the command that the words ask for, of which the first is the program's name.

@@ -1,9 +1,9 @@
-ghost use Rattle.pef_answers.specs.Answers.{Answer, IsDelivered, answer_done};
+ghost use Rattle.pef_tool.specs.Answers.Answers.{Answer, IsDelivered, answer_done};
 ghost use Rattle.pef_tool.specs.Distances.{DistancesAnswers};
 
+use crate::answers::{DONE, FileRefusal, Refusal, Reply, deliver};
 use crate::linking::link_text;
-use pef_answers::{DONE, FileRefusal, Refusal, Reply, deliver};
-use pef_cert_text::print;
+use pef_cert::Certificate;
 use pef_ports::{FileFault, Files, Page, Sink, StreamFault, send};
 use std::alloc::Global;
 
@@ -30,7 +30,7 @@ pub fn print_distances<F: Files, W: Sink>(
         Ok(linked) => linked,
         Err(refusal) => return deliver(out, &refusal),
     };
-    match print(alloc, linked.certificates()) {
+    match Certificate::print(alloc, linked.certificates()) {
         Ok(text) => deliver(out, &Distances { text }),
         Err(_) => deliver(out, &Refusal::OutOfMemory),
     }

@@ -1,16 +1,25 @@
 //! The commands of `pef`, over any files, input and output.
 //!
 //! A command is one file: a function that reads what it is handed, delivers one `Reply` while all that it
-//! borrows is there, and says the status. Its clause says what it answers. `show` and `load` stand in a crate of their
-//! own, `pef_prepared`, and `check` in `pef_verdicts`. `run` chooses the command by the words.
+//! borrows is there, and says the status. Its clause says what it answers. [`run`] chooses the command by the
+//! words.
 #![tactic(auto)]
 
+mod answers;
+mod check;
 mod commands;
 mod distances;
+mod fragment;
 mod link;
 mod linking;
 mod list;
+mod load;
+mod loaded;
+mod request;
+mod show;
 pub mod theorems;
 
+pub use answers::{Refusal, deliver};
 pub use commands::run;
 pub use pef_ports::{FileFault, Files, Sink, Source, StreamFault};
+pub use request::plain_words;

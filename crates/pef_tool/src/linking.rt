@@ -1,7 +1,7 @@
 ghost use Rattle.pef_tool.specs.Kept.Linking.{LinksText};
 
-use pef_answers::{Refusal, script_refusal};
-use pef_script_text::read;
+use crate::answers::{Refusal, script_refusal};
+use pef_script::Script;
 use pef_write::{Linked, link};
 use std::alloc::Global;
 
@@ -9,7 +9,7 @@ use std::alloc::Global;
 pub(crate) fn link_text(alloc: Global, text: &[u8]) -> Result<Linked, Refusal>
     ensures { LinksText text.now result }
 {
-    let script = match read(alloc, text) {
+    let script = match Script::read(alloc, text) {
         Ok(script) => script,
         Err(fault) => return Err(script_refusal(fault)),
     };

@@ -1,9 +1,9 @@
 ghost use Rattle.pef_listing.specs.Listing.{listing_text};
 ghost use Rattle.pef_listing.specs.Views.{parts};
-ghost use Rattle.pef_answers.specs.Answers.{Answer, IsDelivered, answer_done};
+ghost use Rattle.pef_tool.specs.Answers.Answers.{Answer, IsDelivered, answer_done};
 ghost use Rattle.pef_tool.specs.List.{ListAnswers};
 
-use pef_answers::{DONE, FileRefusal, Refusal, Reply, deliver};
+use crate::answers::{DONE, FileRefusal, Refusal, Reply, deliver};
 use pef_listing::Listing;
 use pef_ports::{FileFault, Files, Page, Sink, StreamFault};
 use std::alloc::Global;

@@ -4,7 +4,7 @@ use Rattle.std.specs.List.{All, AllByRecursion}
 use Rattle.std.proofs.lemmas.Bool.{and_from, and_parts, eqb-true, lt-ltb}
 use Rattle.std.proofs.lemmas.List.{length-take-le, take_more}
 use Rattle.std.proofs.lemmas.List.Elements.{All-cons}
-use Rattle.pef_labels.specs.Certified.{Certified}
+use Rattle.pef_cert.specs.Certified.{Certified}
 use Rattle.pef_cert.proofs.Laws.{valid-least}
 use Rattle.pef_plan.proofs.Laws.{least-names, least-short}
 use Rattle.pef_reloc.specs.declared.fixup.Base.{Base}

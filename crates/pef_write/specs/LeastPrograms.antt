@@ -2,7 +2,7 @@
 -- that makes the same fixups has fewer halfwords. This is our own rule.
 use Rattle.std.specs.Prelude.{◌≡◌, ℕ, ◌==◌, Some, slice_get}
 use Rattle.std.specs.List.{filter}
-use Rattle.pef_labels.specs.Certified.{Certified}
+use Rattle.pef_cert.specs.Certified.{Certified}
 use Rattle.pef_reloc.specs.Instrs.{program_length}
 use Rattle.pef_reloc.specs.Steps.{Least}
 use Rattle.pef_script.specs.Script.{DescribedScript, DescribedSection}

@@ -3,7 +3,7 @@
 -- (Mac OS Runtime Architectures, "PEF Structure").
 use Rattle.std.specs.Prelude.{◌≡◌, ℕ, true, pos, ◌+◌, ◌*◌, ◌≤◌, ◌==◌, List, [], ◌∷◌, ◌++◌, length, map, nat_lt, slice_index_or}
 use Rattle.std.specs.List.{count_by}
-use Rattle.pef_labels.specs.Certified.{Certified}
+use Rattle.pef_cert.specs.Certified.{Certified}
 use Rattle.pef_cert.specs.Valid.{Valid, labels_of}
 use Rattle.pef_hash.specs.Build.{built}
 use Rattle.pef_format.specs.Exports.{Export}

@@ -8,7 +8,7 @@ use crate::loader::write_loader;
 use crate::program::{certificates, programs};
 use crate::relocations::section_programs;
 use crate::sections::raw_sections;
-use pef_labels::Certificate;
+use pef_cert::Certificate;
 use pef_script::Script;
 use std::alloc::Global;
 use std::marker::Model;

@@ -5,7 +5,7 @@ ghost use Rattle.pef_reloc.specs.Instrs.{instrs_fit, spelled};
 ghost use Rattle.pef_write.specs.Kept.Encoded.{HasCertificates};
 
 use crate::fault::LinkFault;
-use pef_labels::Certificate;
+use pef_cert::Certificate;
 use pef_plan::plan;
 use pef_reloc::{Instr, encode};
 use pef_script::Script;

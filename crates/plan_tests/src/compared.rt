@@ -1,7 +1,7 @@
 //! Plans against the plain method's.
 use crate::plans::{assert_length, planned};
 use crate::reference::{number_at, plain_plan};
-use pef_labels::{Certificate, LabelRows};
+use pef_cert::{Certificate, LabelRows};
 use pef_reloc::Fixup;
 use std::alloc::Global;
 use std::process::Abort;

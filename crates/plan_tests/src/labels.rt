@@ -1,5 +1,5 @@
 use crate::plans::planned;
-use pef_labels::Certificate;
+use pef_cert::Certificate;
 use std::alloc::Global;
 use std::process::Abort;
 use test_data::labels::{

@@ -2,8 +2,7 @@
 ghost use Rattle.std.specs.Prelude.{◌≡◌, true};
 ghost use Rattle.pef_reloc.specs.Fixups.{fixups_fit};
 
-use pef_cert::check;
-use pef_labels::Certificate;
+use pef_cert::{Certificate, check};
 use pef_plan::plan;
 use pef_reloc::{Base, Fixup, fixups_fit};
 use std::alloc::Global;

@@ -1,6 +1,6 @@
 //! Worked examples of labels, which are least lengths, and the labels of a certificate.
 use crate::lists::{Listed, S0, S1, S2};
-use pef_labels::Certificate;
+use pef_cert::Certificate;
 use pef_reloc::Base;
 use std::alloc::{AllocError, Global};
 

@@ -5,12 +5,13 @@
 pub mod fragments;
 
 use cfm_closure::BindFault;
+use pef_script::Script;
 use pef_write::{Linked, link};
 use std::alloc::{AllocError, Global};
 
 /// Links a script. `None` where it is none, or memory is refused.
 pub fn link_text(alloc: Global, text: &[u8]) -> Option<Linked> {
-    let script = pef_script_text::read(alloc, text).ok()?;
+    let script = Script::read(alloc, text).ok()?;
     link(alloc, &script).ok()
 }
 

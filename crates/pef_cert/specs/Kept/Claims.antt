@@ -10,16 +10,16 @@ use Rattle.pef_reloc.specs.Deliveries.{index_after}
 use Rattle.pef_reloc.specs.Fixups.{fixups_fit}
 use Rattle.pef_reloc.specs.Instrs.{program_length}
 use Rattle.pef_reloc.specs.Steps.{Makes, is_flat, start}
-use Rattle.pef_cert.specs.declared.claim.Behind.{Behind}
+use Rattle.pef_cert.specs.declared.claim.CheckedSuffix.{CheckedSuffix}
 use Rattle.pef_cert.specs.declared.claim.Claim.{Claim}
-use Rattle.pef_cert.specs.declared.feasible.Under.{Under}
-use Rattle.pef_cert.specs.declared.runs.Tested.{Tested}
+use Rattle.pef_cert.specs.declared.feasible.TestedFixup.{TestedFixup}
+use Rattle.pef_cert.specs.declared.runs.TestedState.{TestedState}
 use Rattle.pef_cert.specs.Labels.{Labels, classes}
 use Rattle.pef_cert.specs.Extension.{OfferIs, extension_at}
 use Rattle.pef_cert.specs.Feasible.{Feasible, FeasibleFrom}
 use Rattle.pef_cert.specs.Kept.Tests.{adds_first}
 use Rattle.pef_cert.specs.LabelTests.{pairs_test, row_test}
-use Rattle.pef_labels.specs.Rows.{RowsFull, rows_from}
+use Rattle.pef_cert.specs.Rows.{RowsFull, rows_from}
 use Rattle.pef_cert.specs.Valid.{RegistersOf, labels_in}
 
 -- the labels that are claimed
@@ -64,7 +64,7 @@ pub record KnownAt (claim : Claim) (ring : List ℕ) (least : List (List ℕ)) (
   pub offer : (f : Fixup) (rest : List Fixup) → drop j claim.fixups.now ≡ f ∷ rest → SkipsKept claim j f rest (slice_index_or least (j % 1024) [])
 
 -- what is known of an index, where all is of the right shape
-pub record Sees (b : Behind) (j : ℕ) : Type 0 where
+pub record Sees (b : CheckedSuffix) (j : ℕ) : Type 0 where
   pub shaped : Shaped b.claim
   pub rows : length b.rows.now ≡ 1024
   pub skips : length b.skips.now ≡ 1024
@@ -78,7 +78,7 @@ pub record Swept (claim : Claim) (ring : List ℕ) (least : List (List ℕ)) (fr
   pub skips : length least ≡ 1024
   pub at : (j : ℕ) → from ≤ j → j < from + 1024 → j ≤ length claim.fixups.now → KnownAt claim ring least j
 
-abbrev pub Knows : Behind → ℕ → Type 0
+abbrev pub Knows : CheckedSuffix → ℕ → Type 0
 Knows b from = Swept b.claim b.rows.now b.skips.now from
 
 -- the labels behind an index are feasible
@@ -86,7 +86,7 @@ abbrev pub FeasibleBehind : Claim → ℕ → Type 0
 FeasibleBehind claim at = FeasibleFrom (labels_claimed claim) (index_after (take (at + 1) claim.fixups.now) 0) (drop (at + 1) claim.fixups.now)
 
 -- a state at a fixup, whose label is tested against what lies behind
-pub record Tests (b : Behind) (s : Tested) : Type 0 where
+pub record Tests (b : CheckedSuffix) (s : TestedState) : Type 0 where
   pub knows : Knows b (s.at + 1)
   pub beyond : FeasibleBehind b.claim s.at
   pub here : slice_get b.claim.fixups.now s.at ≡ Some s.fixup
@@ -94,7 +94,7 @@ pub record Tests (b : Behind) (s : Tested) : Type 0 where
   pub d_class : s.d < length b.claim.registers.now + 1
 
 -- the state of a fixup in two classes, with its label
-abbrev pub state_of : Claim → Under → ℕ → ℕ → Tested
+abbrev pub state_of : Claim → TestedFixup → ℕ → ℕ → TestedState
 state_of claim u c d = record {
   at = u.at;
   fixup = u.fixup;
@@ -104,26 +104,26 @@ state_of claim u c d = record {
 }
 
 -- the label of an index, in the classes of a tested state
-abbrev pub label_behind : Behind → Tested → ℕ → ℕ
+abbrev pub label_behind : CheckedSuffix → TestedState → ℕ → ℕ
 label_behind b s j = (labels_claimed b.claim).label (length b.claim.fixups.now - j) s.c s.d
 
 -- each label behind a tested one meets the test of a run of a base that begins there
-abbrev pub RowMet : Behind → Tested → ℕ → Base → Type 0
+abbrev pub RowMet : CheckedSuffix → TestedState → ℕ → Base → Type 0
 RowMet b s w base = (j p : ℕ) → s.at < j → adds_first p base (drop j b.claim.fixups.now) ≡ true
     → row_test (labels_claimed b.claim) (label_behind b s j) w base s.c s.d 512 p (drop j b.claim.fixups.now) ≡ true
 
 -- and of a run of two bases side by side
-abbrev pub PairsMet : Behind → Tested → ℕ → Base → Base → Type 0
+abbrev pub PairsMet : CheckedSuffix → TestedState → ℕ → Base → Base → Type 0
 PairsMet b s w first second = (j p : ℕ) → s.at < j → (adds_first p first (drop j b.claim.fixups.now) && adds_first (p + 4) second (drop (j + 1) b.claim.fixups.now)) ≡ true
     → pairs_test (labels_claimed b.claim) (label_behind b s j) w first second s.c s.d 512 p (drop j b.claim.fixups.now) ≡ true
 
 -- an index behind a tested state whose label is no lower
-pub record Covers (b : Behind) (s : Tested) (j : ℕ) : Type 0 where
+pub record Covers (b : CheckedSuffix) (s : TestedState) (j : ℕ) : Type 0 where
   pub after : s.at < j
   pub low : s.label ≤ label_behind b s j
 
 -- a fixup under test, with its row of labels
-pub record UnderTest (b : Behind) (u : Under) : Type 0 where
+pub record UnderTest (b : CheckedSuffix) (u : TestedFixup) : Type 0 where
   pub knows : Knows b (u.at + 1)
   pub beyond : FeasibleBehind b.claim u.at
   pub here : slice_get b.claim.fixups.now u.at ≡ Some u.fixup
@@ -134,17 +134,17 @@ abbrev pub row_at : Claim → ℕ → List ℕ
 row_at claim at = slice_index_or (rows_from claim.kept.width 0 claim.kept.ends.now claim.kept.values.now) at []
 
 -- a fixup under test and the one behind it have the same kept row
-pub record SharesRow (b : Behind) (u : Under) : Type 0 where
+pub record SharesRow (b : CheckedSuffix) (u : TestedFixup) : Type 0 where
   pub inside : u.at + 1 < length b.claim.fixups.now
   pub row : IsRowOf b.claim.kept.ends.now u.row (u.at + 1)
 
 -- and the next word adds a base
-pub record GoesOn (b : Behind) (u : Under) (base : Base) : Type 0 where
+pub record GoesOn (b : CheckedSuffix) (u : TestedFixup) (base : Base) : Type 0 where
   pub shares : SharesRow b u
   pub adds : adds_first (u.fixup.offset + 4) base (drop (u.at + 1) b.claim.fixups.now) ≡ true
 
 -- an index at a section's fixup, where all is known behind it and labels are feasible there
-pub record Skips (b : Behind) (at : ℕ) (f : Fixup) (k : ℕ) : Type 0 where
+pub record Skips (b : CheckedSuffix) (at : ℕ) (f : Fixup) (k : ℕ) : Type 0 where
   pub knows : Knows b (at + 1)
   pub beyond : FeasibleBehind b.claim at
   pub here : slice_get b.claim.fixups.now at ≡ Some f

@@ -4,19 +4,19 @@ use Rattle.pef_reloc.specs.declared.fixup.Base.{Base}
 use Rattle.pef_reloc.specs.declared.fixup.Base.TheVariants.{Section}
 use Rattle.pef_cert.specs.Labels.{Labels, class_of}
 use Rattle.pef_cert.specs.LabelTests.{pair_test, row_test, second_test}
-use Rattle.pef_runs.specs.declared.place.Here.{Here}
+use Rattle.pef_plan.specs.declared.runs.state.OpenState.{OpenState}
 
 -- what the runs of a section in register C have to meet, and those of one in register D
-pub record MetInC (l : Labels) (h : Here) (k value : ℕ) : Type 0 where
+pub record MetInC (l : Labels) (h : OpenState) (k value : ℕ) : Type 0 where
   pub words : row_test l value 4 (Section k) h.place.c h.place.d 512 h.first.offset (h.first ∷ h.others.now) ≡ true
   pub second : second_test l value k h.place.c h.place.d h.first h.others.now ≡ true
 
-pub record MetInD (l : Labels) (h : Here) (k value : ℕ) : Type 0 where
+pub record MetInD (l : Labels) (h : OpenState) (k value : ℕ) : Type 0 where
   pub words : row_test l value 4 (Section k) h.place.c h.place.d 512 h.first.offset (h.first ∷ h.others.now) ≡ true
   pub spaced : row_test l value 8 (Section k) h.place.c h.place.d 512 h.first.offset (h.first ∷ h.others.now) ≡ true
 
 -- and the pairs of a section in register C and a second one
-abbrev pub PairsMet : Labels → Here → ℕ → ℕ → ℕ → Type 0
+abbrev pub PairsMet : Labels → OpenState → ℕ → ℕ → ℕ → Type 0
 PairsMet l h j k value = pair_test l value j h.place.c h.place.d h.first.offset (h.first ∷ h.others.now) (Section k) ≡ true
 
 -- the class of a base's section; of an import, any number

@@ -6,18 +6,18 @@ use Rattle.pef_cert.specs.Extension.{skips_at}
 use Rattle.pef_cert.specs.Feasible.{AtFixup}
 use Rattle.pef_reloc.specs.declared.fixup.Base.TheVariants.{Section}
 use Rattle.pef_cert.specs.LabelTests.{base_test}
-use Rattle.pef_runs.specs.declared.known.Known.{Known}
-use Rattle.pef_runs.specs.declared.place.At.{At}
-use Rattle.pef_runs.specs.Tables.{Agrees, number_in}
-use Rattle.pef_runs.specs.Leads.{LeadsWithin}
+use Rattle.pef_plan.specs.declared.runs.suffix.SolvedSuffix.{SolvedSuffix}
+use Rattle.pef_plan.specs.declared.runs.state.FixupState.{FixupState}
+use Rattle.pef_plan.specs.Runs.Tables.{Agrees, number_in}
+use Rattle.pef_plan.specs.Runs.Leads.{LeadsWithin}
 
 -- the least that an instruction leads to which adds at a fixup, with the registers in these classes
-pub record DirectIs (k : Known) (a : At) (c d value : ℕ) : Type 0 where
+pub record DirectIs (k : SolvedSuffix) (a : FixupState) (c d value : ℕ) : Type 0 where
   pub least : (l : Labels) (n : ℕ) → Agrees l k a.others.now → n ≤ value → base_test l n a.import_index a.first a.others.now c d a.first.base ≡ true
   pub led : (l : Labels) (s : State) → Agrees l k a.others.now → AtFixup a.first a.import_index s → class_of l.registers s.c ≡ c → class_of l.registers s.d ≡ d → LeadsWithin l s (a.first ∷ a.others.now) value
   pub small : value ≤ 4 * length a.others.now + 4
 
-abbrev pub DirectRow : Known → At → List ℕ → Type 0
+abbrev pub DirectRow : SolvedSuffix → FixupState → List ℕ → Type 0
 DirectRow k a row = (c d : ℕ) → c < length k.registers.now + 1 → d < length k.registers.now + 1 → DirectIs k a c d (number_in (length k.registers.now + 1) row c d)
 
 -- a number is the least of so many
@@ -46,7 +46,7 @@ pub record ClosedOf (count : ℕ) (direct row : List ℕ) : Type 0 where
   pub from : (c d : ℕ) → c < count → d < count → (number_in count row c d ≡ number_in count direct c d) ⊎ (((e : ℕ) × (e < count) × (1 + number_in count row e d ≤ number_in count row c d)) ⊎ ((e : ℕ) × (e < count) × (1 + number_in count row c e ≤ number_in count row c d)))
 
 -- the labels at a fixup
-pub record RowOf (k : Known) (a : At) (row : List ℕ) : Type 0 where
+pub record RowOf (k : SolvedSuffix) (a : FixupState) (row : List ℕ) : Type 0 where
   pub direct : List ℕ
   pub direct_is : DirectRow k a direct
   pub closed : ClosedOf (length k.registers.now + 1) direct row
@@ -56,6 +56,6 @@ abbrev pub SmallLine : ℕ → List ℕ → Type 0
 SmallLine count line = (d : ℕ) → d < count → slice_index line d ≤ 1048576
 
 -- the least skips at a fixup with a section, by the class of C
-pub record SkipsOf (k : Known) (a : At) (line : List ℕ) : Type 0 where
+pub record SkipsOf (k : SolvedSuffix) (a : FixupState) (line : List ℕ) : Type 0 where
   pub is : (l : Labels) (section c : ℕ) → Agrees l k a.others.now → a.first.base ≡ Section section → c < length k.registers.now + 1 → skips_at l a.first a.others.now c (class_of k.registers.now section) ≡ Some (slice_index line c)
   pub small : (c : ℕ) → c < length k.registers.now + 1 → slice_index line c ≤ 4 * length a.others.now + 4

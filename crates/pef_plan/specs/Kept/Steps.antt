@@ -10,12 +10,12 @@ use Rattle.pef_cert.specs.Labels.{Labels}
 use Rattle.pef_cert.specs.Extension.{extension_at, offer_at}
 use Rattle.pef_cert.specs.Feasible.{FeasibleFrom}
 use Rattle.pef_cert.specs.Valid.{is_among, rises}
-use Rattle.pef_runs.specs.declared.known.Known.{Known}
-use Rattle.pef_runs.specs.declared.place.Place.{Place}
-use Rattle.pef_runs.specs.declared.place.Here.{Here}
-use Rattle.pef_runs.specs.declared.place.Step.{Step}
-use Rattle.pef_runs.specs.Places.{Counts, Goes, InPlace, extension_in}
-use Rattle.pef_runs.specs.Tables.{Agrees, Shaped, label_in}
+use Rattle.pef_plan.specs.declared.runs.suffix.SolvedSuffix.{SolvedSuffix}
+use Rattle.pef_plan.specs.declared.runs.state.PlanState.{PlanState}
+use Rattle.pef_plan.specs.declared.runs.state.OpenState.{OpenState}
+use Rattle.pef_plan.specs.declared.runs.state.Step.{Step}
+use Rattle.pef_plan.specs.Runs.Places.{Counts, Goes, InPlace, extension_in}
+use Rattle.pef_plan.specs.Runs.Tables.{Agrees, Shaped, label_in}
 use Rattle.pef_plan.specs.Reached.{ReachedFrom}
 use Rattle.pef_reloc.specs.Limits.{most_fixups, most_imports, most_sections}
 
@@ -28,7 +28,7 @@ abbrev pub most_position : ℕ
 most_position = 4294967296
 
 -- the labels of tables
-abbrev pub labels_tabled : Known → Labels
+abbrev pub labels_tabled : SolvedSuffix → Labels
 labels_tabled k = record { registers = k.registers.now; label = λ left c d. label_in (length k.registers.now + 1) k.labels.now.rows left c d }
 
 -- registers that rise, each the number of a section
@@ -37,7 +37,7 @@ pub record Sections (registers : List ℕ) : Type 0 where
   pub below : (k : ℕ) → is_among registers k ≡ true → k < most_sections
 
 -- a place where fixups are left, with tables of them all
-pub record Tracked (k : Known) (p : Place) : Type 0 where
+pub record Tracked (k : SolvedSuffix) (p : PlanState) : Type 0 where
   pub sections : Sections k.registers.now
   pub shaped : Shaped k (length p.left.now)
   pub c : p.c < length k.registers.now + 1
@@ -50,20 +50,20 @@ pub record Tracked (k : Known) (p : Place) : Type 0 where
   pub feasible : FeasibleFrom (labels_tabled k) p.import_index p.left.now
   pub reached : ReachedFrom (labels_tabled k) p.import_index p.left.now
 
-pub record TrackedHere (k : Known) (h : Here) : Type 0 where
+pub record TrackedHere (k : SolvedSuffix) (h : OpenState) : Type 0 where
   pub at : Tracked k h.place
   pub parts : h.place.left.now ≡ h.first ∷ h.others.now
 
 -- a step from a state in a place, along which the extension falls by the instruction's halfwords at least
-pub record Falls (k : Known) (p : Place) (x : Step) (s : State) : Type 0 where
+pub record Falls (k : SolvedSuffix) (p : PlanState) (x : Step) (s : State) : Type 0 where
   pub goes : Goes k.registers.now p x s
   pub falls : instr_length x.instr + extension_in (labels_tabled k) x.next ≤ extension_in (labels_tabled k) p
 
-abbrev pub FallsOn : Known → Place → Step → Type 0
+abbrev pub FallsOn : SolvedSuffix → PlanState → Step → Type 0
 FallsOn k p x = (s : State) → InPlace k.registers.now p s → Falls k p x s
 
 -- a place so far before a fixup that the extension there is an offer
-pub record SkipsTo (k : Known) (h : Here) : Type 0 where
+pub record SkipsTo (k : SolvedSuffix) (h : OpenState) : Type 0 where
   pub after : 4 ≤ h.first.offset - h.place.position
   pub before : h.first.offset - h.place.position ≤ 1020
   pub even : ((h.first.offset - h.place.position) % 4 == 0) ≡ true
@@ -71,7 +71,7 @@ pub record SkipsTo (k : Known) (h : Here) : Type 0 where
 
 -- instructions that were read off tables of fixups so far, and the place behind them: a halfword moves by
 -- fewer than 8,192 bytes
-pub record ReadTo (k : Known) (fixups : List Fixup) (instrs : List Instr) (p : Place) : Type 0 where
+pub record ReadTo (k : SolvedSuffix) (fixups : List Fixup) (instrs : List Instr) (p : PlanState) : Type 0 where
   pub tracked : Tracked k p
   pub in_place : InPlace k.registers.now p (state_after instrs start)
   pub flat : is_flat instrs ≡ true

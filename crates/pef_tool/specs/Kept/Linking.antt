@@ -1,9 +1,9 @@
 -- How the text of a script is linked, for the two commands that link.
 use Rattle.std.specs.Prelude.{◌≡◌, ℕ, List, Result, Ok, Err}
-use Rattle.pef_script_text.specs.Grammar.{script_of}
+use Rattle.pef_script.specs.Text.Grammar.{script_of}
 use Rattle.pef_script.specs.Script.{DescribedScript}
-use Rattle.pef_answers.specs.declared.refusal.Refusal.{Refusal}
-use Rattle.pef_answers.specs.declared.refusal.Refusal.TheVariants.{Script, OutOfMemory}
+use Rattle.pef_tool.specs.declared.answers.refusal.Refusal.{Refusal}
+use Rattle.pef_tool.specs.declared.answers.refusal.Refusal.TheVariants.{Script, OutOfMemory}
 use Rattle.pef_write.specs.Linked.{IsLinked, LinkedContainer}
 
 -- what a text is linked to: the container of its script; or the script's first refusal, or that memory was refused

@@ -1,6 +1,6 @@
 -- The certificates of a script's sections and their relocation programs as bytes, as the code holds them.
 use Rattle.std.specs.Prelude.{◌≡◌, ℕ, ◌+◌, ◌<◌, ◌^◌, List, [], ◌∷◌, ◌++◌, length, map}
-use Rattle.pef_labels.specs.Certified.{Certified}
+use Rattle.pef_cert.specs.Certified.{Certified}
 use Rattle.pef_reloc.specs.Instrs.{spelled}
 use Rattle.pef_script.specs.Script.{DescribedScript}
 use Rattle.pef_script.specs.WellFormed.{ScriptHolds}

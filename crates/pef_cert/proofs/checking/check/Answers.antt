@@ -1,5 +1,5 @@
 use Rattle.std.proofs.Common.{◌∙◌, ap}
-use Rattle.pef_labels.specs.Certified.{Certified}
+use Rattle.pef_cert.specs.Certified.{Certified}
 use Rattle.pef_cert.proofs.CheckLemmas.{check-least, check-registers, check-rows, check-says}
 use Rattle.pef_cert.proofs.checking.check.Goals as goal
 

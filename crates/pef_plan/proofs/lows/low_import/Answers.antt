@@ -1,6 +1,6 @@
 use Rattle.std.proofs.Common.{◌≡◌, ◌∷◌, ℕ, true, arith, subst}
 use Rattle.pef_cert.specs.LabelTests.{numbered_test}
-use Rattle.pef_runs.specs.declared.runs.Run.TheVariants.{Imports}
+use Rattle.pef_plan.specs.declared.runs.run.Run.TheVariants.{Imports}
 use Rattle.pef_plan.proofs.RunTests.{ends_here, import_met, imports_met}
 use Rattle.pef_plan.proofs.lows.low_import.Goals as goal
 

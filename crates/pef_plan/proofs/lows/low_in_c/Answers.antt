@@ -1,5 +1,5 @@
 use Rattle.std.proofs.Common.{◌∷◌, arith}
-use Rattle.pef_runs.specs.declared.runs.Run.TheVariants.{WordsOfC}
+use Rattle.pef_plan.specs.declared.runs.run.Run.TheVariants.{WordsOfC}
 use Rattle.pef_plan.proofs.RunTests.{ends_here, words_c_met}
 use Rattle.pef_plan.proofs.lows.low_in_c.Goals as goal
 

@@ -1,5 +1,5 @@
 use Rattle.std.proofs.Common.{◌∷◌, arith}
-use Rattle.pef_runs.specs.declared.runs.Run.TheVariants.{Spaced, WordsOfD}
+use Rattle.pef_plan.specs.declared.runs.run.Run.TheVariants.{Spaced, WordsOfD}
 use Rattle.pef_plan.proofs.RunTests.{ends_here, spaced_met, words_d_met}
 use Rattle.pef_plan.proofs.lows.low_in_d.Goals as goal
 

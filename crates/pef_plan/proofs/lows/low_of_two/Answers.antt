@@ -1,5 +1,5 @@
 use Rattle.std.proofs.Common.{arith}
-use Rattle.pef_runs.specs.declared.runs.Run.TheVariants.{Pairs, SpacedPairs}
+use Rattle.pef_plan.specs.declared.runs.run.Run.TheVariants.{Pairs, SpacedPairs}
 use Rattle.pef_plan.proofs.RunTests.{both_pairs_met, ends_here}
 use Rattle.pef_plan.proofs.lows.low_of_two.Goals as goal
 

@@ -1,6 +1,6 @@
 use Rattle.std.proofs.Common.{List, ℕ, subst, sym, ◌∙◌, ap}
 use Rattle.pef_cert.specs.Valid.{RegistersOf}
-use Rattle.pef_labels.specs.Certified.{Certified}
+use Rattle.pef_cert.specs.Certified.{Certified}
 use Rattle.pef_plan.specs.Kept.Tables.{TablesOf}
 use Rattle.pef_plan.proofs.PlanFacts.{PlanOf, plan_exact, plan_valid}
 use Rattle.pef_plan.proofs.planner.counted_plan.Goals as goal

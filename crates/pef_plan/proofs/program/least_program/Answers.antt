@@ -1,14 +1,14 @@
 use Rattle.std.proofs.Common.{List, refl, subst, sym}
 use Rattle.pef_reloc.specs.declared.instr.Instr.{Instr}
 use Rattle.pef_reloc.specs.Steps.{start, state_after}
-use Rattle.pef_runs.specs.declared.place.Place.{Place}
+use Rattle.pef_plan.specs.declared.runs.state.PlanState.{PlanState}
 use Rattle.pef_plan.specs.Kept.Steps.{ReadTo}
 use Rattle.pef_plan.proofs.ProgramFacts.{read_least, read_next, read_start}
 use Rattle.pef_plan.proofs.program.least_program.Goals as goal
 
 pub steps-init : goal.steps-init
 steps-init c =
-    let p : Place = record { left = c.args.fixups; position = 0; import_index = 0; c = c.class_of.result; d = c.class_of-2.result } in
+    let p : PlanState = record { left = c.args.fixups; position = 0; import_index = 0; c = c.class_of.result; d = c.class_of-2.result } in
     subst (λ (xs : List Instr). ReadTo c.args.known c.args.fixups.now xs p) (sym c.new-program.ensures.items)
     (read_start c.args.known p c.requires.fit c.requires.registers c.requires.tables refl (record { position = refl; import_index = refl; c = sym c.class_of.ensures; d = sym c.class_of-2.ensures }))
 

@@ -1,4 +1,4 @@
-use Rattle.pef_runs.specs.Places.{extension_in}
+use Rattle.pef_plan.specs.Runs.Places.{extension_in}
 use Rattle.pef_plan.specs.Kept.Steps.{ReadTo, labels_tabled}
 use Rattle.pef_plan.proofs.program.least_program.Given as goal
 

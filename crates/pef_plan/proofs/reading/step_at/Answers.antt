@@ -1,5 +1,5 @@
 use Rattle.std.proofs.Common.{◌+◌, ◌∙◌, ap, arith, length}
-use Rattle.pef_runs.specs.Tables.{number_in}
+use Rattle.pef_plan.specs.Runs.Tables.{number_in}
 use Rattle.pef_plan.specs.Kept.Steps.{labels_tabled}
 use Rattle.pef_plan.proofs.StepFacts.{agrees_others, best_falls, chosen_falls, extension_label}
 use Rattle.pef_plan.proofs.reading.step_at.Goals as goal

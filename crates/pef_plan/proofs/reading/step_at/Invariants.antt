@@ -1,5 +1,5 @@
 use Rattle.std.proofs.Common.{◌+◌, ◌<◌, ◌≤◌, ℕ, length}
-use Rattle.pef_runs.specs.Tables.{label_in}
+use Rattle.pef_plan.specs.Runs.Tables.{label_in}
 use Rattle.pef_plan.proofs.reading.step_at.Given as goal
 
 abbrev pub invariant-loop-class : goal.invariant-loop-class

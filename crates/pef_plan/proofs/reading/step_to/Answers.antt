@@ -1,8 +1,8 @@
 use Rattle.std.proofs.Common.{◌≢◌, ◌+◌, ◌-◌, ◌∙◌, ap, arith, refl, sym}
-use Rattle.pef_runs.specs.Tables.{number_in}
-use Rattle.pef_runs.specs.Places.{extension_in}
+use Rattle.pef_plan.specs.Runs.Tables.{number_in}
+use Rattle.pef_plan.specs.Runs.Places.{extension_in}
 use Rattle.pef_plan.specs.Kept.Steps.{labels_tabled}
-use Rattle.pef_runs.specs.Tables.{label_in}
+use Rattle.pef_plan.specs.Runs.Tables.{label_in}
 use Rattle.std.proofs.Common.{length}
 use Rattle.pef_cert.specs.Extension.{extension}
 use Rattle.pef_plan.proofs.MoveFacts.{label-there, short_move, skips_to}

@@ -1,8 +1,8 @@
 use Rattle.std.proofs.Common.{◌≡◌, ◌+◌, ◌*◌, ◌<◌, ◌∙◌, ℕ, ap, arith, inl, inr, length, refl, slice_index, subst, sym}
 use Rattle.std.proofs.lemmas.Bool.Decides.{eqb_tells}
 use Rattle.std.proofs.lemmas.Nat.{mul-add-lt}
-use Rattle.pef_runs.specs.Tables.{number_in, place_of}
-use Rattle.pef_runs.proofs.Laws.{line_inside}
+use Rattle.pef_plan.specs.Runs.Tables.{number_in, place_of}
+use Rattle.pef_plan.proofs.RunsProofs.PlaceLemmas.{line_inside}
 use Rattle.pef_plan.specs.Kept.Rows.{LineOf}
 use Rattle.pef_plan.proofs.LineLemmas.{closed-of, least-from, line-same, small-lows}
 use Rattle.pef_plan.proofs.rows.close_row.Goals as goal

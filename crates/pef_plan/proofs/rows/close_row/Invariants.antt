@@ -1,5 +1,5 @@
 use Rattle.std.proofs.Common.{◌≡◌, ◌*◌, ◌<◌, ◌≤◌, ℕ, length, slice_index}
-use Rattle.pef_runs.specs.Tables.{number_in}
+use Rattle.pef_plan.specs.Runs.Tables.{number_in}
 use Rattle.pef_plan.specs.Kept.Rows.{LineOf}
 use Rattle.pef_plan.proofs.rows.close_row.Given as goal
 

@@ -1,7 +1,8 @@
 use Rattle.std.proofs.Common.{◌≡◌, ◌+◌, ◌<◌, ◌≤◌, ◌∙◌, arith, length, sym, ℕ}
 use Rattle.std.proofs.lemmas.List.{length-set}
-use Rattle.pef_runs.specs.Tables.{place_of}
-use Rattle.pef_runs.proofs.Laws.{filled-set, line-set, next_along, next_line, place_under}
+use Rattle.pef_plan.specs.Runs.Tables.{place_of}
+use Rattle.pef_plan.proofs.RunsProofs.PlaceLemmas.{filled-set, next_along, next_line, place_under}
+use Rattle.pef_plan.proofs.RunsProofs.LineLemmas.{line-set}
 use Rattle.pef_plan.specs.Kept.Rows.{DirectIs}
 use Rattle.pef_plan.proofs.LowFacts.{low-is}
 use Rattle.pef_plan.proofs.RowLemmas.{With}

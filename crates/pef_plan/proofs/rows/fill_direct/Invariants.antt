@@ -1,6 +1,6 @@
 use Rattle.std.proofs.Common.{◌≡◌, ◌+◌, ◌<◌, ◌≤◌, ℕ, length, slice_index}
-use Rattle.pef_runs.specs.Tables.{place_of}
-use Rattle.pef_runs.proofs.Laws.{Filled}
+use Rattle.pef_plan.specs.Runs.Tables.{place_of}
+use Rattle.pef_plan.proofs.RunsProofs.PlaceLemmas.{Filled}
 use Rattle.pef_plan.specs.Kept.Rows.{DirectIs}
 use Rattle.pef_plan.proofs.rows.fill_direct.Given as goal
 

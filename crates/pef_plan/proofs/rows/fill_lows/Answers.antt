@@ -1,7 +1,7 @@
 use Rattle.std.proofs.Common.{◌∙◌, ℕ, arith, length, subst}
 use Rattle.std.proofs.lemmas.List.{length-set}
-use Rattle.pef_runs.specs.Tables.{number_in}
-use Rattle.pef_runs.proofs.Laws.{line-set}
+use Rattle.pef_plan.specs.Runs.Tables.{number_in}
+use Rattle.pef_plan.proofs.RunsProofs.LineLemmas.{line-set}
 use Rattle.pef_plan.specs.Kept.Rows.{LeastOf}
 use Rattle.pef_plan.proofs.rows.fill_lows.Goals as goal
 

@@ -1,5 +1,5 @@
 use Rattle.std.proofs.Common.{ℕ, ◌+◌, refl, subst, sym}
-use Rattle.pef_runs.specs.Tables.{number_in}
+use Rattle.pef_plan.specs.Runs.Tables.{number_in}
 use Rattle.pef_plan.specs.Kept.Rows.{LeastOf}
 use Rattle.pef_plan.proofs.LineLemmas.{least-more}
 use Rattle.pef_plan.proofs.rows.least_in_column.Goals as goal

@@ -1,4 +1,4 @@
-use Rattle.pef_runs.specs.Tables.{number_in}
+use Rattle.pef_plan.specs.Runs.Tables.{number_in}
 use Rattle.pef_plan.specs.Kept.Rows.{LeastOf}
 use Rattle.pef_plan.proofs.rows.least_in_column.Given as goal
 

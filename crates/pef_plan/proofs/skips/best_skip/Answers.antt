@@ -1,6 +1,6 @@
 use Rattle.std.proofs.Common.{◌≡◌, ℕ, subst}
-use Rattle.pef_runs.specs.declared.runs.Run.TheVariants.{Skip}
-use Rattle.pef_runs.specs.Runs.{EndOf, Ends}
+use Rattle.pef_plan.specs.declared.runs.run.Run.TheVariants.{Skip}
+use Rattle.pef_plan.specs.Runs.Runs.{EndOf, Ends}
 use Rattle.std.proofs.Common.{◌⊎◌, arith}
 use Rattle.pef_plan.proofs.SkipFacts.{best_skip-is}
 use Rattle.pef_plan.proofs.skips.best_skip.Goals as goal

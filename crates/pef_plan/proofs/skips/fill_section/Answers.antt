@@ -1,7 +1,7 @@
 use Rattle.std.proofs.Common.{◌∙◌, arith}
 use Rattle.std.proofs.lemmas.List.{length-set}
 use Rattle.pef_cert.specs.Labels.{class_of}
-use Rattle.pef_runs.proofs.Laws.{line-set}
+use Rattle.pef_plan.proofs.RunsProofs.LineLemmas.{line-set}
 use Rattle.pef_plan.proofs.LowFacts.{ends-with}
 use Rattle.pef_plan.proofs.RowLemmas.{SkipIs, With, skip-with, skips-of}
 use Rattle.pef_plan.proofs.skips.fill_section.Goals as goal

@@ -1,6 +1,6 @@
 use Rattle.std.proofs.Common.{arith}
-use Rattle.pef_runs.specs.declared.runs.Run.TheVariants.{Skip}
-use Rattle.pef_runs.proofs.Laws.{one_goes}
+use Rattle.pef_plan.specs.declared.runs.run.Run.TheVariants.{Skip}
+use Rattle.pef_plan.proofs.RunsProofs.RunFacts.{one_goes}
 use Rattle.pef_plan.proofs.SkipFacts.{skip_unit, skip_worth}
 use Rattle.pef_plan.proofs.skips.single_skip.Goals as goal
 

@@ -1,8 +1,8 @@
 use Rattle.std.proofs.Common.{◌≡◌, ◌∙◌, ◌+◌, ◌-◌, ◌*◌, ◌++◌, ◌∷◌, List, ℕ, [], ap, ap₂, drop, length, rules, take, refl, subst, sym, arith}
 use Rattle.std.proofs.lemmas.List.{drop_all, get_or_read, length-replicate, with_items_is}
 use Rattle.pef_reloc.specs.Deliveries.{index_after}
-use Rattle.pef_runs.specs.Ends.{EndsOf}
-use Rattle.pef_runs.specs.Tables.{SameLabels}
+use Rattle.pef_plan.specs.Runs.Ends.{EndsOf}
+use Rattle.pef_plan.specs.Runs.Tables.{SameLabels}
 use Rattle.pef_plan.specs.Kept.Tables.{TablesOf}
 use Rattle.pef_plan.proofs.FillLemmas.{ends-at, ends-next, ends-none, fill-at, fill-none, tables-next}
 use Rattle.pef_plan.proofs.PlanFacts.{few_classes}

@@ -1,7 +1,7 @@
 use Rattle.std.proofs.Common.{◌≡◌, ◌≤◌, ◌+◌, ◌*◌, drop, length, take}
 use Rattle.pef_reloc.specs.Deliveries.{index_after}
-use Rattle.pef_runs.specs.Ends.{EndsOf}
-use Rattle.pef_runs.specs.Tables.{SameLabels}
+use Rattle.pef_plan.specs.Runs.Ends.{EndsOf}
+use Rattle.pef_plan.specs.Runs.Tables.{SameLabels}
 use Rattle.pef_plan.specs.Kept.Tables.{TablesOf}
 use Rattle.pef_plan.proofs.tables.fill.Given as goal
 

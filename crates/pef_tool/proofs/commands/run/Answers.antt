@@ -1,7 +1,7 @@
 -- Memory was refused before the words were read.
-use Rattle.pef_answers.specs.Answers.{answer_refused}
-use Rattle.pef_answers.specs.Refusals.{refusal_text}
-use Rattle.pef_answers.specs.declared.refusal.Refusal.TheVariants.{OutOfMemory}
+use Rattle.pef_tool.specs.Answers.Answers.{answer_refused}
+use Rattle.pef_tool.specs.Answers.Refusals.{refusal_text}
+use Rattle.pef_tool.specs.declared.answers.refusal.Refusal.TheVariants.{OutOfMemory}
 use Rattle.pef_tool.proofs.OutcomeLemmas.{lacks_memory}
 use Rattle.pef_tool.proofs.commands.run.Goals as goal
 

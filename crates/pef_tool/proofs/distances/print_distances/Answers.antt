@@ -1,10 +1,10 @@
 -- SCRIPT is read and linked, and the certificates are printed.
 use Rattle.std.proofs.Common.{inl, inr, refl, ap, ◌∙◌}
-use Rattle.pef_cert_text.specs.Printed.{certificates_text}
-use Rattle.pef_answers.specs.Answers.{answer_done, answer_refused}
+use Rattle.pef_cert.specs.Text.Printed.{certificates_text}
+use Rattle.pef_tool.specs.Answers.Answers.{answer_done, answer_refused}
 use Rattle.pef_tool.specs.Distances.{certifies, refuses}
-use Rattle.pef_answers.specs.Refusals.{refusal_text}
-use Rattle.pef_answers.specs.declared.refusal.Refusal.TheVariants.{OutOfMemory}
+use Rattle.pef_tool.specs.Answers.Refusals.{refusal_text}
+use Rattle.pef_tool.specs.declared.answers.refusal.Refusal.TheVariants.{OutOfMemory}
 use Rattle.pef_tool.proofs.DistancesLemmas.{files_linked, linked_prints}
 use Rattle.pef_tool.proofs.OutcomeLemmas.{uncertified}
 use Rattle.pef_tool.proofs.distances.print_distances.Goals as goal

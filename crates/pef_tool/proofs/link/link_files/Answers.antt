@@ -1,9 +1,9 @@
 -- SCRIPT is read, and the whole container is written, whatever that write is answered.
 use Rattle.std.proofs.Common.{inl, inr, refl}
-use Rattle.pef_answers.specs.Answers.{answer_done, answer_refused}
+use Rattle.pef_tool.specs.Answers.Answers.{answer_done, answer_refused}
 use Rattle.pef_tool.specs.Link.{links, unwritable, refuses, linked_text}
-use Rattle.pef_answers.specs.Refusals.{refusal_text, unwritable_text}
-use Rattle.pef_answers.specs.declared.refusal.Refusal.TheVariants.{OutOfMemory}
+use Rattle.pef_tool.specs.Answers.Refusals.{refusal_text, unwritable_text}
+use Rattle.pef_tool.specs.declared.answers.refusal.Refusal.TheVariants.{OutOfMemory}
 use Rattle.pef_tool.proofs.LinkLemmas.{written}
 use Rattle.pef_tool.proofs.OutcomeLemmas.{unlinked}
 use Rattle.pef_tool.proofs.link.link_files.Goals as goal

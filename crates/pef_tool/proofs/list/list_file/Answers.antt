@@ -3,10 +3,10 @@ use Rattle.std.proofs.Common.{inr, refl, ap, sym, ◌∙◌}
 use Rattle.pef_listing.specs.Listed.{listed_of}
 use Rattle.pef_listing.specs.Listing.{listing_text}
 use Rattle.pef_listing.specs.Views.{parts}
-use Rattle.pef_answers.specs.Answers.{answer_done, answer_refused}
+use Rattle.pef_tool.specs.Answers.Answers.{answer_done, answer_refused}
 use Rattle.pef_tool.specs.List.{lacks_memory, lists, unlisted, unreadable}
-use Rattle.pef_answers.specs.Refusals.{refusal_text, unreadable_text}
-use Rattle.pef_answers.specs.declared.refusal.Refusal.TheVariants.{Listing, OutOfMemory}
+use Rattle.pef_tool.specs.Answers.Refusals.{refusal_text, unreadable_text}
+use Rattle.pef_tool.specs.declared.answers.refusal.Refusal.TheVariants.{Listing, OutOfMemory}
 use Rattle.pef_tool.proofs.list.list_file.Goals as goal
 
 pub returns-in-Err-Failed : goal.returns-in-Err-Failed

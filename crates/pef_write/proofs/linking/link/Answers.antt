@@ -1,7 +1,7 @@
 -- The programs and their lengths fit, and what is written is the container of the script.
 use Rattle.std.proofs.Common.{◌≡◌, ◌∙◌, length, map, true, refl, ap, subst, sym}
 use Rattle.std.specs.List.{All}
-use Rattle.pef_labels.specs.Certified.{Certified}
+use Rattle.pef_cert.specs.Certified.{Certified}
 use Rattle.pef_reloc.specs.Instrs.{instrs_fit, program_length}
 use Rattle.pef_write.specs.Kept.Encoded.{HasRoom, container_with}
 use Rattle.pef_write.proofs.Certificates.{certified_fit, certified_short}

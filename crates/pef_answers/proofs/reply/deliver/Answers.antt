@@ -1,7 +1,0 @@
--- Where the output fails, a front of the answer went out.
-use Rattle.std.proofs.Common.{inr, refl}
-use Rattle.pef_ports.proofs.Laws.Sending.{StopsShort-front}
-use Rattle.pef_answers.proofs.reply.deliver.Goals as goal
-
-pub returns-in-Err : goal.returns-in-Err
-returns-in-Err g c = inr (StopsShort-front c.in-Err.ensures, c.in-Err.ensures.failed, refl)

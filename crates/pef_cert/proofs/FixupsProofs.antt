@@ -1,0 +1,2 @@
+pub mod FixupLemmas
+pub mod WalkLemmas

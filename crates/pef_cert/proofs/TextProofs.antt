@@ -1,0 +1,13 @@
+pub mod LinesRead
+pub mod PartsRead
+pub mod PrintLemmas
+pub mod ProgramLemmas
+pub mod RangeLemmas
+pub mod ReadLemmas
+pub mod ReadsBack
+pub mod RoundLemmas
+pub mod TextLemmas
+pub mod TextsRead
+pub mod ValidPrints
+pub mod WordLemmas
+pub mod WordsRead

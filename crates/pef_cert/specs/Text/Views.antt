@@ -1,0 +1,14 @@
+-- What an answer of reading says.
+use Rattle.std.specs.Prelude.{◌≡◌, ℕ, Result, Ok, Err}
+use Rattle.pef_cert.specs.declared.text.fault.CertFault.{CertFault}
+use Rattle.pef_cert.specs.declared.text.fault.CertFault.TheVariants.{BadCertificate, OutOfMemory}
+
+-- an answer is the one that was wanted, where there was memory for it
+
+abbrev pub FailsAs : {A : Type 0} → CertFault → Result A ℕ → Type 0
+FailsAs (BadCertificate line) wanted = wanted ≡ Err line
+FailsAs OutOfMemory wanted = Unit {0}
+
+abbrev pub ReadsAs : {A : Type 0} → Result A CertFault → Result A ℕ → Type 0
+ReadsAs (Ok x) wanted = wanted ≡ Ok x
+ReadsAs (Err fault) wanted = FailsAs fault wanted

@@ -1,0 +1,43 @@
+ghost use Rattle.std.specs.Prelude.{◌≡◌};
+ghost use Rattle.std.specs.Option.{option_map};
+ghost use Rattle.pef_cert.specs.Fixups.Additions.{behind_first, is_added};
+ghost use Rattle.pef_reloc.specs.declared.fixup.Base.TheVariants.{Import};
+
+use pef_reloc::{Base, Fixup};
+
+/// The bytes of a word.
+pub const WORD: u64 = pef_reloc::WORD as u64;
+
+/// Whether a fixup adds `base` at `offset`, in bytes.
+pub fn adds_at(fixup: Fixup, offset: u64, base: Base) -> bool
+    ensures { result ≡ is_added offset base fixup }
+{
+    u64::from(fixup.offset) == offset && fixup.base == base
+}
+
+/// What is left of fixups behind the first, where it adds `base` at `offset`; `None` where it doesn't, or
+/// there is none.
+pub fn behind_first(fixups: &[Fixup], offset: u64, base: Base) -> Option<&[Fixup]>
+    ensures { option_map (λ l. l.now) result ≡ behind_first offset base fixups.now }
+{
+    let (first, rest) = fixups.split_first()?;
+    adds_at(*first, offset, base).then_some(rest)
+}
+
+/// The same for the import of a number.
+pub fn behind_import(fixups: &[Fixup], offset: u64, import: u64) -> Option<&[Fixup]>
+    ensures { option_map (λ l. l.now) result ≡ behind_first offset (Import import) fixups.now }
+{
+    let (first, rest) = fixups.split_first()?;
+    adds_import_at(*first, offset, import).then_some(rest)
+}
+
+/// Whether a fixup adds the import of a number at `offset`.
+fn adds_import_at(fixup: Fixup, offset: u64, import: u64) -> bool
+    ensures { result ≡ is_added offset (Import import) fixup }
+{
+    match fixup.base {
+        Base::Import(number) => u64::from(fixup.offset) == offset && u64::from(number) == import,
+        Base::Section(_) => false,
+    }
+}

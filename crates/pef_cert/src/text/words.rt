@@ -1,0 +1,64 @@
+ghost use Rattle.std.specs.Prelude.{◌≡◌, option_map};
+ghost use Rattle.pef_cert.specs.Text.Kept.Reading.{words_left};
+ghost use Rattle.pef_cert.specs.Text.Words.{behind, first_number, first_of, none_left, words_of};
+
+use pef_lines::{cut_at, decimal_number};
+
+/// The words that are left of a line.
+#[derive(Clone, Copy)]
+pub struct Words<'a> {
+    /// What stands behind the last word that was taken, where there is more.
+    rest: Option<&'a [u8]>,
+}
+
+impl<'a> Words<'a> {
+    /// The words of a line: what stands between its spaces.
+    pub fn new(line: &'a [u8]) -> Words<'a>
+        ensures { words_left result ≡ words_of line.entry.now }
+    {
+        Words { rest: Some(line) }
+    }
+
+    /// Whether no word is left.
+    pub fn is_empty(&self) -> bool
+        ensures { result ≡ none_left (words_left self.now) }
+    {
+        self.rest.is_none()
+    }
+
+    /// Takes the next word.
+    pub fn next_word(&mut self) -> Option<&'a [u8]>
+        ensures { option_map (λ word. (word.now, words_left self.new)) result ≡ first_of (words_left self.old) }
+    {
+        let Some(rest) = self.rest else {
+            return None;
+        };
+        match cut_at(b' ', rest) {
+            Some((word, behind)) => {
+                self.rest = Some(behind);
+                Some(word)
+            }
+            None => {
+                self.rest = None;
+                Some(rest)
+            }
+        }
+    }
+
+    /// Takes the next word, and gives the number that it spells.
+    pub fn next_number(&mut self) -> Option<u32>
+        ensures { option_map (λ number. (number, words_left self.new)) result ≡ first_number (words_left self.old) }
+    {
+        decimal_number(self.next_word()?)
+    }
+
+    /// Takes the next word where it is the one that is wanted.
+    pub fn expect(&mut self, wanted: &[u8]) -> Option<()>
+        ensures { option_map (λ _. words_left self.new) result ≡ behind wanted.now (words_left self.old) }
+    {
+        if self.next_word()? != wanted {
+            return None;
+        }
+        Some(())
+    }
+}

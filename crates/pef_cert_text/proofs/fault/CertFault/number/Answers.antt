@@ -1,5 +1,0 @@
-use Rattle.std.proofs.Common.{rules}
-use Rattle.pef_cert_text.proofs.fault.CertFault.number.Goals as goal
-
-pub returns-in-BadCertificate : goal.returns-in-BadCertificate
-returns-in-BadCertificate c = search rules

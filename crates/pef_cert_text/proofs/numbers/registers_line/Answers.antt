@@ -1,7 +1,0 @@
-use Rattle.std.proofs.Common.{rules}
-use Rattle.pef_cert_text.specs.Lines.{registers_line}
-use Rattle.pef_cert_text.proofs.numbers.registers_line.Goals as goal
-
-pub returns-clause-registers : goal.returns-clause-registers
-unfolding registers_line
-returns-clause-registers c = search rules

@@ -1,6 +1,0 @@
-use Rattle.std.proofs.Common.{arith}
-use Rattle.std.proofs.lemmas.Grind.{common_steps}
-use Rattle.pef_fixups.proofs.walk.program_length.Goals as goal
-
-pub loop-instr-preserved : goal.loop-instr-preserved
-loop-instr-preserved c = grind (arith, common_steps)

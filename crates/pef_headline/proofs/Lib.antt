@@ -1,0 +1,9 @@
+pub mod Laws
+mod ConditionLemmas
+mod DescribedLemmas
+mod HeadlineLemmas
+mod LeastLemmas
+mod LinkedLemmas
+mod NowLemmas
+mod ProgramLemmas
+mod RefusedLemmas

@@ -1,0 +1,115 @@
+-- A fragment with linked bytes that is present in a context has the memory that its script describes.
+use Rattle.std.proofs.Common.{◌≡◌, ℕ, zero, suc, ◌+◌, true, List, [], None, Some, Ok, Contains, length, option_map, refl, ap, subst, ◌∙◌, arith}
+use Rattle.std.specs.Option.{option_and_then, option_map_or}
+use Rattle.std.specs.Result.{result_ok}
+use Rattle.cfm_closure.specs.Stores.{Pair, pair_of}
+use Rattle.cfm_closure.specs.Fragments.{Fragment, container_at, fragment_of, import_count, loader_at}
+use Rattle.cfm_prepare.specs.Images.{extents_of, first_image_refusal}
+use Rattle.cfm_prepare.specs.Prepared.{addresses_at, first_reloc_refusal, prepared_at}
+use Rattle.cfm_memory.specs.Extents.{ArePlaced}
+use Rattle.cfm_memory.specs.Instances.{Layout}
+use Rattle.cfm_memory.specs.declared.place.Place.{Place}
+use Rattle.cfm_memory.proofs.Laws.{length-placed}
+use Rattle.cfm_prepare.specs.Addresses.{addresses_from, addresses_of}
+use Rattle.cfm_prepare.specs.Fragments.{Present, extents_in, image_refusal_in, is_present, places_of, prepared_in, reloc_refusal_in}
+use Rattle.cfm_prepare.specs.Contexts.{ContextState, fresh_state}
+use Rattle.cfm_prepare.specs.Now.{IsPreparedNow}
+use Rattle.cfm_prepare.specs.Runs.{Runs, Step}
+use Rattle.cfm_prepare.specs.Steps.{Prepares}
+use Rattle.cfm_prepare.proofs.Laws.{run-now, run-prepares}
+use Rattle.pef_loader.specs.Loader.{Loaded}
+use Rattle.pef_reloc.specs.Applied.{Addresses, address_of}
+use Rattle.pef_script.specs.Described.{described_at}
+use Rattle.pef_script.specs.Script.{DescribedScript}
+use Rattle.pef_views.specs.Container.{Contained}
+use Rattle.pef_write.specs.Linked.{IsLinked, LinkedContainer}
+use Rattle.pef_headline.specs.Now.{IsDescribedNow}
+use Rattle.pef_headline.proofs.DescribedLemmas.{AreAddresses, addresses_are, extents_are, headers_sound, images_sound, length-extents, prepared_is}
+use Rattle.pef_headline.proofs.LinkedLemmas.{FragmentLinked, fragment_linked, read_fragment}
+
+-- there is an address for each import
+length-from : (pairs : List Pair) (all : List Present) (p j n : ℕ) → length (addresses_from pairs all p j n) ≡ n
+length-from pairs all p j zero = refl
+length-from pairs all p j (suc n) = ap suc (length-from pairs all p (j + 1) n)
+
+module _ (script : DescribedScript) (k : LinkedContainer) (linked : IsLinked script k) (pairs : List Pair) (p : ℕ) (holds : (pair_of pairs p).bytes ≡ k.bytes) where
+  -- it is read as the script's container
+  pub own : FragmentLinked script k linked pairs p
+  own = fragment_linked script k linked pairs p holds
+
+  abbrev pub whole : Fragment
+  whole = read_fragment script k linked pairs p
+
+  container-is : container_at pairs p ≡ Some whole.container
+  container-is = ap (λ r. option_map (λ (f : Fragment). f.container) (result_ok r)) own.read
+
+  pub loader-is : loader_at pairs p ≡ Some whole.loader
+  loader-is = ap (λ r. option_map (λ (f : Fragment). f.loader) (result_ok r)) own.read
+
+  count-is : import_count pairs p ≡ length script.imports
+  count-is = ap (λ o. option_map_or (λ (l : Loaded). l.header.import_count) o 0) loader-is ∙ own.of.tables.import_count
+
+  pub extents-in : extents_in pairs p ≡ extents_of whole.container
+  extents-in = ap (λ o. option_map_or extents_of o []) container-is
+
+  prepared-in : (a : Addresses) (i : ℕ) → prepared_in pairs a p i ≡ prepared_at whole.container whole.loader a i
+  prepared-in a i =
+      ap (λ o. option_map_or (λ (c : Contained). option_map_or (λ (l : Loaded). prepared_at c l a i) (loader_at pairs p) []) o []) container-is
+      ∙ ap (λ o. option_map_or (λ (l : Loaded). prepared_at whole.container l a i) o []) loader-is
+
+  -- with places its sections and its imports have addresses
+  addressed : (all : List Present) (before empty : Layout) (places : List Place) → ArePlaced before (extents_in pairs p) places empty → AreAddresses script (addresses_at places (addresses_from pairs all p 0 (import_count pairs p)))
+  addressed all before empty places placed =
+      addresses_are script k linked whole.container whole.loader own.of before empty (addresses_from pairs all p 0 (import_count pairs p)) places (length-from pairs all p 0 (import_count pairs p) ∙ count-is)
+      (subst (λ es. ArePlaced before es places empty) extents-in placed)
+
+  -- so it is described, in the memory that it was placed in
+  pub described-from : (s : ContextState) (now : IsPreparedNow pairs s p) → (d : IsDescribedNow pairs s script p) × (d.before ≡ now.before)
+  described-from s now =
+      let places = places_of s.present p in
+      let imports = addresses_from pairs s.present p 0 (import_count pairs p) in
+      let here : ArePlaced now.before (extents_of whole.container) places now.empty = subst (λ es. ArePlaced now.before es places now.empty) extents-in now.placed in
+      let sizes = length-placed now.before (extents_of whole.container) places now.empty here ∙ length-extents script k linked whole.container whole.loader own.of in
+      let are = addressed s.present now.before now.empty places now.placed in (
+        record {
+          before = now.before;
+          empty = now.empty;
+          placed = subst (λ es. ArePlaced now.before es places now.empty) (extents_are script k linked whole.container whole.loader own.of) here;
+          stand = λ i under.
+              now.stand i under
+              ∙ ap Some (prepared-in (addresses_at places imports) i ∙ prepared_is script k linked whole.container whole.loader own.of (addresses_at places imports) are i (omega (arith, under, sizes))
+              ∙ ap (λ n. described_at (address_of (addresses_at places (addresses_from pairs s.present p 0 n))) script i) count-is);
+        },
+        refl,
+      )
+
+  described-now : (s : ContextState) → IsPreparedNow pairs s p → IsDescribedNow pairs s script p
+  described-now s now = (described-from s now).0
+
+pub present-described : (script : DescribedScript) (k : LinkedContainer) (pairs : List Pair) (limit : ℕ) (steps : List Step) (s : ContextState) (p : ℕ) → IsLinked script k → (pair_of pairs p).bytes ≡ k.bytes → Runs (fresh_state pairs limit) steps s → is_present s.present p ≡ true
+    → IsDescribedNow pairs s script p
+present-described script k pairs limit steps s p linked holds run is = described-now script k linked pairs p holds s (run-now pairs limit steps s p run is)
+
+pub closure-described : (script : DescribedScript) (k : LinkedContainer) (pairs : List Pair) (limit : ℕ) (steps : List Step) (s t : ContextState) (name : List ℕ) (number p : ℕ) → IsLinked script k → (pair_of pairs p).bytes ≡ k.bytes → Runs (fresh_state pairs limit) steps s
+    → (step : Prepares s name number t) → Contains step.closure.closed.order p → (is_present t.present p ≡ true) × IsDescribedNow pairs t script p
+closure-described script k pairs limit steps s t name number p linked holds run step there =
+    let now = run-prepares pairs limit steps s t name number p run step there in (now.0, described-now script k linked pairs p holds t now.1)
+
+-- such a fragment is read, and neither an image nor a relocation header of it is refused
+pub linked-read : (script : DescribedScript) (k : LinkedContainer) (pairs : List Pair) (p : ℕ) → IsLinked script k → (pair_of pairs p).bytes ≡ k.bytes → (f : Fragment) × (fragment_of pairs p ≡ Ok f)
+linked-read script k pairs p linked holds = (whole script k linked pairs p holds, (own script k linked pairs p holds).read)
+
+pub linked-filled : (script : DescribedScript) (k : LinkedContainer) (pairs : List Pair) (p : ℕ) → IsLinked script k → (pair_of pairs p).bytes ≡ k.bytes → image_refusal_in pairs p ≡ None
+linked-filled script k pairs p linked holds =
+    let f = read_fragment script k linked pairs p in
+    ap (λ o. option_and_then (λ (c : Contained). first_image_refusal c c.header.instantiated_section_count) o) (container-is script k linked pairs p holds)
+    ∙ images_sound script k linked f.container f.loader (own script k linked pairs p holds).of
+
+pub linked-relocated : (script : DescribedScript) (k : LinkedContainer) (pairs : List Pair) (p : ℕ) (all : List Present) (before empty : Layout) (places : List Place) → IsLinked script k → (pair_of pairs p).bytes ≡ k.bytes → ArePlaced before (extents_in pairs p) places empty
+    → reloc_refusal_in pairs (addresses_of pairs all (record { position = p; places = places })) p ≡ None
+linked-relocated script k pairs p all before empty places linked holds placed =
+    let f = read_fragment script k linked pairs p in
+    let a = addresses_at places (addresses_from pairs all p 0 (import_count pairs p)) in
+    ap (λ o. option_and_then (λ (c : Contained). option_and_then (λ (l : Loaded). first_reloc_refusal c l a) (loader_at pairs p)) o) (container-is script k linked pairs p holds)
+    ∙ ap (λ o. option_and_then (λ (l : Loaded). first_reloc_refusal f.container l a) o) (loader-is script k linked pairs p holds)
+    ∙ headers_sound script k linked f.container f.loader (own script k linked pairs p holds).of a (addressed script k linked pairs p holds all before empty places placed)

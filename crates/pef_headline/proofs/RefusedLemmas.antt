@@ -1,0 +1,205 @@
+-- Where new fragments are refused for an image or a relocation header, it is one with bytes that weren't linked.
+use Rattle.std.proofs.Common.{◌≡◌, ℕ, suc, List, [], ◌∷◌, ◌++◌, Option, None, Some, Ok, Err, Contains, inl, inr, refl, sym, ap, subst, ◌∙◌, arith}
+use Rattle.std.specs.Option.{option_or}
+use Rattle.cfm_closure.specs.Stores.{Pair, pair_of, place_of}
+use Rattle.cfm_closure.proofs.Laws.{place_of-below, place_of-named, closed-no_container, closed-no_loader}
+use Rattle.cfm_closure.specs.Faults.{BindRefusal, FailsAs, no_container, no_loader}
+use Rattle.cfm_closure.specs.Faults as binds
+use Rattle.cfm_closure.specs.declared.fault.BindFault.{BindFault}
+use Rattle.cfm_closure.specs.declared.fault.BindFault.TheVariants as bind
+use Rattle.cfm_closure.specs.Closures.{Closed, closed_of}
+use Rattle.cfm_closure.specs.Promises.{IsOfUnread}
+use Rattle.cfm_memory.specs.Extents.{ArePlaced}
+use Rattle.cfm_memory.specs.Instances.{Layout}
+use Rattle.cfm_prepare.specs.Addresses.{addresses_of, first_bad_program}
+use Rattle.cfm_prepare.specs.Fragments.{Present, extents_in, first_bad_image, image_refusal_in, named, positions, reloc_refusal_in}
+use Rattle.cfm_prepare.specs.Placing.{AllPlaced, LacksRoom}
+use Rattle.cfm_prepare.specs.Refusals.{HasBadImage, HasBadProgram}
+use Rattle.cfm_prepare.specs.declared.fragment_fault.FragmentFault.TheVariants as fragment
+use Rattle.cfm_prepare.specs.Contexts.{ContextState}
+use Rattle.cfm_prepare.specs.Faults.{fault_number}
+use Rattle.cfm_prepare.specs.Steps.{HasClosure, HasRoot, MayNotPrepare, new_of}
+use Rattle.cfm_prepare.specs.declared.fault.PrepareFault.{PrepareFault}
+use Rattle.cfm_prepare.specs.declared.fault.PrepareFault.TheVariants as fault
+use Rattle.pef_loader.specs.declared.fault.LoaderFault.{LoaderFault}
+use Rattle.pef_pidata.specs.declared.fault.PackFault.{PackFault}
+use Rattle.pef_reloc.specs.declared.fault.RelocFault.{RelocFault}
+use Rattle.pef_views.specs.declared.fault.ViewFault.{ViewFault}
+use Rattle.pef_headline.specs.Headline.{IsForeign, OthersAreSound}
+use Rattle.pef_headline.specs.Others.{HasForeign, NamesForeign}
+use Rattle.pef_headline.proofs.NowLemmas.{linked-filled, linked-read, linked-relocated}
+
+contains-later : {X : Type 0} (x y : X) (xs : List X) → Contains xs x → Contains (y ∷ xs) x
+contains-later x y xs there = (suc there.0, omega (arith, there.1), there.2)
+
+-- the name of a refusal
+abbrev named-by : {F : Type 0} → List ℕ → Option (List ℕ × F) → List ℕ
+named-by name None = name
+named-by name (Some refusal) = refusal.0
+
+told : {F : Type 0} (name here : List ℕ) (k e : F) → ◌≡◌ {A = Option (List ℕ × F)} (Some (here, e)) (Some (name, k)) → name ≡ here
+told name here k e same = sym (ap (named-by name) same)
+
+-- among some fragments one with a name has an image that is refused
+record HasRefusedImage (pairs : List Pair) (ps : List ℕ) (name : List ℕ) : Type 0 where
+  position : ℕ
+  member : Contains ps position
+  is : name ≡ (pair_of pairs position).name
+  fault : PackFault
+  refused : image_refusal_in pairs position ≡ Some fault
+
+bad-image : (pairs : List Pair) (fs : List Present) (name : List ℕ) (k : PackFault) → first_bad_image pairs fs ≡ Some (name, k) → HasRefusedImage pairs (positions fs) name
+bad-image pairs [] name k is = absurd (cc)
+bad-image pairs (f ∷ fs) name k is = by (image_refusal_in pairs f.position) refl is (bad-image pairs fs name k)
+  where
+    by : (o : Option PackFault) → image_refusal_in pairs f.position ≡ o → option_or (named pairs f.position o) (first_bad_image pairs fs) ≡ Some (name, k) → (first_bad_image pairs fs ≡ Some (name, k) → HasRefusedImage pairs (positions fs) name)
+        → HasRefusedImage pairs (positions (f ∷ fs)) name
+    by None was is later =
+        let one = later is in
+        record { position = one.position; member = contains-later one.position f.position (positions fs) one.member; is = one.is; fault = one.fault; refused = one.refused }
+    by (Some e) was is later = record { position = f.position; member = (0, omega arith, refl); is = told name (pair_of pairs f.position).name k e is; fault = e; refused = was }
+
+-- among some fragments one with a name, which was placed, has a relocation header that is refused
+record HasRefusedHeader (pairs : List Pair) (all fs : List Present) (name : List ℕ) : Type 0 where
+  one : Present
+  member : Contains fs one
+  position : Contains (positions fs) one.position
+  is : name ≡ (pair_of pairs one.position).name
+  before : Layout
+  after : Layout
+  placed : ArePlaced before (extents_in pairs one.position) one.places after
+  fault : RelocFault
+  refused : reloc_refusal_in pairs (addresses_of pairs all one) one.position ≡ Some fault
+
+bad-program : (pairs : List Pair) (all : List Present) (m after : Layout) (fs : List Present) (name : List ℕ) (k : RelocFault) → AllPlaced pairs m fs after → first_bad_program pairs all fs ≡ Some (name, k) → HasRefusedHeader pairs all fs name
+bad-program pairs all m after [] name k placed is = absurd (cc)
+bad-program pairs all m after (f ∷ fs) name k placed is = by (reloc_refusal_in pairs (addresses_of pairs all f) f.position) refl is (bad-program pairs all placed.0 after fs name k placed.2)
+  where
+    by : (o : Option RelocFault) → reloc_refusal_in pairs (addresses_of pairs all f) f.position ≡ o → option_or (named pairs f.position o) (first_bad_program pairs all fs) ≡ Some (name, k)
+        → (first_bad_program pairs all fs ≡ Some (name, k) → HasRefusedHeader pairs all fs name) → HasRefusedHeader pairs all (f ∷ fs) name
+    by None was is later =
+        let r = later is in
+        record {
+          one = r.one;
+          member = contains-later r.one f fs r.member;
+          position = contains-later r.one.position f.position (positions fs) r.position;
+          is = r.is;
+          before = r.before;
+          after = r.after;
+          placed = r.placed;
+          fault = r.fault;
+          refused = r.refused;
+        }
+    by (Some e) was is later = record {
+      one = f;
+      member = (0, omega arith, refl);
+      position = (0, omega arith, refl);
+      is = told name (pair_of pairs f.position).name k e is;
+      before = m;
+      after = placed.0;
+      placed = placed.1;
+      fault = e;
+      refused = was;
+    }
+
+-- what is refused isn't linked
+image-foreign : (pairs : List Pair) (ps : List ℕ) (name : List ℕ) (r : HasRefusedImage pairs ps name) → IsForeign pairs r.position
+image-foreign pairs ps name r script linked =
+    let none : image_refusal_in pairs r.position ≡ None = linked-filled script linked.container pairs r.position linked.linked linked.bytes in
+    let some : image_refusal_in pairs r.position ≡ Some r.fault = r.refused in
+    absurd (cc)
+
+header-foreign : (pairs : List Pair) (all fs : List Present) (name : List ℕ) (r : HasRefusedHeader pairs all fs name) → IsForeign pairs r.one.position
+header-foreign pairs all fs name r script linked =
+    let none : reloc_refusal_in pairs (addresses_of pairs all r.one) r.one.position ≡ None =
+    linked-relocated script linked.container pairs r.one.position all r.before r.after r.one.places linked.linked linked.bytes r.placed in
+    let some : reloc_refusal_in pairs (addresses_of pairs all r.one) r.one.position ≡ Some r.fault = r.refused in
+    absurd (cc)
+
+pub refused-image : (pairs : List Pair) (m : Layout) (new : List ℕ) (name : List ℕ) (k : PackFault) → HasBadImage pairs m new name k → HasForeign pairs new name
+refused-image pairs m new name k bad =
+    let r = bad-image pairs bad.fresh name k bad.first in
+    subst (λ ps. HasForeign pairs ps name) bad.are.are (record { position = r.position; member = r.member; is = r.is; foreign = image-foreign pairs (positions bad.fresh) name r })
+
+pub refused-program : (pairs : List Pair) (there : List Present) (m : Layout) (new : List ℕ) (name : List ℕ) (k : RelocFault) → HasBadProgram pairs there m new name k → HasForeign pairs new name
+refused-program pairs there m new name k bad =
+    let r = bad-program pairs (there ++ bad.fresh) m bad.are.empty bad.fresh name k bad.are.placed bad.first in
+    subst (λ ps. HasForeign pairs ps name) bad.are.are (record { position = r.one.position; member = r.position; is = r.is; foreign = header-foreign pairs (there ++ bad.fresh) bad.fresh name r })
+
+-- so where the others are sound, none is
+no-image : (s : ContextState) (c : Closed) (name : List ℕ) (k : PackFault) → OthersAreSound s c → HasBadImage s.pairs s.memory (new_of s c) name k → ⊥
+no-image s c name k sound bad =
+    let r = bad-image s.pairs bad.fresh name k bad.first in
+    let none : image_refusal_in s.pairs r.position ≡ None = sound.images r.position (subst (λ ps. Contains ps r.position) bad.are.are r.member) (image-foreign s.pairs (positions bad.fresh) name r) in
+    let some : image_refusal_in s.pairs r.position ≡ Some r.fault = r.refused in
+    absurd (cc)
+
+no-header : (s : ContextState) (c : Closed) (name : List ℕ) (k : RelocFault) → OthersAreSound s c → HasBadProgram s.pairs s.present s.memory (new_of s c) name k → ⊥
+no-header s c name k sound bad =
+    let all = s.present ++ bad.fresh in
+    let r = bad-program s.pairs all s.memory bad.are.empty bad.fresh name k bad.are.placed bad.first in
+    let none : reloc_refusal_in s.pairs (addresses_of s.pairs all r.one) r.one.position ≡ None = sound.headers bad.fresh r.one bad.are r.member (header-foreign s.pairs all bad.fresh name r) in
+    let some : reloc_refusal_in s.pairs (addresses_of s.pairs all r.one) r.one.position ≡ Some r.fault = r.refused in
+    absurd (cc)
+
+-- a fragment has one closure
+pub same-closed : (s : ContextState) (name : List ℕ) (a b : HasClosure s name) → a.closed ≡ b.closed
+same-closed s name a b =
+    let here : place_of s.pairs name ≡ Some a.has.root = a.has.is in
+    let there : place_of s.pairs name ≡ Some b.has.root = b.has.is in
+    let roots : a.has.root ≡ b.has.root = cc in
+    let one : closed_of s.pairs a.has.root ≡ Ok a.closed = a.is in
+    let other : closed_of s.pairs a.has.root ≡ Ok b.closed = ap (closed_of s.pairs) roots ∙ b.is in
+    cc
+
+-- where a fragment has a closure, it isn't refused for having none
+bound : (s : ContextState) (name : List ℕ) (closure : HasClosure s name) (f : BindFault) (has : HasRoot s name) → FailsAs f (closed_of s.pairs has.root) → binds.fault_number f ≡ 99
+bound s name closure f has fails = by f (subst (FailsAs f) (ap (closed_of s.pairs) roots ∙ closure.is) fails)
+  where
+    roots : has.root ≡ closure.has.root
+    roots =
+        let here : place_of s.pairs name ≡ Some has.root = has.is in
+        let there : place_of s.pairs name ≡ Some closure.has.root = closure.has.is in
+        cc
+
+    by : (f : BindFault) → FailsAs f (Ok closure.closed) → binds.fault_number f ≡ 99
+    by (bind.Container f v) e = absurd (cc)
+    by (bind.Loader f v) e = absurd (cc)
+    by (bind.LibraryMissing f l) e = absurd (cc)
+    by (bind.SymbolMissing f l y) e = absurd (cc)
+    by (bind.ImplementationTooOld f l) e = absurd (cc)
+    by (bind.ImplementationTooNew f l) e = absurd (cc)
+    by (bind.ReexportLoop f y) e = absurd (cc)
+    by (bind.InitLoop f) e = absurd (cc)
+    by bind.OutOfMemory e = refl
+
+-- where its libraries resolve, its sections find room and the others are sound, a root is refused for want of memory alone
+pub refused-bound : (s : ContextState) (name : List ℕ) (closure : HasClosure s name) (f : PrepareFault) → ((other : List ℕ) → LacksRoom s.pairs s.memory (new_of s closure.closed) other → ⊥) → OthersAreSound s closure.closed → MayNotPrepare s name f → fault_number f ≡ 99
+refused-bound s name closure fault.TooManyConnections rooms sound why = absurd (omega (arith, why, closure.has.left))
+refused-bound s name closure fault.RootMissing rooms sound why = let there : place_of s.pairs name ≡ Some closure.has.root = closure.has.is in let none : place_of s.pairs name ≡ None = why.1 in absurd (cc)
+refused-bound s name closure (fault.Bind f) rooms sound why = bound s name closure f why.0 why.1
+refused-bound s name closure (fault.Fragment (fragment.NoRoom f)) rooms sound why = absurd (rooms f.now (subst (λ (c : Closed). LacksRoom s.pairs s.memory (new_of s c) f.now) (same-closed s name why.closure closure) why.why))
+refused-bound s name closure (fault.Fragment (fragment.Pack f k)) rooms sound why =
+    absurd (no-image s closure.closed f.now k sound (subst (λ (c : Closed). HasBadImage s.pairs s.memory (new_of s c) f.now k) (same-closed s name why.closure closure) why.why))
+refused-bound s name closure (fault.Fragment (fragment.Reloc f k)) rooms sound why =
+    absurd (no-header s closure.closed f.now k sound (subst (λ (c : Closed). HasBadProgram s.pairs s.present s.memory (new_of s c) f.now k) (same-closed s name why.closure closure) why.why))
+refused-bound s name closure (fault.Fragment fragment.OutOfMemory) rooms sound why = refl
+refused-bound s name closure fault.OutOfMemory rooms sound why = refl
+
+-- a fragment that isn't read isn't linked, and it is the one that its name stands for
+unread : (pairs : List Pair) (root : ℕ) (asked name : List ℕ) (r : BindRefusal) → place_of pairs asked ≡ Some root → IsOfUnread pairs root name r → NamesForeign pairs name
+unread pairs root asked name r is of = record {
+  position = of.position;
+  is = elim of.found [
+    | inl same ↦ (let P : ℕ → Type 0 = λ p. (pair_of pairs p).name ≡ name in
+        ap (place_of pairs) (sym (subst P same of.named) ∙ place_of-named pairs asked root is) ∙ is ∙ ap Some (sym same))
+    | inr first ↦ first
+  ];
+  foreign = λ script linked. (let f = linked-read script linked.container pairs of.position linked.linked linked.bytes in let both : Ok f.0 ≡ Err r = sym f.1 ∙ of.refused in absurd (cc));
+}
+
+pub refused-container : (s : ContextState) (asked name : List ℕ) (k : ViewFault) (has : HasRoot s asked) → closed_of s.pairs has.root ≡ Err (no_container name k) → NamesForeign s.pairs name
+refused-container s asked name k has is = unread s.pairs has.root asked name (no_container name k) has.is (closed-no_container s.pairs has.root name k (place_of-below s.pairs asked has.root has.is) is)
+
+pub refused-loader : (s : ContextState) (asked name : List ℕ) (k : LoaderFault) (has : HasRoot s asked) → closed_of s.pairs has.root ≡ Err (no_loader name k) → NamesForeign s.pairs name
+refused-loader s asked name k has is = unread s.pairs has.root asked name (no_loader name k) has.is (closed-no_loader s.pairs has.root name k (place_of-below s.pairs asked has.root has.is) is)

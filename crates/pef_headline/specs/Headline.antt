@@ -1,0 +1,78 @@
+-- The words of the headline: "Every container that the linker writes prepares, wherever its libraries resolve and its
+-- sections find room, to exactly the memory that its script describes; and for each section its relocation program has
+-- no more halfwords than any repeat-free program that makes the script's fixups, each once and in address order."
+use Rattle.std.specs.Prelude.{◌≡◌, ℕ, ◌<◌, true, List, ◌++◌, None, Some, Result, Ok, Err, Contains, slice_get}
+use Rattle.cfm_closure.specs.Stores.{Pair, pair_of, place_of}
+use Rattle.cfm_closure.specs.Fragments.{Fragment, fragment_of}
+use Rattle.cfm_closure.specs.Closures.{Closed, closed_of}
+use Rattle.cfm_prepare.specs.Addresses.{addresses_of}
+use Rattle.cfm_prepare.specs.Fragments.{Present, image_refusal_in, is_present, reloc_refusal_in}
+use Rattle.cfm_prepare.specs.Placing.{AreNew, LacksRoom}
+use Rattle.cfm_prepare.specs.Contexts.{ContextState, fresh_state, most_connections}
+use Rattle.cfm_prepare.specs.Faults.{fault_number}
+use Rattle.cfm_prepare.specs.Runs.{Runs, Step}
+use Rattle.cfm_prepare.specs.Steps.{MayNotPrepare, Prepares, new_of}
+use Rattle.cfm_prepare.specs.declared.fault.PrepareFault.{PrepareFault}
+use Rattle.pef_script.specs.Script.{DescribedScript, DescribedSection}
+use Rattle.pef_headline.specs.Least.{HasLeast}
+use Rattle.pef_headline.specs.Now.{IsDescribedNow}
+use Rattle.pef_write.specs.Linked.{IsLinked, LinkedContainer}
+
+-- "container that the linker writes": in place p of a store are the bytes that are linked of the script
+pub record HasLinked (pairs : List Pair) (p : ℕ) (script : DescribedScript) : Type 0 where
+  pub container : LinkedContainer
+  pub linked : IsLinked script container
+  pub bytes : (pair_of pairs p).bytes ≡ container.bytes
+
+-- the bytes in place p are no container that the linker writes, whatever the script
+abbrev pub IsForeign : List Pair → ℕ → Type 0
+IsForeign pairs p = (script : DescribedScript) → HasLinked pairs p script → ⊥
+
+-- the context was made for a store and a memory limit, and any list of preparations and closings followed
+pub record IsReached (s : ContextState) : Type 0 where
+  pub pairs : List Pair
+  pub limit : ℕ
+  pub steps : List Step
+  pub run : Runs (fresh_state pairs limit) steps s
+
+-- "libraries resolve": the store has a root of this name, and the root has a closure
+pub record LibrariesResolve (s : ContextState) (name : List ℕ) : Type 0 where
+  pub root : ℕ
+  pub is : place_of s.pairs name ≡ Some root
+  pub closed : Closed
+  pub closure : closed_of s.pairs root ≡ Ok closed
+
+-- "sections find room": a connection is left, and no fragment of the closure that isn't present yet lacks room
+pub record SectionsFindRoom (s : ContextState) (closed : Closed) : Type 0 where
+  pub left : s.given < most_connections
+  pub room : (name : List ℕ) → LacksRoom s.pairs s.memory (new_of s closed) name → ⊥
+
+-- the others can be prepared: of the fragments of the closure that aren't present yet, none that is foreign has an
+-- image that is refused, nor, with all of them in their places, a relocation header that is refused
+pub record OthersAreSound (s : ContextState) (closed : Closed) : Type 0 where
+  pub images : (p : ℕ) → Contains (new_of s closed) p → IsForeign s.pairs p → image_refusal_in s.pairs p ≡ None
+  pub headers : (fresh : List Present) (f : Present) → AreNew s.pairs s.memory (new_of s closed) fresh → Contains fresh f → IsForeign s.pairs f.position
+      → reloc_refusal_in s.pairs (addresses_of s.pairs (s.present ++ fresh) f) f.position ≡ None
+
+-- what `Context::prepare` may answer to a name, and the context afterwards, in the words of its own clauses
+abbrev pub MayAnswer : ContextState → List ℕ → Result ℕ PrepareFault → ContextState → Type 0
+MayAnswer s name (Ok number) t = Prepares s name number t
+MayAnswer s name (Err fault) t = MayNotPrepare s name fault × (t ≡ s)
+
+-- "exactly the memory that its script describes": the fragment in place p is present, with this memory
+pub record HasDescribedMemory (s : ContextState) (p : ℕ) (script : DescribedScript) : Type 0 where
+  pub present : is_present s.present p ≡ true
+  pub memory : IsDescribedNow s.pairs s script p
+
+-- "prepares": the answer is the next connection, and the fragment in place p has the described memory afterwards; or it
+-- is 99, the refusal for want of memory, and the context is as it was
+abbrev pub PreparesAsDescribed : ContextState → Result ℕ PrepareFault → ContextState → ℕ → DescribedScript → Type 0
+PreparesAsDescribed s (Ok number) t p script = (number ≡ s.given) × HasDescribedMemory t p script
+PreparesAsDescribed s (Err fault) t p script = (fault_number fault ≡ 99) × (t ≡ s)
+
+-- "for each section its relocation program ..": the bytes in place p are read as a container with a loader section, and
+-- that has a least program for each section of the script
+pub record HasLeastPrograms (pairs : List Pair) (p : ℕ) (script : DescribedScript) (container : LinkedContainer) : Type 0 where
+  pub fragment : Fragment
+  pub read : fragment_of pairs p ≡ Ok fragment
+  pub least : (k : ℕ) (section : DescribedSection) → slice_get script.sections k ≡ Some section → HasLeast container fragment.loader k section.fixups

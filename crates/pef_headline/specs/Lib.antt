@@ -1,0 +1,4 @@
+pub mod Headline
+pub mod Least
+pub mod Now
+pub mod Others

@@ -1,0 +1,68 @@
+//! The headline and two laws of refusals: laws of the definitions that the crates below promise by.
+//! The functions do nothing.
+ghost use Rattle.std.specs.Prelude.{◌≡◌, ℕ, List, None, Err, Contains, Result, true};
+ghost use Rattle.cfm_closure.specs.Stores.{Pair};
+ghost use Rattle.cfm_closure.specs.Faults.{no_container, no_loader};
+ghost use Rattle.cfm_closure.specs.Closures.{closed_of};
+ghost use Rattle.cfm_memory.specs.Extents.{ArePlaced};
+ghost use Rattle.cfm_memory.specs.Instances.{Layout};
+ghost use Rattle.cfm_prepare.specs.Addresses.{addresses_of};
+ghost use Rattle.cfm_prepare.specs.Fragments.{Present, extents_in, image_refusal_in, is_present, reloc_refusal_in};
+ghost use Rattle.cfm_prepare.specs.Refusals.{HasBadImage, HasBadProgram};
+ghost use Rattle.cfm_prepare.specs.Contexts.{ContextState};
+ghost use Rattle.cfm_prepare.specs.Steps.{HasRoot, Prepares};
+ghost use Rattle.cfm_prepare.specs.declared.fault.PrepareFault.{PrepareFault};
+ghost use Rattle.pef_loader.specs.declared.fault.LoaderFault.{LoaderFault};
+ghost use Rattle.pef_pidata.specs.declared.fault.PackFault.{PackFault};
+ghost use Rattle.pef_reloc.specs.declared.fault.RelocFault.{RelocFault};
+ghost use Rattle.pef_script.specs.Script.{DescribedScript};
+ghost use Rattle.pef_headline.specs.Headline.{HasDescribedMemory, HasLeastPrograms, HasLinked, IsReached, LibrariesResolve, MayAnswer, OthersAreSound, PreparesAsDescribed, SectionsFindRoom};
+ghost use Rattle.pef_headline.specs.Others.{HasForeign, NamesForeign};
+ghost use Rattle.pef_views.specs.declared.fault.ViewFault.{ViewFault};
+
+/// The headline. Every container that the linker writes prepares, wherever its libraries resolve and its
+/// sections find room, to exactly the memory that its script describes; and for each section its relocation
+/// program has no more halfwords than any repeat-free program that makes the script's fixups, each once and
+/// in address order.
+///
+/// `prepares`, the first half: a store has the linked bytes in place `p`. After any list of preparations and closings a
+/// root is prepared by its name, and its closure has `p`: it is the root itself, or what the root needs. The call gives
+/// the next connection, and the fragment in `p` is present with the described memory. The only refusal is 99, for want
+/// of memory, and then the context is as it was. The conditions: the root is in the store, and its closure isn't
+/// refused; fewer than 65,536 connections were given; the fragments of the closure that aren't present yet find room;
+/// and none of these that wasn't linked has an image or a relocation header that is refused.
+///
+/// `present`: whenever the fragment in `p` is present, it has the described memory, under the addresses that its
+/// sections and its imports' targets have now. So it keeps what `prepares` gives as long as it is present.
+///
+/// `least`, the second half: the linked bytes are read as a container with a loader section, and that has a least
+/// relocation program for each section of the script.
+pub fn headline()
+    ensures prepares { (script : DescribedScript) (s t : ContextState) (name : List ℕ) (p : ℕ) (answer : Result ℕ PrepareFault) → IsReached s → HasLinked s.pairs p script → (resolve : LibrariesResolve s name) → Contains resolve.closed.order p
+        → SectionsFindRoom s resolve.closed → OthersAreSound s resolve.closed → MayAnswer s name answer t → PreparesAsDescribed s answer t p script }
+    ensures present { (script : DescribedScript) (s : ContextState) (p : ℕ) → IsReached s → HasLinked s.pairs p script → is_present s.present p ≡ true → HasDescribedMemory s p script }
+    ensures least { (script : DescribedScript) (pairs : List Pair) (p : ℕ) (linked : HasLinked pairs p script) → HasLeastPrograms pairs p script linked.container }
+{}
+
+/// Each preparation that gives a connection meets the conditions of `prepares`, so they ask for no more than it needs.
+pub fn conditions_are_met()
+    ensures { (s t : ContextState) (name : List ℕ) (number : ℕ) → Prepares s name number t → (resolve : LibrariesResolve s name) × SectionsFindRoom s resolve.closed × OthersAreSound s resolve.closed }
+{}
+
+/// No image of a linked container is refused. Nor is a relocation header, if its sections have places, whichever
+/// fragments are present.
+pub fn linked_is_sound()
+    ensures filled { (script : DescribedScript) (pairs : List Pair) (p : ℕ) → HasLinked pairs p script → image_refusal_in pairs p ≡ None }
+    ensures relocated { (script : DescribedScript) (pairs : List Pair) (all : List Present) (f : Present) (before after : Layout) → HasLinked pairs f.position script → ArePlaced before (extents_in pairs f.position) f.places after
+        → reloc_refusal_in pairs (addresses_of pairs all f) f.position ≡ None }
+{}
+
+/// So if new fragments of a closure are refused for an image or a relocation header, the refusal names one of them that
+/// wasn't linked of any script. If the bytes of a fragment aren't read, the refusal names a fragment of the store that
+/// wasn't linked of any.
+pub fn refusals_are_of_others()
+    ensures image { (pairs : List Pair) (m : Layout) (new : List ℕ) (name : List ℕ) (k : PackFault) → HasBadImage pairs m new name k → HasForeign pairs new name }
+    ensures program { (pairs : List Pair) (there : List Present) (m : Layout) (new : List ℕ) (name : List ℕ) (k : RelocFault) → HasBadProgram pairs there m new name k → HasForeign pairs new name }
+    ensures container { (s : ContextState) (asked name : List ℕ) (k : ViewFault) (has : HasRoot s asked) → closed_of s.pairs has.root ≡ Err (no_container name k) → NamesForeign s.pairs name }
+    ensures loader { (s : ContextState) (asked name : List ℕ) (k : LoaderFault) (has : HasRoot s asked) → closed_of s.pairs has.root ≡ Err (no_loader name k) → NamesForeign s.pairs name }
+{}

@@ -1,5 +1,0 @@
-use Rattle.std.proofs.Common.{rules}
-use Rattle.pef_labels.proofs.certificate.Certificate.program_length.Goals as goal
-
-pub returns : goal.returns
-returns c = search rules

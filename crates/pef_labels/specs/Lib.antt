@@ -1,4 +1,0 @@
-pub mod Certified
-pub mod Kept
-pub mod Rising
-pub mod Rows

@@ -1,0 +1,7 @@
+pub mod EndBest
+pub mod EndLemmas
+pub mod EndsKept
+pub mod KnownLemmas
+pub mod LineLemmas
+pub mod PlaceLemmas
+pub mod RunFacts

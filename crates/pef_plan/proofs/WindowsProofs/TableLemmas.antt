@@ -1,0 +1,67 @@
+-- Rows of a table: how many there are, which is at an index, one more and one less.
+use Rattle.std.proofs.Common.{◌≡◌, ℕ, zero, suc, ◌+◌, ◌-◌, ◌*◌, ◌<◌, ◌≤◌, List, [], ◌∷◌, ◌++◌, length, take, drop, Some, refl, ap, sym, ◌∙◌, arith, slice_get}
+use Rattle.std.specs.Prelude.{slice_index_or}
+use Rattle.std.proofs.Math.Path.{ap₂}
+use Rattle.std.proofs.lemmas.List.{append-nil, drop-append-le, drop-drop, drop-take, drop_all, length-drop, nil_from_length, take-append-le, take-take, take_all}
+use Rattle.std.proofs.lemmas.Option.{slice_get-get_or}
+use Rattle.pef_plan.specs.Windows.Tables.{rows_of}
+
+pub rows_count : (n w : ℕ) (values : List ℕ) → length (rows_of n w values) ≡ n
+rows_count zero w values = refl
+rows_count (suc n) w values = ap suc (rows_count n w (drop w values))
+
+-- the row at an index
+pub rows-at : (n w i : ℕ) (values : List ℕ) → i < n → slice_index_or (rows_of n w values) i [] ≡ take w (drop (i * w) values)
+rows-at zero w i values under = absurd (omega (arith, under))
+rows-at (suc n) w zero values under = let start : 0 ≡ zero * w = omega arith in ap (λ k. take w (drop k values)) start
+rows-at (suc n) w (suc i) values under =
+    let start : w + i * w ≡ suc i * w = omega arith in
+    rows-at n w i (drop w values) (omega (arith, under))
+    ∙ ap (take w) (drop-drop (i * w) w values ∙ ap (λ k. drop k values) start)
+
+-- one row more
+pub rows-push : (n w : ℕ) (values row : List ℕ) → length values ≡ n * w → length row ≡ w → rows_of (n + 1) w (values ++ row) ≡ rows_of n w values ++ row ∷ []
+rows-push zero w values row full wide =
+    let none : values ≡ [] = nil_from_length values (omega (arith, full)) in
+    let whole : take w ([] ++ row) ≡ row = ap (λ k. take k row) (sym wide) ∙ take_all (length row) row (omega arith) in
+    rw none (ap (λ r. r ∷ []) whole)
+rows-push (suc n) w values row full wide =
+    let long : w ≤ length values = omega (arith, full) in
+    let rest : length (drop w values) ≡ n * w = omega (arith, full, length-drop w values) in
+    let more : suc n + 1 ≡ suc (n + 1) = omega arith in
+    ap (λ k. rows_of k w (values ++ row)) more
+    ∙ ap₂ (λ r rs. r ∷ rs) (take-append-le w values row long)
+    (ap (rows_of (n + 1) w) (drop-append-le w values row long) ∙ rows-push n w (drop w values) row rest wide)
+
+-- the first rows
+pub rows-take : (k n w : ℕ) (values : List ℕ) → k ≤ n → rows_of k w (take (k * w) values) ≡ take k (rows_of n w values)
+rows-take zero n w values few = refl
+rows-take (suc k) zero w values few = absurd (omega (arith, few))
+rows-take (suc k) (suc n) w values few =
+    let size : suc k * w ≡ w + k * w = omega arith in
+    ap₂ (λ r rs. r ∷ rs) (take-take w (suc k * w) values (omega (arith, size)))
+    (ap (rows_of k w) (ap (λ m. drop w (take m values)) size ∙ drop-take w (k * w) values) ∙ rows-take k n w (drop w values) (omega (arith, few)))
+
+-- where a row is among the numbers
+pub row_inside : (i n w : ℕ) (values : List ℕ) → i < length (rows_of n w values) → length values ≡ n * w → i * w + w ≤ length values
+row_inside i n w values under full =
+    let count = rows_count n w values in
+    let low = mul-le (i + 1) n w (omega (arith, under, count)) in
+    omega (arith, low, full)
+  where
+    mul-le : (a b w : ℕ) → a ≤ b → a * w ≤ b * w
+    mul-le zero b w low = omega arith
+    mul-le (suc a) zero w low = absurd (omega (arith, low))
+    mul-le (suc a) (suc b) w low = let less = mul-le a b w (omega (arith, low)) in omega (arith, less)
+
+-- the last row, where there is one
+pub last_got : (rows : List (List ℕ)) (row : List ℕ) (n : ℕ) → length rows ≡ n → 0 < n → row ≡ slice_index_or rows (n - 1) [] → slice_get rows (length rows - 1) ≡ Some row
+last_got rows row n count some is =
+    let at : length rows - 1 ≡ n - 1 = omega (arith, count) in
+    ap (slice_get rows) at ∙ (slice_get-get_or rows (n - 1) [] (omega (arith, count, some)) ∙ ap Some (sym is))
+
+-- all of a slice in the place of what was there
+pub same_slice : (n : ℕ) (new old : List ℕ) → length new ≡ n → length old ≡ n → take n (new ++ drop (length new) old) ≡ new
+same_slice n new old is was =
+    let none : drop (length new) old ≡ [] = drop_all (length new) old (omega (arith, is, was)) in
+    ap (λ xs. take n (new ++ xs)) none ∙ (ap (take n) (append-nil new) ∙ take_all n new (omega (arith, is)))

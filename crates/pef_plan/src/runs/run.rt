@@ -1,0 +1,192 @@
+ghost use Rattle.std.specs.Prelude.{◌≡◌, ◌+◌, ◌*◌, ◌^◌, ◌++◌, ◌<◌, ◌≤◌, ◌⊎◌, ℕ, List, MatchOption, length};
+ghost use Rattle.std.specs.Option.{option_map};
+ghost use Rattle.pef_cert.specs.Labels.{Labels};
+ghost use Rattle.pef_cert.specs.Fixups.Additions.{behind};
+ghost use Rattle.pef_plan.specs.Runs.Places.{Chosen, GoesOn, HereOf, extension_in};
+ghost use Rattle.pef_plan.specs.Runs.Runs.{EndOf, Ends, RunOf, imports, limit, run_instr, stride, unit};
+ghost use Rattle.pef_plan.specs.Runs.Kept.Runs.{Next};
+ghost use Rattle.pef_plan.specs.Runs.Tables.{Agrees, Shaped};
+ghost use Rattle.pef_reloc.specs.Instrs.{instr_length};
+ghost use Rattle.pef_reloc.specs.declared.fixup.Base.TheVariants.{Section};
+ghost use Rattle.pef_reloc.specs.declared.fixup.Fixup.{Fixup};
+
+use crate::runs::state::{Choice, OpenState, PlanState, Step};
+use crate::runs::suffix::SolvedSuffix;
+use pef_cert::{WORD, behind_first, behind_import};
+use pef_reloc::{Base, Fixup, Instr};
+
+/// The most words, pairs or imports of a run.
+pub(crate) const MAX_RUN: u32 = 512;
+
+/// The most words that a skip adds to.
+pub(crate) const MAX_SKIP_RUN: u32 = 63;
+
+/// A run of additions that one instruction makes.
+#[derive(Clone, Copy)]
+pub enum Run {
+    /// Words of a section that register C holds.
+    WordsOfC(u32),
+    /// Words of a section that register D holds.
+    WordsOfD(u32),
+    /// Words of a section that register D holds, a word apart.
+    Spaced(u32),
+    /// Pairs of two sections that the registers hold.
+    Pairs { first: u32, second: u32 },
+    /// Such pairs, a word apart.
+    SpacedPairs { first: u32, second: u32 },
+    /// Imports from the next one on.
+    Imports,
+    /// Words of a section that register D holds, behind so many that are passed.
+    Skip { words: u32, section: u32 },
+}
+
+impl Run {
+    /// How many bytes it moves on for each unit.
+    fn stride(self) -> u64
+        ensures { result ≡ stride self }
+    {
+        match self {
+            Run::WordsOfC(_) | Run::WordsOfD(_) | Run::Imports | Run::Skip { .. } => WORD,
+            Run::Spaced(_) | Run::Pairs { .. } => 2 * WORD,
+            Run::SpacedPairs { .. } => 3 * WORD,
+        }
+    }
+
+    /// How many imports it moves on for each unit.
+    fn imports(self) -> u64
+        ensures { result ≡ imports self }
+    {
+        match self {
+            Run::Imports => 1,
+            _ => 0,
+        }
+    }
+
+    /// How many units it can have.
+    fn limit(self) -> u32
+        ensures { result ≡ limit self }
+    {
+        match self {
+            Run::Skip { .. } => MAX_SKIP_RUN,
+            _ => MAX_RUN,
+        }
+    }
+
+    /// The instruction of so many units.
+    fn instr(self, count: u32) -> Instr
+        ensures { result ≡ run_instr self count }
+    {
+        match self {
+            Run::WordsOfC(_) => Instr::BySectC(count),
+            Run::WordsOfD(_) => Instr::BySectD(count),
+            Run::Spaced(_) => Instr::VTable8(count),
+            Run::Pairs { .. } => Instr::TVector8(count),
+            Run::SpacedPairs { .. } => Instr::TVector12(count),
+            Run::Imports => Instr::ImportRun(count),
+            Run::Skip { words, .. } => Instr::BySectDWithSkip { skip: words, count },
+        }
+    }
+
+    /// The place behind one unit.
+    ///
+    /// Inlined where the kind of run is known, so that only its own test is left.
+    #[inline(always)]
+    pub(crate) fn next<'a>(self, place: PlanState<'a>) -> Option<PlanState<'a>>
+        requires position { place.position < 2 ^ 60 }
+        requires import_index { place.import_index < 2 ^ 60 }
+        ensures { MatchOption result ((left : List Fixup) → place.entry.left.now ≡ unit self place.entry.position place.entry.import_index ++ left → ⊥) (λ next. Next self place.entry next) }
+    {
+        let left = self.behind(place.left, place.position, place.import_index)?;
+        let position = place.position + self.stride();
+        let import_index = place.import_index + self.imports();
+        Some(PlanState {
+            left,
+            position,
+            import_index,
+            ..place
+        })
+    }
+
+    /// What is left of fixups behind one unit at a position, with the next import.
+    #[inline(always)]
+    fn behind<'a>(self, fixups: &'a [Fixup], position: u64, import: u64) -> Option<&'a [Fixup]>
+        requires position { position < 2 ^ 60 }
+        ensures { option_map (λ l. l.now) result ≡ behind (unit self position import) fixups.entry.now }
+    {
+        match self {
+            Run::WordsOfC(section) | Run::WordsOfD(section) => {
+                behind_first(fixups, position, Base::Section(section))
+            }
+            Run::Spaced(section) | Run::Skip { section, .. } => {
+                behind_first(fixups, position, Base::Section(section))
+            }
+            Run::Pairs { first, second } | Run::SpacedPairs { first, second } => {
+                let rest = behind_first(fixups, position, Base::Section(first))?;
+                behind_first(rest, position + WORD, Base::Section(second))
+            }
+            Run::Imports => behind_import(fixups, position, import),
+        }
+    }
+}
+
+impl<'a> SolvedSuffix<'a> {
+    /// The better of a choice and of the best end of a run that begins at a position, in bytes. It follows the
+    /// run unit by unit.
+    pub fn best_of_run(
+        self,
+        here: OpenState<'a>,
+        run: Run,
+        from: u64,
+        first: Choice<'a>,
+    ) -> Choice<'a>
+        requires here { HereOf self here }
+        requires run { RunOf self.registers.now run here.place from }
+        requires from { from ≤ 2 ^ 24 }
+        requires first { Chosen self here first }
+        ensures chosen { Chosen self.entry here.entry result }
+        ensures better { result.value ≤ first.entry.value }
+        ensures attained { (l : Labels) → Agrees l self.entry here.entry.others.now → (result.value ≡ first.entry.value) ⊎ EndOf l run here.entry from result.value }
+        ensures ends { (l : Labels) (value : ℕ) → Agrees l self.entry here.entry.others.now → value ≤ result.value → Ends l run here.entry from value }
+    {
+        let mut best = first;
+        let mut next = PlanState {
+            position: from,
+            ..here.place
+        };
+        let mut count = 0;
+        'ends: for _ in 0..run.limit() {
+            next = match run.next(next) {
+                Some(next) => next,
+                None => return best,
+            };
+            count += 1;
+            let instr = run.instr(count);
+            best = self.better(here, best, Step { instr, next });
+        }
+        best
+    }
+
+    /// The better of a choice and of a step of one halfword.
+    fn better(self, here: OpenState<'a>, best: Choice<'a>, step: Step<'a>) -> Choice<'a>
+        requires here { HereOf self here }
+        requires best { Chosen self here best }
+        requires goes { GoesOn self.registers.now here.place step }
+        requires one { instr_length step.instr ≡ 1 }
+        requires inside { Shaped self (length step.next.left.now) }
+        requires c { step.next.c < length self.registers.now + 1 }
+        requires d { step.next.d < length self.registers.now + 1 }
+        requires agrees { (l : Labels) → Agrees l self here.others.now → Agrees l self step.next.left.now }
+        ensures chosen { Chosen self.entry here.entry result }
+        ensures better { result.value ≤ best.entry.value }
+        ensures low { (l : Labels) → Agrees l self.entry here.entry.others.now → result.value ≤ 1 + extension_in l step.entry.next }
+        ensures either { (l : Labels) → Agrees l self.entry here.entry.others.now → (result.value ≡ best.entry.value) ⊎ (result.value ≡ 1 + extension_in l step.entry.next) }
+    {
+        let next = step.next;
+        let value = 1 + self.value(next.left, next.position, next.c, next.d);
+        if value < best.value {
+            Choice { step, value }
+        } else {
+            best
+        }
+    }
+}

@@ -1,0 +1,47 @@
+use pef_reloc::{Fixup, Instr};
+
+/// A state, and the fixups that are left to make from there.
+#[derive(Clone, Copy)]
+pub struct PlanState<'a> {
+    pub left: &'a [Fixup],
+    /// In bytes.
+    pub position: u64,
+    /// The number of the next import.
+    pub import_index: u64,
+    /// The class of register C.
+    pub c: usize,
+    /// The class of register D.
+    pub d: usize,
+}
+
+/// A state where fixups are left: the first of them, and those behind it.
+#[derive(Clone, Copy)]
+pub struct OpenState<'a> {
+    pub place: PlanState<'a>,
+    pub first: Fixup,
+    pub others: &'a [Fixup],
+}
+
+/// A state at a fixup, but for the registers.
+#[derive(Clone, Copy)]
+pub struct FixupState<'a> {
+    pub left: &'a [Fixup],
+    pub first: Fixup,
+    /// The fixups behind it.
+    pub others: &'a [Fixup],
+    pub import_index: u64,
+}
+
+/// An instruction, and where it leads to.
+#[derive(Clone, Copy)]
+pub struct Step<'a> {
+    pub instr: Instr,
+    pub next: PlanState<'a>,
+}
+
+/// A step, and how many halfwords there are from before it to the end.
+#[derive(Clone, Copy)]
+pub struct Choice<'a> {
+    pub step: Step<'a>,
+    pub value: u64,
+}

@@ -1,0 +1,213 @@
+ghost use Rattle.std.specs.Prelude.{◌≡◌, ◌+◌, ◌*◌, ◌^◌, ◌<◌, ◌≤◌, ◌∷◌, [], ℕ, MatchOption, false, length, slice_index};
+ghost use Rattle.pef_cert.specs.Extension.{extension};
+ghost use Rattle.pef_cert.specs.Labels.{Labels};
+ghost use Rattle.pef_plan.specs.Runs.Ends.{FarAt, NearKept, NearSmall};
+ghost use Rattle.pef_plan.specs.Runs.Kept.Ahead.{IsAhead, class_ahead, value_ahead};
+ghost use Rattle.pef_plan.specs.Runs.Places.{AtOf};
+ghost use Rattle.pef_plan.specs.Runs.Tables.{Agrees, IsRow, Shaped, ValueIs, begin_at, number_in, place_of};
+ghost use Rattle.pef_reloc.specs.declared.fixup.Base.TheVariants.{Section};
+ghost use Rattle.pef_reloc.specs.Limits.{most_sections};
+
+use crate::runs::ahead::NextFixup;
+use crate::runs::state::FixupState;
+use crate::windows::{Looks, Table};
+use pef_cert::{LabelRows, WORD, class_of};
+use pef_reloc::{Base, Fixup};
+
+/// What is known of the states at some fixups: tables that are filled from the last fixup back. Numbers
+/// of a table are in halfwords.
+#[derive(Clone, Copy)]
+pub struct SolvedSuffix<'a> {
+    /// The sections that the fixups use, rising. A section's class is its place among them; all others are
+    /// of the class behind.
+    pub registers: &'a [u32],
+    /// The labels, by how many fixups are left: rows by the class of register C, and in it by that of D.
+    pub labels: &'a LabelRows,
+    /// The least that a skip at the next fixup leads to, by how many fixups are left and by the class of
+    /// register C.
+    pub skips: &'a Table,
+    /// Counts how often a value is read.
+    pub looks: Looks<'a>,
+}
+
+impl<'a> SolvedSuffix<'a> {
+    /// How many classes of sections there are: one more than the registers.
+    pub fn classes(self) -> usize
+        requires { length self.registers.now ≤ most_sections }
+        ensures { result ≡ length self.entry.registers.now + 1 }
+    {
+        self.registers.len() + 1
+    }
+
+    /// The place of a class of C and a class of D in a row.
+    pub fn place(self, c: usize, d: usize) -> usize
+        requires few { length self.registers.now ≤ most_sections }
+        requires c { c < length self.registers.now + 1 }
+        requires d { d < length self.registers.now + 1 }
+        ensures is { result ≡ place_of (length self.entry.registers.now + 1) c d }
+        ensures inside { result < (length self.entry.registers.now + 1) * (length self.entry.registers.now + 1) }
+    {
+        c * self.classes() + d
+    }
+
+    /// The labels where so many fixups are left.
+    pub fn row(self, left: usize) -> &'a [u32]
+        requires { Shaped self left }
+        ensures { IsRow self.entry left result.now }
+    {
+        self.labels.row(left)
+    }
+
+    /// The extension in halfwords where these fixups are left, at a position in bytes and in classes of the
+    /// registers. Each reading is a look.
+    pub fn value(self, rest: &[Fixup], position: u64, c: usize, d: usize) -> u64
+        requires shaped { Shaped self (length rest.now) }
+        requires c { c < length self.registers.now + 1 }
+        requires d { d < length self.registers.now + 1 }
+        ensures is { (l : Labels) → Agrees l self.entry rest.now → result ≡ extension l rest.now position c d }
+        ensures small { result ≤ 4 * length rest.now + 2 }
+    {
+        self.value_in(self.row(rest.len()), rest, position, c, d)
+    }
+
+    /// The same from the labels where these are left.
+    pub fn value_in(self, row: &'a [u32], rest: &[Fixup], position: u64, c: usize, d: usize) -> u64
+        requires row { IsRow self (length rest.now) row.now }
+        requires shaped { Shaped self (length rest.now) }
+        requires c { c < length self.registers.now + 1 }
+        requires d { d < length self.registers.now + 1 }
+        ensures is { (l : Labels) → Agrees l self.entry rest.now → result ≡ extension l rest.now position c d }
+        ensures small { result ≤ 4 * length rest.now + 2 }
+    {
+        self.looks.add(1);
+        let place = self.place(c, d);
+        if begin_at(rest, position) {
+            return u64::from(row[place]);
+        }
+        match self.ahead(row, rest, position) {
+            Some(ahead) => ahead.value(place, c, d),
+            None => 0,
+        }
+    }
+
+    /// The first of these fixups, from a position.
+    fn ahead(self, row: &'a [u32], rest: &[Fixup], position: u64) -> Option<NextFixup<'a>>
+        requires row { IsRow self (length rest.now) row.now }
+        requires shaped { Shaped self (length rest.now) }
+        ensures { MatchOption result (rest.now ≡ []) (λ ahead. IsAhead self.entry rest.now position ahead) }
+    {
+        let first = rest.first()?;
+        Some(NextFixup {
+            bytes: u64::from(first.offset).saturating_sub(position),
+            row,
+            skips: self.skips.row(rest.len()),
+            class: self.class_ahead(first.base),
+        })
+    }
+
+    /// The class of a base's section. An import has none.
+    fn class_ahead(self, base: Base) -> Option<usize>
+        ensures { result ≡ class_ahead self.entry.registers.now base }
+    {
+        match base {
+            Base::Section(section) => Some(class_of(self.registers, section)),
+            Base::Import(_) => None,
+        }
+    }
+
+    /// Fills in the extension right behind a fixup, for each pair of classes.
+    pub fn fill_behind(self, at: FixupState<'_>, near: &mut [u32])
+        requires at { AtOf self at }
+        requires len { length near.old ≡ (length self.registers.now + 1) * (length self.registers.now + 1) }
+        ensures len { length near.new ≡ length near.old }
+        ensures is { (l : Labels) → Agrees l self.entry at.entry.others.now → NearKept l (at.entry.first ∷ at.entry.others.now) near.new }
+        ensures small { NearSmall (length self.entry.registers.now + 1) (at.entry.first ∷ at.entry.others.now) near.new }
+    {
+        let position = u64::from(at.first.offset) + WORD;
+        let row = self.row(at.others.len());
+        if begin_at(at.others, position) {
+            self.looks.add(row.len() as u64);
+            near.copy_from_slice(row);
+        } else {
+            self.fill_values(row, at.others, position, near);
+        }
+    }
+
+    /// Fills in the extension at a position where none of these fixups is, for each pair of classes.
+    fn fill_values(self, row: &'a [u32], rest: &[Fixup], position: u64, values: &mut [u32])
+        requires row { IsRow self (length rest.now) row.now }
+        requires shaped { Shaped self (length rest.now) }
+        requires away { begin_at position rest.now ≡ false }
+        requires len { length values.old ≡ (length self.registers.now + 1) * (length self.registers.now + 1) }
+        ensures len { length values.new ≡ length values.old }
+        ensures are { (c d : ℕ) → c < length self.entry.registers.now + 1 → d < length self.entry.registers.now + 1 → ValueIs self.entry rest.now position c d (number_in (length self.entry.registers.now + 1) values.new c d) }
+    {
+        self.looks.add(values.len() as u64);
+        match self.ahead(row, rest, position) {
+            Some(ahead) => fill_ahead(ahead, self.classes(), values),
+            None => values.fill(0),
+        }
+    }
+
+    /// Fills in the extension a word further on where register D holds the fixup's section, by the class of C.
+    pub fn fill_beyond(self, at: FixupState<'_>, section: u32, far: &mut [u32])
+        requires at { AtOf self at }
+        requires base { at.first.base ≡ Section section }
+        requires len { length far.old ≡ length self.registers.now + 1 }
+        ensures len { length far.new ≡ length far.old }
+        ensures is { (l : Labels) → Agrees l self.entry at.entry.others.now → FarAt l at.entry.first.offset at.entry.others.now far.new (Section section) }
+    {
+        let position = u64::from(at.first.offset) + 2 * WORD;
+        let row = self.row(at.others.len());
+        let class = class_of(self.registers, section);
+        'classes: for c in 0..far.len() {
+            far[c] = self.value_in(row, at.others, position, c, class) as u32;
+        }
+    }
+
+    /// Copies the numbers of a row with register D in a class, by the class of C.
+    pub fn copy_column(self, row: &[u32], class: usize, column: &mut [u32])
+        requires few { length self.registers.now ≤ most_sections }
+        requires class { class < length self.registers.now + 1 }
+        requires row { length row.now ≡ (length self.registers.now + 1) * (length self.registers.now + 1) }
+        requires len { length column.old ≡ length self.registers.now + 1 }
+        ensures len { length column.new ≡ length column.old }
+        ensures is { (c : ℕ) → c < length self.entry.registers.now + 1 → slice_index column.new c ≡ slice_index row.now (place_of (length self.entry.registers.now + 1) c class) }
+    {
+        'classes: for c in 0..column.len() {
+            column[c] = row[self.place(c, class)];
+        }
+    }
+}
+
+/// Fills in the extension for each pair of so many classes.
+fn fill_ahead(ahead: NextFixup<'_>, classes: usize, values: &mut [u32])
+    requires some { 0 < classes }
+    requires few { classes ≤ most_sections + 1 }
+    requires row { length ahead.row.now ≡ classes * classes }
+    requires skips { length ahead.skips.now ≡ classes }
+    requires small { (c d : ℕ) → c < classes → d < classes → number_in classes ahead.row.now c d + 2 < 2 ^ 32 }
+    requires len { length values.old ≡ classes * classes }
+    ensures len { length values.new ≡ length values.old }
+    ensures are { (c d : ℕ) → c < classes → d < classes → number_in classes values.new c d ≡ value_ahead classes ahead.entry c d }
+    ensures small { (c d : ℕ) → c < classes → d < classes → number_in classes values.new c d ≤ 2 + number_in classes ahead.entry.row.now c d }
+{
+    let (mut c, mut d) = (0, 0);
+    'places: for place in 0..values.len() {
+        values[place] = ahead.value(place, c, d) as u32;
+        d += 1;
+        if d == classes {
+            (c, d) = (c + 1, 0);
+        }
+    }
+}
+
+/// Whether the first of some fixups is at a position.
+fn begin_at(fixups: &[Fixup], position: u64) -> bool
+    ensures { result ≡ begin_at position fixups.now }
+{
+    match fixups.first() {
+        Some(first) => u64::from(first.offset) == position,
+        None => false,
+    }
+}

@@ -1,0 +1,9 @@
+//! Rows of numbers in tables, and windows of the newest rows with the least number at each place.
+
+mod looks;
+mod table;
+mod window;
+
+pub use looks::Looks;
+pub use table::{Table, zeros};
+pub use window::Window;

@@ -1,0 +1,114 @@
+ghost use Rattle.std.specs.Prelude.{◌≡◌, ◌+◌, ◌-◌, ◌^◌, ◌<◌, ◌++◌, ◌∷◌, [], IfOk, MatchOption, OnErr, OnOk, Some, None, length, replicate, slice_get, slice_index_or, take};
+
+use std::alloc::{AllocError, Global};
+use std::marker::Model;
+
+/// Rows of numbers, all of one width, kept one after the other.
+#[derive(Debug, Drop)]
+pub struct Table {
+    width: usize,
+    rows: usize,
+    values: Vec<u32>,
+}
+
+impl Model for Table {
+    ghost use Rattle.std.specs.Prelude.{◌≡◌, ◌*◌, length};
+    ghost use Rattle.pef_cert.specs.Rows.{LaidRows};
+    ghost use Rattle.pef_plan.specs.Windows.Tables.{rows_of};
+
+    ghost Value = { LaidRows };
+
+    ghost view = { λ t. record { width = t.width; rows = rows_of t.rows t.width t.values.items } };
+
+    ghost invariant = { λ t. length t.values.items ≡ t.rows * t.width };
+}
+
+impl Table {
+    /// No rows, of a width.
+    pub fn new(alloc: Global, width: usize) -> Table
+        ensures { result ≡ record { width = width; rows = [] } }
+    {
+        Table {
+            width,
+            rows: 0,
+            values: Vec::new(alloc),
+        }
+    }
+
+    /// How many rows there are.
+    pub fn rows(&self) -> usize
+        ensures { result ≡ length self.now.rows }
+    {
+        self.rows
+    }
+
+    /// Adds a row after the others.
+    ///
+    /// # Errors
+    ///
+    /// If there is no memory for the row, the rows stay as they were.
+    pub fn push(&mut self, row: &[u32]) -> Result<(), AllocError>
+        requires wide { length row.now ≡ self.old.width }
+        requires room { length self.old.rows + 1 < 2 ^ 64 }
+        ensures ok { OnOk result (self.new ≡ record { width = self.old.width; rows = self.old.rows ++ row.now ∷ [] }) }
+        ensures err { OnErr result (self.new ≡ self.old) }
+    {
+        self.values.extend_from_slice(row)?;
+        self.rows += 1;
+        Ok(())
+    }
+
+    /// The row at an index.
+    pub fn row(&self, index: usize) -> &[u32]
+        requires { index < length self.now.rows }
+        ensures is { result.now ≡ slice_index_or self.now.rows index [] }
+        ensures wide { length result.now ≡ self.now.width }
+    {
+        let (_, rest) = self.values.split_at(index * self.width);
+        let (row, _) = rest.split_at(self.width);
+        row
+    }
+
+    /// The last row.
+    pub fn last(&self) -> Option<&[u32]>
+        ensures is { MatchOption result (self.now.rows ≡ []) (λ row. slice_get self.now.rows (length self.now.rows - 1) ≡ Some row.now) }
+        ensures wide { MatchOption result (self.now.rows ≡ []) (λ row. length row.now ≡ self.now.width) }
+    {
+        if self.rows == 0 {
+            return None;
+        }
+        Some(self.row(self.rows - 1))
+    }
+
+    /// Takes the last row away.
+    pub fn pop(&mut self)
+        ensures { self.new ≡ record { width = self.old.width; rows = take (length self.old.rows - 1) self.old.rows } }
+    {
+        if self.rows > 0 {
+            self.rows -= 1;
+            self.values.truncate(self.rows * self.width);
+        }
+    }
+
+    /// Takes all rows away.
+    pub fn clear(&mut self)
+        ensures { self.new ≡ record { width = self.old.width; rows = [] } }
+    {
+        self.rows = 0;
+        self.values.clear();
+    }
+}
+
+/// So many zeros.
+///
+/// # Errors
+///
+/// There is no memory for them.
+pub fn zeros(alloc: Global, count: usize) -> Result<Vec<u32>, AllocError>
+    ensures are { IfOk result (λ numbers. numbers.items ≡ replicate count 0) }
+    ensures len { IfOk result (λ numbers. length numbers.items ≡ count) }
+{
+    let mut numbers = Vec::new(alloc);
+    numbers.resize(count, 0)?;
+    Ok(numbers)
+}

@@ -1,0 +1,163 @@
+ghost use Rattle.std.specs.Prelude.{◌≡◌, ℕ, List, IfErr, OnOk, Result};
+ghost use Rattle.std.specs.IoError.{error_kind};
+ghost use Rattle.std.specs.declared.io.ErrorKind.{ErrorKind};
+ghost use Rattle.pef_ports.specs.System.Disk.{answer_of, fault_of, seen};
+ghost use Rattle.pef_ports.specs.Ports.{counted};
+ghost use Rattle.pef_ports.specs.declared.ports.FileFault.TheVariants.{Failed};
+
+use crate::{FileFault, Files};
+use std::alloc::Global;
+use std::io::{self, ErrorKind};
+use std::{fs, rt, str};
+
+/// A system's whole files, by their paths.
+pub trait Disk {
+    /// A call of `read_file` by a path may do this. A disk need not say more of it than that. The name lets a clause
+    /// say which calls a port made.
+    ghost did_read: { Self → List ℕ → Result (List ℕ) ErrorKind → Type 0 } = { λ _ _ _. Unit {0} };
+
+    /// The same of a call of `write_file` by a path with some bytes.
+    ghost did_write: { Self → List ℕ → List ℕ → Result (Unit {0}) ErrorKind → Type 0 } = { λ _ _ _ _. Unit {0} };
+
+    /// All bytes of the file at `path`.
+    fn read_file(&self, path: &str) -> io::Result<Vec<u8>>
+        ensures { did_read self.now path.now (seen (λ bytes. bytes.items) result) };
+
+    /// Leaves just `bytes` in the file at `path`.
+    fn write_file(&self, path: &str, bytes: &[u8]) -> io::Result<()>
+        ensures { did_write self.now path.now bytes.now (seen (λ done. done) result) };
+}
+
+/// No clause can say what a real file gives, so a call of the system may do anything.
+impl<R: rt::Files + AllocGlobal> Disk for R {
+    fn read_file(&self, path: &str) -> io::Result<Vec<u8>> {
+        fs::read(self, path)
+    }
+
+    fn write_file(&self, path: &str, bytes: &[u8]) -> io::Result<()> {
+        fs::write(self, path, bytes)
+    }
+}
+
+/// The files of a disk.
+#[derive(Drop)]
+pub struct DiskFiles<'a, D> {
+    disk: &'a D,
+    failures: u64,
+}
+
+impl<'a, D: Disk> DiskFiles<'a, D> {
+    pub fn new(disk: &'a D) -> DiskFiles<'a, D> {
+        DiskFiles { disk, failures: 0 }
+    }
+
+    /// The answer for what the disk did, with a failure counted.
+    fn answer<T: Drop>(&mut self, did: io::Result<T>) -> Result<T, FileFault>
+        ensures answer { result ≡ answer_of (seen (λ value. value) did) }
+        ensures done { OnOk result (self.new.failures ≡ self.old.failures) }
+        ensures fails { IfErr result (λ fault. self.new.failures ≡ counted fault self.old.failures) }
+    {
+        match did {
+            Ok(value) => Ok(value),
+            Err(error) => Err(self.fault(error.kind())),
+        }
+    }
+
+    fn fault(&mut self, kind: ErrorKind) -> FileFault
+        ensures fault { result ≡ fault_of kind }
+        ensures count { self.new.failures ≡ counted result self.old.failures }
+    {
+        match kind {
+            ErrorKind::OutOfMemory => FileFault::OutOfMemory,
+            _ => self.failed(),
+        }
+    }
+
+    fn failed(&mut self) -> FileFault
+        ensures fault { result ≡ Failed }
+        ensures count { self.new.failures ≡ counted result self.old.failures }
+    {
+        self.failures = self.failures.saturating_add(1);
+        FileFault::Failed
+    }
+}
+
+impl<'a, D: Disk> Files for DiskFiles<'a, D> {
+    ghost use Rattle.std.specs.Prelude.{None};
+    ghost use Rattle.pef_ports.specs.System.Disk.{IsAnswered};
+
+    ghost state = { λ files. record { contents = None; failures = files.failures } };
+
+    ghost was_read = { λ before path answer after. IsAnswered (D.did_read before.disk.now path) path answer };
+
+    ghost was_written = { λ before path bytes answer after. IsAnswered (D.did_write before.disk.now path bytes) path answer };
+
+    fn read(&mut self, _alloc: Global, path: &[u8]) -> Result<Vec<u8>, FileFault> {
+        match str::from_utf8(path) {
+            Ok(path) => self.answer(self.disk.read_file(path)),
+            Err(_) => Err(self.failed()),
+        }
+    }
+
+    fn write(&mut self, path: &[u8], bytes: &[u8]) -> Result<(), FileFault> {
+        match str::from_utf8(path) {
+            Ok(path) => self.answer(self.disk.write_file(path, bytes)),
+            Err(_) => Err(self.failed()),
+        }
+    }
+}
+
+#[cfg(test)]
+mod tests {
+    use super::*;
+    use std::test::Fail;
+
+    /// What is written is what the file has then, also where it had more.
+    #[test]
+    fn written_files(rt: HostRuntime) -> Result<(), Fail> {
+        let rows: [&[u8]; 3] = [b"ten \x00 bytes", b"two", b""];
+        let mut files = DiskFiles::new(&rt);
+        for bytes in rows {
+            files.write(b"written by a test", bytes)?;
+            let found = files.read(rt.alloc(), b"written by a test")?;
+            assert!(rt; found.as_slice() == bytes);
+        }
+        assert!(rt; files.failures == 0);
+        fs::remove_file(&rt, "written by a test")?;
+        Ok(())
+    }
+
+    /// A path is taken with its outer spaces.
+    #[test]
+    fn outer_spaces(rt: HostRuntime) -> Result<(), Fail> {
+        let others: [&[u8]; 3] = [b"a b", b" a b", b"a b "];
+        let mut files = DiskFiles::new(&rt);
+        files.write(b" a b ", b"text")?;
+        let found = files.read(rt.alloc(), b" a b ")?;
+        assert!(rt; found.as_slice() == b"text".as_slice());
+        for path in others {
+            let failed = matches!(files.read(rt.alloc(), path), Err(FileFault::Failed));
+            assert!(rt; failed);
+        }
+        fs::remove_file(&rt, " a b ")?;
+        Ok(())
+    }
+
+    /// A file that isn't there, folders that aren't, a folder in place of a file, paths that are no text, and a
+    /// device that is full.
+    #[test]
+    fn failures(rt: HostRuntime) {
+        let unreadable: [&[u8]; 4] = [b"no such file", b"no such folder/a", b".", b"\xFF"];
+        let unwritable: [&[u8]; 4] = [b"no such folder/a", b".", b"\xFF", b"/dev/full"];
+        let mut files = DiskFiles::new(&rt);
+        for path in unreadable {
+            let failed = matches!(files.read(rt.alloc(), path), Err(FileFault::Failed));
+            assert!(rt; failed);
+        }
+        for path in unwritable {
+            let failed = matches!(files.write(path, b"a"), Err(FileFault::Failed));
+            assert!(rt; failed);
+        }
+        assert!(rt; files.failures == 8);
+    }
+}

@@ -1,8 +1,0 @@
-use Rattle.pef_ports.proofs.Laws.Sending.{IsSentUpTo}
-use Rattle.pef_prepared.specs.Kept.Routines.{routines_text}
-use Rattle.pef_prepared.proofs.LoadedLemmas.{routines-left}
-use Rattle.pef_prepared.proofs.loaded.print_routines.Given as goal
-
-abbrev pub invariant-loop-i : goal.invariant-loop-i
-invariant-loop-i g l = IsSentUpTo (g.W.Sink.stream l.fn.out) (g.W.Sink.stream l.out) l.fn.page.items l.page.items
-    (routines_text l.routine l.context l.connection.0 l.order) (routines-left l.routine l.context l.connection.0 l.order l.i)

@@ -1,5 +1,0 @@
-use Rattle.pef_prepared.proofs.ConditionLemmas.{conditions-met}
-use Rattle.pef_prepared.proofs.theorems.conditions_are_met.Goals as goal
-
-pub returns : goal.returns
-returns c = conditions-met

@@ -1,5 +1,0 @@
-use Rattle.pef_prepared.proofs.HeadlineLemmas.{headline-least, headline-prepares, headline-present}
-use Rattle.pef_prepared.proofs.theorems.headline.Goals as goal
-
-pub returns : goal.returns
-returns c = record { prepares = headline-prepares; present = headline-present; least = headline-least }

@@ -1,5 +1,0 @@
-use Rattle.pef_prepared.proofs.HeadlineLemmas.{sound-headers, sound-images}
-use Rattle.pef_prepared.proofs.theorems.linked_is_sound.Goals as goal
-
-pub returns : goal.returns
-returns c = record { filled = sound-images; relocated = sound-headers }

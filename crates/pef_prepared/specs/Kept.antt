@@ -1,4 +1,0 @@
-pub mod Loading
-pub mod Rooted
-pub mod Routines
-pub mod Showing

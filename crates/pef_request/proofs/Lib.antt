@@ -1,6 +1,0 @@
-mod CommandLemmas
-mod FileLemmas
-mod LineLemmas
-mod LoadLemmas
-mod NameLemmas
-mod PlainLemmas

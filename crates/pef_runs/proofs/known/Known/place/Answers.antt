@@ -1,8 +1,0 @@
-use Rattle.std.proofs.Common.{◌+◌, ◌*◌, ◌<◌, length, subst, sym}
-use Rattle.pef_runs.proofs.PlaceLemmas.{place_under}
-use Rattle.pef_runs.proofs.known.Known.place.Goals as goal
-
-pub returns-clause-inside : goal.returns-clause-inside
-returns-clause-inside c =
-    let r = length c.args.self.registers.now + 1 in
-    subst (λ n. c.args.c * n + c.args.d < r * r) (sym c.classes.ensures) (place_under r c.args.c c.args.d c.requires.c c.requires.d)

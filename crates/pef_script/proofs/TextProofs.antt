@@ -1,0 +1,10 @@
+pub mod Growing
+pub mod Holds
+pub mod Leads
+pub mod LineLemmas
+pub mod ListLemmas
+pub mod Offsets
+pub mod Placing
+pub mod Rising
+pub mod TableLemmas
+pub mod WordLemmas

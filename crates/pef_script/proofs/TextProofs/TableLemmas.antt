@@ -1,0 +1,65 @@
+-- Names and their numbers in a table.
+use Rattle.std.proofs.Common.{◌≡◌, ℕ, ◌+◌, Bool, true, false, cond, List, [], ◌∷◌, map, length, None, Some, position, refl, sym, ap, ◌∙◌, Bor}
+use Rattle.std.specs.List.{position_from}
+use Rattle.std.specs.Map.{keys_of, lookup}
+use Rattle.std.specs.Str.{bytes_eq}
+use Rattle.std.proofs.lemmas.List.{length-map}
+use Rattle.std.proofs.lemmas.Iterator.Adapters.{position_from-zero}
+use Rattle.pef_script.specs.declared.parts.ExportData.{ExportData}
+use Rattle.pef_script.specs.declared.parts.ImportData.{ImportData}
+use Rattle.pef_script.specs.declared.parts.LibraryData.{LibraryData}
+use Rattle.pef_script.specs.Parts.{export_of, import_of, library_of}
+use Rattle.pef_script.specs.Text.SoFar.{number_of_name}
+
+-- a place in a list is that in the list seen in another way
+position_from-map : {A B : Type 0} (f : A → B) (test : B → Bool) (at : ℕ) (xs : List A) → position_from test at (map f xs) ≡ position_from (λ x. test (f x)) at xs
+position_from-map f test at [] = refl
+position_from-map f test at (x ∷ xs) = ap (cond (test (f x)) (Some at)) (position_from-map f test (at + 1) xs)
+
+module _ {T : Type 0} (name : List ℕ) where
+  -- the place of a name among the keys is its number
+  pub position-keys : (entries : List (Bor (List ℕ) × T)) → position (λ (k : Bor (List ℕ)). bytes_eq name k.now) (keys_of entries) ≡ number_of_name (map (λ entry. entry.0.now) entries) name
+  position-keys entries =
+      position_from-zero (λ (k : Bor (List ℕ)). bytes_eq name k.now) (keys_of entries)
+      ∙ position_from-map (λ (entry : Bor (List ℕ) × T). entry.0) (λ k. bytes_eq name k.now) 0 entries
+      ∙ sym (position_from-map (λ (entry : Bor (List ℕ) × T). entry.0.now) (bytes_eq name) 0 entries)
+
+  -- a name without a number is not found
+  pub lookup-none : (entries : List (Bor (List ℕ) × T)) (at : ℕ) → position_from (bytes_eq name) at (map (λ entry. entry.0.now) entries) ≡ None → lookup (λ (k : Bor (List ℕ)). bytes_eq name k.now) entries ≡ None
+  lookup-none [] at none = refl
+  lookup-none (entry ∷ entries) at none = by (bytes_eq name entry.0.now) none (lookup-none entries (at + 1))
+    where
+      by : (here : Bool) → cond here (Some at) (position_from (bytes_eq name) (at + 1) (map (λ entry. entry.0.now) entries)) ≡ None
+          → (position_from (bytes_eq name) (at + 1) (map (λ entry. entry.0.now) entries) ≡ None → lookup (λ (k : Bor (List ℕ)). bytes_eq name k.now) entries ≡ None)
+          → cond here (Some entry.1) (lookup (λ (k : Bor (List ℕ)). bytes_eq name k.now) entries) ≡ None
+      by true none others = absurd (cc)
+      by false none others = others none
+
+-- the names of a script's parts are those of its tables
+
+pub names_of_libraries : (entries : List (Bor (List ℕ) × LibraryData)) → map (λ library. library.name) (map library_of entries) ≡ map (λ entry. entry.0.now) entries
+names_of_libraries [] = refl
+names_of_libraries (entry ∷ entries) = ap (λ names. entry.0.now ∷ names) (names_of_libraries entries)
+
+pub names_of_imports : (entries : List (Bor (List ℕ) × ImportData)) → map (λ symbol. symbol.name) (map import_of entries) ≡ map (λ entry. entry.0.now) entries
+names_of_imports [] = refl
+names_of_imports (entry ∷ entries) = ap (λ names. entry.0.now ∷ names) (names_of_imports entries)
+
+pub names_of_exports : (entries : List (Bor (List ℕ) × ExportData)) → map (λ symbol. symbol.name) (map export_of entries) ≡ map (λ entry. entry.0.now) entries
+names_of_exports [] = refl
+names_of_exports (entry ∷ entries) = ap (λ names. entry.0.now ∷ names) (names_of_exports entries)
+
+pub count_of_libraries : (entries : List (Bor (List ℕ) × LibraryData)) → length (map library_of entries) ≡ length entries
+count_of_libraries entries = simp length-map
+
+pub ruleset libraries_seen = (names_of_libraries, count_of_libraries)
+
+pub count_of_imports : (entries : List (Bor (List ℕ) × ImportData)) → length (map import_of entries) ≡ length entries
+count_of_imports entries = simp length-map
+
+pub ruleset imports_seen = (names_of_imports, count_of_imports)
+
+pub count_of_exports : (entries : List (Bor (List ℕ) × ExportData)) → length (map export_of entries) ≡ length entries
+count_of_exports entries = simp length-map
+
+pub ruleset exports_seen = (names_of_exports, count_of_exports)

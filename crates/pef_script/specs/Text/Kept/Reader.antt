@@ -1,0 +1,14 @@
+-- What the code holds of a script while it reads, seen as what the grammar speaks of.
+use Rattle.std.specs.Prelude.{ℕ, List, map}
+use denote.Ref.{Bor}
+use Rattle.pef_script.specs.declared.text.reader.Reader.{Reader}
+use Rattle.pef_script.specs.Parts.{script_in}
+use Rattle.pef_script.specs.Text.SoFar.{ScriptSoFar}
+
+-- the names of a table's entries, in their order
+abbrev pub names_in : {T : Type 0} → List (Bor (List ℕ) × T) → List (List ℕ)
+names_in entries = map (λ entry. entry.0.now) entries
+
+-- what a reader has so far
+abbrev pub so_far : Reader → ScriptSoFar
+so_far r = record { script = record (script_in r.parts) { sections = r.sections.items }; reached = r.reached }

@@ -1,0 +1,72 @@
+-- The words of a line (docs/SCRIPTS.md, "Text"), and what is wrong with those that aren't there. A number is decimal
+-- without a leading zero, or `0x` and one to eight hex digits. An image is spelled by pairs of hex digits.
+use Rattle.std.specs.Prelude.{ℕ, ◌+◌, ◌==◌, List, [], ◌∷◌, Option, None, Some, Result, Ok, Err, length, nat_lt, if◌then◌else◌}
+use Rattle.std.specs.Option.{ok_or}
+use Rattle.pef_lines.specs.Numbers.{below, decimal_number, hex_number}
+use Rattle.pef_lines.specs.Pairs.{hex_bytes}
+use Rattle.pef_lines.specs.Words as words
+pub use Rattle.pef_lines.specs.Words.{is_printing}
+use Rattle.pef_words.specs.Results.{◌>>=◌}
+use Rattle.pef_script.specs.declared.text.fault.LineFault.{LineFault}
+use Rattle.pef_script.specs.declared.text.fault.LineFault.TheVariants.{BadLine, BadNumber}
+use Rattle.pef_script.specs.Limits.{longest_name}
+
+-- the one word that is left of a line
+unfoldable pub last_word : List ℕ → Result (List ℕ) LineFault
+last_word line = ok_or (words.last_word line) BadLine
+
+-- the next word of a line, and what follows the space behind it
+unfoldable pub next_word : List ℕ → Result (List ℕ × List ℕ) LineFault
+next_word line = ok_or (words.next_word line) BadLine
+
+-- a word that is a name is not longer than names are
+abbrev pub named : {A : Type 0} → (A → List ℕ) → Result A LineFault → Result A LineFault
+named name (Ok x) = if nat_lt longest_name (length (name x)) then Err BadLine else Ok x
+named name (Err fault) = Err fault
+
+-- the next word of a line where it is a name, and what follows the space behind it
+unfoldable pub next_name : List ℕ → Result (List ℕ × List ℕ) LineFault
+next_name line = named (λ p. p.0) (next_word line)
+
+-- the name that is left of a line
+unfoldable pub last_name : List ℕ → Result (List ℕ) LineFault
+last_name line = named (λ name. name) (last_word line)
+
+-- the next two words of a line, of which the first is a name, and what follows the space behind them
+unfoldable pub next_name_and_word : List ℕ → Result (List ℕ × List ℕ × List ℕ) LineFault
+next_name_and_word line = do
+  name ← next_name line
+  word ← next_word name.1
+  Ok (name.0, word.0, word.1)
+
+-- the two words that are left of a line
+unfoldable pub last_two_words : List ℕ → Result (List ℕ × List ℕ) LineFault
+last_two_words line = do
+  first ← next_word line
+  second ← last_word first.1
+  Ok (first.0, second)
+
+-- the name and the word behind it that are left of a line
+unfoldable pub last_name_and_word : List ℕ → Result (List ℕ × List ℕ) LineFault
+last_name_and_word line = do
+  name ← next_name line
+  word ← last_word name.1
+  Ok (name.0, word)
+
+-- what follows a leading 0: nothing, or `x` and hex digits
+abbrev pub number_behind_zero : List ℕ → Option ℕ
+number_behind_zero [] = Some 0
+number_behind_zero (b ∷ bytes) = if b == 0x78 then hex_number bytes else None
+
+-- the number that a word spells
+abbrev pub number_spelled : List ℕ → Option ℕ
+number_spelled [] = None
+number_spelled (b ∷ bytes) = if b == 0x30 then number_behind_zero bytes else decimal_number (b ∷ bytes)
+
+-- the number that a word spells, at most a greatest one
+unfoldable pub number_up_to : ℕ → List ℕ → Result ℕ LineFault
+number_up_to greatest word = ok_or (below (greatest + 1) (number_spelled word)) BadNumber
+
+-- the bytes of an image that a word spells
+unfoldable pub image_of : List ℕ → Result (List ℕ) LineFault
+image_of word = ok_or (hex_bytes word) BadLine

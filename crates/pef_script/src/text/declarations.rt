@@ -1,0 +1,188 @@
+ghost use Rattle.std.specs.Prelude.{◌≡◌};
+ghost use Rattle.pef_script.specs.Text.Declarations.{entered_import, import_in, import_line, library_in, library_line, section_in, section_line, versions_in, versions_line, with_import, with_library, with_section};
+ghost use Rattle.pef_words.specs.Refusals.{result_map};
+ghost use Rattle.pef_script.specs.Text.Kept.Reader.{so_far};
+ghost use Rattle.pef_script.specs.Text.Kept.Steps.{Steps};
+ghost use Rattle.pef_script.specs.Parts.{import_of, library_of};
+ghost use Rattle.pef_script.specs.Views.{header_in};
+
+use crate::text::LineFault;
+use crate::text::fault::Stop;
+use crate::text::kinds::{class_of, is_weak_word, kind_of, options_of, share_of};
+use crate::text::limits::{
+    LIBRARY_GROUP, MAX_ALIGN, MAX_IMPORTS, MAX_LIBRARIES, MAX_NUMBER, MAX_SECTIONS, MAX_TOTAL,
+    SECTION_GROUP, VERSIONS_GROUP,
+};
+use crate::text::numbers::read_number;
+use crate::text::reader::Reader;
+use crate::text::sections::{SectionSoFar, section_number};
+use crate::text::tables::declare;
+use crate::text::words::{last_two_words, last_word, next_name_and_word, next_word};
+use crate::{ImportData, LibraryData, SectionHeader, Versions};
+
+impl<'a> Reader<'a> {
+    /// `versions CURRENT OLDDEF OLDIMP`, behind its first word.
+    pub fn read_versions(&mut self, line: &[u8]) -> Result<(), Stop>
+        ensures { Steps result (so_far self.new) (versions_line (so_far self.old) line.now) }
+    {
+        let versions = self.versions_in(line)?;
+        self.parts.versions = versions;
+        self.reached = VERSIONS_GROUP;
+        Ok(())
+    }
+
+    /// `library NAME CURRENT OLDIMP OPTION`, behind its first word.
+    pub fn read_library(&mut self, line: &'a [u8]) -> Result<(), Stop>
+        ensures { Steps result (so_far self.new) (library_line (so_far self.old) line.entry.now) }
+    {
+        let (name, library) = self.library_in(line)?;
+        self.add_library(name, library)
+    }
+
+    /// `import NAME CLASS STRENGTH`, behind its first word.
+    pub fn read_import(&mut self, line: &'a [u8]) -> Result<(), Stop>
+        ensures { Steps result (so_far self.new) (import_line (so_far self.old) line.entry.now) }
+    {
+        let (name, import) = self.import_in(line)?;
+        self.add_import(name, import)
+    }
+
+    /// `section NAME KIND SHARE ALIGN TOTAL`, behind its first word.
+    pub fn read_section(&mut self, line: &'a [u8]) -> Result<(), Stop>
+        ensures { Steps result (so_far self.new) (section_line (so_far self.old) line.entry.now) }
+    {
+        let header = self.section_in(line)?;
+        self.add_section(header)
+    }
+
+    /// The versions that a line tells, where it may stand.
+    #[tactic(auto, unfolding(crate::specs::Text::Declarations::versions_in))]
+    fn versions_in(&self, line: &[u8]) -> Result<Versions, LineFault>
+        ensures { result ≡ versions_in (so_far self.now) line.now }
+    {
+        let (current, rest) = next_word(line)?;
+        let (old_def, old_imp) = last_two_words(rest)?;
+        self.enter_once(VERSIONS_GROUP)?;
+        let current = read_number(MAX_NUMBER, current)?;
+        let old_def = read_number(MAX_NUMBER, old_def)?;
+        let old_imp = read_number(MAX_NUMBER, old_imp)?;
+        Ok(Versions {
+            current,
+            old_def,
+            old_imp,
+        })
+    }
+
+    /// The library that a line declares, where it may stand.
+    #[tactic(auto, unfolding(crate::specs::Text::Declarations::library_in))]
+    fn library_in(&self, line: &'a [u8]) -> Result<(&'a [u8], LibraryData), LineFault>
+        ensures { result_map library_of result ≡ library_in (so_far self.now) line.entry.now }
+    {
+        let (name, current, rest) = next_name_and_word(line)?;
+        let (old_imp, option) = last_two_words(rest)?;
+        self.enter(LIBRARY_GROUP)?;
+        let options = options_of(option)?;
+        let current = read_number(MAX_NUMBER, current)?;
+        let old_imp = read_number(MAX_NUMBER, old_imp)?;
+        let library = LibraryData {
+            current,
+            old_imp,
+            options,
+        };
+        Ok((name, library))
+    }
+
+    /// The import that a line declares, where it may stand.
+    #[tactic(auto, unfolding(crate::specs::Text::Declarations::import_in))]
+    fn import_in(&self, line: &'a [u8]) -> Result<(&'a [u8], ImportData), LineFault>
+        ensures { result_map import_of result ≡ import_in (so_far self.now) line.entry.now }
+    {
+        let (name, class, rest) = next_name_and_word(line)?;
+        let strength = last_word(rest)?;
+        let library = self.enter_import()?;
+        let class = class_of(class)?;
+        let weak = is_weak_word(strength)?;
+        let import = ImportData {
+            class,
+            weak,
+            library,
+        };
+        Ok((name, import))
+    }
+
+    /// The header of the section that a line declares, where it may stand.
+    #[tactic(auto, unfolding(crate::specs::Text::Declarations::section_in))]
+    fn section_in(&self, line: &'a [u8]) -> Result<SectionHeader<'a>, LineFault>
+        ensures { result_map header_in result ≡ section_in (so_far self.now) line.entry.now }
+    {
+        let (name, kind, rest) = next_name_and_word(line)?;
+        let (share, rest) = next_word(rest)?;
+        let (align, total) = last_two_words(rest)?;
+        self.enter(SECTION_GROUP)?;
+        let kind = kind_of(kind)?;
+        let share = share_of(share)?;
+        let align = read_number(MAX_ALIGN, align)? as u8;
+        let total = read_number(MAX_TOTAL, total)?;
+        Ok(SectionHeader {
+            name,
+            kind,
+            share,
+            align,
+            total,
+        })
+    }
+
+    /// Adds a library, unless its name is another's or passes the limits.
+    #[tactic(auto, using(crate::proofs::TextProofs::TableLemmas::libraries_seen))]
+    fn add_library(&mut self, name: &'a [u8], library: LibraryData) -> Result<(), Stop>
+        ensures { Steps result (so_far self.new) (with_library (so_far self.old) (library_of (name.entry, library))) }
+    {
+        self.test_name(&self.parts.libraries, MAX_LIBRARIES, name)?;
+        let parts = &mut self.parts;
+        declare(&mut parts.libraries, name, library)?;
+        self.names += name.len() + 1;
+        self.reached = LIBRARY_GROUP;
+        Ok(())
+    }
+
+    /// Adds an import, unless its name is another's or passes the limits.
+    #[tactic(auto, using(crate::proofs::TextProofs::TableLemmas::imports_seen))]
+    fn add_import(&mut self, name: &'a [u8], import: ImportData) -> Result<(), Stop>
+        ensures { Steps result (so_far self.new) (with_import (so_far self.old) (import_of (name.entry, import))) }
+    {
+        self.test_name(&self.parts.imports, MAX_IMPORTS, name)?;
+        let parts = &mut self.parts;
+        declare(&mut parts.imports, name, import)?;
+        self.names += name.len() + 1;
+        self.reached = LIBRARY_GROUP;
+        Ok(())
+    }
+
+    /// Adds a section without bytes or fixups, unless its name is another's or passes the limit.
+    fn add_section(&mut self, header: SectionHeader<'a>) -> Result<(), Stop>
+        ensures { Steps result (so_far self.new) (with_section (so_far self.old) (header_in header.entry)) }
+    {
+        if section_number(&self.sections, header.name).is_some() {
+            return Err(Stop::Refused(LineFault::RepeatedName));
+        }
+        if self.sections.len() >= MAX_SECTIONS {
+            return Err(Stop::Refused(LineFault::TooMany));
+        }
+        let section = SectionSoFar::new(self.alloc, header);
+        self.sections.push(section)?;
+        self.reached = SECTION_GROUP;
+        Ok(())
+    }
+
+    /// The number of the last library, to which an import belongs.
+    #[tactic(auto, using(crate::proofs::TextProofs::TableLemmas::libraries_seen))]
+    fn enter_import(&self) -> Result<u32, LineFault>
+        ensures { result ≡ entered_import (so_far self.now) }
+    {
+        self.enter(LIBRARY_GROUP)?;
+        match self.parts.libraries.len().checked_sub(1) {
+            Some(library) => Ok(library as u32),
+            None => Err(LineFault::OutOfOrder),
+        }
+    }
+}

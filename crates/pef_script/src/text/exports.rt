@@ -1,0 +1,199 @@
+ghost use Rattle.std.specs.Prelude.{◌≡◌, ◌+◌, ◌<◌, ◌≤◌, [], None, Ok, length, vec_len, IfOk};
+ghost use Rattle.std.specs.Result.{result_err};
+ghost use Rattle.pef_words.specs.Refusals.{first_met, result_map};
+ghost use Rattle.pef_script.specs.Text.Exports.{absolute_in, absolute_line, and_export, entry_in, export_in, export_line, init_line, main_line, place_tests, reexport_in, reexport_line, term_line, with_export};
+ghost use Rattle.pef_script.specs.Text.Kept.Reader.{names_in, so_far};
+ghost use Rattle.pef_script.specs.Text.Kept.Steps.{Steps};
+ghost use Rattle.pef_script.specs.Text.SoFar.{number_of_name};
+ghost use Rattle.pef_script.specs.Limits.{most_name_bytes};
+ghost use Rattle.pef_script.specs.Parts.{export_of};
+
+use crate::ExportData;
+use crate::text::LineFault;
+use crate::text::fault::Stop;
+use crate::text::kinds::class_of;
+use crate::text::limits::{
+    EXPORT_GROUP, INIT_GROUP, MAIN_GROUP, MAX_EXPORTS, MAX_NUMBER, TERM_GROUP,
+};
+use crate::text::numbers::read_number;
+use crate::text::reader::Reader;
+use crate::text::tables::declare;
+use crate::text::words::{last_name, last_name_and_word, last_word, next_name_and_word};
+use pef_format::layout::{ABSOLUTE_EXPORT, REEXPORTED_IMPORT};
+
+impl<'a> Reader<'a> {
+    /// `export NAME CLASS SECTION OFFSET`, after its first word.
+    pub fn read_export(&mut self, line: &'a [u8]) -> Result<(), Stop>
+        ensures { Steps result (so_far self.new) (export_line (so_far self.old) line.entry.now) }
+    {
+        let (name, k, export) = self.export_in(line)?;
+        self.add_placed_export(name, k, export)
+    }
+
+    /// The name of the export that a line declares, the number of its section, and what else is said of it.
+    #[tactic(auto, unfolding(crate::specs::Text::Exports::export_in))]
+    fn export_in(&self, line: &'a [u8]) -> Result<(&'a [u8], usize, ExportData), LineFault>
+        ensures export { result_map (λ e. (e.1, export_of (e.0, e.2))) result ≡ export_in (so_far self.now) line.entry.now }
+        ensures below { IfOk result (λ e. e.1 < vec_len self.now.sections) }
+    {
+        let (name, class, rest) = next_name_and_word(line)?;
+        let (section, offset) = last_name_and_word(rest)?;
+        self.enter(EXPORT_GROUP)?;
+        let class = class_of(class)?;
+        let value = read_number(MAX_NUMBER, offset)?;
+        let k = self.section_named(section)?;
+        let export = ExportData {
+            class,
+            section: k as i32,
+            value,
+        };
+        Ok((name, k, export))
+    }
+
+    /// `reexport NAME CLASS IMPORT`, after its first word.
+    pub fn read_reexport(&mut self, line: &'a [u8]) -> Result<(), Stop>
+        ensures { Steps result (so_far self.new) (reexport_line (so_far self.old) line.entry.now) }
+    {
+        let (name, export) = self.reexport_in(line)?;
+        self.add_export(name, export)
+    }
+
+    /// The export of an import that a line declares, where it may stand.
+    #[tactic(auto, unfolding(crate::specs::Text::Exports::reexport_in))]
+    fn reexport_in(&self, line: &'a [u8]) -> Result<(&'a [u8], ExportData), LineFault>
+        ensures { result_map export_of result ≡ reexport_in (so_far self.now) line.entry.now }
+    {
+        let (name, class, rest) = next_name_and_word(line)?;
+        let import = last_name(rest)?;
+        self.enter(EXPORT_GROUP)?;
+        let class = class_of(class)?;
+        let j = self.import_named(import)?;
+        let export = ExportData {
+            class,
+            section: REEXPORTED_IMPORT,
+            value: j as u32,
+        };
+        Ok((name, export))
+    }
+
+    /// `absolute NAME CLASS VALUE`, after its first word.
+    pub fn read_absolute(&mut self, line: &'a [u8]) -> Result<(), Stop>
+        ensures { Steps result (so_far self.new) (absolute_line (so_far self.old) line.entry.now) }
+    {
+        let (name, export) = self.absolute_in(line)?;
+        self.add_export(name, export)
+    }
+
+    /// The export of a number that a line declares, where it may stand.
+    #[tactic(auto, unfolding(crate::specs::Text::Exports::absolute_in))]
+    fn absolute_in(&self, line: &'a [u8]) -> Result<(&'a [u8], ExportData), LineFault>
+        ensures { result_map export_of result ≡ absolute_in (so_far self.now) line.entry.now }
+    {
+        let (name, class, rest) = next_name_and_word(line)?;
+        let value = last_word(rest)?;
+        self.enter(EXPORT_GROUP)?;
+        let class = class_of(class)?;
+        let value = read_number(MAX_NUMBER, value)?;
+        let export = ExportData {
+            class,
+            section: ABSOLUTE_EXPORT,
+            value,
+        };
+        Ok((name, export))
+    }
+
+    /// `main SECTION OFFSET`, after its first word.
+    pub fn read_main(&mut self, line: &[u8]) -> Result<(), Stop>
+        ensures { Steps result (so_far self.new) (main_line (so_far self.old) line.now) }
+    {
+        let entry = self.read_entry(MAIN_GROUP, line)?;
+        self.parts.main = Some(entry);
+        self.reached = MAIN_GROUP;
+        Ok(())
+    }
+
+    /// `init SECTION OFFSET`, after its first word.
+    pub fn read_init(&mut self, line: &[u8]) -> Result<(), Stop>
+        ensures { Steps result (so_far self.new) (init_line (so_far self.old) line.now) }
+    {
+        let entry = self.read_entry(INIT_GROUP, line)?;
+        self.parts.init = Some(entry);
+        self.reached = INIT_GROUP;
+        Ok(())
+    }
+
+    /// `term SECTION OFFSET`, after its first word.
+    pub fn read_term(&mut self, line: &[u8]) -> Result<(), Stop>
+        ensures { Steps result (so_far self.new) (term_line (so_far self.old) line.now) }
+    {
+        let entry = self.read_entry(TERM_GROUP, line)?;
+        self.parts.term = Some(entry);
+        self.reached = TERM_GROUP;
+        Ok(())
+    }
+
+    /// A section by its number and an offset in it, of a line of a group that may stand once.
+    #[tactic(auto, unfolding(crate::specs::Text::Exports::entry_in))]
+    fn read_entry(&self, group: u8, line: &[u8]) -> Result<(u32, u32), LineFault>
+        ensures { result ≡ entry_in (so_far self.now) group line.now }
+    {
+        let (section, offset) = last_name_and_word(line)?;
+        self.enter_once(group)?;
+        let offset = read_number(MAX_NUMBER, offset)?;
+        let k = self.section_named(section)?;
+        self.test_place(k, offset)?;
+        Ok((k as u32, offset))
+    }
+
+    /// Adds an export of section `k`, unless its name is another's or passes the limits, or it passes the
+    /// section's end.
+    #[tactic(auto, using(crate::proofs::TextProofs::TableLemmas::exports_seen))]
+    fn add_placed_export(
+        &mut self,
+        name: &'a [u8],
+        k: usize,
+        export: ExportData,
+    ) -> Result<(), Stop>
+        requires { k < vec_len self.old.sections }
+        ensures { Steps result (so_far self.new) (with_export (so_far self.old) (place_tests (so_far self.old) k export.value) (export_of (name.entry, export))) }
+    {
+        self.test_name(&self.parts.exports, MAX_EXPORTS, name)?;
+        self.test_place(k, export.value)?;
+        self.put_export(name, export)
+    }
+
+    /// Adds an export, unless its name is another's or passes the limits.
+    #[tactic(auto, using(crate::proofs::TextProofs::TableLemmas::exports_seen))]
+    fn add_export(&mut self, name: &'a [u8], export: ExportData) -> Result<(), Stop>
+        ensures { Steps result (so_far self.new) (with_export (so_far self.old) [] (export_of (name.entry, export))) }
+    {
+        self.test_name(&self.parts.exports, MAX_EXPORTS, name)?;
+        self.put_export(name, export)
+    }
+
+    /// Adds an export with a name that is new and has room.
+    #[tactic(auto, using(crate::proofs::TextProofs::TableLemmas::exports_seen))]
+    fn put_export(&mut self, name: &'a [u8], export: ExportData) -> Result<(), Stop>
+        requires new { number_of_name (names_in self.old.parts.exports.entries) name.now ≡ None }
+        requires bytes { self.old.names + (length name.now + 1) ≤ most_name_bytes }
+        ensures { Steps result (so_far self.new) (Ok (and_export (so_far self.old) (export_of (name.entry, export)))) }
+    {
+        let parts = &mut self.parts;
+        declare(&mut parts.exports, name, export)?;
+        self.names += name.len() + 1;
+        self.reached = EXPORT_GROUP;
+        Ok(())
+    }
+
+    /// Refuses an offset past the end of section `k`.
+    fn test_place(&self, k: usize, offset: u32) -> Result<(), LineFault>
+        requires { k < vec_len self.now.sections }
+        ensures { result_err result ≡ first_met (place_tests (so_far self.now) k offset) }
+    {
+        let section = &self.sections[k];
+        if offset > section.header.total {
+            return Err(LineFault::OutsideSection);
+        }
+        Ok(())
+    }
+}

@@ -1,0 +1,193 @@
+ghost use Rattle.std.specs.Prelude.{◌≡◌, ◌+◌, ◌≤◌, ◌<◌, None, vec_len, length, IfOk, OnOk};
+ghost use Rattle.std.specs.Result.{result_err};
+ghost use Rattle.indexmap.specs.IndexMap.{index_map_len};
+ghost use Rattle.pef_words.specs.Refusals.{first_met};
+ghost use Rattle.pef_script.specs.Text.Grammar.{is_skipped, line_by_word, line_of, no_lines};
+ghost use Rattle.pef_script.specs.Parts.{script_in};
+ghost use Rattle.pef_script.specs.Script.{name_bytes};
+ghost use Rattle.pef_script.specs.Text.Kept.Steps.{NumberedSteps, Steps};
+ghost use Rattle.pef_reloc.specs.Limits.{most_sections};
+ghost use Rattle.pef_script.specs.Limits.{most_name_bytes};
+ghost use Rattle.pef_script.specs.Text.SoFar.{counted_name_tests, entered, entered_once, number_of_name, section_named};
+
+use crate::text::fault::Stop;
+use crate::text::kinds::spells;
+use crate::text::limits::MAX_NAME_BYTES;
+use crate::text::sections::{SectionSoFar, section_number, to_sections};
+use crate::text::tables::number_of_name;
+use crate::text::words::next_word;
+use crate::text::{LineFault, ScriptFault};
+use crate::{Parts, Versions};
+use indexmap::IndexMap;
+use std::alloc::{AllocError, Global};
+
+/// A script that is read line by line.
+#[derive(Drop)]
+pub struct Reader<'a> {
+    pub alloc: Global,
+    /// What was read so far, without the sections.
+    pub parts: Parts<'a>,
+    pub sections: Vec<SectionSoFar<'a>>,
+    /// The group of the last line, 0 before the first.
+    pub reached: u8,
+    /// How many bytes the names of libraries, imports and exports have, with one more for each.
+    pub names: usize,
+    ghost few: { vec_len sections ≤ most_sections },
+    ghost counted: { names ≡ name_bytes (script_in parts) },
+}
+
+/// Whether a line says nothing: it is empty or starts with `#`.
+fn is_skipped(line: &[u8]) -> bool
+    ensures { result ≡ is_skipped line.now }
+{
+    matches!(line, [] | [b'#', ..])
+}
+
+impl<'a> Reader<'a> {
+    ghost use Rattle.pef_script.specs.Text.Kept.Reader.{names_in, so_far};
+
+    /// A reader of no lines.
+    pub fn new(alloc: Global) -> Reader<'a>
+        ensures { so_far result ≡ no_lines }
+    {
+        Reader {
+            alloc,
+            parts: Parts {
+                versions: Versions {
+                    current: 0,
+                    old_def: 0,
+                    old_imp: 0,
+                },
+                libraries: IndexMap::new(alloc),
+                imports: IndexMap::new(alloc),
+                sections: Vec::new(alloc),
+                exports: IndexMap::new(alloc),
+                main: None,
+                init: None,
+                term: None,
+            },
+            sections: Vec::new(alloc),
+            reached: 0,
+            names: 0,
+        }
+    }
+
+    /// What was read.
+    pub fn into_parts(self) -> Result<Parts<'a>, AllocError>
+        ensures { IfOk result (λ parts. script_in parts ≡ (so_far self.entry).script) }
+    {
+        let mut parts = self.parts;
+        parts.sections = to_sections(self.alloc, self.sections)?;
+        Ok(parts)
+    }
+
+    /// Reads the line with a number.
+    pub fn read_numbered(&mut self, line: &'a [u8], number: usize) -> Result<(), ScriptFault>
+        ensures { NumberedSteps result (so_far self.new) number (line_of (so_far self.old) line.entry.now) }
+    {
+        match self.read_line(line) {
+            Ok(()) => Ok(()),
+            Err(stop) => Err(stop.at(number)),
+        }
+    }
+
+    /// Reads a line.
+    #[tactic(auto, unfolding(crate::specs::Text::Grammar::line_of))]
+    fn read_line(&mut self, line: &'a [u8]) -> Result<(), Stop>
+        ensures { Steps result (so_far self.new) (line_of (so_far self.old) line.entry.now) }
+    {
+        if is_skipped(line) {
+            return Ok(());
+        }
+        let (word, rest) = next_word(line)?;
+        self.read_by_word(word, rest)
+    }
+
+    /// Reads a line by its first word and what stands behind it.
+    #[tactic(auto, unfolding(crate::specs::Text::Grammar::line_by_word))]
+    fn read_by_word(&mut self, word: &[u8], rest: &'a [u8]) -> Result<(), Stop>
+        ensures { Steps result (so_far self.new) (line_by_word (so_far self.old) (word.now, rest.entry.now)) }
+    {
+        if spells(word, "versions") {
+            self.read_versions(rest)
+        } else if spells(word, "library") {
+            self.read_library(rest)
+        } else if spells(word, "import") {
+            self.read_import(rest)
+        } else if spells(word, "section") {
+            self.read_section(rest)
+        } else if spells(word, "bytes") {
+            self.read_bytes(rest)
+        } else if spells(word, "fix") {
+            self.read_fix(rest)
+        } else if spells(word, "tvector") {
+            self.read_tvector(rest)
+        } else if spells(word, "export") {
+            self.read_export(rest)
+        } else if spells(word, "reexport") {
+            self.read_reexport(rest)
+        } else if spells(word, "absolute") {
+            self.read_absolute(rest)
+        } else if spells(word, "main") {
+            self.read_main(rest)
+        } else if spells(word, "init") {
+            self.read_init(rest)
+        } else if spells(word, "term") {
+            self.read_term(rest)
+        } else {
+            Err(Stop::Refused(LineFault::BadLine))
+        }
+    }
+
+    /// Refuses a line of a group behind one of a later group.
+    pub fn enter(&self, group: u8) -> Result<(), LineFault>
+        ensures { result ≡ entered (so_far self.now) group }
+    {
+        if group < self.reached {
+            return Err(LineFault::OutOfOrder);
+        }
+        Ok(())
+    }
+
+    /// Refuses a line that may stand once behind one of its own or a later group.
+    pub fn enter_once(&self, group: u8) -> Result<(), LineFault>
+        ensures { result ≡ entered_once (so_far self.now) group }
+    {
+        if group <= self.reached {
+            return Err(LineFault::OutOfOrder);
+        }
+        Ok(())
+    }
+
+    /// The number of the section with a name.
+    pub fn section_named(&self, name: &[u8]) -> Result<usize, LineFault>
+        ensures found { result ≡ section_named (so_far self.now) name.now }
+        ensures below { IfOk result (λ k. k < vec_len self.now.sections) }
+    {
+        section_number(&self.sections, name).ok_or(LineFault::UnknownName)
+    }
+
+    /// Refuses a name that another one of a table has, or that passes the limits.
+    pub fn test_name<T>(
+        &self,
+        table: &IndexMap<&[u8], T>,
+        limit: usize,
+        name: &[u8],
+    ) -> Result<(), LineFault>
+        ensures tests { result_err result ≡ first_met (counted_name_tests (so_far self.now) (names_in table.now.entries) limit name.now) }
+        ensures new { OnOk result (number_of_name (names_in table.now.entries) name.now ≡ None) }
+        ensures room { OnOk result (index_map_len table.now < limit) }
+        ensures bytes { OnOk result (self.now.names + (length name.now + 1) ≤ most_name_bytes) }
+    {
+        if number_of_name(table, name).is_some() {
+            return Err(LineFault::RepeatedName);
+        }
+        if table.len() >= limit {
+            return Err(LineFault::TooMany);
+        }
+        if self.names > MAX_NAME_BYTES || name.len() + 1 > MAX_NAME_BYTES - self.names {
+            return Err(LineFault::TooMany);
+        }
+        Ok(())
+    }
+}

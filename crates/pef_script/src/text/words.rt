@@ -1,0 +1,83 @@
+ghost use Rattle.std.specs.Prelude.{◌≡◌};
+ghost use Rattle.pef_words.specs.Refusals.{result_map};
+ghost use Rattle.pef_script.specs.Text.Words.{image_of, last_name, last_name_and_word, last_two_words, last_word, next_name, next_name_and_word, next_word};
+
+use crate::text::LineFault;
+use crate::text::limits::MAX_NAME;
+use pef_lines::Pairs;
+
+/// The one word that is left of a line.
+#[tactic(auto, unfolding(crate::specs::Text::Words::last_word))]
+pub fn last_word(line: &[u8]) -> Result<&[u8], LineFault>
+    ensures { result_map (λ word. word.now) result ≡ last_word line.now }
+{
+    pef_lines::last_word(line).ok_or(LineFault::BadLine)
+}
+
+/// The next word of a line, and what follows the space behind it.
+#[tactic(auto, unfolding(crate::specs::Text::Words::next_word))]
+pub fn next_word(line: &[u8]) -> Result<(&[u8], &[u8]), LineFault>
+    ensures { result_map (λ p. (p.0.now, p.1.now)) result ≡ next_word line.now }
+{
+    pef_lines::next_word(line).ok_or(LineFault::BadLine)
+}
+
+/// The next word of a line where it is a name, and what follows the space behind it.
+#[tactic(auto, unfolding(crate::specs::Text::Words::next_name, crate::specs::Text::Words::next_word))]
+pub fn next_name(line: &[u8]) -> Result<(&[u8], &[u8]), LineFault>
+    ensures { result_map (λ p. (p.0.now, p.1.now)) result ≡ next_name line.now }
+{
+    match pef_lines::next_word(line) {
+        Some((name, rest)) if name.len() <= MAX_NAME => Ok((name, rest)),
+        _ => Err(LineFault::BadLine),
+    }
+}
+
+/// The name that is left of a line.
+#[tactic(auto, unfolding(crate::specs::Text::Words::last_name, crate::specs::Text::Words::last_word))]
+pub fn last_name(line: &[u8]) -> Result<&[u8], LineFault>
+    ensures { result_map (λ name. name.now) result ≡ last_name line.now }
+{
+    match pef_lines::last_word(line) {
+        Some(name) if name.len() <= MAX_NAME => Ok(name),
+        _ => Err(LineFault::BadLine),
+    }
+}
+
+/// The next two words of a line, of which the first is a name, and what follows the space behind them.
+#[tactic(auto, unfolding(crate::specs::Text::Words::next_name_and_word))]
+pub fn next_name_and_word(line: &[u8]) -> Result<(&[u8], &[u8], &[u8]), LineFault>
+    ensures { result_map (λ p. (p.0.now, p.1.now, p.2.now)) result ≡ next_name_and_word line.now }
+{
+    let (name, rest) = next_name(line)?;
+    let (word, rest) = next_word(rest)?;
+    Ok((name, word, rest))
+}
+
+/// The name and the word behind it that are left of a line.
+#[tactic(auto, unfolding(crate::specs::Text::Words::last_name_and_word))]
+pub fn last_name_and_word(line: &[u8]) -> Result<(&[u8], &[u8]), LineFault>
+    ensures { result_map (λ p. (p.0.now, p.1.now)) result ≡ last_name_and_word line.now }
+{
+    let (name, rest) = next_name(line)?;
+    let word = last_word(rest)?;
+    Ok((name, word))
+}
+
+/// The two words that are left of a line.
+#[tactic(auto, unfolding(crate::specs::Text::Words::last_two_words))]
+pub fn last_two_words(line: &[u8]) -> Result<(&[u8], &[u8]), LineFault>
+    ensures { result_map (λ p. (p.0.now, p.1.now)) result ≡ last_two_words line.now }
+{
+    let (first, rest) = next_word(line)?;
+    let second = last_word(rest)?;
+    Ok((first, second))
+}
+
+/// The pairs of hex digits that a word has.
+#[tactic(auto, unfolding(crate::specs::Text::Words::image_of))]
+pub fn read_pairs(word: &[u8]) -> Result<Pairs<'_>, LineFault>
+    ensures { result ≡ image_of word.now }
+{
+    Pairs::read(word).ok_or(LineFault::BadLine)
+}

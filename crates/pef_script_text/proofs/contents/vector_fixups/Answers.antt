@@ -1,6 +1,0 @@
--- The list is written as it is wanted.
-use Rattle.std.proofs.Common.{refl}
-use Rattle.pef_script_text.proofs.contents.vector_fixups.Goals as goal
-
-pub returns : goal.returns
-returns c = refl

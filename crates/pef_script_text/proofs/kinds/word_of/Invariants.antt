@@ -1,9 +1,0 @@
-use Rattle.std.proofs.Common.{◌≡◌, drop, map}
-use Rattle.pef_script_text.specs.SoFar.{word_in}
-use Rattle.pef_script_text.proofs.kinds.word_of.Given as goal
-
--- the entries that are left have the answer
-abbrev pub invariant-loop-text : goal.invariant-loop-text
-invariant-loop-text g l =
-    word_in (map (λ entry. (entry.0.now, entry.1)) (drop l.text-index l.table)) l.word
-    ≡ word_in (map (λ entry. (entry.0.now, entry.1)) l.table) l.word

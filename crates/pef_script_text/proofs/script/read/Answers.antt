@@ -1,7 +1,0 @@
--- What was read is a script that a text is.
-use Rattle.pef_script.specs.Parts.{script_in}
-use Rattle.pef_script_text.proofs.Holds.{script_of-holds}
-use Rattle.pef_script_text.proofs.script.read.Goals as goal
-
-pub new-requires : goal.new-requires
-new-requires c = script_of-holds c.args.text.now (script_in c.in_ok-parts.parts) c.in_ok-parts.ensures

@@ -1,0 +1,112 @@
+-- Words that don't begin with `-` are read as one expects.
+use Rattle.std.proofs.Common.{◌≡◌, false, List, [], ◌∷◌, None, codes, drop, refl, ◌∙◌, inl, inr}
+use Rattle.std.specs.Str.{bytes_eq}
+use Rattle.clap.proofs.OnLiterals.{clap_on_literals}
+use Rattle.clap.specs.Walk.{Text}
+use Rattle.pef_tool.specs.Request.CommandLine.{asked_by, pef}
+use Rattle.pef_tool.specs.Request.Plain.{ArePlain, plain_check, plain_distances, plain_link, plain_list, plain_show, plain_words}
+use Rattle.pef_tool.proofs.RequestProofs.LoadLemmas.{load_operands}
+use Rattle.pef_tool.proofs.RequestProofs.NameLemmas.{IsNoFlag, at_end, command_named, is_or_not, named, no_flag}
+
+-- the operands of `show`
+show_operands : (words : List Text) → ArePlain words → at_end (named (codes "show") words) [] ≡ plain_show words
+unfolding pef clap_on_literals named at_end
+show_operands [] plain = refl
+show_operands (word ∷ words) plain =
+    let free = no_flag word plain.0 in
+    rw (free.dashes, free.long, free.short) refl
+
+-- the operands of `link`
+link_operands : (words : List Text) → ArePlain words → at_end (named (codes "link") words) [] ≡ plain_link words
+unfolding pef clap_on_literals named at_end
+link_operands [] plain = refl
+link_operands (script ∷ []) plain =
+    let a = no_flag script plain.0 in
+    rw (a.dashes, a.long, a.short) refl
+link_operands (script ∷ out ∷ []) plain =
+    let a = no_flag script plain.0 in
+    let b = no_flag out plain.1.0 in
+    rw (a.dashes, a.long, a.short, b.dashes, b.long, b.short) refl
+link_operands (script ∷ out ∷ word ∷ words) plain =
+    let a = no_flag script plain.0 in
+    let b = no_flag out plain.1.0 in
+    let c = no_flag word plain.1.1.0 in
+    rw (a.dashes, a.long, a.short, b.dashes, b.long, b.short, c.dashes, c.long, c.short) refl
+
+-- the operand of `list`
+list_operands : (words : List Text) → ArePlain words → at_end (named (codes "list") words) [] ≡ plain_list words
+unfolding pef clap_on_literals named at_end
+list_operands [] plain = refl
+list_operands (file ∷ []) plain =
+    let a = no_flag file plain.0 in
+    rw (a.dashes, a.long, a.short) refl
+list_operands (file ∷ word ∷ words) plain =
+    let a = no_flag file plain.0 in
+    let b = no_flag word plain.1.0 in
+    rw (a.dashes, a.long, a.short, b.dashes, b.long, b.short) refl
+
+-- the operands of `check`
+check_operands : (words : List Text) → ArePlain words → at_end (named (codes "check") words) [] ≡ plain_check words
+unfolding pef clap_on_literals named at_end
+check_operands [] plain = refl
+check_operands (script ∷ []) plain =
+    let a = no_flag script plain.0 in
+    rw (a.dashes, a.long, a.short) refl
+check_operands (script ∷ cert ∷ []) plain =
+    let a = no_flag script plain.0 in
+    let b = no_flag cert plain.1.0 in
+    rw (a.dashes, a.long, a.short, b.dashes, b.long, b.short) refl
+check_operands (script ∷ cert ∷ word ∷ words) plain =
+    let a = no_flag script plain.0 in
+    let b = no_flag cert plain.1.0 in
+    let c = no_flag word plain.1.1.0 in
+    rw (a.dashes, a.long, a.short, b.dashes, b.long, b.short, c.dashes, c.long, c.short) refl
+
+-- the operand of `distances`
+distances_operands : (words : List Text) → ArePlain words → at_end (named (codes "distances") words) [] ≡ plain_distances words
+unfolding pef clap_on_literals named at_end
+distances_operands [] plain = refl
+distances_operands (script ∷ []) plain =
+    let a = no_flag script plain.0 in
+    rw (a.dashes, a.long, a.short) refl
+distances_operands (script ∷ word ∷ words) plain =
+    let a = no_flag script plain.0 in
+    let b = no_flag word plain.1.0 in
+    rw (a.dashes, a.long, a.short, b.dashes, b.long, b.short) refl
+
+none_asked : asked_by [] ≡ None
+unfolding asked_by pef clap_on_literals
+none_asked = refl
+
+program_asked : (program : Text) → asked_by (program ∷ []) ≡ None
+unfolding asked_by pef clap_on_literals
+program_asked program = refl
+
+unknown_asked : (program name : Text) (words : List Text) → bytes_eq (codes "show") name ≡ false → bytes_eq (codes "link") name ≡ false → bytes_eq (codes "list") name ≡ false → bytes_eq (codes "check") name ≡ false → bytes_eq (codes "load") name ≡ false → bytes_eq (codes "distances") name ≡ false → IsNoFlag name → asked_by (program ∷ name ∷ words) ≡ None
+unfolding asked_by pef clap_on_literals
+unknown_asked program name words a b c d e f free = rw (a, b, c, d, e, f, free.dashes, free.long, free.short) refl
+
+-- words that don't begin with `-` ask for what they plainly say
+pub asked_plain : (words : List Text) → ArePlain (drop 1 words) → asked_by words ≡ plain_words words
+unfolding pef
+asked_plain [] plain = none_asked
+asked_plain (program ∷ []) plain = program_asked program
+asked_plain (program ∷ name ∷ words) plain = elim (is_or_not (bytes_eq (codes "show") name)) [
+  | inl a ↦ rw a (command_named program name (codes "show") words (rw a refl) refl ∙ show_operands words plain.1)
+  | inr a ↦ elim (is_or_not (bytes_eq (codes "link") name)) [
+    | inl b ↦ rw (a, b) (command_named program name (codes "link") words (rw (a, b) refl) refl ∙ link_operands words plain.1)
+    | inr b ↦ elim (is_or_not (bytes_eq (codes "list") name)) [
+      | inl c ↦ rw (a, b, c) (command_named program name (codes "list") words (rw (a, b, c) refl) refl ∙ list_operands words plain.1)
+      | inr c ↦ elim (is_or_not (bytes_eq (codes "check") name)) [
+        | inl d ↦ rw (a, b, c, d) (command_named program name (codes "check") words (rw (a, b, c, d) refl) refl ∙ check_operands words plain.1)
+        | inr d ↦ elim (is_or_not (bytes_eq (codes "load") name)) [
+          | inl e ↦ rw (a, b, c, d, e) (command_named program name (codes "load") words (rw (a, b, c, d, e) refl) refl ∙ load_operands words plain.1)
+          | inr e ↦ elim (is_or_not (bytes_eq (codes "distances") name)) [
+            | inl f ↦ rw (a, b, c, d, e, f) (command_named program name (codes "distances") words (rw (a, b, c, d, e, f) refl) refl ∙ distances_operands words plain.1)
+            | inr f ↦ rw (a, b, c, d, e, f) (unknown_asked program name words a b c d e f (no_flag name plain.0))
+          ]
+        ]
+      ]
+    ]
+  ]
+]

@@ -1,0 +1,7 @@
+use Rattle.std.proofs.Common.{◌≡◌, drop}
+use Rattle.pef_tool.specs.Check.{verdicts_status}
+use Rattle.pef_tool.proofs.check.verdicts_status.Given as goal
+
+-- those that are left decide
+abbrev pub invariant-loop-verdict : goal.invariant-loop-verdict
+invariant-loop-verdict l = verdicts_status (drop l.verdict-index l.verdicts) ≡ verdicts_status l.verdicts

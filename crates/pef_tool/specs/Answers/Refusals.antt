@@ -1,0 +1,161 @@
+-- The line that ends a refused run (docs/REFUSALS.md, "How a refusal is printed"). The numbers and names of the libraries'
+-- faults are theirs.
+use Rattle.std.specs.Prelude.{ℕ, List, [], ◌∷◌, ◌++◌, Option, None, Some, codes, decimal}
+use Rattle.cfm_closure.specs.Faults as bind
+use Rattle.cfm_closure.specs.declared.fault.BindFault.{BindFault}
+use Rattle.cfm_closure.specs.declared.fault.BindFault.TheVariants as bind_fault
+use Rattle.cfm_prepare.specs.declared.fragment_fault.FragmentFault.TheVariants as fragment_fault
+use Rattle.cfm_prepare.specs.Faults as prepare
+use Rattle.cfm_prepare.specs.declared.fault.PrepareFault.{PrepareFault}
+use Rattle.cfm_prepare.specs.declared.fault.PrepareFault.TheVariants as prepare_fault
+use Rattle.pef_cert.specs.Text.Faults as cert
+use Rattle.pef_cert.specs.declared.text.fault.CertFault.TheVariants as cert_fault
+use Rattle.pef_listing.specs.Faults as listing
+use Rattle.pef_ports.specs.Faults as input
+use Rattle.pef_ports.specs.Names.{name_text}
+use Rattle.pef_ports.specs.declared.input.InputFault.TheVariants as input_fault
+use Rattle.pef_script.specs.Text.Faults as script
+use Rattle.pef_tool.specs.declared.answers.refusal.FileRefusal.{FileRefusal}
+use Rattle.pef_tool.specs.declared.answers.refusal.FileRefusal.TheVariants.{Unreadable, Unwritable}
+use Rattle.pef_tool.specs.declared.answers.refusal.Refusal.{Refusal}
+use Rattle.pef_tool.specs.declared.answers.refusal.Refusal.TheVariants.{Script, Listing, BadCertificate, SectionsDiffer, InputUnreadable, InputTooLong, OutOfMemory}
+
+-- the numbers of the refusals
+abbrev pub number_of : Refusal → ℕ
+number_of (Script fault line) = script.fault_number fault
+number_of (Listing fault) = listing.fault_number fault
+number_of (BadCertificate line) = cert.fault_number (cert_fault.BadCertificate line)
+number_of SectionsDiffer = 52
+number_of InputUnreadable = input.fault_number input_fault.Unreadable
+number_of InputTooLong = input.fault_number input_fault.TooLong
+number_of OutOfMemory = 99
+
+-- the names of the refusals
+abbrev pub name_of : Refusal → List ℕ
+name_of (Script fault line) = script.fault_name fault
+name_of (Listing fault) = listing.fault_name fault
+name_of (BadCertificate line) = cert.fault_name (cert_fault.BadCertificate line)
+name_of SectionsDiffer = codes "SectionsDiffer"
+name_of InputUnreadable = input.fault_name input_fault.Unreadable
+name_of InputTooLong = input.fault_name input_fault.TooLong
+name_of OutOfMemory = codes "OutOfMemory"
+
+-- what else the line says
+abbrev pub place_of : Refusal → List ℕ
+place_of (Script fault line) = codes " line " ++ decimal line
+place_of (Listing fault) = []
+place_of (BadCertificate line) = codes " line " ++ decimal line
+place_of SectionsDiffer = []
+place_of InputUnreadable = []
+place_of InputTooLong = []
+place_of OutOfMemory = []
+
+-- what each line begins with: a number and a name
+abbrev pub refused_text : ℕ → List ℕ → List ℕ
+refused_text number name = codes "refused " ++ decimal number ++ codes " " ++ name
+
+abbrev pub refusal_text : Refusal → List ℕ
+refusal_text refusal = refused_text (number_of refusal) (name_of refusal) ++ place_of refusal ++ 10 ∷ []
+
+-- the names that the refusal of a closure tells: of a fragment, of a library, of a symbol
+
+abbrev pub told_fragment : BindFault → Option (List ℕ)
+told_fragment (bind_fault.Container f v) = Some f.now
+told_fragment (bind_fault.Loader f v) = Some f.now
+told_fragment (bind_fault.LibraryMissing f l) = Some f.now
+told_fragment (bind_fault.SymbolMissing f l s) = Some f.now
+told_fragment (bind_fault.ImplementationTooOld f l) = Some f.now
+told_fragment (bind_fault.ImplementationTooNew f l) = Some f.now
+told_fragment (bind_fault.ReexportLoop f s) = Some f.now
+told_fragment (bind_fault.InitLoop f) = Some f.now
+told_fragment bind_fault.OutOfMemory = None
+
+abbrev pub told_library : BindFault → Option (List ℕ)
+told_library (bind_fault.LibraryMissing f l) = Some l.now
+told_library (bind_fault.SymbolMissing f l s) = Some l.now
+told_library (bind_fault.ImplementationTooOld f l) = Some l.now
+told_library (bind_fault.ImplementationTooNew f l) = Some l.now
+told_library _ = None
+
+abbrev pub told_symbol : BindFault → Option (List ℕ)
+told_symbol (bind_fault.SymbolMissing f l s) = Some s.now
+told_symbol (bind_fault.ReexportLoop f s) = Some s.now
+told_symbol _ = None
+
+-- a name behind a word, where it is told
+abbrev pub told_text : List ℕ → Option (List ℕ) → List ℕ
+told_text word None = []
+told_text word (Some name) = word ++ name_text name
+
+-- the line of the refusal of a closure
+abbrev pub bind_refusal_text : BindFault → List ℕ
+bind_refusal_text fault =
+    refused_text (bind.fault_number fault) (bind.fault_name fault)
+    ++ told_text (codes " in ") (told_fragment fault)
+    ++ told_text (codes " library ") (told_library fault)
+    ++ told_text (codes " symbol ") (told_symbol fault)
+    ++ 10 ∷ []
+
+-- the name of the fragment that isn't prepared, where its closure isn't the reason
+abbrev pub told_unprepared : PrepareFault → Option (List ℕ)
+told_unprepared (prepare_fault.Fragment (fragment_fault.NoRoom f)) = Some f.now
+told_unprepared (prepare_fault.Fragment (fragment_fault.Pack f k)) = Some f.now
+told_unprepared (prepare_fault.Fragment (fragment_fault.Reloc f k)) = Some f.now
+told_unprepared _ = None
+
+-- the line of a fragment that isn't prepared, where its closure isn't the reason
+abbrev pub unprepared_text : PrepareFault → List ℕ
+unprepared_text fault = refused_text (prepare.fault_number fault) (prepare.fault_name fault) ++ told_text (codes " in ") (told_unprepared fault) ++ 10 ∷ []
+
+-- the line of a fragment that isn't prepared
+abbrev pub prepare_refusal_text : PrepareFault → List ℕ
+prepare_refusal_text (prepare_fault.Bind f) = bind_refusal_text f
+prepare_refusal_text fault = unprepared_text fault
+
+-- a name as it ends a line
+abbrev pub name_end : List ℕ → List ℕ
+name_end name = name_text name ++ 10 ∷ []
+
+-- a file that couldn't be read, and one that couldn't be written: numbers and names
+
+abbrev pub unreadable_number : ℕ
+unreadable_number = 71
+
+abbrev pub unreadable_name : List ℕ
+unreadable_name = codes "FileUnreadable"
+
+abbrev pub unwritable_number : ℕ
+unwritable_number = 72
+
+abbrev pub unwritable_name : List ℕ
+unwritable_name = codes "FileUnwritable"
+
+-- the number and the name of a refusal over a file, and the file's path
+
+abbrev pub file_number_of : FileRefusal → ℕ
+file_number_of (Unreadable path) = unreadable_number
+file_number_of (Unwritable path) = unwritable_number
+
+abbrev pub file_name_of : FileRefusal → List ℕ
+file_name_of (Unreadable path) = unreadable_name
+file_name_of (Unwritable path) = unwritable_name
+
+abbrev pub path_of : FileRefusal → List ℕ
+path_of (Unreadable path) = path.now
+path_of (Unwritable path) = path.now
+
+-- what the line of such a refusal begins with: what each begins with, and a space
+abbrev pub file_refusal_start : ℕ → List ℕ → List ℕ
+file_refusal_start number name = refused_text number name ++ codes " "
+
+-- the line of a refusal over a file
+abbrev pub file_refusal_text : FileRefusal → List ℕ
+file_refusal_text refusal = file_refusal_start (file_number_of refusal) (file_name_of refusal) ++ name_end (path_of refusal)
+
+-- the line of a file that couldn't be read
+abbrev pub unreadable_text : List ℕ → List ℕ
+unreadable_text path = file_refusal_start unreadable_number unreadable_name ++ name_end path
+
+-- the line of a file that couldn't be written
+abbrev pub unwritable_text : List ℕ → List ℕ
+unwritable_text path = file_refusal_start unwritable_number unwritable_name ++ name_end path

@@ -1,0 +1,147 @@
+-- What `check SCRIPT CERT` answers (README): it reads SCRIPT and then CERT, before it looks at the text of either, and
+-- says of the certificate of each section whether it is valid for the section's fixups. No other call is made on files.
+use Rattle.std.specs.Prelude.{◌≡◌, ◌⊎◌, ℕ, ◌+◌, ◌==◌, ⊤, Bool, true, false, ◌&&◌, List, [], ◌∷◌, ◌++◌, Result, Ok, Err, codes, decimal, length}
+use Rattle.pef_cert.specs.Certified.{Certified}
+use Rattle.pef_cert.specs.Valid.{Valid}
+use Rattle.pef_cert.specs.Text.Grammar.{certificates_of}
+use Rattle.pef_ports.specs.Ports.{FilesPort, Reads}
+use Rattle.pef_ports.specs.declared.ports.FileFault.{FileFault}
+use Rattle.pef_ports.specs.declared.ports.FileFault.TheVariants as file_fault
+use Rattle.pef_reloc.specs.Instrs.{program_length}
+use Rattle.pef_reloc.specs.declared.fixup.Fixup.{Fixup}
+use Rattle.pef_script.specs.Text.Grammar.{script_of}
+use Rattle.pef_script.specs.Script.{DescribedScript, DescribedSection}
+use Rattle.pef_tool.specs.Answers.Answers.{Answer, answer_refused}
+use Rattle.pef_tool.specs.Answers.Refusals.{refusal_text, unreadable_text}
+use Rattle.pef_tool.specs.declared.check.Verdict.{Verdict}
+use Rattle.pef_tool.specs.declared.check.Verdict.TheVariants.{Yes, No}
+use Rattle.pef_tool.specs.declared.answers.refusal.Refusal.{Refusal}
+use Rattle.pef_tool.specs.declared.answers.refusal.Refusal.TheVariants.{BadCertificate, OutOfMemory, Script, SectionsDiffer}
+
+-- the verdict on a certificate for some fixups: a yes with its program's length in halfwords just where it is valid
+abbrev pub IsVerdict : List Fixup → Certified → Verdict → Type 0
+IsVerdict fixups c (Yes halfwords) = Valid fixups c × (halfwords ≡ program_length c.program)
+IsVerdict fixups c No = Valid fixups c → ⊥
+
+-- a verdict on each certificate, for the fixups of its section
+abbrev pub AreVerdicts : List DescribedSection → List Certified → List Verdict → Type 0
+AreVerdicts [] [] [] = ⊤
+AreVerdicts (s ∷ sections) (c ∷ certificates) (v ∷ verdicts) = IsVerdict s.fixups c v × AreVerdicts sections certificates verdicts
+AreVerdicts _ _ _ = ⊥
+
+-- certificates are for the sections that are numbered from a number on, in order
+abbrev pub are_numbered : ℕ → List Certified → Bool
+are_numbered k [] = true
+are_numbered k (c ∷ certificates) = c.section == k && are_numbered (k + 1) certificates
+
+-- there is a certificate for each section of a script, in order, and no other
+abbrev pub match_sections : DescribedScript → List Certified → Bool
+match_sections script certificates = length certificates == length script.sections && are_numbered 0 certificates
+
+-- the texts of SCRIPT and CERT
+pub record Texts : Type 0 where
+  pub script : List ℕ
+  pub certificates : List ℕ
+
+-- the script and the certificates that two texts have
+pub record Checked : Type 0 where
+  pub script : DescribedScript
+  pub certificates : List Certified
+
+pub record HasChecked (texts : Texts) (c : Checked) : Type 0 where
+  pub script : script_of texts.script ≡ Ok c.script
+  pub certificates : certificates_of texts.certificates ≡ Ok c.certificates
+
+-- two texts have certificates for the sections of the script, with these verdicts
+pub record HasVerdicts (texts : Texts) (verdicts : List Verdict) : Type 0 where
+  pub checked : Checked
+  pub has : HasChecked texts checked
+  pub matches : match_sections checked.script checked.certificates ≡ true
+  pub verdicts_are : AreVerdicts checked.script.sections checked.certificates verdicts
+
+-- SCRIPT's text is a script, and CERT's is refused at a line
+pub record RefusesCertificates (texts : Texts) (line : ℕ) : Type 0 where
+  pub script : DescribedScript
+  pub is_script : script_of texts.script ≡ Ok script
+  pub refused : certificates_of texts.certificates ≡ Err line
+
+-- both texts are good, and the certificates are for other sections than the script's
+pub record DiffersInSections (texts : Texts) : Type 0 where
+  pub checked : Checked
+  pub has : HasChecked texts checked
+  pub differ : match_sections checked.script checked.certificates ≡ false
+
+-- what two texts come to: verdicts, or the first refusal of SCRIPT's text, else of CERT's, else that sections differ;
+-- or memory was refused
+abbrev pub Judges : Texts → Result (List Verdict) Refusal → Type 0
+Judges texts (Ok verdicts) = HasVerdicts texts verdicts
+Judges texts (Err (Script fault line)) = script_of texts.script ≡ Err (record { fault = fault; line = line })
+Judges texts (Err (BadCertificate line)) = RefusesCertificates texts line
+Judges texts (Err SectionsDiffer) = DiffersInSections texts
+Judges texts (Err OutOfMemory) = ⊤
+Judges texts (Err _) = ⊥
+
+-- SCRIPT was read, and then CERT was answered this
+pub record ReadsSecond {F : Type 0} (port : FilesPort F) (before after : F) (script cert text : List ℕ) (answer : Result (List ℕ) FileFault) : Type 0 where
+  pub between : F
+  pub first : Reads port before between script (Ok text)
+  pub second : Reads port between after cert answer
+
+-- both files were read, and this is what their texts come to
+pub record JudgesFiles {F : Type 0} (port : FilesPort F) (before after : F) (script cert : List ℕ) (judged : Result (List Verdict) Refusal) : Type 0 where
+  pub texts : Texts
+  pub read : ReadsSecond port before after script cert texts.script (Ok texts.certificates)
+  pub are : Judges texts judged
+
+-- memory was refused: before SCRIPT was read, or by reading it, or by reading CERT
+abbrev pub ReadingLacksMemory : {F : Type 0} → FilesPort F → F → F → List ℕ → List ℕ → Type 0
+ReadingLacksMemory port before after script cert =
+    (after ≡ before)
+    ⊎ Reads port before after script (Err file_fault.OutOfMemory)
+    ⊎ ((text : List ℕ) × ReadsSecond port before after script cert text (Err file_fault.OutOfMemory))
+
+-- how `check` ends: SCRIPT or CERT can't be read, or memory was refused for that, or their texts are judged
+pub data CheckOutcome : Type 0 where
+  no_script : CheckOutcome
+  no_certificates : CheckOutcome
+  lacks_memory : CheckOutcome
+  judges : Result (List Verdict) Refusal → CheckOutcome
+
+-- when it ends so, by how the files stood and stand
+abbrev pub CheckEnds : {F : Type 0} → FilesPort F → F → F → List ℕ → List ℕ → CheckOutcome → Type 0
+CheckEnds port before after script cert no_script = Reads port before after script (Err file_fault.Failed)
+CheckEnds port before after script cert no_certificates = (text : List ℕ) × ReadsSecond port before after script cert text (Err file_fault.Failed)
+CheckEnds port before after script cert lacks_memory = ReadingLacksMemory port before after script cert
+CheckEnds port before after script cert (judges judged) = JudgesFiles port before after script cert judged
+
+-- the line of the verdict on section k's certificate
+unfoldable pub verdict_text : ℕ → Verdict → List ℕ
+verdict_text k (Yes halfwords) = codes "section " ++ decimal k ++ codes " yes " ++ decimal halfwords ++ 10 ∷ []
+verdict_text k No = codes "section " ++ decimal k ++ codes " no\n"
+
+-- the lines of verdicts on sections, numbered from a number on
+abbrev pub verdicts_text : ℕ → List Verdict → List ℕ
+verdicts_text k [] = []
+verdicts_text k (v ∷ verdicts) = verdict_text k v ++ verdicts_text (k + 1) verdicts
+
+-- the status of verdicts: 1 where there is a no, else 0
+abbrev pub verdicts_status : List Verdict → ℕ
+verdicts_status [] = 0
+verdicts_status (Yes halfwords ∷ verdicts) = verdicts_status verdicts
+verdicts_status (No ∷ verdicts) = 1
+
+-- what is said of two texts
+abbrev pub judged_answer : Result (List Verdict) Refusal → Answer
+judged_answer (Ok verdicts) = record { text = verdicts_text 0 verdicts; status = verdicts_status verdicts }
+judged_answer (Err refusal) = answer_refused (refusal_text refusal)
+
+-- what it says then
+abbrev pub check_answer : List ℕ → List ℕ → CheckOutcome → Answer
+check_answer script cert no_script = answer_refused (unreadable_text script)
+check_answer script cert no_certificates = answer_refused (unreadable_text cert)
+check_answer script cert lacks_memory = answer_refused (refusal_text OutOfMemory)
+check_answer script cert (judges judged) = judged_answer judged
+
+-- what `check SCRIPT CERT` answers
+abbrev pub CheckAnswers : {F : Type 0} → FilesPort F → F → F → List ℕ → List ℕ → Answer → Type 0
+CheckAnswers port before after script cert answer = (outcome : CheckOutcome) × CheckEnds port before after script cert outcome × (answer ≡ check_answer script cert outcome)

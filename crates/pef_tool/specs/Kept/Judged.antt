@@ -1,0 +1,16 @@
+-- What is said of a script and certificates, whatever texts they were read from.
+use Rattle.std.specs.Prelude.{◌≡◌, ℕ, List, Result, Ok}
+use Rattle.pef_cert.specs.Certified.{Certified}
+use Rattle.pef_script.specs.Text.Grammar.{script_of}
+use Rattle.pef_script.specs.Script.{DescribedScript}
+use Rattle.pef_tool.specs.declared.answers.refusal.Refusal.{Refusal}
+use Rattle.pef_tool.specs.Check.{HasChecked, Judges, Texts}
+use Rattle.pef_tool.specs.declared.check.Verdict.{Verdict}
+
+-- what a script and a text of certificates come to
+abbrev pub JudgesScript : DescribedScript → List ℕ → Result (List Verdict) Refusal → Type 0
+JudgesScript script certificates judged = (text : List ℕ) → script_of text ≡ Ok script → Judges (record { script = text; certificates = certificates }) judged
+
+-- what a script and certificates come to
+abbrev pub JudgesRead : DescribedScript → List Certified → Result (List Verdict) Refusal → Type 0
+JudgesRead script certificates judged = (texts : Texts) → HasChecked texts (record { script = script; certificates = certificates }) → Judges texts judged

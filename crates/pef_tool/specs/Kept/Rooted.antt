@@ -1,0 +1,25 @@
+-- How the preparation of one fragment, in a context of its own, ends, and what is said then.
+use Rattle.std.specs.Prelude.{ℕ, List}
+use Rattle.cfm_closure.specs.Stores.{Pair}
+use Rattle.cfm_prepare.specs.Contexts.{ContextState, fresh_state}
+use Rattle.cfm_prepare.specs.Steps.{MayNotPrepare, Prepares}
+use Rattle.cfm_prepare.specs.declared.fault.PrepareFault.{PrepareFault}
+use Rattle.pef_tool.specs.Answers.Answers.{Answer, answer_done, answer_refused}
+use Rattle.pef_tool.specs.Answers.Refusals.{prepare_refusal_text}
+use Rattle.pef_tool.specs.Limits.{memory_limit}
+use Rattle.pef_tool.specs.Loaded.{loaded_text}
+
+-- it is prepared: a connection with this number, in a context that is so now; or it isn't, for this reason
+pub data RootOutcome : Type 0 where
+  prepares : ContextState → ℕ → RootOutcome
+  refuses : PrepareFault → RootOutcome
+
+-- when it ends so, by the store and the name
+abbrev pub RootEnds : List Pair → List ℕ → RootOutcome → Type 0
+RootEnds pairs name (prepares s number) = Prepares (fresh_state pairs memory_limit) name number s
+RootEnds pairs name (refuses fault) = MayNotPrepare (fresh_state pairs memory_limit) name fault
+
+-- what is said then
+abbrev pub root_answer : RootOutcome → Answer
+root_answer (prepares s number) = answer_done (loaded_text s number)
+root_answer (refuses fault) = answer_refused (prepare_refusal_text fault)

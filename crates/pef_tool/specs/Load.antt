@@ -1,0 +1,96 @@
+-- What `load NAME=FILE ..` answers (README): it reads the files, in the order of the words, before it looks at any;
+-- then it prepares the fragment of the first name in a store of all, and prints the memory of its closure. No other
+-- call is made on files.
+use Rattle.std.specs.Prelude.{◌≡◌, ◌⊎◌, ℕ, ◌<◌, List, [], ◌∷◌, ◌++◌, Ok, Err, length, take}
+use Rattle.cfm_closure.specs.Stores.{Pair}
+use Rattle.cfm_prepare.specs.Contexts.{ContextState, fresh_state}
+use Rattle.cfm_prepare.specs.Steps.{MayNotPrepare, Prepares}
+use Rattle.cfm_prepare.specs.declared.fault.PrepareFault.{PrepareFault}
+use Rattle.pef_ports.specs.Ports.{FilesPort, Reads}
+use Rattle.pef_ports.specs.declared.ports.FileFault.{FileFault}
+use Rattle.pef_ports.specs.declared.ports.FileFault.TheVariants as file_fault
+use Rattle.pef_tool.specs.Answers.Answers.{Answer, answer_done, answer_refused, answer_usage}
+use Rattle.pef_tool.specs.Limits.{memory_limit, most_files}
+use Rattle.pef_tool.specs.Loaded.{loaded_text}
+use Rattle.pef_tool.specs.Answers.Refusals.{prepare_refusal_text, refusal_text, unreadable_text}
+use Rattle.pef_tool.specs.declared.answers.refusal.Refusal.TheVariants.{OutOfMemory}
+
+-- files were read in order, one call each, and these are their bytes
+abbrev pub WereRead : {F : Type 0} → FilesPort F → F → F → List (List ℕ × List ℕ) → List (List ℕ) → Type 0
+WereRead {F} port before after [] [] = after ≡ before
+WereRead {F} port before after [] (bytes ∷ contents) = ⊥
+WereRead {F} port before after (file ∷ named) [] = ⊥
+WereRead {F} port before after (file ∷ named) (bytes ∷ contents) = (between : F) × Reads port before between file.1 (Ok bytes) × WereRead port between after named contents
+
+-- the first files were read, and then the next one, at this path, answered a fault
+pub record StopsAt {F : Type 0} (port : FilesPort F) (before after : F) (named : List (List ℕ × List ℕ)) (path : List ℕ) (fault : FileFault) : Type 0 where
+  pub done : List (List ℕ × List ℕ)
+  pub name : List ℕ
+  pub left : List (List ℕ × List ℕ)
+  pub are : named ≡ done ++ (name, path) ∷ left
+  pub contents : List (List ℕ)
+  pub between : F
+  pub read : WereRead port before between done contents
+  pub stops : Reads port between after path (Err fault)
+
+-- the pairs of a store: the files' names, each with the bytes
+abbrev pub paired : List (List ℕ × List ℕ) → List (List ℕ) → List Pair
+paired [] contents = []
+paired (file ∷ named) [] = []
+paired (file ∷ named) (bytes ∷ contents) = record { name = file.0; bytes = bytes } ∷ paired named contents
+
+-- the first name
+abbrev pub first_name : List (List ℕ × List ℕ) → List ℕ
+first_name [] = []
+first_name (file ∷ named) = file.0
+
+-- a context of the files, in which nothing is prepared
+abbrev pub context_of : List (List ℕ × List ℕ) → List (List ℕ) → ContextState
+context_of named contents = fresh_state (paired named contents) memory_limit
+
+-- all files were read, and the first fragment was prepared: a connection with this number, in a context that is so now
+pub record PreparesFirst {F : Type 0} (port : FilesPort F) (before after : F) (named : List (List ℕ × List ℕ)) (s : ContextState) (number : ℕ) : Type 0 where
+  pub contents : List (List ℕ)
+  pub read : WereRead port before after named contents
+  pub prepared : Prepares (context_of named contents) (first_name named) number s
+
+-- all files were read, and the first fragment isn't prepared, for this reason
+pub record RefusesFirst {F : Type 0} (port : FilesPort F) (before after : F) (named : List (List ℕ × List ℕ)) (fault : PrepareFault) : Type 0 where
+  pub contents : List (List ℕ)
+  pub read : WereRead port before after named contents
+  pub refused : MayNotPrepare (context_of named contents) (first_name named) fault
+
+-- memory was refused: behind the first files, none or all of them, or by reading one
+abbrev pub LoadLacksMemory : {F : Type 0} → FilesPort F → F → F → List (List ℕ × List ℕ) → Type 0
+LoadLacksMemory port before after named =
+    ((n : ℕ) × (contents : List (List ℕ)) × WereRead port before after (take n named) contents)
+    ⊎ ((path : List ℕ) × StopsAt port before after named path file_fault.OutOfMemory)
+
+-- how `load` ends: a fragment is prepared or isn't, or a file can't be read, or memory was refused for that; or there
+-- are no files, or too many
+pub data LoadOutcome : Type 0 where
+  loads : ContextState → ℕ → LoadOutcome
+  refuses : PrepareFault → LoadOutcome
+  unreadable : List ℕ → LoadOutcome
+  lacks_memory : LoadOutcome
+  usage : LoadOutcome
+
+-- when it ends so, by how the files stood and stand
+abbrev pub LoadEnds : {F : Type 0} → FilesPort F → F → F → List (List ℕ × List ℕ) → LoadOutcome → Type 0
+LoadEnds port before after named (loads s number) = PreparesFirst port before after named s number
+LoadEnds port before after named (refuses fault) = RefusesFirst port before after named fault
+LoadEnds port before after named (unreadable path) = StopsAt port before after named path file_fault.Failed
+LoadEnds port before after named lacks_memory = LoadLacksMemory port before after named
+LoadEnds port before after named usage = ((named ≡ []) ⊎ (most_files < length named)) × (after ≡ before)
+
+-- what it says then
+abbrev pub load_answer : LoadOutcome → Answer
+load_answer (loads s number) = answer_done (loaded_text s number)
+load_answer (refuses fault) = answer_refused (prepare_refusal_text fault)
+load_answer (unreadable path) = answer_refused (unreadable_text path)
+load_answer lacks_memory = answer_refused (refusal_text OutOfMemory)
+load_answer usage = answer_usage
+
+-- what `load NAME=FILE ..` answers
+abbrev pub LoadAnswers : {F : Type 0} → FilesPort F → F → F → List (List ℕ × List ℕ) → Answer → Type 0
+LoadAnswers port before after named answer = (outcome : LoadOutcome) × LoadEnds port before after named outcome × (answer ≡ load_answer outcome)

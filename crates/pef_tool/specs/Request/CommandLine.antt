@@ -1,0 +1,93 @@
+-- What the words of a command line ask for, by `clap`'s own function of the words at this program's
+-- commands.
+use Rattle.std.specs.Prelude.{ℕ, true, List, [], ◌∷◌, Option, None, Some, codes, if◌then◌else◌, option_and_then, option_map}
+use Rattle.std.specs.Str.{bytes_eq}
+use Rattle.clap.specs.Walk.{Row, Rule, Text, all_of, first_of}
+use Rattle.clap.specs.Words.{App, Kinds, new_app, new_rule, with_rule, with_subcommand, fault_of, subcommand_of}
+use Rattle.pef_tool.specs.Request.Files.{named_files}
+use Rattle.pef_tool.specs.Request.Requests.{Asked, check, distances, link, list, load, show}
+
+-- an operand that has to be there
+abbrev pub operand : Text → Rule
+operand name = record (new_rule name) { required = true }
+
+-- `show`, which has no operands
+abbrev pub show_command : App
+show_command = new_app (codes "show")
+
+-- `link SCRIPT OUT`
+abbrev pub link_command : App
+link_command = with_rule (with_rule (new_app (codes "link")) (operand (codes "SCRIPT"))) (operand (codes "OUT"))
+
+-- `list FILE`
+abbrev pub list_command : App
+list_command = with_rule (new_app (codes "list")) (operand (codes "FILE"))
+
+-- `check SCRIPT CERT`
+abbrev pub check_command : App
+check_command = with_rule (with_rule (new_app (codes "check")) (operand (codes "SCRIPT"))) (operand (codes "CERT"))
+
+-- the most files of `load`
+abbrev pub most_files : ℕ
+most_files = 256
+
+-- the operand of `load`, which is one word or more
+abbrev pub files_operand : Rule
+files_operand = record (operand (codes "NAME=FILE")) { range = Some (record { start_inclusive = 1; end_inclusive = most_files }) }
+
+-- `load NAME=FILE ..`
+abbrev pub load_command : App
+load_command = with_rule (new_app (codes "load")) files_operand
+
+-- `distances SCRIPT`
+abbrev pub distances_command : App
+distances_command = with_rule (new_app (codes "distances")) (operand (codes "SCRIPT"))
+
+-- the program, which wants a command and has no help
+abbrev pub top_command : App
+top_command =
+    let plain = new_app (codes "pef") in
+    record plain { top = record plain.top { subcommand_required = true; disable_help_flag = true; disable_help_subcommand = true } }
+
+-- the program's commands
+unfoldable pub pef : App
+pef = with_subcommand (with_subcommand (with_subcommand (with_subcommand (with_subcommand (with_subcommand top_command show_command.top) link_command.top) list_command.top) check_command.top) load_command.top) distances_command.top
+
+-- what the operands of `link` ask for
+abbrev pub link_asked : List Row → Option Asked
+link_asked rows = option_and_then (λ script. option_map (link script) (first_of (codes "OUT") rows)) (first_of (codes "SCRIPT") rows)
+
+-- what the operand of `list` asks for
+abbrev pub list_asked : List Row → Option Asked
+list_asked rows = option_map list (first_of (codes "FILE") rows)
+
+-- what the operands of `check` ask for
+abbrev pub check_asked : List Row → Option Asked
+check_asked rows = option_and_then (λ script. option_map (check script) (first_of (codes "CERT") rows)) (first_of (codes "SCRIPT") rows)
+
+-- what the operands of `load` ask for
+abbrev pub load_asked : List Row → Option Asked
+load_asked rows = option_and_then (λ words. option_map load (named_files words)) (all_of (codes "NAME=FILE") rows)
+
+-- what the operand of `distances` asks for
+abbrev pub distances_asked : List Row → Option Asked
+distances_asked rows = option_map distances (first_of (codes "SCRIPT") rows)
+
+-- what a command's name and operands ask for
+abbrev pub command_asked : Text → List Row → Option Asked
+command_asked name rows =
+    if bytes_eq name (codes "show") then Some show
+    else if bytes_eq name (codes "link") then link_asked rows
+    else if bytes_eq name (codes "list") then list_asked rows
+    else if bytes_eq name (codes "check") then check_asked rows
+    else if bytes_eq name (codes "load") then load_asked rows
+    else if bytes_eq name (codes "distances") then distances_asked rows else None
+
+-- a line without a fault asks for what its command asks for
+abbrev pub asked_at : Kinds → Option (Text × List Row) → Option Asked
+asked_at [] found = option_and_then (λ f. command_asked f.0 f.1) found
+asked_at (k ∷ ks) found = None
+
+-- what the words ask for, where they are a good line
+unfoldable pub asked_by : List Text → Option Asked
+asked_by words = asked_at (fault_of pef words) (subcommand_of pef words)

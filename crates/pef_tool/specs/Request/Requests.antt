@@ -1,0 +1,35 @@
+-- What a command line can ask for (README, "The commands").
+use Rattle.std.specs.Prelude.{◌≡◌, ℕ, ⊤, List, map, Option, None, Some, Result, Ok, Err}
+use Rattle.pef_tool.specs.declared.request.files.NamedFile.{NamedFile}
+use Rattle.pef_tool.specs.declared.request.command_line.Request.{Request}
+use Rattle.pef_tool.specs.declared.request.command_line.Request.TheVariants as request
+use Rattle.pef_tool.specs.declared.request.command_line.WordsFault.{WordsFault}
+use Rattle.pef_tool.specs.declared.request.command_line.WordsFault.TheVariants.{Usage, OutOfMemory}
+
+-- a command and its operands; the files of `load` are names, each with its path
+pub data Asked : Type 0 where
+  show : Asked
+  link : List ℕ → List ℕ → Asked
+  load : List (List ℕ × List ℕ) → Asked
+  list : List ℕ → Asked
+  distances : List ℕ → Asked
+  check : List ℕ → List ℕ → Asked
+
+-- a file's name and its path
+abbrev pub named_path : NamedFile → List ℕ × List ℕ
+named_path file = (file.name.now, file.path.now)
+
+-- what a request asks for
+abbrev pub asked_of : Request → Asked
+asked_of request.Show = show
+asked_of (request.Link script out) = link script.now out.now
+asked_of (request.Load files) = load (map named_path files.items)
+asked_of (request.List file) = list file.now
+asked_of (request.Distances script) = distances script.now
+asked_of (request.Check script cert) = check script.now cert.now
+
+-- the answer to a command line: what it asks for, or that it is none of this program
+abbrev pub AnswersWords : Result Request WordsFault → Option Asked → Type 0
+AnswersWords (Ok request) asked = asked ≡ Some (asked_of request)
+AnswersWords (Err Usage) asked = asked ≡ None
+AnswersWords (Err OutOfMemory) asked = ⊤

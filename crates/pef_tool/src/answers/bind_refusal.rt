@@ -1,0 +1,115 @@
+ghost use Rattle.std.specs.Prelude.{◌≡◌, ◌++◌, option_map};
+ghost use Rattle.cfm_closure.specs.Faults.{fault_name, fault_number};
+ghost use Rattle.pef_ports.specs.Names.{name_text};
+ghost use Rattle.pef_ports.specs.Sent.{Sends};
+ghost use Rattle.pef_tool.specs.Answers.Answers.{answer_refused};
+ghost use Rattle.pef_tool.specs.Answers.Refusals.{bind_refusal_text, refused_text, told_fragment, told_library, told_symbol, told_text};
+
+use crate::answers::refusal::refused_line;
+use crate::answers::reply::{REFUSED, Reply};
+use cfm_closure::BindFault;
+use pef_ports::{Line, Page, Sink, StreamFault, print_name, send};
+
+impl<'a> Reply for BindFault<'a> {
+    ghost answer = { λ fault. answer_refused (bind_refusal_text fault) };
+
+    fn status(&self) -> u8 {
+        REFUSED
+    }
+
+    fn print<W: Sink>(&self, out: &mut W, page: &mut Page) -> Result<(), StreamFault> {
+        send(out, page, start(self).as_slice())?;
+        print_told(out, page, b" in ", told_fragment(self))?;
+        print_told(out, page, b" library ", told_library(self))?;
+        print_told(out, page, b" symbol ", told_symbol(self))?;
+        send(out, page, b"\n")
+    }
+}
+
+/// What the line of the refusal begins with: its number and its name.
+#[tactic(auto, using(crate::proofs::AnswersProofs::RefusalLemmas::short_bind_name))]
+fn start(fault: &BindFault<'_>) -> Line
+    ensures { result.items ≡ refused_text (fault_number fault.now) (fault_name fault.now) }
+{
+    refused_line(fault.number(), fault.name())
+}
+
+/// The fragment that the line tells.
+fn told_fragment<'a>(fault: &BindFault<'a>) -> Option<&'a [u8]>
+    ensures { option_map (λ name. name.now) result ≡ told_fragment fault.now }
+{
+    match fault {
+        BindFault::Container { fragment, .. }
+        | BindFault::Loader { fragment, .. }
+        | BindFault::LibraryMissing { fragment, .. }
+        | BindFault::SymbolMissing { fragment, .. }
+        | BindFault::ImplementationTooOld { fragment, .. }
+        | BindFault::ImplementationTooNew { fragment, .. }
+        | BindFault::ReexportLoop { fragment, .. }
+        | BindFault::InitLoop { fragment } => Some(fragment),
+        BindFault::OutOfMemory => None,
+    }
+}
+
+/// The library of that fragment that the line tells.
+fn told_library<'a>(fault: &BindFault<'a>) -> Option<&'a [u8]>
+    ensures { option_map (λ name. name.now) result ≡ told_library fault.now }
+{
+    match fault {
+        BindFault::LibraryMissing { library, .. }
+        | BindFault::SymbolMissing { library, .. }
+        | BindFault::ImplementationTooOld { library, .. }
+        | BindFault::ImplementationTooNew { library, .. } => Some(library),
+        BindFault::Container { .. }
+        | BindFault::Loader { .. }
+        | BindFault::ReexportLoop { .. }
+        | BindFault::InitLoop { .. }
+        | BindFault::OutOfMemory => None,
+    }
+}
+
+/// The symbol that the line tells.
+fn told_symbol<'a>(fault: &BindFault<'a>) -> Option<&'a [u8]>
+    ensures { option_map (λ name. name.now) result ≡ told_symbol fault.now }
+{
+    match fault {
+        BindFault::SymbolMissing { symbol, .. } | BindFault::ReexportLoop { symbol, .. } => {
+            Some(symbol)
+        }
+        BindFault::Container { .. }
+        | BindFault::Loader { .. }
+        | BindFault::LibraryMissing { .. }
+        | BindFault::ImplementationTooOld { .. }
+        | BindFault::ImplementationTooNew { .. }
+        | BindFault::InitLoop { .. }
+        | BindFault::OutOfMemory => None,
+    }
+}
+
+/// Prints a name behind a word, where it is told.
+pub fn print_told<W: Sink>(
+    out: &mut W,
+    page: &mut Page,
+    word: &[u8],
+    name: Option<&[u8]>,
+) -> Result<(), StreamFault>
+    ensures { Sends result (W.stream out.old) (W.stream out.new) page.old.items page.new.items (told_text word.now (option_map (λ name. name.now) name.entry)) }
+{
+    match name {
+        Some(name) => print_behind(out, page, word, name),
+        None => Ok(()),
+    }
+}
+
+/// Prints a name behind a word.
+pub fn print_behind<W: Sink>(
+    out: &mut W,
+    page: &mut Page,
+    word: &[u8],
+    name: &[u8],
+) -> Result<(), StreamFault>
+    ensures { Sends result (W.stream out.old) (W.stream out.new) page.old.items page.new.items (word.now ++ name_text name.now) }
+{
+    send(out, page, word)?;
+    print_name(out, page, name)
+}

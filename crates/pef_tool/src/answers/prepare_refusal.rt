@@ -1,0 +1,68 @@
+ghost use Rattle.std.specs.Prelude.{◌≡◌, option_map};
+ghost use Rattle.cfm_prepare.specs.Faults.{fault_name, fault_number};
+ghost use Rattle.pef_ports.specs.Sent.{Sends};
+ghost use Rattle.pef_tool.specs.Answers.Answers.{answer_refused};
+ghost use Rattle.pef_tool.specs.Answers.Refusals.{prepare_refusal_text, refused_text, told_unprepared, unprepared_text};
+
+use crate::answers::bind_refusal::print_told;
+use crate::answers::refusal::refused_line;
+use crate::answers::reply::{REFUSED, Reply};
+use cfm_prepare::{FragmentFault, PrepareFault};
+use pef_ports::{Line, Page, Sink, StreamFault, send};
+
+impl<'a> Reply for PrepareFault<'a> {
+    ghost answer = { λ fault. answer_refused (prepare_refusal_text fault) };
+
+    fn status(&self) -> u8 {
+        REFUSED
+    }
+
+    fn print<W: Sink>(&self, out: &mut W, page: &mut Page) -> Result<(), StreamFault> {
+        match self {
+            PrepareFault::Bind(fault) => fault.print(out, page),
+            PrepareFault::TooManyConnections
+            | PrepareFault::RootMissing
+            | PrepareFault::Fragment(_)
+            | PrepareFault::OutOfMemory => print_unprepared(out, page, self),
+        }
+    }
+}
+
+/// Prints the line of a fragment that isn't prepared, where its closure isn't the reason.
+fn print_unprepared<W: Sink>(
+    out: &mut W,
+    page: &mut Page,
+    fault: &PrepareFault<'_>,
+) -> Result<(), StreamFault>
+    ensures { Sends result (W.stream out.old) (W.stream out.new) page.old.items page.new.items (unprepared_text fault.now) }
+{
+    send(out, page, start(fault).as_slice())?;
+    print_told(out, page, b" in ", told_unprepared(fault))?;
+    send(out, page, b"\n")
+}
+
+/// What the line of the refusal begins with: its number and its name.
+#[tactic(auto, using(crate::proofs::AnswersProofs::RefusalLemmas::short_prepare_name))]
+fn start(fault: &PrepareFault<'_>) -> Line
+    ensures { result.items ≡ refused_text (fault_number fault.now) (fault_name fault.now) }
+{
+    refused_line(fault.number(), fault.name())
+}
+
+/// The name of the fragment that isn't prepared, where its closure isn't the reason.
+fn told_unprepared<'a>(fault: &PrepareFault<'a>) -> Option<&'a [u8]>
+    ensures { option_map (λ name. name.now) result ≡ told_unprepared fault.now }
+{
+    match fault {
+        PrepareFault::Fragment(
+            FragmentFault::NoRoom { fragment }
+            | FragmentFault::Pack { fragment, .. }
+            | FragmentFault::Reloc { fragment, .. },
+        ) => Some(fragment),
+        PrepareFault::Fragment(FragmentFault::OutOfMemory)
+        | PrepareFault::TooManyConnections
+        | PrepareFault::RootMissing
+        | PrepareFault::Bind(_)
+        | PrepareFault::OutOfMemory => None,
+    }
+}

@@ -1,0 +1,224 @@
+ghost use Rattle.std.specs.Prelude.{◌≡◌, ◌≤◌, ◌+◌, ◌++◌, length};
+ghost use Rattle.arrayvec.specs.ArrayVec.{array_vec_len};
+ghost use Rattle.pef_ports.specs.Sent.{Sends};
+ghost use Rattle.pef_tool.specs.Answers.Answers.{answer_refused};
+ghost use Rattle.pef_tool.specs.Answers.Told.{certificate_refusal, input_refusal, script_refusal};
+ghost use Rattle.pef_tool.specs.Answers.Refusals.{file_name_of, file_number_of, file_refusal_start, file_refusal_text, name_end, name_of, number_of, path_of, place_of, refusal_text, refused_text};
+
+use crate::answers::reply::{REFUSED, Reply};
+use pef_cert::CertFault;
+use pef_listing::ListFault;
+use pef_ports::{
+    InputFault, Line, Page, Sink, StreamFault, print_name, push_number, push_text, send,
+};
+use pef_script::{LineFault, ScriptFault};
+
+/// Why a run is refused.
+#[derive(Clone, Copy, Debug, PartialEq, Eq)]
+pub enum Refusal {
+    /// A line of the script is refused; lines count from 1.
+    Script { fault: LineFault, line: usize },
+    /// A container, its loader section or one of its relocation programs is refused where it is listed.
+    Listing(ListFault),
+    /// A line of the certificates is refused; lines count from 1.
+    BadCertificate { line: usize },
+    /// The certificates are for other sections than the script's.
+    SectionsDiffer,
+    /// The input failed.
+    InputUnreadable,
+    /// The input has more bytes than are read.
+    InputTooLong,
+    /// A growth of memory was refused.
+    OutOfMemory,
+}
+
+impl Refusal {
+    /// The number of the refusal.
+    pub fn number(&self) -> u32
+        ensures { result ≡ number_of self.now }
+    {
+        match self {
+            Refusal::Script { fault, .. } => fault.number(),
+            Refusal::Listing(fault) => fault.number(),
+            Refusal::BadCertificate { line } => CertFault::BadCertificate { line: *line }.number(),
+            Refusal::SectionsDiffer => 52,
+            Refusal::InputUnreadable => InputFault::Unreadable.number(),
+            Refusal::InputTooLong => InputFault::TooLong.number(),
+            Refusal::OutOfMemory => 99,
+        }
+    }
+
+    /// The name of the refusal.
+    #[tactic(auto, using(crate::proofs::AnswersProofs::RefusalLemmas::short_name))]
+    fn name(&self) -> &'static str
+        ensures name { result.now ≡ name_of self.now }
+        ensures short { length result.now ≤ 16 }
+    {
+        match self {
+            Refusal::Script { fault, .. } => fault.name(),
+            Refusal::Listing(fault) => fault.name(),
+            Refusal::BadCertificate { line } => CertFault::BadCertificate { line: *line }.name(),
+            Refusal::SectionsDiffer => "SectionsDiffer",
+            Refusal::InputUnreadable => InputFault::Unreadable.name(),
+            Refusal::InputTooLong => InputFault::TooLong.name(),
+            Refusal::OutOfMemory => "OutOfMemory",
+        }
+    }
+
+    /// Appends what the line says behind the name.
+    fn push_place(&self, line: &mut Line)
+        requires { array_vec_len line.old ≤ 60 }
+        ensures text { line.new.items ≡ line.old.items ++ place_of self.now }
+        ensures len { array_vec_len line.new ≤ array_vec_len line.old + 26 }
+    {
+        match self {
+            Refusal::Script { line: number, .. } | Refusal::BadCertificate { line: number } => {
+                push_text(line, b" line ");
+                push_number(line, *number as u64);
+            }
+            Refusal::Listing(_)
+            | Refusal::SectionsDiffer
+            | Refusal::InputUnreadable
+            | Refusal::InputTooLong
+            | Refusal::OutOfMemory => {}
+        }
+    }
+
+    /// The line that ends the run.
+    fn line(&self) -> Line
+        ensures { result.items ≡ refusal_text self.now }
+    {
+        let mut line = refused_line(self.number(), self.name());
+        self.push_place(&mut line);
+        push_text(&mut line, b"\n");
+        line
+    }
+}
+
+/// What the line of a refusal begins with.
+pub fn refused_line(number: u32, name: &str) -> Line
+    requires { length name.now ≤ 20 }
+    ensures text { result.items ≡ refused_text number name.now }
+    ensures len { array_vec_len result ≤ 49 }
+{
+    let mut line = Line::new();
+    push_text(&mut line, b"refused ");
+    push_number(&mut line, u64::from(number));
+    push_text(&mut line, b" ");
+    push_text(&mut line, name.as_bytes());
+    line
+}
+
+impl Reply for Refusal {
+    ghost answer = { λ refusal. answer_refused (refusal_text refusal) };
+
+    fn status(&self) -> u8 {
+        REFUSED
+    }
+
+    fn print<W: Sink>(&self, out: &mut W, page: &mut Page) -> Result<(), StreamFault> {
+        send(out, page, self.line().as_slice())
+    }
+}
+
+/// What a fault of reading the input is told as.
+pub fn input_refusal(fault: InputFault) -> Refusal
+    ensures { result ≡ input_refusal fault }
+{
+    match fault {
+        InputFault::Unreadable => Refusal::InputUnreadable,
+        InputFault::TooLong => Refusal::InputTooLong,
+        InputFault::OutOfMemory => Refusal::OutOfMemory,
+    }
+}
+
+/// What a fault of reading a script is told as.
+pub fn script_refusal(fault: ScriptFault) -> Refusal
+    ensures { result ≡ script_refusal fault }
+{
+    match fault {
+        ScriptFault::Refused { fault, line } => Refusal::Script { fault, line },
+        ScriptFault::OutOfMemory => Refusal::OutOfMemory,
+    }
+}
+
+/// What a fault of reading certificates is told as.
+pub fn certificate_refusal(fault: CertFault) -> Refusal
+    ensures { result ≡ certificate_refusal fault }
+{
+    match fault {
+        CertFault::BadCertificate { line } => Refusal::BadCertificate { line },
+        CertFault::OutOfMemory => Refusal::OutOfMemory,
+    }
+}
+
+/// Why a run is refused over a file, whose path ends the line and may be long.
+#[derive(Clone, Copy, Debug, PartialEq, Eq)]
+pub enum FileRefusal<'a> {
+    /// The file at the path could not be read.
+    Unreadable(&'a [u8]),
+    /// The file at the path could not be written.
+    Unwritable(&'a [u8]),
+}
+
+impl<'a> FileRefusal<'a> {
+    /// The number of the refusal.
+    pub fn number(&self) -> u32
+        ensures { result ≡ file_number_of self.now }
+    {
+        match self {
+            FileRefusal::Unreadable(_) => 71,
+            FileRefusal::Unwritable(_) => 72,
+        }
+    }
+
+    /// The name of the refusal.
+    fn name(&self) -> &'static str
+        ensures name { result.now ≡ file_name_of self.now }
+        ensures short { length result.now ≤ 16 }
+    {
+        match self {
+            FileRefusal::Unreadable(_) => "FileUnreadable",
+            FileRefusal::Unwritable(_) => "FileUnwritable",
+        }
+    }
+
+    /// The path of the file.
+    fn path(&self) -> &'a [u8]
+        ensures { result.now ≡ path_of self.now }
+    {
+        match self {
+            FileRefusal::Unreadable(path) | FileRefusal::Unwritable(path) => path,
+        }
+    }
+
+    /// What the line of the refusal begins with.
+    fn start(&self) -> Line
+        ensures { result.items ≡ file_refusal_start (file_number_of self.now) (file_name_of self.now) }
+    {
+        let mut line = refused_line(self.number(), self.name());
+        push_text(&mut line, b" ");
+        line
+    }
+}
+
+impl<'a> Reply for FileRefusal<'a> {
+    ghost answer = { λ refusal. answer_refused (file_refusal_text refusal) };
+
+    fn status(&self) -> u8 {
+        REFUSED
+    }
+
+    fn print<W: Sink>(&self, out: &mut W, page: &mut Page) -> Result<(), StreamFault> {
+        send(out, page, self.start().as_slice())?;
+        print_name_end(out, page, self.path())
+    }
+}
+
+/// Prints a name, and ends its line.
+pub fn print_name_end<W: Sink>(out: &mut W, page: &mut Page, name: &[u8]) -> Result<(), StreamFault>
+    ensures { Sends result (W.stream out.old) (W.stream out.new) page.old.items page.new.items (name_end name.now) }
+{
+    print_name(out, page, name)?;
+    send(out, page, b"\n")
+}

@@ -1,0 +1,214 @@
+ghost use Rattle.std.specs.Prelude.{◌≡◌, IfOk, length, true};
+ghost use Rattle.pef_ports.specs.Sent.{Sends};
+ghost use Rattle.pef_reloc.specs.Fixups.{fixups_fit};
+ghost use Rattle.pef_tool.specs.Answers.Answers.{Answer, IsDelivered};
+ghost use Rattle.pef_tool.specs.Check.{AreVerdicts, CheckAnswers, IsVerdict, Judges, are_numbered, judged_answer, match_sections, verdict_text, verdicts_status, verdicts_text};
+ghost use Rattle.pef_tool.specs.Kept.Judged.{JudgesRead, JudgesScript};
+ghost use Rattle.pef_words.specs.Refusals.{result_map};
+
+use crate::answers::{
+    DONE, FileRefusal, REFUSED, Refusal, Reply, certificate_refusal, deliver, script_refusal,
+};
+use pef_cert::{Certificate, check};
+use pef_ports::{FileFault, Files, Line, Page, Sink, StreamFault, push_number, push_text, send};
+use pef_reloc::Fixup;
+use pef_script::Script;
+use std::alloc::{AllocFailed, Global};
+
+/// What is said of a section's certificate.
+#[derive(Clone, Copy, Debug, PartialEq, Eq)]
+pub enum Verdict {
+    /// It is valid for the section's fixups; its program has so many halfwords.
+    Yes { halfwords: u64 },
+    /// It isn't valid for them.
+    No,
+}
+
+/// What is said of the certificate of each section, in order.
+#[derive(Drop)]
+struct Verdicts {
+    verdicts: Vec<Verdict>,
+}
+
+/// Checks the certificates at the path `cert` for the sections of the script at another.
+///
+/// Both files are read before the text of either is looked at.
+pub fn check_files<F: Files, W: Sink>(
+    alloc: Global,
+    files: &mut F,
+    script: &[u8],
+    cert: &[u8],
+    out: &mut W,
+) -> u8
+    ensures { (answer : Answer)
+        × CheckAnswers (record { state = F.state; was_read = F.was_read; was_written = F.was_written }) files.old files.new script.now cert.now answer
+        × IsDelivered (W.stream out.old) (W.stream out.new) answer result }
+{
+    let text = match files.read(alloc, script) {
+        Ok(text) => text,
+        Err(FileFault::Failed) => return deliver(out, &FileRefusal::Unreadable(script)),
+        Err(FileFault::OutOfMemory) => return deliver(out, &Refusal::OutOfMemory),
+    };
+    let certificates = match files.read(alloc, cert) {
+        Ok(certificates) => certificates,
+        Err(FileFault::Failed) => return deliver(out, &FileRefusal::Unreadable(cert)),
+        Err(FileFault::OutOfMemory) => return deliver(out, &Refusal::OutOfMemory),
+    };
+    match check_texts(alloc, text.as_slice(), certificates.as_slice()) {
+        Ok(verdicts) => deliver(out, &verdicts),
+        Err(refusal) => deliver(out, &refusal),
+    }
+}
+
+/// Checks the certificates of a text for the sections of a script's text.
+fn check_texts(alloc: Global, script: &[u8], certificates: &[u8]) -> Result<Verdicts, Refusal>
+    ensures { Judges (record { script = script.now; certificates = certificates.now }) (result_map (λ v. v.verdicts.items) result) }
+{
+    match Script::read(alloc, script) {
+        Ok(script) => check_certificates(alloc, &script, certificates),
+        Err(fault) => Err(script_refusal(fault)),
+    }
+}
+
+/// Checks the certificates of a text for the sections of a script.
+fn check_certificates(
+    alloc: Global,
+    script: &Script<'_>,
+    certificates: &[u8],
+) -> Result<Verdicts, Refusal>
+    ensures { JudgesScript script.now certificates.now (result_map (λ v. v.verdicts.items) result) }
+{
+    match Certificate::read(alloc, certificates) {
+        Ok(certificates) => judge(alloc, script, certificates.as_slice()),
+        Err(fault) => Err(certificate_refusal(fault)),
+    }
+}
+
+/// Judges certificates for the sections of a script.
+fn judge(
+    alloc: Global,
+    script: &Script<'_>,
+    certificates: &[Certificate],
+) -> Result<Verdicts, Refusal>
+    ensures { JudgesRead script.now certificates.now (result_map (λ v. v.verdicts.items) result) }
+{
+    if !match_sections(script, certificates) {
+        return Err(Refusal::SectionsDiffer);
+    }
+    match check_sections(alloc, script, certificates) {
+        Ok(verdicts) => Ok(Verdicts { verdicts }),
+        Err(_) => Err(Refusal::OutOfMemory),
+    }
+}
+
+/// Whether there is a certificate for each section of the script, in order, and no other.
+fn match_sections(script: &Script<'_>, certificates: &[Certificate]) -> bool
+    ensures { result ≡ match_sections script.now certificates.now }
+{
+    certificates.len() == script.sections() && are_numbered(certificates)
+}
+
+/// Whether certificates are for sections numbered from 0.
+fn are_numbered(certificates: &[Certificate]) -> bool
+    ensures { result ≡ are_numbered 0 certificates.now }
+{
+    for (k, certificate) in certificates.iter().enumerate() {
+        if certificate.section as usize != k {
+            return false;
+        }
+    }
+    true
+}
+
+/// Checks the certificates of the sections, one for each.
+fn check_sections(
+    alloc: Global,
+    script: &Script<'_>,
+    certificates: &[Certificate],
+) -> Result<Vec<Verdict>, AllocFailed<Verdict>>
+    requires { length certificates.now ≡ length script.now.sections }
+    ensures { IfOk result (λ verdicts. AreVerdicts script.now.sections certificates.now verdicts.items) }
+{
+    let mut verdicts = Vec::new(alloc);
+    for (k, certificate) in certificates.iter().enumerate() {
+        let Some(fixups) = script.fixups(k) else {
+            unreachable!()
+        };
+        verdicts.push(verdict_on(fixups, certificate))?;
+    }
+    Ok(verdicts)
+}
+
+/// What is said of a certificate for some fixups.
+fn verdict_on(fixups: &[Fixup], certificate: &Certificate) -> Verdict
+    requires { fixups_fit fixups.now ≡ true }
+    ensures { IsVerdict fixups.now certificate.now result }
+{
+    if check(fixups, certificate) {
+        Verdict::Yes {
+            halfwords: certificate.program_length(),
+        }
+    } else {
+        Verdict::No
+    }
+}
+
+impl Reply for Verdicts {
+    ghost use Rattle.std.specs.Prelude.{Ok};
+
+    ghost answer = { λ v. judged_answer (Ok v.verdicts.items) };
+
+    fn status(&self) -> u8 {
+        verdicts_status(self.verdicts.as_slice())
+    }
+
+    fn print<W: Sink>(&self, out: &mut W, page: &mut Page) -> Result<(), StreamFault> {
+        print_verdicts(out, page, self.verdicts.as_slice())
+    }
+}
+
+/// The status that verdicts end the run with.
+fn verdicts_status(verdicts: &[Verdict]) -> u8
+    ensures { result ≡ verdicts_status verdicts.now }
+{
+    for verdict in verdicts {
+        if *verdict == Verdict::No {
+            return REFUSED;
+        }
+    }
+    DONE
+}
+
+/// Prints verdicts on sections, numbered from 0.
+fn print_verdicts<W: Sink>(
+    out: &mut W,
+    page: &mut Page,
+    verdicts: &[Verdict],
+) -> Result<(), StreamFault>
+    ensures { Sends result (W.stream out.old) (W.stream out.new) page.old.items page.new.items (verdicts_text 0 verdicts.now) }
+{
+    for (k, verdict) in verdicts.iter().enumerate() {
+        let line = verdict_line(k, *verdict);
+        send(out, page, line.as_slice())?;
+    }
+    Ok(())
+}
+
+/// The line of the verdict on section k's certificate.
+#[tactic(auto, unfolding(crate::specs::Check::verdict_text))]
+fn verdict_line(k: usize, verdict: Verdict) -> Line
+    ensures { result.items ≡ verdict_text k verdict }
+{
+    let mut line = Line::new();
+    push_text(&mut line, b"section ");
+    push_number(&mut line, k as u64);
+    match verdict {
+        Verdict::Yes { halfwords } => {
+            push_text(&mut line, b" yes ");
+            push_number(&mut line, halfwords);
+            push_text(&mut line, b"\n");
+        }
+        Verdict::No => push_text(&mut line, b" no\n"),
+    }
+    line
+}

@@ -1,0 +1,52 @@
+ghost use Rattle.std.specs.Prelude.{◌≡◌, ◌+◌, ◌≤◌, ◌^◌, length};
+ghost use Rattle.pef_ports.specs.Sent.{Sends};
+ghost use Rattle.pef_tool.specs.Fragment.{entry_text, heading_text, section_text};
+
+use pef_ports::{
+    Line, Page, Sink, StreamFault, print_memory, push_number, push_text, push_word, send,
+};
+
+/// Prints a section with its number: where it begins, and its bytes.
+pub fn print_bytes<W: Sink>(
+    out: &mut W,
+    page: &mut Page,
+    i: usize,
+    address: u32,
+    bytes: &[u8],
+) -> Result<(), StreamFault>
+    requires { address + length bytes.now ≤ 2 ^ 32 }
+    ensures { Sends result (W.stream out.old) (W.stream out.new) page.old.items page.new.items (section_text i (record { address = address; bytes = bytes.now })) }
+{
+    send(out, page, heading(i, address, bytes.len()).as_slice())?;
+    print_memory(out, page, address, bytes)
+}
+
+/// The line above a section's memory.
+#[tactic(auto, unfolding(crate::specs::Fragment::heading_text))]
+fn heading(i: usize, address: u32, size: usize) -> Line
+    ensures { result.items ≡ heading_text i address size }
+{
+    let mut line = Line::new();
+    push_text(&mut line, b"section ");
+    push_number(&mut line, i as u64);
+    push_text(&mut line, b" at ");
+    push_word(&mut line, address);
+    push_text(&mut line, b" size ");
+    push_number(&mut line, size as u64);
+    push_text(&mut line, b"\n");
+    line
+}
+
+/// The line of an entry, where the entry is there.
+pub fn entry_line(label: &[u8], address: Option<u32>) -> Line
+    requires { length label.now ≤ 80 }
+    ensures { result.items ≡ entry_text label.now address }
+{
+    let mut line = Line::new();
+    if let Some(address) = address {
+        push_text(&mut line, label);
+        push_word(&mut line, address);
+        push_text(&mut line, b"\n");
+    }
+    line
+}

@@ -1,0 +1,107 @@
+ghost use Rattle.std.specs.Prelude.{◌≡◌, ◌≤◌, IfErr, IfOk, Ok, length, map};
+ghost use Rattle.pef_ports.specs.Ports.{Reads};
+ghost use Rattle.pef_tool.specs.Request.Requests.{named_path};
+ghost use Rattle.pef_tool.specs.Answers.Answers.{Answer, IsDelivered};
+ghost use Rattle.pef_tool.specs.Kept.Loading.{StopsFile, StopsReading};
+ghost use Rattle.pef_tool.specs.Limits.{most_files};
+ghost use Rattle.pef_tool.specs.Load.{LoadAnswers, WereRead, paired};
+
+use crate::answers::{FileRefusal, Refusal, Usage, deliver};
+use crate::loaded::deliver_root;
+use crate::request::NamedFile;
+use cfm_closure::{MAX_PAIRS, Store, StoreFault};
+use pef_ports::{FileFault, Files, Sink};
+use std::alloc::Global;
+
+/// Why not all files were read.
+enum ReadingFault<'a> {
+    /// The file at this path can't be read.
+    Unreadable(&'a [u8]),
+    /// A growth of memory was refused.
+    OutOfMemory,
+}
+
+/// Prepares the first of some files, whose libraries are those of them that have the names, and prints the
+/// memory of its closure.
+///
+/// All files are read, in order, before any of them is looked at.
+pub fn load_files<F: Files, W: Sink>(
+    alloc: Global,
+    files: &mut F,
+    named: &[NamedFile<'_>],
+    out: &mut W,
+) -> u8
+    ensures { (answer : Answer)
+        × LoadAnswers (record { state = F.state; was_read = F.was_read; was_written = F.was_written }) files.old files.new (map named_path named.now) answer
+        × IsDelivered (W.stream out.old) (W.stream out.new) answer result }
+{
+    if named.is_empty() || named.len() > MAX_PAIRS {
+        return deliver(out, &Usage);
+    }
+    let contents = match read_files(alloc, files, named) {
+        Ok(contents) => contents,
+        Err(ReadingFault::Unreadable(path)) => {
+            return deliver(out, &FileRefusal::Unreadable(path));
+        }
+        Err(ReadingFault::OutOfMemory) => return deliver(out, &Refusal::OutOfMemory),
+    };
+    let Ok(store) = store_of(alloc, named, contents.as_slice()) else {
+        return deliver(out, &Refusal::OutOfMemory);
+    };
+    deliver_root(alloc, store, named[0].name.as_bytes(), out)
+}
+
+/// The bytes of some files, read in order.
+fn read_files<'a, F: Files>(
+    alloc: Global,
+    files: &mut F,
+    named: &[NamedFile<'a>],
+) -> Result<Vec<Vec<u8>>, ReadingFault<'a>>
+    ensures read { IfOk result (λ contents. WereRead (record { state = F.state; was_read = F.was_read; was_written = F.was_written }) files.old files.new (map named_path named.now) (map (λ bytes. bytes.items) contents.items)) }
+    ensures refused { IfErr result (λ fault. StopsReading (record { state = F.state; was_read = F.was_read; was_written = F.was_written }) files.old files.new (map named_path named.now) fault) }
+{
+    let mut contents = Vec::new(alloc);
+    for file in named {
+        let bytes = match read_file(alloc, files, file.path.as_bytes()) {
+            Ok(bytes) => bytes,
+            Err(fault) => return Err(fault),
+        };
+        let Ok(()) = contents.push(bytes) else {
+            return Err(ReadingFault::OutOfMemory);
+        };
+    }
+    Ok(contents)
+}
+
+/// The bytes of the file at a path.
+fn read_file<'a, F: Files>(
+    alloc: Global,
+    files: &mut F,
+    path: &'a [u8],
+) -> Result<Vec<u8>, ReadingFault<'a>>
+    ensures read { IfOk result (λ bytes. Reads (record { state = F.state; was_read = F.was_read; was_written = F.was_written }) files.old files.new path.now (Ok bytes.items)) }
+    ensures refused { IfErr result (λ fault. StopsFile (record { state = F.state; was_read = F.was_read; was_written = F.was_written }) files.old files.new path.now fault) }
+{
+    match files.read(alloc, path) {
+        Ok(bytes) => Ok(bytes),
+        Err(FileFault::Failed) => Err(ReadingFault::Unreadable(path)),
+        Err(FileFault::OutOfMemory) => Err(ReadingFault::OutOfMemory),
+    }
+}
+
+/// The store of files that were read.
+fn store_of<'a>(
+    alloc: Global,
+    named: &'a [NamedFile<'_>],
+    contents: &'a [Vec<u8>],
+) -> Result<Store<'a>, StoreFault>
+    requires few { length named.now ≤ most_files }
+    requires each { length contents.now ≡ length named.now }
+    ensures { IfOk result (λ store. store ≡ paired (map named_path named.now) (map (λ bytes. bytes.items) contents.now)) }
+{
+    let mut store = Store::new(alloc);
+    for (i, file) in named.iter().enumerate() {
+        store.add(file.name.as_bytes(), contents[i].as_slice())?;
+    }
+    Ok(store)
+}

@@ -1,0 +1,286 @@
+ghost use Rattle.std.specs.Prelude.{◌≡◌, ◌<◌, ◌≤◌, ◌^◌, IfErr, IfOk, Some};
+ghost use Rattle.cfm_prepare.specs.Contexts.{fresh_state};
+ghost use Rattle.cfm_prepare.specs.Steps.{MayNotPrepare, Prepares};
+ghost use Rattle.pef_tool.specs.Answers.Answers.{IsDelivered, answer_done};
+ghost use Rattle.pef_ports.specs.Sent.{Sends};
+ghost use Rattle.pef_tool.specs.Fragment.{entry_text, sections_text};
+ghost use Rattle.pef_tool.specs.Kept.Rooted.{RootEnds, RootOutcome, root_answer};
+ghost use Rattle.pef_tool.specs.Kept.Routines.{address_in, place_of, routine_text, routines_text, word_of};
+ghost use Rattle.pef_tool.specs.Limits.{memory_limit};
+ghost use Rattle.pef_tool.specs.Loaded.{entry_label, fragment_name, fragment_text, fragments_text, init_order_in, loaded_text, order_in, sections_in};
+
+use crate::answers::{DONE, Reply, deliver, print_behind, print_name_end};
+use crate::fragment::{entry_line, print_bytes};
+use cfm_closure::Store;
+use cfm_prepare::{Connection, Context, Entries, PrepareFault};
+use pef_ports::{Page, Sink, StreamFault, send};
+use std::alloc::Global;
+
+/// Addresses of a fragment's memory end below this one.
+const MEMORY_LIMIT: u32 = 0x1000_0000;
+
+/// A connection to the fragment that was asked for, in a context of its own.
+#[derive(Drop)]
+pub struct Loaded<'a> {
+    pub context: Context<'a>,
+    pub connection: Connection,
+    ghost low: { context.memory.limit ≤ 2 ^ 32 },
+}
+
+/// Prepares the fragment of a name, in a context of its own.
+fn prepare_root<'a>(
+    alloc: Global,
+    store: Store<'a>,
+    name: &[u8],
+) -> Result<Loaded<'a>, PrepareFault<'a>>
+    ensures prepared { IfOk result (λ loaded. Prepares (fresh_state store.entry memory_limit) name.now loaded.connection.0 loaded.context) }
+    ensures refused { IfErr result (λ fault. MayNotPrepare (fresh_state store.entry memory_limit) name.now fault) }
+{
+    let mut context = Context::new(alloc, store, MEMORY_LIMIT);
+    match context.prepare(name) {
+        Ok(connection) => Ok(Loaded {
+            context,
+            connection,
+        }),
+        Err(fault) => Err(fault),
+    }
+}
+
+/// Prepares the fragment of a name, and prints the memory of its closure, or why it isn't prepared.
+pub fn deliver_root<W: Sink>(alloc: Global, store: Store<'_>, name: &[u8], out: &mut W) -> u8
+    ensures { (outcome : RootOutcome)
+        × RootEnds store.entry name.now outcome
+        × IsDelivered (W.stream out.old) (W.stream out.new) (root_answer outcome) result }
+{
+    match prepare_root(alloc, store, name) {
+        Ok(loaded) => deliver(out, &loaded),
+        Err(fault) => deliver(out, &fault),
+    }
+}
+
+impl<'a> Reply for Loaded<'a> {
+    ghost answer = { λ loaded. answer_done (loaded_text loaded.context loaded.connection.0) };
+
+    fn status(&self) -> u8 {
+        DONE
+    }
+
+    fn print<W: Sink>(&self, out: &mut W, page: &mut Page) -> Result<(), StreamFault> {
+        print_loaded(out, page, &self.context, self.connection)
+    }
+}
+
+/// A routine that a fragment may have: libraries initialize themselves first and terminate last.
+#[derive(Clone, Copy)]
+enum Routine {
+    Init,
+    Term,
+}
+
+impl Routine {
+    /// What the line of the routine begins with.
+    fn word(self) -> &'static [u8]
+        ensures { result.now ≡ word_of self }
+    {
+        match self {
+            Routine::Init => b"init ",
+            Routine::Term => b"term ",
+        }
+    }
+
+    /// Where a fragment has the routine.
+    fn address(self, entries: Entries) -> Option<u32>
+        ensures { result ≡ address_in self entries }
+    {
+        match self {
+            Routine::Init => entries.init,
+            Routine::Term => entries.term,
+        }
+    }
+
+    /// Where the fragment whose routine runs behind those of `i` others stands in the order of initialization.
+    fn place(self, i: usize, count: usize) -> usize
+        requires { i < count }
+        ensures place { result ≡ place_of self count i }
+        ensures inside { result < count }
+    {
+        match self {
+            Routine::Init => i,
+            Routine::Term => count - 1 - i,
+        }
+    }
+}
+
+/// Prints the fragments of a connection's closure with their sections, and then where they are entered.
+fn print_loaded<W: Sink>(
+    out: &mut W,
+    page: &mut Page,
+    context: &Context<'_>,
+    connection: Connection,
+) -> Result<(), StreamFault>
+    requires { context.now.memory.limit ≤ 2 ^ 32 }
+    ensures { Sends result (W.stream out.old) (W.stream out.new) page.old.items page.new.items (loaded_text context.now connection.0) }
+{
+    print_fragments(out, page, context, order_of(context, connection))?;
+    let init_order = init_order_of(context, connection);
+    print_routines(out, page, context, connection, Routine::Init, init_order)?;
+    send(
+        out,
+        page,
+        entry_line(b"main ", context.main(connection)).as_slice(),
+    )?;
+    print_routines(out, page, context, connection, Routine::Term, init_order)
+}
+
+/// The fragments of a connection in closure order.
+fn order_of<'r>(context: &'r Context<'_>, connection: Connection) -> &'r [usize]
+    ensures { result.now ≡ order_in context.now connection.0 }
+{
+    match context.fragments(connection) {
+        Some(order) => order,
+        None => &[],
+    }
+}
+
+/// The fragments of a connection in the order of their initialization.
+fn init_order_of<'r>(context: &'r Context<'_>, connection: Connection) -> &'r [usize]
+    ensures { result.now ≡ init_order_in context.now connection.0 }
+{
+    match context.init_order(connection) {
+        Some(order) => order,
+        None => &[],
+    }
+}
+
+/// The name of the fragment in a place of the store.
+fn name_of<'a>(context: &Context<'a>, position: usize) -> &'a [u8]
+    ensures { result.now ≡ fragment_name context.now position }
+{
+    match context.name(position) {
+        Some(name) => name,
+        None => b"",
+    }
+}
+
+/// Prints some fragments with their sections.
+fn print_fragments<W: Sink>(
+    out: &mut W,
+    page: &mut Page,
+    context: &Context<'_>,
+    order: &[usize],
+) -> Result<(), StreamFault>
+    requires { context.now.memory.limit ≤ 2 ^ 32 }
+    ensures { Sends result (W.stream out.old) (W.stream out.new) page.old.items page.new.items (fragments_text context.now order.now) }
+{
+    for position in order {
+        print_fragment(out, page, context, *position)?;
+    }
+    Ok(())
+}
+
+/// Prints a fragment's name and its sections.
+fn print_fragment<W: Sink>(
+    out: &mut W,
+    page: &mut Page,
+    context: &Context<'_>,
+    position: usize,
+) -> Result<(), StreamFault>
+    requires { context.now.memory.limit ≤ 2 ^ 32 }
+    ensures { Sends result (W.stream out.old) (W.stream out.new) page.old.items page.new.items (fragment_text context.now position) }
+{
+    send(out, page, b"fragment ")?;
+    print_name_end(out, page, name_of(context, position))?;
+    print_sections(out, page, context, position)
+}
+
+/// Prints a fragment's sections, numbered from 0.
+fn print_sections<W: Sink>(
+    out: &mut W,
+    page: &mut Page,
+    context: &Context<'_>,
+    position: usize,
+) -> Result<(), StreamFault>
+    requires { context.now.memory.limit ≤ 2 ^ 32 }
+    ensures { Sends result (W.stream out.old) (W.stream out.new) page.old.items page.new.items (sections_text 0 (sections_in context.now position)) }
+{
+    let count = context.section_count(position);
+    for i in 0..count {
+        let Some((address, bytes)) = context.fragment_section(position, i) else {
+            unreachable!()
+        };
+        print_bytes(out, page, i, address, bytes)?;
+    }
+    Ok(())
+}
+
+/// Prints where a routine of some fragments is entered, in the order in which they run; `order` is that of
+/// initialization.
+fn print_routines<W: Sink>(
+    out: &mut W,
+    page: &mut Page,
+    context: &Context<'_>,
+    connection: Connection,
+    routine: Routine,
+    order: &[usize],
+) -> Result<(), StreamFault>
+    ensures { Sends result (W.stream out.old) (W.stream out.new) page.old.items page.new.items (routines_text routine context.now connection.0 order.now) }
+{
+    for i in 0..order.len() {
+        let position = order[routine.place(i, order.len())];
+        print_routine(out, page, context, connection, routine, position)?;
+    }
+    Ok(())
+}
+
+/// Prints the address of a fragment's routine, where it has one.
+fn print_routine<W: Sink>(
+    out: &mut W,
+    page: &mut Page,
+    context: &Context<'_>,
+    connection: Connection,
+    routine: Routine,
+    position: usize,
+) -> Result<(), StreamFault>
+    ensures { Sends result (W.stream out.old) (W.stream out.new) page.old.items page.new.items (routine_text routine context.now connection.0 position) }
+{
+    match context.fragment_entries(connection, position) {
+        Some(entries) => print_entry(
+            out,
+            page,
+            routine.word(),
+            name_of(context, position),
+            routine.address(entries),
+        ),
+        None => Ok(()),
+    }
+}
+
+/// Prints the line of an entry, where the entry is there.
+fn print_entry<W: Sink>(
+    out: &mut W,
+    page: &mut Page,
+    word: &[u8],
+    name: &[u8],
+    address: Option<u32>,
+) -> Result<(), StreamFault>
+    ensures { Sends result (W.stream out.old) (W.stream out.new) page.old.items page.new.items (entry_text (entry_label word.now name.now) address) }
+{
+    match address {
+        Some(address) => print_address(out, page, word, name, address),
+        None => Ok(()),
+    }
+}
+
+/// Prints the line of an entry that is there: a word, the fragment's name and the address.
+fn print_address<W: Sink>(
+    out: &mut W,
+    page: &mut Page,
+    word: &[u8],
+    name: &[u8],
+    address: u32,
+) -> Result<(), StreamFault>
+    ensures { Sends result (W.stream out.old) (W.stream out.new) page.old.items page.new.items (entry_text (entry_label word.now name.now) (Some address)) }
+{
+    print_behind(out, page, word, name)?;
+    send(out, page, entry_line(b" ", Some(address)).as_slice())
+}

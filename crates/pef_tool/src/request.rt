@@ -1,0 +1,9 @@
+//! Which command the words of a command line ask for.
+
+mod command_line;
+mod files;
+mod theorems;
+
+pub use command_line::{Request, WordsFault, read_words};
+pub use files::NamedFile;
+pub use theorems::plain_words;

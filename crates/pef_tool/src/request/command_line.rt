@@ -1,0 +1,245 @@
+ghost use Rattle.std.specs.Prelude.{◌≡◌, IfOk, false, map, string_bytes};
+ghost use Rattle.clap.specs.Words.{app_of, found_of, rows_of};
+ghost use Rattle.clap.specs.declared.builder.command.Command.TheViews.{out-Command};
+ghost use Rattle.pef_tool.specs.Request.CommandLine.{asked_by, check_asked, check_command, command_asked, distances_asked, distances_command, link_asked, link_command, list_asked, list_command, load_asked, load_command, pef};
+ghost use Rattle.pef_tool.specs.Request.Kept.Commands.{HasOneMore};
+ghost use Rattle.pef_tool.specs.Request.Kept.Kinds.{fault_of_kind};
+ghost use Rattle.pef_tool.specs.Request.Requests.{AnswersWords};
+
+use crate::request::files::{NamedFile, named_files};
+use clap::error::ErrorKind;
+use clap::{Arg, ArgMatches, Command};
+use std::alloc::{AllocError, AllocFailed, Global};
+
+/// The most files of `load`.
+const MOST_FILES: usize = 256;
+
+/// What a command line asks for.
+#[derive(Debug, Drop, PartialEq, Eq)]
+pub enum Request<'a> {
+    /// Link the script on the input, prepare it, and print its memory.
+    Show,
+    /// Link the script at a path, and write the container to another.
+    Link { script: &'a str, out: &'a str },
+    /// Prepare the first of these 1 to 256 containers, whose libraries are those of them that have the names,
+    /// and print the memory.
+    Load { files: Vec<NamedFile<'a>> },
+    /// List the container at a path.
+    List { file: &'a str },
+    /// Print the certificates of the sections of the script at a path.
+    Distances { script: &'a str },
+    /// Check the certificates at a path for the sections of the script at another.
+    Check { script: &'a str, cert: &'a str },
+}
+
+/// Why a command line asks for nothing.
+#[derive(Clone, Copy, Debug, PartialEq, Eq)]
+pub enum WordsFault {
+    /// The words are no line of this program.
+    Usage,
+    /// A growth of memory was refused.
+    OutOfMemory,
+}
+
+impl From<AllocError> for WordsFault {
+    ghost use Rattle.std.specs.Prelude.{◌≡◌};
+    ghost use Rattle.pef_tool.specs.declared.request.command_line.WordsFault.TheVariants.{OutOfMemory};
+
+    ghost from_gives = { λ _ e. e ≡ OutOfMemory };
+
+    fn from(_error: AllocError) -> WordsFault {
+        WordsFault::OutOfMemory
+    }
+}
+
+impl<T: Drop> From<AllocFailed<T>> for WordsFault {
+    ghost use Rattle.std.specs.Prelude.{◌≡◌};
+    ghost use Rattle.pef_tool.specs.declared.request.command_line.WordsFault.TheVariants.{OutOfMemory};
+
+    ghost from_gives = { λ _ e. e ≡ OutOfMemory };
+
+    fn from(_error: AllocFailed<T>) -> WordsFault {
+        WordsFault::OutOfMemory
+    }
+}
+
+/// Reads the words of a command line, of which the first is the program's name.
+pub fn read_words<'a>(alloc: Global, words: &'a [String]) -> Result<Request<'a>, WordsFault>
+    ensures { AnswersWords result (asked_by (map string_bytes words.entry.now)) }
+{
+    let command = command(alloc)?;
+    let matches = match command.try_get_matches_from(words) {
+        Ok(matches) => matches,
+        Err(error) => return Err(words_fault(error.kind())),
+    };
+    match matches.subcommand() {
+        Some((name, operands)) => command_request(alloc, name, operands),
+        None => Err(WordsFault::Usage),
+    }
+}
+
+/// The program's commands.
+fn command<'a>(alloc: Global) -> Result<Command<'a>, AllocError>
+    ensures app { IfOk result (λ c. app_of c ≡ pef) }
+{
+    let with_show = Command::new(alloc, "pef")
+        .subcommand_required(true)
+        .disable_help_flag(true)
+        .disable_help_subcommand(true)
+        .subcommand(Command::new(alloc, "show"))?;
+    let with_link = with_command(with_show, link_command(alloc))?;
+    let with_list = with_command(with_link, list_command(alloc))?;
+    let with_check = with_command(with_list, check_command(alloc))?;
+    let with_load = with_command(with_check, load_command(alloc))?;
+    with_command(with_load, distances_command(alloc))
+}
+
+/// A command with one more below it, where memory was found for that one.
+fn with_command<'a>(
+    top: Command<'a>,
+    more: Result<Command<'a>, AllocError>,
+) -> Result<Command<'a>, AllocError>
+    ensures { IfOk result (HasOneMore (app_of top.entry) more.entry) }
+{
+    top.subcommand(more?)
+}
+
+/// The command `link SCRIPT OUT`.
+fn link_command<'a>(alloc: Global) -> Result<Command<'a>, AllocError>
+    ensures app { IfOk result (λ c. app_of c ≡ link_command) }
+    ensures local { IfOk result (λ c. (out-Command c).has_globals ≡ false) }
+{
+    let script = Arg::new(alloc, "SCRIPT").required(true);
+    let out = Arg::new(alloc, "OUT").required(true);
+    Command::new(alloc, "link").arg(script)?.arg(out)
+}
+
+/// The command `list FILE`.
+fn list_command<'a>(alloc: Global) -> Result<Command<'a>, AllocError>
+    ensures app { IfOk result (λ c. app_of c ≡ list_command) }
+    ensures local { IfOk result (λ c. (out-Command c).has_globals ≡ false) }
+{
+    let file = Arg::new(alloc, "FILE").required(true);
+    Command::new(alloc, "list").arg(file)
+}
+
+/// The command `check SCRIPT CERT`.
+fn check_command<'a>(alloc: Global) -> Result<Command<'a>, AllocError>
+    ensures app { IfOk result (λ c. app_of c ≡ check_command) }
+    ensures local { IfOk result (λ c. (out-Command c).has_globals ≡ false) }
+{
+    let script = Arg::new(alloc, "SCRIPT").required(true);
+    let cert = Arg::new(alloc, "CERT").required(true);
+    Command::new(alloc, "check").arg(script)?.arg(cert)
+}
+
+/// The command `load NAME=FILE ..`.
+fn load_command<'a>(alloc: Global) -> Result<Command<'a>, AllocError>
+    ensures app { IfOk result (λ c. app_of c ≡ load_command) }
+    ensures local { IfOk result (λ c. (out-Command c).has_globals ≡ false) }
+{
+    let files = Arg::new(alloc, "NAME=FILE")
+        .required(true)
+        .num_args(1..=MOST_FILES);
+    Command::new(alloc, "load").arg(files)
+}
+
+/// The command `distances SCRIPT`.
+fn distances_command<'a>(alloc: Global) -> Result<Command<'a>, AllocError>
+    ensures app { IfOk result (λ c. app_of c ≡ distances_command) }
+    ensures local { IfOk result (λ c. (out-Command c).has_globals ≡ false) }
+{
+    let script = Arg::new(alloc, "SCRIPT").required(true);
+    Command::new(alloc, "distances").arg(script)
+}
+
+/// The request of a command's name and operands.
+fn command_request<'a>(
+    alloc: Global,
+    name: &str,
+    operands: &ArgMatches<'a>,
+) -> Result<Request<'a>, WordsFault>
+    ensures { AnswersWords result (command_asked name.now (rows_of (found_of operands.now))) }
+{
+    match name {
+        "show" => Ok(Request::Show),
+        "link" => link_request(operands),
+        "list" => list_request(operands),
+        "check" => check_request(operands),
+        "load" => load_request(alloc, operands),
+        "distances" => distances_request(operands),
+        _ => Err(WordsFault::Usage),
+    }
+}
+
+/// The request of the operands of `link`.
+#[tactic(auto, using(crate::proofs::RequestProofs::LineLemmas::first_in_rows))]
+fn link_request<'a>(operands: &ArgMatches<'a>) -> Result<Request<'a>, WordsFault>
+    ensures { AnswersWords result (link_asked (rows_of (found_of operands.now))) }
+{
+    let Some(script) = operands.get_str("SCRIPT") else {
+        return Err(WordsFault::Usage);
+    };
+    let Some(out) = operands.get_str("OUT") else {
+        return Err(WordsFault::Usage);
+    };
+    Ok(Request::Link { script, out })
+}
+
+/// The request of the operands of `list`.
+#[tactic(auto, using(crate::proofs::RequestProofs::LineLemmas::first_in_rows))]
+fn list_request<'a>(operands: &ArgMatches<'a>) -> Result<Request<'a>, WordsFault>
+    ensures { AnswersWords result (list_asked (rows_of (found_of operands.now))) }
+{
+    let Some(file) = operands.get_str("FILE") else {
+        return Err(WordsFault::Usage);
+    };
+    Ok(Request::List { file })
+}
+
+/// The request of the operands of `check`.
+#[tactic(auto, using(crate::proofs::RequestProofs::LineLemmas::first_in_rows))]
+fn check_request<'a>(operands: &ArgMatches<'a>) -> Result<Request<'a>, WordsFault>
+    ensures { AnswersWords result (check_asked (rows_of (found_of operands.now))) }
+{
+    let Some(script) = operands.get_str("SCRIPT") else {
+        return Err(WordsFault::Usage);
+    };
+    let Some(cert) = operands.get_str("CERT") else {
+        return Err(WordsFault::Usage);
+    };
+    Ok(Request::Check { script, cert })
+}
+
+/// The request of the operands of `load`.
+#[tactic(auto, using(crate::proofs::RequestProofs::LineLemmas::all_in_rows))]
+fn load_request<'a>(alloc: Global, operands: &ArgMatches<'a>) -> Result<Request<'a>, WordsFault>
+    ensures { AnswersWords result (load_asked (rows_of (found_of operands.now))) }
+{
+    let Some(words) = operands.get_strs("NAME=FILE") else {
+        return Err(WordsFault::Usage);
+    };
+    let files = named_files(alloc, words)?;
+    Ok(Request::Load { files })
+}
+
+/// The request of the operands of `distances`.
+#[tactic(auto, using(crate::proofs::RequestProofs::LineLemmas::first_in_rows))]
+fn distances_request<'a>(operands: &ArgMatches<'a>) -> Result<Request<'a>, WordsFault>
+    ensures { AnswersWords result (distances_asked (rows_of (found_of operands.now))) }
+{
+    let Some(script) = operands.get_str("SCRIPT") else {
+        return Err(WordsFault::Usage);
+    };
+    Ok(Request::Distances { script })
+}
+
+/// Why `clap` refused a line.
+fn words_fault(kind: ErrorKind) -> WordsFault
+    ensures { result ≡ fault_of_kind kind }
+{
+    match kind {
+        ErrorKind::OutOfMemory => WordsFault::OutOfMemory,
+        _ => WordsFault::Usage,
+    }
+}

@@ -1,0 +1,45 @@
+//! The files that the words of a command name.
+ghost use Rattle.std.specs.Prelude.{◌≡◌, map, option_map};
+ghost use Rattle.pef_tool.specs.Request.Files.{named_file as file_of_word, named_files as files_of_words};
+ghost use Rattle.pef_tool.specs.Request.Kept.Files.{AnswersFiles};
+ghost use Rattle.pef_tool.specs.Request.Requests.{named_path};
+
+use crate::request::command_line::WordsFault;
+use std::alloc::Global;
+
+/// A file, and the name by which a command speaks of it.
+#[derive(Clone, Copy, Debug, PartialEq, Eq)]
+pub struct NamedFile<'a> {
+    /// The name, which isn't empty.
+    pub name: &'a str,
+    /// Where the file lies.
+    pub path: &'a str,
+}
+
+/// The files that words `NAME=FILE` name, in order.
+pub(crate) fn named_files<'a>(
+    alloc: Global,
+    words: &[&'a str],
+) -> Result<Vec<NamedFile<'a>>, WordsFault>
+    ensures { AnswersFiles result (files_of_words (map (λ w. w.now) words.now)) }
+{
+    let mut files = Vec::with_capacity(alloc, words.len())?;
+    for &word in words {
+        let Some(file) = named_file(word) else {
+            return Err(WordsFault::Usage);
+        };
+        files.push(file)?;
+    }
+    Ok(files)
+}
+
+/// The file that a word `NAME=FILE` names: its name ends before the first `=`, and isn't empty.
+fn named_file<'a>(word: &'a str) -> Option<NamedFile<'a>>
+    ensures { option_map named_path result ≡ file_of_word word.now }
+{
+    let (name, path) = word.split_once('=')?;
+    if name.is_empty() {
+        return None;
+    }
+    Some(NamedFile { name, path })
+}

@@ -1,0 +1,68 @@
+ghost use Rattle.std.specs.Prelude.{◌≡◌, IfOk};
+ghost use Rattle.pef_tool.specs.Answers.Answers.{Answer, IsDelivered};
+ghost use Rattle.pef_script.specs.Script.{DescribedScript};
+ghost use Rattle.pef_write.specs.Linked.{IsLinked};
+ghost use Rattle.pef_tool.specs.Kept.Showing.{ScriptEnds};
+ghost use Rattle.pef_tool.specs.Show.{ShowAnswers, ShowOutcome, it_alone, show_answer};
+
+use crate::answers::{Refusal, deliver, input_refusal, script_refusal};
+use crate::loaded::deliver_root;
+use cfm_closure::{Store, StoreFault};
+use pef_ports::{Sink, Source, read_input};
+use pef_script::Script;
+use pef_write::{Linked, link};
+use std::alloc::Global;
+
+/// How many bytes of an input are read.
+const INPUT_LIMIT: usize = 536_870_912;
+
+/// Links the script on the input, prepares it alone, and shows its memory.
+pub fn show_input<R: Source, W: Sink>(alloc: Global, input: &mut R, out: &mut W) -> u8
+    ensures { (answer : Answer)
+        × ShowAnswers (R.stream input.old) (R.stream input.new) answer
+        × IsDelivered (W.stream out.old) (W.stream out.new) answer result }
+{
+    let text = match read_input(alloc, input, INPUT_LIMIT) {
+        Ok(text) => text,
+        Err(fault) => return deliver(out, &input_refusal(fault)),
+    };
+    match Script::read(alloc, text.as_slice()) {
+        Ok(script) => show_script(alloc, &script, out),
+        Err(fault) => deliver(out, &script_refusal(fault)),
+    }
+}
+
+/// Links a script, and shows its container.
+fn show_script<W: Sink>(alloc: Global, script: &Script<'_>, out: &mut W) -> u8
+    ensures { (outcome : ShowOutcome)
+        × ScriptEnds script.now outcome
+        × IsDelivered (W.stream out.old) (W.stream out.new) (show_answer outcome) result }
+{
+    match link(alloc, script) {
+        Ok(linked) => show_linked(alloc, &linked, out),
+        Err(_) => deliver(out, &Refusal::OutOfMemory),
+    }
+}
+
+/// Prepares a linked container alone under the name `it`, and shows it. It may have no closure, and its sections may
+/// find no room. Of the other faults of preparation only want of memory can come: packed images expand, and the
+/// relocation programs are sound.
+fn show_linked<W: Sink>(alloc: Global, linked: &Linked, out: &mut W) -> u8
+    ensures { (script : DescribedScript) → IsLinked script linked.now → (outcome : ShowOutcome)
+        × ScriptEnds script outcome
+        × IsDelivered (W.stream out.old) (W.stream out.new) (show_answer outcome) result }
+{
+    let Ok(store) = it_alone(alloc, linked.bytes()) else {
+        return deliver(out, &Refusal::OutOfMemory);
+    };
+    deliver_root(alloc, store, b"it", out)
+}
+
+/// The store of the fragment `it` and no other.
+fn it_alone<'a>(alloc: Global, bytes: &'a [u8]) -> Result<Store<'a>, StoreFault>
+    ensures { IfOk result (λ store. store ≡ it_alone bytes.now) }
+{
+    let mut store = Store::new(alloc);
+    store.add(b"it", bytes)?;
+    Ok(store)
+}

@@ -1,7 +1,0 @@
-use Rattle.std.proofs.Common.{◌≡◌, drop}
-use Rattle.pef_verdicts.specs.Check.{verdicts_status}
-use Rattle.pef_verdicts.proofs.check.verdicts_status.Given as goal
-
--- those that are left decide
-abbrev pub invariant-loop-verdict : goal.invariant-loop-verdict
-invariant-loop-verdict l = verdicts_status (drop l.verdict-index l.verdicts) ≡ verdicts_status l.verdicts
