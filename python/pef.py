@@ -1,0 +1,589 @@
+"""PEF containers, the executables of the classic Mac OS on PowerPC: linked, listed, read and prepared by libpef.
+
+    import pef
+
+    container = pef.link(open("tools.pefscript").read())
+    tools = pef.Container(container)
+    print(tools.libraries, tools.exports)
+
+    with pef.Context() as context:
+        context.add("Tools", container)
+        connection = context.prepare("Tools")
+        for fragment in connection.fragments:
+            for section in fragment.sections:
+                print(fragment.name, hex(section.address), section.contents)
+
+This module needs the shared library of tools/build-library and nothing else. It looks for the file that the environment's
+PEF_LIBRARY names, then for out/libpef.so beside this folder, then for an installed libpef.so.0.
+
+Names of fragments, libraries and symbols are `str`. In a container they are bytes, and here each byte is the character that it
+is in Mac Roman, so nothing is lost. Where a name is asked for, `bytes` are taken too.
+
+A refusal is a PefError, with the number and the name of docs/REFUSALS.md.
+"""
+from __future__ import annotations
+
+import ctypes
+import ctypes.util
+import dataclasses
+import functools
+import os
+import pathlib
+from typing import Any, Dict, List, Optional, Tuple, Union
+
+__all__ = [
+    "Connection",
+    "Container",
+    "Context",
+    "Entry",
+    "Export",
+    "Fragment",
+    "Header",
+    "Import",
+    "Library",
+    "PefError",
+    "PlacedSection",
+    "Section",
+    "help_of",
+    "library",
+    "link",
+    "name_of",
+]
+
+ENCODING = "mac_roman"
+OK, ROOM_TOO_SMALL, NOT_THERE = 0, 200, 201
+MAX_FRAGMENTS = 256
+
+KINDS = {0: "code", 1: "data", 2: "pattern", 3: "const", 4: "loader", 5: "debug", 6: "exec", 7: "exception", 8: "traceback"}
+SHARES = {1: "process", 4: "global", 5: "protected"}
+CLASSES = {0: "code", 1: "data", 2: "tvector", 3: "toc", 4: "glue"}
+
+#: Sections of exports that are no section: a number, and an import that is passed on.
+ABSOLUTE, REEXPORT = -2, -3
+
+Text = Union[str, bytes]
+
+
+class PefError(Exception):
+    """A refusal, or another answer of the library that isn't success.
+
+    `number` and `name` are those of docs/REFUSALS.md. `names` has what the library says beside them, by the words
+    "line", "fragment", "library" and "symbol": only those that there are.
+    """
+
+    def __init__(self, number: int, names: Optional[Dict[str, Union[int, str]]] = None):
+        self.number = number
+        self.name = name_of(number) or "Unknown"
+        self.names = names or {}
+        super().__init__(" ".join([str(number), self.name, *(f"{word} {value}" for word, value in self.names.items())]))
+
+
+# --- what C has ---
+
+
+class _Bytes(ctypes.Structure):
+    _fields_ = [("at", ctypes.c_void_p), ("length", ctypes.c_size_t)]
+
+    def value(self) -> bytes:
+        return ctypes.string_at(self.at, self.length)
+
+    def text(self) -> str:
+        return self.value().decode(ENCODING)
+
+
+def _fields(**kinds: str) -> List[Tuple[str, Any]]:
+    """Fields of a structure: for each kind of number the names, in order."""
+    return [(name, getattr(ctypes, f"c_{kind}")) for kind, names in kinds.items() for name in names.split()]
+
+
+class _Header(ctypes.Structure):
+    _fields_ = _fields(
+        uint32="date_time_stamp old_def_version old_imp_version current_version",
+        uint16="section_count instantiated_section_count",
+    )
+
+
+class _Section(ctypes.Structure):
+    _fields_ = _fields(
+        uint32="default_address total_size unpacked_size packed_size container_offset",
+        uint8="kind share alignment",
+    )
+
+
+class _Loader(ctypes.Structure):
+    _fields_ = [
+        *_fields(int32="main_section", uint32="main_offset"),
+        *_fields(int32="init_section", uint32="init_offset"),
+        *_fields(int32="term_section", uint32="term_offset"),
+        *_fields(uint32="library_count import_count relocation_count export_count"),
+    ]
+
+
+class _Library(ctypes.Structure):
+    _fields_ = [("name", _Bytes), *_fields(uint32="current_version old_imp_version import_count first_import", uint8="options")]
+
+
+class _Import(ctypes.Structure):
+    _fields_ = [("name", _Bytes), *_fields(size_t="library", uint8="symbol_class", bool="weak")]
+
+
+class _Export(ctypes.Structure):
+    _fields_ = [("name", _Bytes), *_fields(int32="section", uint32="value", uint8="symbol_class")]
+
+
+class _Context(ctypes.Structure):
+    _fields_ = _fields(void_p="handle", bool="is_open")
+
+
+class _Names(ctypes.Structure):
+    _fields_ = [("fragment", _Bytes), ("library", _Bytes), ("symbol", _Bytes)]
+
+
+class _FragmentSection(ctypes.Structure):
+    _fields_ = _fields(uint32="address", size_t="size", uint8="kind share")
+
+
+class _Entries(ctypes.Structure):
+    _fields_ = _fields(uint32="init main term", bool="has_init has_main has_term")
+
+
+# A place that isn't null, for slices of no bytes: the library is never handed a null pointer.
+_NOWHERE = ctypes.create_string_buffer(1)
+
+
+def _no_bytes() -> _Bytes:
+    return _Bytes(ctypes.addressof(_NOWHERE), 0)
+
+
+def _room(length: int):
+    return (ctypes.c_uint8 * max(1, length))()
+
+
+def _raw(text: Text) -> bytes:
+    return text if isinstance(text, bytes) else text.encode(ENCODING)
+
+
+_IN = [ctypes.c_char_p, ctypes.c_size_t]
+_ROOM = [ctypes.c_void_p, ctypes.c_size_t]
+_SIZE = [ctypes.POINTER(ctypes.c_size_t)]
+_PLACES = [ctypes.POINTER(ctypes.c_size_t), ctypes.c_size_t]
+_IN_CONTEXT = [ctypes.POINTER(_Context)]
+_OF_FRAGMENT = _IN_CONTEXT + [ctypes.c_uint32, ctypes.c_size_t]
+_CALLS = {
+    "pef_link": _IN + _ROOM + _SIZE * 2,
+    "pef_list": _IN + _ROOM + _SIZE,
+    "pef_name": [ctypes.c_uint32, ctypes.POINTER(_Bytes)],
+    "pef_help": [ctypes.c_uint32, ctypes.POINTER(_Bytes)],
+    "pef_header": _IN + [ctypes.POINTER(_Header)],
+    "pef_section": _IN + [ctypes.c_size_t, ctypes.POINTER(_Section), ctypes.POINTER(_Bytes)],
+    "pef_section_name": _IN + [ctypes.c_size_t, ctypes.POINTER(_Bytes)],
+    "pef_expand": _IN + _ROOM,
+    "pef_loader": _IN + [ctypes.POINTER(_Loader)],
+    "pef_libraries": _IN + [ctypes.c_size_t, ctypes.POINTER(_Library), ctypes.c_size_t] + _SIZE,
+    "pef_imports": _IN + [ctypes.c_size_t, ctypes.POINTER(_Import), ctypes.c_size_t] + _SIZE,
+    "pef_exports": _IN + [ctypes.c_size_t, ctypes.POINTER(_Export), ctypes.c_size_t] + _SIZE,
+    "pef_open": _IN_CONTEXT + [ctypes.c_uint32],
+    "pef_free": _IN_CONTEXT,
+    "pef_add": _IN_CONTEXT + _IN * 2,
+    "pef_prepare": _IN_CONTEXT + _IN + [ctypes.POINTER(ctypes.c_uint32), ctypes.POINTER(_Names)],
+    "pef_close": _IN_CONTEXT + [ctypes.c_uint32],
+    "pef_fragments": _IN_CONTEXT + [ctypes.c_uint32] + _PLACES + _SIZE,
+    "pef_init_order": _IN_CONTEXT + [ctypes.c_uint32] + _PLACES + _SIZE,
+    "pef_fragment_name": _IN_CONTEXT + [ctypes.c_size_t, ctypes.POINTER(_Bytes)],
+    "pef_fragment_sections": _IN_CONTEXT + [ctypes.c_size_t] + _SIZE,
+    "pef_fragment_section": _OF_FRAGMENT + [ctypes.c_size_t, ctypes.POINTER(_FragmentSection)],
+    "pef_fragment_bytes": _IN_CONTEXT + [ctypes.c_size_t] * 2 + _ROOM + _SIZE,
+    "pef_fragment_entries": _OF_FRAGMENT + [ctypes.POINTER(_Entries)],
+    "pef_fragment_symbol": _OF_FRAGMENT + _IN + [ctypes.POINTER(ctypes.c_uint32)],
+}
+
+
+@functools.lru_cache(maxsize=None)
+def library() -> ctypes.CDLL:
+    """The shared library, which is loaded by the first call of any kind. An OSError says where it was looked for."""
+    built = pathlib.Path(__file__).resolve().parent.parent / "out" / "libpef.so"
+    named = os.environ.get("PEF_LIBRARY")
+    path = named or (str(built) if built.exists() else ctypes.util.find_library("pef"))
+    if path is None:
+        raise OSError(f"libpef isn't found: tools/build-library builds {built}, or PEF_LIBRARY names the file")
+    loaded = ctypes.CDLL(path)
+    for name, arguments in _CALLS.items():
+        if hasattr(loaded, name):  # an older library lacks some calls
+            call = getattr(loaded, name)
+            call.argtypes, call.restype = arguments, None if name == "pef_free" else ctypes.c_uint32
+    return loaded
+
+
+def _check(answer: int, **names) -> None:
+    if answer != OK:
+        raise PefError(answer, {word: value for word, value in names.items() if value})
+
+
+def name_of(number: int) -> Optional[str]:
+    """The name of a number that a call gave, as "BadTag"; None if nothing has the number."""
+    name = _no_bytes()
+    return name.text() if library().pef_name(number, ctypes.byref(name)) == OK else None
+
+
+def help_of(number: int) -> Optional[str]:
+    """A sentence or two on a number that a call gave: what it means, and what to do."""
+    text = _no_bytes()
+    return text.text() if library().pef_help(number, ctypes.byref(text)) == OK else None
+
+
+# --- linking ---
+
+
+def link(script: Text) -> bytes:
+    """The container of a script (docs/SCRIPTS.md). A refusal's `names` has the line.
+
+    Raises PefError: 41 to 49, or 99.
+    """
+    text, length = _raw(script), 4096
+    while True:
+        room, written, line = _room(length), ctypes.c_size_t(), ctypes.c_size_t()
+        answer = library().pef_link(text, len(text), room, length, ctypes.byref(written), ctypes.byref(line))
+        if answer != ROOM_TOO_SMALL:
+            _check(answer, line=line.value)
+            return ctypes.string_at(room, written.value)
+        length = written.value
+
+
+# --- containers ---
+
+
+@dataclasses.dataclass(frozen=True)
+class Header:
+    """A container's header. The date is in seconds since the first of January 1904."""
+
+    date: int
+    current_version: int
+    old_def_version: int
+    old_imp_version: int
+    section_count: int
+    instantiated_section_count: int
+
+
+@dataclasses.dataclass(frozen=True)
+class Section:
+    """A section's header and raw bytes. `kind` and `share` are numbers, with names in KINDS and SHARES."""
+
+    number: int
+    name: Optional[str]
+    kind: int
+    share: int
+    alignment: int
+    default_address: int
+    total_size: int
+    unpacked_size: int
+    container_offset: int
+    raw: bytes = dataclasses.field(repr=False)
+    instantiated: bool = True
+
+    @property
+    def kind_name(self) -> str:
+        return KINDS.get(self.kind, str(self.kind))
+
+
+@dataclasses.dataclass(frozen=True)
+class Library:
+    """An imported library: the fragment it names, and the versions that fit."""
+
+    name: str
+    current_version: int
+    old_imp_version: int
+    weak: bool
+    init_before: bool
+
+
+@dataclasses.dataclass(frozen=True)
+class Import:
+    """An imported symbol. `library` is the library's name; a weak symbol may be missing."""
+
+    name: str
+    library: str
+    symbol_class: int
+    weak: bool
+
+
+@dataclasses.dataclass(frozen=True)
+class Export:
+    """An exported symbol.
+
+    `value` is an offset in the section, a number if `section` is ABSOLUTE, or the number of an import if it is REEXPORT.
+    """
+
+    name: str
+    section: int
+    value: int
+    symbol_class: int
+
+
+@dataclasses.dataclass(frozen=True)
+class Entry:
+    """An entry point: a place in a section."""
+
+    section: int
+    offset: int
+
+
+class Container:
+    """A container, read from its bytes. Making one raises PefError if the bytes are refused (1 to 20)."""
+
+    def __init__(self, contents: bytes):
+        self.contents = bytes(contents)
+        self._bytes = (self.contents, len(self.contents))
+        row = _Header()
+        _check(library().pef_header(*self._bytes, ctypes.byref(row)))
+        #: The container's header.
+        self.header = Header(
+            row.date_time_stamp,
+            row.current_version,
+            row.old_def_version,
+            row.old_imp_version,
+            row.section_count,
+            row.instantiated_section_count,
+        )
+        self._loader = _Loader()
+        _check(library().pef_loader(*self._bytes, ctypes.byref(self._loader)))
+
+    @functools.cached_property
+    def sections(self) -> List[Section]:
+        """All sections, by their numbers."""
+        return [self._section(number) for number in range(self.header.section_count)]
+
+    def _section(self, number: int) -> Section:
+        row, raw, name = _Section(), _no_bytes(), _no_bytes()
+        _check(library().pef_section(*self._bytes, number, ctypes.byref(row), ctypes.byref(raw)))
+        answer = library().pef_section_name(*self._bytes, number, ctypes.byref(name))
+        if answer != NOT_THERE:
+            _check(answer)
+        return Section(
+            number,
+            name.text() if answer == OK else None,
+            row.kind,
+            row.share,
+            row.alignment,
+            row.default_address,
+            row.total_size,
+            row.unpacked_size,
+            row.container_offset,
+            raw.value(),
+            number < self.header.instantiated_section_count,
+        )
+
+    def expand(self, section: Section) -> bytes:
+        """The image of a section, before it is relocated: its raw bytes, or what packed ones expand to.
+
+        Zeros follow it in memory, up to total_size. Raises PefError: 21 to 25.
+        """
+        if section.kind != 2:
+            return section.raw[: section.unpacked_size]
+        room = _room(section.unpacked_size)
+        _check(library().pef_expand(section.raw, len(section.raw), room, section.unpacked_size))
+        return ctypes.string_at(room, section.unpacked_size)
+
+    def _rows(self, call: str, row, count: int) -> list:
+        rows, found = (row * max(1, count))(), ctypes.c_size_t()
+        for it in rows:
+            it.name = _no_bytes()
+        _check(getattr(library(), call)(*self._bytes, 0, rows, count, ctypes.byref(found)))
+        return list(rows[: found.value])
+
+    @functools.cached_property
+    def libraries(self) -> List[Library]:
+        """The libraries that the fragment imports from."""
+        rows = self._rows("pef_libraries", _Library, self._loader.library_count)
+        return [Library(it.name.text(), it.current_version, it.old_imp_version, bool(it.options & 0x40), bool(it.options & 0x80)) for it in rows]
+
+    @functools.cached_property
+    def imports(self) -> List[Import]:
+        """The imported symbols, by their numbers."""
+        rows = self._rows("pef_imports", _Import, self._loader.import_count)
+        return [Import(it.name.text(), self.libraries[it.library].name, it.symbol_class, it.weak) for it in rows]
+
+    @functools.cached_property
+    def exports(self) -> List[Export]:
+        """The exported symbols, in the order of the container's keys."""
+        rows = self._rows("pef_exports", _Export, self._loader.export_count)
+        return [Export(it.name.text(), it.section, it.value, it.symbol_class) for it in rows]
+
+    @functools.cached_property
+    def entries(self) -> Dict[str, Entry]:
+        """The entry points that there are, by "main", "init" and "term"."""
+        found = {}
+        for name in ("main", "init", "term"):
+            section = getattr(self._loader, f"{name}_section")
+            if section != -1:
+                found[name] = Entry(section, getattr(self._loader, f"{name}_offset"))
+        return found
+
+    def listing(self) -> str:
+        """The lines of `pef list`. Raises PefError: 31 to 36, for a damaged relocation program."""
+        length = 4096
+        while True:
+            room, written = _room(length), ctypes.c_size_t()
+            answer = library().pef_list(*self._bytes, room, length, ctypes.byref(written))
+            if answer != ROOM_TOO_SMALL:
+                _check(answer)
+                return ctypes.string_at(room, written.value).decode("ascii")
+            length = written.value
+
+
+# --- contexts ---
+
+
+@dataclasses.dataclass(frozen=True)
+class PlacedSection:
+    """A section in memory: where it is, and its bytes right after relocation."""
+
+    number: int
+    address: int
+    kind: int
+    share: int
+    contents: bytes = dataclasses.field(repr=False)
+
+
+#: The names and containers that a context was given: the library keeps them until the program ends.
+_KEPT: Dict[bytes, bytes] = {}
+
+
+def _keep(contents: bytes) -> bytes:
+    return _KEPT.setdefault(contents, contents)
+
+
+class Fragment:
+    """A fragment of a connection's closure. What is read of it after the connection is closed raises PefError."""
+
+    def __init__(self, connection: "Connection", number: int):
+        self.connection = connection
+        #: The number of the fragment in its context, counted from 0 in the order in which fragments were added.
+        self.number = number
+
+    @property
+    def name(self) -> str:
+        """The name that it was added with."""
+        name = _no_bytes()
+        self.connection.context._call("pef_fragment_name", self.number, ctypes.byref(name))
+        return name.text()
+
+    @property
+    def sections(self) -> List[PlacedSection]:
+        """Its sections in memory, by their numbers."""
+        count = ctypes.c_size_t()
+        self.connection.context._call("pef_fragment_sections", self.number, ctypes.byref(count))
+        return [self._section(number) for number in range(count.value)]
+
+    def _section(self, number: int) -> PlacedSection:
+        row, written = _FragmentSection(), ctypes.c_size_t()
+        self._call("pef_fragment_section", number, ctypes.byref(row))
+        room = _room(row.size)
+        self.connection.context._call("pef_fragment_bytes", self.number, number, room, row.size, ctypes.byref(written))
+        return PlacedSection(number, row.address, row.kind, row.share, ctypes.string_at(room, written.value))
+
+    @property
+    def entries(self) -> Dict[str, int]:
+        """The addresses of its entry points, by "init", "main" and "term": those that it has."""
+        row = _Entries()
+        self._call("pef_fragment_entries", ctypes.byref(row))
+        return {name: getattr(row, name) for name in ("init", "main", "term") if getattr(row, f"has_{name}")}
+
+    def symbol(self, name: Text) -> Optional[int]:
+        """The address of its first export of a name; None if there is none."""
+        raw, address = _raw(name), ctypes.c_uint32()
+        try:
+            self._call("pef_fragment_symbol", raw, len(raw), ctypes.byref(address))
+        except PefError as answer:
+            if answer.number != NOT_THERE:
+                raise
+            return None
+        return address.value
+
+    def _call(self, name: str, *words) -> None:
+        self.connection.context._call(name, self.connection.number, self.number, *words)
+
+
+class Connection:
+    """An open connection to a fragment, with its closure. It is closed at the end of a `with`, or by close()."""
+
+    def __init__(self, context: "Context", number: int):
+        self.context = context
+        self.number = number
+
+    @property
+    def fragments(self) -> List[Fragment]:
+        """The closure: libraries before the fragments that need them, as far as circles allow, and the root last."""
+        return self._fragments("pef_fragments")
+
+    @property
+    def init_order(self) -> List[Fragment]:
+        """The same fragments in the order of initialization."""
+        return self._fragments("pef_init_order")
+
+    @property
+    def root(self) -> Fragment:
+        """The fragment that was prepared."""
+        return self.fragments[-1]
+
+    def _fragments(self, call: str) -> List[Fragment]:
+        places, count = (ctypes.c_size_t * MAX_FRAGMENTS)(), ctypes.c_size_t()
+        self.context._call(call, self.number, places, MAX_FRAGMENTS, ctypes.byref(count))
+        return [Fragment(self, number) for number in places[: count.value]]
+
+    def close(self) -> None:
+        """Closes the connection. Raises PefError: 68 if it is closed already."""
+        self.context._call("pef_close", self.number)
+
+    def __enter__(self) -> "Connection":
+        return self
+
+    def __exit__(self, *_) -> None:
+        self.close()
+
+
+class Context:
+    """Fragments by name, and the memory in which they are prepared (docs/EMBEDDING.md).
+
+    No section passes `limit`. The context is freed at the end of a `with`, or by free(). It is used by one thread.
+    """
+
+    def __init__(self, limit: int = 0x10000000):
+        self._context = _Context()
+        self._call("pef_open", limit)
+
+    def _call(self, name: str, *words) -> None:
+        _check(getattr(library(), name)(ctypes.byref(self._context), *words))
+
+    def add(self, name: Text, contents: bytes) -> None:
+        """Adds a fragment. Its container is read when it is prepared, and refused then.
+
+        The name and the container stay in memory until the program ends. Raises PefError: 203 after the first connection,
+        204 for the 257th fragment, or 99.
+        """
+        raw, kept = _keep(_raw(name)), _keep(bytes(contents))
+        self._call("pef_add", raw, len(raw), kept, len(kept))
+
+    def prepare(self, name: Text) -> Connection:
+        """Opens a connection: places, fills and relocates what isn't present of a fragment and all that it needs.
+
+        Raises PefError: 1 to 39, 60 to 69, or 99. `names` has the fragment, library and symbol that a refusal is about.
+        """
+        raw, number = _raw(name), ctypes.c_uint32()
+        names = _Names(_no_bytes(), _no_bytes(), _no_bytes())
+        answer = library().pef_prepare(ctypes.byref(self._context), raw, len(raw), ctypes.byref(number), ctypes.byref(names))
+        _check(answer, fragment=names.fragment.text(), library=names.library.text(), symbol=names.symbol.text())
+        return Connection(self, number.value)
+
+    def free(self) -> None:
+        """Frees the context. What is called later raises PefError: 202."""
+        library().pef_free(ctypes.byref(self._context))
+
+    def __enter__(self) -> "Context":
+        return self
+
+    def __exit__(self, *_) -> None:
+        self.free()
+
+    def __del__(self) -> None:
+        if self._context.is_open:
+            self.free()
