@@ -1,0 +1,3 @@
+# A text beside the object that has a line of its own.
+	.text
+.f:	blr

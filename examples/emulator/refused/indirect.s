@@ -1,0 +1,6 @@
+# A function whose address another function finds out.
+	.text
+	nop
+	.globl	f
+	.type	f, @gnu_indirect_function
+f:	blr

@@ -1,0 +1,3 @@
+# A symbol that no library has.
+	.data
+	.long	0, nobody
