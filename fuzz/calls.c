@@ -1,0 +1,282 @@
+/*
+ * A driver for libFuzzer over libpef. The first byte of an input says what the rest is:
+ *
+ *     c   a container, which all calls read
+ *     s   a script: it is linked, and what is linked has to be read
+ *     q   a sequence of calls on two contexts, a few bytes each
+ *
+ * Each call has to answer PEF_OK or a number that has a name, and has to write nothing outside of what it may. The library isn't
+ * instrumented, so what is handed in ends at a page that can't be touched.
+ */
+#define _DEFAULT_SOURCE
+#include <pef.h>
+
+#include <stdio.h>
+#include <stdlib.h>
+#include <string.h>
+#include <sys/mman.h>
+
+enum { ROOM = 1 << 20, PLACES = 64, CONTAINERS = 256 };
+
+/* --- what the calls are handed --- */
+
+/* A megabyte before a page that can't be touched. */
+struct room {
+    uint8_t *end;
+};
+
+static struct room inputs, outputs, more;
+
+static void make_room(struct room *room)
+{
+    uint8_t *at = mmap(NULL, ROOM + 4096, PROT_READ | PROT_WRITE, MAP_PRIVATE | MAP_ANONYMOUS, -1, 0);
+    if (at == MAP_FAILED || mprotect(at + ROOM, 4096, PROT_NONE) != 0)
+        abort();
+    room->end = at + ROOM;
+}
+
+/* The last bytes of a room. */
+static uint8_t *take(const struct room *room, size_t length)
+{
+    if (length > ROOM)
+        abort();
+    return room->end - length;
+}
+
+static const uint8_t *put(const struct room *room, const uint8_t *bytes, size_t length)
+{
+    return memcpy(take(room, length), bytes, length);
+}
+
+/* --- what they answer --- */
+
+static void fails(const char *what, uint32_t answer)
+{
+    fprintf(stderr, "%s: %u\n", what, (unsigned)answer);
+    abort();
+}
+
+/* Whether a call did what it says. Another answer has to have a name. */
+static bool is_ok(const char *what, uint32_t answer)
+{
+    struct pef_bytes name = PEF_NO_BYTES;
+    if (answer != PEF_OK && (pef_name(answer, &name) != PEF_OK || name.length == 0))
+        fails(what, answer);
+    return answer == PEF_OK;
+}
+
+/* Whether a slice is a part of some bytes, or has none. */
+static void check_part(struct pef_bytes part, const uint8_t *bytes, size_t length)
+{
+    if (part.length != 0 && (part.at < bytes || part.length > length || part.at - bytes > (ptrdiff_t)(length - part.length)))
+        fails("a slice outside of the container", (uint32_t)part.length);
+}
+
+/* --- containers --- */
+
+static void read_section(const uint8_t *bytes, size_t length, size_t number)
+{
+    struct pef_section it = {0};
+    struct pef_bytes raw = PEF_NO_BYTES, name = PEF_NO_BYTES;
+    if (!is_ok("pef_section", pef_section(bytes, length, number, &it, &raw)))
+        return;
+    check_part(raw, bytes, length);
+    if (is_ok("pef_section_name", pef_section_name(bytes, length, number, &name)))
+        check_part(name, bytes, length);
+    if (it.kind == PEF_KIND_PACKED && it.unpacked_size <= ROOM)
+        is_ok("pef_expand", pef_expand(raw.at, raw.length, take(&outputs, it.unpacked_size), it.unpacked_size));
+}
+
+/* Reads a table of names, in parts. */
+#define READ_TABLE(call, row)                                                                                                  \
+    do {                                                                                                                       \
+        struct row places[PLACES];                                                                                             \
+        size_t from = 0, count = 0;                                                                                            \
+        do {                                                                                                                   \
+            for (size_t i = 0; i < PLACES; i++)                                                                                \
+                places[i] = (struct row){.name = PEF_NO_BYTES};                                                                \
+            if (!is_ok(#call, call(bytes, length, from, places, PLACES, &count)))                                              \
+                break;                                                                                                         \
+            for (size_t i = 0; i < count; i++)                                                                                 \
+                check_part(places[i].name, bytes, length);                                                                     \
+            from += count;                                                                                                     \
+        } while (count == PLACES && from < 1024);                                                                              \
+    } while (0)
+
+/* Lists into a room that is too small by one byte, and into one that isn't. The first stays as it is. */
+static void list(const uint8_t *bytes, size_t length)
+{
+    size_t written = 0, again = 0;
+    uint32_t answer = pef_list(bytes, length, take(&outputs, 0), 0, &written);
+    if (answer == PEF_OK || (!is_ok("pef_list", answer) && answer != PEF_ROOM_TOO_SMALL) || written > ROOM)
+        return;
+    uint8_t *room = take(&outputs, written);
+    memset(room, 0xA5, written);
+    if (pef_list(bytes, length, room, written - 1, &again) != PEF_ROOM_TOO_SMALL || again != written || room[0] != 0xA5)
+        fails("pef_list, one byte short", (uint32_t)again);
+    if (pef_list(bytes, length, room, written, &again) != PEF_OK || again != written || room[written - 1] != '\n')
+        fails("pef_list, with room", (uint32_t)again);
+}
+
+/* Reads a container by all calls. Returns whether its header and loader section are accepted. */
+static bool read_container(const uint8_t *bytes, size_t length)
+{
+    struct pef_header header = {0};
+    struct pef_loader loader = {0};
+    if (!is_ok("pef_header", pef_header(bytes, length, &header)))
+        return false;
+    for (size_t number = 0; number <= header.section_count && number < 32; number++)
+        read_section(bytes, length, number);
+    bool is_loaded = is_ok("pef_loader", pef_loader(bytes, length, &loader));
+    READ_TABLE(pef_libraries, pef_library);
+    READ_TABLE(pef_imports, pef_import);
+    READ_TABLE(pef_exports, pef_export);
+    list(bytes, length);
+    return is_loaded;
+}
+
+/* --- scripts --- */
+
+static void link_script(const uint8_t *script, size_t length)
+{
+    size_t written = 0, again = 0, line = 0;
+    uint32_t answer = pef_link(script, length, take(&outputs, 0), 0, &written, &line);
+    is_ok("pef_link", answer);
+    if ((answer >= PEF_SCRIPT_BAD_LINE && answer <= PEF_SCRIPT_BAD_KIND) != (line != 0))
+        fails("a refusal's line", answer);
+    if (answer != PEF_ROOM_TOO_SMALL || written > ROOM)
+        return;
+    uint8_t *container = take(&more, written);
+    if (pef_link(script, length, container, written, &again, &line) != PEF_OK || again != written)
+        fails("pef_link, with room", (uint32_t)again);
+    if (!read_container(container, written))
+        fails("a linked container is refused", (uint32_t)written);
+}
+
+/* --- contexts --- */
+
+/* Containers that stay until the program ends, as pef_add() asks: linked ones, and damaged copies of them. */
+static struct pef_bytes containers[CONTAINERS];
+static const char *const names[] = {"A", "B", "Tools", "Core", "Interface", "System", "it", ""};
+enum { NAMES = sizeof names / sizeof *names };
+
+static const char *const scripts[] = {
+    "library Tools 1 0 -\nimport t data strong\nlibrary B 1 0 weak\nimport b data weak\nsection a data process 4 12\n"
+    "fix a 0 import t\nfix a 4 import b\nfix a 8 section a\nexport a data a 0\nmain a 0\n",
+    "versions 1 0 0\nlibrary A 0 0 before\nimport a data weak\nsection b pattern process 4 64\nbytes b 0102030405060708\n"
+    "fix b 32 import a\nreexport b data a\ninit b 0\nterm b 8\n",
+    "versions 1 0 0\nsection t data process 4 8\nbytes t 0000002A\nexport t data t 4\n",
+    "versions 1 0 0\nlibrary Core 1 0 -\nimport n tvector strong\nsection c code global 4 8\nsection d data process 4 16\n"
+    "tvector d 0 c d\nfix d 8 import n\nreexport n tvector n\n",
+    "versions 1 0 0\nabsolute n tvector 0x40B0\n",
+    "section a data process 12 16777216\nsection b data process 12 16777216\n",
+};
+
+static void make_containers(void)
+{
+    uint32_t state = 1;
+    for (size_t i = 0; i < CONTAINERS; i++) {
+        const char *script = scripts[i % (sizeof scripts / sizeof *scripts)];
+        size_t length = 0, line = 0;
+        uint8_t *room = malloc(4096);
+        if (room == NULL || pef_link((const uint8_t *)script, strlen(script), room, 4096, &length, &line) != PEF_OK)
+            fails("a script of the driver", (uint32_t)line);
+        for (size_t damage = i / 64; damage > 0; damage--) {
+            state = state * 1664525 + 1013904223;
+            room[state % length] ^= (uint8_t)(state >> 24);
+        }
+        containers[i] = (struct pef_bytes){room, length};
+    }
+}
+
+/* Reads all that a connection has. */
+static void read_connection(struct pef_context *context, uint32_t connection)
+{
+    size_t order[PEF_MAX_FRAGMENTS], count = 0;
+    if (!is_ok("pef_fragments", pef_fragments(context, connection, order, PEF_MAX_FRAGMENTS, &count)))
+        return;
+    if (pef_init_order(context, connection, order, count, &count) != PEF_OK)
+        fails("pef_init_order", connection);
+    for (size_t i = 0; i < count; i++) {
+        struct pef_entries entries = {0};
+        struct pef_bytes name = PEF_NO_BYTES;
+        size_t sections = 0, written = 0;
+        uint32_t address = 0;
+        if (pef_fragment_entries(context, connection, order[i], &entries) != PEF_OK)
+            fails("pef_fragment_entries", (uint32_t)order[i]);
+        if (pef_fragment_name(context, order[i], &name) != PEF_OK || pef_fragment_sections(context, order[i], &sections) != PEF_OK)
+            fails("pef_fragment_name", (uint32_t)order[i]);
+        is_ok("pef_fragment_symbol", pef_fragment_symbol(context, connection, order[i], (const uint8_t *)"t", 1, &address));
+        for (size_t number = 0; number < sections; number++) {
+            struct pef_fragment_section it = {0};
+            if (pef_fragment_section(context, connection, order[i], number, &it) != PEF_OK)
+                fails("pef_fragment_section", (uint32_t)number);
+            if (it.size <= ROOM && (pef_fragment_bytes(context, order[i], number, take(&outputs, it.size), it.size, &written) != PEF_OK || written != it.size))
+                fails("pef_fragment_bytes", (uint32_t)number);
+            if (it.size != 0 && pef_fragment_bytes(context, order[i], number, take(&outputs, 0), 0, &written) != PEF_ROOM_TOO_SMALL)
+                fails("pef_fragment_bytes, without room", (uint32_t)number);
+        }
+    }
+}
+
+/* One call on a context: what it is, and two numbers for it. */
+static void call(struct pef_context *context, uint8_t what, uint8_t one, uint8_t other)
+{
+    struct pef_names told = PEF_NO_NAMES;
+    const char *name = names[one % NAMES];
+    uint32_t connection = 0;
+    switch (what % 8) {
+    case 0:
+        is_ok("pef_open", pef_open(context, other % 4 == 0 ? 0x00010000u + one * 16u : 0x10000000));
+        break;
+    case 1:
+        if (one % 8 == 0)
+            pef_free(context);
+        break;
+    case 2:
+    case 3:
+        is_ok("pef_add", pef_add(context, (const uint8_t *)name, strlen(name), containers[other].at, containers[other].length));
+        break;
+    case 4:
+    case 5:
+        if (is_ok("pef_prepare", pef_prepare(context, (const uint8_t *)name, strlen(name), &connection, &told)))
+            read_connection(context, connection);
+        break;
+    case 6:
+        is_ok("pef_close", pef_close(context, one % 16));
+        break;
+    default:
+        read_connection(context, one % 16);
+    }
+}
+
+static void call_in_sequence(const uint8_t *data, size_t size)
+{
+    struct pef_context contexts[2] = {{0}, {0}};
+    for (size_t i = 0; i + 3 <= size && i < 300; i += 3)
+        call(&contexts[data[i] >> 7], data[i], data[i + 1], data[i + 2]);
+    pef_free(&contexts[0]);
+    pef_free(&contexts[1]);
+}
+
+int LLVMFuzzerTestOneInput(const uint8_t *data, size_t size);
+
+int LLVMFuzzerTestOneInput(const uint8_t *data, size_t size)
+{
+    if (inputs.end == NULL) {
+        make_room(&inputs);
+        make_room(&outputs);
+        make_room(&more);
+        make_containers();
+    }
+    if (size == 0 || size > ROOM)
+        return 0;
+    const uint8_t *rest = put(&inputs, data + 1, size - 1);
+    if (data[0] == 's')
+        link_script(rest, size - 1);
+    else if (data[0] == 'q')
+        call_in_sequence(rest, size - 1);
+    else
+        read_container(rest, size - 1);
+    return 0;
+}
