@@ -1,5 +1,5 @@
-//! What `docs/EMBEDDING.md` shows to the author of an emulator: its lines stand in `store_of`, `load` and
-//! `prepare_app` as they stand there.
+//! What `docs/EMBEDDING.md` shows to the author of an emulator: `store_of`, `load` and `prepare_app` have its lines word
+//! for word.
 
 use cfm_closure::Store;
 use cfm_prepare::Context;
