@@ -1,4 +1,4 @@
--- What this crate offers to the proofs of others: facts of the codes, as `specs/` defines them.
+-- Facts of the codes, as `specs/` defines them, for the proofs of other crates.
 use Rattle.std.proofs.Common.{◌≡◌, ◌<◌, ◌≤◌, ℕ, negsuc, true, refl, arith}
 use Rattle.std.proofs.lemmas.Bool.{leb-true}
 use Rattle.std.proofs.lemmas.Bool.Decides.{nat_tests}

@@ -8,7 +8,7 @@ abbrev pub is_entry_section : ℤ → Bool
 is_entry_section (pos section) = true
 is_entry_section (negsuc n) = n == 0
 
--- the entry point of a section and an offset, where it is there
+-- the entry point at an offset of a section; none for a negative section
 abbrev pub entry_point : ℤ → ℕ → Option EntryPoint
 entry_point (pos section) offset = Some (record { section = section; offset = offset })
 entry_point (negsuc n) offset = None

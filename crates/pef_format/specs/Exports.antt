@@ -18,7 +18,7 @@ abbrev pub is_export_section : ℤ → Bool
 is_export_section (pos section) = true
 is_export_section (negsuc n) = n == 1 || n == 2
 
--- what an export stands for, by its section and its value
+-- what an export means, by its section and its value
 abbrev pub value_of : ℤ → ℕ → ExportValue
 value_of (pos section) value = InSection section value
 value_of (negsuc n) value = if n == 1 then Absolute value else Reexport value

@@ -21,7 +21,7 @@ kind_code Exception = 7
 kind_code Traceback = 8
 kind_code (kind.Other code) = code
 
--- the kind that a code stands for
+-- the kind with a code
 unfoldable pub kind_of : ℕ → SectionKind
 kind_of code =
     if code == 0 then Code
@@ -61,7 +61,7 @@ share_code Global = 4
 share_code Protected = 5
 share_code (share.Other code) = code
 
--- the share that a code stands for
+-- the share with a code
 unfoldable pub share_of : ℕ → Share
 share_of code = if code == 1 then Process else if code == 4 then Global else if code == 5 then Protected else share.Other code
 

@@ -16,7 +16,7 @@ class_code Toc = 3
 class_code Glue = 4
 class_code (class.Other code) = code
 
--- the class that a code stands for
+-- the class with a code
 unfoldable pub class_of : ℕ → SymbolClass
 class_of code =
     if code == 0 then Code
@@ -34,7 +34,7 @@ is_class code = nat_le code 4
 abbrev pub options_code : LibraryOptions → ℕ
 options_code o = (if o.init_before then 0x80 else 0) + (if o.weak then 0x40 else 0)
 
--- the options that a byte stands for
+-- the options in a byte
 unfoldable pub options_of : ℕ → LibraryOptions
 options_of code = record {
   init_before = not (bit_and code 0x80 == 0);

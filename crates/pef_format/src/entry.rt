@@ -13,7 +13,7 @@ pub struct EntryPoint {
 }
 
 impl EntryPoint {
-    /// Returns what two fields of a loader header stand for (such as mainSection and mainOffset of
+    /// Returns what two fields of a loader header mean (such as mainSection and mainOffset of
     /// PEFLoaderInfoHeader), or `None` for a negative section: -1, for no entry point.
     pub fn from_fields(section: i32, offset: u32) -> Option<EntryPoint>
         ensures { result ≡ entry_point section offset }
@@ -28,7 +28,8 @@ impl EntryPoint {
     }
 }
 
-/// Whether the format gives a section number to entry points: that of a section, or -1 for none.
+/// Returns whether the format gives a section number to entry points: that of a section, or -1 for
+/// none.
 pub fn is_entry_section(section: i32) -> bool
     ensures { result ≡ is_entry_section section }
 {

@@ -4,19 +4,19 @@ ghost use Rattle.pef_format.specs.Exports.{is_export_section, value_of};
 use crate::layout::{ABSOLUTE_EXPORT, REEXPORTED_IMPORT};
 use crate::symbol::SymbolClass;
 
-/// What an exported symbol stands for.
+/// What an exported symbol is.
 #[derive(Clone, Copy, Debug, PartialEq, Eq)]
 pub enum ExportValue {
     /// The address of a section plus an offset.
     InSection { section: u32, offset: u32 },
     /// A number.
     Absolute(u32),
-    /// What an import of the same container stands for.
+    /// The same as an import of the container.
     Reexport { import: u32 },
 }
 
 impl ExportValue {
-    /// Returns what the fields of an exported symbol stand for (sectionIndex and symbolValue of
+    /// Returns what the fields of an exported symbol mean (sectionIndex and symbolValue of
     /// PEFExportedSymbol). Every other negative section, which readers refuse, is taken as -3.
     pub fn from_fields(section: i32, value: u32) -> ExportValue
         ensures { result ≡ value_of section value }
@@ -32,7 +32,7 @@ impl ExportValue {
     }
 }
 
-/// Whether the format gives a section number to exports: that of a section, -2 or -3.
+/// Returns whether the format gives a section number to exports: that of a section, -2 or -3.
 pub fn is_export_section(section: i32) -> bool
     ensures { result ≡ is_export_section section }
 {
@@ -54,7 +54,7 @@ pub struct ExportView<'a> {
 impl<'a> ExportView<'a> {
     ghost use Rattle.pef_format.specs.Symbols.{class_of};
 
-    /// Returns what the symbol stands for.
+    /// Returns what the symbol means.
     pub fn value(self) -> ExportValue
         ensures { result ≡ value_of self.entry.section self.entry.value }
     {

@@ -108,7 +108,7 @@ pub const WEAK_LIBRARY: u8 = 0x40;
 
 // Numbers in place of a section.
 
-/// The section of an entry point that isn't there.
+/// The section of an entry point that doesn't exist.
 pub const NO_SECTION: i32 = -1;
 
 /// The section of an export whose value is absolute (kPEFAbsoluteExport).

@@ -33,7 +33,7 @@ pub enum SectionKind {
 }
 
 impl SectionKind {
-    /// Returns the kind that a code stands for.
+    /// Returns the kind with a code.
     #[tactic(auto, unfolding(crate::specs::Sections::kind_of))]
     pub fn from_code(code: u8) -> SectionKind
         ensures { result ≡ kind_of code }
@@ -52,7 +52,7 @@ impl SectionKind {
         }
     }
 
-    /// Returns the code that stands for a kind.
+    /// Returns the code of a kind.
     pub fn code(self) -> u8
         ensures { result ≡ kind_code self }
     {
@@ -70,7 +70,7 @@ impl SectionKind {
         }
     }
 
-    /// Whether sections of a kind may be instantiated.
+    /// Returns whether sections of a kind may be instantiated.
     pub fn is_instantiable(self) -> bool
         ensures { result ≡ is_instantiable self }
     {
@@ -88,14 +88,14 @@ impl SectionKind {
         }
     }
 
-    /// Whether the raw bytes of a section of a kind are its image packed.
+    /// Returns whether the raw bytes of a section of a kind are its image packed.
     pub fn is_packed(self) -> bool
         ensures { result ≡ is_packed self }
     {
         matches!(self, SectionKind::PatternData)
     }
 
-    /// Whether a section of a kind has imports, exports and relocations.
+    /// Returns whether a section of a kind has imports, exports and relocations.
     pub fn is_loader(self) -> bool
         ensures { result ≡ is_loader self }
     {
@@ -103,7 +103,7 @@ impl SectionKind {
     }
 }
 
-/// Who shares an instance of a section (shareKind of PEFSectionHeader).
+/// How instances of a section are shared (shareKind of PEFSectionHeader).
 #[derive(Clone, Copy, Debug, PartialEq, Eq)]
 pub enum Share {
     /// The connections of one process.
@@ -117,7 +117,7 @@ pub enum Share {
 }
 
 impl Share {
-    /// Returns the share that a code stands for.
+    /// Returns the share with a code.
     #[tactic(auto, unfolding(crate::specs::Sections::share_of))]
     pub fn from_code(code: u8) -> Share
         ensures { result ≡ share_of code }
@@ -130,7 +130,7 @@ impl Share {
         }
     }
 
-    /// Returns the code that stands for a share.
+    /// Returns the code of a share.
     pub fn code(self) -> u8
         ensures { result ≡ share_code self }
     {

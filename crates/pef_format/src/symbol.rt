@@ -22,7 +22,7 @@ pub enum SymbolClass {
 }
 
 impl SymbolClass {
-    /// Returns the class that a code stands for.
+    /// Returns the class with a code.
     #[tactic(auto, unfolding(crate::specs::Symbols::class_of))]
     pub fn from_code(code: u8) -> SymbolClass
         ensures { result ≡ class_of code }
@@ -37,7 +37,7 @@ impl SymbolClass {
         }
     }
 
-    /// Returns the code that stands for a class.
+    /// Returns the code of a class.
     pub fn code(self) -> u8
         ensures { result ≡ class_code self }
     {
@@ -62,7 +62,7 @@ pub struct LibraryOptions {
 }
 
 impl LibraryOptions {
-    /// Returns the options that a byte stands for. Its other bits mean nothing.
+    /// Returns the options in a byte. Its other bits mean nothing.
     #[tactic(auto, unfolding(crate::specs::Symbols::options_of))]
     pub fn from_code(code: u8) -> LibraryOptions
         ensures { result ≡ options_of code }
@@ -73,7 +73,7 @@ impl LibraryOptions {
         }
     }
 
-    /// Returns the byte that stands for options.
+    /// Returns the byte of some options.
     pub fn code(self) -> u8
         ensures { result ≡ options_code self }
     {

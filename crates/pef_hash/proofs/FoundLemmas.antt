@@ -1,4 +1,4 @@
--- A regular table is found to be one.
+-- The test of a table finds out whether it is regular.
 use Rattle.std.proofs.Common.{◌≡◌, ℕ, suc, zero, ◌+◌, ◌*◌, ◌/◌, ◌^◌, ◌<◌, ◌≤◌, inl, inr, List, Option, None, Some, length, drop, take, refl, sym, ap, ◌∙◌, arith}
 use Rattle.std.specs.Prelude.{IsTrue, ◌&&◌, nat_le, nat_lt, true}
 use Rattle.std.proofs.lemmas.Bool.{leb-true, le-leb, lt-ltb}
@@ -16,7 +16,7 @@ use Rattle.pef_hash.specs.Kept.Searches.{IsCountedBefore, IsEndOf, leads_to}
 use Rattle.pef_hash.proofs.RegularLemmas.{regular_ends_inside}
 use Rattle.pef_hash.proofs.Tables.{number_there, table_whole}
 
--- where there are exports, each slot is there
+-- if there are exports, each slot is there
 pub slot_there : (t : ExportTable) (s : ℕ) → IsTrue (has_table t.power t.count t.bytes) → 0 < t.count → s < 2 ^ t.power → slot_word_of t s ≡ Some (big_number 4 (drop (4 * s) t.bytes))
 unfolding slot_word_of
 slot_there t s whole some under =
@@ -24,7 +24,7 @@ slot_there t s whole some under =
     let word = number_there 4 t.bytes (4 * s) (omega arith) in
     rw (lt-ltb s (2 ^ t.power) under, word) refl
 
--- a name is no longer than its key can say
+-- a name is no longer than its key can express
 part-length : (bytes : List ℕ) (from n : ℕ) (part : List ℕ) → part_of bytes from n ≡ Some part → length part ≡ n
 unfolding part_of
 part-length bytes from n part is =
@@ -44,7 +44,7 @@ name_short t i key name key_is is small =
     let same = entry_part (entry_of t i) t.strings (key / 2 ^ 16) name read in
     omega arith
 
--- the names of one export more, and of all
+-- the length of the names of one export more, and of all
 pub names_length-next : (t : ExportTable) (i : ℕ) (name : List ℕ) → name_of t i ≡ Some name → names_length t (i + 1) ≡ names_length t i + length name
 unfolding names_length
 names_length-next t i name is =
@@ -67,7 +67,7 @@ regular_key t i name regular under is =
     let same : keyed.0 ≡ name = same_Some keyed.0 name (sym keyed.1 ∙ is) in
     rw (← same) keyed.2
 
--- and the slot of that counts it
+-- and the slot of that hash word counts it
 pub regular_counts : (t : ExportTable) (s word i key : ℕ) → IsRegular t → slot_word_of t s ≡ Some word → key_of t i ≡ Some key → slot key t.power ≡ s → IsCounted word i
 regular_counts t s word i key regular there is here = (regular.delimited s word i there).1 (record { key = key; is = is; here = here })
 
@@ -95,7 +95,7 @@ counted_behind t s word i e regular b there counted =
       | inr behind ↦ behind.1
     ]
 
--- the places of a slot that counts some begin behind an end, and end inside
+-- the places of a slot that counts some begin at or after an end, and end inside
 pub begins_behind : (t : ExportTable) (s word end : ℕ) → IsSearchable t → IsEndOf t s end → slot_word_of t s ≡ Some word → 0 < slot_count word → end ≤ slot_first word
 begins_behind t s word zero sought ends there some = omega arith
 begins_behind t s word (suc e) sought ends there some =
@@ -131,7 +131,7 @@ counts_true word i start end counted starts ends =
     let high = counted.high in
     rw (le-leb start i (omega arith), lt-ltb i end (omega arith)) refl
 
--- no export has no names
+-- the names of no exports have no bytes
 pub names_length-none : (t : ExportTable) → names_length t 0 ≡ 0
 unfolding names_length
 names_length-none t = refl

@@ -1,4 +1,4 @@
--- What is found by a name.
+-- What a search by name finds.
 use Rattle.std.proofs.Common.{◌≡◌, ◌≢◌, ℕ, ◌<◌, cond, List, Option, None, Some, false, refl, sym, ap, arith}
 use Rattle.std.proofs.lemmas.Option.{cond_some}
 use Rattle.std.proofs.lemmas.Slice.Eq.{bytes_eq-Decides}
@@ -13,14 +13,14 @@ named_here t name i is =
     let same = (bytes_eq-Decides name name).1 refl in
     rw (is, same) refl
 
--- and what is found at a place is an export of that name
+-- and the export found at a place has that name
 pub named_only : (o : Option (List ℕ)) (name : List ℕ) (i x : ℕ) → cond (option_map_or (λ found. bytes_eq found name) o false) (Some i) None ≡ Some x → (i ≡ x) × (o ≡ Some name)
 named_only None name i x is = absurd (cc)
 named_only (Some found) name i x is =
     let met = cond_some (bytes_eq found name) i x is in
     (met.1, ap Some ((bytes_eq-Decides found name).0 met.0))
 
--- what is found by a name is an export that has it, and the first
+-- a search by name finds an export with that name, and the first
 pub record IsFirstNamed (t : ExportTable) (name : List ℕ) (i : ℕ) : Type 0 where
   pub below : i < t.count
   pub named : name_of t i ≡ Some name
@@ -39,7 +39,7 @@ export_named-some t name i found =
       first = λ k before is. let none = r.before k (omega arith) (omega arith) in let here = named_here t name k is in absurd (cc);
     }
 
--- where none is found, no export has the name
+-- if none is found, no export has the name
 pub export_named-none : (t : ExportTable) (name : List ℕ) (i : ℕ) → export_named t name ≡ None → i < t.count → name_of t i ≢ Some name
 unfolding export_named
 export_named-none t name i none under is =

@@ -1,4 +1,4 @@
--- Which word stands at which place of the order, and which places a slot has.
+-- Which word is at which place of the order, and which places a slot has.
 use Rattle.std.proofs.Common.{◌≡◌, ◌≢◌, ℕ, zero, suc, ◌+◌, ◌-◌, ◌<◌, ◌≤◌, ◌⊎◌, inl, inr, List, [], ◌∷◌, length, get_or, drop, refl, sym, ◌∙◌, ap, arith, length-append, drop-cons, eq-eqb, true, false}
 use Rattle.std.specs.Prelude.{nat_eq as eqb}
 use Rattle.std.proofs.Math.ListN.{get_or-append}
@@ -20,7 +20,7 @@ pub record IsInSlot (power s from j : ℕ) (all : List ℕ) : Type 0 where
 lower : (power s from j : ℕ) (all : List ℕ) → IsInSlot power s (from + 1) j all → IsInSlot power s from j all
 lower power s from j all is = record { low = let low = is.low in omega arith; high = is.high; here = is.here }
 
--- where something is left, the end isn't reached
+-- if something is left, the end isn't reached
 below_end : (xs rest : List ℕ) (x i : ℕ) → drop i xs ≡ x ∷ rest → i < length xs
 below_end [] rest x zero is = absurd (cc)
 below_end [] rest x (suc i) is = absurd (cc)
@@ -44,7 +44,7 @@ in_slot-member power s from k all (w ∷ words) is under =
       | inr other ↦ rw other.0 (lower power s from _ all (in_slot-member power s (from + 1) k all words next (rw other.0 at under)))
     ]
 
--- where the place i of an order lies: in slot t, behind the words of the slots before it
+-- the slot of place i of an order: slot t, after the words of the slots before it
 pub record IsLocated (power s n i : ℕ) (words : List ℕ) : Type 0 where
   pub k : ℕ
   pub t : ℕ
@@ -144,7 +144,7 @@ pub record IsListed (power s from j : ℕ) (words : List ℕ) : Type 0 where
   pub under : k < length (in_slot power s from words)
   pub is : get_or (in_slot power s from words) k 0 ≡ j
 
--- what is listed further on is listed from here on too
+-- an entry listed further on is listed from here on too
 behind : (power s from j w : ℕ) (words : List ℕ) → IsListed power s (from + 1) j words → ((eqb (slot w power) s ≡ true) × (slot w power ≡ s)) ⊎ ((eqb (slot w power) s ≡ false) × (slot w power ≢ s)) → IsListed power s from j (w ∷ words)
 behind power s from j w words later (inl same) = record { k = suc later.k; under = rw same.0 (let u = later.under in omega arith); is = rw same.0 later.is }
 behind power s from j w words later (inr other) = record { k = later.k; under = rw other.0 later.under; is = rw other.0 later.is }
@@ -169,7 +169,7 @@ listed power s from j all (w ∷ words) is low high here =
           behind power s from j w words later (eqb_tells (slot w power) s))
     ]
 
--- the k-th word of slot s + m stands k places behind the words of the slots before it
+-- the k-th word of slot s + m is k places after the words of the slots before it
 pub in_slots-at : (power s n m k : ℕ) (words : List ℕ) → m < n → k < count_in power words (s + m) → get_or (in_slots power words s n) (count_before power words s m + k) 0 ≡ get_or (in_slot power (s + m) 0 words) k 0
 in_slots-at power s zero m k words under less = absurd (omega arith)
 in_slots-at power s (suc n) zero k words under less =

@@ -15,7 +15,7 @@ use Rattle.pef_hash.proofs.Places.{count_before-more, count_before-past, in_slot
 use Rattle.pef_hash.proofs.Slots.{slot_below}
 use Rattle.pef_hash.proofs.SlotLists.{length-in_slots}
 
--- a place of the order has a word, in the slot at whose words it stands
+-- a place of the order has a word, in the slot that lists it
 pub record IsPlaced (power i : ℕ) (words : List ℕ) : Type 0 where
   pub s : ℕ
   pub word : get_or (in_slots power words 0 (2 ^ power)) i 0 < length words
@@ -72,7 +72,7 @@ before-most power s words under =
     let all = length-in_slots power words in
     omega arith
 
--- a slot word counts the words of its slot, from behind those of the slots before it
+-- a slot word counts the words of its slot, beginning after those of the slots before it
 pub counts : (power s w : ℕ) (words : List ℕ) → length words < names_limit → s < 2 ^ power → w ≡ get_or (slot_words power words 0 0 (2 ^ power)) s 0
     → (slot_count w ≡ count_in power words s) × (slot_first w ≡ count_before power words 0 s)
 counts power s w words few under w_is =
@@ -98,7 +98,7 @@ counted-here power s w i words few under w_is counted =
     let p = placed power i words inside in
     (inside, p.is ∙ same_slot power words p.s s i p.low p.high low high)
 
--- and each word of the slot stands at such a place
+-- and each word of the slot is at such a place
 pub here-counted : (power s w i : ℕ) (words : List ℕ) → length words < names_limit → s < 2 ^ power → w ≡ get_or (slot_words power words 0 0 (2 ^ power)) s 0 → i < length words
     → slot (get_or words (get_or (in_slots power words 0 (2 ^ power)) i 0) 0) power ≡ s → IsCounted w i
 here-counted power s w i words few under w_is inside here =
@@ -118,12 +118,12 @@ key-is power i names under =
     let same : length (map hash_word names) ≡ length names = simp length-map in
     get_or-map (λ j. get_or (map hash_word names) j 0) (in_slots power (map hash_word names) 0 (2 ^ power)) i 0 0 (omega arith)
 
--- what a choice gives, it gives where the test is met
+-- if a choice gives a value, its test holds
 chosen : (b : Bool) (o : Option ℕ) (x : ℕ) → cond b o None ≡ Some x → b ≡ true
 chosen true o x is = refl
 chosen false o x is = absurd (cc)
 
--- a key that is there is below the count, and a slot word below the number of slots
+-- a key that exists is below the count, and a slot word below the number of slots
 pub key_inside : (t : ExportTable) (i k : ℕ) → key_of t i ≡ Some k → i < t.count
 unfolding key_of
 key_inside t i k is = ltb-true i t.count (chosen _ _ k is)

@@ -66,7 +66,7 @@ pub unkeyed : (t : ExportTable) (name : List ℕ) (word i : ℕ) (o : Option ℕ
 unkeyed t name word i o leads is key other =
     unnamed_false (name_of t i) name (λ named. other_key o word other (key ∙ (leads i name named).2 ∙ ap Some (sym is)))
 
--- no export has a name that is too long, or whose slot isn't there
+-- no export has a name that is too long, or whose slot doesn't exist
 pub long_none : (t : ExportTable) (name : List ℕ) → LeadsToAll t → 2 ^ 16 ≤ length name → export_named t name ≡ None
 unfolding export_named
 long_none t name leads long =
@@ -104,7 +104,7 @@ pub chain_named : (t : ExportTable) (name : List ℕ) (word : ℕ) → LeadsToAl
 unfolding export_named
 chain_named t name word leads is = first_in_places t name word _ leads is refl
 
--- where each key is hashed, the slots lead to all exports
+-- if each key is hashed, the slots lead to all exports
 pub hashed_leads : (t : ExportTable) → ((i : ℕ) → i < t.count → IsHashed t i) → LeadsToAll t
 hashed_leads t hashed = λ i name named.
     let h = hashed i (named_inside t name i named) in
@@ -140,7 +140,7 @@ same_slot t s word i k turn there counted p =
       | inr before ↦ absurd (let less = turn.turn (slot k t.power) s p.word word i i before.1 (slot_inside t s word there) p.is there p.counted counted in omega arith)
     ]
 
--- where slots count in turn and each key is hashed, a table is regular
+-- if slots count in turn and each key is hashed, a table is regular
 pub turn_regular : (t : ExportTable) → AreSlotsInTurn t → ((i : ℕ) → i < t.count → IsHashed t i) → IsRegular t
 turn_regular t turn hashed = record {
   keyed = λ i under. let h = hashed i under in (h.name, h.named, h.key);
@@ -186,7 +186,7 @@ pub turn_more : (t : ExportTable) (s word old : ℕ) → slot_word_of t s ≡ So
 turn_more t s word old there behind turn =
     counts_between t s word old (slot_first word + slot_count word) there (λ i counted. let low = counted.low in let high = counted.high in (omega arith, omega arith)) (omega arith) turn
 
--- at a later end the same holds
+-- the same holds at a later end
 pub turn_all : (t : ExportTable) (s end count : ℕ) → end ≤ count → AreInTurnTo t s end → AreInTurnTo t s count
 turn_all t s end count below turn = record {
   before = λ r v i less is counted. let low = turn.before r v i less is counted in omega arith;

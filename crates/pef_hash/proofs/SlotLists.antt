@@ -11,7 +11,7 @@ use Rattle.pef_hash.specs.Exports.{slot_word}
 use Rattle.pef_hash.specs.Kept.Chains.{IsChained, IsChainedFrom, first_in}
 use Rattle.pef_hash.proofs.Slots.{slot_below}
 
--- what is left behind one more item
+-- the rest after one more item
 drop_suc : (xs rest : List ℕ) (x i : ℕ) → drop i xs ≡ x ∷ rest → drop (suc i) xs ≡ rest
 drop_suc [] rest x zero is = absurd (cc)
 drop_suc [] rest x (suc i) is = absurd (cc)
@@ -21,7 +21,7 @@ drop_suc (y ∷ xs) rest x (suc i) is = drop_suc xs rest x i is
 pub drop_behind : (xs rest : List ℕ) (x i : ℕ) → drop i xs ≡ x ∷ rest → drop (i + 1) xs ≡ rest
 drop_behind xs rest x i is = rw add-one (drop_suc xs rest x i is)
 
--- the item where what is left begins
+-- the item where the rest begins
 pub at_drop : (xs rest : List ℕ) (x i : ℕ) → drop i xs ≡ x ∷ rest → get_or xs i 0 ≡ x
 at_drop [] rest x zero is = absurd (cc)
 at_drop [] rest x (suc i) is = absurd (cc)
@@ -61,13 +61,13 @@ in_slot-first power s from all (w ∷ words) is =
       | inr other ↦ rw other.0 later
     ]
 
--- a word of the slot, and those behind it
+-- a word of the slot, and those after it
 pub in_slot-here : (power s from : ℕ) (all : List ℕ) → from < length all → slot (get_or all from 0) power ≡ s → in_slot power s from (drop from all) ≡ from ∷ in_slot power s (from + 1) (drop (from + 1) all)
 in_slot-here power s from all under here =
     let left : drop from all ≡ get_or all from 0 ∷ drop (from + 1) all = rw (add-one, drop-cons all from 0) refl in
     rw (left, eq-eqb _ _ here) refl
 
--- as many words as there are in a slot, wherever they are counted from
+-- as many words as there are in a slot, from wherever they are counted
 pub length-in_slot : (power s from to : ℕ) (words : List ℕ) → length (in_slot power s from words) ≡ length (in_slot power s to words)
 length-in_slot power s from to [] = refl
 length-in_slot power s from to (w ∷ words) =
@@ -77,7 +77,7 @@ length-in_slot power s from to (w ∷ words) =
       | inr other ↦ rw other.0 later
     ]
 
--- a word is in no slot behind its own
+-- a word is in no slot after its own
 pub length-past : (power w : ℕ) (words : List ℕ) (s n : ℕ) → slot w power < s → length (in_slots power (w ∷ words) s n) ≡ length (in_slots power words s n)
 length-past power w words s zero past = refl
 length-past power w words s (suc n) past =
@@ -108,7 +108,7 @@ length-in_slots power (w ∷ words) =
     let below = slot_below w power in
     length-among power w words 0 (2 ^ power) (omega arith) (omega arith) ∙ ap suc (length-in_slots power words)
 
--- what stands before the slots that are left is no longer than all words
+-- the words before the slots that are left are no more than all words
 pub length-before : (power s : ℕ) (words order : List ℕ) → order ++ in_slots power words s (2 ^ power - s) ≡ in_slots power words 0 (2 ^ power) → length order ≤ length words
 length-before power s words order all =
     let whole = length-in_slots power words in
@@ -128,7 +128,7 @@ slot_words-next power s n first words slots all under is =
     let e : n - s ≡ suc (n - (s + 1)) = omega arith in
     rw append_assoc (rw e at is)
 
--- the order with the words of one more slot: what is left behind it, and how long it is
+-- the order with the words of one more slot: the words left after it, and its length
 pub record HasGrown (power s : ℕ) (words old new : List ℕ) : Type 0 where
   pub left : new ++ in_slots power words (s + 1) (2 ^ power - (s + 1)) ≡ in_slots power words 0 (2 ^ power)
   pub more : length new ≡ length old + length (in_slot power s 0 words)
@@ -140,7 +140,7 @@ has_grown power s words old new under left is =
     let next = rw (← is) at (in_slots-next power s (2 ^ power) words old _ under left) in
     record { left = next; more = ap length is ∙ length-append old (in_slot power s 0 words); within = length-before power (s + 1) words new next }
 
--- behind the last slot the table is laid out
+-- after the last slot the table is laid out
 pub laid_out : (power s : ℕ) (words slots keys order : List ℕ) → 2 ^ power ≤ s
     → slots ++ slot_words power words s (length order) (2 ^ power - s) ≡ slot_words power words 0 0 (2 ^ power) → keys ≡ keys_at words order
     → order ++ in_slots power words s (2 ^ power - s) ≡ in_slots power words 0 (2 ^ power)
@@ -151,7 +151,8 @@ laid_out power s words slots keys order past slots_are keys_are order_is =
     let slotted : slots ≡ slot_words power words 0 0 (2 ^ power) = rw (none, append-nil) at slots_are in
     rw (keys_are, slotted, ordered) refl
 
--- one word more, from the last to the first: it is the first of its slot, and leads to the one that was
+-- one word more, from the last to the first: it becomes the first of its slot, and leads to the
+-- previous first
 pub chained-more : (power i s head : ℕ) (words heads next : List ℕ) → i < length words → s ≡ slot (get_or words i 0) power → s < 2 ^ power → head ≡ get_or heads s head
     → IsChainedFrom (i + 1) power words heads next → IsChainedFrom i power words (set heads s i) (set next i head)
 chained-more power i s head words heads next under s_is below head_is later =
@@ -179,7 +180,7 @@ chained-more power i s head words heads next under s_is below head_is later =
       ];
     }
 
--- a place is that of a word of the slot, or behind all words
+-- a place is that of a word of the slot, or the one after all words
 pub record Leads (power s at : ℕ) (words : List ℕ) : Type 0 where
   pub here : at < length words → slot (get_or words at 0) power ≡ s
 
@@ -195,7 +196,7 @@ leads_from_head power s at words first = record { here = rw first (first_in-slot
 pub in_slot-head : (power s at : ℕ) (words : List ℕ) → at ≡ first_in power s 0 words → in_slot power s at (drop at words) ≡ in_slot power s 0 words
 in_slot-head power s at words first = rw first (sym (in_slot-first power s 0 words words refl))
 
--- what is linked to a word is the next one of its slot
+-- the link of a word leads to the next one of its slot
 pub next_of : (power s at to : ℕ) (words heads next : List ℕ) → IsChained power words heads next → at < length words → Leads power s at words → to ≡ get_or next at to → to ≡ first_in power s (at + 1) (drop (at + 1) words)
 next_of power s at to words heads next chained under leads is =
     let inside : at < length next = let n = chained.next_len in omega arith in

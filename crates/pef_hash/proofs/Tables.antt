@@ -1,4 +1,4 @@
--- Sizes in a table, and what is there.
+-- Sizes in a table, and the numbers in it.
 use Rattle.std.proofs.Common.{◌≡◌, ℕ, ◌+◌, ◌*◌, ◌^◌, ◌<◌, ◌≤◌, List, length, drop, Some, refl, arith}
 use Rattle.std.specs.Prelude.{IsTrue}
 use Rattle.std.proofs.Math.Nat.{pow-le-pow_right}
@@ -17,6 +17,6 @@ pub number_there : (n : ℕ) (bytes : List ℕ) (at : ℕ) → at + n ≤ length
 unfolding number_at
 number_there n bytes at inside = rw (le-leb (at + n) (length bytes) inside) refl
 
--- where there is an export, there is a whole table
+-- if there is an export, there is a whole table
 pub table_whole : (power count i : ℕ) (bytes : List ℕ) → IsTrue (has_table power count bytes) → i < count → 4 * 2 ^ power + 14 * count ≤ length bytes
 table_whole power count i bytes whole under = grind (arith, nat_tests)

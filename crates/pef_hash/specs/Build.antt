@@ -11,12 +11,12 @@ pub record BuiltTable : Type 0 where
   pub keys : List ℕ
   pub order : List ℕ
 
--- the names of these lengths that stand one after the other
+-- the names of these lengths, one after another
 abbrev pub names_in : List ℕ → List ℕ → List (List ℕ)
 names_in bytes [] = []
 names_in bytes (n ∷ lengths) = take n bytes ∷ names_in (drop n bytes) lengths
 
--- the places of the words in slot s, in their order, where the first word has the place `from`
+-- the places of the words in slot s, in their order, if the first word is at place `from`
 abbrev pub in_slot : ℕ → ℕ → ℕ → List ℕ → List ℕ
 in_slot power s from [] = []
 in_slot power s from (w ∷ words) =
@@ -27,7 +27,7 @@ abbrev pub in_slots : ℕ → List ℕ → ℕ → ℕ → List ℕ
 in_slots power words s zero = []
 in_slots power words s (suc n) = in_slot power s 0 words ++ in_slots power words (s + 1) n
 
--- the slot words of the n slots from slot s on, where the keys of slot s begin at key `first`
+-- the slot words of the n slots from slot s on, if the keys of slot s begin at key `first`
 abbrev pub slot_words : ℕ → List ℕ → ℕ → ℕ → ℕ → List ℕ
 slot_words power words s first zero = []
 slot_words power words s first (suc n) =

@@ -10,7 +10,8 @@ use Rattle.pef_words.specs.Refusals.{◌>>=◌, first_among}
 use Rattle.pef_hash.specs.declared.exports.Entry.{Entry}
 use Rattle.pef_hash.specs.Limits.{index_limit, most_power}
 
--- a table of 2^power slots, then count keys, then count exports, in its bytes from the first slot on, and the string table
+-- a table of 2^power slots, then count keys, then count exports, as its bytes from the first slot on, and the string
+-- table
 pub record ExportTable : Type 0 where
   pub power : ℕ
   pub count : ℕ
@@ -27,7 +28,7 @@ key_size = 4
 abbrev pub export_size : ℕ
 export_size = 10
 
--- where slot s stands, key i behind the 2^power slots, and export i behind the keys
+-- offsets: slot s, key i after the 2^power slots, and export i after the keys
 abbrev pub slot_place : ℕ → ℕ
 slot_place s = slot_size * s
 
@@ -79,11 +80,11 @@ name_of t i = do
   entry ← entry_of t i
   part_of t.strings entry.name_offset (key / 2 ^ 16)
 
--- export i has this name
+-- whether export i has this name
 abbrev pub is_named : ExportTable → List ℕ → ℕ → Bool
 is_named t name i = option_map_or (λ found. bytes_eq found name) (name_of t i) false
 
--- i, where export i has this name
+-- i, if export i has this name
 abbrev pub named_at : ExportTable → List ℕ → ℕ → Option ℕ
 named_at t name i = if is_named t name i then Some i else None
 

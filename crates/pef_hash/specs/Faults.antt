@@ -1,4 +1,4 @@
--- The one refusal of a table that is built: its number, and its name, which is its text.
+-- The one refusal of building a table: its number, and its name, which is its text.
 use Rattle.std.specs.Prelude.{ℕ, List, codes}
 use Rattle.pef_hash.specs.declared.fault.HashFault.{HashFault}
 use Rattle.pef_hash.specs.declared.fault.HashFault.TheVariants.{OutOfMemory}

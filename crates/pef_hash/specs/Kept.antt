@@ -1,3 +1,3 @@
--- What only proofs and private contracts speak of.
+-- Definitions for proofs and private contracts alone.
 pub mod Chains
 pub mod Searches

@@ -1,5 +1,5 @@
--- The limits of export tables. The code has them as constants; here they stand as plain numbers, so
--- that one checks the other.
+-- The limits of export tables. The code has them as constants. Here they are plain numbers, so that one
+-- checks the other.
 use Rattle.std.specs.Prelude.{ℕ, ◌^◌}
 
 -- a table that can be read has at most two to this power of slots (this project's own)
@@ -10,7 +10,8 @@ most_power = 30
 abbrev pub most_written_power : ℕ
 most_written_power = 16
 
--- it has fewer than this many exports a slot, rounded down, where that power allows it (this project's own)
+-- it has fewer than this many exports for each slot, rounded down, if that power allows it (this project's
+-- own)
 abbrev pub exports_a_slot : ℕ
 exports_a_slot = 10
 

@@ -18,8 +18,8 @@ pub record IsCounted (word i : ℕ) : Type 0 where
   pub low : slot_first word ≤ i
   pub high : i < slot_first word + slot_count word
 
--- each key is the hash word of its name, keys stand in order of slot, and each slot word counts exactly the keys of its slot:
--- all of them, no key of another slot, and no place without a key
+-- each key is the hash word of its name, keys are in order of slot, and each slot word counts exactly the keys of its
+-- slot: all of them, no key of another slot, and no place without a key
 pub record IsRegular (t : ExportTable) : Type 0 where
   pub keyed : (i : ℕ) → i < t.count → (name : List ℕ) × (name_of t i ≡ Some name) × (key_of t i ≡ Some (hash_word name))
   pub ordered : (i j k l : ℕ) → i < j → key_of t i ≡ Some k → key_of t j ≡ Some l → slot k t.power ≤ slot l t.power
@@ -37,7 +37,7 @@ pub record IsSearchable (t : ExportTable) : Type 0 where
   pub regular : IsRegular t
   pub within : names_length t t.count ≤ length t.strings
 
--- a table has the power, slots and keys of a built one, and the names in its order
+-- a table has the power, slots and keys of a built one, and its names in its order
 pub record Spells (t : ExportTable) (b : BuiltTable) (names : List (List ℕ)) : Type 0 where
   pub power : t.power ≡ b.power
   pub count : t.count ≡ length names

@@ -1,5 +1,5 @@
--- Hash words, slots and the power of a table (Mac OS Runtime Architectures, "PEF Structure", "Export Hash
--- Table"). That the running value is signed, and which power is taken, are this project's own.
+-- Hash words, slots and the power of a table (Mac OS Runtime Architectures, "PEF Structure", "Export Hash Table").
+-- That the running value is signed, and which power is chosen, are this project's own.
 use Rattle.std.specs.Prelude.{ℕ, zero, suc, ◌+◌, ◌-◌, ◌*◌, ◌/◌, ◌%◌, ◌^◌, ℤ, pos, List, fold, length, nat_lt, if◌then◌else◌, bit_and, bit_xor}
 use Rattle.std.specs.Int.{w32, cast_unsigned, int_bit_xor, int_shl, int_shr, int_wrapping_sub}
 use Rattle.pef_hash.specs.Limits.{exports_a_slot, most_written_power}
@@ -22,7 +22,8 @@ hash_word name =
 unfoldable pub slot : ℕ → ℕ → ℕ
 slot word power = bit_and (bit_xor word (word / 2 ^ power)) (2 ^ power - 1)
 
--- the first of the n powers from a power on with few exports a slot, and the power behind them where there is none
+-- the first of the n powers from a power on with few exports for each slot, and the power after them if there is
+-- none
 unfoldable pub least_power : ℕ → ℕ → ℕ → ℕ
 least_power count power zero = power
 least_power count power (suc n) = if nat_lt (count / 2 ^ power) exports_a_slot then power else least_power count (power + 1) n

@@ -20,7 +20,7 @@ pub struct Table {
     pub slots: Vec<u32>,
     /// The hash words in order of slot, and within a slot in the order of the names.
     pub keys: Vec<u32>,
-    /// For each key, which of the names it is of.
+    /// For each key, the index of its name.
     pub order: Vec<u32>,
 }
 
@@ -30,7 +30,7 @@ impl Model for Table {
     ghost view = { λ t. record { power = t.power; slots = t.slots.items; keys = t.keys.items; order = t.order.items } };
 }
 
-/// The table of the names that stand one after the other in `names`, with these lengths. A length
+/// Returns the table of the names that follow one another in `names`, with these lengths. A length
 /// may be 0.
 pub fn build(alloc: Global, names: &[u8], lengths: &[u8]) -> Result<Table, HashFault>
     requires whole { sum lengths.now ≡ length names.now }
@@ -42,7 +42,7 @@ pub fn build(alloc: Global, names: &[u8], lengths: &[u8]) -> Result<Table, HashF
     Ok(lay_out(alloc, &words, power)?)
 }
 
-/// The hash words of the names.
+/// Returns the hash words of the names.
 fn hash_words(alloc: Global, names: &[u8], lengths: &[u8]) -> Result<Vec<u32>, AllocError>
     requires { sum lengths.now ≡ length names.now }
     ensures { IfOk result (λ words. words.items ≡ map hash_word (names_in names.now lengths.now)) }
@@ -57,7 +57,7 @@ fn hash_words(alloc: Global, names: &[u8], lengths: &[u8]) -> Result<Vec<u32>, A
     Ok(words)
 }
 
-/// The table of these hash words.
+/// Returns the table of these hash words.
 fn lay_out(alloc: Global, words: &[u32], power: u32) -> Result<Table, AllocError>
     requires few { length words.now < names_limit }
     requires small { power ≤ most_written_power }
@@ -81,8 +81,8 @@ fn lay_out(alloc: Global, words: &[u32], power: u32) -> Result<Table, AllocError
     })
 }
 
-/// The words slot by slot: where the first word of each slot stands, and for each word where the
-/// next one of its slot does. The number of words stands for no such place.
+/// The words slot by slot: the first word of each slot, and for each word the next one of its slot.
+/// The number of words means that there is none.
 #[derive(Drop)]
 struct Chains<'a> {
     words: &'a [u32],

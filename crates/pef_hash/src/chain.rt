@@ -9,7 +9,7 @@ use crate::layout::SLOT_COUNT_SHIFT;
 use crate::word::{hash_word, slot};
 use std::ops::Range;
 
-/// The exports that a slot word counts.
+/// Returns the exports that a slot word counts.
 pub(crate) fn places_in(word: u32) -> Range<usize>
     ensures start { result.start ≡ slot_first word }
     ensures end { result.end ≡ slot_first word + slot_count word }
@@ -22,9 +22,9 @@ pub(crate) fn places_in(word: u32) -> Range<usize>
 impl<'a> Exports<'a> {
     ghost use Rattle.pef_hash.specs.Views.{table_of};
 
-    /// Whether the keys stand in order of slot, each slot delimits exactly its keys, and each key is the
-    /// hash word of its name. A yes isn't given where the names are together longer than all strings, so
-    /// that the look takes no longer than to read the bytes.
+    /// Returns whether the keys are in order of slot, each slot delimits exactly its keys, and each key
+    /// is the hash word of its name. It returns false if the names are together longer than all strings,
+    /// so that the test takes no longer than reading the bytes.
     pub(crate) fn is_regular(&self) -> bool
         ensures regular { IsTrue result → IsRegular (table_of self.now) }
         ensures found { IsSearchable (table_of self.now) → IsTrue result }
@@ -34,7 +34,7 @@ impl<'a> Exports<'a> {
         self.count > 0 && self.has_slots_in_turn() && self.has_hashed_keys()
     }
 
-    /// Whether the slots delimit exports one behind the other, and none behind the last.
+    /// Returns whether the slots delimit exports one after the other, and none after the last.
     fn has_slots_in_turn(&self) -> bool
         requires { self.now.power ≤ most_power }
         ensures turn { IsTrue result → AreSlotsInTurn (table_of self.now) }
@@ -56,7 +56,7 @@ impl<'a> Exports<'a> {
         true
     }
 
-    /// Whether each key is the hash word of its name, and its slot counts it.
+    /// Returns whether each key is the hash word of its name, and its slot counts it.
     fn has_hashed_keys(&self) -> bool
         requires { self.now.power ≤ most_power }
         ensures hashed { IsTrue result → ((i : ℕ) → i < self.now.count → IsHashed (table_of self.now) i) }
@@ -75,7 +75,7 @@ impl<'a> Exports<'a> {
         true
     }
 
-    /// Whether the key of export `i` is the hash word of its name, and its slot counts it.
+    /// Returns whether the key of export `i` is the hash word of its name, and its slot counts it.
     fn is_hashed(&self, i: usize, name: &[u8]) -> bool
         requires power { self.now.power ≤ most_power }
         requires name { name_of (table_of self.now) i ≡ Some name.now }

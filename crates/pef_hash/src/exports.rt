@@ -28,7 +28,7 @@ pub struct Entry {
     /// Where the name begins in the string table.
     pub name_offset: u32,
     pub value: u32,
-    /// The section that the value is an offset in. A negative one says that the value is none.
+    /// The section that the value is an offset in. A negative number means that the value isn't an offset.
     pub section: i32,
 }
 
@@ -53,8 +53,8 @@ pub struct Exports<'a> {
 impl<'a> Exports<'a> {
     ghost use Rattle.pef_hash.specs.Views.{table_of};
 
-    /// Whether there are no exports, or `table` begins with `2^power` slots, `count` keys and `count`
-    /// exports: what [`Exports::new`] asks for. A table has at most 2^30 slots.
+    /// Returns whether there are no exports, or `table` begins with `2^power` slots, `count` keys and
+    /// `count` exports, as [`Exports::new`] requires. A table has at most 2^30 slots.
     #[tactic(auto, using(crate::proofs::Tables::words_small))]
     pub fn has_table(power: u32, count: u32, table: &[u8]) -> bool
         ensures { result ≡ has_table power count table.now }
@@ -69,11 +69,11 @@ impl<'a> Exports<'a> {
         size <= table.len()
     }
 
-    /// The view of `count` exports in a table of `2^power` slots, whose bytes begin at `table`, with
-    /// names in `strings`.
+    /// Returns the view of `count` exports in a table of `2^power` slots, whose bytes begin at `table`,
+    /// with names in `strings`.
     ///
-    /// It looks at each slot and each key once, to learn whether the table is regular. One whose names are
-    /// together longer than `strings` isn't looked at to the end, and counts as any other table.
+    /// It reads each slot and each key once, to find out whether the table is regular. If the names are
+    /// together longer than `strings`, it doesn't read all of them, and treats the table as not regular.
     pub fn new(power: u32, count: u32, table: &'a [u8], strings: &'a [u8]) -> Exports<'a>
         requires { IsTrue (has_table power count table.now) }
         ensures table { table_of result ≡ record { power = power; count = count; bytes = table.entry.now; strings = strings.entry.now } }
@@ -96,7 +96,7 @@ impl<'a> Exports<'a> {
         }
     }
 
-    /// The hash word that the table has for export `i`, or `None` where there is no such export.
+    /// Returns the hash word that the table has for export `i`, or `None` if there is no such export.
     #[tactic(auto, unfolding(crate::specs::Exports::key_of))]
     pub(crate) fn key(&self, i: usize) -> Option<u32>
         ensures { result ≡ key_of (table_of self.now) i }
@@ -107,7 +107,7 @@ impl<'a> Exports<'a> {
         Cut::new(self.table).u32_at(key_place(self.power, i))
     }
 
-    /// Slot word `s`, or `None` where there is no such slot or it passes the end.
+    /// Returns slot word `s`, or `None` if there is no such slot or it passes the end.
     #[tactic(auto, unfolding(crate::specs::Exports::slot_word_of))]
     pub(crate) fn slot_word(&self, s: usize) -> Option<u32>
         requires { self.now.power ≤ most_power }
@@ -119,7 +119,7 @@ impl<'a> Exports<'a> {
         Cut::new(self.table).u32_at(SLOT_SIZE * s)
     }
 
-    /// Export `i` without its name, or `None` where there is no such export.
+    /// Returns export `i` without its name, or `None` if there is no such export.
     #[tactic(auto, unfolding(crate::specs::Exports::entry_of))]
     pub fn entry(&self, i: usize) -> Option<Entry>
         ensures { result ≡ entry_of (table_of self.now) i }
@@ -133,7 +133,7 @@ impl<'a> Exports<'a> {
         )
     }
 
-    /// The name of export `i`, or `None` where there is no such export or its name passes the end of
+    /// Returns the name of export `i`, or `None` if there is no such export or its name passes the end of
     /// the strings.
     #[tactic(auto, unfolding(crate::specs::Exports::name_of))]
     pub fn name(&self, i: usize) -> Option<&'a [u8]>
@@ -145,9 +145,9 @@ impl<'a> Exports<'a> {
         Some(name.bytes())
     }
 
-    /// The first export with this name, in every table: hash words and slots have no say. A regular
-    /// table, where they lead to each export, is searched by them, unless its names are together longer
-    /// than its strings.
+    /// Returns the first export with this name, in every table: hash words and slots don't change the
+    /// result. In a regular table they lead to each export, so it is searched by them, unless its names
+    /// are together longer than its strings.
     #[tactic(auto, unfolding(crate::specs::Exports::export_named))]
     pub fn find(&self, name: &[u8]) -> Option<usize>
         ensures { result ≡ export_named (table_of self.now) name.now }
@@ -158,7 +158,7 @@ impl<'a> Exports<'a> {
         self.first_named(0..self.count as usize, name)
     }
 
-    /// The first export with this name, where the slot of each name's hash word counts its export.
+    /// Returns the first export with this name, if the slot of each name's hash word counts its export.
     #[tactic(auto, unfolding(crate::specs::Exports::export_named))]
     fn find_in_chain(&self, name: &[u8]) -> Option<usize>
         requires small { self.now.power ≤ most_power }
@@ -175,7 +175,7 @@ impl<'a> Exports<'a> {
         }
     }
 
-    /// The first of some exports with this name, where each key is the hash word of its name.
+    /// Returns the first of some exports with this name, if each key is the hash word of its name.
     fn first_keyed(&self, places: Range<usize>, word: u32, name: &[u8]) -> Option<usize>
         requires range { places.start ≤ places.end }
         requires leads { LeadsToAll (table_of self.now) }
@@ -190,7 +190,8 @@ impl<'a> Exports<'a> {
         None
     }
 
-    /// Whether export `i` has this name. Its key is looked at first, for it tells most others.
+    /// Returns whether export `i` has this name. Its key is compared first, since that rules out most
+    /// others.
     fn is_keyed(&self, i: usize, word: u32, name: &[u8]) -> bool
         requires leads { LeadsToAll (table_of self.now) }
         requires word { word ≡ hash_word name.now }
@@ -199,7 +200,7 @@ impl<'a> Exports<'a> {
         self.key(i) == Some(word) && self.is_named(i, name)
     }
 
-    /// The first of some exports with this name.
+    /// Returns the first of some exports with this name.
     fn first_named(&self, places: Range<usize>, name: &[u8]) -> Option<usize>
         requires { places.start ≤ places.end }
         ensures { result ≡ first_among (named_at (table_of self.now) name.now) places.start (places.end - places.start) }
@@ -212,7 +213,7 @@ impl<'a> Exports<'a> {
         None
     }
 
-    /// Whether export `i` has this name.
+    /// Returns whether export `i` has this name.
     fn is_named(&self, i: usize, name: &[u8]) -> bool
         ensures { result ≡ is_named (table_of self.now) name.now i }
     {
@@ -223,7 +224,7 @@ impl<'a> Exports<'a> {
     }
 }
 
-/// Where key `i` stands: the keys follow the slots.
+/// Returns where key `i` is: the keys follow the slots.
 #[tactic(auto, using(crate::proofs::Tables::words_small))]
 fn key_place(power: u32, i: usize) -> usize
     requires power { power ≤ most_power }
@@ -234,7 +235,7 @@ fn key_place(power: u32, i: usize) -> usize
     (SLOT_SIZE << power) + KEY_SIZE * i
 }
 
-/// Where export `i` stands: the exports follow the keys.
+/// Returns where export `i` is: the exports follow the keys.
 fn export_place(power: u32, count: u32, i: usize) -> usize
     requires power { power ≤ most_power }
     requires place { i < 2 ^ 32 }
@@ -244,7 +245,7 @@ fn export_place(power: u32, count: u32, i: usize) -> usize
     key_place(power, count as usize) + EXPORT_SIZE * i
 }
 
-/// The export in the 10 bytes from `at`, or `None` where they pass the end.
+/// Returns the export in the 10 bytes from `at`, or `None` if they pass the end.
 #[tactic(auto, unfolding(crate::specs::Exports::entry_at))]
 fn read_entry(table: Cut, at: usize) -> Option<Entry>
     requires { at < 2 ^ 40 }

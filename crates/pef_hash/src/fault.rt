@@ -8,12 +8,12 @@ use thiserror::Error;
 /// Why no table was built.
 #[derive(Clone, Copy, Debug, PartialEq, Eq, Error)]
 pub enum HashFault {
-    /// A growth of memory was refused.
+    /// An allocation failed.
     OutOfMemory,
 }
 
 impl HashFault {
-    /// The number of the refusal.
+    /// Returns the number of the refusal.
     pub fn number(&self) -> u32
         ensures { result ≡ fault_number self.now }
     {
@@ -22,7 +22,7 @@ impl HashFault {
         }
     }
 
-    /// The refusal's name, which is its text.
+    /// Returns the refusal's name, which is its text.
     pub fn name(&self) -> &'static str
         ensures { result.now ≡ fault_name self.now }
     {

@@ -11,7 +11,7 @@ pub const KEY_SIZE: usize = 4;
 /// The length of an exported symbol.
 pub const EXPORT_SIZE: usize = 10;
 
-// Where the fields of an exported symbol stand in it.
+// Offsets of the fields in an exported symbol.
 pub const EXPORT_CLASS_AND_NAME_AT: usize = 0;
 
 pub const EXPORT_VALUE_AT: usize = 4;

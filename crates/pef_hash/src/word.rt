@@ -9,11 +9,11 @@ const HASH_SHIFT: u32 = 16;
 /// A table is written with at most two to this power of slots.
 const MOST_WRITTEN_POWER: u32 = 16;
 
-/// It has fewer than this many exports a slot, rounded down, where that power allows it.
+/// It has fewer than this many exports for each slot, rounded down, if that power allows it.
 const EXPORTS_A_SLOT: u32 = 10;
 
-/// The hash word of a name of at most 65,535 bytes: its length in the high 16 bits, and 16 bits of
-/// hash in the low ones.
+/// Returns the hash word of a name of at most 65,535 bytes: its length in the high 16 bits, and 16
+/// bits of hash in the low ones.
 #[tactic(auto, unfolding(crate::specs::Word::hash_word))]
 pub fn hash_word(name: &[u8]) -> u32
     requires { length name.now < 2 ^ 16 }
@@ -25,7 +25,7 @@ pub fn hash_word(name: &[u8]) -> u32
     name.len() as u32 * (1 << KEY_LENGTH_SHIFT) + low
 }
 
-/// The running value after the bytes of a name.
+/// Returns the running value after the bytes of a name.
 fn hash_value(name: &[u8]) -> i32
     ensures { result ≡ hash_value name.now }
 {
@@ -36,7 +36,7 @@ fn hash_value(name: &[u8]) -> i32
     hash
 }
 
-/// The running value after one more byte. It is signed, so its right shift keeps the sign.
+/// Returns the running value after one more byte. It is signed, so its right shift keeps the sign.
 #[tactic(auto, unfolding(crate::specs::Word::hash_step))]
 fn hash_step(hash: i32, byte: u8) -> i32
     ensures { result ≡ hash_step hash byte }
@@ -44,7 +44,7 @@ fn hash_step(hash: i32, byte: u8) -> i32
     (hash << 1).wrapping_sub(hash >> HASH_SHIFT) ^ i32::from(byte)
 }
 
-/// The slot of a hash word in a table of `2^power` slots. Every power has one.
+/// Returns the slot of a hash word in a table of `2^power` slots. Every power has one.
 #[tactic(auto, using(crate::proofs::Slots::slot_wide, crate::proofs::Slots::slot_below, crate::proofs::Slots::word_below, crate::proofs::Slots::power_below), unfolding(crate::specs::Word::slot))]
 pub fn slot(word: u32, power: u32) -> u32
     ensures value { result ≡ slot word power }
@@ -56,8 +56,8 @@ pub fn slot(word: u32, power: u32) -> u32
     (word ^ (word >> power)) & ((1 << power) - 1)
 }
 
-/// The power of the table that is written for `count` exports: the least that leaves fewer than 10
-/// exports a slot, and 16 where none does.
+/// Returns the power of the table that is written for `count` exports: the least that leaves fewer
+/// than 10 exports for each slot, and 16 if none does.
 pub fn power_for(count: u32) -> u32
     ensures { result ≡ power_of count }
 {

@@ -1,4 +1,4 @@
--- What the acceptance of a container says, and what it takes.
+-- What it means that a container is accepted, and what that requires.
 use Rattle.std.proofs.Common.{◌≡◌, ℕ, ◌<◌, ◌≤◌, not, List, Option, None, Some, refl, subst, ap}
 use Rattle.std.specs.Prelude.{◌==◌, ◌&&◌, Ok, Err, IsTrue, length, nat_lt}
 use Rattle.std.proofs.lemmas.Bool.{lt-ltb, ltb-false}
@@ -14,7 +14,7 @@ use Rattle.pef_views.specs.Container.{Contained, IsContainer, IsInstantiable, is
 use Rattle.pef_views.proofs.Sections.{length-raw_of, section_unmet, unmet_inside, unmet_instantiable, unrefused}
 use Rattle.pef_words.proofs.Laws.Refusals.{first_unmet, unless_ok}
 
--- that a container's parts are there, and that no test is met
+-- a container's parts are there, and no test holds
 pub record IsAccepted (c : Contained) : Type 0 where
   pub header : header_of c.bytes ≡ Some c.header
   pub tests : first_met (header_tests c.header (length c.bytes)) ≡ None
@@ -39,12 +39,12 @@ header_ok : (c : Contained) (h : Option Header) → header_of c.bytes ≡ h → 
 header_ok c None there ok = absurd (cc)
 header_ok c (Some h) there ok = judged_ok c h there ok
 
--- a container's parts are there, and no test is met
+-- a container's parts are there, and no test holds
 pub accepted : (c : Contained) → IsContainer c → IsAccepted c
 unfolding container_of
 accepted c ok = header_ok c (header_of c.bytes) refl ok
 
--- where the parts are there and no test is met, the bytes are that container
+-- if the parts are there and no test holds, the bytes are that container
 pub accepts : (c : Contained) → IsAccepted c → IsContainer c
 unfolding container_of
 accepts c a = rw (a.header, a.tests, a.sections, a.loader) refl

@@ -1,4 +1,4 @@
--- What is known of a section that isn't refused.
+-- Facts of a section that isn't refused.
 use Rattle.std.proofs.Common.{◌≡◌, ℕ, ◌+◌, ◌<◌, ◌≤◌, Bool, true, false, not, List, Option, None, Some, length, drop, length-drop, length-take, inl, inr, refl, arith}
 use Rattle.std.specs.Prelude.{◌==◌, ◌&&◌, ◌||◌, IsTrue, nat_le, nat_lt}
 use Rattle.std.proofs.lemmas.Bool.{and_parts, eqb-true, leb-true, ltb-false, not-false, or_cases}
@@ -12,7 +12,7 @@ use Rattle.pef_views.specs.declared.fault.ViewFault.TheVariants.{TooShort}
 use Rattle.pef_views.specs.Section.{section_at, section_tests, is_inside, raw_of, sizes_fit, greatest_alignment}
 use Rattle.pef_views.specs.Container.{IsInstantiable, section_in, section_refusal, is_instantiated}
 
--- a section that is there and whose tests aren't met
+-- a section that exists and whose tests don't hold
 pub record Unrefused (bytes : List ℕ) (h : Header) (i : ℕ) : Type 0 where
   pub header : SectionHeader
   pub at : section_at bytes i ≡ Some header
@@ -22,17 +22,17 @@ unrefused-among : (bytes : List ℕ) (h : Header) (i : ℕ) (s : Option SectionH
 unrefused-among bytes h i None at none = absurd (cc)
 unrefused-among bytes h i (Some s) at none = record { header = s; at = at; unmet = none }
 
--- where no section is refused, each is there
+-- if no section is refused, each is there
 pub unrefused : (bytes : List ℕ) (h : Header) (i : ℕ) → first_among (section_refusal bytes h) 0 h.section_count ≡ None → i < h.section_count → Unrefused bytes h i
 unrefused bytes h i none under =
     unrefused-among bytes h i (section_at bytes i) refl (none_among (section_refusal bytes h) 0 h.section_count i none (omega arith) (omega arith))
 
--- a section whose tests aren't met has its raw bytes inside
+-- a section whose tests don't hold has its raw bytes inside
 pub unmet_inside : (inst : Bool) (s : SectionHeader) (len : ℕ) → first_met (section_tests inst s len) ≡ None → IsTrue (is_inside s len)
 unfolding section_tests
 unmet_inside inst s len none = not-false _ (first_unmet _ _ _ none).0
 
--- where no section is refused, the tests of each one that is there aren't met
+-- if no section is refused, the tests of each one that exists don't hold
 pub section_unmet : (bytes : List ℕ) (h : Header) (i : ℕ) (s : SectionHeader) → first_among (section_refusal bytes h) 0 h.section_count ≡ None → i < h.section_count → section_at bytes i ≡ Some s → first_met (section_tests (is_instantiated h i) s (length bytes)) ≡ None
 section_unmet bytes h i s none under there =
     let refused = none_among (section_refusal bytes h) 0 h.section_count i none (omega arith) (omega arith) in
@@ -61,7 +61,7 @@ sizes_are pattern total unpacked packed fit =
       λ other. leb-true unpacked packed (rw other at parts.1),
     )
 
--- an instantiated section whose tests aren't met
+-- an instantiated section whose tests don't hold
 pub unmet_instantiable : (bytes : List ℕ) (s : SectionHeader) → first_met (section_tests true s (length bytes)) ≡ None → IsInstantiable (section_in bytes s)
 unfolding section_tests
 unmet_instantiable bytes s none =

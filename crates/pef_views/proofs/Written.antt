@@ -1,4 +1,4 @@
--- From the parts of written bytes to the container that they are.
+-- Written bytes are the container of their parts.
 use Rattle.std.proofs.Common.{◌≡◌, ℕ, ◌<◌, ◌≤◌, Bool, true, false, List, None, Some, length, refl, zero-add, arith}
 use Rattle.std.specs.Prelude.{Ok, IsTrue}
 use Rattle.std.proofs.lemmas.Bool.{le-ltb, lt-ltb}
@@ -12,13 +12,13 @@ use Rattle.pef_views.specs.Section.{section_at, section_tests, is_inside, raw_of
 use Rattle.pef_views.specs.Container.{container_of, is_instantiated, loader_here, section_refusal}
 use Rattle.pef_views.proofs.Containers.{accepts}
 
--- a header none of whose tests is met
+-- no test of this header holds
 pub header_tests-unmet : (h : Header) (len : ℕ) → h.tag_1 ≡ joy → h.tag_2 ≡ peff → h.architecture ≡ pwpc → h.format_version ≡ version_1 → h.instantiated_section_count ≤ h.section_count → names_from h ≤ len → first_met (header_tests h len) ≡ None
 unfolding header_tests
 header_tests-unmet h len tag_1 tag_2 architecture version counts room =
     rw (tag_1, tag_2, architecture, version, le-ltb h.section_count h.instantiated_section_count counts, le-ltb len (names_from h) room) refl
 
--- a section none of whose tests is met
+-- no test of this section holds
 pub section_tests-unmet : (instantiated : Bool) (s : SectionHeader) (len : ℕ) → IsTrue (is_inside s len) → (IsTrue instantiated → IsTrue (is_instantiable (kind_of s.section_kind)) × IsTrue (sizes_fit s) × (s.alignment ≤ greatest_alignment)) → first_met (section_tests instantiated s len) ≡ None
 unfolding section_tests
 section_tests-unmet false s len inside sound = rw inside refl
@@ -26,8 +26,8 @@ section_tests-unmet true s len inside sound =
     let parts = sound refl in
     rw (inside, parts.0, parts.1, le-ltb greatest_alignment s.alignment parts.2) refl
 
--- the headers that bytes are written with, and that none of their tests is met; the first section that
--- isn't instantiated is a loader section
+-- bytes are written with these headers, and none of their tests holds; the first section that isn't
+-- instantiated is a loader section
 pub record IsWritten (bytes : List ℕ) (h : Header) (section : ℕ → SectionHeader) : Type 0 where
   pub header : header_of bytes ≡ Some h
   pub tests : first_met (header_tests h (length bytes)) ≡ None

@@ -53,7 +53,7 @@ judged bytes h = unless (first_met (header_tests h (length bytes)))
 unfoldable pub container_of : List ℕ → Result Contained ViewFault
 container_of bytes = option_map_or (judged bytes) (header_of bytes) (Err TooShort)
 
--- what its own bytes are read as
+-- the container is what its own bytes are read as
 abbrev pub IsContainer : Contained → Type 0
 IsContainer c = container_of c.bytes ≡ Ok c
 
@@ -82,8 +82,8 @@ name_in c (negsuc _) = None
 abbrev pub section_name_of : Contained → ℕ → Option (List ℕ)
 section_name_of c i = section_of c i >>= (λ s. name_in c s.header.name_offset)
 
--- what every instantiated section meets: it has a kind that may be, its image fits its memory and can come of
--- its raw bytes, and its alignment can be placed
+-- what holds for every instantiated section: its kind may be instantiated, its image fits its memory and can
+-- come of its raw bytes, and its alignment can be placed
 pub record IsInstantiable (s : Section) : Type 0 where
   pub kind : IsTrue (is_instantiable (kind_of s.header.section_kind))
   pub image : s.header.unpacked_size ≤ s.header.total_size

@@ -1,4 +1,4 @@
--- The refusals of a container, their numbers and their names. They are this project's own.
+-- The refusals of a container, with their numbers and names. They are this project's own.
 use Rattle.std.specs.Prelude.{ℕ, List, codes}
 use Rattle.pef_views.specs.declared.fault.ViewFault.{ViewFault}
 use Rattle.pef_views.specs.declared.fault.ViewFault.TheVariants.{TooShort, BadTag, BadArchitecture, BadFormatVersion, BadSectionCounts, SectionOutside, BadSectionKind, BadSizes, BadAlignment, NoLoader}

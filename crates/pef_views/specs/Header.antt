@@ -7,7 +7,7 @@ use Rattle.pef_views.specs.declared.header.Header.{Header}
 use Rattle.pef_views.specs.declared.fault.ViewFault.{ViewFault}
 use Rattle.pef_views.specs.declared.fault.ViewFault.TheVariants.{TooShort, BadTag, BadArchitecture, BadFormatVersion, BadSectionCounts}
 
--- the header of a container, field by field; none where there are fewer than 40 bytes
+-- the header of a container, field by field; none if there are fewer than 40 bytes
 unfoldable pub header_of : List ℕ → Option Header
 header_of bytes = do
   tag_1 ← number_at 4 bytes 0

@@ -11,7 +11,7 @@ use Rattle.pef_views.specs.declared.section.SectionHeader.{SectionHeader}
 use Rattle.pef_views.specs.declared.fault.ViewFault.{ViewFault}
 use Rattle.pef_views.specs.declared.fault.ViewFault.TheVariants.{SectionOutside, BadSectionKind, BadSizes, BadAlignment}
 
--- the header of section i, field by field; none where it passes the end
+-- the header of section i, field by field; none if it passes the end
 unfoldable pub section_at : List ℕ → ℕ → Option SectionHeader
 section_at bytes i = do
   name ← signed_at w32 4 bytes (section_header_from i)
@@ -37,7 +37,7 @@ section_at bytes i = do
     reserved = reserved;
   })
 
--- the raw bytes, where there are any, lie in a container of some length
+-- the raw bytes, if there are any, lie in a container of some length
 abbrev pub is_inside : SectionHeader → ℕ → Bool
 is_inside s len = s.packed_size == 0 || nat_le (s.container_offset + s.packed_size) len
 

@@ -1,4 +1,4 @@
--- What the views show of a container, without places in memory.
+-- The values of views, without places in memory.
 use Rattle.pef_views.specs.declared.container.Container.{Container}
 use Rattle.pef_views.specs.declared.section.SectionView.{SectionView}
 use Rattle.pef_views.specs.Container.{Contained, Section}

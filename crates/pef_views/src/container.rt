@@ -11,8 +11,8 @@ use pef_words::Cut;
 
 /// A container, seen in place.
 ///
-/// A value of this type is the proof that its bytes broke no rule. What it gives are slices of the
-/// bytes that it was read from, which live as long as those.
+/// A value of this type exists only if its bytes break no rule. Its views are slices of the bytes
+/// that it was read from, and live as long as those.
 #[derive(Clone, Copy, Debug)]
 pub struct Container<'a> {
     cut: Cut<'a>,
@@ -28,12 +28,12 @@ pub struct Container<'a> {
 impl<'a> Container<'a> {
     ghost use Rattle.pef_views.specs.Views.{contained, seen};
 
-    /// The container that `bytes` are.
+    /// Reads `bytes` as a container.
     ///
     /// # Errors
     ///
-    /// The first rule that they break: those of the header in the order of [`ViewFault`], of all
-    /// section headers' length, then of each section in turn, then of the loader section.
+    /// The first rule that they break: those of the header in the order of [`ViewFault`], then the
+    /// length of all section headers, then each section in turn, then the loader section.
     #[tactic(auto, unfolding(crate::specs::Container::container_of))]
     pub fn read(bytes: &'a [u8]) -> Result<Container<'a>, ViewFault>
         ensures { result_map contained result ≡ container_of bytes.entry.now }
@@ -50,7 +50,7 @@ impl<'a> Container<'a> {
         })
     }
 
-    /// The container header.
+    /// Returns the container header.
     pub fn header(&self) -> Header
         ensures value { result ≡ (contained self.now).header }
         ensures counts { result.instantiated_section_count ≤ result.section_count }
@@ -58,7 +58,7 @@ impl<'a> Container<'a> {
         self.header
     }
 
-    /// Section `i`, or `None` past the last one.
+    /// Returns section `i`, or `None` past the last one.
     #[tactic(auto, unfolding(crate::specs::Container::section_of))]
     pub fn section(&self, i: usize) -> Option<SectionView<'a>>
         ensures value { option_map seen result ≡ section_of (contained self.now) i }
@@ -75,9 +75,9 @@ impl<'a> Container<'a> {
         Some(SectionView { header, raw })
     }
 
-    /// The raw bytes of section `i`, or `None` past the last one.
+    /// Returns the raw bytes of section `i`, or `None` past the last one.
     ///
-    /// They are the packed size's bytes, however long the section's image is.
+    /// They have the packed size, however long the section's image is.
     pub fn raw(&self, i: usize) -> Option<&'a [u8]>
         ensures value { option_copied result ≡ option_map (λ s. s.raw) (section_of (contained self.now) i) }
         ensures there { IsSome result ↔ (i < (contained self.now).header.section_count) }
@@ -85,17 +85,18 @@ impl<'a> Container<'a> {
         Some(self.section(i)?.raw)
     }
 
-    /// The raw bytes of the loader section: the first that isn't instantiated and is of that kind.
+    /// Returns the raw bytes of the loader section: the first that isn't instantiated and is of that
+    /// kind.
     pub fn loader(&self) -> &'a [u8]
         ensures { result.now ≡ (contained self.now).loader }
     {
         self.loader
     }
 
-    /// The name of section `i`, without the zero byte at its end.
+    /// Returns the name of section `i`, without the zero byte at its end.
     ///
-    /// `None` past the last section, at a negative name offset, and where no zero byte follows in the
-    /// container: a name may end anywhere in it.
+    /// `None` past the last section, at a negative name offset, and if no zero byte follows in the
+    /// container. A name may end anywhere in the container.
     pub fn section_name(&self, i: usize) -> Option<&'a [u8]>
         ensures { option_copied result ≡ section_name_of (contained self.now) i }
     {
@@ -104,7 +105,7 @@ impl<'a> Container<'a> {
     }
 }
 
-/// The first refusal of a section, section by section.
+/// Tests each section in turn, and reports the first refusal.
 fn test_sections(cut: Cut<'_>, header: Header) -> Result<(), ViewFault>
     ensures { result_err result
         ≡ first_among (section_refusal cut.entry.bytes.now header) 0 header.section_count }
@@ -115,7 +116,7 @@ fn test_sections(cut: Cut<'_>, header: Header) -> Result<(), ViewFault>
     Ok(())
 }
 
-/// The refusal of section `i`.
+/// Tests section `i`.
 fn test_section_at(cut: Cut<'_>, header: Header, i: usize) -> Result<(), ViewFault>
     requires { i < header.section_count }
     ensures { result_err result ≡ section_refusal cut.entry.bytes.now header i }
@@ -125,7 +126,7 @@ fn test_section_at(cut: Cut<'_>, header: Header, i: usize) -> Result<(), ViewFau
     test_section(section, instantiated, cut.len())
 }
 
-/// The raw bytes of the first loader section that isn't instantiated.
+/// Returns the raw bytes of the first loader section that isn't instantiated.
 fn find_loader<'a>(cut: Cut<'a>, header: Header) -> Option<&'a [u8]>
     requires { first_among (section_refusal cut.bytes.now header) 0 header.section_count ≡ None }
     ensures { option_copied result ≡ loader_of cut.entry.bytes.now header }
@@ -139,7 +140,7 @@ fn find_loader<'a>(cut: Cut<'a>, header: Header) -> Option<&'a [u8]>
     None
 }
 
-/// The raw bytes of section `i`, if it is a loader section that isn't instantiated.
+/// Returns the raw bytes of section `i`, if it is a loader section that isn't instantiated.
 #[tactic(auto, using(crate::proofs::Sections::section_inside))]
 fn loader_at<'a>(cut: Cut<'a>, header: Header, i: usize) -> Option<&'a [u8]>
     requires below { i < header.section_count }

@@ -4,10 +4,10 @@ ghost use Rattle.pef_views.specs.Faults.{fault_name, fault_number};
 use std::fmt;
 use thiserror::Error;
 
-/// The first rule of the format that some bytes break. Its text is its name.
+/// The first rule of the format that some bytes break. The text is the rule's name.
 #[derive(Clone, Copy, Debug, PartialEq, Eq, Error)]
 pub enum ViewFault {
-    /// The container header, or the section headers that it counts, pass the end.
+    /// The container header, or the section headers that it counts, exceed the bytes.
     TooShort,
 
     /// The first eight bytes aren't `Joy!peff`.
@@ -22,7 +22,7 @@ pub enum ViewFault {
     /// More sections are instantiated than there are.
     BadSectionCounts,
 
-    /// A section's raw bytes pass the end.
+    /// A section's raw bytes exceed the container.
     SectionOutside,
 
     /// An instantiated section isn't code, data, a constant or executable data.
@@ -39,7 +39,7 @@ pub enum ViewFault {
 }
 
 impl ViewFault {
-    /// The refusal's number, from 1 to 10, which no refusal of another crate has.
+    /// Returns the refusal's number, from 1 to 10. No refusal of another crate has it.
     pub fn number(&self) -> u32
         ensures { result ≡ fault_number self.now }
     {
@@ -57,7 +57,7 @@ impl ViewFault {
         }
     }
 
-    /// The refusal's name, which is its text.
+    /// Returns the refusal's name, which is its text.
     pub fn name(&self) -> &'static str
         ensures { result.now ≡ fault_name self.now }
     {

@@ -57,7 +57,7 @@ pub(crate) fn read_header(cut: Cut<'_>) -> Option<Header>
     })
 }
 
-/// The first rule that a header breaks in a container of `len` bytes.
+/// Tests a header in a container of `len` bytes, and reports the first rule that it breaks.
 #[tactic(auto, unfolding(crate::specs::Header::header_tests))]
 pub(crate) fn test_header(header: Header, len: usize) -> Result<(), ViewFault>
     ensures { result_err result ≡ first_met (header_tests header len) }
@@ -80,7 +80,7 @@ pub(crate) fn test_header(header: Header, len: usize) -> Result<(), ViewFault>
     Ok(())
 }
 
-/// Where the header of section `i` begins.
+/// Returns where the header of section `i` begins.
 pub(crate) fn section_header_at(i: usize) -> usize
     requires { i < 2 ^ 16 }
     ensures { result ≡ section_header_from i }
@@ -88,7 +88,7 @@ pub(crate) fn section_header_at(i: usize) -> usize
     CONTAINER_HEADER_SIZE + SECTION_HEADER_SIZE * i
 }
 
-/// Where the section name table begins.
+/// Returns where the section name table begins.
 pub(crate) fn names_at(header: Header) -> usize
     ensures value { result ≡ names_from header }
     ensures bound { result < 2 ^ 32 }

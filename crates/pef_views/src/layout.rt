@@ -1,4 +1,4 @@
-//! Where fields are in the headers of a container (PEFContainerHeader and PEFSectionHeader of
+//! Offsets of the fields in the headers of a container (PEFContainerHeader and PEFSectionHeader of
 //! `PEFBinaryFormat.h`).
 
 // Offsets in the container header.

@@ -1,4 +1,4 @@
-//! Which PEF container some bytes are, seen in place, or the first rule that they break.
+//! Reads PEF containers in place, or reports the first rule that the bytes break.
 //!
 //! The format is that of Mac OS Runtime Architectures, "PEF Structure", and of PEFBinaryFormat.h.
 //! [`Container::read`] judges the bytes once. The views that it gives are slices of those bytes, so

@@ -21,7 +21,7 @@ use pef_words::Cut;
 pub struct SectionHeader {
     /// Where the name begins in the section name table, or a negative number for none.
     pub name_offset: i32,
-    /// The address that the linker preferred. Nothing rests on it.
+    /// The address that the linker preferred. Nothing depends on it.
     pub default_address: u32,
     /// The length of the section's memory.
     pub total_size: u32,
@@ -48,7 +48,7 @@ impl SectionHeader {
         SectionKind::from_code(self.section_kind)
     }
 
-    /// Returns who shares an instance of the section.
+    /// Returns how instances of the section are shared.
     pub fn share(self) -> Share
         ensures { result ≡ share_of self.share_kind }
     {
@@ -56,14 +56,14 @@ impl SectionHeader {
     }
 }
 
-/// A section: its header, and its raw bytes in the container, its contents.
+/// A section: its header, and its raw bytes in the container.
 #[derive(Clone, Copy, Debug)]
 pub struct SectionView<'a> {
     pub header: SectionHeader,
     pub raw: &'a [u8],
 }
 
-/// The header of section `i`, or `None` where it passes the end.
+/// Returns the header of section `i`, or `None` if it passes the end.
 #[tactic(auto, unfolding(crate::specs::Section::section_at))]
 pub(crate) fn read_section(cut: Cut<'_>, i: usize) -> Option<SectionHeader>
     requires { i < 2 ^ 16 }
@@ -84,7 +84,7 @@ pub(crate) fn read_section(cut: Cut<'_>, i: usize) -> Option<SectionHeader>
     })
 }
 
-/// The first rule that a section breaks in a container of `len` bytes.
+/// Tests a section in a container of `len` bytes, and reports the first rule that it breaks.
 #[tactic(auto, unfolding(crate::specs::Section::section_tests))]
 pub(crate) fn test_section(
     section: SectionHeader,
@@ -108,7 +108,8 @@ pub(crate) fn test_section(
     Ok(())
 }
 
-/// Whether the raw bytes lie in a container of `len` bytes. Those of packed size 0 lie in any.
+/// Returns whether the raw bytes lie in a container of `len` bytes. If the packed size is 0, they lie
+/// in any container.
 fn lies_inside(section: SectionHeader, len: usize) -> bool
     ensures { result ≡ is_inside section len }
 {
@@ -116,7 +117,8 @@ fn lies_inside(section: SectionHeader, len: usize) -> bool
     section.packed_size == 0 || end <= len
 }
 
-/// Whether the image fits the memory and can come of the raw bytes. Packed data may be of any length.
+/// Returns whether the image fits the memory, and the raw bytes are enough for it. Packed data may
+/// have any length.
 fn has_fitting_sizes(section: SectionHeader) -> bool
     ensures { result ≡ sizes_fit section }
 {
@@ -124,8 +126,8 @@ fn has_fitting_sizes(section: SectionHeader) -> bool
         && (section.kind().is_packed() || section.unpacked_size <= section.packed_size)
 }
 
-/// A section's raw bytes. Where it has none and its place passes the end, they are the empty slice at
-/// the end.
+/// Returns a section's raw bytes. If it has none and its offset passes the end, they are the empty
+/// slice at the end.
 pub(crate) fn raw_bytes<'a>(cut: Cut<'a>, section: SectionHeader) -> &'a [u8]
     requires { IsTrue (is_inside section (length cut.bytes.now)) }
     ensures { result.now ≡ raw_of cut.entry.bytes.now section }

@@ -1,5 +1,5 @@
--- What this crate offers to the proofs of others: facts of its definitions, and general facts of tests,
--- numbers and lists.
+-- Facts of its definitions, and general facts of tests, numbers and lists, for the proofs of other
+-- crates.
 pub mod Images
 pub mod Lists
 pub mod Names

@@ -8,8 +8,8 @@ use memchr::memchr;
 
 /// A view of some bytes, which it borrows.
 ///
-/// Numbers are big-endian, as all of a PEF container are (Mac OS Runtime Architectures, "PEF
-/// Structure"). Offsets and lengths count bytes. They may pass the end: the answer is then `None`, and
+/// Numbers are big-endian, as in all of a PEF container (Mac OS Runtime Architectures, "PEF
+/// Structure"). Offsets and lengths count bytes. If they exceed the end, the result is `None`, and
 /// nothing wraps.
 #[derive(Clone, Copy, Debug)]
 pub struct Cut<'a> {
@@ -17,35 +17,35 @@ pub struct Cut<'a> {
 }
 
 impl<'a> Cut<'a> {
-    /// A view of all of `bytes`.
+    /// Returns a view of all of `bytes`.
     pub fn new(bytes: &'a [u8]) -> Cut<'a>
         ensures { result.bytes.now ≡ bytes.entry.now }
     {
         Cut { bytes }
     }
 
-    /// The bytes of the view, for as long as the source lives.
+    /// Returns the bytes of the view, for as long as the source lives.
     pub fn bytes(self) -> &'a [u8]
         ensures { result.now ≡ self.entry.bytes.now }
     {
         self.bytes
     }
 
-    /// How many bytes there are.
+    /// Returns how many bytes there are.
     pub fn len(self) -> usize
         ensures { result ≡ length self.entry.bytes.now }
     {
         self.bytes.len()
     }
 
-    /// Whether there are no bytes.
+    /// Returns whether there are no bytes.
     pub fn is_empty(self) -> bool
         ensures { result ≡ (length self.entry.bytes.now == 0) }
     {
         self.bytes.is_empty()
     }
 
-    /// The byte at `at`, or `None` where there is none.
+    /// Returns the byte at `at`, or `None` past the end.
     #[tactic(auto, using(crate::proofs::Numbers::number_in_part), unfolding(crate::specs::Bytes::number_at, crate::specs::Bytes::part_of))]
     pub fn u8_at(self, at: usize) -> Option<u8>
         ensures { result ≡ number_at 1 self.entry.bytes.now at }
@@ -53,7 +53,7 @@ impl<'a> Cut<'a> {
         self.bytes.get(at).copied()
     }
 
-    /// The unsigned number in the two bytes from `at`, or `None` where they pass the end.
+    /// Returns the unsigned number in the two bytes from `at`, or `None` if they pass the end.
     #[tactic(auto, using(crate::proofs::Numbers::number_in_part), unfolding(crate::specs::Bytes::number_at, crate::specs::Bytes::part_of))]
     pub fn u16_at(self, at: usize) -> Option<u16>
         ensures { result ≡ number_at 2 self.entry.bytes.now at }
@@ -62,14 +62,14 @@ impl<'a> Cut<'a> {
         Some(BigEndian::read_u16(bytes))
     }
 
-    /// The same two bytes as a two's complement number.
+    /// Returns the same two bytes as a two's complement number.
     pub fn i16_at(self, at: usize) -> Option<i16>
         ensures { result ≡ signed_at w16 2 self.entry.bytes.now at }
     {
         Some(self.u16_at(at)?.cast_signed())
     }
 
-    /// The unsigned number in the four bytes from `at`, or `None` where they pass the end.
+    /// Returns the unsigned number in the four bytes from `at`, or `None` if they pass the end.
     #[tactic(auto, using(crate::proofs::Numbers::number_in_part), unfolding(crate::specs::Bytes::number_at, crate::specs::Bytes::part_of))]
     pub fn u32_at(self, at: usize) -> Option<u32>
         ensures { result ≡ number_at 4 self.entry.bytes.now at }
@@ -78,14 +78,14 @@ impl<'a> Cut<'a> {
         Some(BigEndian::read_u32(bytes))
     }
 
-    /// The same four bytes as a two's complement number.
+    /// Returns the same four bytes as a two's complement number.
     pub fn i32_at(self, at: usize) -> Option<i32>
         ensures { result ≡ signed_at w32 4 self.entry.bytes.now at }
     {
         Some(self.u32_at(at)?.cast_signed())
     }
 
-    /// The `len` bytes from `from`, or `None` where they pass the end.
+    /// Returns the `len` bytes from `from`, or `None` if they pass the end.
     #[tactic(auto, unfolding(crate::specs::Bytes::part_of))]
     pub fn part(self, from: usize, len: usize) -> Option<Cut<'a>>
         ensures { option_map (λ c. c.bytes.now) result ≡ part_of self.entry.bytes.now from len }
@@ -98,8 +98,8 @@ impl<'a> Cut<'a> {
         })
     }
 
-    /// The zero-ended name at `from`: the bytes up to the first zero byte at or after it, without that
-    /// byte, or `None` where there is no such byte.
+    /// Returns the zero-ended name at `from`: the bytes up to the first zero byte at or after it,
+    /// without that byte. `None` if there is no such byte.
     pub fn name_at(self, from: usize) -> Option<&'a [u8]>
         ensures { option_copied result ≡ name_at self.entry.bytes.now from }
     {
@@ -111,7 +111,7 @@ impl<'a> Cut<'a> {
     }
 }
 
-/// The bytes before the first zero byte.
+/// Returns the bytes before the first zero byte.
 fn zero_ended(bytes: &[u8]) -> Option<&[u8]>
     ensures { option_copied result ≡ before_zero bytes.now }
 {

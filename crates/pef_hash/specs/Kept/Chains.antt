@@ -2,12 +2,13 @@
 use Rattle.std.specs.Prelude.{◌≡◌, ℕ, ◌+◌, ◌^◌, ◌<◌, ◌≤◌, ◌==◌, List, [], ◌∷◌, length, drop, slice_index, if◌then◌else◌}
 use Rattle.pef_hash.specs.Word.{slot}
 
--- the place of the first word in slot s, where the first word of all has the place `from`; the place behind the last where there is none
+-- the place of the first word in slot s, if the first word of all is at place `from`; the place after the last if there
+-- is none
 abbrev pub first_in : ℕ → ℕ → ℕ → List ℕ → ℕ
 first_in power s from [] = from
 first_in power s from (w ∷ words) = if slot w power == s then from else first_in power s (from + 1) words
 
--- each slot has the place of the first of its words, and each word from a place on that of the next in its slot
+-- each slot has the place of its first word, and each word from a place on has the place of the next word in its slot
 pub record IsChainedFrom (from power : ℕ) (words heads next : List ℕ) : Type 0 where
   pub heads_len : length heads ≡ 2 ^ power
   pub next_len : length next ≡ length words

@@ -1,10 +1,10 @@
--- An image and the zeros behind it.
+-- An image and the zeros after it.
 use Rattle.std.proofs.Common.{◌≡◌, ℕ, ◌+◌, ◌-◌, ◌<◌, ◌≤◌, ◌⊎◌, List, ◌++◌, length, get_or, replicate, inl, inr, sym, ap, ◌∙◌, arith, length-append}
 use Rattle.std.proofs.lemmas.Bool.{cases_lt}
 use Rattle.std.proofs.lemmas.List.{get_or-append-add, get_or-replicate, get_or_append_left, get_or_past, length-replicate}
 use Rattle.pef_words.specs.Bytes.{filled}
 
--- it has the length up to which it is filled
+-- it has the length that it is filled up to
 pub length-filled : (image : List ℕ) (total : ℕ) → length image ≤ total → length (filled image total) ≡ total
 length-filled image total within = omega (arith, length-append image (replicate (total - length image) 0), length-replicate {A = ℕ} (total - length image) 0)
 

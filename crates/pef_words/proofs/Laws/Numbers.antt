@@ -9,7 +9,7 @@ use Rattle.std.proofs.lemmas.Bool.Decides.{eqb_tells, nat_tests}
 pub min_is : (v w : ℕ) → (min v w ≡ v) ⊎ (min v w ≡ w)
 min_is v w = grind arith
 
--- what is at most a number is below it, or is it
+-- a number at most another is below it or equal to it
 pub below_or : (a b : ℕ) → a < b + 1 → (a < b) ⊎ (a ≡ b)
 below_or a b under =
     elim (eqb_tells a b) [
@@ -21,7 +21,7 @@ below_or a b under =
 pub counts_fit : (most n : ℕ) → 1 ≤ n → n ≤ most → (nat_le 1 n && nat_le n most) ≡ true
 counts_fit most n some few = and_from (nat_le 1 n) (nat_le n most) (le-leb 1 n some) (le-leb n most few)
 
--- whether two numbers are one, and that one is the greater, as an ordered map compares them
+-- whether two numbers are equal, and whether the first is greater, as an ordered map compares them
 pub cmp_equal : (a b : ℕ) → is_eq (nat_cmp a b) ≡ (b == a)
 cmp_equal a b = grind (arith, nat_tests)
 

@@ -1,4 +1,5 @@
--- The first of the answers at some places, the first test of a table, and what is read unless refused.
+-- The first answer at some places, the first test of a table that holds, and what is read unless
+-- refused.
 use Rattle.std.proofs.Common.{◌≡◌, ℕ, zero, suc, ◌+◌, ◌-◌, ◌<◌, ◌≤◌, ◌⊎◌, Bool, true, false, cond, List, [], ◌∷◌, ◌++◌, Option, None, Some, refl, subst, inl, inr, arith}
 use Rattle.std.specs.Prelude.{Result, Ok}
 use Rattle.std.specs.Option.{option_or}
@@ -17,18 +18,18 @@ first_among-here answer i n x under some =
     let e : n - i ≡ suc (n - (i + 1)) = omega arith in
     rw (e, some) refl
 
--- no place is left behind the last one
+-- no place is left after the last one
 pub first_among-end : {F : Type 0} (answer : ℕ → Option F) (i n : ℕ) → n ≤ i → first_among answer i (n - i) ≡ None
 first_among-end answer i n past =
     let e : n - i ≡ 0 = omega arith in
     rw e refl
 
--- of two answers of which there is none, both are none
+-- if the choice between two answers is none, both are none
 pub neither : {F : Type 0} (a b : Option F) → option_or a b ≡ None → (a ≡ None) × (b ≡ None)
 neither None b none = (refl, none)
 neither (Some x) b none = (none, absurd (cc))
 
--- where there is no first answer, no place has one
+-- if there is no first answer, no place has one
 pub none_among : {F : Type 0} (answer : ℕ → Option F) (from n k : ℕ) → first_among answer from n ≡ None → from ≤ k → k < from + n → answer k ≡ None
 none_among answer from zero k none low high = absurd (omega arith)
 none_among {F} answer from (suc n) k none low high =
@@ -38,14 +39,14 @@ none_among {F} answer from (suc n) k none low high =
       | inr other ↦ (let apart = other.1 in none_among answer (from + 1) n k both.1 (omega arith) (omega arith))
     ]
 
--- where no place has an answer, there is no first one
+-- if no place has an answer, there is no first one
 pub first_among-none : {F : Type 0} (answer : ℕ → Option F) (from n : ℕ) → ((k : ℕ) → from ≤ k → k < from + n → answer k ≡ None) → first_among answer from n ≡ None
 first_among-none answer from zero none = refl
 first_among-none answer from (suc n) none =
     let later = first_among-none answer (from + 1) n (λ k low high. none k (omega arith) (omega arith)) in
     rw (none from (omega arith) (omega arith), later) refl
 
--- where no place before k has an answer, that of k is the first
+-- if no place before k has an answer, that of k is the first
 pub first_among-at : {F : Type 0} (answer : ℕ → Option F) (from n k : ℕ) (x : F) → k < n → ((j : ℕ) → from ≤ j → j < from + k → answer j ≡ None) → answer (from + k) ≡ Some x → first_among answer from n ≡ Some x
 first_among-at answer from zero k x under none here = absurd (omega arith)
 first_among-at answer from (suc n) zero x under none here =
@@ -64,12 +65,12 @@ pub record AnswersAt {F : Type 0} (answer : ℕ → Option F) (from n : ℕ) (x 
   pub is : answer at ≡ Some x
   pub before : (k : ℕ) → from ≤ k → k < at → answer k ≡ None
 
--- of two answers, the first that is there is one of them
+-- the choice between two answers is one of them
 either_is : {F : Type 0} (a b : Option F) (x : F) → option_or a b ≡ Some x → (a ≡ Some x) ⊎ ((a ≡ None) × (b ≡ Some x))
 either_is None b x some = inr (refl, some)
 either_is (Some y) b x some = inl some
 
--- no answer here, and none behind it up to a place
+-- no answer here, and none after it up to a place
 none-before : {F : Type 0} (answer : ℕ → Option F) (from at : ℕ) → answer from ≡ None → ((k : ℕ) → from + 1 ≤ k → k < at → answer k ≡ None) → (k : ℕ) → from ≤ k → k < at → answer k ≡ None
 none-before answer from at here later k low high =
     elim (eqb_tells from k) [
@@ -77,7 +78,7 @@ none-before answer from at here later k low high =
       | inr other ↦ (let apart = other.1 in later k (omega arith) high)
     ]
 
--- a first answer is that of some place, before which there is none
+-- a first answer is that of some place, and no place before it has one
 pub some_among : {F : Type 0} (answer : ℕ → Option F) (from n : ℕ) (x : F) → first_among answer from n ≡ Some x → AnswersAt answer from n x
 some_among answer from zero x some = absurd (cc)
 some_among answer from (suc n) x some =
@@ -86,17 +87,17 @@ some_among answer from (suc n) x some =
       | inr later ↦ (let r = some_among answer (from + 1) n x later.1 in record { at = r.at; low = omega arith; high = omega arith; is = r.is; before = none-before answer from r.at later.0 r.before })
     ]
 
--- where no test of a table is met, its first one isn't, nor is any later one
+-- if no test of a table holds, its first one doesn't, nor does any later one
 pub first_unmet : {F : Type 0} (b : Bool) (x : F) (others : Option F) → cond b (Some x) others ≡ None → (b ≡ false) × (others ≡ None)
 first_unmet true x others none = absurd (cc)
 first_unmet false x others none = (refl, none)
 
--- what is read unless there is a refusal was read where there is none
+-- a value that is read unless there is a refusal was read if there is none
 pub unless_ok : {A F : Type 0} (fault : Option F) (r : Result A F) (x : A) → unless fault r ≡ Ok x → (fault ≡ None) × (r ≡ Ok x)
 unless_ok None r x ok = (refl, ok)
 unless_ok (Some fault) r x ok = absurd (cc)
 
--- tests behind tests that are not met
+-- tests after tests that don't hold
 pub first_met-behind : {F : Type 0} (tests others : List (Bool × F)) → first_met tests ≡ None → first_met (tests ++ others) ≡ first_met others
 first_met-behind [] others none = refl
 first_met-behind (test ∷ tests) others none =

@@ -11,7 +11,7 @@ pub or_assoc : (a b c : Bool) → (a || (b || c)) ≡ ((a || b) || c)
 or_assoc true b c = refl
 or_assoc false b c = refl
 
--- a second test that is met
+-- a second test that holds
 pub cond-later : (b c : Bool) → c ≡ true → cond b true c ≡ true
 cond-later true c is = refl
 cond-later false c is = is

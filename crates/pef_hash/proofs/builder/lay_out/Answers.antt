@@ -1,4 +1,4 @@
--- No more keys than words stand before a slot, so the numbers fit.
+-- There are no more keys than words before a slot, so the numbers fit.
 use Rattle.std.proofs.Common.{◌≡◌, ◌≤◌, ◌<◌, ◌-◌, ◌^◌, length, refl, sym, arith}
 use Rattle.pef_hash.specs.Build.{in_slot}
 use Rattle.pef_hash.proofs.Slots.{power_below}

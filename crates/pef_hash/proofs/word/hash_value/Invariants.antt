@@ -1,4 +1,4 @@
--- What the bytes that are left make of the running value is what all bytes make of 0.
+-- The bytes that are left turn the running value into that of all bytes from 0.
 use Rattle.std.proofs.Common.{◌≡◌, drop}
 use Rattle.std.specs.Prelude.{pos, fold}
 use Rattle.pef_hash.specs.Word.{hash_step}

@@ -1,4 +1,4 @@
--- The search goes on past a power that leaves too many exports, and ends at the first other one.
+-- The search continues after a power that leaves too many exports, and ends at the first other one.
 use Rattle.std.proofs.Common.{◌≡◌, sym, ◌∙◌, arith}
 use Rattle.pef_hash.specs.Limits.{most_written_power}
 use Rattle.pef_hash.proofs.Slots.{least_power-end, least_power-here, least_power-next}

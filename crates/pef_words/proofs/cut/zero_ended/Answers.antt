@@ -1,4 +1,4 @@
--- Where the search finds no zero byte there is no name, and else the name ends where it finds the first.
+-- If the search finds no zero byte there is no name. Otherwise the name ends at the first one.
 use Rattle.std.proofs.Common.{sym, eq-eqb, arith}
 use Rattle.std.proofs.lemmas.Bool.{eqb-true}
 use Rattle.pef_words.proofs.Laws.Names.{before_zero-none, before_zero-some}

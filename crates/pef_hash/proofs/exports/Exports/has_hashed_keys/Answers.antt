@@ -1,4 +1,5 @@
--- A name more is hashed; in a searchable table each is there, and what is left has room for it.
+-- A name more is hashed. In a searchable table each name is there, and the strings left have room
+-- for it.
 use Rattle.std.proofs.Common.{◌≡◌, ◌∙◌, ℕ, ◌+◌, None, Some, sym, ap, inl, inr, subst, arith}
 use Rattle.std.specs.Option.{option_copied}
 use Rattle.std.proofs.lemmas.Bool.Decides.{eqb_tells}

@@ -1,4 +1,4 @@
--- The keys so far are hashed, and their names have taken what isn't left.
+-- The keys so far are hashed, and their names have the lengths that were subtracted.
 use Rattle.std.proofs.Common.{◌≡◌, ℕ, ◌+◌, ◌<◌, length}
 use Rattle.pef_hash.specs.Regular.{names_length}
 use Rattle.pef_hash.specs.Views.{table_of}

@@ -1,4 +1,4 @@
--- A slot that counts exports begins behind those of the slots before it.
+-- A slot that counts exports begins after those of the slots before it.
 use Rattle.std.proofs.Common.{◌≡◌, ℕ, ◌+◌, ◌<◌, ◌^◌, Some, sym, subst, ◌∙◌, arith}
 use Rattle.pef_hash.specs.Exports.{slot_count, slot_first, slot_word_of}
 use Rattle.pef_hash.specs.Views.{table_of}

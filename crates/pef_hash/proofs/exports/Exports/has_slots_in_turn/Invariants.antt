@@ -1,4 +1,4 @@
--- The slots so far count exports one behind the other, the last of them up to the end.
+-- The slots so far count exports one after the other, the last of them up to the end.
 use Rattle.std.proofs.Common.{◌≤◌}
 use Rattle.pef_hash.specs.Views.{table_of}
 use Rattle.pef_hash.specs.Kept.Searches.{AreInTurnTo, IsEndOf}

@@ -1,4 +1,4 @@
--- The slot of the key counts the export; in a searchable table each key is hashed, and its slot is there.
+-- The slot of the key counts the export. In a searchable table each key is hashed, and its slot exists.
 use Rattle.std.proofs.Common.{◌≡◌, ◌∙◌, Some, sym, ap, subst, arith, rules}
 use Rattle.std.proofs.lemmas.Option.{same_Some}
 use Rattle.std.specs.Prelude.{IsTrue, ◌&&◌, nat_le, nat_lt}

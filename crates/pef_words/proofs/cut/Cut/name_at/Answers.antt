@@ -1,4 +1,4 @@
--- Past the end no byte is left, and from a place before it the name is that of what is left.
+-- Past the end no byte is left, and from a place before the end the name is that of the bytes left.
 use Rattle.std.proofs.Common.{refl, arith}
 use Rattle.std.proofs.Math.ListN.{drop_of_length-le}
 use Rattle.pef_words.specs.Bytes.{name_at}
