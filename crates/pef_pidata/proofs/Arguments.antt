@@ -15,13 +15,13 @@ passed i value b rest more few =
       ])
     ]
 
--- one that has seven bits of a number
+-- a byte that has seven bits of a number
 next-leading : (read n : ℕ) (bytes : List ℕ) → read < 4 → argument_from read (n / 128) ((128 + n % 128) ∷ bytes) ≡ argument_from (read + 1) n bytes
 next-leading read n bytes few =
     let whole : n / 128 * 128 + (128 + n % 128) % 128 ≡ n = omega arith in
     passed read (n / 128) (128 + n % 128) bytes (omega arith) (λ four. absurd (omega (arith, four, few))) ∙ ap (λ value. argument_from (read + 1) value bytes) whole
 
--- of an argument at most so many bytes were read, they have some value, and some bytes are left
+-- at most this many bytes of an argument were read, they have some value, and some bytes are left
 abbrev IsReadTo : ℕ → ℕ → List ℕ → List ℕ → Type 0
 IsReadTo most value bytes all = (read : ℕ) × (read ≤ most) × (argument all ≡ argument_from read value bytes)
 
@@ -53,7 +53,7 @@ joined a b c d e rest =
     append_assoc a (b ++ (c ++ (d ++ e))) rest
     ∙ ap (λ more. a ++ more) (append_assoc b (c ++ (d ++ e)) rest ∙ ap (λ more. b ++ more) (append_assoc c (d ++ e) rest ∙ ap (λ more. c ++ more) (append_assoc d e rest)))
 
--- what is written as an argument is read as it
+-- the bytes written for an argument are read as it
 pub argument-read : (value : ℕ) (rest : List ℕ) → value < 2 ^ 32 → argument (argument_bytes value ++ rest) ≡ Ok (value, rest)
 unfolding argument argument_bytes
 argument-read value rest fits =

@@ -1,4 +1,4 @@
--- What is packed expands to its image.
+-- Packed bytes expand to their image.
 use Rattle.std.proofs.Common.{◌≡◌, ℕ, zero, suc, ◌+◌, ◌-◌, ◌*◌, ◌/◌, ◌%◌, ◌^◌, ◌<◌, ◌≤◌, List, [], ◌∷◌, ◌++◌, Ok, length, replicate, refl, sym, ap, ◌∙◌, inl, inr, add-one, arith, append_assoc}
 use Rattle.std.proofs.Math.Dec.{leb-suc-zero}
 use Rattle.std.proofs.Math.Seq.{drop-append_seam, take-append_seam}
@@ -84,7 +84,7 @@ some-parts : (image : List ℕ) → AreSome (parts_of image)
 unfolding parts_of
 some-parts image = some-without_short (runs image) (some-runs image)
 
--- the first byte of an instruction with its count, and what follows them
+-- the first byte of an instruction with its count, and the bytes after them
 record IsHead (opcode count : ℕ) (rest all : List ℕ) : Type 0 where
   first : ℕ
   behind : List ℕ
@@ -178,7 +178,7 @@ parts-read (suc n) (part ∷ parts) enough all fits =
     let others = parts-read n parts (omega arith) all.1 (omega (arith, len, fits)) in
     pattern_next n (part_bytes part ++ spelling parts) (spelling parts) (part_image part) room (omega (arith, len, part_is, all.0)) next ∙ rw (left, others) refl
 
--- an instruction has a byte at least
+-- an instruction has at least one byte
 some_bytes : (opcode count : ℕ) → 0 < length (counted_bytes opcode count)
 unfolding counted_bytes
 some_bytes opcode count = elim (leb_tells (suc count) 32) [
@@ -195,7 +195,7 @@ length-spelling : (parts : List Part) → length parts ≤ length (spelling part
 length-spelling [] = omega arith
 length-spelling (part ∷ parts) = omega (arith, length-spelling parts, some_part_bytes part, length-append (part_bytes part) (spelling parts))
 
--- an instruction has no more bytes than its count says, but for those that it copies
+-- an instruction has no more bytes than its count says, apart from those that it copies
 leading_most : (unit value : ℕ) → length (leading_byte unit value) ≤ 1
 leading_most unit value = elim (leb_tells (suc value) unit) [
   | inl below ↦ rw below.0 (omega arith)

@@ -45,7 +45,7 @@ pub zeros_first-within : (xs : List ℕ) → zeros_first xs ≤ length xs
 zeros_first-within [] = omega arith
 zeros_first-within (b ∷ rest) = omega (arith, zeros_first-most b rest, zeros_first-within rest)
 
--- before the end of a run, and behind it
+-- before the end of a run, and after it
 pub zeros_first-here : (xs : List ℕ) (i : ℕ) → i < length xs → get_or xs i 0 ≢ 0 → zeros_first (drop i xs) ≡ 0
 zeros_first-here xs i under other = ap zeros_first (drop_more xs i 0 under) ∙ zeros_first-other (get_or xs i 0) (drop (i + 1) xs) other
 
@@ -117,7 +117,7 @@ parts-copied b rest few = elim (eqb_tells b 0) [
   | inr other ↦ parts-other b rest other.1
 ]
 
--- a step over one byte, and over three of which the last is no zero
+-- a step over one byte, and over three of which the last isn't zero
 one_copied : (xs : List ℕ) → 0 < length xs → zeros_first xs < 3 → parts_of xs ≡ copied_before (take 1 xs) (parts_of (drop 1 xs))
 one_copied [] some few = absurd (omega arith)
 one_copied (b ∷ rest) some few = parts-copied b rest few
@@ -180,7 +180,7 @@ short_next xs at under other =
     let here = ap zeros_first (drop_more xs at 0 (omega arith)) in
     omega (arith, most, here, zeros_first-here xs (at + 1) under other)
 
--- a block that ends where the image does, or where a run begins
+-- a block ends where the image does, or where a run begins
 block_last : (bytes : List ℕ) → 0 < length bytes → copied_before bytes [] ≡ block bytes ∷ []
 block_last [] some = absurd (omega arith)
 block_last (b ∷ rest) some = go b rest
@@ -213,7 +213,7 @@ parts-block xs n within some copied end =
           copied ∙ rw next (block_run (take n xs) _ _ bytes))
     ]
 
--- what is packed of an image from its front
+-- the packed bytes of an image from its front
 pub packed_on : (packed more rest behind all : List ℕ) (part : Part) → parts_of rest ≡ part ∷ parts_of behind → more ≡ packed ++ part_bytes part → packed ++ packed_of rest ≡ all → more ++ packed_of behind ≡ all
 unfolding packed_of
 packed_on packed more rest behind all part parts more_is before =

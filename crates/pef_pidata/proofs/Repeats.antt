@@ -1,4 +1,4 @@
--- Blocks that stand one behind another.
+-- Blocks, one after another.
 use Rattle.std.proofs.Common.{◌≡◌, ℕ, zero, suc, ◌+◌, ◌-◌, ◌*◌, ◌<◌, ◌≤◌, List, [], ◌∷◌, ◌++◌, length, take, refl, sym, ap, ◌∙◌, arith, append_assoc, length-append, min, inl, inr}
 use Rattle.std.proofs.Math.Seq.{take-append_seam, take-length}
 use Rattle.std.proofs.lemmas.List.{nil_from_length}
@@ -6,7 +6,7 @@ use Rattle.std.proofs.Math.Nat.{mul-le-mul_left, le_of_mul-le-mul_left}
 use Rattle.std.proofs.lemmas.Bool.{cases_lt}
 use Rattle.pef_pidata.specs.Pattern.{repeated}
 
--- a front of some bytes is a block some times
+-- a prefix of some bytes is a block some times
 pub record IsBegun (block bytes : List ℕ) (done : ℕ) : Type 0 where
   pub times : ℕ
   pub done_is : done ≡ length block * times
@@ -36,12 +36,12 @@ take-repeated m n block =
 pub both_empty : (xs ys : List ℕ) → length xs ≡ 0 → length ys ≡ 0 → xs ≡ ys
 both_empty xs ys a b = nil_from_length xs a ∙ sym (nil_from_length ys b)
 
--- some block times is longer than none, so the block is
+-- a block repeated some times isn't empty, so the block isn't
 pub some_block : (block : List ℕ) (n : ℕ) (m : ℕ) → m < length block * n → 0 < length block
 some_block [] n m less = absurd (omega arith)
 some_block (b ∷ block) n m less = omega arith
 
--- the next piece is all that is written, or what is left
+-- the next piece is all that is written, or the rest
 pub next_whole : (block target : List ℕ) (done n more : ℕ) → IsBegun block target done → length target ≡ length block * n → done < length target → more ≡ min done (length target - done) → IsWhole block more
 next_whole block target done n more begun len_is under is =
     let done_is = begun.done_is in
@@ -57,7 +57,7 @@ next_whole block target done n more begun len_is under is =
           record { times = n - begun.times; len_is = omega arith })
     ]
 
--- a piece of what is written goes behind it
+-- a piece of the bytes written is copied after them
 pub piece_written : (block target front copied rest : List ℕ) (done more n : ℕ) → IsBegun block target done → IsWhole block more → more ≤ done → done < length target → length target ≡ length block * n
     → front ≡ take done target → copied ≡ take more front → IsBegun block (front ++ (copied ++ rest)) (done + more)
 piece_written block target front copied rest done more n begun whole most under len_is front_is copied_is =

@@ -1,4 +1,4 @@
--- What is left of a pattern after an instruction.
+-- The rest of a pattern after an instruction.
 use Rattle.std.proofs.Common.{◌≡◌, ℕ, zero, suc, ◌+◌, ◌-◌, ◌<◌, ◌≤◌, List, [], ◌∷◌, ◌++◌, Result, Ok, Err, length, take, drop, refl, sym, ap, ◌∙◌, inl, inr, arith, append_assoc}
 use Rattle.std.proofs.lemmas.Bool.Decides.{eqb_tells}
 use Rattle.std.proofs.lemmas.List.{length-append, length-take-le, length-drop}
@@ -9,7 +9,7 @@ use Rattle.pef_pidata.specs.declared.fault.PackFault.TheVariants.{TooShort}
 use Rattle.pef_pidata.specs.Instructions.{next_instruction}
 use Rattle.pef_pidata.specs.Pattern.{pattern, pattern_text, next_output}
 
--- what is written and what the packed bytes that are left spell is what all of them spell
+-- the bytes written, and those that the rest of the packed bytes spells, are what all of them spell
 pub record IsLeft (packed out rest : List ℕ) (at : ℕ) : Type 0 where
   pub most : ℕ
   pub bound : length rest ≤ most

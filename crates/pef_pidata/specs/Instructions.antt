@@ -1,6 +1,6 @@
 -- How an instruction of pattern-initialized data is read (Mac OS Runtime Architectures, "PEF Structure",
--- pattern-initialized data; kPEFPkDataZero and what stands beside it in PEFBinaryFormat.h): its first byte has
--- an opcode in the high three bits and a count in the low five, and arguments may follow. Which refusal comes
+-- pattern-initialized data; kPEFPkDataZero and its neighbours in PEFBinaryFormat.h): its first byte has an
+-- opcode in the high three bits and a count in the low five, and arguments may follow. Which refusal comes
 -- first is this project's own choice.
 use Rattle.std.specs.Prelude.{ℕ, ◌+◌, ◌*◌, ◌/◌, ◌%◌, ◌^◌, ◌==◌, List, [], ◌∷◌, Result, Ok, Err, if◌then◌else◌, nat_lt}
 use Rattle.pef_words.specs.Results.{◌>>=◌}
@@ -10,7 +10,7 @@ use Rattle.pef_pidata.specs.declared.instruction.Woven.{Woven}
 use Rattle.pef_pidata.specs.declared.instruction.Instruction.{Instruction}
 use Rattle.pef_pidata.specs.declared.instruction.Instruction.TheVariants.{Zeros, Block, Repeat, Weave, WeaveZeros}
 
--- what was read, and the bytes behind it
+-- what was read, and the bytes after it
 abbrev pub Read : Type 0 → Type 0
 Read A = Result (A × List ℕ) PackFault
 
@@ -18,8 +18,8 @@ Read A = Result (A × List ℕ) PackFault
 abbrev pub with_byte : ℕ → ℕ → ℕ
 with_byte value b = value * 128 + b % 128
 
--- an argument of which some bytes were read. The top bit is set in all bytes but the last; a fifth byte is
--- the last, and the value is below 2 ^ 32
+-- an argument of which some bytes were read. The top bit is set in all bytes but the last, a fifth byte is the
+-- last, and the value is below 2 ^ 32
 abbrev pub argument_from : ℕ → ℕ → List ℕ → Read ℕ
 argument_from read value [] = Err Truncated
 argument_from read value (b ∷ rest) =
@@ -27,11 +27,11 @@ argument_from read value (b ∷ rest) =
     then (if nat_lt (with_byte value b) (2 ^ 32) then Ok (with_byte value b, rest) else Err CountTooLarge)
     else (if read == 4 then Err CountTooLarge else argument_from (read + 1) (with_byte value b) rest)
 
--- an argument, and the bytes behind it
+-- an argument, and the bytes after it
 unfoldable pub argument : List ℕ → Read ℕ
 argument bytes = argument_from 0 0 bytes
 
--- the count of an instruction: that of its first byte, or an argument where that is 0
+-- the count of an instruction: that in its first byte, or an argument if that is 0
 unfoldable pub counted : ℕ → List ℕ → Read ℕ
 counted count bytes = if count == 0 then argument bytes else Ok (count, bytes)
 

@@ -1,5 +1,5 @@
--- How an image is packed here: each longest run of three or more zeros is spelled by its length, and what is
--- between two such runs, or at an end, is copied. The instructions are those of pattern-initialized data (Mac OS
+-- How an image is packed here: each longest run of three or more zeros is spelled by its length, and the bytes
+-- between two such runs, or at an end, are copied. The instructions are those of pattern-initialized data (Mac OS
 -- Runtime Architectures, "PEF Structure"; kPEFPkDataZero and kPEFPkDataBlock in PEFBinaryFormat.h). Which of them
 -- spell an image is this project's own choice.
 use Rattle.std.specs.Prelude.{◌≡◌, ℕ, ◌+◌, ◌*◌, ◌/◌, ◌%◌, ◌^◌, ◌<◌, ◌==◌, List, [], ◌∷◌, ◌++◌, Ok, if◌then◌else◌, nat_lt, length, replicate}
@@ -27,7 +27,7 @@ abbrev pub runs : List ℕ → List Part
 runs [] = []
 runs (b ∷ rest) = if b == 0 then zero_before (runs rest) else bytes_before (b ∷ []) (runs rest)
 
--- the same, where a run of fewer than three zeros is part of a block
+-- the same, with each run of fewer than three zeros in a block
 abbrev pub without_short : List Part → List Part
 without_short [] = []
 without_short (zeros count ∷ parts) = if nat_lt count 3 then bytes_before (replicate count 0) (without_short parts) else zeros count ∷ without_short parts
@@ -38,7 +38,7 @@ unfoldable pub parts_of : List ℕ → List Part
 parts_of image = without_short (runs image)
 
 -- a byte of an argument that isn't its last: the seven bits from a unit on, with the top bit set. There is none
--- where the value has no bits from there on
+-- if the value has no bits from there on
 abbrev pub leading_byte : ℕ → ℕ → List ℕ
 leading_byte unit value = if nat_lt value unit then [] else (128 + value / unit % 128) ∷ []
 
@@ -46,7 +46,7 @@ leading_byte unit value = if nat_lt value unit then [] else (128 + value / unit 
 unfoldable pub argument_bytes : ℕ → List ℕ
 argument_bytes value = leading_byte (2 ^ 28) value ++ (leading_byte (2 ^ 21) value ++ (leading_byte (2 ^ 14) value ++ (leading_byte (2 ^ 7) value ++ (value % 128) ∷ [])))
 
--- the first byte of an instruction, and its count where the low five bits have no room for it
+-- the first byte of an instruction, and its count if the low five bits have no room for it
 unfoldable pub counted_bytes : ℕ → ℕ → List ℕ
 counted_bytes opcode count = if nat_lt count 32 then (opcode * 32 + count) ∷ [] else (opcode * 32) ∷ argument_bytes count
 
@@ -64,6 +64,6 @@ spelling (part ∷ parts) = part_bytes part ++ spelling parts
 unfoldable pub packed_of : List ℕ → List ℕ
 packed_of image = spelling (parts_of image)
 
--- what is packed spells the image
+-- the packed bytes spell the image
 abbrev pub PackedExpands : Type 0
 PackedExpands = (image : List ℕ) → length image < 2 ^ 32 → pattern_text (packed_of image) (length image) ≡ Ok image

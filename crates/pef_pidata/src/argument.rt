@@ -11,7 +11,7 @@ const MORE: u8 = 0x80;
 /// The place of the last byte that an argument may have: it has five at most.
 const LAST: usize = 4;
 
-/// An argument, and the bytes behind it.
+/// An argument, and the bytes after it.
 #[derive(Clone, Copy)]
 pub(crate) struct Argument<'a> {
     pub value: u32,
@@ -37,7 +37,7 @@ pub(crate) fn read_argument(packed: &[u8]) -> Result<Argument<'_>, PackFault>
     Err(PackFault::Truncated)
 }
 
-/// An argument whose last byte was read, where its value fits 32 bits.
+/// Returns an argument whose last byte was read, if its value fits 32 bits.
 fn ended(value: u64, rest: &[u8]) -> Result<Argument<'_>, PackFault>
     ensures read { result_map argument_seen result ≡ (if nat_lt value (2 ^ 32) then Ok (value, rest.now) else Err PackFault.CountTooLarge) }
     ensures rest { IfOk result (λ a. a.rest.now ≡ rest.now) }
@@ -51,7 +51,7 @@ fn ended(value: u64, rest: &[u8]) -> Result<Argument<'_>, PackFault>
     })
 }
 
-/// Reads an instruction's count: that of its first byte, or an argument where that is 0.
+/// Reads an instruction's count: that in its first byte, or an argument if that is 0.
 #[tactic(auto, unfolding(crate::specs::Instructions::counted))]
 pub(crate) fn read_count(low: u8, packed: &[u8]) -> Result<Argument<'_>, PackFault>
     ensures read { result_map argument_seen result ≡ counted low packed.now }

@@ -5,25 +5,25 @@ use std::alloc::AllocError;
 use std::fmt;
 use thiserror::Error;
 
-/// Why packed bytes don't expand, or an image isn't packed. Its text is its name.
+/// Why packed bytes don't expand, or an image can't be packed. The text is the refusal's name.
 #[derive(Clone, Copy, Debug, PartialEq, Eq, Error)]
 pub enum PackFault {
     /// The packed bytes end inside an instruction.
     Truncated,
-    /// An instruction has no known opcode.
+    /// An instruction has an unknown opcode.
     BadOpcode,
     /// An argument has more than 32 bits or five bytes.
     CountTooLarge,
-    /// An instruction spells more bytes than are left to be written.
+    /// An instruction spells more bytes than are left to write.
     TooLong,
     /// The packed bytes end before all bytes are written.
     TooShort,
-    /// The machine refused memory.
+    /// An allocation failed.
     OutOfMemory,
 }
 
 impl PackFault {
-    /// The refusal's number: 21 to 25, which no refusal of another crate has, or 99.
+    /// Returns the refusal's number: 21 to 25, which no refusal of another crate has, or 99.
     pub fn number(&self) -> u32
         ensures { result ≡ fault_number self.now }
     {
@@ -37,7 +37,7 @@ impl PackFault {
         }
     }
 
-    /// The refusal's name, which is its text.
+    /// Returns the refusal's name, which is its text.
     pub fn name(&self) -> &'static str
         ensures { result.now ≡ fault_name self.now }
     {

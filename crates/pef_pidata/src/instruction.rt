@@ -22,7 +22,7 @@ const REPEAT_BLOCK: u8 = 3;
 
 const REPEAT_ZERO: u8 = 4;
 
-/// Custom parts, with a common part before each and behind the last.
+/// Custom parts, with a common part before each and after the last.
 #[derive(Clone, Copy)]
 pub(crate) struct Woven {
     /// How many bytes the common part has.
@@ -36,19 +36,19 @@ pub(crate) struct Woven {
 /// An instruction with its arguments, each below 2^32.
 #[derive(Clone, Copy)]
 pub(crate) enum Instruction {
-    /// So many zero bytes.
+    /// This many zero bytes.
     Zeros(u32),
-    /// So many bytes, which follow.
+    /// This many bytes, which follow.
     Block(u32),
-    /// `count` bytes, which follow, and `repeats` more times the same.
+    /// `count` bytes, which follow, and the same bytes `repeats` more times.
     Repeat { count: u32, repeats: u32 },
-    /// The common part follows, and the custom parts behind it.
+    /// The common part follows, and the custom parts after it.
     Weave(Woven),
     /// The custom parts follow, and the common part is zeros.
     WeaveZeros(Woven),
 }
 
-/// An instruction, and the bytes behind its arguments.
+/// An instruction, and the bytes after its arguments.
 #[derive(Clone, Copy)]
 pub(crate) struct Decoded<'a> {
     pub instruction: Instruction,
@@ -126,7 +126,7 @@ fn read_woven(low: u8, packed: &[u8]) -> Result<(Woven, &[u8]), PackFault>
 }
 
 impl Instruction {
-    /// How many bytes the instruction spells: less than 2^65.
+    /// Returns how many bytes the instruction spells: less than 2^65.
     pub fn spelled_len(&self) -> u128
         ensures { result ≡ spelled_len self.now }
     {
@@ -139,7 +139,7 @@ impl Instruction {
         }
     }
 
-    /// How many packed bytes it copies: less than 2^64.
+    /// Returns how many packed bytes it copies: less than 2^64.
     pub fn copied_len(&self) -> u64
         ensures { result ≡ copied_len self.now }
     {

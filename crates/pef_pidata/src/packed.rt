@@ -6,7 +6,7 @@ ghost use Rattle.pef_pidata.specs.Kept.Views.{instruction_seen, step_seen};
 use crate::fault::PackFault;
 use crate::instruction::{Decoded, Instruction, read_instruction};
 
-/// An instruction that has room for what it spells, the bytes that it copies, and those behind it.
+/// An instruction whose output has room, with the bytes that it copies and those after it.
 #[derive(Clone, Copy)]
 struct Step<'a> {
     instruction: Instruction,
@@ -17,15 +17,14 @@ struct Step<'a> {
 
 /// Expands packed bytes until `out` is full.
 ///
-/// What is left of the packed bytes is then ignored; where `out` is empty, all of them are. After a
-/// refusal `out` has any bytes.
+/// The rest of the packed bytes is then ignored; if `out` is empty, all of them are. After a refusal
+/// the contents of `out` are unspecified.
 ///
 /// # Errors
 ///
-/// The first of these that an instruction meets, in this order: `TooShort` where no packed byte is
-/// left, `BadOpcode`, then `Truncated` or `CountTooLarge` at the first argument that has it, `TooLong`
-/// where it spells more bytes than are left of `out`, and `Truncated` where fewer bytes are left than
-/// it copies.
+/// The first of these that an instruction has, in this order: `TooShort` if no packed byte is left,
+/// `BadOpcode`, then `Truncated` or `CountTooLarge` at the first argument that has it, `TooLong` if it
+/// spells more bytes than are left of `out`, and `Truncated` if fewer bytes are left than it copies.
 pub fn expand(packed: &[u8], out: &mut [u8]) -> Result<(), PackFault>
     ensures { result_map (λ _. out.new) result ≡ pattern_text packed.now (length out.old) }
 {
@@ -41,7 +40,7 @@ pub fn expand(packed: &[u8], out: &mut [u8]) -> Result<(), PackFault>
     Ok(())
 }
 
-/// Reads the next instruction, to be written where `room` bytes are left.
+/// Reads the next instruction, to be written if `room` bytes are left.
 #[tactic(auto, unfolding(crate::specs::Pattern::next_output))]
 fn next_step(packed: &[u8], room: usize) -> Result<Step<'_>, PackFault>
     ensures step { result_map step_seen result ≡ next_output room packed.now }

@@ -8,20 +8,20 @@ use crate::fault::PackFault;
 use crate::instruction::{BLOCK, COUNTS, ZERO};
 use std::alloc::{AllocError, Global};
 
-/// Returns the packed bytes of an image of up to 16,777,216 bytes. `expand` makes the image of them.
+/// Returns the packed bytes of an image of up to 16,777,216 bytes. `expand` turns them back into the image.
 ///
-/// Each longest run of three or more zeros is one instruction. What is between two such runs, or at an
-/// end, is one that copies it. The time is linear in the image's length.
+/// Each longest run of three or more zeros is one instruction. The bytes between two such runs, or at an
+/// end, are one instruction that copies them. The time is linear in the image's length.
 ///
 /// # Errors
 ///
-/// `OutOfMemory` alone.
+/// Only `OutOfMemory`.
 pub fn pack(alloc: Global, image: &[u8]) -> Result<Vec<u8>, PackFault>
     requires { length image.now ≤ 2 ^ 24 }
     ensures packed { IfOk result (λ v. v.items ≡ packed_of image.now) }
     ensures memory { IfErr result (λ e. e ≡ OutOfMemory) }
 {
-    // This is enough: a block with the run after it grows by at most one byte in 131, a last block by five.
+    // Enough: a block with the run after it grows by at most one byte in 131, and a last block by five.
     let room = image.len() + image.len() / 128 + 5;
     let mut packed = Vec::with_capacity(alloc, room)?;
     let mut rest = image;
@@ -36,13 +36,13 @@ pub fn pack(alloc: Global, image: &[u8]) -> Result<Vec<u8>, PackFault>
 /// A part of an image.
 #[derive(Clone, Copy)]
 enum Piece<'a> {
-    /// A longest run of zeros: how many they are.
+    /// A longest run of zeros, by its length.
     Zeros(usize),
-    /// What is between two runs, or at an end.
+    /// The bytes between two runs, or at an end.
     Block(&'a [u8]),
 }
 
-/// The first part of an image that has bytes, and what follows the part.
+/// Returns the first part of an image that has bytes, and the bytes after the part.
 fn first_piece(image: &[u8]) -> (Piece<'_>, &[u8])
     requires { 0 < length image.now }
     ensures parts { parts_of image.now ≡ piece_seen result.0 ∷ parts_of result.1.now }
@@ -59,7 +59,7 @@ fn first_piece(image: &[u8]) -> (Piece<'_>, &[u8])
     (Piece::Block(bytes), rest)
 }
 
-/// How many bytes there are before the first three zeros in a row.
+/// Returns how many bytes there are before the first three zeros in a row.
 fn block_len(image: &[u8]) -> usize
     ensures within { result ≤ length image.now }
     ensures copied { IsCopiedTo image.now result }
@@ -79,7 +79,7 @@ fn block_len(image: &[u8]) -> usize
     image.len()
 }
 
-/// How many zeros an image begins with.
+/// Returns how many zeros an image begins with.
 fn zeros_len(image: &[u8]) -> usize
     ensures { result ≡ zeros_first image.now }
 {
@@ -106,7 +106,7 @@ fn append(packed: &mut Vec<u8>, piece: Piece<'_>) -> Result<(), AllocError>
     }
 }
 
-/// Appends an instruction's first byte, and the argument that a count above 31 is.
+/// Appends an instruction's first byte, and the argument for a count above 31.
 #[tactic(auto, unfolding(crate::specs::Packing::counted_bytes))]
 fn append_count(packed: &mut Vec<u8>, opcode: u8, count: u32) -> Result<(), AllocError>
     requires { opcode ≤ 1 }
@@ -134,7 +134,7 @@ fn append_argument(packed: &mut Vec<u8>, value: u32) -> Result<(), AllocError>
     Ok(())
 }
 
-/// Appends the byte of an argument with the seven bits from `unit` on, where the value has any.
+/// Appends the byte of an argument with the seven bits from `unit` on, if the value has bits there.
 fn append_leading(packed: &mut Vec<u8>, unit: u32, value: u32) -> Result<(), AllocError>
     requires { 0 < unit }
     ensures { OnOk result (packed.new.items ≡ packed.old.items ++ leading_byte unit value) }

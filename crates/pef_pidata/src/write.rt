@@ -4,7 +4,7 @@ ghost use Rattle.pef_pidata.specs.Pattern.{copied_len, output, repeated, spelled
 use crate::instruction::Instruction;
 
 impl Instruction {
-    /// Writes what the instruction spells, from the bytes that it copies.
+    /// Writes the output of the instruction, from the bytes that it copies.
     pub fn write(&self, bytes: &[u8], target: &mut [u8])
         requires bytes { length bytes.now ≡ copied_len self.now }
         requires target { length target.old ≡ spelled_len self.now }
@@ -35,7 +35,8 @@ impl Instruction {
     }
 }
 
-/// Writes a block, and `repeats` more times the same: what is written is copied behind itself.
+/// Writes a block, and the same `repeats` more times: the bytes written so far are copied after
+/// themselves.
 fn repeat(block: &[u8], repeats: u32, target: &mut [u8])
     requires { length target.old ≡ length block.now * (repeats + 1) }
     ensures { target.new ≡ repeated (repeats + 1) block.now }
@@ -50,11 +51,11 @@ fn repeat(block: &[u8], repeats: u32, target: &mut [u8])
     }
 }
 
-/// What stands before each of some parts, and once more behind the last.
+/// The bytes before each of some parts, and once more after the last.
 #[derive(Clone, Copy)]
 enum Common<'a> {
     Bytes(&'a [u8]),
-    /// So many zero bytes.
+    /// This many zero bytes.
     Zeros(usize),
 }
 
@@ -80,7 +81,7 @@ impl Common<'_> {
         }
     }
 
-    /// Writes this, and a part behind it.
+    /// Writes this, and a part after it.
     fn write_before(self, part: &[u8], target: &mut [u8])
         requires { length target.old ≡ length (common_seen self) + length part.now }
         ensures { target.new ≡ common_seen self.entry ++ part.now }

@@ -9,7 +9,7 @@ then-unless : (f : Option RelocFault) (memory : List ℕ) (d : Done) (rest : Lis
 then-unless None memory d rest = refl
 then-unless (Some f) memory d rest = refl
 
--- acts after acts do what the first ones do, and then, where those aren't refused, what the others do
+-- acts after acts do what the first ones do, and then, if those aren't refused, what the others do
 pub applied-append : (a : Addresses) (xs ys : List Act) (memory : List ℕ) → applied a (xs ++ ys) memory ≡ then_done (applied a xs memory) (applied a ys)
 unfolding applied
 applied-append a [] ys memory = refl

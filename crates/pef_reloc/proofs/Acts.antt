@@ -1,4 +1,4 @@
--- What one act does, and what follows.
+-- The effect of one act, and of those after it.
 use Rattle.std.proofs.Common.{◌≡◌, ℕ, ◌+◌, Bool, true, false, cond, List, ◌∷◌, nat_le, nat_lt, length, Option, None, Some, refl, ap, sym}
 use Rattle.pef_reloc.specs.declared.fault.RelocFault.{RelocFault}
 use Rattle.pef_reloc.specs.declared.fault.RelocFault.TheVariants.{WordOutside, ImportOutside, SectionOutside}
@@ -26,7 +26,7 @@ go-fault : (inside : Bool) (old new memory' : List ℕ) (rest : List ℕ → Don
 go-fault true old new memory' rest f e = let no : ◌≡◌ {A = Option RelocFault} None (Some f) = ap fault_of e in absurd (cc no)
 go-fault false old new memory' rest f e = e
 
--- an addition inside memory, and the acts behind it
+-- an addition inside memory, and the acts after it
 pub word-next : (a : Addresses) (b : Base) (x at : ℕ) (acts : List Act) (memory memory' : List ℕ) → Stands a b x → word_added memory at x ≡ record { memory = memory'; fault = None } → applied a (add (added at b) ∷ acts) memory ≡ applied a acts memory'
 unfolding applied
 word-next a b x at acts memory memory' stands e =
@@ -38,7 +38,7 @@ unfolding applied
 word-fault a b x at acts memory memory' f stands e =
     rw (stands.there, stands.address_is) (go-fault (nat_le (at + 4) (length memory)) memory (added_at memory at x) memory' (applied a acts) f e)
 
--- a section that is there, and the acts behind the look for it
+-- a section that exists, and the acts after the look for it
 pub need-there : (a : Addresses) (k : ℕ) (acts : List Act) (memory : List ℕ) → nat_lt k (length a.sections) ≡ true → applied a (need k ∷ acts) memory ≡ applied a acts memory
 unfolding applied
 need-there a k acts memory e = rw e refl
@@ -47,12 +47,12 @@ pub need-fault : (a : Addresses) (k : ℕ) (acts : List Act) (memory : List ℕ)
 unfolding applied
 need-fault a k acts memory e = rw e refl
 
--- an import that isn't there
+-- an import that doesn't exist
 pub import-fault : (a : Addresses) (j at : ℕ) (acts : List Act) (memory : List ℕ) → nat_lt j (length a.imports) ≡ false → applied a (add (added at (Import j)) ∷ acts) memory ≡ record { memory = memory; fault = Some ImportOutside }
 unfolding applied
 import-fault a j at acts memory e = rw e refl
 
--- a section stands at its address, also where it isn't there
+-- a section has its address, also if it doesn't exist
 pub section_stands : (a : Addresses) (k x : ℕ) → x ≡ address_of a (Section k) → Stands a (Section k) x
 section_stands a k x e = record { there = refl; address_is = sym e }
 

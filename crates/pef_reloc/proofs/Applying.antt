@@ -20,7 +20,7 @@ use Rattle.pef_reloc.proofs.CodeLemmas.{code-end, code-next}
 use Rattle.pef_reloc.proofs.Readings.{fault-none}
 use Rattle.pef_reloc.proofs.Runs.{Leaves, leaves-all, leaves-more, leaves-fault, leaves-none}
 
--- what is left to apply
+-- the part that is left to apply
 pub record ApplyLeft (bytes : List ℕ) (a : Addresses) (at : ℕ) (m : Machine) (memory whole : List ℕ) : Type 0 where
   pub before : List Instr
   pub steps : ℕ
@@ -44,7 +44,7 @@ apply-start bytes a m memory fine holds position imports = record {
   leaves = leaves-all a m memory (unrolled_after [] (code_of bytes).instrs) start holds;
 }
 
--- what is known of an instruction that isn't refused
+-- the facts of an instruction that isn't refused
 pub record Fine (before : List Instr) (steps : ℕ) (x : Instr) : Type 0 where
   pub block : repeat_fault before (repeat_of x) ≡ None
   pub under : steps + steps_as before (repeat_of x) ≤ step_limit
@@ -68,7 +68,7 @@ fine-here bytes at x before steps under here none =
     let p = fine_parts bytes at x before steps under here none in
     record { block = p.0; under = steps_fine _ p.1 }
 
--- a readable program has an instruction wherever one is looked for
+-- a readable program has an instruction wherever one is read
 pub fine-begins : (bytes : List ℕ) (at : ℕ) (before : List Instr) (steps : ℕ) (f : RelocFault) → at < length bytes → first_instr (drop at bytes) ≡ Err f → code_fault before steps (code_of (drop at bytes)) ≡ None → ⊥
 fine-begins bytes at before steps f under here none =
     let no : ◌≡◌ {A = Option RelocFault} (Some f) None = sym (fault-none bytes at before steps f under here) ∙ none in cc no
@@ -85,7 +85,7 @@ some_steps : (before : List Instr) (r : Option Repeat) → 1 ≤ steps_as before
 some_steps before None = omega arith
 some_steps before (Some r) = omega arith
 
--- the instruction and what is left behind it
+-- the instruction and the rest after it
 split : (bytes : List ℕ) (a : Addresses) (at : ℕ) (m : Machine) (memory whole : List ℕ) (x : Instr) (left : ApplyLeft bytes a at m memory whole) → at < length bytes → first_instr (drop at bytes) ≡ Ok x → Leaves a m memory (executed left.before x ++ unrolled_after (x ∷ left.before) (code_of (drop (at + 2 * instr_length x) bytes)).instrs) whole (unrolled (instrs_of bytes)) start
 split bytes a at m memory whole x left under here =
     let P : Code → Type 0 = λ code. Leaves a m memory (unrolled_after left.before code.instrs) whole (unrolled (instrs_of bytes)) start in

@@ -24,7 +24,7 @@ numbered w v u =
     where_met (w / 1024 == 0x2D) (section_instr (w / 64 % 16) (w % 64 * 0x10000 + v)) (section_instr (w / 64 % 16) (w % 64 * 0x10000 + u))
     (on_section (w / 64 % 16) (w % 64 * 0x10000 + v) (w % 64 * 0x10000 + u))
 
--- the second halfword has no say in it
+-- the second halfword doesn't matter for that
 pub begins_with : (w v u : ℕ) → is_some (long_instr w v) ≡ is_some (long_instr w u)
 unfolding long_instr
 begins_with w v u =

@@ -58,7 +58,7 @@ faulted a m m' memory memory' bytes at to m0 whole block x f (y ∷ ys) spans le
 pub block-fault : (a : Addresses) (m m' : Machine) (memory memory' bytes : List ℕ) (at to : ℕ) (m0 : Machine) (whole : List ℕ) (block : List Instr) (x : Instr) (f : RelocFault) → BlockLeft a m memory bytes at to m0 whole block → at < to → first_instr (drop at bytes) ≡ Ok x → Runs a m m' memory memory' (x ∷ []) (Some f) → Runs a m0 m' whole memory' block (Some f)
 block-fault a m m' memory memory' bytes at to m0 whole block x f left = faulted a m m' memory memory' bytes at to m0 whole block x f left.rest left.spans left.leaves
 
--- a place inside a block begins an instruction
+-- an instruction begins at a place inside a block
 pub begins : (bytes : List ℕ) (at to : ℕ) (f : RelocFault) (rest : List Instr) → Spans bytes at rest to → at < to → first_instr (drop at bytes) ≡ Err f → ⊥
 begins bytes at to f [] spans under none = absurd (omega arith)
 begins bytes at to f (y ∷ ys) spans under none = let no : Ok y ≡ Err f = sym spans.0 ∙ none in cc no
@@ -87,7 +87,7 @@ repeated-more n i block under = let e : n - i ≡ suc (n - (i + 1)) = omega arit
 pub repeated-end : (n i : ℕ) (block : List Instr) → n ≤ i → repeated (n - i) block ≡ []
 repeated-end n i block past = let e : n - i ≡ 0 = omega arith in rw e refl
 
--- where a repeat reaches back to, and what stands from there on
+-- the place that a repeat reaches back to, and the instructions from there on
 pub record Reach (bytes : List ℕ) (at n : ℕ) (block : List Instr) (to : ℕ) : Type 0 where
   pub room : 2 * n ≤ at
   pub spans : Spans bytes (at - 2 * n) block to

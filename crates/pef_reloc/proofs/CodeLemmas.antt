@@ -17,7 +17,7 @@ some_length (LgSetSectC k) = omega arith
 some_length (LgSetSectD k) = omega arith
 some_length _ = omega arith
 
--- the code behind an instruction, however many instructions are allowed
+-- the code after an instruction, however many instructions are allowed
 from_enough : (r : Result Instr RelocFault) (f g : Instr → Code) → ((instr : Instr) → f instr ≡ g instr) → code_from r f ≡ code_from r g
 from_enough (Ok instr) f g e = ap (code_more instr) (e instr)
 from_enough (Err fault) f g e = refl
@@ -55,7 +55,7 @@ code_of-nothing = refl
 pub code-end : (bytes : List ℕ) (at : ℕ) → length bytes ≤ at → code_of (drop at bytes) ≡ no_code
 code-end bytes at past = rw (drop_all at bytes past) code_of-nothing
 
--- an instruction at a place, and the code behind it
+-- an instruction at a place, and the code after it
 pub code-next : (bytes : List ℕ) (at : ℕ) (instr : Instr) → at < length bytes → first_instr (drop at bytes) ≡ Ok instr → code_of (drop at bytes) ≡ code_more instr (code_of (drop (at + 2 * instr_length instr) bytes))
 code-next bytes at instr under e =
     let some : 0 < length (drop at bytes) = omega (arith, length-drop at bytes) in

@@ -1,4 +1,4 @@
--- Where an instruction begins to add, the import index that it leaves, and which bases stand in a list.
+-- When an instruction begins to add, the import index after it, and which bases are in a list.
 use Rattle.std.proofs.Common.{◌≡◌, ℕ, zero, suc, ◌+◌, ◌*◌, ◌<◌, ◌≤◌, inl, inr, true, false, ◌&&◌, ◌||◌, nat_le, List, [], ◌∷◌, ◌++◌, refl, ap, sym, ◌∙◌, arith}
 use Rattle.std.specs.List.{AllByRecursion}
 use Rattle.std.proofs.lemmas.Bool.{and_parts, leb-true, ltb-true, or_cases}
@@ -33,7 +33,7 @@ unfolding numbered
 numbered-first zero p m f fs e = absurd (cc)
 numbered-first (suc n) p m f fs e = begins (added p (Import m)) f (numbered n (p + 4) (m + 1)) fs p e refl
 
--- an instruction begins to add at the position; only a skip passes on before it
+-- an instruction begins to add at the position; only a skip passes words first
 pub first_addition : (x : Instr) (s : State) (f : Fixup) (fs : List Fixup) → additions x s ≡ f ∷ fs → f.offset ≡ s.position + passes_on x
 first_addition (BySectDWithSkip skip count) s f fs e = row-first count (s.position + 4 * skip) 4 (Section s.d) f fs e
 first_addition (BySectC n) s f fs e = let at = row-first n s.position 4 (Section s.c) f fs e in omega (arith, at)
@@ -55,7 +55,7 @@ first_addition (LgRepeat blocks count) s f fs e = absurd (cc)
 first_addition (LgSetSectC k) s f fs e = absurd (cc)
 first_addition (LgSetSectD k) s f fs e = absurd (cc)
 
--- additions of sections leave the import index
+-- additions of sections don't change the import index
 pub row-index : (n p w k m : ℕ) → index_after (row n p w (Section k)) m ≡ m
 unfolding row
 row-index zero p w k m = refl
@@ -66,13 +66,13 @@ unfolding pairs
 pairs-index zero p w k k' m = refl
 pairs-index (suc n) p w k k' m = pairs-index n (p + w) w k k' m
 
--- a run of imports moves it on by one for each
+-- a run of imports adds one to it for each
 pub numbered-index : (n p m : ℕ) → index_after (numbered n p m) m ≡ m + n
 unfolding numbered
 numbered-index zero p m = omega arith
 numbered-index (suc n) p m = let e = numbered-index n (p + 4) (m + 1) in omega (arith, e)
 
--- an instruction leaves the import index that its additions lead to
+-- the import index after an instruction is that after its additions
 pub index_kept : (x : Instr) (s : State) → (next_state x s).import_index ≡ index_after (additions x s) s.import_index
 index_kept (BySectDWithSkip skip count) s = sym (row-index count (s.position + 4 * skip) 4 s.d s.import_index)
 index_kept (BySectC n) s = sym (row-index n s.position 4 s.c s.import_index)
@@ -94,7 +94,7 @@ index_kept (LgBySection k) s = refl
 index_kept (LgSetSectC k) s = refl
 index_kept (LgSetSectD k) s = refl
 
--- the import index behind fixups and others
+-- the import index after fixups and others
 pub index_after-append : (fs gs : List Fixup) (m : ℕ) → index_after (fs ++ gs) m ≡ index_after gs (index_after fs m)
 index_after-append [] gs m = refl
 index_after-append (f ∷ fs) gs m = index_after-append fs gs (index_past f.base m)
@@ -109,7 +109,7 @@ each_from end (f ∷ fs) apart =
 pub each_fits : (fs : List Fixup) → fixups_fit fs ≡ true → AllByRecursion (λ f. fixup_fits f ≡ true) fs
 each_fits fs fit = each_from 0 fs (fixups_fit-parts fs fit).apart
 
--- what is known of a fixup that fits
+-- the facts of a fixup that fits
 pub record FixupFits (f : Fixup) : Type 0 where
   pub inside : f.offset + 4 ≤ offset_limit
   pub base : base_fits f.base ≡ true
@@ -139,7 +139,7 @@ section_below (f ∷ fs) k fit uses =
 pub used_section-below : (fs : List Fixup) (k : ℕ) → fixups_fit fs ≡ true → uses_section fs k ≡ true → k < most_sections
 used_section-below fs k fit uses = section_below fs k (each_fits fs fit) uses
 
--- what fixups in a row use
+-- the sections that fixups in a row use
 pub uses_section-append : (fs gs : List Fixup) (k : ℕ) → uses_section (fs ++ gs) k ≡ (uses_section fs k || uses_section gs k)
 uses_section-append [] gs k = refl
 uses_section-append (f ∷ fs) gs k =

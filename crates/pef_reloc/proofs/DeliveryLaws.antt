@@ -1,4 +1,4 @@
--- Instruction by instruction: lists of them, what one adds first, and what is left to make.
+-- Instruction by instruction: lists of them, what one adds first, and the fixups left to make.
 use Rattle.std.proofs.Common.{◌≡◌, ◌+◌, ◌≤◌, true, List, [], ◌∷◌, ◌++◌, length, refl, ap, sym, ◌∙◌, arith, append_assoc}
 use Rattle.std.specs.Option.{is_none}
 use Rattle.std.proofs.lemmas.Bool.{and_from, and_parts}
@@ -9,14 +9,14 @@ use Rattle.pef_reloc.specs.Instrs.{instr_fits, instrs_fit, program_length, repea
 use Rattle.pef_reloc.specs.Steps.{State, additions, is_flat, next_state, state_after, trace}
 use Rattle.pef_reloc.proofs.CodeLemmas.{some_length}
 
--- the additions of instructions behind others
+-- the additions of instructions after others
 pub trace-append : (xs ys : List Instr) (s : State) → trace (xs ++ ys) s ≡ trace xs s ++ trace ys (state_after xs s)
 trace-append [] ys s = refl
 trace-append (x ∷ xs) ys s =
     ap (λ fs. additions x s ++ fs) (trace-append xs ys (next_state x s))
     ∙ sym (append_assoc (additions x s) (trace xs (next_state x s)) (trace ys (state_after xs (next_state x s))))
 
--- the halfwords of instructions behind others
+-- the halfwords of instructions after others
 pub program_length-append : (xs ys : List Instr) → program_length (xs ++ ys) ≡ program_length xs + program_length ys
 program_length-append [] ys = omega arith
 program_length-append (x ∷ xs) ys = let e = program_length-append xs ys in omega (arith, e)

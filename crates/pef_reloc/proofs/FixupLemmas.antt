@@ -1,4 +1,4 @@
--- Lists of fixups that are built one by one, and what stands in a list that fits.
+-- Lists of fixups that are built one by one, and the fixups of a list that fits.
 use Rattle.std.proofs.Common.{◌≡◌, ℕ, ◌+◌, ◌≤◌, ◌<◌, Bool, true, false, List, [], ◌∷◌, ◌++◌, ◌&&◌, nat_le, length, refl, ◌∙◌, sym, arith, length-append}
 use Rattle.std.proofs.lemmas.Bool.{leb-true, le-leb, and_from, and_parts}
 use Rattle.pef_reloc.specs.declared.fixup.Fixup.{Fixup}
@@ -9,7 +9,7 @@ pub and_assoc : (a b c : Bool) → (a && b && c) ≡ (a && (b && c))
 and_assoc true b c = refl
 and_assoc false b c = refl
 
--- the fixups of two lists stand apart where those of the first do, and those of the second after its end
+-- the fixups of two lists are apart if those of the first are, and those of the second are after its end
 pub fixups_from-append : (end : ℕ) (fs gs : List Fixup) → fixups_from end (fs ++ gs) ≡ (fixups_from end fs && fixups_from (fixups_end end fs) gs)
 fixups_from-append end [] gs = refl
 fixups_from-append end (f ∷ fs) gs =
@@ -34,7 +34,7 @@ fixups_fit-more fs f fit room after inside base =
     and_from _ _ (le-leb _ _ count)
     (fixups_from-append 0 fs (f ∷ []) ∙ and_from _ _ parts.1 (and_from _ _ (and_from _ _ (le-leb _ _ after) (and_from _ _ (le-leb _ _ inside) base)) refl))
 
--- what is known of fixups that fit: how many there are, and how each stands to the one before it
+-- the facts of fixups that fit: how many there are, and how each relates to the one before it
 pub record FixupsFit (fs : List Fixup) : Type 0 where
   pub count : length fs ≤ most_fixups
   pub apart : fixups_from 0 fs ≡ true
@@ -45,7 +45,7 @@ fixups_fit-parts fs fit =
     let parts = and_parts (nat_le (length fs) most_fixups) (fixups_from 0 fs) fit in
     record { count = leb-true _ _ parts.0; apart = parts.1 }
 
--- what is known of the first of fixups that stand apart, and of the others
+-- the facts of the first of fixups that are apart, and of the others
 pub record FirstStands (end : ℕ) (f : Fixup) (fs : List Fixup) : Type 0 where
   pub after : end ≤ f.offset
   pub inside : f.offset + 4 ≤ offset_limit

@@ -1,5 +1,5 @@
--- Laws for the crates that write programs: what bytes that spell instructions are read as, and what
--- instructions without repeats do.
+-- Laws for the crates that write programs: how bytes that spell instructions are read, and the
+-- effect of instructions without repeats.
 use Rattle.std.proofs.Common.{◌≡◌, ℕ, ◌+◌, ◌*◌, ◌<◌, ◌≤◌, true, nat_lt, List, [], ◌∷◌, ◌++◌, drop, length, map, Option, None, Some, refl, ap, sym, ◌∙◌, arith, length-append, append_assoc}
 use Rattle.std.proofs.lemmas.List.{map-append}
 use Rattle.std.proofs.Math.Seq.{drop-append_seam}
@@ -44,13 +44,13 @@ length_spelling (LgBySection k) = refl
 length_spelling (LgSetSectC k) = refl
 length_spelling (LgSetSectD k) = refl
 
--- and so are instructions one behind the other
+-- and so are instructions one after the other
 pub length-spelled : (xs : List Instr) → length (spelled xs) ≡ 2 * program_length xs
 length-spelled [] = ap length spelled-nothing
 length-spelled (x ∷ xs) =
     omega (arith, ap length (spelled-one x xs) ∙ length-append (halfword_bytes (halfwords_of x)) (spelled xs), length_spelling x, length-spelled xs)
 
--- what stands behind the bytes of an instruction
+-- the bytes after those of an instruction
 pub behind : (x : Instr) (rest : List ℕ) → drop (2 * instr_length x) (halfword_bytes (halfwords_of x) ++ rest) ≡ rest
 behind x rest =
     ap (λ n. drop n (halfword_bytes (halfwords_of x) ++ rest)) (sym (length_spelling x))
@@ -74,7 +74,7 @@ none_is : (r : Option Repeat) → is_none r ≡ true → r ≡ None
 none_is None e = refl
 none_is (Some r) e = absurd (cc e)
 
--- instructions without repeats are refused for their number alone
+-- instructions without repeats are refused only for their number
 pub first_fault-flat : (before : List Instr) (steps : ℕ) (xs : List Instr) → repeat_free xs ≡ true → steps + length xs ≤ step_limit → first_fault before steps xs ≡ None
 first_fault-flat before steps [] free few = refl
 first_fault-flat before steps (x ∷ xs) free few =
@@ -99,14 +99,14 @@ program_fault-spelled xs flat few =
     let p = and_parts (repeat_free xs) (instrs_fit xs) flat in
     rw (code_of-spelled xs p.1, first_fault-flat [] 0 xs p.0 (omega arith)) refl
 
--- and do what the list does
+-- and have the effect of the list
 pub relocated-spelled : (xs : List Instr) (a : Addresses) (memory : List ℕ) → is_flat xs ≡ true → relocated (spelled xs) a memory ≡ applied a (acts_from xs start) memory
 unfolding relocated
 relocated-spelled xs a memory flat =
     let p = and_parts (repeat_free xs) (instrs_fit xs) flat in
     ap (λ ys. applied a (acts_from ys start) memory) (ap unrolled (instrs_of-spelled xs p.1) ∙ unrolled-flat xs p.0)
 
--- sections that are there are looked for without effect
+-- a look for sections that exist has no effect
 needs_met : (a : Addresses) (sections : List ℕ) (acts : List Act) (memory : List ℕ) → all_below (length a.sections) sections ≡ true → applied a (map need sections ++ acts) memory ≡ applied a acts memory
 needs_met a [] acts memory below = refl
 needs_met a (k ∷ sections) acts memory below =
@@ -116,11 +116,11 @@ needs_met a (k ∷ sections) acts memory below =
 unless_same : (f : Option RelocFault) (m : List ℕ) (x y : Done) → x ≡ y → unless_refused f m x ≡ unless_refused f m y
 unless_same f m x y e = ap (unless_refused f m) e
 
--- what is done next in two ways that come to the same
+-- the next step in two ways that are equal
 pub then_same : (d : Done) (f g : List ℕ → Done) → ((m : List ℕ) → f m ≡ g m) → then_done d f ≡ then_done d g
 then_same d f g e = unless_same d.fault d.memory (f d.memory) (g d.memory) (e d.memory)
 
--- instructions that name sections that are there do their additions, and no other refusal comes
+-- instructions that name sections that exist do their additions, with no other refusal
 pub applied-trace : (a : Addresses) (xs : List Instr) (s : State) (memory : List ℕ) → names_below (length a.sections) xs ≡ true → applied a (acts_from xs s) memory ≡ applied a (map add (trace xs s)) memory
 applied-trace a [] s memory below = refl
 applied-trace a (x ∷ xs) s memory below =

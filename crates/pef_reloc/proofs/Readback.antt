@@ -19,12 +19,12 @@ use Rattle.pef_reloc.proofs.FlatLaws.{behind}
 use Rattle.pef_reloc.proofs.CodeLemmas.{some_length}
 use Rattle.pef_reloc.proofs.Spellings.{spelled-nothing, spelled-one}
 
--- what a table of tests picked has a property that each of its rows has
+-- the row that a table of tests picked has a property that each of its rows has
 picked : (P : Instr → Type 0) (b : Bool) (y : Instr) (others : Option Instr) (x : Instr) → (b ≡ true → P y) → (others ≡ Some x → P x) → cond b (Some y) others ≡ Some x → P x
 picked P true y others x here later e = subst P (same_Some y x e) (here refl)
 picked P false y others x here later e = later e
 
--- a table that is asked where a test is met
+-- a table that is used if a test holds
 gated : (P : Instr → Type 0) (b : Bool) (r : Option Instr) (x : Instr) → (b ≡ true → r ≡ Some x → P x) → cond b r None ≡ Some x → P x
 gated P true r x here e = here refl e
 gated P false r x here e = absurd (cc e)
@@ -96,7 +96,7 @@ long_spells w v x small low =
     (gated (Spells (w ∷ v ∷ [])) (w / 1024 == 0x2D) _ x
     (λ e. section_spells w v (w / 64 % 16) (w % 64 * 0x10000 + v) x (let o = eqb-true (w / 1024) 0x2D e in omega arith) (omega arith) (omega arith) low))))
 
--- two bytes, and the halfword that they are
+-- two bytes, and their halfword
 halfword_back : (a b : ℕ) → a < 256 → b < 256 → big_bytes 2 (a * 256 + b) ≡ a ∷ b ∷ []
 halfword_back a b high low = two_words a b _ _ (omega arith) (omega arith)
 
@@ -198,7 +198,7 @@ more_spelled bytes x instrs begins others =
       fit = and_from _ _ begins.fits others.fit;
     }
 
--- what was read of some bytes, and nothing refused, spells them
+-- instructions that were read from some bytes without a refusal spell them
 read_spelled : (n : ℕ) (bytes : List ℕ) → length bytes ≤ n → AreBytes bytes → (code_within n bytes).fault ≡ None → Spelled bytes (code_within n bytes).instrs
 unfolding code_within
 read_spelled zero [] few are fine = record { is = spelled-nothing; fit = refl }

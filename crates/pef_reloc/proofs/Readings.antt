@@ -11,7 +11,7 @@ use Rattle.pef_reloc.specs.Kept.Readers.{Marks, Passes}
 use Rattle.pef_reloc.specs.Unrolled.{code_fault, instr_fault, program_fault, steps_as}
 use Rattle.pef_reloc.proofs.CodeLemmas.{code-end, code-next, code-fault}
 
--- the refusal of what is left is that of the program
+-- the refusal of the rest is that of the program
 pub record ReadLeft (bytes : List ℕ) (at : ℕ) (reader : Reader) : Type 0 where
   pub before : List Instr
   pub stands : Before bytes before at

@@ -1,4 +1,4 @@
--- What ran, and what is left to run.
+-- The instructions that ran, and those that are left.
 use Rattle.std.proofs.Common.{◌≡◌, ℕ, List, [], ◌∷◌, ◌++◌, Option, None, Some, refl, ap, sym, ◌∙◌}
 use Rattle.std.proofs.lemmas.List.{append-nil}
 use Rattle.pef_reloc.specs.declared.fault.RelocFault.{RelocFault}
@@ -17,18 +17,18 @@ runs-one a old new before now instr answer step = record {
   holds = step.holds;
 }
 
--- what is left to do does what all would have done
+-- the effect of the instructions left is the rest of the whole effect
 pub record Leaves (a : Addresses) (m : Machine) (memory : List ℕ) (left : List Instr) (whole : List ℕ) (all : List Instr) (begin : State) : Type 0 where
   pub state : State
   pub holds : Holds a m state
   pub rest : applied a (acts_from left state) memory ≡ applied a (acts_from all begin) whole
   pub after : state_after left state ≡ state_after all begin
 
--- before anything ran all is left
+-- before the first instruction all are left
 pub leaves-all : (a : Addresses) (m : Machine) (memory : List ℕ) (all : List Instr) (s : State) → Holds a m s → Leaves a m memory all memory all s
 leaves-all a m memory all s h = record { state = s; holds = h; rest = refl; after = refl }
 
--- something ran
+-- an instruction ran
 pub leaves-more : (a : Addresses) (m m' : Machine) (memory memory' : List ℕ) (xs ys : List Instr) (whole : List ℕ) (all : List Instr) (begin : State) → Leaves a m memory (xs ++ ys) whole all begin → Runs a m m' memory memory' xs None → Leaves a m' memory' ys whole all begin
 leaves-more a m m' memory memory' xs ys whole all begin left ran = record {
   state = state_after xs left.state;
@@ -41,7 +41,7 @@ leaves-more a m m' memory memory' xs ys whole all begin left ran = record {
   after = sym (state_after-append xs ys left.state) ∙ left.after;
 }
 
--- something was refused
+-- an instruction was refused
 pub leaves-fault : (a : Addresses) (m m' : Machine) (memory memory' : List ℕ) (xs ys : List Instr) (whole : List ℕ) (all : List Instr) (begin : State) (f : RelocFault) → Leaves a m memory (xs ++ ys) whole all begin → Runs a m m' memory memory' xs (Some f) → applied a (acts_from all begin) whole ≡ record { memory = memory'; fault = Some f }
 leaves-fault a m m' memory memory' xs ys whole all begin f left ran =
     sym left.rest
@@ -49,7 +49,7 @@ leaves-fault a m m' memory memory' xs ys whole all begin f left ran =
     ∙ (applied-append a (acts_from xs left.state) (acts_from ys (state_after xs left.state)) memory
     ∙ ap (λ (d : Done). then_done d (applied a (acts_from ys (state_after xs left.state)))) (ran.does left.state left.holds).is))
 
--- nothing is left
+-- none is left
 pub leaves-none : (a : Addresses) (m : Machine) (memory whole : List ℕ) (all : List Instr) (begin : State) → Leaves a m memory [] whole all begin → applied a (acts_from all begin) whole ≡ record { memory = memory; fault = None }
 leaves-none a m memory whole all begin left = sym left.rest ∙ nothing_done a memory
 

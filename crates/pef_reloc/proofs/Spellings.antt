@@ -13,7 +13,7 @@ pub spelled-one : (x : Instr) (xs : List Instr) → spelled (x ∷ xs) ≡ halfw
 unfolding spelled
 spelled-one x xs = refl
 
--- the instruction at a place fits, and so do those behind it
+-- the instruction at a place fits, and so do those after it
 pub fits-here : (xs : List Instr) (i : ℕ) (d : Instr) → i < length xs → instrs_fit (drop i xs) ≡ true → (instr_fits (get_or xs i d) ≡ true) × (instrs_fit (drop (i + 1) xs) ≡ true)
 fits-here xs i d under fits = and_parts (instr_fits (get_or xs i d)) (instrs_fit (drop (i + 1) xs)) (ap instrs_fit (sym (drop_more xs i d under)) ∙ fits)
 

@@ -1,4 +1,4 @@
--- Where the last instructions begin, as a reader keeps it, and what the block of a repeat comes to.
+-- Where the last instructions begin, as a reader keeps it, and the steps of the block of a repeat.
 use Rattle.std.proofs.Common.{◌≡◌, ℕ, zero, suc, ◌+◌, ◌*◌, ◌-◌, ◌/◌, ◌%◌, ◌<◌, ◌≤◌, ◌≢◌, Bool, true, false, cond, List, [], ◌∷◌, length, drop, set, get_or, nat_le, Option, None, Some, Result, Ok, Err, refl, ap, sym, subst, ◌∙◌, arith, length-append, is_ok}
 use Rattle.std.specs.Option.{is_none, is_some}
 use Rattle.std.proofs.lemmas.List.{get_or-set_same, get_or-set_other, length-set}
@@ -20,7 +20,7 @@ either : (b : Bool) (r s : Result (List Instr) RelocFault) → is_ok r ≡ is_ok
 either true r s e = e
 either false r s e = refl
 
--- how far back an instruction begins doesn't depend on what was reached before
+-- how far back an instruction begins doesn't depend on the instructions reached before
 behind : (before : List Instr) (n : ℕ) (xs ys : List Instr) → is_ok (reached before n xs) ≡ is_ok (reached before n ys)
 behind [] zero xs ys = refl
 behind [] (suc n) xs ys = refl
@@ -31,7 +31,7 @@ reached-nothing : (before block : List Instr) → reached before 0 block ≡ Ok 
 reached-nothing [] block = refl
 reached-nothing (x ∷ before) block = refl
 
--- behind the last instruction
+-- after the last instruction
 begins-past : (x : Instr) (before : List Instr) (n : ℕ) → 1 ≤ n → instr_length x ≤ n → is_ok (reached (x ∷ before) n []) ≡ is_ok (reached before (n - instr_length x) [])
 begins-past x before zero some fits = absurd (omega arith)
 begins-past x before (suc n) some fits = rw (le-leb (instr_length x) (suc n) fits) (behind before (suc n - instr_length x) (x ∷ []) [])
@@ -48,7 +48,7 @@ begins-inside : (x : Instr) (before : List Instr) (n : ℕ) → 1 ≤ n → n < 
 begins-inside x before zero some under = absurd (omega arith)
 begins-inside x before (suc n) some under = rw (lt-leb (instr_length x) (suc n) under) refl
 
--- each mark behind an instruction of one halfword
+-- each mark after an instruction of one halfword
 one_at : (marks : List Bool) (x : Instr) (before : List Instr) → instr_length x ≡ 1 → Marks marks before → (n : ℕ) → 1 ≤ n → n ≤ 16 → n ≤ instr_length x + program_length before → get_or (set marks (program_length before % 16) true) ((instr_length x + program_length before - n) % 16) false ≡ is_ok (reached (x ∷ before) n [])
 one_at marks x before one old zero some few inside = absurd (omega arith)
 one_at marks x before one old (suc zero) some few inside =
@@ -64,7 +64,7 @@ one_at marks x before one old (suc (suc k)) some few inside =
     ∙ (old.begins (suc k) (omega arith) (omega (arith, few)) (omega (arith, inside, one))
     ∙ sym (begins-past x before (suc (suc k)) some (omega (arith, one)) ∙ ap (λ n. is_ok (reached before n [])) less)))
 
--- each mark behind one of two
+-- each mark after one of two
 two_at : (marks : List Bool) (x : Instr) (before : List Instr) → instr_length x ≡ 2 → Marks marks before → (n : ℕ) → 1 ≤ n → n ≤ 16 → n ≤ instr_length x + program_length before → get_or (set (set marks (program_length before % 16) true) ((program_length before + 1) % 16) false) ((instr_length x + program_length before - n) % 16) false ≡ is_ok (reached (x ∷ before) n [])
 two_at marks x before two old zero some few inside = absurd (omega arith)
 two_at marks x before two old (suc zero) some few inside =
@@ -108,14 +108,14 @@ mark-two marks x before at two at_is old =
       begins = two_at marks x before two old;
     })
 
--- what is left to count of a block
+-- the instructions of a block that are left to count
 pub record CountLeft (bytes : List ℕ) (at to count : ℕ) (block : List Instr) : Type 0 where
   pub rest : List Instr
   pub spans : Spans bytes at rest to
   pub flat_is : repeat_free rest ≡ repeat_free block
   pub count_is : count + length rest ≡ length block
 
--- the instruction that stands first
+-- the first instruction
 pub record First (bytes : List ℕ) (at to : ℕ) (rest : List Instr) (x : Instr) : Type 0 where
   pub others : List Instr
   pub rest_is : rest ≡ x ∷ others
@@ -206,7 +206,7 @@ pub steps-far : (bytes : List ℕ) (before : List Instr) (r : Repeat) (at steps 
 steps-far bytes before r at steps stands past =
     rw (far before [] r.blocks (omega (arith, past, before_length bytes before at stands))) refl
 
--- what the marks say of the place that a repeat reaches back to
+-- what the marks say about the place that a repeat reaches back to
 pub record Reaches (before : List Instr) (r : Repeat) (at : ℕ) (begins : Bool) : Type 0 where
   pub inside : r.blocks ≤ program_length before
   pub begins_is : is_ok (reached before r.blocks []) ≡ begins
@@ -243,7 +243,7 @@ nested : (b : Bool) (k steps : ℕ) (f : RelocFault) → cond b (Ok k) (Err Nest
 nested true k steps f e = absurd (cc e)
 nested false k steps f e = cc e
 
--- what a repeat comes to, from what its block came to
+-- the steps of a repeat, from those of its block
 pub steps-nested : (bytes : List ℕ) (before : List Instr) (r : Repeat) (at steps : ℕ) (f : RelocFault) (found : BlockThere bytes before r at) → flat_count found.block ≡ Err f → unless (repeat_fault before (Some r)) (Ok steps) ≡ Err f
 steps-nested bytes before r at steps f found e = rw found.is (nested (repeat_free found.block) (length found.block) steps f e)
 

@@ -1,5 +1,5 @@
--- What additions make of the memory of a section. No instruction is named here: fixups say which words
--- get whose address added (Mac OS Runtime Architectures, "PEF Structure", on relocation).
+-- The memory of a section after additions. No instruction is named here: fixups say which address is
+-- added to which word (Mac OS Runtime Architectures, "PEF Structure", on relocation).
 use Rattle.std.specs.Prelude.{ℕ, ◌+◌, ◌-◌, ◌^◌, ◌%◌, ◌<◌, ◌≤◌, List, [], ◌∷◌, ◌++◌, length, take, drop}
 use Rattle.std.specs.List.{AllByRecursion}
 use Rattle.byteorder.specs.Endian.{big_number, big_bytes}
@@ -8,12 +8,12 @@ use Rattle.pef_reloc.specs.declared.fixup.Base.TheVariants.{Section, Import}
 use Rattle.pef_reloc.specs.declared.fixup.Fixup.{Fixup}
 use Rattle.pef_reloc.specs.Applied.{Addresses, added_at, address_of}
 
--- a base that is there
+-- a base that exists
 abbrev pub IsThere : Addresses → Base → Type 0
 IsThere a (Section k) = k < length a.sections
 IsThere a (Import j) = j < length a.imports
 
--- the word of a fixup lies in memory of so many bytes, and its base is there
+-- the word of a fixup lies in memory of this many bytes, and its base exists
 pub record IsInside (a : Addresses) (len : ℕ) (fixup : Fixup) : Type 0 where
   pub word : fixup.offset + 4 ≤ len
   pub base : IsThere a fixup.base

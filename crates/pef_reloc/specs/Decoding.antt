@@ -41,7 +41,7 @@ section_instr opcode section =
     else if opcode == 2 then Some (LgSetSectD section)
     else None
 
--- the instruction of two halfwords; whether there is one is told by the first
+-- the instruction of two halfwords; the first decides whether there is one
 unfoldable pub long_instr : ℕ → ℕ → Option Instr
 long_instr w v =
     if w / 1024 == 0x28 then Some (SetPosition (w % 1024 * 0x10000 + v))
@@ -50,14 +50,14 @@ long_instr w v =
     else if w / 1024 == 0x2D then section_instr (w / 64 % 16) (w % 64 * 0x10000 + v)
     else None
 
--- the one instruction where there is one; else the other where its first halfword begins one
+-- the one instruction if there is one; otherwise the other, if its first halfword begins one
 abbrev pub short_or_long : Option Instr → Bool → Option Instr → Result Instr RelocFault
 short_or_long (Some instr) begins long = Ok instr
 short_or_long None false long = Err BadOpcode
 short_or_long None true None = Err CutInstruction
 short_or_long None true (Some instr) = Ok instr
 
--- the instruction of a first halfword, where there is one, and a second one, where there is one
+-- the instruction of a first halfword, if there is one, and a second one, if there is one
 abbrev pub instr_of : Option ℕ → Option ℕ → Result Instr RelocFault
 instr_of None second = Err CutInstruction
 instr_of (Some w) second = short_or_long (short_instr w) (is_some (long_instr w 0)) (second >>= long_instr w)
@@ -66,7 +66,7 @@ instr_of (Some w) second = short_or_long (short_instr w) (is_some (long_instr w 
 unfoldable pub first_instr : List ℕ → Result Instr RelocFault
 first_instr bytes = instr_of (number_at 2 bytes 0) (number_at 2 bytes 2)
 
--- instructions, and why the bytes behind them are none
+-- instructions, and why the bytes after them aren't one
 pub record Code : Type 0 where
   pub instrs : List Instr
   pub fault : Option RelocFault
@@ -77,22 +77,22 @@ no_code = record { instrs = []; fault = None }
 abbrev pub code_more : Instr → Code → Code
 code_more instr code = record { instrs = instr ∷ code.instrs; fault = code.fault }
 
--- an instruction and the code of the bytes behind it
+-- an instruction and the code of the bytes after it
 abbrev pub code_from : Result Instr RelocFault → (Instr → Code) → Code
 code_from (Ok instr) rest = code_more instr (rest instr)
 code_from (Err fault) rest = record { instrs = []; fault = Some fault }
 
--- the code of the bytes, where they have at most n instructions
+-- the code of the bytes, if they have at most n instructions
 unfoldable pub code_within : ℕ → List ℕ → Code
 code_within zero bytes = no_code
 code_within (suc n) [] = no_code
 code_within (suc n) (b ∷ bytes) = code_from (first_instr (b ∷ bytes)) (λ instr. code_within n (drop (2 * instr_length instr) (b ∷ bytes)))
 
--- the code of the bytes: their instructions up to the first that isn't one
+-- the code of the bytes: their instructions up to the first bytes that aren't one
 unfoldable pub code_of : List ℕ → Code
 code_of bytes = code_within (length bytes) bytes
 
--- the instruction that starts at a halfword, and none where none starts there
+-- the instruction that starts at a halfword, and none if none starts there
 abbrev pub starting : List Instr → ℕ → Option Instr
 starting [] at = None
 starting (instr ∷ instrs) at =

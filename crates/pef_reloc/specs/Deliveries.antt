@@ -1,4 +1,4 @@
--- How instructions make a list of fixups, piece by piece; and which bases instructions name.
+-- How instructions make a list of fixups, piece by piece, and which bases instructions name.
 use Rattle.std.specs.Prelude.{◌≡◌, ℕ, ◌+◌, ◌*◌, ◌==◌, Bool, true, false, ◌&&◌, ◌||◌, List, [], ◌∷◌, ◌++◌}
 use Rattle.std.specs.Option.{is_none}
 use Rattle.pef_reloc.specs.declared.fixup.Base.{Base}
@@ -9,7 +9,7 @@ use Rattle.pef_reloc.specs.declared.instr.Instr.TheVariants.{BySectDWithSkip, Sm
 use Rattle.pef_reloc.specs.Instrs.{instr_fits, repeat_of}
 use Rattle.pef_reloc.specs.Steps.{State, additions, named_sections, trace}
 
--- an instruction that fits and is no repeat
+-- an instruction that fits and isn't a repeat
 abbrev pub is_flat_instr : Instr → Bool
 is_flat_instr instr = is_none (repeat_of instr) && instr_fits instr
 
@@ -21,31 +21,31 @@ sets_register (LgSetSectC k) = true
 sets_register (LgSetSectD k) = true
 sets_register _ = false
 
--- how far an instruction passes on before it adds, in bytes
+-- how many bytes an instruction passes before it adds
 abbrev pub passes_on : Instr → ℕ
 passes_on (BySectDWithSkip skip count) = 4 * skip
 passes_on _ = 0
 
--- from a state, the instruction adds just the first of the fixups, one or more or none, and these are
--- left behind them
+-- from a state, the instruction adds exactly the first of the fixups, one or more or none, and leaves
+-- these
 pub record Delivers (instr : Instr) (s : State) (fixups left : List Fixup) : Type 0 where
   pub is : fixups ≡ additions instr s ++ left
 
--- from a state, the instructions add just the fixups
+-- from a state, the instructions add exactly the fixups
 pub record MakesFrom (s : State) (fixups : List Fixup) (instrs : List Instr) : Type 0 where
   pub is : trace instrs s ≡ fixups
 
--- the index of the next import behind a base
+-- the index of the next import after a base
 abbrev pub index_past : Base → ℕ → ℕ
 index_past (Section k) index = index
 index_past (Import k) index = k + 1
 
--- the index of the next import behind some fixups: one more than the last import among them
+-- the index of the next import after some fixups: one more than the last import among them
 abbrev pub index_after : List Fixup → ℕ → ℕ
 index_after [] index = index
 index_after (fixup ∷ fixups) index = index_after fixups (index_past fixup.base index)
 
--- a state whose import index is that behind the fixups made so far
+-- a state whose import index is that after the fixups made so far
 pub record StandsBehind (made : List Fixup) (s : State) : Type 0 where
   pub index : s.import_index ≡ index_after made 0
 
@@ -73,12 +73,12 @@ abbrev pub uses_import : List Fixup → ℕ → Bool
 uses_import [] k = false
 uses_import (fixup ∷ fixups) k = is_import k fixup.base || uses_import fixups k
 
--- each number of a list meets a test
+-- a test holds for each number of a list
 abbrev pub all_meet : (ℕ → Bool) → List ℕ → Bool
 all_meet test [] = true
 all_meet test (k ∷ ks) = test k && all_meet test ks
 
--- the instructions name sections and imports of the fixups alone
+-- the instructions name only sections and imports of the fixups
 abbrev pub names_used : List Fixup → List Instr → Bool
 names_used fixups [] = true
 names_used fixups (instr ∷ instrs) =

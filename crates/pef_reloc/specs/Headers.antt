@@ -1,6 +1,7 @@
--- What the relocation headers of a loader section make of a section's memory, and which is refused first
--- (Mac OS Runtime Architectures, "PEF Structure", the relocation headers table; PEFBinaryFormat.h,
--- PEFLoaderRelocationHeader). A header is the number of a section, and the bytes of a program.
+-- The effect of the relocation headers of a loader section on a section's memory, and which header is
+-- refused first (Mac OS Runtime Architectures, "PEF Structure", the relocation headers table;
+-- PEFBinaryFormat.h, PEFLoaderRelocationHeader). A header is the number of a section, and the bytes of a
+-- program.
 use Rattle.std.specs.Prelude.{◌≢◌, ℕ, zero, suc, ◌+◌, ◌==◌, List, Option, None, Some, if◌then◌else◌}
 use Rattle.std.specs.Option.{option_and_then}
 use Rattle.pef_words.specs.Refusals.{first_among}
@@ -26,12 +27,12 @@ unfoldable pub relocated_by : Addresses → ℕ → (ℕ → Option (ℕ × List
 relocated_by a k header from zero memory = untouched memory
 relocated_by a k header from (suc n) memory = then_done (header_done a k (header from) memory) (relocated_by a k header (from + 1) n)
 
--- why header i is refused, on what the headers before it make of its section's memory; each section's
--- memory is given as it was before them all
+-- why header i is refused, with its section's memory as the headers before it leave it; each section's
+-- memory is given as it was before all headers
 unfoldable pub refusal_at : Addresses → (ℕ → List ℕ) → (ℕ → Option (ℕ × List ℕ)) → ℕ → Option RelocFault
 refusal_at a memory header i = option_and_then (λ h. (program_done a h.1 (relocated_by a h.0 header 0 i (memory h.0)).memory).fault) (header i)
 
--- the first refusal among n headers, in their order, whichever sections they are for
+-- the first refusal among n headers, in their order, for any section
 abbrev pub first_refusal : Addresses → (ℕ → List ℕ) → (ℕ → Option (ℕ × List ℕ)) → ℕ → Option RelocFault
 first_refusal a memory header n = first_among (refusal_at a memory header) 0 n
 

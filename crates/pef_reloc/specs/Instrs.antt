@@ -43,13 +43,13 @@ instr_length (LgSetSectC k) = 2
 instr_length (LgSetSectD k) = 2
 instr_length _ = 1
 
--- the repeat that an instruction is, where it is one
+-- the repeat, if the instruction is one
 abbrev pub repeat_of : Instr → Option Repeat
 repeat_of (SmRepeat blocks count) = Some (record { blocks = blocks; passes = count })
 repeat_of (LgRepeat blocks count) = Some (record { blocks = blocks; passes = count })
 repeat_of _ = None
 
--- a number of more than sixteen bits, its high bits beside an opcode and its low ones behind it
+-- a number of more than sixteen bits: its high bits beside an opcode, and its low ones after it
 abbrev pub in_two : ℕ → ℕ → List ℕ
 in_two opcode n = (opcode + n / 0x10000) ∷ n % 0x10000 ∷ []
 

@@ -1,4 +1,4 @@
--- What the code keeps: definitions that serve proofs and private contracts alone.
+-- Definitions for proofs and private contracts alone.
 pub mod Machines
 pub mod Places
 pub mod Readers

@@ -1,5 +1,5 @@
--- The limits of fixups and programs, which are this project's own. The code has them as constants; here
--- they stand as plain numbers, so that one checks the other.
+-- The limits of fixups and programs, which are this project's own. The code has them as constants. Here
+-- they are plain numbers, so that one checks the other.
 use Rattle.std.specs.Prelude.{ℕ}
 
 -- how many sections may be named
@@ -14,10 +14,10 @@ most_imports = 65536
 abbrev pub most_fixups : ℕ
 most_fixups = 65536
 
--- where the last word may end
+-- the greatest end of the last word
 abbrev pub offset_limit : ℕ
 offset_limit = 16777216
 
--- how many instructions a program may execute, each pass and each repeat counted
+-- how many instructions a program may execute; each pass and each repeat counts
 abbrev pub step_limit : ℕ
 step_limit = 16777216

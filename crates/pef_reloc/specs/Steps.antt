@@ -1,6 +1,6 @@
--- What a repeat-free relocation instruction does: the words that it adds to, the sections that it names
--- and the registers that it leaves (Mac OS Runtime Architectures, "PEF Structure", the relocation
--- instruction set). All numbers are whole numbers that don't wrap.
+-- The effect of a relocation instruction that isn't a repeat: the words that it adds to, the sections
+-- that it names and the registers after it (Mac OS Runtime Architectures, "PEF Structure", the
+-- relocation instruction set). All numbers are whole numbers that don't wrap.
 use Rattle.std.specs.Prelude.{◌≡◌, ◌≤◌, ℕ, zero, suc, ◌+◌, ◌*◌, Bool, true, ◌&&◌, nat_lt, List, [], ◌∷◌, ◌++◌, map}
 use Rattle.pef_reloc.specs.declared.fixup.Base.{Base}
 use Rattle.pef_reloc.specs.declared.fixup.Base.TheVariants.{Section, Import}
@@ -20,7 +20,7 @@ pub record State : Type 0 where
 abbrev pub start : State
 start = record { position = 0; import_index = 0; c = 0; d = 1 }
 
--- an addition, which is a fixup: the place of a word, and the base whose address it gets
+-- an addition, which is a fixup: the offset of a word, and the base whose address is added
 abbrev pub added : ℕ → Base → Fixup
 added position base = record { offset = position; base = base }
 
@@ -54,7 +54,7 @@ additions (LgByImport k) s = added s.position (Import k) ∷ []
 additions (LgBySection k) s = added s.position (Section k) ∷ []
 additions _ s = []
 
--- the section that an instruction names, which has to be there
+-- the section that an instruction names, which must exist
 abbrev pub named_sections : Instr → List ℕ
 named_sections (SmSetSectC k) = k ∷ []
 named_sections (SmSetSectD k) = k ∷ []
@@ -64,7 +64,7 @@ named_sections (LgSetSectC k) = k ∷ []
 named_sections (LgSetSectD k) = k ∷ []
 named_sections _ = []
 
--- the state after so many bytes
+-- the state this many bytes further on
 abbrev pub moved : ℕ → State → State
 moved n s = record s { position = s.position + n }
 
@@ -104,7 +104,7 @@ abbrev pub state_after : List Instr → State → State
 state_after [] s = s
 state_after (instr ∷ instrs) s = state_after instrs (next_state instr s)
 
--- what has to be done, in order: an addition, or a look for a section that has to be there
+-- what is done, in order: an addition, or a look for a section that must exist
 pub data Act : Type 0 where
   add : Fixup → Act
   need : ℕ → Act
@@ -127,12 +127,12 @@ abbrev pub all_below : ℕ → List ℕ → Bool
 all_below count [] = true
 all_below count (k ∷ sections) = nat_lt k count && all_below count sections
 
--- the instructions name sections below a count alone
+-- the instructions name only sections below a count
 abbrev pub names_below : ℕ → List Instr → Bool
 names_below count [] = true
 names_below count (instr ∷ instrs) = all_below count (named_sections instr) && names_below count instrs
 
--- the instructions add just these fixups, in this order
+-- the instructions add exactly these fixups, in this order
 abbrev pub Makes : List Fixup → List Instr → Type 0
 Makes fixups instrs = trace instrs start ≡ fixups
 

@@ -1,7 +1,7 @@
--- What a program with repeats executes, and why a program is refused (Mac OS Runtime Architectures, "PEF
--- Structure", the relocation instruction set; PEFBinaryFormat.h, kPEFRelocSmRepeat and kPEFRelocLgRepeat).
--- A repeat runs the preceding halfwords so many further times; the pass that ran before it isn't counted.
--- That, the refusals and the limit of steps are this project's own rules.
+-- The instructions that a program with repeats executes, and why a program is refused (Mac OS Runtime
+-- Architectures, "PEF Structure", the relocation instruction set; PEFBinaryFormat.h, kPEFRelocSmRepeat and
+-- kPEFRelocLgRepeat). A repeat runs the preceding halfwords this many more times. The pass that ran before
+-- it isn't counted. That, the refusals and the limit of steps are this project's own rules.
 use Rattle.std.specs.Prelude.{ℕ, zero, suc, ◌+◌, ◌-◌, nat_le, if◌then◌else◌, List, [], ◌∷◌, ◌++◌, length, Option, None, Some, Result, Ok, Err}
 use Rattle.std.specs.Option.{option_or}
 use Rattle.std.specs.Result.{result_unwrap_or}
@@ -13,8 +13,8 @@ use Rattle.pef_reloc.specs.Instrs.{instr_length, repeat_free, repeat_of}
 use Rattle.pef_reloc.specs.Decoding.{Code, code_of}
 pub use Rattle.pef_reloc.specs.Limits.{step_limit}
 
--- the instructions of the last n halfwords, in front of others: of those before, the last one stands
--- first
+-- the instructions of the last n halfwords, in front of others; of the earlier instructions, the last one
+-- is first
 abbrev pub reached : List Instr → ℕ → List Instr → Result (List Instr) RelocFault
 reached before zero block = Ok block
 reached [] (suc n) block = Err RepeatTooFar
@@ -26,12 +26,12 @@ reached (instr ∷ before) (suc n) block =
 unfoldable pub block_of : List Instr → Repeat → List Instr
 block_of before r = result_unwrap_or (reached before r.blocks []) []
 
--- a list so many times
+-- a list this many times
 abbrev pub repeated : ℕ → List Instr → List Instr
 repeated zero block = []
 repeated (suc n) block = block ++ repeated n block
 
--- what is executed at an instruction: itself, or the passes of the repeat that it is
+-- what is executed at an instruction: itself, or the passes of a repeat
 abbrev pub executed_as : List Instr → Instr → Option Repeat → List Instr
 executed_as before instr None = instr ∷ []
 executed_as before instr (Some r) = repeated r.passes (block_of before r)
@@ -39,7 +39,7 @@ executed_as before instr (Some r) = repeated r.passes (block_of before r)
 abbrev pub executed : List Instr → Instr → List Instr
 executed before instr = executed_as before instr (repeat_of instr)
 
--- what a list of instructions executes behind others
+-- what a list of instructions executes after others
 abbrev pub unrolled_after : List Instr → List Instr → List Instr
 unrolled_after before [] = []
 unrolled_after before (instr ∷ instrs) = executed before instr ++ unrolled_after (instr ∷ before) instrs
@@ -65,7 +65,7 @@ repeat_fault before (Some r) = block_fault (reached before r.blocks [])
 abbrev pub steps_fault : ℕ → Option RelocFault
 steps_fault steps = if nat_le steps step_limit then None else Some TooManySteps
 
--- why an instruction is refused, behind others and after so many steps
+-- why an instruction is refused, after others and after this many steps
 abbrev pub instr_fault : List Instr → ℕ → Option Repeat → Option RelocFault
 instr_fault before steps r = option_or (repeat_fault before r) (steps_fault (steps + steps_as before r))
 
@@ -76,11 +76,11 @@ first_fault before steps (instr ∷ instrs) =
     option_or (instr_fault before steps (repeat_of instr))
     (first_fault (instr ∷ before) (steps + steps_as before (repeat_of instr)) instrs)
 
--- the first refusal of some code: of its instructions, or of the bytes behind them
+-- the first refusal of some code: of its instructions, or of the bytes after them
 abbrev pub code_fault : List Instr → ℕ → Code → Option RelocFault
 code_fault before steps code = option_or (first_fault before steps code.instrs) code.fault
 
--- why the bytes are no readable program
+-- why the bytes aren't a readable program
 unfoldable pub program_fault : List ℕ → Option RelocFault
 program_fault bytes = code_fault [] 0 (code_of bytes)
 

@@ -1,4 +1,4 @@
--- What a program and a walk over one are seen as.
+-- The values of a program and of an iterator over one.
 use Rattle.std.specs.Prelude.{◌≡◌, ℕ, List, [], ◌∷◌, drop, Option, None, Some}
 use Rattle.pef_reloc.specs.declared.instr.Instr.{Instr}
 use Rattle.pef_reloc.specs.declared.program.Instrs.{Instrs}
@@ -9,7 +9,7 @@ use Rattle.pef_reloc.specs.Decoding.{code_of}
 abbrev pub program_bytes : Program → List ℕ
 program_bytes p = p.bytes.now
 
--- the instructions that a walk has before it
+-- the instructions that an iterator has before it
 abbrev pub listed : Instrs → List Instr
 listed walk = (code_of (drop walk.at walk.bytes.now)).instrs
 

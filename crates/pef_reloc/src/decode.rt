@@ -13,11 +13,12 @@ use crate::opcode::{
 };
 use pef_words::Cut;
 
-/// The instruction that begins the bytes.
+/// Returns the instruction at the start of the bytes.
 ///
 /// # Errors
 ///
-/// `BadOpcode` where its first halfword begins none, and `CutInstruction` where the bytes end in it.
+/// `BadOpcode` if its first halfword begins no instruction, and `CutInstruction` if the bytes end
+/// inside it.
 #[inline(always)]
 #[tactic(auto, using(crate::proofs::Halfwords::number_inside, crate::proofs::Beginnings::begins_with), unfolding(crate::specs::Decoding::first_instr))]
 pub(crate) fn first_instr(bytes: &[u8]) -> Result<Instr, RelocFault>
@@ -30,7 +31,7 @@ pub(crate) fn first_instr(bytes: &[u8]) -> Result<Instr, RelocFault>
     if let Some(instr) = short_instr(first) {
         return Ok(instr);
     }
-    // The first halfword alone tells whether there is an instruction.
+    // The first halfword alone decides whether there is an instruction.
     let second = cut.u16_at(2);
     let instr = long_instr(first, second.unwrap_or(0)).ok_or(RelocFault::BadOpcode)?;
     match second {
@@ -39,9 +40,9 @@ pub(crate) fn first_instr(bytes: &[u8]) -> Result<Instr, RelocFault>
     }
 }
 
-/// The instruction that begins the bytes from `at`.
+/// Returns the instruction that begins the bytes from `at`.
 ///
-/// Inlined with what it calls, so that a loop over instructions tells the kind of each by one jump.
+/// Inlined with its callees, so that a loop over instructions finds the kind of each by one jump.
 #[inline(always)]
 pub(crate) fn instr_from(bytes: &[u8], at: usize) -> Result<Instr, RelocFault>
     requires { at ≤ length bytes.now }
@@ -53,7 +54,7 @@ pub(crate) fn instr_from(bytes: &[u8], at: usize) -> Result<Instr, RelocFault>
     first_instr(rest)
 }
 
-/// The instruction of one halfword, where that is one.
+/// Returns the instruction of one halfword, if that is one.
 #[inline(always)]
 #[tactic(auto, unfolding(crate::specs::Decoding::short_instr))]
 fn short_instr(halfword: u16) -> Option<Instr>
@@ -78,7 +79,7 @@ fn short_instr(halfword: u16) -> Option<Instr>
     }
 }
 
-/// The instruction of a seven-bit opcode and a nine-bit number.
+/// Returns the instruction of a seven-bit opcode and a nine-bit number.
 #[inline(always)]
 fn opcode_instr(opcode: u16, number: u32) -> Option<Instr>
     requires { number < 512 }
@@ -101,7 +102,7 @@ fn opcode_instr(opcode: u16, number: u32) -> Option<Instr>
     }
 }
 
-/// The instruction of two halfwords, where the first one begins one.
+/// Returns the instruction of two halfwords, if the first one begins one.
 #[tactic(auto, unfolding(crate::specs::Decoding::long_instr))]
 fn long_instr(first: u16, second: u16) -> Option<Instr>
     ensures value { result ≡ long_instr first second }
@@ -124,7 +125,7 @@ fn long_instr(first: u16, second: u16) -> Option<Instr>
     }
 }
 
-/// The instruction on a section of a four-bit opcode.
+/// Returns the instruction on a section of a four-bit opcode.
 fn section_instr(opcode: u16, section: u32) -> Option<Instr>
     requires { section < 2 ^ 22 }
     ensures value { result ≡ section_instr opcode section }

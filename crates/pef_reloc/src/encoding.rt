@@ -14,11 +14,11 @@ use crate::opcode::{
 };
 use std::alloc::{AllocError, Global};
 
-/// The halfwords of an instruction, each written with its high byte first.
+/// The halfwords of an instruction. Each is written with its high byte first.
 #[derive(Clone, Copy, Debug, PartialEq, Eq)]
 pub struct Spelling {
     pub first: u16,
-    /// Of the instructions of two halfwords alone.
+    /// Only for instructions of two halfwords.
     pub second: Option<u16>,
 }
 
@@ -33,7 +33,7 @@ impl Spelling {
         }
     }
 
-    /// A seven-bit opcode and a nine-bit number.
+    /// Returns a seven-bit opcode and a nine-bit number.
     fn small(opcode: u16, number: u32) -> Spelling
         requires opcode { opcode < 128 }
         requires number { number < 512 }
@@ -42,7 +42,7 @@ impl Spelling {
         Spelling::one(u32::from(opcode * BEHIND_SEVEN_BITS) + number)
     }
 
-    /// A six-bit opcode with a number of 26 bits.
+    /// Returns a six-bit opcode with a number of 26 bits.
     fn large(opcode: u16, number: u32) -> Spelling
         requires opcode { opcode < 64 }
         requires number { number < 0x4000000 }
@@ -54,7 +54,7 @@ impl Spelling {
         }
     }
 
-    /// A six-bit opcode, four bits that tell more, and a number of 22 bits.
+    /// Returns a six-bit opcode, four more bits of opcode, and a number of 22 bits.
     fn parted(opcode: u16, four: u32, number: u32) -> Spelling
         requires opcode { opcode < 64 }
         requires four { four < 16 }
@@ -64,7 +64,7 @@ impl Spelling {
         Spelling::large(opcode, four * 0x40_0000 + number)
     }
 
-    /// What the four bits tell of the instructions on a section, and the section.
+    /// Returns the four bits of an instruction on a section, and the section.
     fn section(four: u16, section: u32) -> Spelling
         requires four { four < 16 }
         requires section { section < 0x400000 }
@@ -75,7 +75,7 @@ impl Spelling {
 }
 
 impl Instr {
-    /// The halfwords that spell it, where its numbers fit.
+    /// Returns the halfwords that spell it, if its numbers fit.
     #[tactic(auto, unfolding(crate::specs::Instrs::halfwords_of))]
     pub fn spelling(self) -> Spelling
         requires { instr_fits self ≡ true }
@@ -115,11 +115,11 @@ impl Instr {
     }
 }
 
-/// The bytes of some instructions, in order.
+/// Returns the bytes of some instructions, in order.
 ///
 /// # Errors
 ///
-/// `OutOfMemory` alone.
+/// Only `OutOfMemory`.
 pub fn encode(alloc: Global, instrs: &[Instr]) -> Result<Vec<u8>, RelocFault>
     requires { instrs_fit instrs.now ≡ true }
     ensures bytes { IfOk result (λ v. v.items ≡ spelled instrs.now) }

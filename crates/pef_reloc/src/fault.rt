@@ -8,30 +8,30 @@ use thiserror::Error;
 /// Why a relocation program is refused, or stopped.
 #[derive(Clone, Copy, Debug, PartialEq, Eq, Error)]
 pub enum RelocFault {
-    /// A halfword that begins no instruction.
+    /// A halfword begins no instruction.
     BadOpcode,
     /// The program ends inside an instruction, or inside a halfword.
     CutInstruction,
     /// A repeat reaches back past the program's start.
     RepeatTooFar,
-    /// A repeat's reach starts inside an instruction.
+    /// The halfwords that a repeat reaches back to start inside an instruction.
     RepeatCuts,
-    /// A repeat's reach has a repeat in it.
+    /// The halfwords that a repeat reaches back to include a repeat.
     NestedRepeat,
     /// More instructions would be executed than a program may execute.
     TooManySteps,
     /// A word would pass the end of the section.
     WordOutside,
-    /// An import that isn't there.
+    /// An import doesn't exist.
     ImportOutside,
-    /// A section that isn't there.
+    /// A section doesn't exist.
     SectionOutside,
-    /// No memory was left.
+    /// An allocation failed.
     OutOfMemory,
 }
 
 impl RelocFault {
-    /// Its number among all refusals of the product.
+    /// Returns its number among all refusals of the product.
     pub fn number(&self) -> u32
         ensures { result ≡ fault_number self.now }
     {
@@ -49,7 +49,7 @@ impl RelocFault {
         }
     }
 
-    /// The refusal's name, which is its text.
+    /// Returns the refusal's name, which is its text.
     pub fn name(&self) -> &'static str
         ensures { result.now ≡ fault_name self.now }
     {

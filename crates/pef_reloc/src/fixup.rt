@@ -16,17 +16,17 @@ pub const OFFSET_LIMIT: u32 = 0x0100_0000;
 /// The bytes of a word that is relocated.
 pub const WORD: u32 = 4;
 
-/// Whose address is added to a word.
+/// The address that is added to a word.
 #[derive(Clone, Copy, Debug, PartialEq, Eq)]
 pub enum Base {
-    /// An instantiated section's, by its number.
+    /// The address of an instantiated section, by its number.
     Section(u32),
-    /// That of an import's target, by the import's number.
+    /// The address of an import's target, by the import's number.
     Import(u32),
 }
 
 impl Base {
-    /// Whether its number is within the limits.
+    /// Returns whether its number is within the limits.
     pub fn fits(self) -> bool
         ensures { result ≡ base_fits self }
     {
@@ -37,17 +37,18 @@ impl Base {
     }
 }
 
-/// A word of a section that gets an address added.
+/// A word of a section to which an address is added.
 #[derive(Clone, Copy, Debug, PartialEq, Eq)]
 pub struct Fixup {
-    /// Where the word stands in its section, in bytes.
+    /// The offset of the word in its section, in bytes.
     pub offset: u32,
-    /// Whose address is added.
+    /// The address that is added.
     pub base: Base,
 }
 
 impl Fixup {
-    /// Whether its word stands at or after `end` and within the limits, as its base does.
+    /// Returns whether its word is at or after `end`, and both its word and its base are within the
+    /// limits.
     fn follows(self, end: u32) -> bool
         ensures { result ≡ (nat_le end self.offset && fixup_fits self) }
     {
@@ -55,7 +56,7 @@ impl Fixup {
     }
 }
 
-/// Whether these fixups of one section stand apart in address order, within the limits.
+/// Returns whether these fixups of one section are apart in address order, within the limits.
 #[tactic(auto, unfolding(crate::specs::Fixups::fixups_fit))]
 pub fn fixups_fit(fixups: &[Fixup]) -> bool
     ensures { result ≡ fixups_fit fixups.now }
@@ -63,7 +64,7 @@ pub fn fixups_fit(fixups: &[Fixup]) -> bool
     fixups.len() <= MAX_FIXUPS && stand_apart(fixups)
 }
 
-/// Whether each fixup follows the one before it, within the limits.
+/// Returns whether each fixup follows the one before it, within the limits.
 fn stand_apart(fixups: &[Fixup]) -> bool
     ensures { result ≡ fixups_from 0 fixups.now }
 {

@@ -1,7 +1,7 @@
 ghost use Rattle.std.specs.Prelude.{◌≡◌};
 ghost use Rattle.pef_reloc.specs.Instrs.{instr_fits, instr_length, repeat_of};
 
-/// The most times that a run adds.
+/// The greatest number of additions of a run.
 const MAX_RUN: u32 = 512;
 
 /// The most words that a skip passes, and the most that it adds to.
@@ -9,7 +9,7 @@ const MAX_SKIP: u32 = 255;
 
 const MAX_SKIP_COUNT: u32 = 63;
 
-/// The most bytes that an increment moves on.
+/// The most bytes that an increment moves by.
 const MAX_INCREMENT: u32 = 4096;
 
 /// The most halfwords that a repeat reaches back, and the most passes of a short one.
@@ -24,35 +24,35 @@ const LARGE_INDEX_LIMIT: u32 = 0x0040_0000;
 
 const POSITION_LIMIT: u32 = 0x0400_0000;
 
-/// A relocation instruction, with its numbers as they mean.
+/// A relocation instruction, with its numbers by their meanings.
 ///
-/// A run's number is how many times it adds, an increment's is in bytes, and `blocks` counts
+/// A run's number is the number of its additions, an increment's is in bytes, and `blocks` counts
 /// halfwords. Source: `PEFBinaryFormat.h`, the relocation opcodes.
 #[derive(Clone, Copy, Debug, PartialEq, Eq)]
 pub enum Instr {
     /// Passes `skip` words, then adds section D to `count` words.
     BySectDWithSkip { skip: u32, count: u32 },
-    /// Adds section C to that many words.
+    /// Adds section C to this many words.
     BySectC(u32),
-    /// Adds section D to that many words.
+    /// Adds section D to this many words.
     BySectD(u32),
-    /// That many times: adds section C, adds section D, passes a word.
+    /// This many times: adds section C, adds section D, passes a word.
     TVector12(u32),
-    /// That many times: adds section C, adds section D.
+    /// This many times: adds section C, adds section D.
     TVector8(u32),
-    /// That many times: adds section D, passes a word.
+    /// This many times: adds section D, passes a word.
     VTable8(u32),
-    /// Adds that many imports, one after the other.
+    /// Adds this many imports, one after the other.
     ImportRun(u32),
-    /// Adds an import, after which the next one is at hand.
+    /// Adds an import, and makes the one after it the next.
     SmByImport(u32),
-    /// Makes a section section C.
+    /// Makes a section the new section C.
     SmSetSectC(u32),
-    /// Makes a section section D.
+    /// Makes a section the new section D.
     SmSetSectD(u32),
     /// Adds a section.
     SmBySection(u32),
-    /// Moves on by that many bytes.
+    /// Moves on by this many bytes.
     IncrPosition(u32),
     /// Runs the preceding `blocks` halfwords `count` further times.
     SmRepeat { blocks: u32, count: u32 },
@@ -71,7 +71,7 @@ pub enum Instr {
 }
 
 impl Instr {
-    /// Whether its numbers fit their bits.
+    /// Returns whether its numbers fit their bits.
     pub fn fits(self) -> bool
         ensures { result ≡ instr_fits self }
     {
@@ -101,7 +101,7 @@ impl Instr {
         }
     }
 
-    /// How many halfwords it has.
+    /// Returns its length in halfwords.
     pub fn length(self) -> usize
         ensures { result ≡ instr_length self }
     {
@@ -116,7 +116,7 @@ impl Instr {
         }
     }
 
-    /// The repeat that it is, where it is one.
+    /// Returns the repeat, if the instruction is one.
     pub fn repeat(self) -> Option<Repeat>
         ensures { result ≡ repeat_of self }
     {
@@ -130,11 +130,11 @@ impl Instr {
     }
 }
 
-/// How many halfwords run again, and how many further times.
+/// How many halfwords run again, and how many more times.
 #[derive(Clone, Copy, Debug, PartialEq, Eq)]
 pub struct Repeat {
     /// The preceding halfwords.
     pub blocks: u32,
-    /// The further passes; the one that ran before the repeat isn't counted.
+    /// The additional passes. The pass before the repeat isn't counted.
     pub passes: u32,
 }

@@ -1,4 +1,4 @@
-//! Relocation programs of PEF containers: what they say, and what they do to a section.
+//! Relocation programs of PEF containers: their instructions, and their effect on a section.
 //!
 //! Source: Mac OS Runtime Architectures, "PEF Structure", the sections on relocation instructions, and
 //! `PEFBinaryFormat.h`.

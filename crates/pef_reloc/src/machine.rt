@@ -15,7 +15,8 @@ use crate::fault::RelocFault;
 use crate::instr::Instr;
 use crate::words::{NEXT, add_pairs, add_row, add_word};
 
-/// The addresses that a program adds: of the fragment's sections, and of its imports' targets.
+/// The addresses that a program adds: those of the fragment's sections, and of its imports'
+/// targets.
 #[derive(Clone, Copy)]
 pub(crate) struct Targets<'a> {
     sections: &'a [u32],
@@ -30,7 +31,7 @@ impl<'a> Targets<'a> {
         Targets { sections, imports }
     }
 
-    /// The address of a section that an instruction names.
+    /// Returns the address of a section that an instruction names.
     fn section(self, section: u32) -> Result<u32, RelocFault>
         ensures { FindsSection (known self.entry) section result }
     {
@@ -40,7 +41,7 @@ impl<'a> Targets<'a> {
         }
     }
 
-    /// The address of an import.
+    /// Returns the address of an import.
     fn import(self, import: u64) -> Result<u32, RelocFault>
         ensures { FindsImport (known self.entry) import result }
     {
@@ -50,7 +51,8 @@ impl<'a> Targets<'a> {
         }
     }
 
-    /// The address of a section that a register starts with, and 0 where there is no such section.
+    /// Returns the address of a section that a register starts with, and 0 if there is no such
+    /// section.
     fn start_section(self, section: usize) -> u32
         ensures { result ≡ address_of (known self.entry) (Section section) }
     {
@@ -64,7 +66,7 @@ impl<'a> Targets<'a> {
 /// The registers of a relocation program, with addresses in place of section numbers.
 ///
 /// The position is in bytes. Neither number can wrap: a program executes at most `MAX_STEPS`
-/// instructions, each of which moves on by less than 2^39, its passes counted in.
+/// instructions, each of which moves on by less than 2^39, including its passes.
 #[derive(Clone, Copy)]
 pub(crate) struct Machine {
     position: u64,
@@ -74,7 +76,7 @@ pub(crate) struct Machine {
 }
 
 impl Machine {
-    /// The registers that a program starts with.
+    /// Returns the registers that a program starts with.
     pub(crate) fn new(targets: Targets) -> Machine
         ensures holds { Holds (known targets.entry) result start }
         ensures at_start { (result.position ≡ 0) × (result.import_index ≡ 0) }
@@ -89,7 +91,7 @@ impl Machine {
 
     /// Executes an instruction. A repeat does nothing by itself.
     ///
-    /// Inlined behind the decoding, whose one jump then leads to what is done.
+    /// Inlined after the decoding, so that the one jump there leads to the execution.
     #[inline(always)]
     #[tactic(auto, using(crate::proofs::Rows::nothing_done))]
     pub(crate) fn step(
@@ -134,7 +136,7 @@ impl Machine {
         }
     }
 
-    /// Executes an instruction that stands at a place of the bytes, a repeat by its passes.
+    /// Executes an instruction at a place of the bytes. A repeat is executed by its passes.
     #[inline(always)]
     pub(crate) fn execute(
         &mut self,
@@ -160,7 +162,7 @@ impl Machine {
         }
     }
 
-    /// Executes the instructions of some bytes so many times.
+    /// Executes the instructions of some bytes this many times.
     ///
     /// Kept apart, so that the loop over a program is a single one.
     #[inline(never)]
@@ -212,7 +214,7 @@ impl Machine {
         Ok(())
     }
 
-    /// Adds an address to some words, `stride` bytes apart, and moves behind them.
+    /// Adds an address to some words, `stride` bytes apart, and moves past them.
     fn row(
         &mut self,
         memory: &mut [u8],
@@ -230,7 +232,7 @@ impl Machine {
         Ok(())
     }
 
-    /// Adds sections C and D to some pairs of words, `stride` bytes apart, and moves behind them.
+    /// Adds sections C and D to some pairs of words, `stride` bytes apart, and moves past them.
     fn pairs(&mut self, memory: &mut [u8], stride: u64, count: u32) -> Result<(), RelocFault>
         requires { self.old.position + stride * count + 8 < 2 ^ 64 }
         ensures does { DoesPairs memory.old memory.new count self.old.position stride self.old.section_c self.old.section_d (result_err result) }
@@ -260,7 +262,7 @@ impl Machine {
         Ok(())
     }
 
-    /// Adds an import, after which the next one is at hand.
+    /// Adds an import, and makes the one after it the next.
     #[tactic(auto, using(crate::proofs::Rows::numbered_one))]
     fn import_word(
         &mut self,
@@ -296,7 +298,7 @@ impl Machine {
         Ok(())
     }
 
-    /// Makes a section section C.
+    /// Makes a section the new section C.
     fn set_c(&mut self, section: u32, targets: Targets) -> Result<(), RelocFault>
         ensures { SetsC (known targets.entry) self.old self.new section (result_err result) }
     {
@@ -304,7 +306,7 @@ impl Machine {
         Ok(())
     }
 
-    /// Makes a section section D.
+    /// Makes a section the new section D.
     fn set_d(&mut self, section: u32, targets: Targets) -> Result<(), RelocFault>
         ensures { SetsD (known targets.entry) self.old self.new section (result_err result) }
     {

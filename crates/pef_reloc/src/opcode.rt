@@ -1,5 +1,5 @@
 //! The opcodes of the relocation instructions (`PEFBinaryFormat.h`, `kPEFRelocBySectDWithSkip` and those
-//! after it), by how many of the first halfword's high bits tell them.
+//! after it), grouped by how many high bits of the first halfword they take.
 
 /// Four bits. The opcodes below `SKIP_END` are a skip's two bits, with two bits of its number.
 pub(crate) const SKIP_END: u16 = 0x4;
@@ -8,7 +8,7 @@ pub(crate) const INCR_POSITION: u16 = 0x8;
 
 pub(crate) const SM_REPEAT: u16 = 0x9;
 
-/// Seven bits, with a nine-bit number behind them.
+/// Seven bits, with a nine-bit number after them.
 pub(crate) const BY_SECT_C: u16 = 0x20;
 
 pub(crate) const BY_SECT_D: u16 = 0x21;
@@ -38,15 +38,15 @@ pub(crate) const LG_REPEAT: u16 = 0x2C;
 
 pub(crate) const LG_SET_OR_BY_SECTION: u16 = 0x2D;
 
-/// The four bits behind the last of them.
+/// The four bits after the last of them.
 pub(crate) const LG_BY_SECTION: u16 = 0;
 
 pub(crate) const LG_SET_SECT_C: u16 = 1;
 
 pub(crate) const LG_SET_SECT_D: u16 = 2;
 
-/// How many numbers can stand behind so many of a halfword's high bits. So a halfword over this is what
-/// these bits say, and what is left of it is the number behind them.
+/// How many numbers can follow this many high bits of a halfword. So a halfword divided by this gives
+/// these bits, and the remainder is the number after them.
 pub(crate) const BEHIND_FOUR_BITS: u16 = 0x1000;
 
 pub(crate) const BEHIND_SIX_BITS: u16 = 0x400;

@@ -39,14 +39,14 @@ impl<'a> Program<'a> {
         Ok(Program { bytes })
     }
 
-    /// The bytes that it was read from.
+    /// Returns the bytes that it was read from.
     pub fn bytes(&self) -> &'a [u8]
         ensures { result.now ≡ program_bytes self.now }
     {
         self.bytes
     }
 
-    /// A walk over its instructions, from the first one on.
+    /// Returns an iterator over its instructions, from the first one on.
     #[tactic(auto, unfolding(crate::specs::Unrolled::instrs_of))]
     pub fn instrs(&self) -> Instrs<'a>
         ensures { listed result ≡ instrs_of (program_bytes self.now) }
@@ -57,8 +57,8 @@ impl<'a> Program<'a> {
         }
     }
 
-    /// The instruction that starts at a halfword, and `None` where none starts there, in time linear
-    /// in the halfwords before it.
+    /// Returns the instruction that starts at a halfword, or `None` if none starts there. The time is
+    /// linear in the halfwords before it.
     pub fn instr_at(&self, halfword: usize) -> Option<Instr>
         ensures value { result ≡ starting (instrs_of (program_bytes self.now)) halfword }
         ensures fits { IfSome result (λ instr. instr_fits instr ≡ true) }
@@ -77,7 +77,7 @@ impl<'a> Program<'a> {
         None
     }
 
-    /// Whether it has no repeats.
+    /// Returns whether it has no repeats.
     pub fn flat(&self) -> bool
         ensures { result ≡ repeat_free (instrs_of (program_bytes self.now)) }
     {
@@ -91,7 +91,7 @@ impl<'a> Program<'a> {
     }
 }
 
-/// A walk over the instructions of a program.
+/// An iterator over the instructions of a program.
 #[derive(Clone, Copy, Debug)]
 pub struct Instrs<'a> {
     bytes: &'a [u8],
@@ -101,7 +101,7 @@ pub struct Instrs<'a> {
 impl<'a> Instrs<'a> {
     ghost use Rattle.pef_reloc.specs.Views.{TakesFirst, listed};
 
-    /// The next instruction, which the walk then is behind, and `None` at the end.
+    /// Returns the next instruction and moves past it, or returns `None` at the end.
     pub fn next_instr(&mut self) -> Option<Instr>
         ensures takes { TakesFirst (listed self.old) result (listed self.new) }
         ensures fits { IfSome result (λ instr. instr_fits instr ≡ true) }

@@ -12,18 +12,18 @@ use crate::decode::instr_from;
 use crate::fault::RelocFault;
 use crate::instr::{Instr, MAX_BLOCKS, Repeat};
 
-/// How many instructions a program may execute, each pass and each repeat counted.
+/// How many instructions a program may execute. Each pass and each repeat counts.
 pub const MAX_STEPS: u32 = 0x0100_0000;
 
 /// How many halfwords a repeat can reach back over.
 const WINDOW: usize = MAX_BLOCKS as usize;
 
-/// What is known before an instruction is read: which of the halfwords that a repeat can reach begin an
-/// instruction, and how many instructions would have been executed.
+/// What a reader knows before it reads an instruction: which of the halfwords that a repeat can reach
+/// begin an instruction, and how many instructions would have been executed.
 ///
-/// Halfword h of the program stands at h % `WINDOW`. The instructions themselves aren't kept: where a
-/// repeat reaches them, they are decoded again, each once at most, since a reach with a repeat in it ends
-/// the reading.
+/// Halfword h of the program is at h % `WINDOW`. The instructions themselves aren't kept: if a repeat
+/// reaches them, they are decoded again, each at most once, since a repeat that reaches a repeat ends the
+/// reading.
 #[derive(Clone, Copy)]
 pub(crate) struct Reader {
     begins: [bool; WINDOW],
@@ -41,8 +41,8 @@ impl Reader {
         }
     }
 
-    /// Passes the instruction at a place of the bytes, unless it is refused: its block, or the steps so
-    /// far.
+    /// Passes the instruction at a place of the bytes, unless it is refused for its block or for the
+    /// steps so far.
     #[inline(always)]
     pub(crate) fn pass(&mut self, instr: Instr, bytes: &[u8], at: usize) -> Result<(), RelocFault>
         requires under { self.old.steps ≤ step_limit }
@@ -62,7 +62,7 @@ impl Reader {
         Ok(())
     }
 
-    /// The steps of a repeat at a place of the bytes, itself counted.
+    /// Returns the steps of a repeat at a place of the bytes, including itself.
     fn repeat_steps(&self, repeat: Repeat, bytes: &[u8], at: usize) -> Result<u32, RelocFault>
         requires inside { at ≤ length bytes.now }
         requires some { 1 ≤ repeat.blocks }
@@ -97,11 +97,11 @@ impl Reader {
     }
 }
 
-/// How many instructions stand in some bytes.
+/// Returns the number of instructions in some bytes.
 ///
 /// # Errors
 ///
-/// `NestedRepeat` where one of them is a repeat.
+/// `NestedRepeat` if one of them is a repeat.
 fn flat_count(bytes: &[u8], from: usize, to: usize) -> Result<u32, RelocFault>
     requires inside { to ≤ length bytes.now }
     requires order { from ≤ to }

@@ -12,14 +12,14 @@ use crate::program::Program;
 
 /// Relocates a section's memory in place.
 ///
-/// `sections` are the addresses of the fragment's instantiated sections, `imports` those of its
-/// imports' targets. A repeat is run by a counter, and no memory is taken.
+/// `sections` are the addresses of the fragment's instantiated sections, and `imports` those of its
+/// imports' targets. A repeat is run by a counter, and nothing is allocated.
 ///
 /// # Errors
 ///
 /// At one addition `SectionOutside`, `ImportOutside` and `WordOutside`, in this order. The additions
-/// before a refusal stand, and no others are made. A register that still has its start value adds 0
-/// where there is no such section.
+/// before a refusal are kept, and no others are made. A register that still has its start value adds
+/// 0 if there is no such section.
 pub fn apply(
     program: &Program,
     memory: &mut [u8],

@@ -10,16 +10,16 @@ ghost use Rattle.pef_reloc.specs.Unrolled.{instrs_of, program_fault};
 ghost use Rattle.pef_reloc.specs.declared.fixup.Fixup.{Fixup};
 ghost use Rattle.pef_reloc.specs.declared.instr.Instr.{Instr};
 
-/// The bytes that spell instructions are read as these instructions, and where none is a repeat they
-/// are a readable program that does what the list does.
+/// The bytes that spell instructions are read as these instructions. If none is a repeat they are a
+/// readable program with the effect of the list.
 pub fn spelled_programs()
     ensures reads { (instrs : List Instr) → instrs_fit instrs ≡ true → instrs_of (spelled instrs) ≡ instrs }
     ensures readable { (instrs : List Instr) → is_flat instrs ≡ true → length instrs ≤ step_limit → program_fault (spelled instrs) ≡ None }
     ensures does { (instrs : List Instr) (a : Addresses) (memory : List ℕ) → is_flat instrs ≡ true → relocated (spelled instrs) a memory ≡ applied a (acts_from instrs start) memory }
 {}
 
-/// Acts behind acts are done where those are not refused; and instructions that name sections that are
-/// there do their additions alone.
+/// Acts after acts are done if the first ones aren't refused. Instructions that name only sections that
+/// exist do exactly their additions.
 pub fn acts_in_turn()
     ensures behind { (a : Addresses) (acts others : List Act) (memory : List ℕ) → applied a (acts ++ others) memory ≡ then_done (applied a acts memory) (applied a others) }
     ensures additions { (a : Addresses) (instrs : List Instr) (s : State) (memory : List ℕ) → names_below (length a.sections) instrs ≡ true → applied a (acts_from instrs s) memory ≡ applied a (map add (trace instrs s)) memory }
@@ -31,8 +31,8 @@ pub fn readable_programs()
     ensures fit { (bytes : List ℕ) → ((k : ℕ) → slice_index bytes k < 256) → program_fault bytes ≡ None → instrs_fit (instrs_of bytes) ≡ true }
 {}
 
-/// Additions whose words lie inside memory and whose bases are there are all done, and none is refused;
-/// and those of fixups in address order make of memory just what the fixups describe.
+/// Additions whose words lie inside memory and whose bases exist are all done, and none is refused.
+/// Those of fixups in address order turn memory into exactly what the fixups describe.
 pub fn additions_inside()
     ensures done { (a : Addresses) (fixups : List Fixup) (memory : List ℕ) → AreInside a (length memory) fixups → applied a (map add fixups) memory ≡ record { memory = all_added a fixups memory; fault = None } }
     ensures described { (a : Addresses) (fixups : List Fixup) (memory : List ℕ) → fixups_fit fixups ≡ true → AreInside a (length memory) fixups → all_added a fixups memory ≡ with_bases (address_of a) 0 fixups memory }

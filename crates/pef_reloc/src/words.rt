@@ -8,7 +8,7 @@ use crate::fault::RelocFault;
 use crate::fixup::WORD;
 use byteorder::{BigEndian, ByteOrder};
 
-/// How far on the next word is, in bytes, as positions are counted.
+/// The distance to the next word, in bytes.
 pub(crate) const NEXT: u64 = WORD as u64;
 
 /// Adds `address` to `count` words, `stride` bytes apart, up to the first that passes the end.
@@ -56,7 +56,7 @@ pub(crate) fn add_pairs(
 ///
 /// # Errors
 ///
-/// `WordOutside` where the word passes the end, with memory as it was.
+/// `WordOutside` if the word passes the end; memory is then unchanged.
 pub(crate) fn add_word(memory: &mut [u8], at: u64, address: u32) -> Result<(), RelocFault>
     requires { at + 4 < 2 ^ 64 }
     ensures { word_added memory.old at address ≡ record { memory = memory.new; fault = result_err result } }

@@ -1,4 +1,4 @@
--- Where the runs of an image begin, and what its parts have in it.
+-- Where the runs of an image begin, and the bytes that its parts have in it.
 use Rattle.std.specs.Prelude.{◌≡◌, ℕ, ◌+◌, ◌==◌, List, [], ◌∷◌, if◌then◌else◌, length, take, drop}
 use Rattle.pef_pidata.specs.Packing.{Part, block, bytes_before, parts_of, zeros}
 
@@ -12,7 +12,7 @@ abbrev pub copied_before : List ℕ → List Part → List Part
 copied_before [] parts = parts
 copied_before (b ∷ rest) parts = bytes_before (b ∷ []) (copied_before rest parts)
 
--- no run has begun before a place
+-- no run begins before a place
 abbrev pub IsCopiedTo : List ℕ → ℕ → Type 0
 IsCopiedTo image at = parts_of image ≡ copied_before (take at image) (parts_of (drop at image))
 

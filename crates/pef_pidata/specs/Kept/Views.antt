@@ -1,4 +1,4 @@
--- What the code keeps, seen without places in memory.
+-- The values of private types, without places in memory.
 use Rattle.std.specs.Prelude.{ℕ, List, replicate}
 use Rattle.pef_pidata.specs.Packing.{Part, block, zeros}
 use Rattle.pef_pidata.specs.Pattern.{output}
@@ -11,19 +11,19 @@ use Rattle.pef_pidata.specs.declared.instruction.Decoded.{Decoded}
 use Rattle.pef_pidata.specs.declared.write.Common.{Common}
 use Rattle.pef_pidata.specs.declared.write.Common.TheVariants.{Bytes, Zeros}
 
--- an argument, and the bytes behind it
+-- an argument, and the bytes after it
 abbrev pub argument_seen : Argument → ℕ × List ℕ
 argument_seen a = (a.value, a.rest.now)
 
--- an instruction, and the bytes behind its arguments
+-- an instruction, and the bytes after its arguments
 abbrev pub instruction_seen : Decoded → Instruction × List ℕ
 instruction_seen d = (d.instruction, d.rest.now)
 
--- what an instruction spells, and the bytes behind those that it copies
+-- the output of an instruction, and the bytes after those that it copies
 abbrev pub step_seen : Step → List ℕ × List ℕ
 step_seen s = (output s.instruction s.bytes.now, s.rest.now)
 
--- what stands between parts
+-- the bytes between parts
 abbrev pub common_seen : Common → List ℕ
 common_seen (Bytes bytes) = bytes.now
 common_seen (Zeros count) = replicate count 0

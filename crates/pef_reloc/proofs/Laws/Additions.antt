@@ -1,4 +1,4 @@
--- Additions that lie inside memory, with bases that are there, are done, and none is refused.
+-- Additions that lie inside memory, with bases that exist, are done, and none is refused.
 use Rattle.std.proofs.Common.{◌≡◌, ℕ, ◌+◌, ◌-◌, ◌^◌, ◌%◌, ◌≤◌, true, List, [], ◌∷◌, ◌++◌, length, map, take, drop, Option, None, refl, sym, ap, subst, ◌∙◌, append_assoc, arith}
 use Rattle.std.specs.List.{AllByRecursion}
 use Rattle.std.proofs.Math.Seq.{take-append-add, drop-append-add}
@@ -48,12 +48,12 @@ additions-done a (fixup ∷ fixups) memory inside =
     done_here (act_fault a (length memory) (add fixup)) memory (applied a (map add fixups) next) (addition-there a (length memory) fixup inside.0)
     ∙ additions-done a fixups next (subst P same inside.1)
 
--- and so are those of instructions that name sections that are there
+-- and so are those of instructions that name sections that exist
 pub instrs-done : (a : Addresses) (instrs : List Instr) (s : State) (memory : List ℕ) → names_below (length a.sections) instrs ≡ true → AreInside a (length memory) (trace instrs s)
     → applied a (acts_from instrs s) memory ≡ record { memory = all_added a (trace instrs s) memory; fault = None }
 instrs-done a instrs s memory names inside = applied-trace a instrs s memory names ∙ additions-done a (trace instrs s) memory inside
 
--- an addition behind a front leaves the front
+-- an addition after a prefix leaves the prefix unchanged
 added_behind : (front memory : List ℕ) (gap x : ℕ) → added_at (front ++ memory) (length front + gap) x
     ≡ (front ++ (take gap memory ++ big_bytes 4 ((big_number 4 (drop gap memory) + x) % 2 ^ 32))) ++ drop (gap + 4) memory
 unfolding added_at
@@ -61,7 +61,8 @@ added_behind front memory gap x =
     let behind : length front + gap + 4 ≡ length front + (gap + 4) = omega arith in
     rw (take-append-add front memory gap, drop-append-add front memory gap, behind, drop-append-add front memory (gap + 4)) (simp append_assoc)
 
--- the additions of fixups in address order behind a front leave the front, and add to the words of the rest
+-- the additions of fixups in address order after a prefix leave the prefix unchanged, and add to the words
+-- of the rest
 described_behind : (a : Addresses) (fixups : List Fixup) (from : ℕ) (front memory : List ℕ) → length front ≡ from → fixups_from from fixups ≡ true → AreInside a (from + length memory) fixups
     → all_added a fixups (front ++ memory) ≡ front ++ with_bases (address_of a) from fixups memory
 unfolding with_bases
@@ -84,7 +85,7 @@ described_behind a (fixup ∷ fixups) from front memory is apart inside =
     ∙ described_behind a fixups (fixup.offset + 4) (front ++ (take gap memory ++ word)) (drop (gap + 4) memory) front_len first.others (subst P left inside.1)
     ∙ append_assoc front (take gap memory ++ word) _ ∙ ap (λ (m : List ℕ). front ++ m) (append_assoc (take gap memory) word _)
 
--- the additions of fixups in address order make of memory what the fixups describe
+-- the additions of fixups in address order turn memory into what the fixups describe
 pub additions-described : (a : Addresses) (fixups : List Fixup) (memory : List ℕ) → fixups_from 0 fixups ≡ true → AreInside a (length memory) fixups
     → all_added a fixups memory ≡ with_bases (address_of a) 0 fixups memory
 additions-described a fixups memory apart inside =
@@ -92,7 +93,7 @@ additions-described a fixups memory apart inside =
     let P : ℕ → Type 0 = λ len. AreInside a len fixups in
     described_behind a fixups 0 [] memory refl apart (subst P whole inside)
 
--- the last word of fixups in order ends at or behind the given end
+-- the last word of fixups in order ends at or after the given end
 end_behind : (from : ℕ) (fixups : List Fixup) → fixups_from from fixups ≡ true → from ≤ fixups_end from fixups
 end_behind from [] apart = omega arith
 end_behind from (fixup ∷ fixups) apart =
@@ -101,7 +102,7 @@ end_behind from (fixup ∷ fixups) apart =
     let others = end_behind (fixup.offset + 4) fixups first.others in
     omega arith
 
--- fixups in address order lie inside memory where the last one does and the bases are there
+-- fixups in address order lie inside memory if the last one does and the bases exist
 pub fixups-inside : (a : Addresses) (from len : ℕ) (fixups : List Fixup) → fixups_from from fixups ≡ true → fixups_end from fixups ≤ len → AllByRecursion (λ (fixup : Fixup). IsThere a fixup.base) fixups → AreInside a len fixups
 fixups-inside a from len [] apart ends bases = tt
 fixups-inside a from len (fixup ∷ fixups) apart ends bases =

@@ -1,4 +1,4 @@
--- What relocation headers, one after the other, make of a section's memory.
+-- The effect of relocation headers, one after another, on a section's memory.
 use Rattle.std.proofs.Common.{◌≡◌, ◌≢◌, ℕ, zero, suc, ◌+◌, ◌<◌, ◌≤◌, true, List, Option, None, Some, length, refl, sym, ap, subst, ◌∙◌, inl, inr, arith}
 use Rattle.std.specs.Option.{option_and_then}
 use Rattle.std.proofs.lemmas.Bool.{eq-eqb, ne_eqb}
@@ -19,7 +19,8 @@ use Rattle.pef_reloc.proofs.FlatLaws.{program_fault-spelled, relocated-spelled, 
 abbrev fault_of : Done → Option RelocFault
 fault_of d = d.fault
 
--- a flat program for fixups in address order that lie inside memory does what they describe
+-- a flat program for fixups in address order that lie inside memory has the effect that they
+-- describe
 pub program-described : (a : Addresses) (fixups : List Fixup) (instrs : List Instr) (memory : List ℕ) → is_flat instrs ≡ true → Makes fixups instrs → names_below (length a.sections) instrs ≡ true → length instrs ≤ step_limit
     → fixups_from 0 fixups ≡ true → AreInside a (length memory) fixups → program_done a (spelled instrs) memory ≡ untouched (with_bases (address_of a) 0 fixups memory)
 program-described a fixups instrs memory flat makes names few apart inside =
@@ -28,20 +29,20 @@ program-described a fixups instrs memory flat makes names few apart inside =
     (relocated-spelled instrs a memory flat ∙ instrs-done a instrs start memory names (subst P (sym makes) inside)
     ∙ ap untouched (ap (λ (fs : List Fixup). all_added a fs memory) makes ∙ additions-described a fixups memory apart inside))
 
--- a header for another section leaves the memory
+-- a header for another section leaves the memory unchanged
 pub header-other : (a : Addresses) (k : ℕ) (h : Option (ℕ × List ℕ)) (memory : List ℕ) → IsOther k h → header_done a k h memory ≡ untouched memory
 header-other a k None memory other = refl
 header-other a k (Some h) memory other = rw (ne_eqb h.0 k other) refl
 
--- a header for the section does what its program does
+-- a header for the section has the effect of its program
 pub header-own : (a : Addresses) (k : ℕ) (bytes memory : List ℕ) → header_done a k (Some (k, bytes)) memory ≡ program_done a bytes memory
 header-own a k bytes memory = rw (eq-eqb k k refl) refl
 
--- what is done after something that isn't refused
+-- the effect after something that isn't refused
 done_next : (d : Done) (next : List ℕ → Done) → d.fault ≡ None → then_done d next ≡ next d.memory
 done_next d next none = rw none refl
 
--- what isn't refused in the end wasn't before
+-- something that isn't refused in the end wasn't refused before
 done_first : (d : Done) (next : List ℕ → Done) → (then_done d next).fault ≡ None → d.fault ≡ None
 done_first d next none = go d.fault none
   where
@@ -63,7 +64,7 @@ done_thrice d f g = go d.fault d.memory
     go None m = refl
     go (Some fault) m = refl
 
--- headers of which none is for the section leave its memory
+-- headers of which none is for the section leave its memory unchanged
 pub headers-others : (a : Addresses) (k : ℕ) (header : ℕ → Option (ℕ × List ℕ)) (from n : ℕ) (memory : List ℕ) → ((j : ℕ) → from ≤ j → j < from + n → IsOther k (header j)) → relocated_by a k header from n memory ≡ untouched memory
 unfolding relocated_by
 headers-others a k header from zero memory others = refl
@@ -71,7 +72,7 @@ headers-others a k header from (suc n) memory others =
     ap (λ (d : Done). then_done d (relocated_by a k header (from + 1) n)) (header-other a k (header from) memory (others from (omega arith) (omega arith)))
     ∙ headers-others a k header (from + 1) n memory (λ j low high. others j (omega arith) (omega arith))
 
--- headers of which just one is for the section do what its program does
+-- if exactly one of the headers is for the section, they have the effect of its program
 pub headers-own : (a : Addresses) (k : ℕ) (header : ℕ → Option (ℕ × List ℕ)) (from n i : ℕ) (bytes memory : List ℕ) → from ≤ i → i < from + n → header i ≡ Some (k, bytes)
     → ((j : ℕ) → from ≤ j → j < from + n → j ≢ i → IsOther k (header j)) → relocated_by a k header from n memory ≡ program_done a bytes memory
 unfolding relocated_by
@@ -91,7 +92,7 @@ headers-own a k header from (suc n) i bytes memory low high is others =
           ∙ headers-own a k header (from + 1) n i bytes memory (omega arith) (omega arith) is (λ j after under differ. others j (omega arith) (omega arith) differ))
     ]
 
--- one header more, behind some
+-- one header more, after some
 headers-more : (a : Addresses) (k : ℕ) (header : ℕ → Option (ℕ × List ℕ)) (from n : ℕ) (memory : List ℕ)
     → relocated_by a k header from (suc n) memory ≡ then_done (relocated_by a k header from n memory) (header_done a k (header (from + n)))
 unfolding relocated_by
@@ -104,7 +105,7 @@ headers-more a k header from (suc n) memory =
     rw next (ap (unless_refused first.fault first.memory) (headers-more a k header (from + 1) n first.memory)
     ∙ done_thrice first (relocated_by a k header (from + 1) n) (header_done a k (header (from + 1 + n))))
 
--- one header more, where those before it aren't refused
+-- one header more, if those before it aren't refused
 pub headers-next : (a : Addresses) (k : ℕ) (header : ℕ → Option (ℕ × List ℕ)) (i : ℕ) (memory : List ℕ) → (relocated_by a k header 0 i memory).fault ≡ None
     → relocated_by a k header 0 (i + 1) memory ≡ header_done a k (header i) (relocated_by a k header 0 i memory).memory
 headers-next a k header i memory sound =
@@ -112,7 +113,7 @@ headers-next a k header i memory sound =
     let here : 0 + i ≡ i = omega arith in
     rw next (headers-more a k header 0 i memory ∙ done_next (relocated_by a k header 0 i memory) (header_done a k (header (0 + i))) sound ∙ ap (λ j. header_done a k (header j) (relocated_by a k header 0 i memory).memory) here)
 
--- the refusal of a header that is there
+-- the refusal of a header that exists
 pub refusal-of : (a : Addresses) (memory : ℕ → List ℕ) (header : ℕ → Option (ℕ × List ℕ)) (i k : ℕ) (program : List ℕ) → header i ≡ Some (k, program)
     → refusal_at a memory header i ≡ (program_done a program (relocated_by a k header 0 i (memory k)).memory).fault
 unfolding refusal_at
@@ -136,7 +137,7 @@ header-sound a memory header i k none = go (header i) none
     go None none = refl
     go (Some h) none = here h.0 h.1 none
 
--- where the headers of a section aren't refused, none of its programs is
+-- if the headers of a section aren't refused, none of its programs is
 pub programs-sound : (a : Addresses) (k : ℕ) (header : ℕ → Option (ℕ × List ℕ)) (i from n : ℕ) (bytes memory : List ℕ) → i < n → header (from + i) ≡ Some (k, bytes) → (relocated_by a k header from n memory).fault ≡ None
     → (program_done a bytes (relocated_by a k header from i memory).memory).fault ≡ None
 unfolding relocated_by

@@ -1,4 +1,5 @@
--- How the code's registers, which hold addresses, stand to the model's, which hold numbers of sections.
+-- How the code's registers, which hold addresses, relate to the model's, which hold numbers of
+-- sections.
 use Rattle.std.specs.Prelude.{◌≡◌, ◌≤◌, ℕ, ◌+◌, ◌^◌, max, List, [], ◌∷◌, Option, None, Some}
 use Rattle.pef_reloc.specs.declared.fault.RelocFault.{RelocFault}
 use Rattle.pef_reloc.specs.declared.machine.Targets.{Targets}
@@ -9,7 +10,7 @@ use Rattle.pef_reloc.specs.Steps.{State, need, acts_of, next_state, acts_from, s
 use Rattle.pef_reloc.specs.Applied.{Addresses, address_of}
 use Rattle.pef_reloc.specs.Kept.Rows.{Does}
 
--- the addresses that the code has at hand
+-- the addresses that the code knows
 abbrev pub known : Targets → Addresses
 known t = record { sections = t.sections.now; imports = t.imports.now }
 
@@ -30,7 +31,7 @@ pub record Runs (a : Addresses) (old new : Machine) (before now : List ℕ) (ins
   pub does : (s : State) → Holds a old s → Does a before now (acts_from instrs s) answer
   pub holds : (s : State) → Holds a old s → answer ≡ None → Holds a new (state_after instrs s)
 
--- the registers after something that leaves them where it is refused
+-- the registers after an operation that leaves them unchanged if it is refused
 abbrev pub machine_after : Option RelocFault → Machine → Machine → Machine
 machine_after None old new = new
 machine_after (Some fault) old new = old
@@ -45,7 +46,7 @@ pub record Near (m : Machine) (room : ℕ) : Type 0 where
   pub position : m.position ≤ 2 ^ 63 + room
   pub imports : m.import_index ≤ 2 ^ 63 + room
 
--- a section made section C or D, where it is there
+-- a section becomes section C or D, if it exists
 pub record SetsC (a : Addresses) (old new : Machine) (section : ℕ) (answer : Option RelocFault) : Type 0 where
   pub does : (memory : List ℕ) → Does a memory memory (need section ∷ []) answer
   pub after : new ≡ machine_after answer old (record old { section_c = address_of a (Section section) })

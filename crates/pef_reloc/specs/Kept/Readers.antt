@@ -1,4 +1,4 @@
--- What a reader of a program keeps.
+-- The state of a reader of a program.
 use Rattle.std.specs.Prelude.{◌≡◌, ◌≤◌, ℕ, ◌+◌, ◌-◌, ◌%◌, Bool, false, if◌then◌else◌, List, [], ◌∷◌, length, slice_index_or, Option, None, Result, Ok, Err, is_ok}
 use Rattle.pef_reloc.specs.declared.fault.RelocFault.{RelocFault}
 use Rattle.pef_reloc.specs.declared.fault.RelocFault.TheVariants.{NestedRepeat}
@@ -8,12 +8,12 @@ use Rattle.pef_reloc.specs.Instrs.{program_length, repeat_free, repeat_of}
 use Rattle.pef_reloc.specs.Limits.{step_limit}
 use Rattle.pef_reloc.specs.Unrolled.{instr_fault, reached, steps_as}
 
--- how many instructions a block has, where none of them is a repeat
+-- how many instructions a block has, if none of them is a repeat
 abbrev pub flat_count : List Instr → Result ℕ RelocFault
 flat_count block = if repeat_free block then Ok (length block) else Err NestedRepeat
 
--- marks for the last sixteen halfwords, halfword h at h % 16: whether so many halfwords back an instruction
--- begins, so that a repeat can reach it
+-- marks for the last sixteen halfwords, halfword h at h % 16: whether an instruction begins this many
+-- halfwords back, so that a repeat can reach it
 pub record Marks (marks : List Bool) (before : List Instr) : Type 0 where
   pub full : length marks ≡ 16
   pub begins : (n : ℕ) → 1 ≤ n → n ≤ 16 → n ≤ program_length before → slice_index_or marks ((program_length before - n) % 16) false ≡ is_ok (reached before n [])

@@ -1,4 +1,4 @@
--- What the code's rows of additions do, with addresses in place of bases.
+-- The effect of the code's rows of additions, with addresses in place of bases.
 use Rattle.std.specs.Prelude.{◌≡◌, ℕ, ◌+◌, false, true, nat_le, nat_lt, if◌then◌else◌, List, length, map, slice_index, Option, None, Some, Result, Ok, Err}
 use Rattle.pef_reloc.specs.declared.fault.RelocFault.{RelocFault}
 use Rattle.pef_reloc.specs.declared.fault.RelocFault.TheVariants.{ImportOutside, SectionOutside, WordOutside}
@@ -6,17 +6,17 @@ use Rattle.pef_reloc.specs.declared.fixup.Base.{Base}
 use Rattle.pef_reloc.specs.Steps.{Act, add, row, pairs, numbered}
 use Rattle.pef_reloc.specs.Applied.{Addresses, Done, added_at, address_of, is_missing, applied}
 
--- memory with an address added to a word, where the word is inside
+-- memory with an address added to a word, if the word is inside
 abbrev pub word_added : List ℕ → ℕ → ℕ → Done
 word_added memory at address =
     if nat_le (at + 4) (length memory) then record { memory = added_at memory at address; fault = None }
     else record { memory = memory; fault = Some WordOutside }
 
--- memory and the answer are those of the acts
+-- memory and the result are those of the acts
 pub record Does (a : Addresses) (old new : List ℕ) (acts : List Act) (answer : Option RelocFault) : Type 0 where
   pub is : applied a acts old ≡ record { memory = new; fault = answer }
 
--- a base that is there, with its address
+-- a base that exists, with its address
 pub record Stands (a : Addresses) (base : Base) (address : ℕ) : Type 0 where
   pub there : is_missing a base ≡ false
   pub address_is : address_of a base ≡ address

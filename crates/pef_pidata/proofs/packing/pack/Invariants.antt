@@ -1,4 +1,4 @@
--- What is packed, and what the rest packs to, is the whole.
+-- The packed bytes so far, and those of the rest, are the whole.
 use Rattle.std.proofs.Common.{◌≡◌, ◌≤◌, ◌++◌, length}
 use Rattle.pef_pidata.specs.Packing.{packed_of}
 use Rattle.pef_pidata.proofs.packing.pack.Given as goal

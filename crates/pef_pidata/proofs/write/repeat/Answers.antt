@@ -1,4 +1,4 @@
--- What is copied behind what is written is whole blocks, too.
+-- A copy after the bytes written so far is whole blocks, too.
 use Rattle.std.proofs.Common.{◌≡◌, ℕ, ◌+◌, ◌-◌, List, ◌++◌, length, take, drop, min, sym, ap, ◌∙◌, arith}
 use Rattle.std.proofs.lemmas.List.{length-append, take-append-drop, length-take-le, length-drop}
 use Rattle.pef_pidata.proofs.Repeats.{next_whole, piece_written, all_written}

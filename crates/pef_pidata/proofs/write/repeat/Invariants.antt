@@ -1,4 +1,4 @@
--- What is written is whole blocks.
+-- The bytes written are whole blocks.
 use Rattle.std.proofs.Common.{◌≡◌, ◌+◌, ◌-◌, ◌*◌, ◌≤◌, length}
 use Rattle.pef_pidata.proofs.Repeats.{IsBegun}
 use Rattle.pef_pidata.proofs.write.repeat.Given as goal

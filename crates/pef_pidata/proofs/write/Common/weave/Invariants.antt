@@ -1,4 +1,4 @@
--- What is written and what the parts that are left spell is what all parts spell.
+-- The bytes written, and those that the parts left spell, are what all parts spell.
 use Rattle.std.proofs.Common.{◌≡◌, ◌-◌, ◌*◌, ◌++◌, take, drop}
 use Rattle.pef_pidata.specs.Kept.Views.{common_seen}
 use Rattle.pef_pidata.specs.Pattern.{woven}
