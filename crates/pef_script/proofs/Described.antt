@@ -20,17 +20,17 @@ use Rattle.pef_script.specs.Described.{IsOutside, described_memory}
 use Rattle.pef_script.specs.Script.{DescribedSection}
 use Rattle.pef_script.specs.WellFormed.{BaseThere, SectionHolds}
 
--- a base of a script is there where its sections and its imports have addresses
+-- a base of a script exists if its sections and its imports have addresses
 pub base_there : (a : Addresses) (base : Base) → BaseThere (length a.sections) (length a.imports) base → IsThere a base
 base_there a (Section k) there = there
 base_there a (Import j) there = there
 
--- the word of a fixup, where memory from its place on is known: what stood there and the address of the
+-- the word of a fixup, in memory from its place on: the word that was there plus the address of the
 -- base, modulo 2^32
 abbrev word_with_base : (Base → ℕ) → Fixup → List ℕ → List ℕ
 word_with_base address fixup memory = big_bytes 4 ((big_number 4 memory + address fixup.base) % 2 ^ 32)
 
--- fixups stand in a row between two places
+-- fixups are in a row between two places
 abbrev Between : ℕ → List Fixup → ℕ → Type 0
 Between from [] end = from ≤ end
 Between from (f ∷ fs) end = (from ≤ f.offset) × Between (f.offset + 4) fs end
@@ -39,7 +39,7 @@ between-room : (from : ℕ) (fs : List Fixup) (end : ℕ) → Between from fs en
 between-room from [] end apart = apart
 between-room from (f ∷ fs) end apart = let later = between-room (f.offset + 4) fs end apart.1 in omega (arith, apart.0, later)
 
--- one of them stands between them, too
+-- each one is between them, too
 between-at : (from : ℕ) (fs : List Fixup) (end i : ℕ) (f : Fixup) → Between from fs end → slice_get fs i ≡ Some f → from ≤ f.offset
 between-at from [] end i f apart at = absurd (cc)
 between-at from (g ∷ fs) end zero f apart at = (let e : g ≡ f = cc in subst (λ (h : Fixup). from ≤ h.offset) e apart.0)
@@ -55,7 +55,7 @@ length-word : (address : Base → ℕ) (f : Fixup) (memory : List ℕ) → lengt
 length-word address f memory = length-bytes_high_first 4 ((big_number 4 memory + address f.base) % 2 ^ 32)
 
 module _ (address : Base → ℕ) where
-  -- the words change no length
+  -- the words don't change the length
   length-with_bases : (fs : List Fixup) (from end : ℕ) (memory : List ℕ) → end ≡ from + length memory → Between from fs end → length (with_bases address from fs memory) ≡ length memory
   unfolding with_bases
   length-with_bases [] from end memory is apart = refl
@@ -69,7 +69,7 @@ module _ (address : Base → ℕ) where
       let front : length (take gap memory) ≡ gap = length-take-le gap memory (omega (arith, is, room, apart.0)) in
       omega (arith, length-append (take gap memory) (word ++ with_bases address (f.offset + 4) fs rest), length-append word (with_bases address (f.offset + 4) fs rest), length-word address f (drop gap memory), front, later, left, is, room, apart.0)
 
-  -- a byte outside of the words is what it was
+  -- a byte outside of the words is unchanged
   outside-with_bases : (fs : List Fixup) (from end y : ℕ) (memory : List ℕ) → end ≡ from + length memory → Between from fs end → IsOutside (from + y) fs → get_or (with_bases address from fs memory) y 0 ≡ get_or memory y 0
   unfolding with_bases
   outside-with_bases [] from end y memory is apart outside = refl

@@ -1,5 +1,5 @@
--- The memory that a script describes (docs/SCRIPTS.md, `bytes`, `fix` and `tvector`). It speaks of the
--- script alone, and knows no container and no program.
+-- The memory that a script describes (docs/SCRIPTS.md, `bytes`, `fix` and `tvector`). The definition
+-- uses only the script, no container and no program.
 use Rattle.std.specs.Prelude.{ℕ, ◌+◌, ◌<◌, ◌≤◌, ◌⊎◌, List, [], slice_get}
 use Rattle.std.specs.List.{AllByRecursion}
 use Rattle.std.specs.Option.{option_map_or}

@@ -1,6 +1,6 @@
 -- The limits of a script, which are this project's own (docs/SCRIPTS.md, "Limits"). The reader of scripts has
--- them as constants; here they stand as plain numbers, so that one checks the other. How many sections, imports
--- and fixups there may be is said where fixups are defined, in the Limits of pef_reloc.
+-- them as constants. Here they are plain numbers, so that one checks the other. The numbers of sections,
+-- imports and fixups are in the Limits of pef_reloc, which defines fixups.
 use Rattle.std.specs.Prelude.{ℕ}
 
 -- how many libraries there may be
@@ -11,7 +11,7 @@ most_libraries = 4096
 abbrev pub most_exports : ℕ
 most_exports = 16383
 
--- how many bytes the names of libraries, imports and exports may have in all, with one more for each
+-- how many bytes the names of libraries, imports and exports may have in all, counting one more for each
 abbrev pub most_name_bytes : ℕ
 most_name_bytes = 8388608
 

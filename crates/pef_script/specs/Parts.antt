@@ -1,4 +1,4 @@
--- What the parts of a script are seen as: the script that they make.
+-- The script that its parts make.
 use Rattle.std.specs.Prelude.{ℕ, List, map}
 use denote.Ref.{Bor}
 use Rattle.pef_script.specs.declared.parts.ExportData.{ExportData}
@@ -9,7 +9,7 @@ use Rattle.pef_format.specs.Exports.{Export}
 use Rattle.pef_format.specs.Symbols.{Import, class_code}
 use Rattle.pef_script.specs.Script.{DescribedLibrary, DescribedScript}
 
--- a name and what is said of it
+-- a name and the data beside it
 
 abbrev pub library_of : Bor (List ℕ) × LibraryData → DescribedLibrary
 library_of e = record { name = e.0.now; current = e.1.current; old_imp = e.1.old_imp; options = e.1.options }

@@ -42,7 +42,7 @@ pub record DescribedScript : Type 0 where
   pub init : Option (ℕ × ℕ)
   pub term : Option (ℕ × ℕ)
 
--- the names that it has of each kind
+-- its names of each kind
 
 abbrev pub library_names : DescribedScript → List (List ℕ)
 library_names script = map (λ library. library.name) script.libraries
@@ -56,7 +56,7 @@ section_names script = map (λ section. section.header.name) script.sections
 abbrev pub export_names : DescribedScript → List (List ℕ)
 export_names script = map (λ symbol. symbol.name) script.exports
 
--- the bytes of names, with one more for each
+-- the bytes of names, counting one more for each
 abbrev pub bytes_of_names : List (List ℕ) → ℕ
 bytes_of_names names = sum_by (λ name. length name + 1) names
 

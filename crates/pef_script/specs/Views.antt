@@ -1,4 +1,4 @@
--- What the views of a script's parts show, without places in memory.
+-- The values that the views of a script's parts show, without places in memory.
 use Rattle.pef_script.specs.declared.parts.SectionHeader.{SectionHeader}
 use Rattle.pef_script.specs.declared.views.LibraryView.{LibraryView}
 use Rattle.pef_script.specs.Script.{DescribedHeader, DescribedLibrary}

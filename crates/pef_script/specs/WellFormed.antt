@@ -1,4 +1,5 @@
--- What is true of every script: names, limits, everything in its place (docs/SCRIPTS.md, "Lines" and "Limits").
+-- What holds for every script: its names, its limits, and that it refers only to sections, libraries, imports
+-- and offsets that exist (docs/SCRIPTS.md, "Lines" and "Limits").
 use Rattle.std.specs.Prelude.{◌≡◌, ℕ, ◌<◌, ◌≤◌, true, List, [], ◌∷◌, Option, None, Some, length, map, slice_index}
 use Rattle.std.specs.List.{AllByRecursion, IsDistinct, list_all}
 use Rattle.std.specs.Str.{bytes_eq}
@@ -23,7 +24,7 @@ pub record IsName (name : List ℕ) : Type 0 where
   pub most : length name ≤ longest_name
   pub bytes : list_all is_printing name ≡ true
 
--- each is at most those behind it
+-- each number is at most those after it
 abbrev pub Rises : List ℕ → Type 0
 Rises [] = Unit {0}
 Rises (x ∷ xs) = AllByRecursion (λ y. x ≤ y) xs × Rises xs
@@ -43,25 +44,25 @@ pub record LibrariesHold (libraries : List DescribedLibrary) : Type 0 where
   pub each : AllByRecursion LibraryHolds libraries
   pub apart : IsDistinct bytes_eq (map (λ library. library.name) libraries)
 
--- an import among so many libraries
+-- an import among this many libraries
 pub record ImportHolds (libraries : ℕ) (i : Import) : Type 0 where
   pub name : IsName i.name
   pub class : is_class i.class ≡ true
   pub library : i.library < libraries
 
--- imports stand library by library
+-- imports are in the order of their libraries
 pub record ImportsHold (libraries : ℕ) (imports : List Import) : Type 0 where
   pub count : length imports ≤ most_imports
   pub each : AllByRecursion (ImportHolds libraries) imports
   pub apart : IsDistinct bytes_eq (map (λ symbol. symbol.name) imports)
   pub grouped : Rises (map (λ symbol. symbol.library) imports)
 
--- the section or the import of a base is there
+-- the section or the import of a base exists
 abbrev pub BaseThere : ℕ → ℕ → Base → Type 0
 BaseThere sections imports (base.Section k) = k < sections
 BaseThere sections imports (base.Import j) = j < imports
 
--- a section among so many sections and imports
+-- a section among this many sections and imports
 pub record SectionHolds (sections imports : ℕ) (s : DescribedSection) : Type 0 where
   pub name : IsName s.header.name
   pub kind : is_instantiable s.header.kind ≡ true
@@ -82,12 +83,13 @@ pub record SectionsHold (imports : ℕ) (sections : List DescribedSection) : Typ
 abbrev pub totals_of : List DescribedSection → List ℕ
 totals_of sections = map (λ section. section.header.total) sections
 
--- an offset in section k, or at its end, where sections have so many bytes
+-- an offset in section k, or at its end, if these are the lengths of the sections
 pub record PlaceHolds (totals : List ℕ) (k offset : ℕ) : Type 0 where
   pub there : k < length totals
   pub inside : offset ≤ slice_index totals k
 
--- what an export stands for is there, where sections have so many bytes and there are so many imports
+-- the section or the import of an export exists, if these are the lengths of the sections and there are this
+-- many imports
 abbrev pub ValueHolds : List ℕ → ℕ → ExportValue → Type 0
 ValueHolds totals imports (InSection k offset) = PlaceHolds totals k offset
 ValueHolds totals imports (Absolute value) = value ≤ greatest_number
@@ -104,7 +106,7 @@ pub record ExportsHold (totals : List ℕ) (imports : ℕ) (exports : List Expor
   pub each : AllByRecursion (ExportHolds totals imports) exports
   pub apart : IsDistinct bytes_eq (map (λ symbol. symbol.name) exports)
 
--- an entry is in a section, where there is one
+-- an entry is in a section, if there is one
 abbrev pub EntryHolds : List ℕ → Option (ℕ × ℕ) → Type 0
 EntryHolds totals None = Unit {0}
 EntryHolds totals (Some entry) = PlaceHolds totals entry.0 entry.1

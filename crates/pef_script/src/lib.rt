@@ -1,7 +1,7 @@
-//! Link scripts: what a container is made of, and the memory that this describes.
+//! Link scripts: the parts of a container, and the memory that a script describes.
 //!
-//! [`Script::read`] makes a [`Script`] of a text, or gives the [`ScriptFault`] of the first line that breaks a rule. A
-//! script keeps the limits, and everything in it is in its place.
+//! [`Script::read`] makes a [`Script`] from a text, or reports the [`ScriptFault`] of the first line that breaks a
+//! rule. A script keeps the limits, and refers only to sections, libraries, imports and offsets that exist.
 #![tactic(auto)]
 
 mod parts;

@@ -20,7 +20,7 @@ pub struct Versions {
 #[derive(Clone, Copy, Debug, PartialEq, Eq)]
 pub struct SectionHeader<'a> {
     pub name: &'a [u8],
-    /// One of the kinds that may be instantiated. The image of pattern-initialized data is packed where it
+    /// One of the kinds that may be instantiated. The image of pattern-initialized data is packed when it
     /// is written.
     pub kind: SectionKind,
     pub share: Share,
@@ -30,7 +30,7 @@ pub struct SectionHeader<'a> {
     pub total: u32,
 }
 
-/// What a script says of a library beside its name.
+/// What a script says about a library, apart from its name.
 #[derive(Clone, Copy)]
 pub struct LibraryData {
     pub current: u32,
@@ -38,7 +38,7 @@ pub struct LibraryData {
     pub options: LibraryOptions,
 }
 
-/// What a script says of an import beside its name.
+/// What a script says about an import, apart from its name.
 #[derive(Clone, Copy)]
 pub struct ImportData {
     pub class: SymbolClass,
@@ -47,7 +47,7 @@ pub struct ImportData {
     pub library: u32,
 }
 
-/// What a script says of an export beside its name.
+/// What a script says about an export, apart from its name.
 #[derive(Clone, Copy)]
 pub struct ExportData {
     pub class: SymbolClass,
@@ -78,7 +78,7 @@ impl<'a> Model for Section<'a> {
     } };
 }
 
-/// The parts of a script. Libraries, imports and exports are numbered as their names came.
+/// The parts of a script. Libraries, imports and exports are numbered in the order of their declarations.
 #[derive(Drop)]
 pub struct Parts<'a> {
     pub versions: Versions,

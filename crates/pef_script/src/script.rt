@@ -13,7 +13,7 @@ use pef_format::{ExportView, ImportView};
 use pef_reloc::Fixup;
 use std::marker::Model;
 
-/// A link script: what a container is made of. Names are borrowed.
+/// A link script: the parts of a container. Names are borrowed.
 #[derive(Drop)]
 pub struct Script<'a> {
     parts: Parts<'a>,
@@ -32,7 +32,8 @@ impl<'a> Model for Script<'a> {
 }
 
 impl<'a> Script<'a> {
-    /// The script of some parts that keep the limits, have names apart and have everything in its place.
+    /// Returns the script of some parts. They must keep the limits, have distinct names, and refer only
+    /// to sections, libraries, imports and offsets that exist.
     pub fn new(parts: Parts<'a>) -> Script<'a>
         requires { ScriptHolds (script_in parts) }
         ensures { result ≡ script_in parts.entry }
@@ -40,7 +41,7 @@ impl<'a> Script<'a> {
         Script { parts }
     }
 
-    /// The parts, which keep the rules of a script.
+    /// Returns the parts, which keep the rules of a script.
     pub fn parts(&self) -> &Parts<'a>
         ensures parts { script_in result.now ≡ self.now }
         ensures holds { ScriptHolds self.now }
@@ -48,14 +49,14 @@ impl<'a> Script<'a> {
         &self.parts
     }
 
-    /// The versions of the container.
+    /// Returns the versions of the container.
     pub fn versions(&self) -> Versions
         ensures { result ≡ self.now.versions }
     {
         self.parts.versions
     }
 
-    /// The number of sections.
+    /// Returns the number of sections.
     pub fn sections(&self) -> usize
         ensures count { result ≡ length self.now.sections }
         ensures few { result ≤ most_sections }
@@ -63,7 +64,7 @@ impl<'a> Script<'a> {
         self.parts.sections.len()
     }
 
-    /// The number of libraries.
+    /// Returns the number of libraries.
     pub fn libraries(&self) -> usize
         ensures count { result ≡ length self.now.libraries }
         ensures few { result ≤ most_libraries }
@@ -71,7 +72,7 @@ impl<'a> Script<'a> {
         self.parts.libraries.len()
     }
 
-    /// The number of imports.
+    /// Returns the number of imports.
     pub fn imports(&self) -> usize
         ensures count { result ≡ length self.now.imports }
         ensures few { result ≤ most_imports }
@@ -79,7 +80,7 @@ impl<'a> Script<'a> {
         self.parts.imports.len()
     }
 
-    /// The number of exports.
+    /// Returns the number of exports.
     pub fn exports(&self) -> usize
         ensures count { result ≡ length self.now.exports }
         ensures few { result ≤ most_exports }
@@ -87,21 +88,21 @@ impl<'a> Script<'a> {
         self.parts.exports.len()
     }
 
-    /// Section `k` without its image and its fixups, or `None` past the last one.
+    /// Returns section `k` without its image and its fixups, or `None` past the last one.
     pub fn section(&self, k: usize) -> Option<SectionHeader<'a>>
         ensures { option_map header_in result ≡ option_map (λ s. s.header) (slice_get self.now.sections k) }
     {
         Some(self.parts.sections.get(k)?.header)
     }
 
-    /// The bytes that section `k` begins with, or `None` past the last one.
+    /// Returns the bytes that section `k` begins with, or `None` past the last one.
     pub fn image(&self, k: usize) -> Option<&[u8]>
         ensures { option_copied result ≡ option_map (λ s. s.image) (slice_get self.now.sections k) }
     {
         Some(&self.parts.sections.get(k)?.image)
     }
 
-    /// The fixups of section `k` in address order, or `None` past the last one.
+    /// Returns the fixups of section `k` in address order, or `None` past the last one.
     pub fn fixups(&self, k: usize) -> Option<&[Fixup]>
         ensures value { option_copied result ≡ option_map (λ s. s.fixups) (slice_get self.now.sections k) }
         ensures fit { IfSome result (λ fixups. fixups_fit fixups.now ≡ true) }
@@ -109,7 +110,7 @@ impl<'a> Script<'a> {
         Some(&self.parts.sections.get(k)?.fixups)
     }
 
-    /// Library `l`, or `None` past the last one.
+    /// Returns library `l`, or `None` past the last one.
     pub fn library(&self, l: usize) -> Option<LibraryView<'a>>
         ensures { option_map library_in result ≡ slice_get self.now.libraries l }
     {
@@ -122,7 +123,7 @@ impl<'a> Script<'a> {
         })
     }
 
-    /// Import `j`, or `None` past the last one.
+    /// Returns import `j`, or `None` past the last one.
     pub fn import(&self, j: usize) -> Option<ImportView<'a>>
         ensures { option_map import_seen result ≡ slice_get self.now.imports j }
     {
@@ -135,7 +136,7 @@ impl<'a> Script<'a> {
         })
     }
 
-    /// Export `e`, or `None` past the last one.
+    /// Returns export `e`, or `None` past the last one.
     pub fn export(&self, e: usize) -> Option<ExportView<'a>>
         ensures { option_map export_seen result ≡ slice_get self.now.exports e }
     {
@@ -143,21 +144,21 @@ impl<'a> Script<'a> {
         Some(export_view(name, *export))
     }
 
-    /// The section and offset of the main entry, where there is one.
+    /// Returns the section and offset of the main entry, if there is one.
     pub fn main(&self) -> Option<(u32, u32)>
         ensures { result ≡ self.now.main }
     {
         self.parts.main
     }
 
-    /// The section and offset of the initialization routine, where there is one.
+    /// Returns the section and offset of the initialization routine, if there is one.
     pub fn init(&self) -> Option<(u32, u32)>
         ensures { result ≡ self.now.init }
     {
         self.parts.init
     }
 
-    /// The section and offset of the termination routine, where there is one.
+    /// Returns the section and offset of the termination routine, if there is one.
     pub fn term(&self) -> Option<(u32, u32)>
         ensures { result ≡ self.now.term }
     {
@@ -165,7 +166,7 @@ impl<'a> Script<'a> {
     }
 }
 
-/// An export with its name.
+/// Returns an export with its name.
 fn export_view(name: &[u8], export: ExportData) -> ExportView<'_>
     ensures { export_seen result ≡ export_of (name.entry, export) }
 {

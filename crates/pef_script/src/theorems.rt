@@ -1,4 +1,4 @@
-//! Laws of the definitions, for whoever speaks of scripts. The functions do nothing.
+//! Laws of the definitions, for crates that use scripts. The functions do nothing.
 ghost use Rattle.std.specs.Prelude.{◌≡◌, ◌<◌, ◌+◌, ◌%◌, ◌^◌, ℕ, Some, length, take, drop, slice_get, unwrap_or};
 ghost use Rattle.byteorder.specs.Endian.{big_bytes, big_number};
 ghost use Rattle.pef_words.specs.Bytes.{filled};
@@ -8,8 +8,8 @@ ghost use Rattle.pef_script.specs.Described.{IsOutside, described_memory};
 ghost use Rattle.pef_script.specs.Script.{DescribedSection};
 ghost use Rattle.pef_script.specs.WellFormed.{SectionHolds};
 
-/// The memory that a script describes, byte by byte: a section has its bytes in all; outside fixups they
-/// are the image's, and 0 past the image; at a fixup they spell the word that would stand there plus the
+/// The memory that a script describes, byte by byte. A section has all its bytes. Outside fixups they
+/// are the image's, and 0 past the image. At a fixup they spell the word that would be there plus the
 /// address of the base, modulo 2^32.
 pub fn described_bytes()
     ensures size { (address : Base → ℕ) (m n : ℕ) (s : DescribedSection) → SectionHolds m n s → length (described_memory address s) ≡ s.header.total }

@@ -1,4 +1,5 @@
--- What unmet tests say of a line, and what stays true of a script that gets one thing more.
+-- The facts of a line whose tests don't hold, and what stays true of a script that gets one part
+-- more.
 use Rattle.std.proofs.Common.{◌≡◌, ℕ, ◌+◌, ◌-◌, ◌*◌, ◌<◌, ◌≤◌, ◌==◌, ◌||◌, not, Bool, true, false, cond, List, [], ◌∷◌, ◌++◌, Option, None, Some, Ok, Err, length, map, is_some, refl, subst, arith, length-append}
 use Rattle.std.specs.Prelude.{slice_set, nat_lt, nat_le}
 use Rattle.std.specs.List.{AllByRecursion}
@@ -34,7 +35,7 @@ use Rattle.pef_script.proofs.TextProofs.Placing.{all-placed, fixups_end-placed, 
 abbrev pub StateHolds : ScriptSoFar → Type 0
 StateHolds s = ScriptHolds s.script
 
--- what tests that are not met say
+-- the facts of tests that don't hold
 
 new_name : (names : List (List ℕ)) (name : List ℕ) → is_repeated names name ≡ false → number_of_name names name ≡ None
 new_name names name isnt = by (number_of_name names name) isnt
@@ -50,7 +51,7 @@ below_limit count limit unmet = by (nat_lt count limit) refl unmet
     by true is unmet = ltb-true _ _ is
     by false is unmet = absurd (cc)
 
--- room for one more name among others, of which there may be so many
+-- room for one more name among others, with this limit on their number
 pub record NameRoom (names : List (List ℕ)) (limit : ℕ) (name : List ℕ) : Type 0 where
   pub new : number_of_name names name ≡ None
   pub room : length names < limit
@@ -125,7 +126,7 @@ exports-more totals more n j exports holds = record {
   apart = holds.apart;
 }
 
--- with one more section or import, what was there is there
+-- with one more section or import, the bases that existed still exist
 
 base-more : (m n i j : ℕ) (b : Base) → BaseThere m n b → BaseThere (m + i) (n + j) b
 base-more m n i j (base.Section k) there = omega (arith, there)
@@ -154,7 +155,7 @@ sections-more n j sections holds =
       apart = holds.apart;
     }
 
--- with one more library, the imports have theirs
+-- with one more library, the libraries of the imports still exist
 pub imports-more : (n : ℕ) (imports : List Import) → ImportsHold n imports → ImportsHold (n + 1) imports
 imports-more n imports holds = record {
   count = holds.count;
@@ -190,7 +191,7 @@ place_at s k offset under inside =
 pub names-more : (names : List (List ℕ)) (name : List ℕ) → bytes_of_names (names ++ name ∷ []) ≡ bytes_of_names names + (length name + 1)
 names-more names name = let more = sum_by-append (λ (n : List ℕ). length n + 1) names (name ∷ []) in omega (arith, more)
 
--- a section that is changed, but for its line
+-- a section that is changed, except for its line
 
 pub changed : (s : ScriptSoFar) (k : ℕ) (section : DescribedSection) → StateHolds s → section.header ≡ (section_so_far s k).header → SectionHolds (length s.script.sections) (length s.script.imports) section → StateHolds (with_contents s k section)
 changed s k section holds same fits =
@@ -217,7 +218,7 @@ changed s k section holds same fits =
 pub at_section : (s : ScriptSoFar) (k : ℕ) → StateHolds s → k < length s.script.sections → SectionHolds (length s.script.sections) (length s.script.imports) (section_so_far s k)
 at_section s k holds under = all-at (SectionHolds (length s.script.sections) (length s.script.imports)) s.script.sections k no_section holds.sections.each under
 
--- a base that is there is within the limits of bases
+-- a base that exists is within the limits of bases
 base_within : (m n : ℕ) (b : Base) → m ≤ most_sections → n ≤ most_imports → BaseThere m n b → base_fits b ≡ true
 base_within m n (base.Section k) few some there = let under : k < most_sections = omega (arith, there) in lt-ltb k most_sections under
 base_within m n (base.Import j) few some there = let under : j < most_imports = omega (arith, there) in lt-ltb j most_imports under

@@ -1,4 +1,4 @@
--- Every line keeps what is true of the script so far.
+-- Every line preserves what is true of the script so far.
 use Rattle.std.proofs.Common.{◌≡◌, ℕ, Bool, ◌+◌, ◌≤◌, true, List, [], ◌∷◌, ◌++◌, None, Result, Ok, Err, length, map, refl, ap, subst, ◌∙◌, arith, length-append, append-nil}
 use Rattle.std.specs.Prelude.{codes, nat_lt}
 use Rattle.std.specs.List.{AllByRecursion}
@@ -33,7 +33,7 @@ use Rattle.pef_script.proofs.TextProofs.ListLemmas.{distinct-more, no_names_apar
 use Rattle.pef_script.proofs.TextProofs.WordLemmas.{base_named-is, class_of-is, import_named-is, kind_of-is, next_name_and_word-is, number_up_to-is, section_named-is, share_of-is}
 use Rattle.pef_script.proofs.TextProofs.Growing.{StateHolds, name_tests-unmet, counted_tests-unmet, bytes_tests-unmet, fixup_tests-unmet, entry-more, exports-more, section-more, sections-more, imports-more, entered_import-is, place_at, names-more, changed, at_section, fixup-more}
 
--- what is true of a header that a line declares
+-- the facts of a header that a line declares
 record HeaderHolds (header : DescribedHeader) : Type 0 where
   name : IsName header.name
   kind : is_instantiable header.kind ≡ true
@@ -217,7 +217,7 @@ module _ (s : ScriptSoFar) (holds : StateHolds s) (line : List ℕ) where
         names = holds.names;
       }))
 
-  -- a section as a line leaves it
+  -- a section after a line
   abbrev IsRight : DescribedSection → Type 0
   IsRight section = SectionHolds (length s.script.sections) (length s.script.imports) section
 
@@ -297,7 +297,7 @@ module _ (s : ScriptSoFar) (holds : StateHolds s) (line : List ℕ) where
   tvector_line-holds : Leads StateHolds (tvector_line s line)
   tvector_line-holds = leads_on _ StateHolds (vector_in s line) _ vector_in-holds (λ v right. changed s v.0 (with_fixups (section_so_far s v.0) v.1) holds refl right)
 
-  -- an export that a line declares, where other tests of it are not met
+  -- an export that a line declares, if other tests of it don't hold
   record IsExport (tests : List (Bool × LineFault)) (e : Export) : Type 0 where
     name : IsName e.name
     class : is_class e.class ≡ true
@@ -464,7 +464,7 @@ line_of-holds s line holds =
     leads_if StateHolds (is_skipped line) (Ok s) _ (λ skipped. holds) (λ not_skipped.
     leads_then StateHolds (next_word line) (line_by_word s) (λ p p_is. line_by_word-holds s p holds))
 
--- what a text was read as
+-- the script that a text was read as
 abbrev OkHolds : Result DescribedScript LineRefusal → Type 0
 OkHolds (Ok script) = ScriptHolds script
 OkHolds (Err refusal) = Unit {0}

@@ -1,4 +1,4 @@
--- Lists of names apart, and lists that rise.
+-- Lists of distinct names, and lists that rise.
 use Rattle.std.proofs.Common.{◌≡◌, ℕ, zero, suc, ◌+◌, ◌<◌, ◌≤◌, Bool, true, false, cond, List, [], ◌∷◌, ◌++◌, None, Some, length, map, refl, sym, ap, ◌∙◌, true≢false, arith}
 use Rattle.std.specs.Prelude.{slice_index_or, slice_set}
 use Rattle.std.specs.List.{AllByRecursion, IsDistinct, position_from}
@@ -8,7 +8,7 @@ use Rattle.pef_script.specs.Text.SoFar.{number_of_name}
 use Rattle.pef_script.specs.WellFormed.{Rises}
 use Rattle.pef_words.proofs.Laws.Lists.{all-append}
 
--- a list that rises, with one more that is at least all of it
+-- a list that rises, with one more that is at least as great as all of it
 pub rises-more : (xs : List ℕ) (y : ℕ) → Rises xs → AllByRecursion (λ x. x ≤ y) xs → Rises (xs ++ y ∷ [])
 rises-more [] y rises most = (tt, tt)
 rises-more (x ∷ xs) y rises most = (all-append (λ z. x ≤ z) xs (y ∷ []) rises.0 (most.0, tt), rises-more xs y rises.1 most.1)
@@ -20,7 +20,7 @@ apart_both_ways x y apart = by (bytes_eq x y) refl
     by false is = refl
     by true is = absurd (true≢false (sym ((bytes_eq-Decides y x).1 (sym ((bytes_eq-Decides x y).0 is))) ∙ apart))
 
--- a name without a number is apart from all
+-- a name without a number differs from all
 apart_from_all : (names : List (List ℕ)) (name : List ℕ) (at : ℕ) → position_from (bytes_eq name) at names ≡ None → AllByRecursion (λ other. bytes_eq other name ≡ false) names
 apart_from_all [] name at none = tt
 apart_from_all (other ∷ names) name at none = by (bytes_eq name other) refl none (apart_from_all names name (at + 1))
@@ -40,7 +40,7 @@ pub no_names_apart : IsDistinct bytes_eq []
 unfolding IsDistinct
 no_names_apart = tt
 
--- names apart, with one more that has no number
+-- distinct names, with one more that has no number
 pub distinct-more : (names : List (List ℕ)) (name : List ℕ) → IsDistinct bytes_eq names → number_of_name names name ≡ None → IsDistinct bytes_eq (names ++ name ∷ [])
 distinct-more names name apart new = distinct-append names name apart (apart_from_all names name 0 new)
 
@@ -53,7 +53,7 @@ position_from-under test at (name ∷ names) k is = by (test name) is (position_
     by true is others = (let e : at ≡ k = cc in omega arith)
     by false is others = (let under = others is in omega (arith, under))
 
--- what depends on a part that a change keeps
+-- a part that a change keeps is unchanged
 pub map-set : {A B C : Type 0} (part : A → B) (f : B → C) (xs : List A) (k : ℕ) (d y : A) → part y ≡ part (slice_index_or xs k d) → map (λ x. f (part x)) (slice_set xs k y) ≡ map (λ x. f (part x)) xs
 map-set part f [] k d y same = refl
 map-set part f (x ∷ xs) zero d y same = ap (λ p. f p ∷ map (λ x. f (part x)) xs) same

@@ -42,7 +42,7 @@ entries_to end entries = entries_between nat_cmp Unbounded (Excluded end) entrie
 to_is : (a b : ℕ) → not (is_le (nat_cmp a b)) ≡ nat_lt b a
 to_is a b = grind (arith, nat_tests)
 
--- where none is below the end of some words, none overlaps them
+-- if none is below the end of some words, none overlaps them
 pub none_to : (entries : List (ℕ × Base)) (offset count : ℕ) → entries_to (offset + 4 * count) entries ≡ [] → overlaps (fixups_in entries) offset count ≡ false
 none_to [] offset count none = refl
 none_to (e ∷ entries) offset count none =
@@ -76,7 +76,7 @@ abbrev others_of : List (ℕ × Base) → List (ℕ × Base)
 others_of [] = []
 others_of (x ∷ xs) = xs
 
--- a fixup overlaps some words where the last that is below their end does
+-- a fixup overlaps some words if the last one below their end does
 pub last_to : (entries before : List (ℕ × Base)) (e : ℕ × Base) (offset count : ℕ) → IsStrictlySortedBy nat_cmp (keys_of entries) → entries_to (offset + 4 * count) entries ≡ before ++ e ∷ [] → overlaps (fixups_in entries) offset count ≡ nat_lt offset (e.0 + 4)
 last_to [] [] e offset count sorted is = absurd (cc)
 last_to [] (b ∷ before) e offset count sorted is = absurd (cc)

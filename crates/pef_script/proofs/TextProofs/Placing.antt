@@ -1,4 +1,4 @@
--- New fixups in their places: they fit, and are in the section, where they overlap none.
+-- New fixups in their places: they fit, and are in the section, if they don't overlap others.
 use Rattle.std.proofs.Common.{◌≡◌, ℕ, suc, ◌+◌, ◌*◌, ◌≤◌, ◌⊎◌, Bool, true, false, ◌&&◌, ◌||◌, nat_le, List, [], ◌∷◌, length, refl, inl, inr, arith}
 use Rattle.std.specs.List.{AllByRecursion, list_any}
 use Rattle.std.proofs.lemmas.Bool.{le-leb, and_from, and_parts}
@@ -9,12 +9,12 @@ use Rattle.pef_reloc.specs.Fixups.{fixup_fits, fixups_end, fixups_from}
 use Rattle.pef_script.specs.Text.Contents.{fixup_of, meets, overlaps, placed}
 use Rattle.pef_script.specs.Text.Kept.Sections.{AreApart}
 
--- of two tests that are not met together
+-- if it is false that one test or the other holds, neither does
 pub both_unmet : (a b : Bool) → (a || b) ≡ false → (a ≡ false) × (b ≡ false)
 both_unmet true b unmet = absurd (cc)
 both_unmet false b unmet = (refl, unmet)
 
--- a fixup that meets no word is before or after all of them
+-- a fixup that overlaps no word is before or after all of them
 pub clear_of : (offset count : ℕ) (fixup : Fixup) → meets offset count fixup ≡ false → (fixup.offset + 4 ≤ offset) ⊎ (offset + 4 * count ≤ fixup.offset)
 clear_of offset count fixup unmet = grind (arith, nat_tests)
 
@@ -60,7 +60,7 @@ fixups_end-placed end total (f ∷ fixups) new inside here =
       | inr after ↦ rw after.0 (fixups_end-placed (f.offset + 4) total fixups new inside here)
     ]
 
--- a test that no fixup meets, where another that is met more often is met by none
+-- a test holds for no fixup if a weaker one holds for none
 any-weaker : (p q : Fixup → Bool) (fixups : List Fixup) → ((f : Fixup) → p f ≡ false → q f ≡ false) → list_any p fixups ≡ false → list_any q fixups ≡ false
 any-weaker p q [] weaker none = refl
 any-weaker p q (f ∷ fixups) weaker none =

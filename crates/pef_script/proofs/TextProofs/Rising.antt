@@ -14,7 +14,7 @@ use Rattle.pef_script.proofs.TextProofs.Placing.{length-placed}
 abbrev pub EndBy : ℕ → List Fixup → Type 0
 EndBy end fixups = AllByRecursion (λ (f : Fixup). f.offset + 4 ≤ end) fixups
 
--- they meet no word from there on
+-- they overlap no word from there on
 pub free_past : (fixups : List Fixup) (end offset count : ℕ) → EndBy end fixups → end ≤ offset → overlaps fixups offset count ≡ false
 free_past [] end offset count inside past = refl
 free_past (f ∷ fixups) end offset count inside past =
@@ -50,12 +50,12 @@ rising-more fixups end after new rising past is =
       ordered = fold-append placed [] fixups (new ∷ []) ∙ (ap (λ fs. placed fs new) rising.ordered ∙ placed_last fixups end new rising.inside past);
     }
 
--- the list is what is kept while there are no bases
+-- the list has all fixups while there are no bases
 pub kept_rising : (rising : List Fixup) (entries : List (ℕ × Base)) → length entries ≡ 0 → fixups_kept rising entries ≡ rising
 kept_rising rising [] none = refl
 kept_rising rising (e ∷ entries) none = absurd (omega (arith, none))
 
--- and the bases are where there are some
+-- and the bases have them if there are any
 pub kept_placed : (rising : List Fixup) (entries : List (ℕ × Base)) → 0 < length entries → fixups_kept rising entries ≡ fixups_in entries
 kept_placed rising [] some = absurd (omega (arith, some))
 kept_placed rising (e ∷ entries) some = refl

@@ -11,7 +11,7 @@ use Rattle.pef_script.specs.declared.parts.LibraryData.{LibraryData}
 use Rattle.pef_script.specs.Parts.{export_of, import_of, library_of}
 use Rattle.pef_script.specs.Text.SoFar.{number_of_name}
 
--- a place in a list is that in the list seen in another way
+-- a place in a list is that in the mapped list
 position_from-map : {A B : Type 0} (f : A → B) (test : B → Bool) (at : ℕ) (xs : List A) → position_from test at (map f xs) ≡ position_from (λ x. test (f x)) at xs
 position_from-map f test at [] = refl
 position_from-map f test at (x ∷ xs) = ap (cond (test (f x)) (Some at)) (position_from-map f test (at + 1) xs)

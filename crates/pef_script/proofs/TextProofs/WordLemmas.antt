@@ -1,4 +1,4 @@
--- What is known of words that were read.
+-- The facts of words that were read.
 use Rattle.std.proofs.Common.{◌≡◌, ℕ, ◌+◌, ◌<◌, ◌≤◌, ◌==◌, not, Bool, true, false, cond, List, [], ◌∷◌, Option, None, Some, Result, Ok, Err, length, refl, arith}
 use Rattle.std.specs.Prelude.{codes, nat_lt}
 use Rattle.std.specs.Option.{ok_or}
@@ -40,7 +40,7 @@ word_before-is (Some p) = by (is_word p.0) refl
     by true is = is
     by false isnt = tt
 
--- a word that is not too long is a name
+-- a word that isn't too long is a name
 name_if : (word : List ℕ) → is_word word ≡ true → length word ≤ longest_name → IsName word
 name_if [] is most = absurd (cc)
 name_if (b ∷ bytes) is most = record { least = omega arith; most = most; bytes = (and_parts (not (length (b ∷ bytes) == 0)) (list_all is_printing (b ∷ bytes)) is).1 }

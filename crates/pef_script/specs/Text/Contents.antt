@@ -1,5 +1,5 @@
--- The lines that say what is in a section, each after its first word (docs/SCRIPTS.md, "Lines"). They come
--- in any order of sections and offsets.
+-- The lines for the contents of a section, each after its first word (docs/SCRIPTS.md, "Lines"). They may
+-- come in any order of sections and offsets.
 use Rattle.std.specs.Prelude.{ℕ, true, false, ◌+◌, ◌*◌, ◌&&◌, Bool, List, [], ◌∷◌, ◌++◌, Result, Ok, Err, length, codes, nat_lt, slice_set, if◌then◌else◌}
 use Rattle.std.specs.List.{fold, list_any}
 use Rattle.std.specs.Option.{ok_or}
@@ -32,7 +32,7 @@ bytes_tests s k count = (nat_lt (section_so_far s k).header.total (length (secti
 abbrev pub with_image : DescribedSection → List ℕ → DescribedSection
 with_image section bytes = record section { image = section.image ++ bytes }
 
--- the number of a section, and the bytes that a line has for it, where they may stand
+-- the number of a section, and the bytes that a line has for it, if they are allowed
 unfoldable pub bytes_in : ScriptSoFar → List ℕ → Result (ℕ × List ℕ) LineFault
 bytes_in s line = do
   words ← last_name_and_word line
@@ -44,7 +44,7 @@ bytes_in s line = do
 abbrev pub bytes_line : ScriptSoFar → List ℕ → Result ScriptSoFar LineFault
 bytes_line s line = bytes_in s line >>= λ b. Ok (with_contents s b.0 (with_image (section_so_far s b.0) b.1))
 
--- a fixup's word meets so many words from an offset
+-- a fixup's word overlaps one of this many words from an offset
 abbrev pub meets : ℕ → ℕ → Fixup → Bool
 meets offset count fixup = nat_lt offset (fixup.offset + 4) && nat_lt fixup.offset (offset + 4 * count)
 
@@ -52,7 +52,7 @@ meets offset count fixup = nat_lt offset (fixup.offset + 4) && nat_lt fixup.offs
 abbrev pub overlaps : List Fixup → ℕ → ℕ → Bool
 overlaps fixups offset count = list_any (meets offset count) fixups
 
--- the tests of so many fixups, one after the other, from an offset in section k
+-- the tests of this many fixups, one after the other, from an offset in section k
 abbrev pub fixup_tests : ScriptSoFar → ℕ → ℕ → ℕ → List (Bool × LineFault)
 fixup_tests s k offset count = (nat_lt most_fixups (length (section_so_far s k).fixups + count), TooMany)
     ∷ (nat_lt (section_so_far s k).header.total (offset + 4 * count), OutsideSection)
@@ -74,7 +74,7 @@ fixup_of offset base = record { offset = offset; base = base }
 -- `fix SECTION OFFSET section NAME` or `fix SECTION OFFSET import NAME`: a word to which the address of a
 -- section or of an import is added
 
--- whether the name of a base is a section's, and not an import's
+-- whether the name of a base is that of a section; otherwise it is that of an import
 abbrev pub is_section_word : List ℕ → Result Bool LineFault
 is_section_word word = if bytes_eq word (codes "section") then Ok true else if bytes_eq word (codes "import") then Ok false else Err BadKind
 
@@ -87,7 +87,7 @@ abbrev pub base_named : ScriptSoFar → Bool → List ℕ → Result Base LineFa
 base_named s true name = section_named s name >>= λ k. Ok (base.Section k)
 base_named s false name = import_named s name >>= λ j. Ok (base.Import j)
 
--- the same of a fixup
+-- the same for a fixup
 unfoldable pub fixup_in : ScriptSoFar → List ℕ → Result (ℕ × Fixup) LineFault
 fixup_in s line = do
   place ← next_name_and_word line
@@ -103,10 +103,10 @@ fixup_in s line = do
 abbrev pub fix_line : ScriptSoFar → List ℕ → Result ScriptSoFar LineFault
 fix_line s line = fixup_in s line >>= λ f. Ok (with_contents s f.0 (with_fixups (section_so_far s f.0) (f.1 ∷ [])))
 
--- `tvector SECTION OFFSET CODE DATA`: a transition vector, to whose words the addresses of a section of
--- code and of one of data are added
+-- `tvector SECTION OFFSET CODE DATA`: a transition vector, to whose words the addresses of a code section
+-- and of a data section are added
 
--- the number of a section, and the fixups of its transition vector, where they may stand
+-- the number of a section, and the fixups of its transition vector, if they are allowed
 unfoldable pub vector_in : ScriptSoFar → List ℕ → Result (ℕ × List Fixup) LineFault
 vector_in s line = do
   place ← next_name_and_word line

@@ -1,4 +1,4 @@
--- The lines that declare versions, libraries, imports and sections, each behind its first word
+-- The lines that declare versions, libraries, imports and sections, each after its first word
 -- (docs/SCRIPTS.md, "Lines").
 use Rattle.std.specs.Prelude.{ℕ, true, false, ◌-◌, ◌==◌, ◌||◌, Bool, List, [], ◌∷◌, ◌++◌, Result, Ok, Err, length, codes, nat_lt, if◌then◌else◌}
 use Rattle.std.specs.Str.{bytes_eq}
@@ -26,7 +26,7 @@ use Rattle.pef_script.specs.Text.Words.{last_two_words, last_word, next_name_and
 abbrev pub with_versions : ScriptSoFar → Versions → ScriptSoFar
 with_versions s versions = record s { reached = versions_group; script = record s.script { versions = versions } }
 
--- the versions that a line tells, where it may stand
+-- the versions that a line gives, if it is allowed
 unfoldable pub versions_in : ScriptSoFar → List ℕ → Result Versions LineFault
 versions_in s line = do
   current ← next_word line
@@ -54,7 +54,7 @@ abbrev pub with_library : ScriptSoFar → DescribedLibrary → Result ScriptSoFa
 with_library s library = unless (first_met (counted_name_tests s (library_names s.script) most_libraries library.name))
     (Ok (with_script s library_group (record s.script { libraries = s.script.libraries ++ library ∷ [] })))
 
--- the library that a line declares, where it may stand
+-- the library that a line declares, if it is allowed
 unfoldable pub library_in : ScriptSoFar → List ℕ → Result DescribedLibrary LineFault
 library_in s line = do
   library ← next_name_and_word line
@@ -68,7 +68,7 @@ library_in s line = do
 abbrev pub library_line : ScriptSoFar → List ℕ → Result ScriptSoFar LineFault
 library_line s line = library_in s line >>= with_library s
 
--- `import NAME CLASS STRENGTH`: a symbol of the last library, of which there is one
+-- `import NAME CLASS STRENGTH`: a symbol of the last library, which must exist
 
 abbrev pub symbol_class_of : List ℕ → Result SymbolClass LineFault
 symbol_class_of = word_of ((codes "code", class.Code) ∷ (codes "data", class.Data) ∷ (codes "tvector", class.TransitionVector) ∷ (codes "toc", class.Toc) ∷ (codes "glue", class.Glue) ∷ [])
@@ -76,7 +76,7 @@ symbol_class_of = word_of ((codes "code", class.Code) ∷ (codes "data", class.D
 abbrev pub is_weak_word : List ℕ → Result Bool LineFault
 is_weak_word word = if bytes_eq word (codes "strong") then Ok false else if bytes_eq word (codes "weak") then Ok true else Err BadKind
 
--- the number of the last library, where an import may stand
+-- the number of the last library, if an import is allowed
 abbrev pub entered_import : ScriptSoFar → Result ℕ LineFault
 entered_import s = if nat_lt library_group s.reached || length s.script.libraries == 0 then Err OutOfOrder else Ok (length s.script.libraries - 1)
 
@@ -85,7 +85,7 @@ abbrev pub with_import : ScriptSoFar → Import → Result ScriptSoFar LineFault
 with_import s symbol = unless (first_met (counted_name_tests s (import_names s.script) most_imports symbol.name))
     (Ok (with_script s library_group (record s.script { imports = s.script.imports ++ symbol ∷ [] })))
 
--- the import that a line declares, where it may stand
+-- the import that a line declares, if it is allowed
 unfoldable pub import_in : ScriptSoFar → List ℕ → Result Import LineFault
 import_in s line = do
   symbol ← next_name_and_word line
@@ -113,7 +113,7 @@ with_section s header = unless (first_met (name_tests (section_names s.script) m
   script = record s.script { sections = s.script.sections ++ record { header = header; image = []; fixups = [] } ∷ [] };
 }))
 
--- the header of the section that a line declares, where it may stand
+-- the header of the section that a line declares, if it is allowed
 unfoldable pub section_in : ScriptSoFar → List ℕ → Result DescribedHeader LineFault
 section_in s line = do
   section ← next_name_and_word line

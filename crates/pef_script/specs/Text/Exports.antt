@@ -1,4 +1,4 @@
--- The lines that say what a container exports and where it is entered, each behind its first word
+-- The lines for the exports and the entry points of a container, each after its first word
 -- (docs/SCRIPTS.md, "Lines").
 use Rattle.std.specs.Prelude.{ℕ, pos, Bool, List, [], ◌∷◌, ◌++◌, Some, Result, Ok, nat_lt}
 use Rattle.pef_words.specs.Refusals.{first_met, unless}
@@ -22,13 +22,13 @@ place_tests s k offset = (nat_lt (section_so_far s k).header.total offset, Outsi
 abbrev pub and_export : ScriptSoFar → Export → ScriptSoFar
 and_export s symbol = with_script s export_group (record s.script { exports = s.script.exports ++ symbol ∷ [] })
 
--- an export with a name that is new and has room, where no other test is met
+-- an export with a name that is new and has room, if no other test holds
 abbrev pub with_export : ScriptSoFar → List (Bool × LineFault) → Export → Result ScriptSoFar LineFault
 with_export s tests symbol = unless (first_met (counted_name_tests s (export_names s.script) most_exports symbol.name ++ tests)) (Ok (and_export s symbol))
 
 -- `export NAME CLASS SECTION OFFSET`
 
--- the export that a line declares behind the number of its section, where it may stand
+-- the export that a line declares after the number of its section, if it is allowed
 unfoldable pub export_in : ScriptSoFar → List ℕ → Result (ℕ × Export) LineFault
 export_in s line = do
   symbol ← next_name_and_word line

@@ -1,4 +1,4 @@
--- The numbers and the names of the refusals of a script (docs/REFUSALS.md), which are this project's own.
+-- The numbers and the names of the refusals of a script (docs/ERRORS.md), which are this project's own.
 use Rattle.std.specs.Prelude.{ℕ, Option, None, Some, List, ◌++◌, codes}
 use Rattle.std.specs.Fmt.{decimal}
 use Rattle.pef_script.specs.declared.text.fault.LineFault.{LineFault}
@@ -28,7 +28,7 @@ fault_name OutsideSection = codes "OutsideSection"
 fault_name TooMany = codes "TooMany"
 fault_name BadKind = codes "BadKind"
 
--- the same of a text that is no script, and the number of its line
+-- the same for a text that isn't a script, and the number of its line
 
 abbrev pub script_fault_number : ScriptFault → ℕ
 script_fault_number (fault.Refused what line) = fault_number what
@@ -38,7 +38,7 @@ abbrev pub script_fault_name : ScriptFault → List ℕ
 script_fault_name (fault.Refused what line) = fault_name what
 script_fault_name fault.OutOfMemory = codes "OutOfMemory"
 
--- the text: the name, and the line where there is one
+-- the text: the name, and the line if there is one
 abbrev pub script_fault_text : ScriptFault → List ℕ
 script_fault_text (fault.Refused what line) = fault_name what ++ codes " line " ++ decimal line
 script_fault_text fault.OutOfMemory = codes "OutOfMemory"

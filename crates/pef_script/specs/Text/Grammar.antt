@@ -1,5 +1,5 @@
--- The grammar of link scripts, line by line (docs/SCRIPTS.md). Each line is refused by its first fault, or leads from what
--- was read so far to more. Lines come in groups, and none stands behind one of a later group.
+-- The grammar of link scripts, line by line (docs/SCRIPTS.md). Each line is refused by its first fault, or adds to the
+-- script so far. Lines come in groups, and none is after one of a later group.
 use Rattle.std.specs.Prelude.{ℕ, true, ◌+◌, ◌==◌, Bool, List, [], ◌∷◌, None, Result, Ok, Err, codes, if◌then◌else◌}
 use Rattle.std.specs.Str.{bytes_eq}
 use Rattle.pef_words.specs.Results.{◌>>=◌}
@@ -14,7 +14,7 @@ use Rattle.pef_script.specs.Text.Exports.{export_line, reexport_line, absolute_l
 use Rattle.pef_lines.specs.Lines.{lines_of}
 use Rattle.pef_script.specs.Text.Words.{next_word}
 
--- the first word of a line and what stands behind it
+-- the first word of a line and the rest after it
 unfoldable pub line_by_word : ScriptSoFar → List ℕ × List ℕ → Result ScriptSoFar LineFault
 line_by_word s p =
     if bytes_eq p.0 (codes "versions") then versions_line s p.1
@@ -32,12 +32,12 @@ line_by_word s p =
     else if bytes_eq p.0 (codes "term") then term_line s p.1
     else Err BadLine
 
--- an empty line or one that starts with `#` says nothing
+-- an empty line, or one that starts with `#`, is ignored
 abbrev pub is_skipped : List ℕ → Bool
 is_skipped [] = true
 is_skipped (b ∷ bytes) = b == 0x23
 
--- what a line leads to
+-- the script so far after a line
 unfoldable pub line_of : ScriptSoFar → List ℕ → Result ScriptSoFar LineFault
 line_of s line = if is_skipped line then Ok s else next_word line >>= line_by_word s
 
@@ -46,7 +46,7 @@ pub record LineRefusal : Type 0 where
   pub fault : LineFault
   pub line : ℕ
 
--- a line's fault, or what the lines behind it say
+-- a line's fault, or the result of the lines after it
 abbrev pub after_line : Result ScriptSoFar LineFault → ℕ → (ScriptSoFar → Result DescribedScript LineRefusal) → Result DescribedScript LineRefusal
 after_line (Ok s) number others = others s
 after_line (Err fault) number others = Err (record { fault = fault; line = number })

@@ -1,11 +1,12 @@
--- What an answer of `read` says of a text (docs/SCRIPTS.md, "What is refused, and in which order").
+-- What a result of `read` says about a text (docs/SCRIPTS.md, "What is refused, and in which
+-- order").
 use Rattle.std.specs.Prelude.{◌≡◌, Result, Ok, Err}
 use Rattle.pef_script.specs.Script.{DescribedScript}
 use Rattle.pef_script.specs.declared.text.fault.ScriptFault.{ScriptFault}
 use Rattle.pef_script.specs.declared.text.fault.ScriptFault.TheVariants as fault
 use Rattle.pef_script.specs.Text.Grammar.{LineRefusal}
 
--- an answer is the one that was wanted, where there was memory for it
+-- a result is the expected one, unless an allocation failed
 
 abbrev pub FailsAs : ScriptFault → Result DescribedScript LineRefusal → Type 0
 FailsAs (fault.Refused what line) wanted = wanted ≡ Err (record { fault = what; line = line })

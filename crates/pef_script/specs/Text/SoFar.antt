@@ -1,5 +1,5 @@
--- What a script has up to a line, and the words that the lines' grammar uses (docs/SCRIPTS.md, "The order
--- of lines" and "What is refused, and in which order").
+-- The script up to a line, and the words that the lines' grammar uses (docs/SCRIPTS.md, "The order of
+-- lines" and "What is refused, and in which order").
 use Rattle.std.specs.Prelude.{ℕ, ◌+◌, not, Bool, List, [], ◌∷◌, ◌++◌, Option, None, Some, Result, Ok, Err, length, nat_le, nat_lt, slice_index_or, if◌then◌else◌}
 use Rattle.std.specs.List.{position_from}
 use Rattle.std.specs.Option.{is_some, ok_or}
@@ -42,11 +42,11 @@ init_group = 7
 abbrev pub term_group : ℕ
 term_group = 8
 
--- a line of a group does not stand behind one of a later group
+-- no line of a group is after one of a later group
 abbrev pub entered : ScriptSoFar → ℕ → Result (Unit {0}) LineFault
 entered s group = if nat_lt group s.reached then Err OutOfOrder else Ok tt
 
--- and one that may stand once not behind one of its own
+-- and one that is allowed once isn't after one of its own group
 abbrev pub entered_once : ScriptSoFar → ℕ → Result (Unit {0}) LineFault
 entered_once s group = if nat_le group s.reached then Err OutOfOrder else Ok tt
 
@@ -55,11 +55,11 @@ abbrev pub word_in : {T : Type 0} → List (List ℕ × T) → List ℕ → Opti
 word_in [] word = None
 word_in (entry ∷ table) word = if bytes_eq word entry.0 then Some entry.1 else word_in table word
 
--- what a table has for a word that has to be one of its words
+-- what a table has for a word that must be one of its words
 abbrev pub word_of : {T : Type 0} → List (List ℕ × T) → List ℕ → Result T LineFault
 word_of table word = ok_or (word_in table word) BadKind
 
--- the number of the first that has a name
+-- the number of the first entry with a name
 abbrev pub number_of_name : List (List ℕ) → List ℕ → Option ℕ
 number_of_name names name = position_from (bytes_eq name) 0 names
 
@@ -67,7 +67,7 @@ number_of_name names name = position_from (bytes_eq name) 0 names
 abbrev pub section_named : ScriptSoFar → List ℕ → Result ℕ LineFault
 section_named s name = ok_or (number_of_name (section_names s.script) name) UnknownName
 
--- a section without anything
+-- a section without contents
 abbrev pub no_section : DescribedSection
 no_section = record { header = record { name = []; kind = Code; share = Process; align = 0; total = 0 }; image = []; fixups = [] }
 
@@ -75,7 +75,7 @@ no_section = record { header = record { name = []; kind = Code; share = Process;
 abbrev pub section_so_far : ScriptSoFar → ℕ → DescribedSection
 section_so_far s k = slice_index_or s.script.sections k no_section
 
--- whether a name has been given
+-- whether a name is taken
 abbrev pub is_repeated : List (List ℕ) → List ℕ → Bool
 is_repeated names name = is_some (number_of_name names name)
 
@@ -83,7 +83,7 @@ is_repeated names name = is_some (number_of_name names name)
 abbrev pub has_no_room : ScriptSoFar → List ℕ → Bool
 has_no_room s name = nat_lt most_name_bytes (name_bytes s.script + (length name + 1))
 
--- the tests of a new name behind others of its kind, of which there may be so many
+-- the tests of a new name after others of its kind, with this limit on their number
 abbrev pub name_tests : List (List ℕ) → ℕ → List ℕ → List (Bool × LineFault)
 name_tests names limit name = (is_repeated names name, RepeatedName) ∷ (not (nat_lt (length names) limit), TooMany) ∷ []
 
@@ -91,6 +91,6 @@ name_tests names limit name = (is_repeated names name, RepeatedName) ∷ (not (n
 abbrev pub counted_name_tests : ScriptSoFar → List (List ℕ) → ℕ → List ℕ → List (Bool × LineFault)
 counted_name_tests s names limit name = name_tests names limit name ++ (has_no_room s name, TooMany) ∷ []
 
--- what a line of a group makes of it
+-- the script so far after a line of a group
 abbrev pub with_script : ScriptSoFar → ℕ → DescribedScript → ScriptSoFar
 with_script s group script = record s { reached = group; script = script }

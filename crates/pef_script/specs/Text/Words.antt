@@ -1,5 +1,5 @@
--- The words of a line (docs/SCRIPTS.md, "Text"), and what is wrong with those that aren't there. A number is decimal
--- without a leading zero, or `0x` and one to eight hex digits. An image is spelled by pairs of hex digits.
+-- The words of a line (docs/SCRIPTS.md, "Text"), and what is wrong if one is missing. A number is decimal without a
+-- leading zero, or `0x` and one to eight hex digits. An image is spelled by pairs of hex digits.
 use Rattle.std.specs.Prelude.{ℕ, ◌+◌, ◌==◌, List, [], ◌∷◌, Option, None, Some, Result, Ok, Err, length, nat_lt, if◌then◌else◌}
 use Rattle.std.specs.Option.{ok_or}
 use Rattle.pef_lines.specs.Numbers.{below, decimal_number, hex_number}
@@ -11,20 +11,20 @@ use Rattle.pef_script.specs.declared.text.fault.LineFault.{LineFault}
 use Rattle.pef_script.specs.declared.text.fault.LineFault.TheVariants.{BadLine, BadNumber}
 use Rattle.pef_script.specs.Limits.{longest_name}
 
--- the one word that is left of a line
+-- the only word that is left of a line
 unfoldable pub last_word : List ℕ → Result (List ℕ) LineFault
 last_word line = ok_or (words.last_word line) BadLine
 
--- the next word of a line, and what follows the space behind it
+-- the next word of a line, and the rest after its space
 unfoldable pub next_word : List ℕ → Result (List ℕ × List ℕ) LineFault
 next_word line = ok_or (words.next_word line) BadLine
 
--- a word that is a name is not longer than names are
+-- a word that is a name isn't longer than names may be
 abbrev pub named : {A : Type 0} → (A → List ℕ) → Result A LineFault → Result A LineFault
 named name (Ok x) = if nat_lt longest_name (length (name x)) then Err BadLine else Ok x
 named name (Err fault) = Err fault
 
--- the next word of a line where it is a name, and what follows the space behind it
+-- the next word of a line if it is a name, and the rest after its space
 unfoldable pub next_name : List ℕ → Result (List ℕ × List ℕ) LineFault
 next_name line = named (λ p. p.0) (next_word line)
 
@@ -32,7 +32,7 @@ next_name line = named (λ p. p.0) (next_word line)
 unfoldable pub last_name : List ℕ → Result (List ℕ) LineFault
 last_name line = named (λ name. name) (last_word line)
 
--- the next two words of a line, of which the first is a name, and what follows the space behind them
+-- the next two words of a line, of which the first is a name, and the rest after the second's space
 unfoldable pub next_name_and_word : List ℕ → Result (List ℕ × List ℕ × List ℕ) LineFault
 next_name_and_word line = do
   name ← next_name line
@@ -46,14 +46,14 @@ last_two_words line = do
   second ← last_word first.1
   Ok (first.0, second)
 
--- the name and the word behind it that are left of a line
+-- the name and the word after it, which are all that is left of a line
 unfoldable pub last_name_and_word : List ℕ → Result (List ℕ × List ℕ) LineFault
 last_name_and_word line = do
   name ← next_name line
   word ← last_word name.1
   Ok (name.0, word)
 
--- what follows a leading 0: nothing, or `x` and hex digits
+-- the part after a leading 0: nothing, or `x` and hex digits
 abbrev pub number_behind_zero : List ℕ → Option ℕ
 number_behind_zero [] = Some 0
 number_behind_zero (b ∷ bytes) = if b == 0x78 then hex_number bytes else None

@@ -21,7 +21,7 @@ use pef_lines::Pairs;
 use pef_reloc::{Base, Fixup, MAX_FIXUPS, WORD};
 
 impl<'a> Reader<'a> {
-    /// `bytes SECTION HEX`, behind its first word.
+    /// Reads a line `bytes SECTION HEX`, from after its first word.
     pub fn read_bytes(&mut self, line: &[u8]) -> Result<(), Stop>
         ensures { Steps result (so_far self.new) (bytes_line (so_far self.old) line.now) }
     {
@@ -31,7 +31,8 @@ impl<'a> Reader<'a> {
         Ok(())
     }
 
-    /// `fix SECTION OFFSET section NAME` or `fix SECTION OFFSET import NAME`, behind its first word.
+    /// Reads a line `fix SECTION OFFSET section NAME` or `fix SECTION OFFSET import NAME`, from after its
+    /// first word.
     pub fn read_fix(&mut self, line: &[u8]) -> Result<(), Stop>
         ensures { Steps result (so_far self.new) (fix_line (so_far self.old) line.now) }
     {
@@ -39,7 +40,7 @@ impl<'a> Reader<'a> {
         self.put_fixups(k, &[fixup])
     }
 
-    /// `tvector SECTION OFFSET CODE DATA`, behind its first word.
+    /// Reads a line `tvector SECTION OFFSET CODE DATA`, from after its first word.
     pub fn read_tvector(&mut self, line: &[u8]) -> Result<(), Stop>
         ensures { Steps result (so_far self.new) (tvector_line (so_far self.old) line.now) }
     {
@@ -47,7 +48,7 @@ impl<'a> Reader<'a> {
         self.put_fixups(k, &fixups)
     }
 
-    /// The bytes that a line has for a section, by its number, where they may stand.
+    /// Returns the bytes that a line has for a section, by its number, if they are allowed.
     #[tactic(auto, unfolding(crate::specs::Text::Contents::bytes_in))]
     fn bytes_in<'l>(&self, line: &'l [u8]) -> Result<(usize, Pairs<'l>), LineFault>
         ensures bytes { result ≡ bytes_in (so_far self.now) line.now }
@@ -61,7 +62,7 @@ impl<'a> Reader<'a> {
         Ok((k, pairs))
     }
 
-    /// The fixup that a line has for a section, by its number, where it may stand.
+    /// Returns the fixup that a line has for a section, by its number, if it is allowed.
     #[tactic(auto, unfolding(crate::specs::Text::Contents::fixup_in))]
     fn fixup_in(&self, line: &[u8]) -> Result<(usize, Fixup), LineFault>
         ensures fixup { result ≡ fixup_in (so_far self.now) line.now }
@@ -80,7 +81,8 @@ impl<'a> Reader<'a> {
         Ok((k, Fixup { offset, base }))
     }
 
-    /// The fixups of the transition vector that a line has for a section, by its number, where they may stand.
+    /// Returns the fixups of the transition vector that a line has for a section, by its number, if they are
+    /// allowed.
     #[tactic(auto, using(crate::proofs::TextProofs::Placing::apart_two), unfolding(crate::specs::Text::Contents::vector_in))]
     fn vector_in(&self, line: &[u8]) -> Result<(usize, [Fixup; 2]), LineFault>
         ensures fixups { result ≡ vector_in (so_far self.now) line.now }
@@ -99,7 +101,7 @@ impl<'a> Reader<'a> {
         Ok((k, vector_fixups(offset, code, data)))
     }
 
-    /// Adds fixups to those of section `k`, which the line is for.
+    /// Adds fixups to those of section `k`, which the line names.
     fn put_fixups(&mut self, k: usize, fixups: &[Fixup]) -> Result<(), Stop>
         requires below { k < vec_len self.old.sections }
         requires apart { AreApart (section_so_far (so_far self.old) k).fixups fixups.now }
@@ -110,7 +112,7 @@ impl<'a> Reader<'a> {
         Ok(())
     }
 
-    /// The section with a name, as a base.
+    /// Returns the section with a name, as a base.
     fn section_base(&self, name: &[u8]) -> Result<Base, LineFault>
         ensures { result ≡ base_named (so_far self.now) true name.now }
     {
@@ -118,7 +120,7 @@ impl<'a> Reader<'a> {
         Ok(Base::Section(k as u32))
     }
 
-    /// The number of the import with a name.
+    /// Returns the number of the import with a name.
     #[tactic(auto, using(crate::proofs::TextProofs::TableLemmas::imports_seen))]
     pub fn import_named(&self, name: &[u8]) -> Result<usize, LineFault>
         ensures found { result ≡ import_named (so_far self.now) name.now }
@@ -127,7 +129,7 @@ impl<'a> Reader<'a> {
         number_of_name(&self.parts.imports, name).ok_or(LineFault::UnknownName)
     }
 
-    /// The section or the import with a name, as a base.
+    /// Returns the section or the import with a name, as a base.
     fn base_named(&self, is_section: bool, name: &[u8]) -> Result<Base, LineFault>
         ensures { result ≡ base_named (so_far self.now) is_section name.now }
     {
@@ -152,7 +154,7 @@ impl<'a> Reader<'a> {
         Ok(())
     }
 
-    /// Refuses so many fixups, one after the other, from an offset in section `k`.
+    /// Refuses this many fixups, one after the other, from an offset in section `k`.
     fn test_fixups(&self, k: usize, offset: u32, count: u8) -> Result<(), LineFault>
         requires { k < vec_len self.now.sections }
         ensures tests { result_err result ≡ first_met (fixup_tests (so_far self.now) k offset count) }
@@ -174,7 +176,7 @@ impl<'a> Reader<'a> {
     }
 }
 
-/// The fixups of a transition vector at an offset: its data word follows its code word.
+/// Returns the fixups of a transition vector at an offset: its data word follows its code word.
 fn vector_fixups(offset: u32, code_base: Base, data_base: Base) -> [Fixup; 2]
     requires { offset + 4 < 2 ^ 32 }
     ensures { result ≡ fixup_of offset code_base ∷ fixup_of (offset + 4) data_base ∷ [] }

@@ -21,7 +21,7 @@ use crate::text::words::{last_two_words, last_word, next_name_and_word, next_wor
 use crate::{ImportData, LibraryData, SectionHeader, Versions};
 
 impl<'a> Reader<'a> {
-    /// `versions CURRENT OLDDEF OLDIMP`, behind its first word.
+    /// Reads a line `versions CURRENT OLDDEF OLDIMP`, from after its first word.
     pub fn read_versions(&mut self, line: &[u8]) -> Result<(), Stop>
         ensures { Steps result (so_far self.new) (versions_line (so_far self.old) line.now) }
     {
@@ -31,7 +31,7 @@ impl<'a> Reader<'a> {
         Ok(())
     }
 
-    /// `library NAME CURRENT OLDIMP OPTION`, behind its first word.
+    /// Reads a line `library NAME CURRENT OLDIMP OPTION`, from after its first word.
     pub fn read_library(&mut self, line: &'a [u8]) -> Result<(), Stop>
         ensures { Steps result (so_far self.new) (library_line (so_far self.old) line.entry.now) }
     {
@@ -39,7 +39,7 @@ impl<'a> Reader<'a> {
         self.add_library(name, library)
     }
 
-    /// `import NAME CLASS STRENGTH`, behind its first word.
+    /// Reads a line `import NAME CLASS STRENGTH`, from after its first word.
     pub fn read_import(&mut self, line: &'a [u8]) -> Result<(), Stop>
         ensures { Steps result (so_far self.new) (import_line (so_far self.old) line.entry.now) }
     {
@@ -47,7 +47,7 @@ impl<'a> Reader<'a> {
         self.add_import(name, import)
     }
 
-    /// `section NAME KIND SHARE ALIGN TOTAL`, behind its first word.
+    /// Reads a line `section NAME KIND SHARE ALIGN TOTAL`, from after its first word.
     pub fn read_section(&mut self, line: &'a [u8]) -> Result<(), Stop>
         ensures { Steps result (so_far self.new) (section_line (so_far self.old) line.entry.now) }
     {
@@ -55,7 +55,7 @@ impl<'a> Reader<'a> {
         self.add_section(header)
     }
 
-    /// The versions that a line tells, where it may stand.
+    /// Returns the versions that a line gives, if it is allowed.
     #[tactic(auto, unfolding(crate::specs::Text::Declarations::versions_in))]
     fn versions_in(&self, line: &[u8]) -> Result<Versions, LineFault>
         ensures { result ≡ versions_in (so_far self.now) line.now }
@@ -73,7 +73,7 @@ impl<'a> Reader<'a> {
         })
     }
 
-    /// The library that a line declares, where it may stand.
+    /// Returns the library that a line declares, if it is allowed.
     #[tactic(auto, unfolding(crate::specs::Text::Declarations::library_in))]
     fn library_in(&self, line: &'a [u8]) -> Result<(&'a [u8], LibraryData), LineFault>
         ensures { result_map library_of result ≡ library_in (so_far self.now) line.entry.now }
@@ -92,7 +92,7 @@ impl<'a> Reader<'a> {
         Ok((name, library))
     }
 
-    /// The import that a line declares, where it may stand.
+    /// Returns the import that a line declares, if it is allowed.
     #[tactic(auto, unfolding(crate::specs::Text::Declarations::import_in))]
     fn import_in(&self, line: &'a [u8]) -> Result<(&'a [u8], ImportData), LineFault>
         ensures { result_map import_of result ≡ import_in (so_far self.now) line.entry.now }
@@ -110,7 +110,7 @@ impl<'a> Reader<'a> {
         Ok((name, import))
     }
 
-    /// The header of the section that a line declares, where it may stand.
+    /// Returns the header of the section that a line declares, if it is allowed.
     #[tactic(auto, unfolding(crate::specs::Text::Declarations::section_in))]
     fn section_in(&self, line: &'a [u8]) -> Result<SectionHeader<'a>, LineFault>
         ensures { result_map header_in result ≡ section_in (so_far self.now) line.entry.now }
@@ -132,7 +132,7 @@ impl<'a> Reader<'a> {
         })
     }
 
-    /// Adds a library, unless its name is another's or passes the limits.
+    /// Adds a library, unless its name is taken or exceeds the limits.
     #[tactic(auto, using(crate::proofs::TextProofs::TableLemmas::libraries_seen))]
     fn add_library(&mut self, name: &'a [u8], library: LibraryData) -> Result<(), Stop>
         ensures { Steps result (so_far self.new) (with_library (so_far self.old) (library_of (name.entry, library))) }
@@ -145,7 +145,7 @@ impl<'a> Reader<'a> {
         Ok(())
     }
 
-    /// Adds an import, unless its name is another's or passes the limits.
+    /// Adds an import, unless its name is taken or exceeds the limits.
     #[tactic(auto, using(crate::proofs::TextProofs::TableLemmas::imports_seen))]
     fn add_import(&mut self, name: &'a [u8], import: ImportData) -> Result<(), Stop>
         ensures { Steps result (so_far self.new) (with_import (so_far self.old) (import_of (name.entry, import))) }
@@ -158,7 +158,7 @@ impl<'a> Reader<'a> {
         Ok(())
     }
 
-    /// Adds a section without bytes or fixups, unless its name is another's or passes the limit.
+    /// Adds a section without bytes or fixups, unless its name is taken or exceeds the limit.
     fn add_section(&mut self, header: SectionHeader<'a>) -> Result<(), Stop>
         ensures { Steps result (so_far self.new) (with_section (so_far self.old) (header_in header.entry)) }
     {
@@ -174,7 +174,7 @@ impl<'a> Reader<'a> {
         Ok(())
     }
 
-    /// The number of the last library, to which an import belongs.
+    /// Returns the number of the last library, which an import belongs to.
     #[tactic(auto, using(crate::proofs::TextProofs::TableLemmas::libraries_seen))]
     fn enter_import(&self) -> Result<u32, LineFault>
         ensures { result ≡ entered_import (so_far self.now) }

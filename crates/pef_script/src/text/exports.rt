@@ -22,7 +22,7 @@ use crate::text::words::{last_name, last_name_and_word, last_word, next_name_and
 use pef_format::layout::{ABSOLUTE_EXPORT, REEXPORTED_IMPORT};
 
 impl<'a> Reader<'a> {
-    /// `export NAME CLASS SECTION OFFSET`, after its first word.
+    /// Reads a line `export NAME CLASS SECTION OFFSET`, from after its first word.
     pub fn read_export(&mut self, line: &'a [u8]) -> Result<(), Stop>
         ensures { Steps result (so_far self.new) (export_line (so_far self.old) line.entry.now) }
     {
@@ -30,7 +30,7 @@ impl<'a> Reader<'a> {
         self.add_placed_export(name, k, export)
     }
 
-    /// The name of the export that a line declares, the number of its section, and what else is said of it.
+    /// Returns the name of the export that a line declares, the number of its section, and its other data.
     #[tactic(auto, unfolding(crate::specs::Text::Exports::export_in))]
     fn export_in(&self, line: &'a [u8]) -> Result<(&'a [u8], usize, ExportData), LineFault>
         ensures export { result_map (λ e. (e.1, export_of (e.0, e.2))) result ≡ export_in (so_far self.now) line.entry.now }
@@ -50,7 +50,7 @@ impl<'a> Reader<'a> {
         Ok((name, k, export))
     }
 
-    /// `reexport NAME CLASS IMPORT`, after its first word.
+    /// Reads a line `reexport NAME CLASS IMPORT`, from after its first word.
     pub fn read_reexport(&mut self, line: &'a [u8]) -> Result<(), Stop>
         ensures { Steps result (so_far self.new) (reexport_line (so_far self.old) line.entry.now) }
     {
@@ -58,7 +58,7 @@ impl<'a> Reader<'a> {
         self.add_export(name, export)
     }
 
-    /// The export of an import that a line declares, where it may stand.
+    /// Returns the export of an import that a line declares, if it is allowed.
     #[tactic(auto, unfolding(crate::specs::Text::Exports::reexport_in))]
     fn reexport_in(&self, line: &'a [u8]) -> Result<(&'a [u8], ExportData), LineFault>
         ensures { result_map export_of result ≡ reexport_in (so_far self.now) line.entry.now }
@@ -76,7 +76,7 @@ impl<'a> Reader<'a> {
         Ok((name, export))
     }
 
-    /// `absolute NAME CLASS VALUE`, after its first word.
+    /// Reads a line `absolute NAME CLASS VALUE`, from after its first word.
     pub fn read_absolute(&mut self, line: &'a [u8]) -> Result<(), Stop>
         ensures { Steps result (so_far self.new) (absolute_line (so_far self.old) line.entry.now) }
     {
@@ -84,7 +84,7 @@ impl<'a> Reader<'a> {
         self.add_export(name, export)
     }
 
-    /// The export of a number that a line declares, where it may stand.
+    /// Returns the export of a number that a line declares, if it is allowed.
     #[tactic(auto, unfolding(crate::specs::Text::Exports::absolute_in))]
     fn absolute_in(&self, line: &'a [u8]) -> Result<(&'a [u8], ExportData), LineFault>
         ensures { result_map export_of result ≡ absolute_in (so_far self.now) line.entry.now }
@@ -102,7 +102,7 @@ impl<'a> Reader<'a> {
         Ok((name, export))
     }
 
-    /// `main SECTION OFFSET`, after its first word.
+    /// Reads a line `main SECTION OFFSET`, from after its first word.
     pub fn read_main(&mut self, line: &[u8]) -> Result<(), Stop>
         ensures { Steps result (so_far self.new) (main_line (so_far self.old) line.now) }
     {
@@ -112,7 +112,7 @@ impl<'a> Reader<'a> {
         Ok(())
     }
 
-    /// `init SECTION OFFSET`, after its first word.
+    /// Reads a line `init SECTION OFFSET`, from after its first word.
     pub fn read_init(&mut self, line: &[u8]) -> Result<(), Stop>
         ensures { Steps result (so_far self.new) (init_line (so_far self.old) line.now) }
     {
@@ -122,7 +122,7 @@ impl<'a> Reader<'a> {
         Ok(())
     }
 
-    /// `term SECTION OFFSET`, after its first word.
+    /// Reads a line `term SECTION OFFSET`, from after its first word.
     pub fn read_term(&mut self, line: &[u8]) -> Result<(), Stop>
         ensures { Steps result (so_far self.new) (term_line (so_far self.old) line.now) }
     {
@@ -132,7 +132,7 @@ impl<'a> Reader<'a> {
         Ok(())
     }
 
-    /// A section by its number and an offset in it, of a line of a group that may stand once.
+    /// Returns the number of a section and an offset in it, from a line of a group that is allowed once.
     #[tactic(auto, unfolding(crate::specs::Text::Exports::entry_in))]
     fn read_entry(&self, group: u8, line: &[u8]) -> Result<(u32, u32), LineFault>
         ensures { result ≡ entry_in (so_far self.now) group line.now }
@@ -145,7 +145,7 @@ impl<'a> Reader<'a> {
         Ok((k as u32, offset))
     }
 
-    /// Adds an export of section `k`, unless its name is another's or passes the limits, or it passes the
+    /// Adds an export of section `k`, unless its name is taken or exceeds the limits, or it passes the
     /// section's end.
     #[tactic(auto, using(crate::proofs::TextProofs::TableLemmas::exports_seen))]
     fn add_placed_export(
@@ -162,7 +162,7 @@ impl<'a> Reader<'a> {
         self.put_export(name, export)
     }
 
-    /// Adds an export, unless its name is another's or passes the limits.
+    /// Adds an export, unless its name is taken or exceeds the limits.
     #[tactic(auto, using(crate::proofs::TextProofs::TableLemmas::exports_seen))]
     fn add_export(&mut self, name: &'a [u8], export: ExportData) -> Result<(), Stop>
         ensures { Steps result (so_far self.new) (with_export (so_far self.old) [] (export_of (name.entry, export))) }

@@ -9,28 +9,28 @@ use thiserror::Error;
 /// What is wrong with a line of a script.
 #[derive(Clone, Copy, Debug, PartialEq, Eq, Error)]
 pub enum LineFault {
-    /// No line of the grammar has this shape: its words, their bytes, a name or hex digits are wrong.
+    /// No line of the grammar has this form: its words, their bytes, a name or hex digits are wrong.
     BadLine,
-    /// A number is spelled in another way, or is too large for its place.
+    /// A number is spelled in another way, or is too large here.
     BadNumber,
     /// A section or an import has not been declared.
     UnknownName,
-    /// A name has been given to another one of its kind.
+    /// Another one of its kind has the name already.
     RepeatedName,
-    /// The line comes after one that it has to come before.
+    /// The line comes after a line that must follow it.
     OutOfOrder,
-    /// A fixup's word overlaps an earlier line's.
+    /// A fixup's word overlaps that of an earlier line.
     Overlap,
     /// An image, a fixup's word or an offset passes the end of its section.
     OutsideSection,
-    /// There are as many of these as a script may have.
+    /// There are already as many of these as a script may have.
     TooMany,
-    /// A word is none of those that may stand in its place.
+    /// A word isn't one of those that are allowed in its place.
     BadKind,
 }
 
 impl LineFault {
-    /// The number of the refusal.
+    /// Returns the number of the refusal.
     pub fn number(&self) -> u32
         ensures { result ≡ fault_number self.now }
     {
@@ -47,7 +47,7 @@ impl LineFault {
         }
     }
 
-    /// The refusal's name, which is its text.
+    /// Returns the refusal's name, which is its text.
     pub fn name(&self) -> &'static str
         ensures { result.now ≡ fault_name self.now }
     {
@@ -76,17 +76,17 @@ impl fmt::Display for LineFault {
     }
 }
 
-/// Why a text is no script.
+/// Why a text isn't a script.
 #[derive(Clone, Copy, Debug, PartialEq, Eq, Error)]
 pub enum ScriptFault {
     /// The first fault of the first line that has one; lines count from 1.
     Refused { fault: LineFault, line: usize },
-    /// A growth of memory was refused.
+    /// An allocation failed.
     OutOfMemory,
 }
 
 impl ScriptFault {
-    /// The number of the refusal.
+    /// Returns the number of the refusal.
     pub fn number(&self) -> u32
         ensures { result ≡ script_fault_number self.now }
     {
@@ -96,7 +96,7 @@ impl ScriptFault {
         }
     }
 
-    /// The refusal's name.
+    /// Returns the refusal's name.
     pub fn name(&self) -> &'static str
         ensures { result.now ≡ script_fault_name self.now }
     {
@@ -106,7 +106,7 @@ impl ScriptFault {
         }
     }
 
-    /// The number of the line that was refused, from 1.
+    /// Returns the number of the line that was refused, from 1.
     pub fn line(&self) -> Option<usize>
         ensures { result ≡ script_fault_line self.now }
     {
@@ -142,7 +142,7 @@ impl From<AllocError> for ScriptFault {
     }
 }
 
-/// Why a line was not taken.
+/// Why a line was refused.
 #[derive(Clone, Copy)]
 pub enum Stop {
     Refused(LineFault),
@@ -150,7 +150,7 @@ pub enum Stop {
 }
 
 impl Stop {
-    /// The same, of the line with a number.
+    /// Returns the same, for the line with this number.
     pub fn at(self, line: usize) -> ScriptFault
         ensures { result ≡ stopped_at line self }
     {

@@ -7,14 +7,14 @@ ghost use Rattle.pef_script.specs.Text.SoFar.{word_of};
 use crate::text::LineFault;
 use pef_format::{LibraryOptions, SectionKind, Share, SymbolClass};
 
-/// Whether a word is this text.
+/// Returns whether a word is this text.
 pub fn spells(word: &[u8], text: &str) -> bool
     ensures { result ≡ bytes_eq word.now text.now }
 {
     word == text.as_bytes()
 }
 
-/// What a table has for a word.
+/// Returns what a table has for a word.
 fn word_of<T: Copy>(table: &[(&str, T)], word: &[u8]) -> Result<T, LineFault>
     ensures { result ≡ word_of (map (λ entry. (entry.0.now, entry.1)) table.now) word.now }
 {
@@ -26,7 +26,7 @@ fn word_of<T: Copy>(table: &[(&str, T)], word: &[u8]) -> Result<T, LineFault>
     Err(LineFault::BadKind)
 }
 
-/// A library's options.
+/// Returns a library's options.
 pub fn options_of(word: &[u8]) -> Result<LibraryOptions, LineFault>
     ensures { result ≡ options_of word.now }
 {
@@ -39,14 +39,15 @@ pub fn options_of(word: &[u8]) -> Result<LibraryOptions, LineFault>
     word_of(&options, word)
 }
 
-/// Options by whether the library is initialized before the fragment, and whether it may be missing.
+/// Returns options, by whether the library is initialized before the fragment, and whether it may be
+/// missing.
 fn options(init_before: bool, weak: bool) -> LibraryOptions
     ensures { result ≡ record { init_before = init_before; weak = weak } }
 {
     LibraryOptions { init_before, weak }
 }
 
-/// The class of a symbol.
+/// Returns the class of a symbol.
 pub fn class_of(word: &[u8]) -> Result<SymbolClass, LineFault>
     ensures { result ≡ symbol_class_of word.now }
 {
@@ -60,7 +61,7 @@ pub fn class_of(word: &[u8]) -> Result<SymbolClass, LineFault>
     word_of(&classes, word)
 }
 
-/// Whether an import is weak, and not strong.
+/// Returns whether an import is weak. Otherwise it is strong.
 pub fn is_weak_word(word: &[u8]) -> Result<bool, LineFault>
     ensures { result ≡ is_weak_word word.now }
 {
@@ -73,7 +74,7 @@ pub fn is_weak_word(word: &[u8]) -> Result<bool, LineFault>
     }
 }
 
-/// The kind of a section.
+/// Returns the kind of a section.
 pub fn kind_of(word: &[u8]) -> Result<SectionKind, LineFault>
     ensures { result ≡ kind_of word.now }
 {
@@ -87,7 +88,7 @@ pub fn kind_of(word: &[u8]) -> Result<SectionKind, LineFault>
     word_of(&kinds, word)
 }
 
-/// How a section is shared.
+/// Returns how a section is shared.
 pub fn share_of(word: &[u8]) -> Result<Share, LineFault>
     ensures { result ≡ share_of word.now }
 {
@@ -99,7 +100,7 @@ pub fn share_of(word: &[u8]) -> Result<Share, LineFault>
     word_of(&shares, word)
 }
 
-/// Whether the base of a fixup is a section, and not an import.
+/// Returns whether the base of a fixup is a section. Otherwise it is an import.
 pub fn is_section_word(word: &[u8]) -> Result<bool, LineFault>
     ensures { result ≡ is_section_word word.now }
 {

@@ -12,7 +12,7 @@ pub const MAX_LIBRARIES: usize = 4096;
 /// How many exports a script can have.
 pub const MAX_EXPORTS: usize = 16_383;
 
-/// How many bytes the names of libraries, imports and exports can have, with one more for each.
+/// How many bytes the names of libraries, imports and exports can have, counting one more for each.
 pub const MAX_NAME_BYTES: usize = 8_388_608;
 
 /// How many bytes a name can have.
@@ -27,7 +27,7 @@ pub const MAX_TOTAL: u32 = 0x0100_0000;
 /// The greatest number in a script.
 pub const MAX_NUMBER: u32 = u32::MAX;
 
-// The groups of lines. No line comes behind one of a later group.
+// The groups of lines. No line comes after one of a later group.
 
 pub const VERSIONS_GROUP: u8 = 1;
 

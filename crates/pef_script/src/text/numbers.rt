@@ -4,7 +4,7 @@ ghost use Rattle.pef_script.specs.Text.Words.{number_spelled, number_up_to};
 use crate::text::LineFault;
 use pef_lines::{decimal_number, hex_number};
 
-/// The number that a word spells: decimal without a leading zero, or `0x` and hex digits.
+/// Returns the number that a word spells: decimal without a leading zero, or `0x` and hex digits.
 fn number_in(word: &[u8]) -> Option<u32>
     ensures { result ≡ number_spelled word.now }
 {
@@ -14,7 +14,7 @@ fn number_in(word: &[u8]) -> Option<u32>
     }
 }
 
-/// The number that a word spells, at most `greatest`.
+/// Returns the number that a word spells, at most `greatest`.
 #[tactic(auto, unfolding(crate::specs::Text::Words::number_up_to))]
 pub fn read_number(greatest: u32, word: &[u8]) -> Result<u32, LineFault>
     ensures number { result ≡ number_up_to greatest word.now }

@@ -25,18 +25,18 @@ use std::alloc::{AllocError, Global};
 #[derive(Drop)]
 pub struct Reader<'a> {
     pub alloc: Global,
-    /// What was read so far, without the sections.
+    /// The parts read so far, without the sections.
     pub parts: Parts<'a>,
     pub sections: Vec<SectionSoFar<'a>>,
     /// The group of the last line, 0 before the first.
     pub reached: u8,
-    /// How many bytes the names of libraries, imports and exports have, with one more for each.
+    /// How many bytes the names of libraries, imports and exports have, counting one more for each.
     pub names: usize,
     ghost few: { vec_len sections ≤ most_sections },
     ghost counted: { names ≡ name_bytes (script_in parts) },
 }
 
-/// Whether a line says nothing: it is empty or starts with `#`.
+/// Returns whether a line is ignored: it is empty or starts with `#`.
 fn is_skipped(line: &[u8]) -> bool
     ensures { result ≡ is_skipped line.now }
 {
@@ -46,7 +46,7 @@ fn is_skipped(line: &[u8]) -> bool
 impl<'a> Reader<'a> {
     ghost use Rattle.pef_script.specs.Text.Kept.Reader.{names_in, so_far};
 
-    /// A reader of no lines.
+    /// Returns a reader before the first line.
     pub fn new(alloc: Global) -> Reader<'a>
         ensures { so_far result ≡ no_lines }
     {
@@ -72,7 +72,7 @@ impl<'a> Reader<'a> {
         }
     }
 
-    /// What was read.
+    /// Returns the parts that were read.
     pub fn into_parts(self) -> Result<Parts<'a>, AllocError>
         ensures { IfOk result (λ parts. script_in parts ≡ (so_far self.entry).script) }
     {
@@ -81,7 +81,7 @@ impl<'a> Reader<'a> {
         Ok(parts)
     }
 
-    /// Reads the line with a number.
+    /// Reads the line with this number.
     pub fn read_numbered(&mut self, line: &'a [u8], number: usize) -> Result<(), ScriptFault>
         ensures { NumberedSteps result (so_far self.new) number (line_of (so_far self.old) line.entry.now) }
     {
@@ -103,7 +103,7 @@ impl<'a> Reader<'a> {
         self.read_by_word(word, rest)
     }
 
-    /// Reads a line by its first word and what stands behind it.
+    /// Reads a line by its first word and the rest after it.
     #[tactic(auto, unfolding(crate::specs::Text::Grammar::line_by_word))]
     fn read_by_word(&mut self, word: &[u8], rest: &'a [u8]) -> Result<(), Stop>
         ensures { Steps result (so_far self.new) (line_by_word (so_far self.old) (word.now, rest.entry.now)) }
@@ -139,7 +139,7 @@ impl<'a> Reader<'a> {
         }
     }
 
-    /// Refuses a line of a group behind one of a later group.
+    /// Refuses a line of a group after one of a later group.
     pub fn enter(&self, group: u8) -> Result<(), LineFault>
         ensures { result ≡ entered (so_far self.now) group }
     {
@@ -149,7 +149,7 @@ impl<'a> Reader<'a> {
         Ok(())
     }
 
-    /// Refuses a line that may stand once behind one of its own or a later group.
+    /// Refuses a line that is allowed once after one of its own group or of a later one.
     pub fn enter_once(&self, group: u8) -> Result<(), LineFault>
         ensures { result ≡ entered_once (so_far self.now) group }
     {
@@ -159,7 +159,7 @@ impl<'a> Reader<'a> {
         Ok(())
     }
 
-    /// The number of the section with a name.
+    /// Returns the number of the section with a name.
     pub fn section_named(&self, name: &[u8]) -> Result<usize, LineFault>
         ensures found { result ≡ section_named (so_far self.now) name.now }
         ensures below { IfOk result (λ k. k < vec_len self.now.sections) }
@@ -167,7 +167,7 @@ impl<'a> Reader<'a> {
         section_number(&self.sections, name).ok_or(LineFault::UnknownName)
     }
 
-    /// Refuses a name that another one of a table has, or that passes the limits.
+    /// Refuses a name that another entry of a table has, or that exceeds the limits.
     pub fn test_name<T>(
         &self,
         table: &IndexMap<&[u8], T>,

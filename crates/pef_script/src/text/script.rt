@@ -16,7 +16,7 @@ impl<'a> Script<'a> {
     /// Reads a script. Its names are borrowed from the text.
     ///
     /// # Errors
-    /// The first fault of the first line that has one, or that a growth of memory was refused.
+    /// The first fault of the first line that has one, or that an allocation failed.
     pub fn read(alloc: Global, text: &'a [u8]) -> Result<Script<'a>, ScriptFault>
         ensures { ReadsAs result (script_of text.entry.now) }
     {

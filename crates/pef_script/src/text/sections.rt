@@ -34,7 +34,7 @@ impl<'a> Model for SectionSoFar<'a> {
 }
 
 impl<'a> SectionSoFar<'a> {
-    /// A section without bytes or fixups.
+    /// Returns a section without bytes or fixups.
     pub fn new(alloc: Global, header: SectionHeader<'a>) -> SectionSoFar<'a>
         ensures { result ≡ record { header = header_in header.entry; image = []; fixups = [] } }
     {
@@ -52,7 +52,7 @@ impl<'a> SectionSoFar<'a> {
         pairs.append_to(&mut self.image)
     }
 
-    /// Adds fixups that overlap none.
+    /// Adds fixups that don't overlap others.
     pub fn add_fixups(&mut self, fixups: &[Fixup]) -> Result<(), AllocError>
         requires { AreApart self.old.fixups fixups.now }
         ensures { OnOk result (self.new ≡ with_fixups self.old fixups.now) }
@@ -60,7 +60,7 @@ impl<'a> SectionSoFar<'a> {
         self.fixups.add_all(fixups)
     }
 
-    /// The section, with its fixups in address order.
+    /// Returns the section, with its fixups in address order.
     pub fn into_section(self, alloc: Global) -> Result<Section<'a>, AllocError>
         ensures { IfOk result (λ section. section ≡ self.entry) }
     {
@@ -74,10 +74,10 @@ impl<'a> SectionSoFar<'a> {
 }
 
 /// The fixups of a section while lines are read. They may come in any order, but nearly always their offsets
-/// rise: then a list is enough.
+/// rise. Then a list is enough.
 #[derive(Drop)]
 pub struct FixupsSoFar {
-    /// The fixups, as long as each one begins after those before it.
+    /// The fixups, as long as each begins after those before it.
     rising: Vec<Fixup>,
     /// The end of the last of these.
     end: u64,
@@ -98,7 +98,7 @@ impl Model for FixupsSoFar {
 }
 
 impl FixupsSoFar {
-    /// No fixups.
+    /// Returns no fixups.
     pub fn new(alloc: Global) -> FixupsSoFar
         ensures { result ≡ [] }
     {
@@ -109,7 +109,7 @@ impl FixupsSoFar {
         }
     }
 
-    /// How many there are.
+    /// Returns how many there are.
     pub fn len(&self) -> usize
         ensures is { result ≡ length self.now }
         ensures small { result < 2 ^ 63 }
@@ -121,7 +121,7 @@ impl FixupsSoFar {
         }
     }
 
-    /// Whether a fixup's word meets one of `count` words from an offset.
+    /// Returns whether a fixup's word overlaps one of `count` words from an offset.
     pub fn overlaps(&self, offset: u32, count: u8) -> bool
         requires { offset + 4 * count < 2 ^ 32 }
         ensures { result ≡ overlaps self.now offset count }
@@ -133,7 +133,7 @@ impl FixupsSoFar {
         u64::from(offset) < self.end && overlaps_any(&self.rising, offset, count)
     }
 
-    /// Adds fixups that overlap none.
+    /// Adds fixups that don't overlap others.
     fn add_all(&mut self, fixups: &[Fixup]) -> Result<(), AllocError>
         requires { AreApart self.old fixups.now }
         ensures { OnOk result (self.new ≡ fold placed self.old fixups.now) }
@@ -144,7 +144,7 @@ impl FixupsSoFar {
         Ok(())
     }
 
-    /// Adds a fixup that overlaps none.
+    /// Adds a fixup that doesn't overlap another.
     fn add(&mut self, fixup: Fixup) -> Result<(), AllocError>
         requires { overlaps self.old fixup.offset 1 ≡ false }
         ensures { OnOk result (self.new ≡ placed self.old fixup) }
@@ -164,7 +164,7 @@ impl FixupsSoFar {
         Ok(())
     }
 
-    /// The fixups in address order.
+    /// Returns the fixups in address order.
     fn into_list(self, alloc: Global) -> Result<Vec<Fixup>, AllocError>
         ensures { IfOk result (λ fixups. fixups.items ≡ self) }
     {
@@ -176,7 +176,7 @@ impl FixupsSoFar {
     }
 }
 
-/// Whether the word of one of some fixups meets one of `count` words from an offset.
+/// Returns whether the word of one of some fixups overlaps one of `count` words from an offset.
 fn overlaps_any(fixups: &[Fixup], offset: u32, count: u8) -> bool
     requires { offset + 4 * count < 2 ^ 32 }
     ensures { result ≡ overlaps fixups.now offset count }
@@ -190,7 +190,7 @@ fn overlaps_any(fixups: &[Fixup], offset: u32, count: u8) -> bool
     false
 }
 
-/// The same of fixups by their offsets.
+/// Returns the same for fixups by their offsets.
 fn overlaps_placed(bases: &BTreeMap<u32, Base>, offset: u32, count: u8) -> bool
     requires { offset + 4 * count < 2 ^ 32 }
     ensures { result ≡ overlaps (fixups_in bases.now.entries) offset count }
@@ -203,7 +203,7 @@ fn overlaps_placed(bases: &BTreeMap<u32, Base>, offset: u32, count: u8) -> bool
     }
 }
 
-/// Inserts the bases of fixups that overlap none.
+/// Inserts the bases of fixups that don't overlap others.
 fn insert_all(bases: &mut BTreeMap<u32, Base>, fixups: &[Fixup]) -> Result<(), AllocError>
     requires { AreApart (fixups_in bases.old.entries) fixups.now }
     ensures { OnOk result (fixups_in bases.new.entries ≡ fold placed (fixups_in bases.old.entries) fixups.now) }
@@ -214,7 +214,7 @@ fn insert_all(bases: &mut BTreeMap<u32, Base>, fixups: &[Fixup]) -> Result<(), A
     Ok(())
 }
 
-/// The fixups of bases by their offsets, in address order.
+/// Returns the fixups of bases by their offsets, in address order.
 fn listed(alloc: Global, bases: BTreeMap<u32, Base>) -> Result<Vec<Fixup>, AllocError>
     ensures { IfOk result (λ fixups. fixups.items ≡ fixups_in bases.entries) }
 {
@@ -224,7 +224,7 @@ fn listed(alloc: Global, bases: BTreeMap<u32, Base>) -> Result<Vec<Fixup>, Alloc
         .collect(alloc)
 }
 
-/// The sections with their fixups in address order.
+/// Returns the sections with their fixups in address order.
 pub fn to_sections<'a>(
     alloc: Global,
     sections: Vec<SectionSoFar<'a>>,
@@ -238,7 +238,7 @@ pub fn to_sections<'a>(
     Ok(made)
 }
 
-/// The number of the section with a name.
+/// Returns the number of the section with a name.
 pub fn section_number(sections: &[SectionSoFar], name: &[u8]) -> Option<usize>
     ensures found { result ≡ number_of_name (map (λ section. section.header.name) sections.now) name.now }
     ensures below { IfSome result (λ k. k < length sections.now) }

@@ -6,7 +6,7 @@ ghost use Rattle.pef_script.specs.Text.SoFar.{number_of_name};
 use indexmap::IndexMap;
 use std::alloc::AllocFailed;
 
-/// The number of the first entry with a name.
+/// Returns the number of the first entry with a name.
 pub fn number_of_name<T>(table: &IndexMap<&[u8], T>, name: &[u8]) -> Option<usize>
     ensures number { result ≡ number_of_name (names_in table.now.entries) name.now }
     ensures below { IfSome result (λ k. k < index_map_len table.now) }

@@ -6,7 +6,7 @@ use crate::text::LineFault;
 use crate::text::limits::MAX_NAME;
 use pef_lines::Pairs;
 
-/// The one word that is left of a line.
+/// Returns the only word that is left of a line.
 #[tactic(auto, unfolding(crate::specs::Text::Words::last_word))]
 pub fn last_word(line: &[u8]) -> Result<&[u8], LineFault>
     ensures { result_map (λ word. word.now) result ≡ last_word line.now }
@@ -14,7 +14,7 @@ pub fn last_word(line: &[u8]) -> Result<&[u8], LineFault>
     pef_lines::last_word(line).ok_or(LineFault::BadLine)
 }
 
-/// The next word of a line, and what follows the space behind it.
+/// Returns the next word of a line, and the rest after its space.
 #[tactic(auto, unfolding(crate::specs::Text::Words::next_word))]
 pub fn next_word(line: &[u8]) -> Result<(&[u8], &[u8]), LineFault>
     ensures { result_map (λ p. (p.0.now, p.1.now)) result ≡ next_word line.now }
@@ -22,7 +22,7 @@ pub fn next_word(line: &[u8]) -> Result<(&[u8], &[u8]), LineFault>
     pef_lines::next_word(line).ok_or(LineFault::BadLine)
 }
 
-/// The next word of a line where it is a name, and what follows the space behind it.
+/// Returns the next word of a line if it is a name, and the rest after its space.
 #[tactic(auto, unfolding(crate::specs::Text::Words::next_name, crate::specs::Text::Words::next_word))]
 pub fn next_name(line: &[u8]) -> Result<(&[u8], &[u8]), LineFault>
     ensures { result_map (λ p. (p.0.now, p.1.now)) result ≡ next_name line.now }
@@ -33,7 +33,7 @@ pub fn next_name(line: &[u8]) -> Result<(&[u8], &[u8]), LineFault>
     }
 }
 
-/// The name that is left of a line.
+/// Returns the name that is left of a line.
 #[tactic(auto, unfolding(crate::specs::Text::Words::last_name, crate::specs::Text::Words::last_word))]
 pub fn last_name(line: &[u8]) -> Result<&[u8], LineFault>
     ensures { result_map (λ name. name.now) result ≡ last_name line.now }
@@ -44,7 +44,8 @@ pub fn last_name(line: &[u8]) -> Result<&[u8], LineFault>
     }
 }
 
-/// The next two words of a line, of which the first is a name, and what follows the space behind them.
+/// Returns the next two words of a line, of which the first is a name, and the rest after the second's
+/// space.
 #[tactic(auto, unfolding(crate::specs::Text::Words::next_name_and_word))]
 pub fn next_name_and_word(line: &[u8]) -> Result<(&[u8], &[u8], &[u8]), LineFault>
     ensures { result_map (λ p. (p.0.now, p.1.now, p.2.now)) result ≡ next_name_and_word line.now }
@@ -54,7 +55,7 @@ pub fn next_name_and_word(line: &[u8]) -> Result<(&[u8], &[u8], &[u8]), LineFaul
     Ok((name, word, rest))
 }
 
-/// The name and the word behind it that are left of a line.
+/// Returns the name and the word after it, which are all that is left of a line.
 #[tactic(auto, unfolding(crate::specs::Text::Words::last_name_and_word))]
 pub fn last_name_and_word(line: &[u8]) -> Result<(&[u8], &[u8]), LineFault>
     ensures { result_map (λ p. (p.0.now, p.1.now)) result ≡ last_name_and_word line.now }
@@ -64,7 +65,7 @@ pub fn last_name_and_word(line: &[u8]) -> Result<(&[u8], &[u8]), LineFault>
     Ok((name, word))
 }
 
-/// The two words that are left of a line.
+/// Returns the two words that are left of a line.
 #[tactic(auto, unfolding(crate::specs::Text::Words::last_two_words))]
 pub fn last_two_words(line: &[u8]) -> Result<(&[u8], &[u8]), LineFault>
     ensures { result_map (λ p. (p.0.now, p.1.now)) result ≡ last_two_words line.now }
@@ -74,7 +75,7 @@ pub fn last_two_words(line: &[u8]) -> Result<(&[u8], &[u8]), LineFault>
     Ok((first, second))
 }
 
-/// The pairs of hex digits that a word has.
+/// Returns the pairs of hex digits that a word has.
 #[tactic(auto, unfolding(crate::specs::Text::Words::image_of))]
 pub fn read_pairs(word: &[u8]) -> Result<Pairs<'_>, LineFault>
     ensures { result ≡ image_of word.now }

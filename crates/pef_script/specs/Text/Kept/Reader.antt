@@ -1,4 +1,4 @@
--- What the code holds of a script while it reads, seen as what the grammar speaks of.
+-- What the code keeps of a script while it reads, in the terms of the grammar.
 use Rattle.std.specs.Prelude.{ℕ, List, map}
 use denote.Ref.{Bor}
 use Rattle.pef_script.specs.declared.text.reader.Reader.{Reader}
@@ -9,6 +9,6 @@ use Rattle.pef_script.specs.Text.SoFar.{ScriptSoFar}
 abbrev pub names_in : {T : Type 0} → List (Bor (List ℕ) × T) → List (List ℕ)
 names_in entries = map (λ entry. entry.0.now) entries
 
--- what a reader has so far
+-- the script so far of a reader
 abbrev pub so_far : Reader → ScriptSoFar
 so_far r = record { script = record (script_in r.parts) { sections = r.sections.items }; reached = r.reached }

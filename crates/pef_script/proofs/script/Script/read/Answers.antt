@@ -1,4 +1,4 @@
--- What was read is a script that a text is.
+-- The result is the script of the text.
 use Rattle.pef_script.specs.Parts.{script_in}
 use Rattle.pef_script.proofs.TextProofs.Holds.{script_of-holds}
 use Rattle.pef_script.proofs.script.Script.read.Goals as goal

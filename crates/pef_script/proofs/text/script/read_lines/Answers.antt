@@ -1,4 +1,4 @@
--- Each turn reads the first of the lines that are left; what is left behind the last line feed is the last line.
+-- Each turn reads the first of the lines that are left. The rest after the last line feed is the last line.
 use Rattle.std.proofs.Common.{◌≡◌, ◌+◌, [], ◌∷◌, subst, sym, ap, refl, ◌∙◌, arith}
 use Rattle.std.proofs.lemmas.Result.{err_from_is_err_and}
 use Rattle.pef_lines.specs.Lines.{lines_of}

@@ -4,7 +4,7 @@ use Rattle.pef_script.specs.Text.Grammar.{read_lines}
 use Rattle.pef_script.specs.Text.Kept.Reader.{so_far}
 use Rattle.pef_script.proofs.text.script.read_lines.Given as goal
 
--- the lines that are left make the state so far what all lines make the state before them
+-- the lines left turn the state so far into the state after all lines
 abbrev pub invariant-lines : goal.invariant-lines
 invariant-lines l = record {
   small : l.number + length l.rest ≤ length l.text + 1;

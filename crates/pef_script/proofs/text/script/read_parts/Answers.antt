@@ -1,4 +1,4 @@
--- The lines begin where nothing was read yet.
+-- The lines begin with an empty state.
 use Rattle.std.proofs.Common.{subst, sym, ap, Ok, ◌∙◌}
 use Rattle.std.proofs.lemmas.Result.{err_from_is_err_and}
 use Rattle.pef_lines.specs.Lines.{lines_of}

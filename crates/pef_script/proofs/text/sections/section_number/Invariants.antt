@@ -4,7 +4,7 @@ use Rattle.std.specs.Str.{bytes_eq}
 use Rattle.pef_script.specs.Text.SoFar.{number_of_name}
 use Rattle.pef_script.proofs.text.sections.section_number.Given as goal
 
--- the sections that are left have the answer
+-- the sections left decide
 abbrev pub invariant-loop-k : goal.invariant-loop-k
 invariant-loop-k l =
     position_from (bytes_eq l.name) l.k (map (λ section. section.header.name) (drop l.k l.sections))

@@ -1,4 +1,4 @@
--- The names of the table are those of the script, and what is declared stands behind the others.
+-- The names of the table are those of the script, and the new one is after the others.
 use Rattle.std.proofs.Common.{◌≡◌, None, refl, sym, subst}
 use Rattle.std.proofs.lemmas.List.{map-append}
 use Rattle.pef_words.specs.Refusals.{first_met}

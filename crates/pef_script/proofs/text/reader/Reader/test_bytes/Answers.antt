@@ -1,4 +1,4 @@
--- The section at hand is section k, and has room.
+-- The section is section k, and has room.
 use Rattle.std.proofs.Common.{◌+◌, ◌≤◌, length, refl, ◌∙◌, arith}
 use Rattle.std.proofs.lemmas.Bool.{le-ltb}
 use Rattle.std.proofs.lemmas.List.{get_or_read}
