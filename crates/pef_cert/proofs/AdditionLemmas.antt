@@ -1,4 +1,4 @@
--- What a check looks up of fixups: the import index, and the base that comes next.
+-- The facts of fixups that a check needs: the import index, and the next base.
 use Rattle.std.proofs.Common.{◌≡◌, ℕ, ◌+◌, ◌-◌, ◌<◌, ◌≤◌, Bool, true, List, [], ◌∷◌, length, take, drop, Some, ap, sym, ◌∙◌, arith, slice_get}
 use Rattle.std.specs.Prelude.{slice_index_or}
 use Rattle.std.proofs.lemmas.Bool.{ltb-true}
@@ -16,7 +16,7 @@ use Rattle.pef_cert.specs.Labels.{Labels}
 use Rattle.pef_cert.specs.Kept.Claims.{Shaped}
 use Rattle.pef_cert.specs.LabelTests.{pair_test, second_test}
 
--- a fixup of fixups that fit does
+-- each of fixups that fit fits
 pub got-fits : (c : Claim) (at : ℕ) (f : Fixup) → Shaped c → slice_get c.fixups.now at ≡ Some f → fixup_fits f ≡ true
 got-fits c at f shaped e = all-get (λ (g : Fixup). fixup_fits g ≡ true) c.fixups.now at f (each_fits c.fixups.now shaped.fit) e
 
@@ -26,7 +26,7 @@ import_small b k is fits = ltb-true k most_imports (sym (ap base_fits is) ∙ fi
 pub got-import : (c : Claim) (at k : ℕ) (f : Fixup) → Shaped c → slice_get c.fixups.now at ≡ Some f → f.base ≡ Import k → k < most_imports
 got-import c at k f shaped e is = import_small f.base k is (fixup_fits-parts f (got-fits c at f shaped e)).base
 
--- the import index behind a fixup
+-- the import index after a fixup
 pub index_behind : (fixups : List Fixup) (i : ℕ) (f : Fixup) → i < length fixups → index_after (take (i + 1) fixups) 0 ≡ index_past (slice_index_or fixups i f).base (index_after (take i fixups) 0)
 index_behind fixups i f under =
     ap (λ fs. index_after fs 0) (take_more fixups i f under) ∙ index_after-append (take i fixups) (slice_index_or fixups i f ∷ []) 0

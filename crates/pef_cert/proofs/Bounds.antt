@@ -20,7 +20,7 @@ single_most : (l : Labels) (label index : ℕ) (f : Fixup) (rest : List Fixup) (
 single_most l label index f rest c d (Section k) e = single_section l label index k f rest c d 2 (omega arith) e
 single_most l label index f rest c d (Import k) e = single_import l label index k f rest c d 2 (any_cost k) e
 
--- a label is at most 2 more than what lies behind its fixup
+-- a label is at most 2 more than the value after its fixup
 label-next : (l : Labels) (index : ℕ) (f : Fixup) (rest : List Fixup) (c d : ℕ) → Stands l index f rest → fixup_fits f ≡ true → c < classes l → d < classes l → l.label (length (f ∷ rest)) c d ≤ 2 + extension l rest (f.offset + 4) c d
 label-next l index f rest c d stands fits under_c under_d =
     single_most l (l.label (length (f ∷ rest)) c d) index f rest c d f.base ((tests_needed l index f rest stands (fixup_fits-parts f fits).base).adds c d under_c under_d)

@@ -1,4 +1,4 @@
--- A check says yes just where a certificate is valid.
+-- A check returns true exactly if a certificate is valid.
 use Rattle.std.proofs.Common.{◌≡◌, ℕ, zero, suc, ◌+◌, ◌-◌, ◌*◌, ◌<◌, ◌≤◌, Bool, true, false, List, [], ◌∷◌, length, take, drop, replicate, ap, sym, ◌∙◌, subst, arith}
 use Rattle.std.specs.List.{AllByRecursion}
 use Rattle.std.proofs.Math.Nat.{mul-le-mul_left}
@@ -47,7 +47,7 @@ pub registers-few : (fixups : List Fixup) (registers : List ℕ) → fixups_fit 
 registers-few fixups registers fit right =
     few_rising most_sections registers right.rising (λ k among. used_section-below fixups k fit (sym (right.used k) ∙ among))
 
--- each row is as wide as the rows are
+-- each row has the width of the rows
 all_copies : (w n : ℕ) (row : List ℕ) → length row ≡ w → AllByRecursion (λ (r : List ℕ). length r ≡ w) (replicate n row)
 all_copies w zero row wide = tt
 all_copies w (suc n) row wide = (wide, all_copies w n row wide)
@@ -91,7 +91,7 @@ valid_claim claim section program valid = record {
   length_is = valid.length_is;
 }
 
--- what is said of a claim's certificate
+-- the facts of a claim's certificate
 same_certified : (claim : Claim) (fixups : List Fixup) (program : List Instr) (registers : List ℕ) (rows : List (List ℕ)) (c : Certified) → IsClaim fixups registers rows claim → registers ≡ c.registers → rows ≡ c.labels → program ≡ c.program
     → (P : List Fixup → Certified → Type 0) → P claim.fixups.now (record { section = c.section; program = program; registers = claim.registers.now; labels = rows_from claim.kept.width 0 claim.kept.ends.now claim.kept.values.now }) → P fixups c
 same_certified claim fixups program registers rows c is registers_are rows_are program_is P p =
@@ -100,7 +100,7 @@ same_certified claim fixups program registers rows c is registers_are rows_are p
     (subst (λ (rs : List ℕ). P claim.fixups.now (record { section = c.section; program = c.program; registers = rs; labels = rows_from claim.kept.width 0 claim.kept.ends.now claim.kept.values.now })) (is.registers_are ∙ registers_are)
     (subst (λ (xs : List Instr). P claim.fixups.now (record { section = c.section; program = xs; registers = claim.registers.now; labels = rows_from claim.kept.width 0 claim.kept.ends.now claim.kept.values.now })) program_is p)))
 
--- what a check says
+-- the result of a check
 pub check-says : (claim : Claim) (fixups : List Fixup) (program : List Instr) (registers : List ℕ) (rows : List (List ℕ)) (c : Certified) (answer : Bool) → Shaped claim → IsClaim fixups registers rows claim → registers ≡ c.registers → rows ≡ c.labels → program ≡ c.program → Says answer (Holds claim program) → Says answer (Valid fixups c)
 check-says claim fixups program registers rows c answer shaped is registers_are rows_are program_is says =
     same_certified claim fixups program registers rows c is registers_are rows_are program_is (λ fs x. Says answer (Valid fs x))
@@ -117,7 +117,7 @@ check-rows fixups registers rows c registers_are rows_are never = (
       (subst (λ (xs : List (List ℕ)). RowsFit (length fixups) (length c.registers + 1) xs) (sym rows_are) (record { count_is = valid.rows; row = valid.row })))),
 )
 
--- and what follows
+-- and its consequence
 pub check-least : (fixups : List Fixup) (c : Certified) (answer : Bool) → fixups_fit fixups ≡ true → Says answer (Valid fixups c) → answer ≡ true → Least fixups c.program
 check-least fixups c answer fit says e = valid-least fixups c fit (says.0 e)
 

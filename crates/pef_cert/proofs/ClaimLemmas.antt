@@ -1,4 +1,4 @@
--- Where the labels of a claim stand.
+-- The places of the labels of a claim.
 use Rattle.std.proofs.Common.{◌≡◌, ◌≢◌, ℕ, zero, suc, ◌+◌, ◌-◌, ◌*◌, ◌<◌, ◌≤◌, true, List, [], ◌∷◌, length, take, drop, refl, ap, sym, ◌∙◌, subst, arith, slice_index, get_or-take, get_or-drop, nat_lt, ◌==◌, eq-eqb, Option, Some, None, slice_get}
 use Rattle.std.specs.Prelude.{slice_index_or}
 use Rattle.std.proofs.lemmas.Nat.{mul-add-lt}
@@ -37,7 +37,7 @@ before_same : (ends : List ℕ) (q : ℕ) → q < length ends → end_before 0 e
 before_same ends zero under = end_before-zero 0 ends
 before_same ends (suc q) under = end_before-suc 0 ends q (omega arith)
 
--- a kept row is each row that it stands for
+-- a kept row is each row that it represents
 pub row-kept : (w q j : ℕ) (ends values : List ℕ) → RowsFull w ends values → IsRowOf ends q j → take w (drop (q * w) values) ≡ slice_index_or (rows_from w 0 ends values) j []
 row-kept w q j ends values full row =
     let same : j - 0 ≡ j = omega arith in
@@ -46,7 +46,7 @@ row-kept w q j ends values full row =
     sym (sym (ap (λ i. slice_index_or (rows_from w 0 ends values) i []) same)
     ∙ rows-at w 0 ends values q j full.rising row.kept (omega (arith, is, after)) row.before)
 
--- a label of a kept row is that of each row that it stands for
+-- a label of a kept row is that of each row that it represents
 pub label-kept : (w q j n place : ℕ) (ends values : List ℕ) → RowsFull w ends values → IsRowOf ends q j → j ≤ n → place < w → slice_index values (q * w + place) ≡ slice_index (slice_index_or (rows_from w 0 ends values) (n - (n - j)) []) place
 label-kept w q j n place ends values full row inside under =
     let same : n - (n - j) ≡ j - 0 = omega arith in
@@ -58,7 +58,7 @@ label-kept w q j n place ends values full row inside under =
     ∙ (get_or-take w (drop (q * w) values) place 0 under
     ∙ get_or-drop (q * w) values place 0)))
 
--- rising registers below a limit are at most so many
+-- rising registers below a limit are at most this many
 few_above : (m low : ℕ) (rs : List ℕ) → above_all low rs ≡ true → ((k : ℕ) → is_among rs k ≡ true → k < m) → low < m → length rs + low < m
 few_above m low [] up below first = omega arith
 few_above m low (r ∷ rs) up below first =
@@ -75,12 +75,12 @@ few_rising m (r ∷ rs) up below =
     let others = few_above m r rs up (λ k among. below k (or_right (r == k) (is_among rs k) among)) here in
     omega (arith, others)
 
--- a claim of the right shape has few registers
+-- a claim with the right shape has few registers
 pub shaped-few : (c : Claim) → Shaped c → length c.registers.now ≤ most_sections
 shaped-few c shaped =
     few_rising most_sections c.registers.now shaped.registers.rising (λ k among. used_section-below c.fixups.now k shaped.fit (sym (shaped.registers.used k) ∙ among))
 
--- what `get` gives is the element there
+-- the element that `get` gives is the one there
 pub get-is : {A : Type 0} (xs : List A) (at : ℕ) (x : A) → at < length xs → x ≡ slice_index_or xs at x → slice_get xs at ≡ Some x
 get-is xs at x under is = slice_get-get_or xs at x under ∙ ap Some (sym is)
 
@@ -130,7 +130,7 @@ value-past l fixups at f p c d x y e past is value =
 pub value-end : (l : Labels) (fixups : List Fixup) (at p c d : ℕ) → length fixups ≤ at → 0 ≡ extension l (drop at fixups) p c d
 value-end l fixups at p c d past = sym (ap (λ fs. extension l fs p c d) (drop_all at fixups past) ∙ extension-end l p c d)
 
--- an index that is known of
+-- the facts of a known index
 pub knows-sees : (b : CheckedSuffix) (from j : ℕ) → Knows b from → from ≤ j → j < from + 1024 → j ≤ length b.claim.fixups.now → Sees b j
 knows-sees b from j k after before inside = record {
   shaped = k.shaped;

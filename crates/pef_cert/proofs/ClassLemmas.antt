@@ -62,7 +62,7 @@ class_of-other (r ∷ rs) k is =
       | inr other ↦ rw other.0 (let among : is_among rs k ≡ false = rw other.0 at is in ap suc (class_of-other rs k among))
     ]
 
--- what stands at a place of a rising list
+-- the number at a place of a rising list
 above-index : (low : ℕ) (rs : List ℕ) (i : ℕ) → above_all low rs ≡ true → i < length rs → low < slice_index rs i
 above-index low [] i above under = absurd (omega arith)
 above-index low (r ∷ rs) zero above under = ltb-true low r (and_parts (nat_lt low r) (above_all r rs) above).0
@@ -85,7 +85,7 @@ class_of-index (r ∷ rs) (suc i) up under =
     let apart : r ≢ slice_index rs i = omega (arith, low) in
     rw (ne_eqb r (slice_index rs i) apart) (ap suc (class_of-index rs i (above_rises r rs up) (omega arith)))
 
--- so whether a section that counts has a class is seen at that place
+-- so whether a section that counts has a class can be read at that place
 pub has_class-at : (rs : List ℕ) (k class : ℕ) → rises rs ≡ true → class < length rs → class_of rs k < length rs → (class == class_of rs k) ≡ (slice_index rs class == k)
 has_class-at rs k class up under counts =
     let there = class_of-index rs class up under in
@@ -97,13 +97,13 @@ has_class-at rs k class up under counts =
       ]
     ]
 
--- what stands at a place is among them
+-- the number at a place of a list is in it
 pub is_among-index : (rs : List ℕ) (i : ℕ) → i < length rs → is_among rs (slice_index rs i) ≡ true
 is_among-index [] i under = absurd (omega arith)
 is_among-index (r ∷ rs) zero under = rw (eq-eqb r r refl) refl
 is_among-index (r ∷ rs) (suc i) under = or_right (r == slice_index rs i) (is_among rs (slice_index rs i)) (is_among-index rs i (omega arith))
 
--- a number of a class, small enough to be set in one halfword
+-- a number with a class, small enough to be set in one halfword
 pub record NumberOf (registers : List ℕ) (class : ℕ) : Type 0 where
   pub number : ℕ
   pub small : number < 512

@@ -1,4 +1,4 @@
--- A label behind the tested one meets the tests of the runs that begin there. So where a run goes on there and
+-- The tests of the runs that begin at a later label than the tested one hold. So if a run continues there and
 -- that label is no lower, all longer ends are covered.
 use Rattle.std.proofs.Common.{◌≡◌, ℕ, zero, suc, ◌+◌, ◌<◌, ◌≤◌, Bool, true, ◌&&◌, ◌||◌, ◌==◌, List, [], ◌∷◌, length, take, drop, Some, ap, sym, ◌∙◌, subst, arith, slice_get, eq-eqb}
 use Rattle.std.proofs.Math.Path.{ap₂}
@@ -33,7 +33,7 @@ feasible-later l index (g ∷ fixups) (suc from) (suc j) f beyond after e =
     subst (λ (n : ℕ). FeasibleAt l (index_after (take j fixups) (index_past g.base index)) f (drop n (g ∷ fixups))) (sym step)
     (feasible-later l (index_past g.base index) fixups from j f beyond (omega (arith, after)) e)
 
--- what a label behind the tested one meets
+-- the tests that hold for a label after the tested one
 tests_behind : (b : CheckedSuffix) (t : TestedState) (j : ℕ) (g : Fixup) → Tests b t → t.at < j → slice_get b.claim.fixups.now j ≡ Some g → adds_test (labels_claimed b.claim) (index_after (take j b.claim.fixups.now) 0) g (drop (j + 1) b.claim.fixups.now) t.c t.d ≡ true
 tests_behind b t j g tests after e =
     let fixups = b.claim.fixups.now in
@@ -41,7 +41,7 @@ tests_behind b t j g tests after e =
     let needed = needed_of b.claim j (index_after (take j fixups) 0) g tests.knows.shaped e feasible in
     needed.adds t.c t.d tests.c_class tests.d_class
 
--- the label of an addition behind, and what is left there
+-- the label of a later addition, and the fixups left there
 abbrev label_added : CheckedSuffix → TestedState → ℕ → ℕ → Base → ℕ
 label_added b t j p base = (labels_claimed b.claim).label (length (added p base ∷ drop (j + 1) b.claim.fixups.now)) t.c t.d
 
@@ -101,11 +101,11 @@ imports-met b t j p m tests after index adds =
     ap₂ (λ n fs. numbered_test l n t.c t.d 512 p m fs) (label_there l fixups j (added p (Import m)) t.c t.d e) (drop-here fixups j (added p (Import m)) e)
     ∙ behind.imports (eq-eqb m (index_after (take j fixups) 0) index)
 
--- the import index behind an import that is added
+-- the import index after an import that is added
 pub index-added : (fixups : List Fixup) (at p m : ℕ) → adds_first p (Import m) (drop at fixups) ≡ true → m + 1 ≡ index_after (take (at + 1) fixups) 0
 index-added fixups at p m adds = sym (index_next fixups at (added p (Import m)) (added_there fixups at p (Import m) adds))
 
--- a run that goes on at a label that is no lower
+-- a run that continues at a label that is no lower
 pub row-covered : (l : Labels) (label low w : ℕ) (b : Base) (c d n p at : ℕ) (fixups : List Fixup) (all : Bool) → label ≤ low → n ≤ 512 → row_test l label w b c d n p (drop at fixups) ≡ all → row_test l low w b c d 512 p (drop at fixups) ≡ true → true ≡ all
 row-covered l label low w b c d n p at fixups all under few left met = sym (row_test-weaker l label low w b c d n 512 p (drop at fixups) under few met) ∙ left
 

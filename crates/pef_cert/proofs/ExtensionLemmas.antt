@@ -1,4 +1,4 @@
--- What the extension is behind the last fixup, at an offset and away from it; and what a skip is worth.
+-- The extension after the last fixup, at an offset and away from it; and the value of a skip.
 use Rattle.std.proofs.Common.{◌≡◌, ◌≢◌, ℕ, zero, suc, ◌+◌, ◌-◌, ◌*◌, ◌<◌, ◌⊎◌, inl, inr, Bool, true, false, ◌&&◌, ◌==◌, List, [], ◌∷◌, ◌++◌, length, Option, Some, refl, ap, sym, ◌∙◌, subst, arith, eq-eqb}
 use Rattle.std.proofs.lemmas.Bool.{and_parts, ne_eqb}
 use Rattle.std.proofs.lemmas.Bool.Decides.{eqb_tells}
@@ -12,7 +12,7 @@ use Rattle.pef_cert.specs.Extension.{at_offset, extension, moved_value, offer_at
 use Rattle.pef_cert.proofs.ClassLemmas.{class_of-same}
 use Rattle.pef_cert.proofs.MinimaLemmas.{AtMost, lesser-is, lesser-left, lesser-right}
 
--- behind the last fixup
+-- after the last fixup
 pub extension-end : (l : Labels) (p c d : ℕ) → extension l [] p c d ≡ 0
 unfolding extension
 extension-end l p c d = refl
@@ -57,7 +57,7 @@ row_parts f rest left n p w b e = record { first = cc; others = cc }
 skip_here : (p k class : ℕ) (f : Fixup) (rs : List ℕ) → f ≡ added p (Section k) → class_of rs k ≡ class → (f.offset == p && has_class rs class f.base) ≡ true
 skip_here p k class f rs is of = rw (is, eq-eqb p p refl, eq-eqb (class_of rs k) class of) refl
 
--- where words of a section follow, one skip of up to so many is at most what lies behind any number of them
+-- if words of a section follow, one skip of up to this many is at most the value after any number of them
 pub skip-most : (l : Labels) (n p c d k t : ℕ) (fixups left : List Fixup) → t < n → class_of l.registers k ≡ d → fixups ≡ row (suc t) p 4 (Section k) ++ left → AtMost (skip l n p c d fixups) (1 + extension l left (p + 4 * suc t) c d)
 unfolding skip row
 skip-most l zero p c d k t fixups left under of e = absurd (omega arith)
@@ -77,7 +77,7 @@ skip-most l (suc n) p c d k (suc t) (f ∷ rest) left under of e =
     (subst (λ (q : ℕ). AtMost (skip l n (p + 4) c d rest) (1 + extension l left q c d)) end
     (skip-most l n (p + 4) c d k t rest left (omega arith) of parts.others)))
 
--- what a skip is worth lies behind some of the words
+-- the value of a skip is that after some of the words
 pub record Skipped (l : Labels) (n p c d k : ℕ) (fixups : List Fixup) (x : ℕ) : Type 0 where
   pub count : ℕ
   pub left : List Fixup

@@ -1,5 +1,5 @@
--- The extension falls by at most the length of an instruction, along every instruction that fits, is no
--- repeat and adds just the next fixups.
+-- The extension falls by at most the length of an instruction, along every instruction that fits, isn't
+-- a repeat and adds exactly the next fixups.
 use Rattle.std.proofs.Common.{◌≡◌, ◌≢◌, ℕ, zero, suc, ◌+◌, ◌-◌, ◌*◌, ◌%◌, ◌<◌, ◌≤◌, inl, inr, true, ◌==◌, nat_le, List, [], ◌∷◌, ◌++◌, length, refl, ap, sym, ◌∙◌, subst, arith, eq-eqb, length-append}
 use Rattle.std.specs.List.{AllByRecursion}
 use Rattle.std.proofs.lemmas.Bool.{and_parts, leb-true}
@@ -70,7 +70,7 @@ falls_moving l f rest index p e c d stands under_c under_d short =
       ]
     ]
 
--- what has to be shown of an instruction
+-- the statement to prove for an instruction
 abbrev pub Falls : Labels → Instr → State → List Fixup → List Fixup → Type 0
 Falls l x s fixups left = extension_at l fixups s ≤ instr_length x + extension_at l left (next_state x s)
 
@@ -93,7 +93,7 @@ falls_adding l x s f a rest left more stands flat delivers some at_once =
 quarter : (u : ℕ) → ((4 * u) % 4 == 0) ≡ true
 quarter u = eq-eqb ((4 * u) % 4) 0 (omega arith)
 
--- a skip that adds behind the position
+-- a skip that adds after the position
 falls_skipping : (l : Labels) (u t : ℕ) (s : State) (f : Fixup) (rest left : List Fixup) → Stands l s.import_index f rest → suc u ≤ 255 → suc t ≤ 63 → Delivers (BySectDWithSkip (suc u) (suc t)) s (f ∷ rest) left → Falls l (BySectDWithSkip (suc u) (suc t)) s (f ∷ rest) left
 unfolding row
 falls_skipping l u t s f rest left stands near_enough few delivers =
@@ -114,7 +114,7 @@ falls_skipping l u t s f rest left stands near_enough few delivers =
     let last = ap (λ p. extension l left p c d) end in
     omega (arith, is, low, last)
 
--- a register that is set, whichever it holds then
+-- a register that is set, whatever it holds then
 set_c : (l : Labels) (k n : ℕ) (s : State) (f : Fixup) (rest : List Fixup) → Stands l s.import_index f rest → 1 ≤ n → extension_at l (f ∷ rest) s ≤ n + extension_at l (f ∷ rest) (record s { c = k })
 set_c l k n s f rest stands some =
     let one = extension-set_c l s.import_index f rest s.position (class_of l.registers s.c) (class_of l.registers k) (class_of l.registers s.d) stands (class_of-below l s.c) (class_of-below l k) (class_of-below l s.d) in
@@ -125,7 +125,7 @@ set_d l k n s f rest stands some =
     let one = extension-set_d l s.import_index f rest s.position (class_of l.registers s.c) (class_of l.registers s.d) (class_of l.registers k) stands (class_of-below l s.c) (class_of-below l s.d) (class_of-below l k) in
     omega (arith, one)
 
--- each instruction, where a fixup is left to make
+-- each instruction, if a fixup is left to make
 pub falling : (l : Labels) (x : Instr) (s : State) (f : Fixup) (rest left : List Fixup) → Stands l s.import_index f rest → is_flat_instr x ≡ true → Delivers x s (f ∷ rest) left → Falls l x s (f ∷ rest) left
 unfolding row pairs numbered
 falling l (BySectDWithSkip u zero) s f rest left stands flat delivers =
@@ -171,12 +171,12 @@ falling l (SetPosition q) s f rest left stands flat delivers =
 falling l (SmRepeat blocks count) s f rest left stands flat delivers = absurd (cc)
 falling l (LgRepeat blocks count) s f rest left stands flat delivers = absurd (cc)
 
--- each instruction, whatever is left to make
+-- each instruction, whatever fixups are left to make
 pub falls : (l : Labels) (x : Instr) (s : State) (fixups left : List Fixup) → World l s.import_index fixups → is_flat_instr x ≡ true → Delivers x s fixups left → Falls l x s fixups left
 falls l x s [] left w flat delivers = rw (extension-end l s.position (class_of l.registers s.c) (class_of l.registers s.d)) (omega arith)
 falls l x s (f ∷ rest) left w flat delivers = falling l x s f rest left (world-first l s.import_index f rest w) flat delivers
 
--- the labels are in order behind it
+-- the labels are in order after it
 pub world_left : (l : Labels) (x : Instr) (s : State) (fixups left : List Fixup) → World l s.import_index fixups → Delivers x s fixups left → World l (next_state x s).import_index left
 world_left l x s fixups left w delivers =
     subst (λ (index : ℕ). World l index left) (sym (index_kept x s))

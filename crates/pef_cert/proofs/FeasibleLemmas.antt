@@ -39,7 +39,7 @@ tests_of l index fixups at f e sets adds = record {
   adds = adds;
 }
 
--- labels of a claim that are feasible at a fixup stand in order there
+-- labels of a claim that are feasible at a fixup are in order there
 pub claim-stands : (c : Claim) (at index : ℕ) (f : Fixup) → Shaped c → slice_get c.fixups.now at ≡ Some f → FeasibleAt (labels_claimed c) index f (drop (at + 1) c.fixups.now) → Stands (labels_claimed c) index f (drop (at + 1) c.fixups.now)
 claim-stands c at index f shaped e feasible = record {
   numbers = numbers c.fixups.now (labels_claimed c) shaped.fit shaped.registers;
@@ -55,7 +55,7 @@ both_say : (a b : Bool) (P Q R : Type 0) → Says a P → Says b Q → (P → Q 
 both_say a b P Q R p q join first second =
     (λ e. let both = and_parts a b e in join (p.0 both.0) (q.0 both.1), λ r. and_from a b (p.1 (first r)) (q.1 (second r)))
 
--- what a check says of a fixup is whether labels are feasible there
+-- the result of a check of a fixup is whether labels are feasible there
 pub fixup-says : (b : CheckedSuffix) (u : TestedFixup) (row : List ℕ) (sets adds : Bool) → UnderTest b u
     → row ≡ slice_index_or (rows_from b.claim.kept.width 0 b.claim.kept.ends.now b.claim.kept.values.now) u.at []
     → Says sets (RowHolds row (length b.claim.registers.now + 1))
@@ -78,7 +78,7 @@ fixup-says b u row sets adds under is first second =
     row-sets b.claim.registers.now row rows (length fixups) u.at inside is (subst (SetsHold l) (sym (left_count fixups u.at u.fixup under.here)) tests.sets))
     (λ feasible. (needed_of b.claim u.at index u.fixup under.knows.shaped under.here feasible).adds)
 
--- where the change of a register costs too much they aren't
+-- if the change of a register costs too much they aren't
 pub fixup-fails : (b : CheckedSuffix) (u : TestedFixup) (row : List ℕ) → UnderTest b u
     → row ≡ slice_index_or (rows_from b.claim.kept.width 0 b.claim.kept.ends.now b.claim.kept.values.now) u.at []
     → Says false (RowHolds row (length b.claim.registers.now + 1))

@@ -19,7 +19,7 @@ use Rattle.pef_cert.proofs.ClaimLemmas.{get_under, knows-sees, label_there}
 use Rattle.pef_cert.proofs.ClassLemmas.{class_of-below}
 use Rattle.pef_cert.proofs.TestLemmas.{ImportTests, SectionTests, import_tests, import_tests-met, section_tests, section_tests-met}
 
--- what lies right behind the fixup
+-- the values right after the fixup
 pub under-sees : (b : CheckedSuffix) (u : TestedFixup) → UnderTest b u → Sees b (u.at + 1)
 under-sees b u under =
     let low = get_under b.claim.fixups.now u.at u.fixup under.here in
@@ -119,7 +119,7 @@ import-says l index k cost f rest answer base is next singles runs = (
   λ all. runs.1 (import_runs l index k f rest base next all),
 )
 
--- the tests of a state, with what it has looked up
+-- the tests of a state, with the values that it has looked up
 pub row-here : (claim : Claim) (u : TestedFixup) (c d w p : ℕ) (b : Base) (t : TestedState) (x : Bool) → slice_get claim.fixups.now u.at ≡ Some u.fixup → t ≡ state_of claim u c d → p ≡ u.fixup.offset → x ≡ row_test (labels_claimed claim) t.label w b t.c t.d 512 p (drop t.at claim.fixups.now) → x ≡ row_test (labels_claimed claim) (label_of (labels_claimed claim) u.fixup (drop (u.at + 1) claim.fixups.now) c d) w b c d 512 u.fixup.offset (u.fixup ∷ drop (u.at + 1) claim.fixups.now)
 row-here claim u c d w p b t x here is at test =
     let l = labels_claimed claim in

@@ -17,7 +17,7 @@ use Rattle.pef_cert.proofs.ClassLemmas.{Numbers, RegisteredBase}
 use Rattle.pef_cert.proofs.ExtensionLemmas.{Skipped, extension-away, extension-here, length-row, skip-is, skips-is}
 use Rattle.pef_cert.proofs.MinimaLemmas.{AtMost, Moved, at_most-weaker, far, late, least_below-is, least_below-most, moved-far, moved-is, moved-late, moved-near, moved-skip, near, plus-is, plus-most, skips}
 
--- labels at a fixup where all is in order
+-- labels at a fixup if all is in order
 pub record Stands (l : Labels) (index : ℕ) (f : Fixup) (rest : List Fixup) : Type 0 where
   pub numbers : Numbers l
   pub here : RegisteredBase l.registers f.base
@@ -117,7 +117,7 @@ label-skip l index f rest c d x stands under e =
     let base = base_counts l f.base d stands.here has in
     skipped-label l index f rest c d base.0 x stands under base.1 (skip-is l 63 f.offset c d base.0 x (f ∷ rest) base.1 base.2 e)
 
--- what S* is made of
+-- the parts of S*
 pub record Offered (l : Labels) (f : Fixup) (rest : List Fixup) (c d x : ℕ) : Type 0 where
   pub class_c : ℕ
   pub class_d : ℕ

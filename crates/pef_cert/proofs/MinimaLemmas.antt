@@ -7,7 +7,7 @@ use Rattle.pef_words.proofs.Laws.Numbers.{min_is}
 use Rattle.pef_cert.specs.Minima.{least_below, least_of, lesser, plus, when}
 use Rattle.pef_cert.specs.Extension.{moved_value}
 
--- a number that is there, and is at most another
+-- a number that exists, and is at most another
 pub record AtMost (o : Option ℕ) (bound : ℕ) : Type 0 where
   pub value : ℕ
   pub is : o ≡ Some value

@@ -1,4 +1,4 @@
--- Where labels are feasible at a fixup, the tests are met that a check makes.
+-- If labels are feasible at a fixup, the tests of a check hold.
 use Rattle.std.proofs.Common.{◌≡◌, ℕ, suc, ◌+◌, ◌*◌, ◌<◌, ◌≤◌, inl, inr, Bool, true, false, cond, ◌&&◌, ◌||◌, ◌==◌, nat_le, nat_lt, List, [], ◌∷◌, ◌++◌, length, refl, ap, ◌∙◌, subst, arith, length-append}
 use Rattle.std.proofs.lemmas.Bool.{and_from, eqb-true, le-leb, lt-ltb, ltb-true, or_cases}
 use Rattle.pef_reloc.specs.declared.fixup.Base.{Base}
@@ -23,7 +23,7 @@ use Rattle.pef_cert.proofs.TestLemmas.{asked-met, import_tests-met, section_test
 fixup_is : (f : Fixup) (b : Base) → f.base ≡ b → f ≡ added f.offset b
 fixup_is f b e = λ i. record { offset = f.offset; base = e i }
 
--- what feasible labels say of an addition, in the classes of the numbers of a state
+-- the consequence of feasible labels for an addition, in the classes of the numbers of a state
 needed : (l : Labels) (index : ℕ) (f : Fixup) (rest left more : List Fixup) (a : Fixup) (c d c' d' : ℕ) (x : Instr) → FeasibleAt l index f rest → class_of l.registers c' ≡ c → class_of l.registers d' ≡ d → is_flat_instr x ≡ true → f ∷ rest ≡ additions x (record { position = f.offset; import_index = index; c = c'; d = d' }) ++ left → additions x (record { position = f.offset; import_index = index; c = c'; d = d' }) ≡ a ∷ more → (p : ℕ) → extension_at l left (next_state x (record { position = f.offset; import_index = index; c = c'; d = d' })) ≡ extension l left p (class_of l.registers c') (class_of l.registers d') → l.label (length (f ∷ rest)) c d ≤ instr_length x + extension l left p c d
 needed l index f rest left more a c d c' d' x feasible is_c is_d flat words some p next =
     let s : State = record { position = f.offset; import_index = index; c = c'; d = d' } in
@@ -136,7 +136,7 @@ base_needed : (l : Labels) (index : ℕ) (f : Fixup) (rest : List Fixup) (c d : 
 base_needed l index f rest c d (Section k) stands base fits under_c under_d = section_needed l index f rest c d k stands base (ltb-true k most_sections fits) under_c under_d
 base_needed l index f rest c d (Import k) stands base fits under_c under_d = import_needed l index f rest c d k stands base (ltb-true k most_imports fits) under_c under_d
 
--- the tests are met where labels are feasible
+-- the tests hold if labels are feasible
 pub tests_needed : (l : Labels) (index : ℕ) (f : Fixup) (rest : List Fixup) → Stands l index f rest → base_fits f.base ≡ true → TestsHold l index f rest
 tests_needed l index f rest stands fits = record {
   sets = record {

@@ -1,4 +1,4 @@
--- The tests of registers are met just where these are the sections that the fixups use, rising.
+-- The tests of registers hold exactly if these are the sections that the fixups use, rising.
 use Rattle.std.proofs.Common.{◌≡◌, ℕ, ◌<◌, inl, inr, Bool, true, false, ◌||◌, ◌==◌, List, [], ◌∷◌, length, refl, ap, sym, ◌∙◌, arith, eq-eqb}
 use Rattle.std.specs.List.{AllByRecursion}
 use Rattle.std.proofs.lemmas.Bool.{ltb-true, lt-ltb, or_right, or_left, or_cases, and_from, and_parts}
@@ -13,7 +13,7 @@ use Rattle.pef_cert.specs.Kept.Registers.{all_registered, is_registered}
 use Rattle.pef_cert.specs.Fixups.Answers.{Says}
 use Rattle.pef_cert.proofs.ClassLemmas.{RegisteredBase, all_registered as each_registered, class_of-other}
 
--- each of a list meets a test
+-- a test holds for each element of a list
 meets_each : (test : ℕ → Bool) (ks : List ℕ) → ((k : ℕ) → is_among ks k ≡ true → test k ≡ true) → all_meet test ks ≡ true
 meets_each test [] each = refl
 meets_each test (k ∷ ks) each =
@@ -64,7 +64,7 @@ bases_registered : (rs : List ℕ) (fixups : List Fixup) → AllByRecursion (λ 
 bases_registered rs [] each = refl
 bases_registered rs (f ∷ fixups) each = and_from (is_registered rs f.base) (all_registered rs fixups) (base_registered rs f.base each.0) (bases_registered rs fixups each.1)
 
--- registers that don't rise, or of which one isn't used
+-- registers that don't rise, or one of which isn't used
 pub not_rising : (fixups : List Fixup) (rs : List ℕ) → false ≡ rises rs → Says false (RegistersOf fixups rs)
 not_rising fixups rs e = (λ yes. absurd (cc), λ right. e ∙ right.rising)
 

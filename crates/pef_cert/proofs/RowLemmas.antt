@@ -1,4 +1,4 @@
--- Rows of labels as they are kept: how many there are, where one stands, and one more.
+-- The kept form of rows of labels: how many there are, where one is, and one more.
 use Rattle.std.proofs.Common.{◌≡◌, ◌≢◌, ◌==◌, Bool, false, eqb, inl, inr, ℕ, zero, suc, ◌+◌, ◌-◌, ◌*◌, ◌<◌, ◌≤◌, true, nat_lt, List, [], ◌∷◌, ◌++◌, length, take, drop, replicate, None, Some, refl, ap, sym, ◌∙◌, subst, arith, slice_index, slice_get, length-append, append_assoc}
 use Rattle.std.specs.Prelude.{reverse, slice_index_or, slice_set}
 use Rattle.std.proofs.lemmas.Bool.{ltb-false, ltb-true, lt-ltb, and_from, and_parts}
@@ -133,7 +133,7 @@ wide_from w low (end ∷ ends) values j full under = go (nat_lt j (end - low)) r
 pub rows-wide : (w : ℕ) (ends values : List ℕ) → RowsFull w ends values → (j : ℕ) → j < length (rows_from w 0 ends values) → length (slice_index_or (rows_from w 0 ends values) j []) ≡ w
 rows-wide w ends values full j under = wide_from w 0 ends values j full.full under
 
--- so many and more of a row
+-- a row this many times, and more
 replicate_more : (m n : ℕ) (row : List ℕ) → replicate (m + n) row ≡ replicate m row ++ replicate n row
 replicate_more zero n row = let e : zero + n ≡ n = omega arith in rw e refl
 replicate_more (suc m) n row = let e : suc m + n ≡ suc (m + n) = omega arith in rw e (ap (λ rows. row ∷ rows) (replicate_more m n row))
@@ -202,7 +202,7 @@ rows-some w end ends values full e =
 pub rows-none : (w : ℕ) (ends values : List ℕ) → slice_get ends (length ends - 1) ≡ None → 0 ≡ length (rows_from w 0 ends values)
 rows-none w ends values e = rw (last_end-none 0 ends e) refl
 
--- one row more, where it is kept
+-- one more row, if it is kept
 last_is : (w : ℕ) (ends values : List ℕ) → RowsFull w ends values → last_end 0 ends ≡ length (rows_from w 0 ends values)
 last_is w ends values full = let count = rows-count w 0 ends values full.rising in omega (arith, count)
 
@@ -268,7 +268,7 @@ rows-many_more w end n ends values row full count wide last after =
     rows-more w 0 end n ends values row full.rising count (omega (arith, after, last_is w ends values full)) (last_row w n ends values last.front row full count wide last.is)
     ∙ ap (λ m. rows_from w 0 ends values ++ replicate (end - m) row) (last_is w ends values full)
 
--- rows to go through
+-- rows to iterate over
 differ-next : (w end : ℕ) (ends values : List ℕ) → NeighboursDiffer w (length (end ∷ ends) - 1) values → NeighboursDiffer w (length ends - 1) (drop w values)
 differ-next w end [] values differ = tt
 differ-next w end (x ∷ ends) values differ =
@@ -306,7 +306,7 @@ pub runs-whole : (w passed end : ℕ) (ends rest values : List ℕ) → RunsFull
 runs-whole w passed end ends rest values full is =
     begins_otherwise w passed end rest values (subst (λ (es : List ℕ). RunsFull w passed es values) is full)
 
--- what `starts_with` says of the rows behind a row
+-- the result of `starts_with` on the rows after a row
 pub starts_same : (w : ℕ) (values : List ℕ) (answer : Bool) → w ≤ length values → answer ≡ pointwise eqb (take w values) (take (length (take w values)) (drop w values)) → Says answer (take w values ≡ take w (drop w values))
 starts_same w values answer long is =
     slice_eq-Decides Decides-eqb (take w values) (take w (drop w values)) answer (is ∙ ap (λ n. pointwise eqb (take w values) (take n (drop w values))) (length-take-le w values long))
@@ -356,7 +356,7 @@ before_last low (x ∷ y ∷ ends) zero up under =
 before_last low (x ∷ y ∷ ends) (suc k) up under =
     before_last x (y ∷ ends) k (and_parts (nat_lt low x) (above_all x (y ∷ ends)) up).1 (omega (arith, under))
 
--- where there is a row, one is kept
+-- if there is a row, one is kept
 pub ends_some : (w : ℕ) (ends values : List ℕ) (index : ℕ) → index < length (rows_from w 0 ends values) → 0 < length ends
 ends_some w [] values index inside = absurd (omega (arith, inside))
 ends_some w (x ∷ ends) values index inside = omega arith
@@ -464,7 +464,7 @@ reverse_replicate (suc n) row =
     ∙ (ap (λ rows. rows ++ row ∷ []) (reverse_replicate n row)
     ∙ replicate_last n row)
 
--- a kept row more makes the rows no fewer
+-- one more kept row makes the rows no fewer
 pub taken-up : (w k left : ℕ) (ends values : List ℕ) → suc k ≡ left → k < length ends → length (rows_from w 0 (take k ends) values) ≤ length (rows_from w 0 (take left ends) values)
 taken-up w k left ends values next under =
     let before = rows_from w 0 (take k ends) values in

@@ -1,4 +1,5 @@
--- The tests along a run are met just where each run that begins the fixups is followed by enough.
+-- The tests along a run hold exactly if the value after each run at the front of the fixups is
+-- enough.
 use Rattle.std.proofs.Common.{◌≡◌, ℕ, zero, suc, ◌+◌, ◌*◌, ◌<◌, ◌≤◌, Bool, true, false, ◌&&◌, List, [], ◌∷◌, ◌++◌, refl, ap, ◌∙◌, arith}
 use Rattle.std.proofs.lemmas.Bool.{leb-true, le-leb, and_from, and_parts}
 use Rattle.pef_reloc.specs.declared.fixup.Base.{Base}
@@ -85,7 +86,7 @@ row_test-weaker l label low w b c d n m p fixups under few met =
     let most = row_test-holds l low w b c d m p fixups met i left (omega (arith, inside, few)) words in
     omega (arith, most, under))
 
--- the test of a run from that behind its first word
+-- the test of a run from that after its first word
 pub row_test-first : (l : Labels) (label w : ℕ) (b : Base) (c d n p : ℕ) (f : Fixup) (rest : List Fixup) → label ≤ 1 + extension l rest (p + w) c d → row_test l label w b c d n (p + w) rest ≡ true → row_test l label w b c d (suc n) p (f ∷ rest) ≡ true
 unfolding row_test
 row_test-first l label w b c d n p f rest low more =

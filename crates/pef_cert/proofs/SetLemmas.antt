@@ -37,7 +37,7 @@ above-min i low next f above is = below_more (λ x. min low next ≤ f x) i (λ 
 pub below-max : (i high next : ℕ) (f : ℕ → ℕ) → ((x : ℕ) → x < i → f x ≤ high) → f i ≡ next → (x : ℕ) → x < i + 1 → f x ≤ max high next
 below-max i high next f below is = below_more (λ x. f x ≤ max high next) i (λ x under. let a = below x under in omega arith) (omega arith)
 
--- the lines of a row say what the change of a register costs
+-- the lines of a row decide the cost of a change of a register
 pub sets-row : (registers row : List ℕ) (rows : List (List ℕ)) (n j : ℕ) → j ≤ n → row ≡ slice_index_or rows j [] → RowHolds row (length registers + 1) → SetsHold (labels_in registers rows n) (n - j)
 sets-row registers row rows n j inside is holds =
     let r : ℕ = length registers + 1 in

@@ -1,4 +1,5 @@
--- What holds at a fixup since the fixup behind it has the same row of labels, and they are feasible there.
+-- The tests that hold at a fixup because the next fixup has the same row of labels, which are feasible
+-- there.
 use Rattle.std.proofs.Common.{◌≡◌, ◌≢◌, ℕ, ◌+◌, ◌-◌, ◌*◌, ◌<◌, ◌≤◌, inl, inr, Bool, true, false, cond, ◌||◌, ◌==◌, nat_lt, List, [], ◌∷◌, length, take, drop, Some, refl, ap, sym, ◌∙◌, subst, arith, slice_get, slice_index, eq-eqb}
 use Rattle.std.specs.Prelude.{slice_index_or}
 use Rattle.std.proofs.lemmas.Bool.{and_from, and_parts, le-leb, ne_eqb, or_left, or_right}
@@ -39,7 +40,7 @@ shared_row b u under shares =
     sym (row-kept kept.width u.row u.at kept.ends.now kept.values.now full under.row)
     ∙ row-kept kept.width u.row (u.at + 1) kept.ends.now kept.values.now full shares.row
 
--- the fixup behind
+-- the next fixup
 next_there : (fixups : List Fixup) (at : ℕ) (f : Fixup) → at + 1 < length fixups → slice_get fixups (at + 1) ≡ Some (slice_index_or fixups (at + 1) f)
 next_there fixups at f under = slice_get-get_or fixups (at + 1) f under
 
@@ -55,7 +56,7 @@ sets-shared b u under shares =
     row-sets b.claim.registers.now (row_at b.claim u.at) (rows_from b.claim.kept.width 0 b.claim.kept.ends.now b.claim.kept.values.now) (length fixups) (u.at + 1) inside (shared_row b u under shares)
     (subst (SetsHold l) (sym (left_count fixups (u.at + 1) g next)) needed.sets)
 
--- so are both labels
+-- both labels are equal
 shared_label : (b : CheckedSuffix) (u : TestedFixup) (c d : ℕ) → UnderTest b u → SharesRow b u → label_of (labels_claimed b.claim) u.fixup (drop (u.at + 1) b.claim.fixups.now) c d ≡ (labels_claimed b.claim).label (length b.claim.fixups.now - (u.at + 1)) c d
 shared_label b u c d under shares =
     let fixups = b.claim.fixups.now in
@@ -126,7 +127,7 @@ spaced_shared b u k c d under on =
     let stops : adds_first (p + 8) (Section k) rest ≡ false = ap (adds_first (p + 8) (Section k)) (drop-here fixups (u.at + 1) g next) ∙ not_added (p + 8) (p + 4) (Section k) (Section k) (drop (u.at + 1 + 1) fixups) (omega arith) in
     row_test-first l label 8 (Section k) c d 511 p u.fixup rest (omega (arith, past, same)) (row_stops l label 8 (Section k) c d 511 (p + 8) rest stops)
 
--- pairs of a section with itself, where register D doesn't hold it
+-- pairs of a section with itself, if register D doesn't hold it
 pairs_apart : (l : Labels) (label k c x : ℕ) (f g : Fixup) (more : List Fixup) → g.base ≡ Section k → (class_of l.registers k == x) ≡ false → second_test l label k c x f (g ∷ more) ≡ true
 pairs_apart l label k c x f g more base apart =
     subst (λ (b : Base). pair_test l label k c x f.offset (f ∷ g ∷ more) b ≡ true) (sym base) (rw apart refl)

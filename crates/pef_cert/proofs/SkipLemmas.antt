@@ -1,5 +1,5 @@
--- Of all offers at a section's fixup the least is a skip with the register C as it is; and how great extensions
--- get.
+-- The least of all offers at a section's fixup is a skip with register C unchanged; and upper bounds of
+-- extensions.
 use Rattle.std.proofs.Common.{◌≡◌, ℕ, zero, suc, ◌+◌, ◌*◌, ◌<◌, ◌≤◌, ◌⊎◌, inl, inr, true, false, ◌&&◌, ◌==◌, ◌-◌, min, List, [], ◌∷◌, ◌++◌, length, drop, Option, None, Some, refl, ap, sym, ◌∙◌, subst, arith, eq-eqb}
 use Rattle.std.proofs.lemmas.Bool.Decides.{eqb_tells}
 use Rattle.std.proofs.lemmas.List.{drop-drop}
@@ -19,7 +19,7 @@ use Rattle.pef_cert.proofs.Falling.{World, world-behind, world-first}
 use Rattle.pef_cert.proofs.LabelFacts.{Offered, extension-set_c, offer-is, offer-most, skip_has}
 use Rattle.pef_cert.proofs.MinimaLemmas.{AtMost, at_most-weaker}
 
--- the change of register C, whatever is left to make
+-- the change of register C, whatever fixups are left to make
 any-set_c : (l : Labels) (index : ℕ) (fixups : List Fixup) (p c c' d : ℕ) → World l index fixups → c < classes l → c' < classes l → d < classes l → extension l fixups p c d ≤ 1 + extension l fixups p c' d
 any-set_c l index [] p c c' d w under under' under_d = let none = extension-end l p c d in omega (arith, none)
 any-set_c l index (f ∷ rest) p c c' d w under under' under_d = extension-set_c l index f rest p c c' d (world-first l index f rest w) under under' under_d
@@ -28,7 +28,7 @@ words_behind : (f : Fixup) (rest left : List Fixup) (n p k : ℕ) → f ∷ rest
 unfolding row
 words_behind f rest left n p k e = cc
 
--- a skip with another register C is worth at most 1 less
+-- the value of a skip with another register C is at most 1 less
 skip-set_c : (l : Labels) (index : ℕ) (f : Fixup) (rest : List Fixup) (c c' k x : ℕ) → World l index rest → class_of l.registers k < length l.registers → c < classes l → c' < classes l → skips_at l f rest c' (class_of l.registers k) ≡ Some x → AtMost (skips_at l f rest c (class_of l.registers k)) (1 + x)
 skip-set_c l index f rest c c' k x w counts under under' e =
     let d : ℕ = class_of l.registers k in
@@ -58,7 +58,7 @@ change_one c c' =
       | inr other ↦ inl (rw other.0 refl)
     ]
 
--- each offer is at least the skip with the register C as it is, and the change of D
+-- each offer is at least the skip with register C unchanged, and the change of D
 offer-least : (l : Labels) (index : ℕ) (f : Fixup) (rest : List Fixup) (c d k x w : ℕ) → World l index rest → f.base ≡ Section k → class_of l.registers k < length l.registers → c < classes l → skips_at l f rest c (class_of l.registers k) ≡ Some x → Offered l f rest c d w → change d (class_of l.registers k) + x ≤ w
 offer-least l index f rest c d k x w world base counts under e o =
     let has = skip_has (has_class l.registers o.class_d f.base) (1 + extension l rest (f.offset + 4) o.class_c o.class_d) (skip l 62 (f.offset + 4) o.class_c o.class_d rest) o.skip_value (sym (skips-is l f rest o.class_c o.class_d) ∙ o.skips_is) in
@@ -154,7 +154,7 @@ skip-end l n i p c k at least fixups all past left =
     let none : n - i ≡ 0 = omega arith in
     sym (ap (λ m. lesser (Some least) (skip l m p c (class_of l.registers k) (drop at fixups))) (sym none) ∙ left)
 
--- a skip is worth no more than its first word
+-- the value of a skip is at most that of its first word
 pub skip-low : (l : Labels) (f : Fixup) (rest : List Fixup) (c k x : ℕ) → f.base ≡ Section k → skips_at l f rest c (class_of l.registers k) ≡ Some x → x ≤ 1 + extension l rest (f.offset + 4) c (class_of l.registers k)
 unfolding row
 skip-low l f rest c k x base e =

@@ -18,7 +18,7 @@ use Rattle.pef_cert.proofs.Falling.{World, falls, world-behind, world-first, wor
 use Rattle.pef_cert.proofs.LabelFacts.{Stands, extension-label, extension-set_c, extension-set_d, label-extension, label-offer}
 
 -- from a state at which labels are in order, no flat list that makes the fixups has fewer halfwords than the
--- extension says
+-- extension
 pub none_shorter : (xs : List Instr) (l : Labels) (s : State) (fixups : List Fixup) → World l s.import_index fixups → is_flat xs ≡ true → MakesFrom s fixups xs → extension_at l fixups s ≤ program_length xs
 none_shorter [] l s fixups w flat makes =
     let none = ap (λ fs. extension l fs s.position (class_of l.registers s.c) (class_of l.registers s.d)) (sym makes.is) ∙ extension-end l s.position (class_of l.registers s.c) (class_of l.registers s.d) in
@@ -53,7 +53,7 @@ valid-least fixups c fit valid = record {
       (none_shorter others (labels_of c (length fixups)) start fixups (whole_world (labels_of c (length fixups)) fixups fit valid.registers valid.feasible) flat (record { is = makes }));
 }
 
--- a state behind some fixups
+-- a state after some fixups
 behind : List Fixup → State
 behind made = record { position = 0; import_index = index_after made 0; c = 0; d = 0 }
 
@@ -61,7 +61,7 @@ trusted_stands : (l : Labels) (fixups made rest : List Fixup) (f : Fixup) → Tr
 unfolding behind
 trusted_stands l fixups made rest f t = world-first l (index_after made 0) f rest (trusted_world l fixups made (f ∷ rest) (behind made) t (record { index = refl }))
 
--- what carries the falling of the extension
+-- the facts from which the extension's fall follows
 pub trusted-falls : (l : Labels) (fixups made rest left : List Fixup) (s : State) (x : Instr) → Trusted l fixups made rest → StandsBehind made s → is_flat_instr x ≡ true → Delivers x s rest left → extension_at l rest s ≤ instr_length x + extension_at l left (next_state x s)
 trusted-falls l fixups made rest left s x t at flat delivers = falls l x s rest left (trusted_world l fixups made rest s t at) flat delivers
 

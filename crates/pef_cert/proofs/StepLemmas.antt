@@ -23,7 +23,7 @@ run_fails b here more e f = rw (e, f) refl
 run_steps : (b here more : Bool) → b ≡ true → here ≡ true → run_on b here more ≡ more
 run_steps b here more e f = rw (e, f) refl
 
--- some fixup is there, where it adds something
+-- a fixup exists, if it adds something
 pub adds_inside : (fixups : List Fixup) (at p : ℕ) (b : Base) → adds_first p b (drop at fixups) ≡ true → at < length fixups
 adds_inside [] zero p b e = absurd (cc)
 adds_inside [] (suc at) p b e = absurd (cc)
@@ -37,7 +37,7 @@ added_there [] (suc j) p b e = absurd (cc)
 added_there (f ∷ fixups) zero p b e = ap Some (is_added-is p b f e)
 added_there (f ∷ fixups) (suc j) p b e = added_there fixups j p b e
 
--- where the word of a fixup ends
+-- the end of the word of a fixup
 pub word_end-behind : (fixups : List Fixup) (at : ℕ) (f : Fixup) → slice_get fixups at ≡ Some f → word_end fixups (at + 1) ≡ f.offset + 4
 word_end-behind fixups at f e =
     let step : at + 1 ≡ suc at = omega arith in
@@ -76,7 +76,7 @@ unfolding row_test
 row_steps l label w b c d n p [] e f = absurd (cc)
 row_steps l label w b c d n p (g ∷ rest) e f = run_steps (is_added p b g) (one_from l label rest (p + w) c d) (row_test l label w b c d n (p + w) rest) e f
 
--- a run of words, with so many steps done of so many
+-- a run of words, with this many steps done of this many
 pub row-stop : (l : Labels) (label w : ℕ) (b : Base) (c d n p at : ℕ) (fixups : List Fixup) (all : Bool) → row_test l label w b c d n p (drop at fixups) ≡ all → false ≡ adds_first p b (drop at fixups) → true ≡ all
 row-stop l label w b c d n p at fixups all left e = sym (row_stops l label w b c d n p (drop at fixups) (sym e)) ∙ left
 
@@ -131,7 +131,7 @@ pairs_steps l label w b b' c d n p (g ∷ h ∷ rest) e f = run_steps (is_added 
 drop_two : (fixups : List Fixup) (at : ℕ) → drop 2 (drop at fixups) ≡ drop (at + 2) fixups
 drop_two fixups at = drop-drop 2 at fixups
 
--- two fixups are there, where they add something
+-- two fixups exist, if they add something
 pub pair_inside : (fixups : List Fixup) (at p : ℕ) (b b' : Base) → true ≡ (adds_first p b (drop at fixups) && adds_first (p + 4) b' (drop (at + 1) fixups)) → at + 1 < length fixups
 pair_inside fixups at p b b' e =
     let both = and_parts (adds_first p b (drop at fixups)) (adds_first (p + 4) b' (drop (at + 1) fixups)) (sym e) in

@@ -1,5 +1,5 @@
--- The sweep from the last fixup to the first: which kept row is whose, what the ring knows, and that labels
--- are feasible from where it has got to.
+-- The sweep from the last fixup to the first: the kept row of each index, the values in the ring, and that
+-- labels are feasible from the current index on.
 use Rattle.std.proofs.Common.{◌≡◌, ◌≢◌, ℕ, zero, suc, ◌+◌, ◌-◌, ◌*◌, ◌/◌, ◌%◌, ◌^◌, ◌<◌, ◌≤◌, ◌⊎◌, inl, inr, true, List, [], ◌∷◌, length, take, drop, Some, refl, ap, sym, ◌∙◌, subst, arith, slice_get, slice_index, nat_lt, nat_le, add_comm, mul_comm}
 use Rattle.std.specs.Prelude.{slice_index_or, slice_set}
 use Rattle.std.specs.List.{AllByRecursion}
@@ -100,7 +100,7 @@ swept-end claim q ring least shaped row rows skips = record {
       });
 }
 
--- and one fixup further, with what the ring has of its skips
+-- and one fixup further, with the values in the ring for its skips
 known_here : (claim : Claim) (q at : ℕ) (ring : List ℕ) (least : List (List ℕ)) (f : Fixup) → length ring ≡ 1024 → slice_get claim.fixups.now at ≡ Some f → IsRowOf claim.kept.ends.now q at → SkipsKept claim at f (drop (at + 1) claim.fixups.now) (slice_index_or least (at % 1024) []) → KnownAt claim (slice_set ring (at % 1024) q) least at
 known_here claim q at ring least f rows here row are =
     let in_ring : at % 1024 < length ring = rw rows (mod-lt at (omega arith)) in
@@ -148,7 +148,7 @@ swept-next claim q at ring least f new swept here row are =
     (λ gap. subst (λ (l : List ℕ). SkipsAre claim f (drop (at + 1) claim.fixups.now) l) (sym (get_or-set_same least (at % 1024) new [] in_least)) are)
     (λ i other. get_or-set_other least (at % 1024) i new [] other)
 
--- the same where the word before leaves no gap
+-- the same if there is no gap before the word
 pub swept-close : (claim : Claim) (q at : ℕ) (ring : List ℕ) (least : List (List ℕ)) (f : Fixup) → Swept claim ring least (at + 1) → slice_get claim.fixups.now at ≡ Some f → IsRowOf claim.kept.ends.now q at → f.offset ≤ word_end claim.fixups.now at → Swept claim (slice_set ring (at % 1024) q) least at
 swept-close claim q at ring least f swept here row close =
     swept_with claim q at ring least least f swept here row swept.skips (λ gap. absurd (omega (arith, gap, close))) (λ i other. refl)
@@ -181,7 +181,7 @@ feasible-there l index (g ∷ fixups) (suc at) f e feasible =
     subst (λ (n : ℕ). FeasibleAt l (index_after (take at fixups) (index_past g.base index)) f (drop n (g ∷ fixups))) (sym step)
     (feasible-there l (index_past g.base index) fixups at f e feasible.1)
 
--- labels in order behind a fixup
+-- labels in order after a fixup
 all_drop : {A : Type 0} (P : A → Type 0) (xs : List A) (n : ℕ) → AllByRecursion P xs → AllByRecursion P (drop n xs)
 all_drop P xs zero all = all
 all_drop P [] (suc n) all = tt
@@ -198,7 +198,7 @@ small_fixups : (fixups : List Fixup) → fixups_fit fixups ≡ true → length f
 unfolding fixups_fit
 small_fixups fixups fit = leb-true (length fixups) most_fixups (and_parts (nat_le (length fixups) most_fixups) (fixups_from 0 fixups) fit).0
 
--- what a skip leads to is small
+-- the value of a skip is small
 pub skip-small : (claim : Claim) (at k c x : ℕ) (f : Fixup) → Shaped claim → slice_get claim.fixups.now at ≡ Some f → f.base ≡ Section k → FeasibleFrom (labels_claimed claim) (index_after (take (at + 1) claim.fixups.now) 0) (drop (at + 1) claim.fixups.now) → c < length claim.registers.now + 1 → skips_at (labels_claimed claim) f (drop (at + 1) claim.fixups.now) c (class_of claim.registers.now k) ≡ Some x → x < 2 ^ 32
 skip-small claim at k c x f shaped here base beyond under e =
     let l = labels_claimed claim in
@@ -244,7 +244,7 @@ last-zero registers row rows n is square all k under =
     ∙ (sym (ap (λ (i : ℕ). slice_index (slice_index_or rows i []) (k / r * r + k % r)) end)
     ∙ all (k / r) (k % r) under_c under_d))
 
--- nothing is left at the end
+-- at the end no fixup is left
 pub feasible-end : (l : Labels) (index : ℕ) (fixups : List Fixup) → FeasibleFrom l index (drop (length fixups) fixups)
 feasible-end l index fixups = subst (λ (fs : List Fixup). FeasibleFrom l index fs) (sym (drop_all (length fixups) fixups (omega arith))) tt
 

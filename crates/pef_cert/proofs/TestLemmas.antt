@@ -1,4 +1,4 @@
--- Labels are feasible at a fixup just where the tests are met that a check makes.
+-- Labels are feasible at a fixup exactly if the tests of a check hold.
 use Rattle.std.proofs.Common.{◌≡◌, ℕ, zero, suc, ◌+◌, ◌*◌, ◌<◌, ◌≤◌, Bool, true, false, cond, ◌&&◌, ◌||◌, ◌==◌, nat_le, nat_lt, List, [], ◌∷◌, ◌++◌, length, refl, ap, sym, ◌∙◌, subst, arith, eq-eqb}
 use Rattle.std.proofs.lemmas.Bool.{leb-true, le-leb, or_right, or_left, and_from, and_parts}
 use Rattle.pef_reloc.specs.declared.fixup.Base.{Base}
@@ -86,7 +86,7 @@ import_tests-met l label index k f rest c d t =
 first_word : (f g : Fixup) (rest more : List Fixup) → f ∷ rest ≡ g ∷ more → f ≡ g
 first_word f g rest more e = cc
 
--- words of a section follow the fixup, and the tests of its state are met
+-- words of a section follow the fixup, and the tests of its state hold
 falls_row : (l : Labels) (label index : ℕ) (f : Fixup) (rest left : List Fixup) (c d k n p w : ℕ) → base_test l label index f rest c d f.base ≡ true → p ≡ f.offset → n < 512 → f ∷ rest ≡ row (suc n) p w (Section k) ++ left → (SectionTests l label k f rest c d → row_test l label w (Section k) c d 512 f.offset (f ∷ rest) ≡ true) → label ≤ 1 + extension l left (p + w * suc n) c d
 unfolding row
 falls_row l label index f rest left c d k n p w met at few words choose =
@@ -176,7 +176,7 @@ any_cost k = go (nat_lt k 512)
     go true = omega arith
     go false = omega arith
 
--- what has to be shown of a number that meets the tests of a state's label
+-- the statement to prove for a number for which the tests of a state's label hold
 abbrev TestedState : Labels → ℕ → Instr → State → List Fixup → Type 0
 TestedState l label x s left = label ≤ instr_length x + extension_at l left (next_state x s)
 
@@ -254,7 +254,7 @@ sets_falls l index f rest (LgSetSectC k) s sets at is = set_falls_c l index k 2 
 sets_falls l index f rest (LgSetSectD k) s sets at is = set_falls_d l index k 2 f rest s sets at (omega arith)
 sets_falls l index f rest _ s sets at is = absurd (cc)
 
--- labels are feasible where the tests are met
+-- labels are feasible if the tests hold
 pub feasible-tested : (l : Labels) (index : ℕ) (f : Fixup) (rest : List Fixup) → TestsHold l index f rest → FeasibleAt l index f rest
 feasible-tested l index f rest tests = record {
   sets = λ x s at flat is. sets_falls l index f rest x s tests.sets at is;

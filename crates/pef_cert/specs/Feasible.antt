@@ -9,7 +9,7 @@ use Rattle.pef_reloc.specs.Steps.{State, next_state}
 use Rattle.pef_cert.specs.Labels.{Labels, class_of, classes}
 use Rattle.pef_cert.specs.Extension.{extension_at}
 
--- L where these fixups are left, in the classes of a state
+-- L when these fixups are left, in the classes of a state
 abbrev pub label_at : Labels → List Fixup → State → ℕ
 label_at l fixups s = l.label (length fixups) (class_of l.registers s.c) (class_of l.registers s.d)
 
@@ -18,8 +18,9 @@ pub record AtFixup (f : Fixup) (index : ℕ) (s : State) : Type 0 where
   pub position : s.position ≡ f.offset
   pub index_is : s.import_index ≡ index
 
--- labels where a fixup and others are left, against all instructions that fit and are no repeats: those that
--- set a register, and those that begin by adding at the fixup and add just the next fixups
+-- the labels when a fixup and others are left are feasible against all instructions that fit and aren't
+-- repeats: those that set a register, and those that begin by adding at the fixup and add exactly the next
+-- fixups
 pub record FeasibleAt (l : Labels) (index : ℕ) (f : Fixup) (rest : List Fixup) : Type 0 where
   pub sets : (x : Instr) (s : State) → AtFixup f index s → is_flat_instr x ≡ true → sets_register x ≡ true
       → label_at l (f ∷ rest) s ≤ instr_length x + extension_at l (f ∷ rest) (next_state x s)
@@ -32,7 +33,7 @@ abbrev pub FeasibleFrom : Labels → ℕ → List Fixup → Type 0
 FeasibleFrom l index [] = Unit {0}
 FeasibleFrom l index (f ∷ rest) = FeasibleAt l index f rest × FeasibleFrom l (index_past f.base index) rest
 
--- labels of a whole list of fixups: behind the last one they are 0
+-- labels of a whole list of fixups: after the last one they are 0
 pub record Feasible (l : Labels) (fixups : List Fixup) : Type 0 where
   pub last : (c d : ℕ) → c < classes l → d < classes l → l.label 0 c d ≡ 0
   pub each : FeasibleFrom l 0 fixups

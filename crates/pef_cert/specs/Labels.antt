@@ -1,5 +1,5 @@
--- The labels of a certificate: for each state at a fixup's offset a number, of which a certificate says
--- that from there on no program has fewer halfwords.
+-- The labels of a certificate: a number for each state at a fixup's offset. A certificate claims that from
+-- there on no program has fewer halfwords.
 --
 -- Of the numbers in the registers C and D only their class counts: the place of a section among those that
 -- the fixups use, and one class more for all other sections.
@@ -7,13 +7,13 @@ use Rattle.std.specs.Prelude.{ℕ, suc, ◌+◌, ◌==◌, Bool, false, if◌the
 use Rattle.pef_reloc.specs.declared.fixup.Base.{Base}
 use Rattle.pef_reloc.specs.declared.fixup.Base.TheVariants.{Section, Import}
 
--- the sections that count as values of a register; and the label L where so many fixups are left, of a
--- class of C and a class of D
+-- the sections that count as values of a register; and the label L with this many fixups left, for a class
+-- of C and a class of D
 pub record Labels : Type 0 where
   pub registers : List ℕ
   pub label : ℕ → ℕ → ℕ → ℕ
 
--- the class of a section: its place among those that count, and their number for every other section
+-- the class of a section: its place among those that count, or their number for every other section
 abbrev pub class_of : List ℕ → ℕ → ℕ
 class_of [] k = 0
 class_of (r ∷ registers) k = if r == k then 0 else suc (class_of registers k)

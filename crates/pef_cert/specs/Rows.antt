@@ -1,4 +1,4 @@
--- Labels in rows, of which equal neighbours are kept once.
+-- Labels in rows. Equal neighbours are kept once.
 use Rattle.std.specs.Prelude.{◌≡◌, ◌≢◌, ℕ, zero, suc, ◌-◌, ◌*◌, true, List, [], ◌∷◌, ◌++◌, length, take, drop, replicate}
 use Rattle.pef_cert.specs.Rising.{above_all}
 
@@ -7,8 +7,8 @@ pub record LaidRows : Type 0 where
   pub width : ℕ
   pub rows : List (List ℕ)
 
--- How rows are kept: for each row that differs from the one before it, how many rows end with it, and its
--- labels. These are the rows, from the kept ones on that begin behind so many rows
+-- how rows are kept: for each row that differs from the one before it, how many rows end with it, and its
+-- labels. These are the rows, from the kept ones on that begin after this many rows
 abbrev pub rows_from : ℕ → ℕ → List ℕ → List ℕ → List (List ℕ)
 rows_from width low [] values = []
 rows_from width low (end ∷ ends) values = replicate (end - low) (take width values) ++ rows_from width end ends (drop width values)
@@ -18,7 +18,7 @@ abbrev pub NeighboursDiffer : ℕ → ℕ → List ℕ → Type 0
 NeighboursDiffer width zero values = Unit {0}
 NeighboursDiffer width (suc n) values = (take width values ≢ take width (drop width values)) × NeighboursDiffer width n (drop width values)
 
--- what is true of kept rows
+-- the facts of kept rows
 pub record RowsFull (width : ℕ) (ends values : List ℕ) : Type 0 where
   pub rising : above_all 0 ends ≡ true
   pub full : length values ≡ width * length ends

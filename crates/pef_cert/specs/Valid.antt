@@ -27,15 +27,15 @@ pub record RegistersOf (fixups : List Fixup) (registers : List ℕ) : Type 0 whe
   pub rising : rises registers ≡ true
   pub used : (k : ℕ) → is_among registers k ≡ uses_section fixups k
 
--- labels that stand in rows, one for each of so many fixups and one for the end: row i has those of the
--- states at fixup i, with the classes of C outside and those of D inside
+-- labels in rows, one for each of this many fixups and one for the end: row i has those of the states
+-- at fixup i, with the classes of C outside and those of D inside
 abbrev pub labels_in : List ℕ → List (List ℕ) → ℕ → Labels
 labels_in registers rows count = record {
   registers = registers;
   label = λ left c d. slice_index (slice_index_or rows (count - left) []) (c * (length registers + 1) + d);
 }
 
--- the labels of a certificate for so many fixups
+-- the labels of a certificate for this many fixups
 abbrev pub labels_of : Certified → ℕ → Labels
 labels_of c count = labels_in c.registers c.labels count
 

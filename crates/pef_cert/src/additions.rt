@@ -30,8 +30,8 @@ impl<'a> CheckedSuffix<'a> {
         self.section_runs_hold(under, section)
     }
 
-    /// The same if the section goes on with the same labels. Then all runs hold but the pairs of the section
-    /// with itself, where both registers hold it.
+    /// Returns the same if the next word adds the same section with the same labels. Then only the pairs of
+    /// the section with itself, with both registers holding it, are left to test.
     fn same_pairs_hold(self, under: TestedFixup, section: u32) -> bool
         requires under { UnderTest self under }
         requires base { under.fixup.base ≡ Section section }
@@ -42,7 +42,7 @@ impl<'a> CheckedSuffix<'a> {
         self.second_holds(self.state(under, class, class), section)
     }
 
-    /// Tests the labels of all states in which a register holds the section against runs of it.
+    /// Tests the labels of all states in which a register holds the section against runs of the section.
     fn section_runs_hold(self, under: TestedFixup, section: u32) -> bool
         requires { UnderTest self under }
         ensures { Says result (SectionRuns (labels_claimed self.entry.claim) section under.fixup (drop (under.at + 1) self.entry.claim.fixups.now)) }
@@ -59,7 +59,7 @@ impl<'a> CheckedSuffix<'a> {
         true
     }
 
-    /// Tests a label where register C holds the section.
+    /// Tests a label in a state in which register C holds the section.
     fn c_runs_hold(self, under: TestedFixup, section: u32, c: usize, d: usize) -> bool
         requires under { UnderTest self under }
         requires c { c ≡ class_of self.claim.registers.now section }
@@ -74,7 +74,7 @@ impl<'a> CheckedSuffix<'a> {
         self.second_holds(tested, section)
     }
 
-    /// Tests a label where register D holds the section.
+    /// Tests a label in a state in which register D holds the section.
     fn d_runs_hold(self, under: TestedFixup, section: u32, c: usize, d: usize) -> bool
         requires under { UnderTest self under }
         requires c { c < length self.claim.registers.now + 1 }
@@ -89,7 +89,7 @@ impl<'a> CheckedSuffix<'a> {
         self.row_holds(tested, position, 2 * WORD, Base::Section(section))
     }
 
-    /// Tests a label against pairs of a section in register C and the base that comes next.
+    /// Tests a label against pairs of a section in register C and the base of the next fixup.
     fn second_holds(self, tested: TestedState, section: u32) -> bool
         requires tests { Tests self tested }
         requires class { class_of self.claim.registers.now section ≡ tested.c }

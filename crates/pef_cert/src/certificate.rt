@@ -6,8 +6,7 @@ use crate::rows::LabelRows;
 use pef_reloc::Instr;
 use std::marker::Model;
 
-/// A certificate that the program of a section has no more halfwords than any other that makes its
-/// fixups.
+/// A certificate that the program of a section has no more halfwords than any other that makes its fixups.
 #[derive(Debug, Drop)]
 pub struct Certificate {
     /// The section that it is for.
@@ -30,7 +29,7 @@ impl Model for Certificate {
 }
 
 impl Certificate {
-    /// How many halfwords its program has.
+    /// Returns the length of its program in halfwords.
     pub fn program_length(&self) -> u64
         ensures { result ≡ program_length self.now.program }
     {

@@ -12,11 +12,11 @@ use crate::registers::registers_hold;
 use crate::{Certificate, LabelRows};
 use pef_reloc::{Fixup, Instr};
 
-/// Whether a certificate is valid for the fixups of its section; then its program makes them, and no
-/// other that does has fewer halfwords, whoever made the certificate.
+/// Returns whether a certificate is valid for the fixups of its section. If it is, its program makes
+/// the fixups, and no other program that does has fewer halfwords, whoever made the certificate.
 ///
-/// It takes no memory, and goes once from the last fixup to the first. Registers, shape and program are
-/// tested before that.
+/// It allocates nothing, and goes once from the last fixup to the first. Registers, shape and program
+/// are tested before that.
 pub fn check(fixups: &[Fixup], certificate: &Certificate) -> bool
     requires { fixups_fit fixups.now ≡ true }
     ensures valid { IsTrue result ↔ Valid fixups.now certificate.now }
@@ -32,8 +32,8 @@ pub fn check(fixups: &[Fixup], certificate: &Certificate) -> bool
     }
 }
 
-/// Labels in the shape of a claim: a row for each fixup and one more, each of a label for each two
-/// classes.
+/// Returns labels in the shape of a claim: a row for each fixup and one more, each with one label for
+/// each two classes.
 fn claim_of<'a>(
     fixups: &'a [Fixup],
     registers: &'a [u32],
@@ -58,8 +58,8 @@ fn claim_of<'a>(
 }
 
 impl<'a> Claim<'a> {
-    /// Whether a program makes the fixups and is as long as feasible labels say. One that the label at
-    /// the first fixup rules out isn't looked at.
+    /// Returns whether a program makes the fixups and is as long as feasible labels say. A program that
+    /// the label at the first fixup rules out isn't tested.
     fn holds(self, program: &[Instr]) -> bool
         requires { Shaped self }
         ensures { Says result (Holds self.entry program.now) }

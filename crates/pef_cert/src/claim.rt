@@ -8,13 +8,13 @@ use crate::KeptRows;
 use crate::extension::moved_value;
 use pef_reloc::{Base, Fixup, MAX_SECTIONS};
 
-/// How many indices behind the fixup under test can be asked for: no instruction makes more fixups.
+/// The most indices after the fixup under test that are needed: no instruction makes more fixups.
 pub(crate) const WINDOW: usize = 1024;
 
-/// The most classes that there can be: one for each section, and one more.
+/// The most classes: one for each section, and one more.
 pub(crate) const MAX_CLASSES: usize = MAX_SECTIONS as usize + 1;
 
-/// Labels that are claimed for fixups.
+/// The labels that are claimed for fixups.
 #[derive(Clone, Copy)]
 pub(crate) struct Claim<'a> {
     pub(crate) fixups: &'a [Fixup],
@@ -22,19 +22,19 @@ pub(crate) struct Claim<'a> {
     pub(crate) kept: KeptRows<'a>,
 }
 
-/// A claim, and what was found behind the fixup under test.
+/// A claim, and the results for the fixups after the one under test.
 #[derive(Clone, Copy)]
 pub(crate) struct CheckedSuffix<'a> {
     pub(crate) claim: Claim<'a>,
-    /// For each index, which kept row is its own; at the index modulo 1,024.
+    /// For each index, its kept row, at the index modulo 1,024.
     pub(crate) rows: &'a [usize],
-    /// For each index at a section's fixup after a gap, the least that a skip there leads to, by the class
-    /// of register C; at the index modulo 1,024.
+    /// For each index at a section's fixup after a gap, the least value of a skip there, by the class of
+    /// register C, at the index modulo 1,024.
     pub(crate) skips: &'a [[u32; MAX_CLASSES]],
 }
 
 impl<'a> Claim<'a> {
-    /// How many classes there are.
+    /// Returns how many classes there are.
     pub(crate) fn classes(self) -> usize
         requires { Shaped self }
         ensures { result ≡ length self.entry.registers.now + 1 }
@@ -42,7 +42,7 @@ impl<'a> Claim<'a> {
         self.registers.len() + 1
     }
 
-    /// A label of a kept row.
+    /// Returns a label of a kept row.
     pub(crate) fn label(self, row: usize, c: usize, d: usize) -> u32
         requires shaped { Shaped self }
         requires row { row < length self.kept.ends.now }
@@ -54,7 +54,8 @@ impl<'a> Claim<'a> {
         self.kept.values[row * self.kept.width + place]
     }
 
-    /// 1 where a register of a class has to change to hold a section that the fixups use, else 0.
+    /// Returns 1 if a register with this class must change to hold a section that the fixups use,
+    /// otherwise 0.
     fn change(self, section: u32, class: usize) -> u64
         requires shaped { Shaped self }
         requires counts { class_of self.registers.now section < length self.registers.now }
@@ -66,7 +67,7 @@ impl<'a> Claim<'a> {
         }
     }
 
-    /// The labels of a kept row.
+    /// Returns the labels of a kept row.
     pub(crate) fn row(self, row: usize) -> &'a [u32]
         requires shaped { Shaped self }
         requires row { row < length self.kept.ends.now }
@@ -80,8 +81,8 @@ impl<'a> Claim<'a> {
 }
 
 impl<'a> CheckedSuffix<'a> {
-    /// The extension where the fixups from index `at` on are left, at a position after the word of the
-    /// fixup before and in classes of the registers.
+    /// Returns the extension when the fixups from index `at` on are left, at a position after the word of
+    /// the previous fixup and in classes of the registers.
     pub(crate) fn value(self, at: usize, position: u64, c: usize, d: usize) -> u64
         requires sees { Sees self at }
         requires after { word_end self.claim.fixups.now at ≤ position }
@@ -96,7 +97,7 @@ impl<'a> CheckedSuffix<'a> {
         }
     }
 
-    /// The label at index `at`.
+    /// Returns the label at index `at`.
     pub(crate) fn label(self, at: usize, c: usize, d: usize) -> u32
         requires sees { Sees self at }
         requires c { c < length self.claim.registers.now + 1 }
@@ -106,7 +107,7 @@ impl<'a> CheckedSuffix<'a> {
         self.claim.label(self.rows[at % WINDOW], c, d)
     }
 
-    /// The extension where the fixups from index `at` on are left, of which this is the first.
+    /// Returns the extension when the fixups from index `at` on are left, of which this is the first.
     fn value_before(self, at: usize, fixup: Fixup, position: u64, c: usize, d: usize) -> u64
         requires sees { Sees self at }
         requires after { word_end self.claim.fixups.now at ≤ position }
@@ -127,7 +128,7 @@ impl<'a> CheckedSuffix<'a> {
         moved_value(offset - position, label, self.offer(at, fixup, c, d))
     }
 
-    /// The least offer at index `at`, whose fixup begins after a gap.
+    /// Returns the least offer at index `at`, whose fixup begins after a gap.
     fn offer(self, at: usize, fixup: Fixup, c: usize, d: usize) -> Option<u64>
         requires sees { Sees self at }
         requires fixup { slice_get self.claim.fixups.now at ≡ Some fixup }

@@ -2,7 +2,8 @@ ghost use Rattle.std.specs.Prelude.{◌≡◌};
 ghost use Rattle.pef_cert.specs.Extension.{change};
 ghost use Rattle.pef_cert.specs.Labels.{class_of};
 
-/// The class of a section: its place among the registers, and their number for every other section.
+/// Returns the class of a section: its place among the registers, or their number for every other
+/// section.
 pub fn class_of(registers: &[u32], section: u32) -> usize
     ensures { result ≡ class_of registers.now section }
 {
@@ -16,7 +17,7 @@ pub fn class_of(registers: &[u32], section: u32) -> usize
     class
 }
 
-/// 1 where a register's class has to change, else 0.
+/// Returns 1 if a register's class must change, otherwise 0.
 pub fn change(class: usize, other: usize) -> u64
     ensures { result ≡ change class other }
 {

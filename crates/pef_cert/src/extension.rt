@@ -4,17 +4,17 @@ ghost use Rattle.pef_cert.specs.Kept.Values.{offered};
 
 use crate::fixups::WORD;
 
-/// How many bytes an increment moves, at most.
+/// The most bytes that an increment moves.
 pub const REACH: u64 = 4096;
 
-/// How many bytes a skip moves, at most.
+/// The most bytes that a skip moves.
 pub const SKIP_REACH: u64 = 1020;
 
-/// How far both together move.
+/// The most bytes that both together move.
 const BOTH_REACH: u64 = REACH + SKIP_REACH;
 
-/// The extension away from the offset of the next fixup, in halfwords: the fixup lies `ahead` bytes ahead
-/// (0 where it lies behind), with the label there and the least offer, where there is one.
+/// Returns the extension away from the offset of the next fixup, in halfwords: the fixup lies `ahead`
+/// bytes ahead (0 if the position is past it), with the label there and the least offer, if there is one.
 pub fn moved_value(ahead: u64, label: u32, offer: Option<u64>) -> u64
     requires { IfSome offer (λ x. x + 1 < 2 ^ 64) }
     ensures is { result ≡ moved_value ahead label offer }
@@ -32,7 +32,7 @@ pub fn moved_value(ahead: u64, label: u32, offer: Option<u64>) -> u64
     }
 }
 
-/// The lesser of a value and of what an offer gives.
+/// Returns the lesser of a value and the value of an offer.
 fn with_offer(ahead: u64, value: u64, offer: u64) -> u64
     requires { offer + 1 < 2 ^ 64 }
     ensures { result ≡ offered ahead value offer }

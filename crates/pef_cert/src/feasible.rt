@@ -12,7 +12,7 @@ use crate::runs::TestedState;
 use crate::sets::sets_hold;
 use pef_reloc::{Base, Fixup};
 
-/// A fixup under test: its index, and which kept row has its labels.
+/// A fixup under test: its index, and the kept row with its labels.
 #[derive(Clone, Copy)]
 pub(crate) struct TestedFixup {
     pub(crate) at: usize,
@@ -21,7 +21,7 @@ pub(crate) struct TestedFixup {
 }
 
 impl<'a> CheckedSuffix<'a> {
-    /// Whether the labels of a fixup are feasible.
+    /// Returns whether the labels of a fixup are feasible.
     pub(crate) fn fixup_holds(self, under: TestedFixup) -> bool
         requires { UnderTest self under }
         ensures { Says result (FeasibleAt (labels_claimed self.entry.claim) (index_after (take under.at self.entry.claim.fixups.now) 0) under.fixup (drop (under.at + 1) self.entry.claim.fixups.now)) }
@@ -32,8 +32,8 @@ impl<'a> CheckedSuffix<'a> {
         self.all_additions_hold(under)
     }
 
-    /// Whether the change of one register changes the labels of a fixup by at most 1. If the fixup behind
-    /// has the same kept row, that was tested there.
+    /// Returns whether the change of one register changes the labels of a fixup by at most 1. If the next
+    /// fixup has the same kept row, that was tested there.
     fn row_sets_hold(self, under: TestedFixup) -> bool
         requires { UnderTest self under }
         ensures { Says result (RowHolds (row_at self.entry.claim under.at) (length self.entry.claim.registers.now + 1)) }
@@ -44,7 +44,7 @@ impl<'a> CheckedSuffix<'a> {
         sets_hold(self.claim.row(under.row), self.claim.classes())
     }
 
-    /// Whether the fixup behind has the same kept row.
+    /// Returns whether the next fixup has the same kept row.
     fn shares_row(self, under: TestedFixup) -> bool
         requires { UnderTest self under }
         ensures { IsTrue result → SharesRow self.entry under }
@@ -66,8 +66,8 @@ impl<'a> CheckedSuffix<'a> {
         }
     }
 
-    /// Whether the next word adds a base, by a fixup with the same kept row. If this base goes on with the
-    /// runs of the fixup under test, they were tested there with the same labels.
+    /// Returns whether the next word adds a base, by a fixup with the same kept row. If this base
+    /// continues the runs of the fixup under test, they were tested there with the same labels.
     pub(crate) fn goes_on(self, under: TestedFixup, base: Base) -> bool
         requires { UnderTest self under }
         ensures { IsTrue result → GoesOn self.entry under base }
@@ -79,7 +79,7 @@ impl<'a> CheckedSuffix<'a> {
             .adds(under.at + 1, u64::from(under.fixup.offset) + WORD, base)
     }
 
-    /// The state of a fixup in two classes, with its label.
+    /// Returns the state of a fixup in two classes, with its label.
     pub(crate) fn state(self, under: TestedFixup, c: usize, d: usize) -> TestedState
         requires under { UnderTest self under }
         requires c { c < length self.claim.registers.now + 1 }

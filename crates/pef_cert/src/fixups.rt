@@ -1,4 +1,4 @@
-//! Fixups along a program: which fixups a relocation program makes, and how long it is.
+//! Fixups along a program: the fixups that a relocation program makes, and its length.
 
 mod additions;
 mod walk;

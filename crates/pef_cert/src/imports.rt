@@ -10,10 +10,10 @@ use crate::claim::{CheckedSuffix, Claim};
 use crate::feasible::TestedFixup;
 use pef_reloc::Base;
 
-/// How many imports can be named in nine bits.
+/// How many imports have a number of nine bits.
 const SMALL_IMPORTS: u32 = 512;
 
-/// How many halfwords the addition of an import takes.
+/// Returns how many halfwords the addition of an import takes.
 fn import_cost(import: u32) -> u32
     ensures { result ≡ import_cost import }
 {
@@ -21,7 +21,8 @@ fn import_cost(import: u32) -> u32
 }
 
 impl<'a> Claim<'a> {
-    /// The index of the next import at index `at`: one more than that of the last import before it.
+    /// Returns the index of the next import at index `at`: one more than that of the last import
+    /// before it.
     fn import_index(self, at: usize) -> u64
         requires { at ≤ length self.fixups.now }
         ensures { result ≡ index_after (take at self.entry.fixups.now) 0 }
@@ -72,7 +73,7 @@ impl<'a> CheckedSuffix<'a> {
         true
     }
 
-    /// Tests those with register C in a class.
+    /// Tests those in the states with register C in a class.
     fn line_imports_hold(self, under: TestedFixup, import: u32, c: usize) -> bool
         requires under { UnderTest self under }
         requires import { import < 2 ^ 31 }

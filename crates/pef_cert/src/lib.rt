@@ -1,7 +1,7 @@
-//! Certificates: that a relocation program has no more halfwords than any other that makes the same fixups.
+//! Certificates that a relocation program has no more halfwords than any other that makes the same fixups.
 //!
-//! [`check`] says whether a [`Certificate`] is valid for some fixups. [`Certificate::read`] and [`Certificate::print`] are the text of
-//! certificates: a certificate for each section of a script.
+//! [`check`] decides whether a [`Certificate`] is valid for some fixups. [`Certificate::read`] and
+//! [`Certificate::print`] read and print the text of certificates: a certificate for each section of a script.
 #![tactic(auto)]
 
 mod additions;

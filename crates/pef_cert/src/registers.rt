@@ -8,7 +8,7 @@ ghost use Rattle.pef_reloc.specs.Deliveries.{all_meet, is_section, uses_section}
 use crate::classes::class_of;
 use pef_reloc::{Base, Fixup};
 
-/// Whether registers are the sections that the fixups use, rising.
+/// Returns whether registers are the sections that the fixups use, rising.
 pub(crate) fn registers_hold(fixups: &[Fixup], registers: &[u32]) -> bool
     ensures { Says result (RegistersOf fixups.now registers.now) }
 {
@@ -21,7 +21,7 @@ pub(crate) fn registers_hold(fixups: &[Fixup], registers: &[u32]) -> bool
     all_registered(fixups, registers)
 }
 
-/// Whether numbers rise.
+/// Returns whether numbers rise.
 pub fn rise(numbers: &[u32]) -> bool
     ensures { result ≡ rises numbers.now }
 {
@@ -31,7 +31,7 @@ pub fn rise(numbers: &[u32]) -> bool
     }
 }
 
-/// Whether numbers rise, from above a first one.
+/// Returns whether numbers rise, from above a first one.
 fn rise_above(first: u32, numbers: &[u32]) -> bool
     ensures { result ≡ above_all first numbers.now }
 {
@@ -45,7 +45,8 @@ fn rise_above(first: u32, numbers: &[u32]) -> bool
     true
 }
 
-/// Whether the fixups use each of some sections. The first that they don't ends it.
+/// Returns whether the fixups use each of some sections. The test ends at the first that they don't
+/// use.
 fn all_used(fixups: &[Fixup], sections: &[u32]) -> bool
     ensures { result ≡ all_meet (uses_section fixups.now) sections.now }
 {
@@ -57,7 +58,7 @@ fn all_used(fixups: &[Fixup], sections: &[u32]) -> bool
     true
 }
 
-/// Whether fixups use a section.
+/// Returns whether fixups use a section.
 pub fn uses_section(fixups: &[Fixup], section: u32) -> bool
     ensures { result ≡ uses_section fixups.now section }
 {
@@ -69,7 +70,7 @@ pub fn uses_section(fixups: &[Fixup], section: u32) -> bool
     false
 }
 
-/// Whether a base is a section.
+/// Returns whether a base is a section.
 fn is_section(base: Base, section: u32) -> bool
     ensures { result ≡ is_section section base }
 {
@@ -79,7 +80,7 @@ fn is_section(base: Base, section: u32) -> bool
     }
 }
 
-/// Whether each section of the fixups is one of the registers.
+/// Returns whether each section of the fixups is one of the registers.
 fn all_registered(fixups: &[Fixup], registers: &[u32]) -> bool
     ensures { result ≡ all_registered registers.now fixups.now }
 {
@@ -91,7 +92,7 @@ fn all_registered(fixups: &[Fixup], registers: &[u32]) -> bool
     true
 }
 
-/// Whether a base is an import or one of the registers.
+/// Returns whether a base is an import or one of the registers.
 fn is_registered(registers: &[u32], base: Base) -> bool
     ensures { result ≡ is_registered registers.now base }
 {

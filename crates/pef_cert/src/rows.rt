@@ -39,7 +39,7 @@ pub struct KeptRows<'a> {
 }
 
 impl LabelRows {
-    /// No rows, of a width.
+    /// Returns no rows, with this width.
     pub fn new(alloc: Global, width: usize) -> LabelRows
         ensures { result ≡ record { width = width; rows = [] } }
     {
@@ -50,8 +50,8 @@ impl LabelRows {
         }
     }
 
-    /// Rows of a width from what is kept of them: for each kept row, how many rows there are up to its last one;
-    /// and the kept rows, one after the other. `None` if no rows are kept like this.
+    /// Returns rows with this width from their kept form: for each kept row, how many rows there are up to its
+    /// last one; and the kept rows, one after the other. `None` if this isn't the kept form of any rows.
     pub fn from_kept(width: usize, ends: Vec<usize>, values: Vec<u32>) -> Option<LabelRows>
         ensures kept { IsSome result ↔ RowsFull width ends.items values.items }
         ensures rows { IfSome result (λ rows. rows ≡ record { width = width; rows = rows_from width 0 ends.items values.items }) }
@@ -66,7 +66,7 @@ impl LabelRows {
         })
     }
 
-    /// What is kept of the rows, from which `from_kept` makes them again.
+    /// Returns the kept form of the rows, from which `from_kept` makes them again.
     pub fn into_kept(self) -> (Vec<usize>, Vec<u32>)
         ensures rows { self.rows ≡ rows_from self.width 0 result.0.items result.1.items }
         ensures full { RowsFull self.width result.0.items result.1.items }
@@ -74,14 +74,14 @@ impl LabelRows {
         (self.ends, self.values)
     }
 
-    /// How many labels a row has.
+    /// Returns how many labels a row has.
     pub fn width(&self) -> usize
         ensures { result ≡ self.now.width }
     {
         self.width
     }
 
-    /// How many rows there are.
+    /// Returns how many rows there are.
     pub fn rows(&self) -> usize
         ensures { result ≡ length self.now.rows }
     {
@@ -91,11 +91,11 @@ impl LabelRows {
         }
     }
 
-    /// Puts a row behind the others. A row that equals the last one takes no memory.
+    /// Puts a row after the others. A row that equals the last one allocates nothing.
     ///
     /// # Errors
     ///
-    /// Where there is no memory for the row, the rows stay as they were.
+    /// If an allocation fails, the rows are unchanged.
     pub fn push(&mut self, row: &[u32]) -> Result<(), AllocError>
         requires wide { length row.now ≡ self.old.width }
         requires room { length self.old.rows + 1 < 2 ^ 64 }
@@ -105,12 +105,12 @@ impl LabelRows {
         self.push_many(row, 1)
     }
 
-    /// Adds a row after the others, so many times. It is kept once, and takes no memory if it equals the last
-    /// one.
+    /// Puts a row after the others, this many times. It is kept once, and allocates nothing if it equals the
+    /// last one.
     ///
     /// # Errors
     ///
-    /// If there is no memory for the row, the rows stay as they were.
+    /// If an allocation fails, the rows are unchanged.
     pub fn push_many(&mut self, row: &[u32], count: usize) -> Result<(), AllocError>
         requires wide { length row.now ≡ self.old.width }
         requires room { length self.old.rows + count < 2 ^ 64 }
@@ -132,7 +132,7 @@ impl LabelRows {
         Ok(())
     }
 
-    /// Goes through the rows, equal neighbours at once.
+    /// Returns an iterator over the rows that takes equal neighbours together.
     pub fn runs(&self) -> LabelRuns<'_>
         ensures { result ≡ self.now.rows }
     {
@@ -144,7 +144,8 @@ impl LabelRows {
         }
     }
 
-    /// The row at an index. The newest is at hand; another takes steps by the logarithm of how many are kept.
+    /// Returns the row at an index. For the last row this takes constant time; for another, steps by the
+    /// logarithm of the number of kept rows.
     pub fn row(&self, index: usize) -> &[u32]
         requires { index < length self.now.rows }
         ensures is { result.now ≡ slice_index_or self.now.rows index [] }
@@ -160,11 +161,11 @@ impl LabelRows {
         kept.row(place)
     }
 
-    /// The same rows, the last first.
+    /// Returns the same rows, the last first.
     ///
     /// # Errors
     ///
-    /// There is no memory for them.
+    /// `AllocError` if an allocation fails.
     pub fn reversed(&self, alloc: Global) -> Result<LabelRows, AllocError>
         ensures { IfOk result (λ rows. rows ≡ record { width = self.now.width; rows = reverse self.now.rows }) }
     {
@@ -181,7 +182,7 @@ impl LabelRows {
         Ok(rows)
     }
 
-    /// The rows as they are kept, of which no two neighbours are equal.
+    /// Returns the rows in their kept form, in which no two neighbours are equal.
     pub fn kept(&self) -> KeptRows<'_>
         ensures width { result.width ≡ self.now.width }
         ensures rows { self.now.rows ≡ rows_from result.width 0 result.ends.now result.values.now }
@@ -196,7 +197,7 @@ impl LabelRows {
 }
 
 impl<'a> KeptRows<'a> {
-    /// The place of the kept row that the row at an index equals.
+    /// Returns the place of the kept row that the row at an index equals.
     fn place_of(self, index: usize) -> usize
         requires full { RowsFull self.width self.ends.now self.values.now }
         requires inside { index < length (rows_from self.width 0 self.ends.now self.values.now) }
@@ -205,7 +206,7 @@ impl<'a> KeptRows<'a> {
         self.ends.partition_point(|end| *end <= index)
     }
 
-    /// How many rows there are before those that equal a kept one.
+    /// Returns how many rows there are before those that equal a kept one.
     fn rows_before(self, place: usize) -> usize
         requires full { RowsFull self.width self.ends.now self.values.now }
         requires inside { place ≤ length self.ends.now }
@@ -217,7 +218,7 @@ impl<'a> KeptRows<'a> {
         }
     }
 
-    /// A kept row.
+    /// Returns a kept row.
     fn row(self, place: usize) -> &'a [u32]
         requires full { RowsFull self.width self.ends.now self.values.now }
         requires inside { place < length self.ends.now }
@@ -230,7 +231,7 @@ impl<'a> KeptRows<'a> {
     }
 }
 
-/// Whether there are kept rows, and their values end with those of a row.
+/// Returns whether there are kept rows, and their values end with those of a row.
 fn end_with(ends: &[usize], values: &[u32], row: &[u32]) -> bool
     ensures yes { result ≡ true → EndsWith ends.now values.now row.now }
     ensures no { result ≡ false → 0 < length ends.now → (front : List ℕ) → values.now ≢ front ++ row.now }
@@ -238,7 +239,7 @@ fn end_with(ends: &[usize], values: &[u32], row: &[u32]) -> bool
     !ends.is_empty() && values.ends_with(row)
 }
 
-/// Whether rows are kept by these ends and values.
+/// Returns whether these ends and values are the kept form of rows.
 fn are_kept(width: usize, ends: &[usize], values: &[u32]) -> bool
     ensures { Says result (RowsFull width ends.now values.now) }
 {
@@ -247,7 +248,7 @@ fn are_kept(width: usize, ends: &[usize], values: &[u32]) -> bool
         && neighbours_differ(width, ends.len().saturating_sub(1), values)
 }
 
-/// Whether ends rise, from above 0.
+/// Returns whether ends rise, from above 0.
 fn rise(ends: &[usize]) -> bool
     ensures { result ≡ above_all 0 ends.now }
 {
@@ -261,7 +262,7 @@ fn rise(ends: &[usize]) -> bool
     true
 }
 
-/// Whether each of the first `count` rows differs from the one after it.
+/// Returns whether each of the first `count` rows differs from the one after it.
 fn neighbours_differ(width: usize, count: usize, values: &[u32]) -> bool
     requires { width * count ≤ length values.now }
     ensures { Says result (NeighboursDiffer width count values.now) }
@@ -279,7 +280,7 @@ fn neighbours_differ(width: usize, count: usize, values: &[u32]) -> bool
     true
 }
 
-/// Rows that are left to go through.
+/// An iterator over rows.
 #[derive(Debug, Drop)]
 pub struct LabelRuns<'a> {
     width: usize,
@@ -301,7 +302,7 @@ impl<'a> Model for LabelRuns<'a> {
     ghost invariant = { λ r. RunsFull r.width r.passed r.ends.now r.values.now };
 }
 
-/// Equal rows.
+/// Equal rows, one after another.
 #[derive(Clone, Copy, Debug)]
 pub struct LabelRun<'a> {
     /// How many there are.
@@ -311,7 +312,7 @@ pub struct LabelRun<'a> {
 }
 
 impl<'a> LabelRuns<'a> {
-    /// The next rows that are equal: one or more, and all that follow each other. `None` after the last.
+    /// Returns the next equal rows: one or more, and all that follow one another. `None` after the last.
     pub fn next_run(&mut self) -> Option<LabelRun<'a>>
         ensures run { MatchOption result (self.old ≡ []) (λ run. (0 < run.rows) × (self.old ≡ replicate run.rows run.labels.now ++ self.new)) }
         ensures whole { IfSome result (λ run. (others : List (List ℕ)) → self.new ≢ run.labels.now ∷ others) }

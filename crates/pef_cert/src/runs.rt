@@ -22,7 +22,7 @@ pub(crate) struct TestedState {
 }
 
 impl<'a> Claim<'a> {
-    /// Whether the fixup at index `at` adds `base` at a position.
+    /// Returns whether the fixup at index `at` adds `base` at a position.
     pub(crate) fn adds(self, at: usize, position: u64, base: Base) -> bool
         ensures { result ≡ adds_first position base (drop at self.entry.fixups.now) }
     {
@@ -32,7 +32,7 @@ impl<'a> Claim<'a> {
         }
     }
 
-    /// Whether the fixups from index `at` on add two bases side by side at a position.
+    /// Returns whether the fixups from index `at` on add two bases side by side at a position.
     fn adds_pair(self, at: usize, position: u64, first: Base, second: Base) -> bool
         requires position { position < 2 ^ 60 }
         requires at { at < length self.fixups.now + 1 }
@@ -43,7 +43,7 @@ impl<'a> Claim<'a> {
 }
 
 impl<'a> CheckedSuffix<'a> {
-    /// Whether the label is at most 1 and the extension from index `at` on.
+    /// Returns whether the label is at most 1 plus the extension from index `at` on.
     pub(crate) fn follows(self, tested: TestedState, at: usize, position: u64) -> bool
         requires tests { Tests self tested }
         requires sees { Sees self at }
@@ -53,8 +53,8 @@ impl<'a> CheckedSuffix<'a> {
         u64::from(tested.label) <= 1 + self.value(at, position, tested.c, tested.d)
     }
 
-    /// Whether an index is behind the fixup under test and its label in the same classes is at least the
-    /// tested one. If a run goes on there, the tests of that label cover every longer end.
+    /// Returns whether an index is after the fixup under test and its label in the same classes is at
+    /// least the tested one. If a run continues there, the tests of that label cover every longer end.
     fn covers(self, tested: TestedState, at: usize) -> bool
         requires tests { Tests self tested }
         requires from { tested.at ≤ at }
@@ -68,7 +68,7 @@ impl<'a> CheckedSuffix<'a> {
         self.label(at, tested.c, tested.d) >= tested.label
     }
 
-    /// Tests a label behind each run of a base, `stride` bytes apart, that begins at a position.
+    /// Tests a label after each run of a base, `stride` bytes apart, that begins at a position.
     pub(crate) fn row_holds(
         self,
         tested: TestedState,
@@ -101,7 +101,7 @@ impl<'a> CheckedSuffix<'a> {
         true
     }
 
-    /// Tests a label behind each run of two bases side by side, `stride` bytes apart, that begins at a
+    /// Tests a label after each run of two bases side by side, `stride` bytes apart, that begins at a
     /// position.
     pub(crate) fn pairs_hold(
         self,
@@ -136,7 +136,7 @@ impl<'a> CheckedSuffix<'a> {
         true
     }
 
-    /// Tests a label behind each run of imports, from one on, that begins at a position.
+    /// Tests a label after each run of imports, from one on, that begins at a position.
     pub(crate) fn imports_hold(self, tested: TestedState, position: u64, first: u32) -> bool
         requires tests { Tests self tested }
         requires position { position < 2 ^ 32 }

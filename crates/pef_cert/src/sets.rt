@@ -2,7 +2,8 @@ ghost use Rattle.std.specs.Prelude.{◌≡◌, ◌+◌, ◌*◌, ◌<◌, ℕ, l
 ghost use Rattle.pef_cert.specs.Kept.Sets.{LineHolds, LinesHold, RowHolds};
 ghost use Rattle.pef_cert.specs.Fixups.Answers.{Says};
 
-/// Whether the change of one register changes the labels of a row by at most 1, with so many classes.
+/// Returns whether the change of one register changes the labels of a row by at most 1, with this
+/// many classes.
 pub(crate) fn sets_hold(row: &[u32], classes: usize) -> bool
     requires { length row.now ≡ classes * classes }
     ensures { Says result (RowHolds row.now classes) }
@@ -15,7 +16,7 @@ pub(crate) fn sets_hold(row: &[u32], classes: usize) -> bool
     true
 }
 
-/// The same for one class of register C, and for one of register D.
+/// Returns the same for one class of register C, and for one of register D.
 fn lines_hold(row: &[u32], classes: usize, k: usize) -> bool
     requires square { length row.now ≡ classes * classes }
     requires under { k < classes }
@@ -24,7 +25,7 @@ fn lines_hold(row: &[u32], classes: usize, k: usize) -> bool
     line_holds(row, k * classes, 1, classes) && line_holds(row, k, classes, classes)
 }
 
-/// Whether `count` labels, `stride` places apart, differ by at most 1.
+/// Returns whether `count` labels, `stride` places apart, differ by at most 1.
 fn line_holds(row: &[u32], from: usize, stride: usize, count: usize) -> bool
     requires some { 0 < count }
     requires inside { (x : ℕ) → x < count → from + x * stride < length row.now }

@@ -21,7 +21,7 @@ impl<'a> CheckedSuffix<'a> {
         true
     }
 
-    /// Tests those with register C in a class.
+    /// Tests those in the states with register C in a class.
     fn line_singles_hold(self, under: TestedFixup, cost: u32, c: usize) -> bool
         requires under { UnderTest self under }
         requires c { c < length self.claim.registers.now + 1 }
@@ -35,7 +35,7 @@ impl<'a> CheckedSuffix<'a> {
         true
     }
 
-    /// Tests that of a state.
+    /// Tests the label of one state.
     fn single_holds(self, under: TestedFixup, cost: u32, c: usize, d: usize) -> bool
         requires under { UnderTest self under }
         requires c { c < length self.claim.registers.now + 1 }

@@ -9,12 +9,12 @@ use crate::classes::class_of;
 use crate::fixups::WORD;
 use pef_reloc::{Base, Fixup};
 
-/// The most words that a skip adds to behind the first.
+/// The most words that a skip adds to after the first.
 const MORE_WORDS: u32 = 62;
 
 impl<'a> CheckedSuffix<'a> {
-    /// The least that a skip of no words leads to at index `at`, whose fixup has a section, with register C
-    /// in a class: 1 and the extension behind some of the words of the section there.
+    /// Returns the least value of a skip of no words at index `at`, whose fixup has a section, with
+    /// register C in a class: 1 plus the extension after some of the words of the section there.
     pub(crate) fn least_skip(self, at: usize, fixup: Fixup, section: u32, c: usize) -> u64
         requires skips { Skips self at fixup section }
         requires c { c < length self.claim.registers.now + 1 }

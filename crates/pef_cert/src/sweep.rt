@@ -13,8 +13,8 @@ use crate::fixups::WORD;
 use pef_reloc::{Base, Fixup};
 
 impl<'a> Claim<'a> {
-    /// The extension at the start, where the labels are feasible. They are tested from the last fixup to
-    /// the first, with what was found at the 1,024 indices behind.
+    /// Returns the extension at the start, if the labels are feasible. They are tested from the last fixup
+    /// to the first, with the results of the 1,024 indices after.
     pub(crate) fn start_value(self) -> Option<u64>
         requires { Shaped self }
         ensures { MatchOption result (Feasible (labels_claimed self.entry) self.entry.fixups.now → ⊥) (λ value. Feasible (labels_claimed self.entry) self.entry.fixups.now × (value ≡ extension_at (labels_claimed self.entry) self.entry.fixups.now start)) }
@@ -54,7 +54,7 @@ impl<'a> Claim<'a> {
         Some(behind.value(0, 0, c, d))
     }
 
-    /// Which kept row is that of an index, from that of the index behind it.
+    /// Returns the kept row of an index, from that of the index after it.
     fn row_before(self, row: usize, at: usize) -> usize
         requires shaped { Shaped self }
         requires behind { IsRowOf self.kept.ends.now row (at + 1) }
@@ -67,7 +67,7 @@ impl<'a> Claim<'a> {
         }
     }
 
-    /// Where the word of the fixup before index `at` ends: 0 at the first.
+    /// Returns the end of the word of the fixup before index `at`, or 0 at the first.
     fn word_end(self, at: usize) -> u64
         requires { at ≤ length self.fixups.now }
         ensures { result ≡ word_end self.entry.fixups.now at }
@@ -79,7 +79,7 @@ impl<'a> Claim<'a> {
     }
 }
 
-/// Whether all labels of a row are 0.
+/// Returns whether all labels of a row are 0.
 fn is_zero(row: &[u32]) -> bool
     ensures { Says result (RowIsZero row.now) }
 {
@@ -92,8 +92,8 @@ fn is_zero(row: &[u32]) -> bool
 }
 
 impl<'a> CheckedSuffix<'a> {
-    /// The least skips at index `at`, which has this fixup, by the class of register C. `None` if the word
-    /// before leaves no gap: no move leads to the fixup then.
+    /// Returns the least skips at index `at`, which has this fixup, by the class of register C. `None` if
+    /// there is no gap after the previous word, because then no move leads to the fixup.
     fn skips_after_gap(self, at: usize, fixup: Fixup) -> Option<[u32; MAX_CLASSES]>
         requires knows { Knows self (at + 1) }
         requires here { slice_get self.claim.fixups.now at ≡ Some fixup }
@@ -106,7 +106,7 @@ impl<'a> CheckedSuffix<'a> {
         Some(self.least_skips(at, fixup))
     }
 
-    /// The same wherever the word before ends.
+    /// Returns the same wherever the previous word ends.
     fn least_skips(self, at: usize, fixup: Fixup) -> [u32; MAX_CLASSES]
         requires knows { Knows self (at + 1) }
         requires here { slice_get self.claim.fixups.now at ≡ Some fixup }
@@ -119,7 +119,7 @@ impl<'a> CheckedSuffix<'a> {
         }
     }
 
-    /// The same where the fixup has a section.
+    /// Returns the same if the fixup has a section.
     fn section_skips(self, at: usize, fixup: Fixup, section: u32) -> [u32; MAX_CLASSES]
         requires { Skips self at fixup section }
         ensures { SkipsAre self.entry.claim fixup (drop (at + 1) self.entry.claim.fixups.now) result }

@@ -1,8 +1,8 @@
 //! The text of certificates: a certificate for each section of a script, line by line.
 //!
-//! `Certificate::read` takes a text in version 1 or 2, or gives the first line that breaks a rule.
-//! `Certificate::print` gives the text of certificates in version 2, where equal neighbouring rows of labels have
-//! one line. In each version a list of certificates has one text, and each text has at most one list.
+//! `Certificate::read` reads a text in version 1 or 2, or reports the first line that breaks a rule.
+//! `Certificate::print` returns the text of certificates in version 2, in which equal neighbouring rows of labels
+//! have one line. In each version a list of certificates has one text, and each text has at most one list.
 
 mod fault;
 mod fields;

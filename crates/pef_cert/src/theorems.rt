@@ -11,21 +11,21 @@ ghost use Rattle.pef_reloc.specs.Steps.{Least, State, next_state};
 ghost use Rattle.pef_reloc.specs.declared.fixup.Fixup.{Fixup};
 ghost use Rattle.pef_reloc.specs.declared.instr.Instr.{Instr};
 
-/// The extension of labels, in one line: the label at the offset of the next fixup, and away from it the
+/// The extension of labels in one line: the label at the offset of the next fixup, and away from it the
 /// least value of its table, with skips of up to 63 words.
 pub fn extension_of_labels()
     ensures { (l : Labels) (f : Fixup) (rest : List Fixup) (p c d : ℕ) → extension l (f ∷ rest) p c d ≡ at_offset (p == f.offset) (l.label (length (f ∷ rest)) c d) (moved_value (f.offset - p) (l.label (length (f ∷ rest)) c d) (offer_at l f rest c d)) }
 {}
 
-/// Where labels are feasible, the extension falls by at most an instruction's length along every
-/// instruction that fits, is no repeat and adds just the next fixups, one or more or none: at every
-/// position and at every register value.
+/// If labels are feasible, the extension falls by at most an instruction's length along every
+/// instruction that fits, isn't a repeat and adds exactly the next fixups, one or more or none. This
+/// holds at every position and at every register value.
 pub fn extensions_fall()
     ensures { (l : Labels) (fixups made rest left : List Fixup) (s : State) (instr : Instr) → Trusted l fixups made rest → StandsBehind made s → is_flat_instr instr ≡ true → Delivers instr s rest left → extension_at l rest s ≤ instr_length instr + extension_at l left (next_state instr s) }
 {}
 
-/// What carries that: a label is at most every offer, and so at most the extension from every position,
-/// which is at most 2 more; and the change of one register changes the extension by at most 1.
+/// The facts that this needs: a label is at most every offer, and so at most the extension from every
+/// position, which is at most 2 more; and the change of one register changes the extension by at most 1.
 pub fn labels_are_near()
     ensures offer { (l : Labels) (fixups made rest : List Fixup) (f : Fixup) (c d x : ℕ) → Trusted l fixups made (f ∷ rest) → c < classes l → d < classes l → offer_at l f rest c d ≡ Some x → l.label (length (f ∷ rest)) c d ≤ x }
     ensures below { (l : Labels) (fixups made rest : List Fixup) (f : Fixup) (p c d : ℕ) → Trusted l fixups made (f ∷ rest) → c < classes l → d < classes l → l.label (length (f ∷ rest)) c d ≤ extension l (f ∷ rest) p c d }

@@ -1,4 +1,4 @@
--- A fixup adds a base at a position just where it is that addition.
+-- A fixup adds a base at a position exactly if it is that addition.
 use Rattle.std.proofs.Common.{◌≡◌, ℕ, inl, inr, true, false, ◌==◌, refl, ap, sym, ◌∙◌, eq-eqb}
 use Rattle.std.proofs.lemmas.Bool.Decides.{eqb_tells}
 use Rattle.pef_reloc.specs.declared.fixup.Base.{Base}
@@ -8,7 +8,7 @@ use Rattle.pef_reloc.specs.Steps.{added}
 use Rattle.std.proofs.lemmas.Bool.{and_parts}
 use Rattle.pef_cert.specs.Fixups.Additions.{is_added, same_base}
 
--- a base is itself, and one that passes for it is it
+-- a base equals itself, and one that tests equal to it is it
 same_base-refl : (b : Base) → same_base b b ≡ true
 same_base-refl (Section k) = eq-eqb k k refl
 same_base-refl (Import k) = eq-eqb k k refl

@@ -1,4 +1,5 @@
--- A program's way along fixups: it is flat and makes them just where it gets to their end.
+-- The walk of a program along fixups: the program is flat and makes them exactly if the walk
+-- reaches their end.
 use Rattle.std.proofs.Common.{◌≡◌, ℕ, ◌+◌, ◌-◌, ◌<◌, ◌≤◌, inl, inr, Bool, true, false, ◌==◌, List, [], ◌∷◌, ◌++◌, length, cond, Option, None, Some, refl, ap, sym, ◌∙◌, arith}
 use Rattle.std.specs.Option.{option_and_then}
 use Rattle.std.proofs.Math.Path.{ap₂}
@@ -15,7 +16,7 @@ use Rattle.pef_cert.specs.Fixups.Answers.{Says}
 use Rattle.pef_cert.specs.Fixups.Kept.Walks.{Place, passed, placed, start_place, stepped, walked}
 use Rattle.pef_cert.proofs.FixupsProofs.FixupLemmas.{is_added-is, is_added-refl}
 
--- nothing is left
+-- no fixup is left
 abbrev pub at_end : Option Place → Bool
 at_end None = false
 at_end (Some p) = length p.left == 0
@@ -77,7 +78,7 @@ imports-fail n i p m left all under so first =
 pub imports-end : (n i p m : ℕ) (left : List Fixup) (all : Option (List Fixup)) → n ≤ i → behind (numbered (n - i) p m) left ≡ all → Some left ≡ all
 imports-end n i p m left all past so = behind_nothing (numbered (n - i) p m) left all (numbered-end n i p m past) so
 
--- what is left, and what was made before it
+-- the fixups left, and those made before them
 first_is : (a f : Fixup) (made rest left : List Fixup) (b : Bool) → is_added a.offset a.base f ≡ b → (behind made rest ≡ Some left → rest ≡ made ++ left) → option_and_then (behind made) (cond b (Some rest) None) ≡ Some left → f ∷ rest ≡ a ∷ (made ++ left)
 first_is a f made rest left true is others e = ap₂ (λ g fs. g ∷ fs) (is_added-is a.offset a.base f is) (others e)
 first_is a f made rest left false is others e = absurd (cc)
@@ -135,7 +136,7 @@ walked-made [] p t none e =
     record { flat = refl; makes = sym (ap (λ (q : Place). q.left) same ∙ none) }
 walked-made (x ∷ xs) p t none e = made_more x xs p (passed x p) t refl (λ q. walked-made xs q t none) e
 
--- and one that is flat and makes the fixups is walked along to their end
+-- and a program that is flat and makes the fixups is walked along to their end
 made-walked : (xs : List Instr) (s : State) (fixups : List Fixup) → is_flat xs ≡ true → trace xs s ≡ fixups → walked xs (record { state = s; left = fixups }) ≡ Some (record { state = state_after xs s; left = [] })
 made-walked [] s fixups flat makes = ap (λ (fs : List Fixup). walked [] (record { state = s; left = fs })) (sym makes)
 made-walked (x ∷ xs) s fixups flat makes =

@@ -1,4 +1,4 @@
--- What is read is what is printed: lines.
+-- Lines that are read are those that are printed.
 use Rattle.std.proofs.Common.{◌≡◌, ℕ, ◌+◌, List, ◌∷◌, ◌++◌, Option, Some, Result, Ok, Err, refl, ap, ◌∙◌}
 use Rattle.std.specs.Option.{ok_or}
 use Rattle.pef_lines.specs.Lines.{cut_at}
@@ -8,12 +8,12 @@ use Rattle.pef_words.specs.Results.{◌>>=◌}
 use Rattle.pef_cert.specs.Text.Grammar.{Left, line_read}
 use Rattle.pef_cert.proofs.TextProofs.ReadLemmas.{said_first}
 
--- what is led to was led to by what the step gave
+-- the result of two steps comes from the result of the first
 pub step_ok : {A B P : Type 0} (step : Result A ℕ) (others : A → Result B ℕ) (y : B) → (step >>= others) ≡ Ok y → ((x : A) → step ≡ Ok x → others x ≡ Ok y → P) → P
 step_ok (Ok x) others y is go = go x refl is
 step_ok (Err line) others y is go = absurd (cc)
 
--- a line that is read stands in front of what is left
+-- a line that is read is in front of the rest
 pub line_read-ok : {A P : Type 0} (says : List ℕ → Option A) (old new : Left) (x : A) → line_read says old ≡ Ok (x, new) → ((line : List ℕ) → says line ≡ Some x → old.text ≡ line ++ 0x0A ∷ new.text → P) → P
 unfolding line_read
 line_read-ok {A = A} says old new x is go =

@@ -1,4 +1,4 @@
--- What is read is what is printed: what each line says.
+-- The values of lines that are read are those that are printed.
 use Rattle.std.proofs.Common.{◌≡◌, ◌≢◌, ℕ, zero, suc, ◌+◌, ◌*◌, ◌-◌, ◌/◌, ◌%◌, ◌<◌, ◌≤◌, ◌==◌, ◌&&◌, Bool, not, true, false, cond, List, [], ◌∷◌, ◌++◌, Option, None, Some, length, slice_index, refl, sym, ap, ap₂, ◌∙◌, subst, arith}
 use Rattle.std.specs.Prelude.{codes, decimal, nat_le, nat_lt, option_map}
 use Rattle.std.specs.List.{AllByRecursion}
@@ -66,7 +66,7 @@ version_line-is line version is = by (bytes_eq line (codes "pefcert 1")) refl (b
         subst (λ (v : Version). line ≡ codes "pefcert" ++ words_text (version_word v ∷ [])) same (is_word line (codes "pefcert 2") second)
     by false first false second is = absurd (cc)
 
--- the line that a head stands for
+-- the line of a head
 abbrev pub HeadText : Head → List ℕ → Type 0
 HeadText End line = line ≡ codes "end" ++ words_text []
 HeadText (Section n) line = (line ≡ codes "section" ++ words_text (decimal n ∷ [])) × IsNumber n

@@ -7,7 +7,7 @@ use Rattle.pef_reloc.proofs.Laws.{spelled-nothing, spelled-one}
 use Rattle.std.proofs.lemmas.Bool.{and_parts}
 use Rattle.pef_cert.specs.Text.Printed.{halfword_words, words_text}
 
--- words behind words
+-- words after words
 pub words_text-append : (some others : List (List ℕ)) → words_text (some ++ others) ≡ words_text some ++ words_text others
 words_text-append [] others = refl
 words_text-append (word ∷ some) others = ap (λ (t : List ℕ). 0x20 ∷ word ++ t) (words_text-append some others) ∙ ap (λ (t : List ℕ). 0x20 ∷ t) (sym (append_assoc word (words_text some) (words_text others)))
@@ -35,7 +35,7 @@ instrs_text-more xs i d done more total under grown left =
     ∙ ap (λ (t : List ℕ). done ++ t) (sym (instrs_text-one (get_or xs i d) (drop (i + 1) xs)) ∙ ap instrs_text (sym (drop_more xs i d under)))
     ∙ left
 
--- where instructions fit, the first one does and the others do
+-- if instructions fit, the first one does and the others do
 pub instrs_fit-parts : (xs : List Instr) (i : ℕ) (d : Instr) → i < length xs → instrs_fit (drop i xs) ≡ true → (instr_fits (get_or xs i d) ≡ true) × (instrs_fit (drop (i + 1) xs) ≡ true)
 instrs_fit-parts xs i d under fit = and_parts (instr_fits (get_or xs i d)) (instrs_fit (drop (i + 1) xs)) (ap instrs_fit (sym (drop_more xs i d under)) ∙ fit)
 

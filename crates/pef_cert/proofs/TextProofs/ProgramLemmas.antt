@@ -1,4 +1,4 @@
--- What a `program` line says.
+-- The value of a `program` line.
 use Rattle.std.proofs.Common.{◌≡◌, ℕ, false, List, [], ◌∷◌, ◌++◌, Option, None, Some, Result, Ok, refl, option_map, ap}
 use Rattle.std.specs.Prelude.{codes}
 use Rattle.std.proofs.lemmas.Iterator.Adapters.{option_map_id}
@@ -13,7 +13,7 @@ use Rattle.pef_words.specs.Refusals.{◌>>=◌}
 use Rattle.pef_cert.specs.Text.Words.{behind, first_of, halfwords_in, words_of}
 use Rattle.pef_cert.proofs.TextProofs.ReadLemmas.{fails_first, said_first, then_read}
 
--- behind its first word
+-- the rest after its first word
 program_line-behind : (halfwords : ℕ) (line : List ℕ) (words : List (List ℕ)) → behind (codes "program") (words_of line) ≡ Some words → program_line halfwords line ≡ then_read (bytes_spelled words) (program_in halfwords)
 unfolding program_line
 program_line-behind halfwords line words first = rw first (by (bytes_spelled words))
@@ -31,7 +31,7 @@ pub program_taken : (result : Result (List Instr) CertFault) (number halfwords :
     → Says result number (program_in halfwords bytes) → Says result number (program_line halfwords line)
 program_taken result number halfwords line bytes words first spelled is = rw (program_line-behind halfwords line words first, said_first (bytes_spelled words) number bytes spelled) is
 
--- words of which the first is no `-` spell the bytes of their halfwords
+-- words whose first isn't `-` spell the bytes of their halfwords
 pub halfwords_say : (result : Result (List ℕ) CertFault) (number : ℕ) (words : List (List ℕ)) (first : List ℕ) (others : List (List ℕ)) (old : List ℕ) → Some (first, others) ≡ first_of words → false ≡ bytes_eq first (codes "-") → old ≡ []
     → Says result number (option_map (λ more. old ++ more) (halfwords_in words)) → Says result number (bytes_spelled words)
 halfwords_say result number [] first others old is other none says = absurd (cc)

@@ -65,7 +65,7 @@ ranges_of-run (suc n) at row others apart =
     let front = ap (with_row at row) (ranges_of-run n (at + 1) row others apart) in
     front ∙ rw (same_labels row, last) refl
 
--- rows begin with equal ones, and the others don't go on with these
+-- rows begin with equal ones, and the others don't continue them
 pub record Split (row : List ℕ) (rows : List (List ℕ)) : Type 0 where
   pub n : ℕ
   pub others : List (List ℕ)

@@ -1,4 +1,4 @@
--- What a line says is what is read from it.
+-- The value of a line is the one that is read from it.
 use Rattle.std.proofs.Common.{◌≡◌, ◌==◌, true, false, ℕ, suc, ◌+◌, ◌-◌, ◌<◌, ◌≤◌, List, [], ◌∷◌, ◌++◌, Option, None, Some, Result, Ok, Err, length, length-append, replicate, refl, arith, ap, ap₂, sym, ◌∙◌, subst, eq-eqb}
 use Rattle.std.specs.Option.{ok_or}
 use Rattle.std.proofs.lemmas.Bool.{ne_eqb}
@@ -15,12 +15,12 @@ use Rattle.pef_cert.specs.Text.Kept.Reading.{Going, NextLine, RangesGoing, Says,
 use Rattle.pef_cert.specs.Text.Views.{FailsAs}
 use Rattle.pef_cert.specs.Text.Lines.{Range, head_line, range_line, row_line, version_line}
 
--- where there is no line, its number is refused
+-- if there is no line, its number is refused
 pub line_missing : {A : Type 0} (says : List ℕ → Option A) (old new : Left) → NextLine None old new → line_read says old ≡ Err new.number
 unfolding line_read
 line_missing says old new none = rw (none.0, ap (λ (l : Left). l.number) none.1) refl
 
--- a line is read by what it says
+-- a line is read by its value
 pub line_taken : {A : Type 0} (result : Result A CertFault) (says : List ℕ → Option A) (line : Line) (old new : Left) → NextLine (Some line) old new → Says result line.number (says line.bytes.now) → Takes result new (line_read says old)
 unfolding line_read
 line_taken {A = A} result says line old new next is = rw (next.1) (by result (says line.bytes.now) (rw (next.0) at is))
@@ -53,34 +53,34 @@ going_on version text certificates behind g =
     let e : g.most ≡ suc (g.most - 1) = omega (arith, g.more) in
     record { most = g.most - 1; more = omega (arith, g.more); whole = sym (ap (λ n. certificates_read version n certificates behind) e) ∙ g.whole }
 
--- what something leads to, where it is there
+-- the result of a second step, if the first has one
 abbrev pub then_read : {A B : Type 0} → Option A → (A → Option B) → Option B
 then_read None others = None
 then_read (Some x) others = others x
 
--- a fault of what comes first is one of the whole
+-- a fault of the first part is one of the whole
 pub fails_first : {A B : Type 0} (fault : CertFault) (number : ℕ) (first : Option A) (others : A → Option B) → FailsAs fault (ok_or first number) → FailsAs fault (ok_or (then_read first others) number)
 fails_first (BadCertificate l) number None others is = (let same : number ≡ l = cc in rw same refl)
 fails_first (BadCertificate l) number (Some x) others is = absurd (cc)
 fails_first OutOfMemory number first others is = tt
 
--- what was read is what the line says
+-- the value that was read is that of the line
 pub said_first : {A : Type 0} (value : Option A) (number : ℕ) (x : A) → ok_or value number ≡ Ok x → value ≡ Some x
 said_first None number x is = absurd (cc)
 said_first (Some y) number x is = (let same : y ≡ x = cc in rw same refl)
 
--- a fault of a step is one of what the step leads to
+-- a fault of a step is one of the steps after it
 pub fails_step : {A B : Type 0} (fault : CertFault) (step : Result A ℕ) (others : A → Result B ℕ) → FailsAs fault step → FailsAs fault (step >>= others)
 fails_step (BadCertificate l) (Ok x) others is = absurd (cc)
 fails_step (BadCertificate l) (Err n) others is = (let same : n ≡ l = cc in rw same refl)
 fails_step OutOfMemory step others is = tt
 
--- rows of which the first is read lead to the others
+-- rows whose first is read give the others
 pub rows_read-step : (width at count : ℕ) (rows : List (List ℕ)) (row : List ℕ) (left next : Left) → at < count → line_read (row_line width at) left ≡ Ok (row, next)
     → rows_read width (at + 1) (count - (at + 1)) (rows ++ row ∷ []) next ≡ rows_read width at (count - at) rows left
 rows_read-step width at count rows row left next under is = sym (rows_read-more width at count rows left under ∙ rw is refl)
 
--- and where it is refused, they are
+-- and if the first is refused, they are
 pub rows_read-fails : (fault : CertFault) (width at count : ℕ) (rows : List (List ℕ)) (left : Left) → at < count → FailsAs fault (line_read (row_line width at) left) → FailsAs fault (rows_read width at (count - at) rows left)
 rows_read-fails fault width at count rows left under is =
     rw (rows_read-more width at count rows left under) (fails_step fault (line_read (row_line width at) left) (λ row. rows_read width (at + 1) (count - (at + 1)) (rows ++ row.0 ∷ []) row.1) is)
@@ -98,7 +98,7 @@ ranges_read-more width count most rows left under enough =
     let apart : (length rows == count) ≡ false = ne_eqb (length rows) count (λ same. omega (arith, same, under)) in
     ap (λ (n : ℕ). ranges_read width count n rows left) e ∙ rw apart refl
 
--- what the next line says, by where the next range begins and the labels before it
+-- the value of the next line, by the beginning of the next range and the labels before it
 next_range : (width count first : ℕ) (rows : List (List ℕ)) (before : List ℕ) (behind : Left) → length rows ≡ first → before ≡ last_labels rows
     → line_read (range_line width count (length rows) (last_labels rows)) behind ≡ line_read (range_line width count first before) behind
 next_range width count first rows before behind at last = ap₂ (λ (n : ℕ) (labels : List ℕ). line_read (range_line width count n labels) behind) at (sym last)
@@ -122,7 +122,7 @@ ranges-step width count first last rows before labels behind next old going at b
       whole = sym (step ∙ read) ∙ going.whole;
     }
 
--- and where it is refused, they are
+-- and if it is refused, they are
 pub ranges-fail : (fault : CertFault) (width count first : ℕ) (rows : List (List ℕ)) (before : List ℕ) (behind old : Left) → RangesGoing width count rows behind old
     → length rows ≡ first → before ≡ last_labels rows → first < count
     → FailsAs fault (line_read (range_line width count first before) behind) → FailsAs fault (ranges_read width count (count + 1) [] old)
@@ -154,7 +154,7 @@ pub certificates-begin : (text : List ℕ) (version : Version) (next : Left) →
 unfolding certificates_of
 certificates-begin text version next is less = record { most = length text; more = omega arith; whole = rw is refl }
 
--- a certificate that was read stands behind the others
+-- a certificate that was read is after the others
 pub certificates-more : (version : Version) (text : List ℕ) (certificates : List Certified) (behind head next : Left) (section : ℕ) (certificate : Certified) → Going version text certificates behind
     → line_read head_line behind ≡ Ok (Section section, head) → length head.text + 1 ≤ length behind.text
     → certificate_read version section head ≡ Ok (certificate, next) → length next.text ≤ length head.text → Going version text (certificates ++ certificate ∷ []) next
@@ -162,7 +162,7 @@ certificates-more version text certificates behind head next section certificate
     let g = going_on version text certificates behind going in
     record { most = g.most; more = omega (arith, g.more); whole = rw (is, certified) at g.whole }
 
--- and behind the last line these are all
+-- and after the last line these are all
 pub certificates-end : (version : Version) (text : List ℕ) (certificates : List Certified) (behind head : Left) → Going version text certificates behind → line_read head_line behind ≡ Ok (End, head) → true ≡ (length head.text == 0) → certificates_of text ≡ Ok certificates
 certificates-end version text certificates behind head going is empty =
     let g = going_on version text certificates behind going in

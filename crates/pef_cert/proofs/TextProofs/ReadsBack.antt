@@ -1,4 +1,4 @@
--- What is printed is read again: certificates.
+-- Printed certificates are read again.
 use Rattle.std.proofs.Common.{◌≡◌, ℕ, zero, suc, ◌+◌, ◌-◌, ◌<◌, ◌≤◌, true, List, [], ◌∷◌, ◌++◌, Some, Ok, length, refl, sym, ap, ◌∙◌, append_assoc, arith}
 use Rattle.std.specs.Prelude.{codes, decimal}
 use Rattle.std.specs.List.{AllByRecursion}
@@ -47,7 +47,7 @@ version-above : (version : Version) → all_above 0x20 (version_word version ∷
 version-above One = refl
 version-above Two = refl
 
--- the lines behind the first of a certificate
+-- the lines after the first of a certificate
 abbrev pub body_text : Version → Certified → List ℕ → List ℕ
 body_text version c rest = line_text (codes "fixups") (decimal (length c.labels - 1) ∷ [])
     ++ (line_text (codes "length") (decimal (program_length c.program) ∷ [])
@@ -130,7 +130,7 @@ version_reads_back version certificates all =
     ∙ ap (λ r. r >>= λ v. certificates_read v.0 (length whole) [] v.1) begun
     ∙ certificates_read-text version (length whole) [] certificates 2 all enough
 
--- what is printed of certificates is read as these
+-- the printed text of certificates is read as these
 pub reads_back : (certificates : List Certified) → AllByRecursion Printable certificates → certificates_of (certificates_text certificates) ≡ Ok certificates
 unfolding certificates_text
 reads_back certificates all = version_reads_back Two certificates all

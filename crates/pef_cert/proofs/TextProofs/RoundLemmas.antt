@@ -1,4 +1,4 @@
--- What is printed is read again: programs, registers and labels.
+-- Printed programs, registers and labels are read again.
 use Rattle.std.proofs.Common.{◌≡◌, ◌≢◌, ℕ, zero, suc, ◌+◌, ◌*◌, ◌/◌, ◌%◌, ◌^◌, ◌-◌, ◌<◌, ◌≤◌, ◌==◌, ◌&&◌, Bool, true, false, List, [], ◌∷◌, ◌++◌, Option, None, Some, Result, Ok, cond, length, replicate, refl, sym, ap, ◌∙◌, subst, append_assoc, arith, eq-eqb, nat_eq}
 use Rattle.std.specs.Prelude.{codes, decimal, nat_lt}
 use Rattle.std.specs.List.{AllByRecursion}
@@ -130,7 +130,7 @@ pairs-spelled : (instrs : List Instr) → ArePairs (spelled instrs)
 pairs-spelled [] = rw spelled-nothing tt
 pairs-spelled (instr ∷ instrs) = rw (spelled-one instr instrs) (pairs-append (halfword_bytes (halfwords_of instr)) (spelled instrs) (pairs-halfwords (halfwords_of instr)) (pairs-spelled instrs))
 
--- a program's words are no `-`, unless it has none
+-- a program's words aren't `-`, unless it has none
 bytes_spelled-pairs : (bytes : List ℕ) → ArePairs bytes → 0 < length bytes → bytes_spelled (halfword_words bytes) ≡ Some bytes
 bytes_spelled-pairs [] are some = absurd (omega arith)
 bytes_spelled-pairs (byte ∷ []) are some = absurd are
@@ -195,7 +195,7 @@ rows_read-text width at before (row ∷ rows) number rest all small =
     let whole = append_assoc before (row ∷ []) rows in
     record { number = others.number; is = rw (parts, line) (others.is ∙ ap (λ (rs : List (List ℕ)). Ok (rs, record { number = others.number; text = rest })) whole) }
 
--- what is true of all of some rows in a row is true of the last of them
+-- a fact of all of some rows in a row is one of the last of them
 all-behind : {A : Type 0} (P : A → Type 0) (xs ys : List A) → AllByRecursion P (xs ++ ys) → AllByRecursion P ys
 all-behind P [] ys all = all
 all-behind P (x ∷ xs) ys all = all-behind P xs ys all.1

@@ -1,4 +1,4 @@
--- What is printed is read again: lines, words and numbers.
+-- Printed lines, words and numbers are read again.
 use Rattle.std.proofs.Common.{◌≡◌, ℕ, zero, suc, ◌+◌, ◌*◌, ◌/◌, ◌%◌, ◌^◌, ◌<◌, ◌≤◌, ◌&&◌, Bool, true, false, List, [], ◌∷◌, ◌++◌, Option, None, Some, Ok, get_or, refl, ap, ◌∙◌, append_assoc, arith, eq-eqb}
 use Rattle.std.specs.Prelude.{codes, decimal, nat_lt}
 use Rattle.std.specs.Str.{bytes_eq}
@@ -35,7 +35,7 @@ above-lower low high (b ∷ bytes) less is =
     let under = ltb-true high b p.0 in
     and_from (nat_lt low b) (above low bytes) (lt-ltb low b (omega (arith, under))) (above-lower low high bytes less p.1)
 
--- bytes end where the first is that they don't have
+-- the bytes end at the first byte that they don't have
 cut_at-above : (byte : ℕ) (bytes rest : List ℕ) → above byte bytes ≡ true → cut_at byte (bytes ++ byte ∷ rest) ≡ Some (bytes, rest)
 cut_at-above byte [] rest is = rw (eq-eqb byte byte refl) refl
 cut_at-above byte (b ∷ bytes) rest is =
@@ -64,7 +64,7 @@ words_text-above (word ∷ words) is =
     let p = and_parts (above 0x20 word) (all_above 0x20 words) is in
     above-append 0x0A word (words_text words) (above-lower 0x0A 0x20 word (omega arith) p.0) (words_text-above words p.1)
 
--- a line of words is read by what they say
+-- a line of words is read by the value of its words
 pub line_read-line : {A : Type 0} (says : List ℕ → Option A) (number : ℕ) (word : List ℕ) (words : List (List ℕ)) (rest : List ℕ) (x : A) → above 0x20 word ≡ true → all_above 0x20 words ≡ true → says (word ++ words_text words) ≡ Some x
     → line_read says (record { number = number; text = line_text word words ++ rest }) ≡ Ok (x, record { number = number + 1; text = rest })
 unfolding line_read

@@ -1,4 +1,5 @@
--- What is read is what is printed: certificates. So a list has one text, and a text at most one list.
+-- Certificates that are read are those that are printed. So a list has one text, and a text at most
+-- one list.
 use Rattle.std.proofs.Common.{◌≡◌, ◌≢◌, ◌⊎◌, inl, inr, ℕ, zero, suc, ◌+◌, ◌-◌, ◌==◌, Bool, true, false, cond, List, [], ◌∷◌, ◌++◌, Result, Ok, Err, length, length-append, replicate, refl, sym, ap, ap₂, ◌∙◌, subst, append_assoc, arith}
 use Rattle.std.specs.Prelude.{codes, decimal}
 use Rattle.std.specs.List.{AllByRecursion}
@@ -25,7 +26,7 @@ line_in : (text word rest : List ℕ) (words : List (List ℕ)) (line : List ℕ
 line_in text word rest words line parts is =
     parts ∙ ap (λ (l : List ℕ). l ++ 0x0A ∷ rest) is ∙ sym (append_assoc (word ++ words_text words) (0x0A ∷ []) rest)
 
--- rows of labels, behind those that were read before
+-- rows of labels, after those that were read before
 record RowsText (width at n : ℕ) (before : List (List ℕ)) (old : Left) (all : List (List ℕ)) (new : Left) : Type 0 where
   more : List (List ℕ)
   are : all ≡ before ++ more
@@ -200,7 +201,7 @@ certificate_read-is version section old new c is =
           (r.text ∙ ap (λ (rest : List ℕ). labels_text version labels.0 ++ rest) behind))));
     }))))))))))
 
--- certificates behind others
+-- certificates after others
 record CertificatesText (version : Version) (before : List Certified) (old : Left) (all : List Certified) : Type 0 where
   more : List Certified
   are : all ≡ before ++ more
@@ -222,7 +223,7 @@ ended-are version before all old left line is parts read = by (length left.text 
         }
     by false none read = absurd (cc)
 
--- or another certificate stands there, and others behind it
+-- or another certificate follows, and others after it
 one_more : (version : Version) (section : ℕ) (before all : List Certified) (old left next : Left) (line : List ℕ) (c : Certified) → (line ≡ codes "section" ++ words_text (decimal section ∷ [])) × IsNumber section → old.text ≡ line ++ 0x0A ∷ left.text
     → CertificateText version section left c next → CertificatesText version (before ++ c ∷ []) next all → CertificatesText version before old all
 one_more version section before all old left next line c is parts one others = record {
@@ -250,7 +251,7 @@ certificates_read-are version (suc n) before all old is =
     line_read-ok head_line old head.1 head.0 first (λ line said parts.
     headed-are version n head.0 before all old head.1 line (head_line-is line head.0 said) parts rest (λ others next read. certificates_read-are version n others all next read)))
 
--- a text that is read is that of what is read in its version, which can be printed
+-- a text that is read is the text of its certificates in its version, which can be printed
 record ReadText (text : List ℕ) (certificates : List Certified) : Type 0 where
   version : Version
   printable : AllByRecursion Printable certificates

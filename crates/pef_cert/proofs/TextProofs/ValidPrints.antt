@@ -23,7 +23,7 @@ use Rattle.pef_cert.specs.Text.Grammar.{row_width}
 use Rattle.pef_cert.specs.Text.Printed.{IsNumber, IsRow, Printable}
 use Rattle.pef_reloc.specs.Limits.{most_sections}
 
--- what holds at each place of a list holds of its members
+-- a fact of each place of a list is one of its members
 each_number : (ns : List ℕ) → ((i : ℕ) → i < length ns → IsNumber (slice_index ns i)) → AllByRecursion IsNumber ns
 each_number [] small = tt
 each_number (n ∷ ns) small = (small 0 (omega arith), each_number ns (λ i under. small (suc i) (omega (arith, under))))
@@ -69,7 +69,7 @@ label_small l index (f ∷ rest) left c d w fit last under_c under_d most =
           omega (arith, small))
     ]
 
--- the class outside of a place in a square
+-- the outer class of a place in a square
 outer_class : (j count : ℕ) → 0 < count → j < count * count → j / count < count
 outer_class j count some inside = (div-lt_iff_lt-mul {k = count} {x = j} {y = count} some).1 inside
 

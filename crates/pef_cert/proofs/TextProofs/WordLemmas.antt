@@ -10,7 +10,7 @@ use Rattle.pef_cert.specs.Text.Words.{none_left, words_of}
 pub words_of-last : (line : List ℕ) → cut_at 0x20 line ≡ None → words_of line ≡ line ∷ []
 words_of-last line none = parts_of-last 0x20 line none
 
--- the first word ends where the first space stands
+-- the first word ends at the first space
 pub words_of-cut : (line word rest : List ℕ) → cut_at 0x20 line ≡ Some (word, rest) → words_of line ≡ word ∷ words_of rest
 words_of-cut line word rest cut = parts_of-cut 0x20 line word rest cut
 
@@ -24,7 +24,7 @@ words_of-some (b ∷ bytes) = by (b == 0x20) (words_of bytes)
     by false [] = refl
     by false (word ∷ words) = refl
 
--- none is left where nothing is behind the last word that was taken
+-- none is left if the line ends after the last word that was taken
 pub none_left-is : (o : Option (Bor (List ℕ))) (b : Bool) → is_some o ≡ not b → b ≡ none_left (words_in (option_copied o))
 none_left-is None true is = refl
 none_left-is None false is = absurd (cc)

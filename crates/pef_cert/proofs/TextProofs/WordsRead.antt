@@ -1,4 +1,4 @@
--- What is read is what is printed: words and numbers.
+-- Words and numbers that are read are those that are printed.
 use Rattle.std.proofs.Common.{◌≡◌, ℕ, ◌+◌, ◌*◌, ◌-◌, ◌/◌, ◌%◌, ◌^◌, ◌<◌, ◌≤◌, ◌==◌, ◌&&◌, Bool, true, false, cond, List, [], ◌∷◌, ◌++◌, Option, None, Some, refl, sym, ap, ap₂, ◌∙◌, subst, append_assoc, arith}
 use Rattle.std.specs.Prelude.{decimal, nat_le, nat_lt}
 use Rattle.std.specs.List.{AllByRecursion}
@@ -15,7 +15,7 @@ use Rattle.pef_cert.specs.Text.Printed.{IsNumber, number_words, words_text}
 use Rattle.pef_cert.specs.Text.Words.{behind, first_of, none_left, numbers_in, provided, words_of}
 use Rattle.pef_cert.proofs.TextProofs.WordLemmas.{words_of-some}
 
--- what steps lead to
+-- the results of steps
 
 pub then_some : {A B P : Type 0} (first : Option A) (others : A → Option B) (y : B) → (first >>= others) ≡ Some y → ((x : A) → first ≡ Some x → others x ≡ Some y → P) → P
 then_some None others y is go = absurd (cc)
@@ -101,13 +101,13 @@ below-digit b d is =
     let p = below-some 10 (hex_value b) d is in
     (digit-is b d p.0 p.1, p.1)
 
--- digits lead to no smaller number
+-- more digits don't make a number smaller
 digits_value-least : (so_far n : ℕ) (bytes : List ℕ) → digits_value 10 so_far bytes ≡ Some n → so_far ≤ n
 digits_value-least so_far n [] is = (let same : so_far ≡ n = cc in omega (arith, same))
 digits_value-least so_far n (b ∷ bytes) is = option_and_then_some (λ d. digits_value 10 (so_far * 10 + d) bytes) (below 10 (hex_value b)) n is
     (λ d digit later. (let least = digits_value-least (so_far * 10 + d) n bytes later in omega (arith, least)))
 
--- digits behind those of a number are those of the number that they lead to
+-- digits after those of a number are those of the number that they give together
 digits_value-decimal : (so_far n : ℕ) (bytes : List ℕ) → 0 < so_far → n < 2 ^ 64 → digits_value 10 so_far bytes ≡ Some n → decimal so_far ++ bytes ≡ decimal n
 digits_value-decimal so_far n [] some small is =
     let same : so_far ≡ n = cc in

@@ -1,4 +1,4 @@
--- What a fixup adds where, and what is left of fixups behind those that they begin with.
+-- The base that a fixup adds and its offset, and the fixups left after those at the front.
 use Rattle.std.specs.Prelude.{ℕ, ◌==◌, Bool, false, ◌&&◌, if◌then◌else◌, List, [], ◌∷◌, Option, None, Some}
 use Rattle.std.specs.Option.{option_and_then}
 use Rattle.pef_reloc.specs.declared.fixup.Base.{Base}
@@ -15,12 +15,12 @@ same_base (Import j) (Import k) = j == k
 abbrev pub is_added : ℕ → Base → Fixup → Bool
 is_added p b f = f.offset == p && same_base f.base b
 
--- what is left of fixups behind the first, where it adds a base at an offset
+-- the fixups left after the first, if it adds a base at an offset
 abbrev pub behind_first : ℕ → Base → List Fixup → Option (List Fixup)
 behind_first p b [] = None
 behind_first p b (f ∷ rest) = if is_added p b f then Some rest else None
 
--- what is left of fixups behind those that they begin with
+-- the fixups left after those at the front
 abbrev pub behind : List Fixup → List Fixup → Option (List Fixup)
 behind [] fixups = Some fixups
 behind (a ∷ made) fixups = option_and_then (behind made) (behind_first a.offset a.base fixups)

@@ -1,6 +1,6 @@
--- Answers to a question.
+-- Results of a test.
 use Rattle.std.specs.Prelude.{◌≡◌, Bool, true}
 
--- an answer that is yes just where something holds
+-- a result is true exactly if something holds
 abbrev pub Says : Bool → Type 0 → Type 0
 Says answer P = (answer ≡ true → P) × (P → answer ≡ true)

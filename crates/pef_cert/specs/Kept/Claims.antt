@@ -1,4 +1,4 @@
--- What a check keeps in view: the labels that are claimed, and what it has found behind the fixup under test.
+-- The state of a check: the labels that are claimed, and the results after the fixup under test.
 use Rattle.std.specs.Prelude.{◌≡◌, ◌≤◌, ◌<◌, ℕ, zero, suc, ◌+◌, ◌-◌, ◌*◌, ◌%◌, true, ◌&&◌, List, [], ◌∷◌, length, take, drop, slice_get, slice_index, slice_index_or, Some}
 use Rattle.std.specs.List.{AllByRecursion}
 use Rattle.std.specs.Option.{option_map_or}
@@ -26,7 +26,7 @@ use Rattle.pef_cert.specs.Valid.{RegistersOf, labels_in}
 abbrev pub labels_claimed : Claim → Labels
 labels_claimed c = labels_in c.registers.now (rows_from c.kept.width 0 c.kept.ends.now c.kept.values.now) (length c.fixups.now)
 
--- a claim of the right shape
+-- a claim with the right shape
 pub record Shaped (c : Claim) : Type 0 where
   pub fit : fixups_fit c.fixups.now ≡ true
   pub registers : RegistersOf c.fixups.now c.registers.now
@@ -39,31 +39,31 @@ abbrev pub rows_before : List ℕ → ℕ → ℕ
 rows_before ends zero = 0
 rows_before ends (suc q) = slice_index ends q
 
--- a kept row stands for the row of an index
+-- a kept row is the row of an index
 pub record IsRowOf (ends : List ℕ) (q j : ℕ) : Type 0 where
   pub kept : q < length ends
   pub after : rows_before ends q ≤ j
   pub before : j < slice_index ends q
 
--- the least skips with register C in each class, at a fixup where others are left
+-- the least skips with register C in each class, at a fixup when others are left
 abbrev pub SkipsAre : Claim → Fixup → List Fixup → List ℕ → Type 0
 SkipsAre claim f rest least = (c d : ℕ) → c < classes (labels_claimed claim) → d < classes (labels_claimed claim) → OfferIs (labels_claimed claim) f rest c d (slice_index least c) f.base
 
--- where the word of the fixup before an index ends
+-- the end of the word of the fixup before an index
 abbrev pub word_end : List Fixup → ℕ → ℕ
 word_end fixups zero = 0
 word_end fixups (suc k) = option_map_or (λ f. f.offset + 4) (slice_get fixups k) 0
 
--- the same, where the word before the fixup of an index leaves a gap: elsewhere no move leads to the fixup
+-- the same, if there is a gap before the word of an index; otherwise no move leads to the fixup
 abbrev pub SkipsKept : Claim → ℕ → Fixup → List Fixup → List ℕ → Type 0
 SkipsKept claim j f rest least = word_end claim.fixups.now j < f.offset → SkipsAre claim f rest least
 
--- what is known of an index behind the fixup under test, from what the ring has of rows and of skips
+-- the facts of an index after the fixup under test, from the rows and skips in the ring
 pub record KnownAt (claim : Claim) (ring : List ℕ) (least : List (List ℕ)) (j : ℕ) : Type 0 where
   pub row : IsRowOf claim.kept.ends.now (slice_index ring (j % 1024)) j
   pub offer : (f : Fixup) (rest : List Fixup) → drop j claim.fixups.now ≡ f ∷ rest → SkipsKept claim j f rest (slice_index_or least (j % 1024) [])
 
--- what is known of an index, where all is of the right shape
+-- the facts of an index, if everything has the right shape
 pub record Sees (b : CheckedSuffix) (j : ℕ) : Type 0 where
   pub shaped : Shaped b.claim
   pub rows : length b.rows.now ≡ 1024
@@ -71,7 +71,7 @@ pub record Sees (b : CheckedSuffix) (j : ℕ) : Type 0 where
   pub inside : j ≤ length b.claim.fixups.now
   pub known : KnownAt b.claim b.rows.now b.skips.now j
 
--- what is known of the indices from one on
+-- the facts of the indices from one on
 pub record Swept (claim : Claim) (ring : List ℕ) (least : List (List ℕ)) (from : ℕ) : Type 0 where
   pub shaped : Shaped claim
   pub rows : length ring ≡ 1024
@@ -81,11 +81,11 @@ pub record Swept (claim : Claim) (ring : List ℕ) (least : List (List ℕ)) (fr
 abbrev pub Knows : CheckedSuffix → ℕ → Type 0
 Knows b from = Swept b.claim b.rows.now b.skips.now from
 
--- the labels behind an index are feasible
+-- the labels after an index are feasible
 abbrev pub FeasibleBehind : Claim → ℕ → Type 0
 FeasibleBehind claim at = FeasibleFrom (labels_claimed claim) (index_after (take (at + 1) claim.fixups.now) 0) (drop (at + 1) claim.fixups.now)
 
--- a state at a fixup, whose label is tested against what lies behind
+-- a state at a fixup, whose label is tested against the later fixups
 pub record Tests (b : CheckedSuffix) (s : TestedState) : Type 0 where
   pub knows : Knows b (s.at + 1)
   pub beyond : FeasibleBehind b.claim s.at
@@ -107,17 +107,17 @@ state_of claim u c d = record {
 abbrev pub label_behind : CheckedSuffix → TestedState → ℕ → ℕ
 label_behind b s j = (labels_claimed b.claim).label (length b.claim.fixups.now - j) s.c s.d
 
--- each label behind a tested one meets the test of a run of a base that begins there
+-- for each label after a tested one the test of a run of a base that begins there holds
 abbrev pub RowMet : CheckedSuffix → TestedState → ℕ → Base → Type 0
 RowMet b s w base = (j p : ℕ) → s.at < j → adds_first p base (drop j b.claim.fixups.now) ≡ true
     → row_test (labels_claimed b.claim) (label_behind b s j) w base s.c s.d 512 p (drop j b.claim.fixups.now) ≡ true
 
--- and of a run of two bases side by side
+-- and that of a run of two bases side by side
 abbrev pub PairsMet : CheckedSuffix → TestedState → ℕ → Base → Base → Type 0
 PairsMet b s w first second = (j p : ℕ) → s.at < j → (adds_first p first (drop j b.claim.fixups.now) && adds_first (p + 4) second (drop (j + 1) b.claim.fixups.now)) ≡ true
     → pairs_test (labels_claimed b.claim) (label_behind b s j) w first second s.c s.d 512 p (drop j b.claim.fixups.now) ≡ true
 
--- an index behind a tested state whose label is no lower
+-- an index after a tested state whose label is no lower
 pub record Covers (b : CheckedSuffix) (s : TestedState) (j : ℕ) : Type 0 where
   pub after : s.at < j
   pub low : s.label ≤ label_behind b s j
@@ -133,7 +133,7 @@ pub record UnderTest (b : CheckedSuffix) (u : TestedFixup) : Type 0 where
 abbrev pub row_at : Claim → ℕ → List ℕ
 row_at claim at = slice_index_or (rows_from claim.kept.width 0 claim.kept.ends.now claim.kept.values.now) at []
 
--- a fixup under test and the one behind it have the same kept row
+-- a fixup under test and the next one have the same kept row
 pub record SharesRow (b : CheckedSuffix) (u : TestedFixup) : Type 0 where
   pub inside : u.at + 1 < length b.claim.fixups.now
   pub row : IsRowOf b.claim.kept.ends.now u.row (u.at + 1)
@@ -143,19 +143,19 @@ pub record GoesOn (b : CheckedSuffix) (u : TestedFixup) (base : Base) : Type 0 w
   pub shares : SharesRow b u
   pub adds : adds_first (u.fixup.offset + 4) base (drop (u.at + 1) b.claim.fixups.now) ≡ true
 
--- an index at a section's fixup, where all is known behind it and labels are feasible there
+-- an index at a section's fixup, if everything after it is known and labels are feasible there
 pub record Skips (b : CheckedSuffix) (at : ℕ) (f : Fixup) (k : ℕ) : Type 0 where
   pub knows : Knows b (at + 1)
   pub beyond : FeasibleBehind b.claim at
   pub here : slice_get b.claim.fixups.now at ≡ Some f
   pub base : f.base ≡ Section k
 
--- rows of the right shape for so many fixups and classes
+-- rows with the right shape for this many fixups and classes
 pub record RowsFit (count classes : ℕ) (rows : List (List ℕ)) : Type 0 where
   pub count_is : length rows ≡ count + 1
   pub row : AllByRecursion (λ row. length row ≡ classes * classes) rows
 
--- a claim is of these fixups, registers and rows
+-- a claim has these fixups, registers and rows
 pub record IsClaim (fixups : List Fixup) (registers : List ℕ) (rows : List (List ℕ)) (claim : Claim) : Type 0 where
   pub fixups_are : claim.fixups.now ≡ fixups
   pub registers_are : claim.registers.now ≡ registers

@@ -10,7 +10,7 @@ abbrev pub is_registered : List ℕ → Base → Bool
 is_registered registers (Section k) = nat_lt (class_of registers k) (length registers)
 is_registered registers (Import k) = true
 
--- the base of each fixup is
+-- the base of each fixup is an import or one of the registers
 abbrev pub all_registered : List ℕ → List Fixup → Bool
 all_registered registers [] = true
 all_registered registers (f ∷ fixups) = is_registered registers f.base && all_registered registers fixups

@@ -1,9 +1,9 @@
--- Rows as they are kept: those that are left to go through, those at an end, and the one at an index.
+-- The kept form of rows: those left to iterate over, those at an end, and the one at an index.
 use Rattle.std.specs.Prelude.{◌≡◌, ◌<◌, ◌≤◌, ℕ, ◌-◌, ◌*◌, ◌++◌, true, List, length, slice_index}
 use Rattle.pef_cert.specs.Rising.{above_all}
 use Rattle.pef_cert.specs.Rows.{NeighboursDiffer}
 
--- what is true of kept rows behind so many rows
+-- the facts of kept rows after this many rows
 pub record RunsFull (width passed : ℕ) (ends values : List ℕ) : Type 0 where
   pub rising : above_all passed ends ≡ true
   pub full : length values ≡ width * length ends

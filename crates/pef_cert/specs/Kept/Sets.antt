@@ -1,11 +1,11 @@
 -- The labels of a row, along its lines.
 use Rattle.std.specs.Prelude.{◌≡◌, ◌≤◌, ◌<◌, ℕ, ◌+◌, ◌*◌, List, length, slice_index}
 
--- labels of a row at places that lie so far apart differ by at most 1
+-- labels of a row at places this far apart differ by at most 1
 abbrev pub LineHolds : List ℕ → ℕ → ℕ → ℕ → Type 0
 LineHolds row from stride count = (x y : ℕ) → x < count → y < count → slice_index row (from + x * stride) ≤ 1 + slice_index row (from + y * stride)
 
--- all lines of a row, of so many classes: along register D, and along register C
+-- all lines of a row, with this many classes: along register D, and along register C
 abbrev pub LinesHold : List ℕ → ℕ → ℕ → Type 0
 LinesHold row count k = LineHolds row (k * count) 1 count × LineHolds row k count count
 

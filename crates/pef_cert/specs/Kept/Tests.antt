@@ -21,7 +21,8 @@ AllTests l index f rest = (c d : ℕ) → c < classes l → d < classes l → ad
 abbrev pub label_of : Labels → Fixup → List Fixup → ℕ → ℕ → ℕ
 label_of l f rest c d = l.label (length (f ∷ rest)) c d
 
--- the addition of a fixup alone, in so many halfwords: of a state, of those with register C in a class, of all
+-- the addition of a fixup alone, in this many halfwords: for a state, for those with register C in a class,
+-- for all
 abbrev pub single_test : Labels → ℕ → Fixup → List Fixup → ℕ → ℕ → Bool
 single_test l cost f rest c d = nat_le (label_of l f rest c d) (cost + extension l rest (f.offset + 4) c d)
 
@@ -38,7 +39,7 @@ runs_of_c l k f rest c d = row_test l (label_of l f rest c d) 4 (Section k) c d 
 abbrev pub runs_of_d : Labels → ℕ → Fixup → List Fixup → ℕ → ℕ → Bool
 runs_of_d l k f rest c d = row_test l (label_of l f rest c d) 4 (Section k) c d 512 f.offset (f ∷ rest) && row_test l (label_of l f rest c d) 8 (Section k) c d 512 f.offset (f ∷ rest)
 
--- those of a section in all states where a register holds it
+-- the runs of a section in all states in which a register holds it
 abbrev pub SectionRuns : Labels → ℕ → Fixup → List Fixup → Type 0
 SectionRuns l k f rest = (x : ℕ) → x < classes l → (runs_of_c l k f rest (class_of l.registers k) x ≡ true) × (runs_of_d l k f rest x (class_of l.registers k) ≡ true)
 

@@ -1,4 +1,4 @@
--- The numbers and the names of the refusals of certificates (docs/REFUSALS.md), which are this project's own.
+-- The numbers and the names of the refusals of certificates (docs/ERRORS.md), which are this project's own.
 use Rattle.std.specs.Prelude.{ℕ, Option, None, Some, List, ◌++◌, codes}
 use Rattle.std.specs.Fmt.{decimal}
 use Rattle.pef_cert.specs.declared.text.fault.CertFault.{CertFault}
@@ -17,7 +17,7 @@ abbrev pub fault_line : CertFault → Option ℕ
 fault_line (BadCertificate line) = Some line
 fault_line OutOfMemory = None
 
--- the text: the name, and the line where there is one
+-- the text: the name, and the line if there is one
 abbrev pub fault_text : CertFault → List ℕ
 fault_text (BadCertificate line) = codes "BadCertificate" ++ codes " line " ++ decimal line
 fault_text OutOfMemory = codes "OutOfMemory"

@@ -1,2 +1,2 @@
--- What only the code keeps and its private contracts cite. Nothing here is part of what the crate promises.
+-- Definitions that only the code and its private contracts cite. They are no part of the crate's contracts.
 pub mod Reading

@@ -1,5 +1,5 @@
--- What each line of a text of certificates says (docs/FORMATS.md, "Texts of certificates"), and nothing where it breaks
--- a rule by itself or against the lines before it.
+-- The value of each line of a text of certificates (docs/FORMATS.md, "Texts of certificates"), or none if it breaks a
+-- rule by itself or with the lines before it.
 use Rattle.std.specs.Prelude.{ℕ, ◌*◌, ◌==◌, ◌&&◌, Bool, List, [], ◌∷◌, Option, None, Some, codes, length, nat_le, nat_lt, not, option_map, if◌then◌else◌}
 use Rattle.std.specs.Option.{is_none}
 use Rattle.std.specs.Str.{bytes_eq}
@@ -14,7 +14,7 @@ use Rattle.pef_cert.specs.declared.text.fields.Version.{Version}
 use Rattle.pef_cert.specs.declared.text.fields.Version.TheVariants.{One, Two}
 use Rattle.pef_cert.specs.Text.Words.{behind, ended, first_number, first_of, halfwords_in, numbers_in, provided, words_of}
 
--- the most fixups that the text of a certificate is for, and the most sections that count as values of a register in it
+-- the most fixups of a certificate in a text, and the most sections that count as values of a register in it
 abbrev pub most_text_fixups : ℕ
 most_text_fixups = 65536
 
@@ -50,7 +50,7 @@ fixups_line line = do
 unfoldable pub length_line : List ℕ → Option ℕ
 length_line line = number_line (codes "length") line
 
--- `program HHHH ..`, or `program -` where it has no halfword: a readable program of so many halfwords
+-- `program HHHH ..`, or `program -` if it has no halfword: a readable program of this many halfwords
 
 -- the bytes that words spell
 abbrev pub bytes_spelled : List (List ℕ) → Option (List ℕ)
@@ -61,7 +61,7 @@ bytes_spelled (word ∷ words) = if bytes_eq word (codes "-") then ended words [
 abbrev pub is_readable : List ℕ → Bool
 is_readable bytes = is_none (program_fault bytes)
 
--- the instructions of bytes that are so many halfwords of a readable program
+-- the instructions in bytes that are a readable program of this many halfwords
 abbrev pub program_in : ℕ → List ℕ → Option (List Instr)
 program_in halfwords bytes = provided (length bytes == 2 * halfwords && is_readable bytes) (instrs_of bytes)
 
@@ -87,7 +87,7 @@ registers_line line = do
   registers ← registers_in words
   provided (rises registers && nat_le (length registers) most_text_registers) registers
 
--- version 1, `at I L ..`: the index that is wanted, and so many labels
+-- version 1, `at I L ..`: the expected index, and this many labels
 unfoldable pub row_line : ℕ → ℕ → List ℕ → Option (List ℕ)
 row_line width at line = do
   words ← behind (codes "at") (words_of line)
@@ -104,8 +104,7 @@ pub record Range : Type 0 where
   pub last : ℕ
   pub labels : List ℕ
 
--- the indices that are wanted, from one on and below the number of rows, and so many labels, which differ from those
--- before
+-- the expected indices, from one on and below the number of rows, and this many labels, which differ from those before
 unfoldable pub range_line : ℕ → ℕ → ℕ → List ℕ → List ℕ → Option Range
 range_line width count at before line = do
   words ← behind (codes "at") (words_of line)

@@ -1,4 +1,4 @@
--- How certificates are printed (docs/FORMATS.md, "Texts of certificates"), and which can be.
+-- How certificates are printed (docs/FORMATS.md, "Texts of certificates"), and which can be printed.
 use Rattle.std.specs.Prelude.{◌≡◌, ℕ, ◌+◌, ◌-◌, ◌^◌, ◌<◌, ◌≤◌, true, List, [], ◌∷◌, ◌++◌, None, codes, decimal, length, if◌then◌else◌}
 use Rattle.std.specs.List.{AllByRecursion}
 use Rattle.std.specs.Str.{bytes_eq}
@@ -13,7 +13,7 @@ use Rattle.pef_cert.specs.declared.text.fields.Version.TheVariants.{One, Two}
 use Rattle.pef_cert.specs.Text.Grammar.{row_width}
 use Rattle.pef_cert.specs.Text.Lines.{Range, most_text_fixups, most_text_registers}
 
--- words behind the first, each behind a space
+-- words after the first, each after a space
 abbrev pub words_text : List (List ℕ) → List ℕ
 words_text [] = []
 words_text (word ∷ words) = 0x20 ∷ word ++ words_text words
@@ -91,7 +91,7 @@ version_word Two = codes "2"
 unfoldable pub versioned_text : Version → List Certified → List ℕ
 versioned_text version certificates = line_text (codes "pefcert") (version_word version ∷ []) ++ each_text version certificates ++ line_text (codes "end") []
 
--- what is printed of some certificates
+-- the printed text of some certificates
 unfoldable pub certificates_text : List Certified → List ℕ
 certificates_text certificates = versioned_text Two certificates
 
@@ -99,13 +99,13 @@ certificates_text certificates = versioned_text Two certificates
 abbrev pub IsNumber : ℕ → Type 0
 IsNumber n = n < 2 ^ 32
 
--- a row of labels for so many classes
+-- a row of labels for this many classes
 pub record IsRow (width : ℕ) (row : List ℕ) : Type 0 where
   pub wide : length row ≡ width
   pub numbers : AllByRecursion IsNumber row
 
--- a certificate that a text can have: its program is readable, its registers rise, and it has a row for each fixup and
--- one for the end
+-- a certificate that can be in a text: its program is readable, its registers rise, and it has a row for each fixup
+-- and one for the end
 pub record Printable (c : Certified) : Type 0 where
   pub section : IsNumber c.section
   pub fits : instrs_fit c.program ≡ true

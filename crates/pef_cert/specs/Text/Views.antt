@@ -1,9 +1,9 @@
--- What an answer of reading says.
+-- What a result of reading says.
 use Rattle.std.specs.Prelude.{◌≡◌, ℕ, Result, Ok, Err}
 use Rattle.pef_cert.specs.declared.text.fault.CertFault.{CertFault}
 use Rattle.pef_cert.specs.declared.text.fault.CertFault.TheVariants.{BadCertificate, OutOfMemory}
 
--- an answer is the one that was wanted, where there was memory for it
+-- a result is the expected one, unless an allocation failed
 
 abbrev pub FailsAs : {A : Type 0} → CertFault → Result A ℕ → Type 0
 FailsAs (BadCertificate line) wanted = wanted ≡ Err line

@@ -8,15 +8,15 @@ use pef_reloc::{Base, Fixup};
 /// The bytes of a word.
 pub const WORD: u64 = pef_reloc::WORD as u64;
 
-/// Whether a fixup adds `base` at `offset`, in bytes.
+/// Returns whether a fixup adds `base` at `offset`, in bytes.
 pub fn adds_at(fixup: Fixup, offset: u64, base: Base) -> bool
     ensures { result ≡ is_added offset base fixup }
 {
     u64::from(fixup.offset) == offset && fixup.base == base
 }
 
-/// What is left of fixups behind the first, where it adds `base` at `offset`; `None` where it doesn't, or
-/// there is none.
+/// Returns the fixups left after the first, if it adds `base` at `offset`. `None` if it doesn't, or there
+/// is none.
 pub fn behind_first(fixups: &[Fixup], offset: u64, base: Base) -> Option<&[Fixup]>
     ensures { option_map (λ l. l.now) result ≡ behind_first offset base fixups.now }
 {
@@ -24,7 +24,7 @@ pub fn behind_first(fixups: &[Fixup], offset: u64, base: Base) -> Option<&[Fixup
     adds_at(*first, offset, base).then_some(rest)
 }
 
-/// The same for the import of a number.
+/// Returns the same for the import with a number.
 pub fn behind_import(fixups: &[Fixup], offset: u64, import: u64) -> Option<&[Fixup]>
     ensures { option_map (λ l. l.now) result ≡ behind_first offset (Import import) fixups.now }
 {
@@ -32,7 +32,7 @@ pub fn behind_import(fixups: &[Fixup], offset: u64, import: u64) -> Option<&[Fix
     adds_import_at(*first, offset, import).then_some(rest)
 }
 
-/// Whether a fixup adds the import of a number at `offset`.
+/// Returns whether a fixup adds the import with a number at `offset`.
 fn adds_import_at(fixup: Fixup, offset: u64, import: u64) -> bool
     ensures { result ≡ is_added offset (Import import) fixup }
 {

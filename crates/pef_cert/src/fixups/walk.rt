@@ -10,7 +10,7 @@ ghost use Rattle.pef_reloc.specs.declared.fixup.Base.TheVariants.{Import, Sectio
 use crate::fixups::additions::{WORD, behind_first, behind_import};
 use pef_reloc::{Base, Fixup, Instr};
 
-/// A program's way along fixups: the registers, and the fixups that are left to make.
+/// The state of a walk of a program along fixups: the registers, and the fixups that are left to make.
 #[derive(Clone, Copy)]
 struct Walk<'a> {
     left: &'a [Fixup],
@@ -20,8 +20,8 @@ struct Walk<'a> {
     d: u32,
 }
 
-/// Whether a program is flat, which is without repeats and with numbers that fit, and makes just these
-/// fixups in their order. It looks at no fixup twice.
+/// Returns whether a program is flat, that is without repeats and with numbers that fit, and makes
+/// exactly these fixups in their order. It reads each fixup at most once.
 pub fn makes(fixups: &[Fixup], program: &[Instr]) -> bool
     requires { length program.now ≤ 2 ^ 33 }
     ensures { Says result ((is_flat program.now ≡ true) × Makes fixups.now program.now) }
@@ -32,7 +32,7 @@ pub fn makes(fixups: &[Fixup], program: &[Instr]) -> bool
     }
 }
 
-/// How many halfwords a program has.
+/// Returns the length of a program in halfwords.
 pub fn program_length(program: &[Instr]) -> u64
     ensures { result ≡ program_length program.now }
 {
@@ -43,7 +43,7 @@ pub fn program_length(program: &[Instr]) -> u64
     length
 }
 
-/// Goes along the fixups as far as all of a program.
+/// Walks along the fixups with a whole program.
 fn walk_along<'a>(fixups: &'a [Fixup], program: &[Instr]) -> Option<Walk<'a>>
     requires { length program.now ≤ 2 ^ 33 }
     ensures { option_map place_of result ≡ walked program.now (start_place fixups.entry.now) }
@@ -62,7 +62,7 @@ fn walk_along<'a>(fixups: &'a [Fixup], program: &[Instr]) -> Option<Walk<'a>>
 }
 
 impl<'a> Walk<'a> {
-    /// Goes on by an instruction, where it fits, is no repeat and makes just the next fixups.
+    /// Continues with an instruction, if it fits, isn't a repeat and makes exactly the next fixups.
     fn pass(self, instr: Instr) -> Option<Walk<'a>>
         requires position { self.position < 2 ^ 60 }
         requires import_index { self.import_index < 2 ^ 60 }
@@ -76,7 +76,7 @@ impl<'a> Walk<'a> {
         }
     }
 
-    /// The same for one that fits.
+    /// Returns the same for one that fits.
     fn step(self, instr: Instr) -> Option<Walk<'a>>
         requires fits { instr_fits instr ≡ true }
         requires position { self.position < 2 ^ 60 }
@@ -106,7 +106,7 @@ impl<'a> Walk<'a> {
         }
     }
 
-    /// Goes on to a position.
+    /// Moves to a position.
     fn moved_to(self, position: u64) -> Walk<'a>
         ensures left { result.left.now ≡ self.entry.left.now }
         ensures state { state_of result ≡ record (state_of self.entry) { position = position } }
@@ -150,7 +150,7 @@ impl<'a> Walk<'a> {
         })
     }
 
-    /// Adds so many imports from the next one on.
+    /// Adds this many imports from the next one on.
     fn add_imports(self, count: u32) -> Option<Walk<'a>>
         requires position { self.position < 2 ^ 60 }
         requires import_index { self.import_index < 2 ^ 60 }
@@ -202,7 +202,7 @@ impl<'a> Walk<'a> {
         })
     }
 
-    /// What is left behind so many pairs of sections C and D.
+    /// Returns the fixups left after this many pairs of sections C and D.
     fn behind_pairs(self, count: u32, stride: u64) -> Option<&'a [Fixup]>
         requires position { self.position < 2 ^ 60 }
         requires stride { stride ≤ 12 }
@@ -218,7 +218,7 @@ impl<'a> Walk<'a> {
         Some(left)
     }
 
-    /// What is left behind so many imports from the next one on.
+    /// Returns the fixups left after this many imports from the next one on.
     fn behind_imports(self, count: u32) -> Option<&'a [Fixup]>
         requires position { self.position < 2 ^ 60 }
         requires import_index { self.import_index < 2 ^ 60 }
@@ -236,7 +236,7 @@ impl<'a> Walk<'a> {
     }
 }
 
-/// What is left of fixups behind so many words of a base, `stride` bytes apart.
+/// Returns the fixups left after this many words of a base, `stride` bytes apart.
 fn behind_words<'a>(
     fixups: &'a [Fixup],
     count: u32,

@@ -5,18 +5,18 @@ use std::alloc::{AllocError, AllocFailed};
 use std::fmt;
 use thiserror::Error;
 
-/// Why a text has no certificates, or why none were printed.
+/// Why a text isn't one of certificates, or why none were printed.
 #[derive(Clone, Copy, Debug, PartialEq, Eq, Error)]
 pub enum CertFault {
-    /// The first line that breaks a rule, or the one behind the last where a line is missing; lines count
+    /// The first line that breaks a rule, or the one after the last if a line is missing. Lines count
     /// from 1.
     BadCertificate { line: usize },
-    /// A growth of memory was refused.
+    /// An allocation failed.
     OutOfMemory,
 }
 
 impl CertFault {
-    /// The number of the refusal.
+    /// Returns the number of the refusal.
     pub fn number(&self) -> u32
         ensures { result ≡ fault_number self.now }
     {
@@ -26,7 +26,7 @@ impl CertFault {
         }
     }
 
-    /// The refusal's name.
+    /// Returns the refusal's name.
     pub fn name(&self) -> &'static str
         ensures { result.now ≡ fault_name self.now }
     {
@@ -36,7 +36,7 @@ impl CertFault {
         }
     }
 
-    /// The number of the line that was refused, from 1.
+    /// Returns the number of the line that was refused, from 1.
     pub fn line(&self) -> Option<usize>
         ensures { result ≡ fault_line self.now }
     {

@@ -4,10 +4,10 @@ ghost use Rattle.pef_cert.specs.Text.Lines.{fixups_line, head_line, length_line,
 use crate::text::words::Words;
 use pef_lines::decimal_number;
 
-/// The most fixups that a certificate is for.
+/// The most fixups of a certificate in a text.
 const MAX_FIXUPS: u32 = 65_536;
 
-/// What begins a certificate, or ends a text.
+/// The line that begins a certificate, or ends a text.
 #[derive(Clone, Copy)]
 pub enum Head {
     /// The certificate of a section begins.
@@ -25,7 +25,7 @@ pub enum Version {
     Two,
 }
 
-/// The version of the line `pefcert N`.
+/// Returns the version of the line `pefcert N`.
 #[tactic(auto, unfolding(crate::specs::Text::Lines::version_line))]
 pub fn version_line(line: &[u8]) -> Option<Version>
     ensures { result ≡ version_line line.now }
@@ -39,7 +39,7 @@ pub fn version_line(line: &[u8]) -> Option<Version>
     None
 }
 
-/// The number of a line `NAME NUMBER`.
+/// Returns the number of a line `NAME NUMBER`.
 #[tactic(auto, unfolding(crate::specs::Text::Lines::number_line))]
 fn number_line(name: &[u8], line: &[u8]) -> Option<u32>
     ensures { result ≡ number_line name.now line.now }
@@ -53,7 +53,7 @@ fn number_line(name: &[u8], line: &[u8]) -> Option<u32>
     Some(number)
 }
 
-/// What a line says that begins a certificate or ends a text.
+/// Returns the meaning of a line that begins a certificate or ends a text.
 #[tactic(auto, unfolding(crate::specs::Text::Lines::head_line))]
 pub fn head_line(line: &[u8]) -> Option<Head>
     ensures { result ≡ head_line line.now }
@@ -65,7 +65,7 @@ pub fn head_line(line: &[u8]) -> Option<Head>
     Some(Head::Section(section))
 }
 
-/// How many fixups there are, of the line `fixups N`.
+/// Returns the number of fixups in the line `fixups N`.
 #[tactic(auto, unfolding(crate::specs::Text::Lines::fixups_line))]
 pub fn fixups_line(line: &[u8]) -> Option<u32>
     ensures count { result ≡ fixups_line line.now }
@@ -78,7 +78,7 @@ pub fn fixups_line(line: &[u8]) -> Option<u32>
     Some(count)
 }
 
-/// How many halfwords the program has, of the line `length N`.
+/// Returns the number of halfwords in the line `length N`.
 #[tactic(auto, unfolding(crate::specs::Text::Lines::length_line))]
 pub fn length_line(line: &[u8]) -> Option<u32>
     ensures { result ≡ length_line line.now }

@@ -15,14 +15,14 @@ impl<'a> Line<'a> {
     ghost use Rattle.pef_cert.specs.Text.Kept.Reading.{Says};
     ghost use Rattle.pef_cert.specs.declared.text.fault.CertFault.TheVariants.{BadCertificate};
 
-    /// That the line breaks a rule.
+    /// Returns the fault that the line breaks a rule.
     pub fn fault(self) -> CertFault
         ensures { result ≡ BadCertificate self.entry.number }
     {
         CertFault::BadCertificate { line: self.number }
     }
 
-    /// What the line says, where it says something.
+    /// Returns the value of the line, or the fault if it has none.
     pub fn says<T>(self, value: Option<T>) -> Result<T, CertFault>
         ensures { Says result self.entry.number value }
     {
@@ -46,7 +46,7 @@ impl<'a> Lines<'a> {
     ghost use Rattle.pef_cert.specs.Text.Kept.Reading.{NextLine, left};
     ghost use Rattle.pef_cert.specs.declared.text.fault.CertFault.TheVariants.{BadCertificate};
 
-    /// The lines of a text.
+    /// Returns the lines of a text.
     pub fn new(text: &'a [u8]) -> Lines<'a>
         ensures { left result ≡ record { number = 1; text = text.entry.now } }
     {
@@ -56,14 +56,14 @@ impl<'a> Lines<'a> {
         }
     }
 
-    /// Whether nothing is left.
+    /// Returns whether no line is left.
     pub fn is_empty(&self) -> bool
         ensures { result ≡ (length (left self.now).text == 0) }
     {
         self.rest.is_empty()
     }
 
-    /// That the line at hand breaks a rule, or is missing.
+    /// Returns the fault that the current line breaks a rule, or is missing.
     pub fn fault(&self) -> CertFault
         ensures { result ≡ BadCertificate (left self.now).number }
     {

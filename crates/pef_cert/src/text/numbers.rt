@@ -28,7 +28,7 @@ fn append_numbers(line: Line<'_>, words: Words<'_>, numbers: &mut Vec<u32>) -> R
     Ok(())
 }
 
-/// The numbers in front of a last word `*`.
+/// Returns the numbers in front of a last word `*`.
 fn registers_in(alloc: Global, line: Line<'_>, words: Words<'_>) -> Result<Vec<u32>, CertFault>
     ensures { Says (result_map (λ v. v.items) result) line.entry.number (registers_in (words_left words.entry)) }
 {
@@ -49,7 +49,7 @@ fn registers_in(alloc: Global, line: Line<'_>, words: Words<'_>) -> Result<Vec<u
     Err(line.fault())
 }
 
-/// The registers of a `registers` line, which rise.
+/// Returns the registers of a `registers` line, which rise.
 #[tactic(auto, unfolding(crate::specs::Text::Lines::registers_line))]
 pub fn registers_line(alloc: Global, line: Line<'_>) -> Result<Vec<u32>, CertFault>
     ensures registers { Says (result_map (λ v. v.items) result) line.entry.number (registers_line line.entry.bytes.now) }
@@ -66,7 +66,7 @@ pub fn registers_line(alloc: Global, line: Line<'_>) -> Result<Vec<u32>, CertFau
     Ok(registers)
 }
 
-/// Makes a row of the labels of an `at` line, which has this index and so many labels.
+/// Writes the labels of an `at` line, which has this index and this many labels, to a row.
 #[tactic(auto, unfolding(crate::specs::Text::Lines::row_line))]
 pub fn row_line(line: Line<'_>, width: usize, at: u32, row: &mut Vec<u32>) -> Result<(), CertFault>
     ensures labels { Says (result_map (λ _. row.new.items) result) line.entry.number (row_line width at line.entry.bytes.now) }
@@ -90,7 +90,7 @@ pub fn row_line(line: Line<'_>, width: usize, at: u32, row: &mut Vec<u32>) -> Re
     Ok(())
 }
 
-/// What a range has to be.
+/// The requirements for a range.
 #[derive(Clone, Copy)]
 pub struct WantedRange<'a> {
     /// The index of its first row.
@@ -99,11 +99,11 @@ pub struct WantedRange<'a> {
     pub count: u32,
     /// How many labels a row has.
     pub width: usize,
-    /// The labels of the row before it, which differ from its own; none at the first row.
+    /// The labels of the row before it, which must differ from its own; none at the first row.
     pub before: &'a [u32],
 }
 
-/// Makes a row of the labels of an `at` line of version 2, and gives the index of its last row.
+/// Writes the labels of an `at` line of version 2 to a row, and returns the index of its last row.
 #[tactic(auto, unfolding(crate::specs::Text::Lines::range_line))]
 pub fn range_line(
     line: Line<'_>,

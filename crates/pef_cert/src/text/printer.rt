@@ -15,7 +15,7 @@ use pef_ports::{Line, push_hex};
 use pef_reloc::{Instr, Spelling};
 use std::alloc::{AllocError, Global};
 
-/// Appends a word behind the first of its line.
+/// Appends a word after the first of its line.
 fn append_word(text: &mut Vec<u8>, word: &[u8]) -> Result<(), AllocError>
     ensures { OnOk result (text.new.items ≡ text.old.items ++ 0x20 ∷ word.now) }
 {
@@ -24,7 +24,7 @@ fn append_word(text: &mut Vec<u8>, word: &[u8]) -> Result<(), AllocError>
     Ok(())
 }
 
-/// Appends a number behind the first word of its line.
+/// Appends a number after the first word of its line.
 fn append_number(text: &mut Vec<u8>, number: usize) -> Result<(), AllocError>
     ensures { OnOk result (text.new.items ≡ text.old.items ++ 0x20 ∷ decimal number) }
 {
@@ -32,7 +32,7 @@ fn append_number(text: &mut Vec<u8>, number: usize) -> Result<(), AllocError>
     append_word(text, buffer.format(number).as_bytes())
 }
 
-/// Appends numbers behind the first word of their line.
+/// Appends numbers after the first word of their line.
 fn append_numbers(text: &mut Vec<u8>, numbers: &[u32]) -> Result<(), AllocError>
     ensures { OnOk result (text.new.items ≡ text.old.items ++ words_text (number_words numbers.now)) }
 {
@@ -52,7 +52,7 @@ fn append_field(text: &mut Vec<u8>, name: &[u8], number: usize) -> Result<(), Al
     Ok(())
 }
 
-/// Appends a halfword behind the first word of its line.
+/// Appends a halfword after the first word of its line.
 fn append_halfword(text: &mut Vec<u8>, halfword: u16) -> Result<(), AllocError>
     ensures { OnOk result (text.new.items ≡ text.old.items ++ words_text (halfword_words (big_bytes 2 halfword))) }
 {
@@ -168,7 +168,7 @@ impl Certificate {
     ///
     /// # Errors
     ///
-    /// `OutOfMemory` alone.
+    /// Only `OutOfMemory`.
     #[tactic(auto, unfolding(crate::specs::Text::Printed::certificates_text, crate::specs::Text::Printed::versioned_text))]
     pub fn print(alloc: Global, certificates: &[Certificate]) -> Result<Vec<u8>, CertFault>
         requires { AllByRecursion Printable certificates.now }

@@ -12,7 +12,7 @@ use crate::text::words::Words;
 use pef_reloc::{Instr, Program};
 use std::alloc::{AllocError, Global};
 
-/// The value of a hex digit, of upper case.
+/// Returns the value of an upper-case hex digit.
 fn digit_in(digit: u8) -> Option<u8>
     ensures value { result ≡ digit_in digit }
     ensures most { IfSome result (λ value. value ≤ 15) }
@@ -24,7 +24,7 @@ fn digit_in(digit: u8) -> Option<u8>
     }
 }
 
-/// The bytes of a halfword, which a word of four digits spells.
+/// Returns the bytes of a halfword, which a word of four digits spells.
 fn halfword_in(word: &[u8]) -> Option<[u8; 2]>
     ensures { result ≡ halfword_in word.now }
 {
@@ -50,7 +50,7 @@ fn append_halfwords(line: Line<'_>, words: Words<'_>, bytes: &mut Vec<u8>) -> Re
     Ok(())
 }
 
-/// The bytes that the words of a `program` line spell: none for `-`.
+/// Returns the bytes that the words of a `program` line spell: none for `-`.
 fn bytes_spelled(alloc: Global, line: Line<'_>, words: Words<'_>) -> Result<Vec<u8>, CertFault>
     ensures { Says (result_map (λ v. v.items) result) line.entry.number (bytes_spelled (words_left words.entry)) }
 {
@@ -69,7 +69,7 @@ fn bytes_spelled(alloc: Global, line: Line<'_>, words: Words<'_>) -> Result<Vec<
     Ok(bytes)
 }
 
-/// The instructions of a program.
+/// Returns the instructions of a program.
 fn list(alloc: Global, program: &Program<'_>) -> Result<Vec<Instr>, AllocError>
     ensures { IfOk result (λ v. v.items ≡ instrs_of (program_bytes program.now)) }
 {
@@ -81,7 +81,7 @@ fn list(alloc: Global, program: &Program<'_>) -> Result<Vec<Instr>, AllocError>
     Ok(instrs)
 }
 
-/// The program that bytes are, where they are readable and have so many halfwords.
+/// Returns the program in some bytes, if they are readable and have this many halfwords.
 fn program_in(
     alloc: Global,
     line: Line<'_>,
@@ -99,7 +99,7 @@ fn program_in(
     Ok(list(alloc, &program)?)
 }
 
-/// The program of a `program` line, which has so many halfwords.
+/// Returns the program of a `program` line, which has this many halfwords.
 #[tactic(auto, unfolding(crate::specs::Text::Lines::program_line))]
 pub fn program_line(alloc: Global, line: Line<'_>, halfwords: u32) -> Result<Vec<Instr>, CertFault>
     ensures { Says (result_map (λ v. v.items) result) line.entry.number (program_line halfwords line.entry.bytes.now) }

@@ -18,12 +18,12 @@ use std::alloc::Global;
 use std::mem;
 
 impl Certificate {
-    /// Reads the certificates of a text in version 1 or 2, in time linear in it.
+    /// Reads the certificates of a text in version 1 or 2, in time linear in its length.
     ///
     /// # Errors
     ///
-    /// `BadCertificate` with the number of the first line that breaks a rule by itself or against the lines
-    /// before it, or, where a line is missing, of the one behind the last; `OutOfMemory`.
+    /// `BadCertificate` with the number of the first line that breaks a rule by itself or with the lines
+    /// before it, or, if a line is missing, of the one after the last; or `OutOfMemory`.
     pub fn read(alloc: Global, text: &[u8]) -> Result<Vec<Certificate>, CertFault>
         ensures certificates { ReadsAs (result_map (λ v. v.items) result) (certificates_of text.now) }
         ensures printable { IfOk result (λ v. AllByRecursion Printable v.items) }
@@ -71,7 +71,7 @@ fn read_head(lines: &mut Lines<'_>) -> Result<Head, CertFault>
     line.says(head_line(line.bytes))
 }
 
-/// Reads the certificate of a section, behind the line that begins it.
+/// Reads the certificate of a section, after the line that begins it.
 #[tactic(auto, unfolding(crate::specs::Text::Grammar::certificate_read))]
 fn read_certificate(
     alloc: Global,
@@ -124,7 +124,7 @@ fn read_length(lines: &mut Lines<'_>) -> Result<u32, CertFault>
     line.says(length_line(line.bytes))
 }
 
-/// Reads the line of a program with so many halfwords.
+/// Reads the line of a program with this many halfwords.
 #[tactic(auto, using(crate::proofs::TextProofs::ReadLemmas::line_missing, crate::proofs::TextProofs::ReadLemmas::line_taken))]
 fn read_program(
     alloc: Global,
@@ -153,7 +153,7 @@ fn read_registers(alloc: Global, lines: &mut Lines<'_>) -> Result<Vec<u32>, Cert
     registers_line(alloc, line)
 }
 
-/// Reads so many lines of labels of version 1, for so many classes.
+/// Reads this many lines of labels of version 1, for this many classes.
 fn read_rows(
     alloc: Global,
     lines: &mut Lines<'_>,
@@ -173,7 +173,7 @@ fn read_rows(
     Ok(labels)
 }
 
-/// Reads ranges of labels up to so many rows, for so many classes.
+/// Reads ranges of labels up to this many rows, for this many classes.
 fn read_ranges(
     alloc: Global,
     lines: &mut Lines<'_>,
@@ -204,7 +204,7 @@ fn read_ranges(
     Ok(labels)
 }
 
-/// Makes a row of the next line of labels, which has this index and so many labels.
+/// Writes the next line of labels, which has this index and this many labels, to a row.
 #[tactic(auto, using(crate::proofs::TextProofs::ReadLemmas::line_missing, crate::proofs::TextProofs::ReadLemmas::line_taken))]
 fn read_row(
     lines: &mut Lines<'_>,
@@ -222,7 +222,7 @@ fn read_row(
     row_line(line, width, at, row)
 }
 
-/// Makes a row of the labels of the next line, which is a range, and gives the index of its last row.
+/// Writes the labels of the next line, which is a range, to a row, and returns the index of its last row.
 #[tactic(auto, using(crate::proofs::TextProofs::ReadLemmas::line_missing, crate::proofs::TextProofs::ReadLemmas::line_taken))]
 fn read_range(
     lines: &mut Lines<'_>,

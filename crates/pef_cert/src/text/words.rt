@@ -7,19 +7,19 @@ use pef_lines::{cut_at, decimal_number};
 /// The words that are left of a line.
 #[derive(Clone, Copy)]
 pub struct Words<'a> {
-    /// What stands behind the last word that was taken, where there is more.
+    /// The part of the line after the last word that was taken, if there is more.
     rest: Option<&'a [u8]>,
 }
 
 impl<'a> Words<'a> {
-    /// The words of a line: what stands between its spaces.
+    /// Returns the words of a line: the parts between its spaces.
     pub fn new(line: &'a [u8]) -> Words<'a>
         ensures { words_left result ≡ words_of line.entry.now }
     {
         Words { rest: Some(line) }
     }
 
-    /// Whether no word is left.
+    /// Returns whether no word is left.
     pub fn is_empty(&self) -> bool
         ensures { result ≡ none_left (words_left self.now) }
     {
@@ -45,14 +45,14 @@ impl<'a> Words<'a> {
         }
     }
 
-    /// Takes the next word, and gives the number that it spells.
+    /// Takes the next word, and returns its number.
     pub fn next_number(&mut self) -> Option<u32>
         ensures { option_map (λ number. (number, words_left self.new)) result ≡ first_number (words_left self.old) }
     {
         decimal_number(self.next_word()?)
     }
 
-    /// Takes the next word where it is the one that is wanted.
+    /// Takes the next word if it is the expected one.
     pub fn expect(&mut self, wanted: &[u8]) -> Option<()>
         ensures { option_map (λ _. words_left self.new) result ≡ behind wanted.now (words_left self.old) }
     {

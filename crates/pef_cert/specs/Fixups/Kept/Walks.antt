@@ -1,4 +1,4 @@
--- A program's way along fixups, as it is walked: instruction by instruction, with the fixups that are left.
+-- The walk of a program along fixups: instruction by instruction, with the fixups that are left.
 use Rattle.std.specs.Prelude.{if◌then◌else◌, List, [], ◌∷◌, Option, None, Some}
 use Rattle.std.specs.Option.{option_map, option_and_then}
 use Rattle.pef_reloc.specs.declared.fixup.Fixup.{Fixup}
@@ -19,19 +19,19 @@ state_of w = record { position = w.position; import_index = w.import_index; c = 
 abbrev pub place_of : Walk → Place
 place_of w = record { state = state_of w; left = w.left.now }
 
--- behind additions that the fixups begin with, at a state
+-- the place after additions that the fixups begin with, at a state
 abbrev pub placed : State → Option (List Fixup) → Option Place
 placed s left = option_map (λ rest. record { state = s; left = rest }) left
 
--- behind an instruction, where the fixups begin with what it adds
+-- the place after an instruction, if the fixups begin with its additions
 abbrev pub stepped : Instr → Place → Option Place
 stepped x p = placed (next_state x p.state) (behind (additions x p.state) p.left)
 
--- and where it fits and is no repeat
+-- and if it fits and isn't a repeat
 abbrev pub passed : Instr → Place → Option Place
 passed x p = if is_flat_instr x then stepped x p else None
 
--- behind a list of instructions
+-- the place after a list of instructions
 abbrev pub walked : List Instr → Place → Option Place
 walked [] p = Some p
 walked (x ∷ xs) p = option_and_then (walked xs) (passed x p)

@@ -1,4 +1,4 @@
--- What the reader's types show, and what its steps say.
+-- The values of the reader's types, and of its steps.
 use Rattle.std.specs.Prelude.{◌≡◌, ℕ, ◌+◌, ◌<◌, ◌≤◌, length, List, [], Option, None, Some, Result, Ok, Err}
 use Rattle.std.specs.Option.{ok_or, option_copied}
 use Rattle.pef_cert.specs.Certified.{Certified}
@@ -12,16 +12,16 @@ use Rattle.pef_cert.specs.Text.Grammar.{Left, certificates_of, certificates_read
 use Rattle.pef_cert.specs.Text.Views.{FailsAs, ReadsAs}
 use Rattle.pef_cert.specs.Text.Words.{words_of}
 
--- an answer and what is left are those that were wanted, where there was memory for them
+-- a result and the rest are the expected ones, unless an allocation failed
 abbrev pub Takes : {A : Type 0} → Result A CertFault → Left → Result (A × Left) ℕ → Type 0
 Takes (Ok x) left wanted = wanted ≡ Ok (x, left)
 Takes (Err fault) left wanted = FailsAs fault wanted
 
--- an answer is what the line with a number says, where there was memory for it
+-- a result is the value of the line with a number, unless an allocation failed
 abbrev pub Says : {A : Type 0} → Result A CertFault → ℕ → Option A → Type 0
 Says result number wanted = ReadsAs result (ok_or wanted number)
 
--- the words that are left of a line: none behind the last one
+-- the words that are left of a line: none after the last one
 
 abbrev pub words_in : Option (List ℕ) → List (List ℕ)
 words_in None = []
@@ -30,22 +30,22 @@ words_in (Some rest) = words_of rest
 abbrev pub words_left : Words → List (List ℕ)
 words_left words = words_in (option_copied words.rest)
 
--- what is left of a text
+-- the rest of a text
 abbrev pub left : Lines → Left
 left lines = record { number = lines.number; text = lines.rest.now }
 
--- a line is taken, and nothing where there is none
+-- a line is taken, or none if there is none
 abbrev pub NextLine : Option Line → Left → Left → Type 0
 NextLine None old new = (cut_at 0x0A old.text ≡ None) × (new ≡ old)
 NextLine (Some line) old new = (line.number ≡ old.number) × (cut_at 0x0A old.text ≡ Some (line.bytes.now, new.text)) × (new.number ≡ old.number + 1)
 
--- behind some certificates of a text so much is left, which makes those of the whole
+-- after some certificates of a text this rest is left, which gives those of the whole
 pub record Going (version : Version) (text : List ℕ) (certificates : List Certified) (behind : Left) : Type 0 where
   pub most : ℕ
   pub more : length behind.text < most
   pub whole : certificates_read version most certificates behind ≡ certificates_of text
 
--- after some rows of ranges so much is left, which makes the rows of all
+-- after some rows of ranges this rest is left, which gives the rows of all
 pub record RangesGoing (width count : ℕ) (rows : List (List ℕ)) (behind old : Left) : Type 0 where
   pub most : ℕ
   pub few : length rows ≤ count

@@ -1,4 +1,4 @@
--- Each turn reads one certificate more.
+-- Each turn reads one more certificate.
 use Rattle.std.proofs.Common.{◌≡◌, Ok, length, List, subst, sym, ap, arith, rules}
 use Rattle.std.proofs.lemmas.Result.{err_from_is_err_and}
 use Rattle.pef_cert.specs.Certified.{Certified}

@@ -1,4 +1,4 @@
--- Words that are no `-` spell halfwords.
+-- Words that aren't `-` spell halfwords.
 use Rattle.std.proofs.lemmas.Result.{err_from_is_err_and}
 use Rattle.std.proofs.Common.{Err, Ok}
 use Rattle.pef_cert.specs.Text.Kept.Reading.{words_left}

@@ -1,4 +1,4 @@
--- The words behind the first one have the bytes of the program.
+-- The words after the first one have the bytes of the program.
 use Rattle.std.proofs.Common.{sym, ap, ◌∙◌}
 use Rattle.std.proofs.lemmas.Result.{err_from_is_err_and}
 use Rattle.std.specs.Prelude.{codes}
