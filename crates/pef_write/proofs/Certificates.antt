@@ -19,7 +19,7 @@ use Rattle.pef_script.specs.Script.{DescribedSection}
 use Rattle.pef_script.specs.WellFormed.{BaseThere, SectionHolds}
 use Rattle.pef_write.specs.Linked.{AreCertified, AreProgramsFor, IsCertified, IsProgramFor}
 
--- a section that fixups use is there
+-- a section that fixups use exists
 base_there : (n j k : ℕ) (b : Base) → BaseThere n j b → is_section k b ≡ true → k < n
 base_there n j k (Section i) there own = (let same = eqb-true i k own in omega (arith, same, there))
 base_there n j k (Import i) there own = absurd (cc)
@@ -32,7 +32,7 @@ used_there n j k (f ∷ fixups) there used = by (is_section k f.base) refl used 
     by true own either later = base_there n j k f.base there.0 own
     by false own either later = later either
 
--- so names of what is used are names of sections that are there
+-- so the sections that are named, if they are used, exist
 all_there : (n j : ℕ) (fixups : List Fixup) (ks : List ℕ) → AllByRecursion (λ (fixup : Fixup). BaseThere n j fixup.base) fixups → all_meet (uses_section fixups) ks ≡ true → all_below n ks ≡ true
 all_there n j fixups [] there used = refl
 all_there n j fixups (k ∷ ks) there used =
@@ -86,7 +86,7 @@ certified_short n j k (s ∷ sections) (c ∷ certificates) holds are =
     let few = (fixups_fit-parts s.fixups holds.0.fixups).count in
     All-cons (λ (c : Certified). program_length c.program < 2 ^ 32) c certificates (omega (arith, short, few)) (certified_short n j (k + 1) sections certificates holds.1 are.1)
 
--- one certificate more, for the section behind
+-- one certificate more, for the next section
 certified_behind : (k : ℕ) (sections : List DescribedSection) (certificates : List Certified) (s : DescribedSection) (c : Certified) → AreCertified k sections certificates → IsCertified (k + length sections) s.fixups c → AreCertified k (sections ++ s ∷ []) (certificates ++ c ∷ [])
 certified_behind k [] [] s c are is = (let at : k + 0 ≡ k = omega arith in (subst (λ n. IsCertified n s.fixups c) at is, tt))
 certified_behind k [] (d ∷ certificates) s c are is = absurd are

@@ -1,4 +1,4 @@
--- What a written container is read back as.
+-- The value that a written container is read back as.
 use Rattle.std.proofs.Common.{◌≡◌, ◌∙◌, ℕ, Bool, true, false, suc, ◌+◌, ◌*◌, ◌<◌, ◌≤◌, ◌^◌, List, [], ◌∷◌, ◌++◌, length, drop, get_or, length-append, refl, ap, ap₂, arith}
 use Rattle.std.specs.Prelude.{if◌then◌else◌}
 use Rattle.std.specs.Int.{next_multiple_of}
@@ -111,7 +111,7 @@ length-raw_data-bound (s ∷ sections) loader each =
     let padding = length-padded 16 (raw_of s) in
     omega (arith, own, length-raw_of s, later, joined, padding)
 
--- a container of few and small sections is no longer than its fields can say
+-- a container of few and small sections is short enough for its fields
 pub container_size : (v : Versions) (sections : List DescribedSection) (loader : List ℕ) → length sections ≤ most_sections → All (λ s. length s.image ≤ offset_limit) sections → length loader < 2 ^ 31 → length (written_container v sections loader) < 2 ^ 32
 container_size v sections loader few each small =
     omega (arith, length-written_container v sections loader, length-raw_data-bound sections loader each)

@@ -1,4 +1,4 @@
--- How many imports are of a library, and of those before it.
+-- How many imports a library has, and those before it.
 use Rattle.std.proofs.Common.{◌≡◌, ℕ, zero, suc, ◌+◌, ◌<◌, ◌≤◌, ◌==◌, Bool, true, false, cond, List, [], ◌∷◌, None, Some, length, map, get_or, slice_get, refl, arith}
 use Rattle.std.specs.Prelude.{nat_lt}
 use Rattle.std.specs.List.{AllByRecursion, count_by}
@@ -10,7 +10,7 @@ use Rattle.pef_format.specs.Symbols.{Import}
 use Rattle.pef_script.specs.WellFormed.{Rises}
 use Rattle.pef_write.proofs.Listing.{none_past}
 
--- how many imports are of the libraries before number k, and how many of that one
+-- how many imports the libraries before number k have, and how many that one has
 abbrev pub count_before : ℕ → List Import → ℕ
 count_before k imports = count_by (λ i. nat_lt i.library k) imports
 
@@ -34,7 +34,7 @@ none_before (x ∷ imports) = omega (arith, before-cons 0 x imports, bit_of (nat
 one : (x k : ℕ) → cond (nat_lt x (k + 1)) 1 0 ≡ cond (nat_lt x k) 1 0 + cond (x == k) 1 0
 one x k = grind (arith, nat_tests)
 
--- the imports of a library stand behind those of the libraries before it
+-- the imports of a library are after those of the libraries before it
 pub before-next : (k : ℕ) (imports : List Import) → count_before (k + 1) imports ≡ count_before k imports + count_of k imports
 before-next k [] = refl
 before-next k (x ∷ imports) = omega (arith, before-cons (k + 1) x imports, before-cons k x imports, of-cons k x imports, one x.library k, before-next k imports)
@@ -57,7 +57,7 @@ counted-here k (x ∷ imports) (suc j) d rises under early =
     least_of n (x ∷ imports) zero d each under = each.0
     least_of n (x ∷ imports) (suc j) d each under = least_of n imports j d each.1 (omega arith)
 
--- where an import is of a later library, none from it on is counted
+-- if an import is of a later library, none from it on is counted
 pub counted-past : (k : ℕ) (imports : List Import) (j : ℕ) (d : Import) → Rises (map (λ symbol. symbol.library) imports) → j < length imports → k ≤ (get_or imports j d).library → count_before k imports ≤ j
 counted-past k [] j d rises under late = absurd (omega arith)
 counted-past k (x ∷ imports) zero d rises under late =
@@ -76,7 +76,7 @@ counted-past k (x ∷ imports) (suc j) d rises under late =
     at_most true = omega arith
     at_most false = omega arith
 
--- the same of an import that is found
+-- the same for an import that is found
 pub counted-found : (k : ℕ) (imports : List Import) (j : ℕ) (x : Import) → Rises (map (λ symbol. symbol.library) imports) → slice_get imports j ≡ Some x → x.library < k → j + 1 ≤ count_before k imports
 counted-found k imports j x rises found early =
     counted-here k imports j x rises (slice_get_within imports j x found) (rw (get_or_from_slice_get imports j x x found) early)

@@ -11,7 +11,7 @@ use Rattle.pef_write.specs.Linked.{exports_at, libraries_from, linked_library, n
 use Rattle.pef_write.specs.Loaders.{export_entry, export_fields, import_entry, import_fields, library_entry, library_fields, zero_ended}
 use Rattle.pef_write.proofs.Fields.{spelled-append}
 
--- what is gathered of a whole stays within its bound
+-- a part of a whole stays within its bound
 pub within : (done left first all : List ℕ) (limit : ℕ) → done ++ left ≡ first ++ all → length first + length all < limit → length done < limit
 within done left first all limit same small =
     omega (arith, ap length same, length-append done left, length-append first all, small)
@@ -20,14 +20,14 @@ within done left first all limit same small =
 pub longer : (before name now : List ℕ) → now ≡ before ++ (name ++ 0 ∷ []) → length now ≡ length before + (length name + 1)
 longer before name now is = omega (arith, ap length is, length-append before (name ++ 0 ∷ []), length-append name (0 ∷ []))
 
--- one name, and those behind it
+-- one name, and those after it
 pub names-here : {A : Type 0} (name : A → List ℕ) (xs : List A) (k : ℕ) (x : A) → slice_get xs k ≡ Some x → zero_ended (map name (drop k xs)) ≡ (name x ++ 0 ∷ []) ++ zero_ended (map name (drop (k + 1) xs))
 names-here name xs k x found = ap (λ rest. zero_ended (map name rest)) (drop-here xs k x found)
 
 pub names-end : {A : Type 0} (name : A → List ℕ) (xs : List A) (k : ℕ) → length xs ≤ k → zero_ended (map name (drop k xs)) ≡ []
 names-end name xs k past = ap (λ rest. zero_ended (map name rest)) (drop_all k xs past)
 
--- one entry, and those behind it
+-- one entry, and those after it
 pub library-here : (imports : List Import) (at k : ℕ) (libraries : List DescribedLibrary) (l : DescribedLibrary) → slice_get libraries k ≡ Some l
     → spelled (library_fields at (libraries_from imports k (drop k libraries)))
     ≡ spelled (library_entry at (linked_library imports k l)) ++ spelled (library_fields (at + (length l.name + 1)) (libraries_from imports (k + 1) (drop (k + 1) libraries)))
@@ -51,7 +51,7 @@ pub imports-end : (at j : ℕ) (imports : List Import) → length imports ≤ j 
 unfolding import_fields spelled
 imports-end at j imports past = ap (λ rest. spelled (import_fields at rest)) (drop_all j imports past)
 
--- one export at its place, and those behind it
+-- one export at its place, and those after it
 abbrev pub export_names_at : List Export → List ℕ → List ℕ
 export_names_at exports order = flat_map (λ (e : Export). e.name) (exports_at exports order)
 

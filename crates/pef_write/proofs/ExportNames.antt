@@ -32,7 +32,7 @@ sum-joined [] = refl
 sum-joined (name ∷ names) =
     omega (arith, sum_by-cons (λ n. n) (length name) (map length names), length-append name (joined names), sum-joined names)
 
--- where no name is left, all bytes and all lengths are there
+-- if no name is left, all bytes and all lengths are there
 pub all_joined : (names : List (List ℕ)) (k : ℕ) (bytes lengths : List ℕ) → slice_get names k ≡ None → bytes ++ joined (drop k names) ≡ joined names → lengths ++ map length (drop k names) ≡ map length names
     → (bytes ≡ joined names) × (lengths ≡ map length names)
 all_joined names k bytes lengths none bytes_are lengths_are =
@@ -68,7 +68,7 @@ places_below names k d under =
     let inside : k < length names = omega (arith, length-order names) in
     rw (get_or_default (built names).order k d 0 under) (ordered_name names k inside)
 
--- .. and so of an export
+-- .. and so that of an export
 pub order_below : (s : DescribedScript) → All (λ e. e < length s.exports) (built (export_names s)).order
 order_below s =
     let count : length (export_names s) ≡ length s.exports = length-map s.exports (λ (symbol : Export). symbol.name) in

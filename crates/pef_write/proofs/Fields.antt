@@ -1,4 +1,4 @@
--- What spelled fields are read back as.
+-- The values that spelled fields are read back as.
 use Rattle.std.proofs.Common.{◌≡◌, ◌∙◌, ℕ, ◌+◌, ◌-◌, ◌<◌, ◌^◌, List, [], ◌∷◌, ◌++◌, Some, length, take, replicate, length-append, append-nil, append_assoc, refl, sym, ap, ap₂, subst, arith}
 use Rattle.std.specs.Int.{next_multiple_of}
 use Rattle.std.proofs.lemmas.Bool.{le-leb}
@@ -14,30 +14,30 @@ use Rattle.pef_write.specs.Kept.Fits.{AllFit, Reads}
 next_from : (n multiple : ℕ) → n + (next_multiple_of n multiple - n) ≡ next_multiple_of n multiple
 next_from n multiple = omega arith
 
--- four parts, and a part within a part, as parts one behind the other
+-- four parts, and a part within a part, as parts one after the other
 pub outward : (a b c d : List ℕ) → ((a ++ b) ++ c) ++ d ≡ a ++ (b ++ (c ++ d))
 outward a b c d = simp append_assoc
 
 pub inward : (a b c d e : List ℕ) → a ++ ((b ++ (c ++ d)) ++ e) ≡ (a ++ b) ++ (c ++ (d ++ e))
 inward a b c d e = simp append_assoc
 
--- what is written and what is left make the whole, also when one more part is written
+-- the part written and the part left make the whole, also when one more part is written
 pub one_more : (before part now left rest whole : List ℕ) → now ≡ before ++ part → left ≡ part ++ rest → before ++ left ≡ whole → now ++ rest ≡ whole
 one_more before part now left rest whole written split all =
     ap (λ z. z ++ rest) written ∙ append_assoc before part rest ∙ ap (λ z. before ++ z) (sym split) ∙ all
 
--- .. and where nothing is left the whole is written
+-- .. and if nothing is left the whole is written
 pub all_written : (before part now left whole : List ℕ) → now ≡ before ++ part → left ≡ part → before ++ left ≡ whole → now ≡ whole
 all_written before part now left whole written split all = written ∙ ap (λ z. before ++ z) (sym split) ∙ all
 
--- bytes with zeros behind them end at the next multiple
+-- bytes with zeros after them end at the next multiple
 pub length-padded : (multiple : ℕ) (bytes : List ℕ) → length (padded multiple bytes) ≡ next_multiple_of (length bytes) multiple
 unfolding padded
 length-padded multiple bytes =
     let n : ℕ = next_multiple_of (length bytes) multiple - length bytes in
     length-append bytes (replicate n 0) ∙ ap (λ z. length bytes + z) (length-replicate n 0) ∙ next_from (length bytes) multiple
 
--- what is written where there was nothing
+-- the whole is written, if there was nothing before
 pub from_nothing : (before now whole : List ℕ) → now ≡ before ++ whole → before ≡ [] → now ≡ whole
 from_nothing before now whole written none = written ∙ ap (λ z. z ++ whole) none
 
@@ -48,13 +48,13 @@ resized multiple n len bytes end whole =
     let front = take_all n bytes (omega arith) in
     rw (front, end, whole) refl
 
--- fields behind fields are spelled behind them
+-- the bytes of fields after fields are after theirs
 pub spelled-append : (xs ys : List Field) → spelled (xs ++ ys) ≡ spelled xs ++ spelled ys
 unfolding spelled
 spelled-append [] ys = refl
 spelled-append (x ∷ xs) ys = ap (λ z. field_bytes x ++ z) (spelled-append xs ys) ∙ sym (append_assoc (field_bytes x) (spelled xs) (spelled ys))
 
--- a number behind some bytes
+-- a number after some bytes
 number_here : (n x : ℕ) (before rest : List ℕ) → x < 256 ^ n → number_at n (before ++ (big_bytes n x ++ rest)) (length before) ≡ Some x
 unfolding number_at
 number_here n x before rest fits =
@@ -78,11 +78,11 @@ reads_from from off before rest (field ∷ fields) here fits =
     let Q : List ℕ → Type 0 = λ z. number_at (width field) (before ++ z) (from + off) ≡ Some (value field) in
     (subst Q (sym inner) (rw here at number), subst P (sym outer) later)
 
--- fields behind some bytes are read back, whatever follows
+-- fields after some bytes are read back, whatever follows
 pub reads : (before rest : List ℕ) (fields : List Field) → AllFit fields → Reads (before ++ (spelled fields ++ rest)) (length before) 0 fields
 reads before rest fields fits = reads_from (length before) 0 before rest fields (omega arith) fits
 
--- where nothing is left, what is written is the whole
+-- if nothing is left, the part written is the whole
 pub none_left : (now left whole : List ℕ) → left ≡ [] → now ++ left ≡ whole → now ≡ whole
 none_left now left whole none all = sym (append-nil now) ∙ ap (λ z. now ++ z) (sym none) ∙ all
 
@@ -114,14 +114,14 @@ pub fit-append : (xs ys : List Field) → AllFit xs → AllFit ys → AllFit (xs
 fit-append [] ys first second = second
 fit-append (x ∷ xs) ys first second = (first.0, fit-append xs ys first.1 second)
 
--- a place that is named otherwise
+-- a place under another name
 pub reads-at : (bytes : List ℕ) (from off from' off' : ℕ) (fields : List Field) → from + off ≡ from' + off' → Reads bytes from off fields → Reads bytes from' off' fields
 reads-at bytes from off from' off' [] same all = tt
 reads-at bytes from off from' off' (x ∷ xs) same all =
     let P : ℕ → Type 0 = λ at. number_at (width x) bytes at ≡ Some (value x) in
     (subst P same all.0, reads-at bytes from (off + width x) from' (off' + width x) xs (omega arith) all.1)
 
--- fields in three parts that are written one behind the other
+-- fields in three parts that are written one after the other
 pub in_three : (before : List ℕ) (xs ys zs : List Field) (first second third : List ℕ) → first ≡ before ++ spelled xs → second ≡ first ++ spelled ys → third ≡ second ++ spelled zs → third ≡ before ++ spelled (xs ++ (ys ++ zs))
 in_three before xs ys zs first second third a b d =
     let all : spelled (xs ++ (ys ++ zs)) ≡ spelled xs ++ (spelled ys ++ spelled zs) = spelled-append xs (ys ++ zs) ∙ ap (λ z. spelled xs ++ z) (spelled-append ys zs) in

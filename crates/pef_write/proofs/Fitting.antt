@@ -1,5 +1,5 @@
 -- The tables and the sections of a script fit: their numbers fit their fields, and the container is small.
--- What bounds them are the limits of scripts.
+-- The bounds come from the limits of scripts.
 use Rattle.std.proofs.Common.{◌≡◌, ◌∙◌, ℕ, suc, zero, ◌+◌, ◌*◌, ◌==◌, ◌^◌, ◌<◌, ◌≤◌, true, List, [], ◌∷◌, ◌++◌, Option, None, Some, ℤ, pos, negsuc, length, map, get_or, length-append, append-nil, refl, ap, arith}
 use Rattle.std.specs.Int.{w16}
 use Rattle.std.specs.Prelude.{Bool, FitsSigned, false, if◌then◌else◌, nat_lt}
@@ -86,7 +86,7 @@ programs_fit n k (s ∷ sections) [] few are = absurd are
 programs_fit n k (s ∷ sections) (instrs ∷ programs) few are =
     one_fits k s instrs (programs_from (k + 1) sections programs) (omega arith) (programs_fit n (k + 1) sections programs (omega arith) are.1)
 
--- how long programs are, and how many: at most eight bytes a fixup
+-- the lengths of programs, and their number: at most eight bytes for each fixup
 program_size : (n m j k : ℕ) (s : DescribedSection) (instrs : List Instr) → SectionHolds m j s → IsProgramFor n s.fixups instrs
     → (length (program_of k s.fixups instrs) ≤ 1) × (length (program_bytes (program_of k s.fixups instrs)) ≤ 8 * most_fixups)
 program_size n m j k s instrs holds is = by s.fixups
@@ -173,7 +173,7 @@ power_at_most power small = pow-le-pow_right {n = 2} (omega arith) small
 three_lists : (a b c : List ℕ) → length ((a ++ b) ++ c) ≡ length a + length b + length c
 three_lists a b c = omega (arith, length-append (a ++ b) c, length-append a b)
 
--- how long the strings and the loader section are
+-- the lengths of the strings and of the loader section
 pub record SizesOf (t : LoaderTables) : Type 0 where
   pub strings : length (strings_of t) < 2 ^ 24
   pub loader : length (written_loader t) < 2 ^ 31

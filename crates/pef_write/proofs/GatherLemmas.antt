@@ -1,4 +1,4 @@
--- What is gathered of a script for its loader section: the entries, the strings and the export table.
+-- The parts of a script's loader section: the entries, the strings and the export table.
 use Rattle.std.proofs.Common.{◌≡◌, ◌∙◌, ℕ, ◌+◌, ◌<◌, ◌^◌, List, [], ◌++◌, length, map, length-append, refl, sym, ap, ap₂, arith}
 use Rattle.pef_hash.specs.Build.{built}
 use Rattle.pef_script.specs.Script.{DescribedScript, export_names, import_names, library_names}
@@ -21,7 +21,7 @@ module _ (s : DescribedScript) (programs : List ProgramEntry) where
   unfolding script_tables
   own_imports = refl
 
-  -- the three kinds of names, one behind the other, are the strings
+  -- the three kinds of names, one after the other, are the strings
   pub strings_are : names_before s ++ names_in_order s ≡ strings_of (script_tables s programs)
   unfolding script_tables
   strings_are = ap (λ z. z ++ names_in_order s) (ap₂ (λ x y. x ++ y) (ap zero_ended (sym (library_names-are s.imports 0 s.libraries))) own_imports)
@@ -34,7 +34,7 @@ module _ (s : DescribedScript) (programs : List ProgramEntry) where
   unfolding script_tables
   programs_room fits = omega (arith, fits, length-written_loader (script_tables s programs))
 
-  -- the entries, where the names of imports stand behind those of libraries
+  -- the entries, if the names of imports are after those of libraries
   pub entries_are : (strings first second third : List ℕ) → strings ≡ [] ++ zero_ended (library_names s) → first ≡ [] ++ spelled (library_fields 0 (libraries_from s.imports 0 s.libraries)) → second ≡ first ++ spelled (import_fields (length strings) s.imports)
       → third ≡ second ++ spelled (program_fields 0 programs) → third ≡ spelled (entry_fields (script_tables s programs))
   unfolding script_tables
@@ -43,7 +43,7 @@ module _ (s : DescribedScript) (programs : List ProgramEntry) where
       in_three [] (library_fields 0 (libraries_from s.imports 0 s.libraries)) (import_fields (import_names_from (script_tables s programs)) s.imports) (program_fields 0 programs) first second third
       a (b ∙ ap (λ n. first ++ spelled (import_fields n s.imports)) from) c
 
-  -- the export table, where the names of exports stand behind those of libraries and imports
+  -- the export table, if the names of exports are after those of libraries and imports
   pub table_is : (strings first second third : List ℕ) → strings ≡ names_before s → first ≡ [] ++ spelled (map Word (built (export_names s)).slots)
       → second ≡ first ++ spelled (map Word (built (export_names s)).keys) → third ≡ second ++ spelled (export_fields (length strings) (exports_at s.exports (built (export_names s)).order)) → third ≡ spelled (table_fields (script_tables s programs))
   unfolding script_tables

@@ -1,6 +1,6 @@
--- What this crate offers to the proofs of others: facts of linked containers, as `specs/` defines them.
+-- Facts of linked containers, as `specs/` defines them, for the proofs of other crates.
 
--- what is linked is read back: its container and its loader section are the script's
+-- a linked container is read back: its container and its loader section are the script's
 pub use Rattle.pef_write.proofs.LinkedLaws.{is_read_back}
 -- each of its sections is relocated by its program
 pub use Rattle.pef_write.proofs.LinkedPrograms.{section_programs}

@@ -1,4 +1,4 @@
--- The relocation programs of what is linked are least ones.
+-- The relocation programs of a linked container are least ones.
 use Rattle.std.proofs.Common.{◌≡◌, ◌≢◌, ◌∙◌, ℕ, zero, suc, ◌+◌, ◌<◌, ◌==◌, List, [], ◌∷◌, ◌++◌, Some, option_map, slice_get, length, append-nil, eq-eqb, refl, sym, ap, ap₂, subst, arith}
 use Rattle.std.specs.List.{filter}
 use Rattle.std.proofs.lemmas.Bool.{ne_eqb}
@@ -16,7 +16,7 @@ use Rattle.pef_write.specs.Linked.{AreCertified, IsCertified, IsLinked, LinkedCo
 use Rattle.pef_write.specs.Loaders.{ProgramEntry}
 use Rattle.pef_write.proofs.Certificates.{certified_least}
 
--- what is written of sections from a number on, of section k
+-- the programs for section k, among those written for sections from a number on
 abbrev own_of : ℕ → List ProgramEntry → List ProgramEntry
 own_of k programs = filter (λ p. p.section == k) programs
 
@@ -29,7 +29,7 @@ own_other : (k j : ℕ) (fixups : List Fixup) (instrs : List Instr) → j ≢ k 
 own_other k j [] instrs other = refl
 own_other k j (f ∷ fixups) instrs other = rw (ne_eqb j k other) refl
 
--- sections past a number have no program of it
+-- sections past a number have no program for it
 own_past : (k from : ℕ) (sections : List DescribedSection) (programs : List (List Instr)) → k < from → own_of k (programs_from from sections programs) ≡ []
 own_past k from [] programs past = refl
 own_past k from (s ∷ sections) [] past = refl
@@ -37,7 +37,7 @@ own_past k from (s ∷ sections) (instrs ∷ programs) past =
     filter-append (λ (p : ProgramEntry). p.section == k) (program_of from s.fixups instrs) (programs_from (from + 1) sections programs)
     ∙ ap₂ (λ a b. a ++ b) (own_other k from s.fixups instrs (λ same. absurd (omega (arith, same, past)))) (own_past k (from + 1) sections programs (omega (arith, past)))
 
--- what is written of a section is its program
+-- the program written for a section is its program
 own_is : (from i k : ℕ) (sections : List DescribedSection) (programs : List (List Instr)) (section : DescribedSection) (instrs : List Instr) → k ≡ from + i → slice_get sections i ≡ Some section → slice_get programs i ≡ Some instrs
     → own_of k (programs_from from sections programs) ≡ program_of k section.fixups instrs
 own_is from i k [] programs section instrs at there own = absurd (cc)

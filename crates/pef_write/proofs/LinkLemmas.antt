@@ -1,4 +1,4 @@
--- What is linked of a script: the bytes that are written are its own.
+-- The bytes written for a script are those of its linked container.
 use Rattle.std.proofs.Common.{◌≡◌, ◌∙◌, ℕ, ◌<◌, ◌^◌, List, length, map, refl, sym, ap, arith}
 use Rattle.std.proofs.lemmas.List.{length-map}
 use Rattle.pef_cert.specs.Certified.{Certified}

@@ -1,4 +1,4 @@
--- What is linked is read back: its container, with the script's sections and tables.
+-- A linked container is read back, with the script's sections and tables.
 use Rattle.std.proofs.Common.{◌≡◌, ◌≢◌, ◌∙◌, ℕ, zero, suc, ◌+◌, ◌^◌, ◌<◌, ◌≤◌, List, [], ◌∷◌, None, Some, length, get_or, slice_get, option_map, inl, inr, refl, sym, ap, arith}
 use Rattle.std.specs.Int.{next_multiple_of}
 use Rattle.std.specs.Option.{option_and_then}
@@ -184,7 +184,7 @@ module _ (s : DescribedScript) (programs : List (List Instr)) (holds : ScriptHol
         unnamed = unnamed_missing;
       }
 
--- what is linked is read back
+-- a linked container is read back
 pub is_read_back : (s : DescribedScript) (l : LinkedContainer) (linked : IsLinked s l) → IsReadBack s l linked
 unfolding linked_loader
 is_read_back s l linked =

@@ -1,4 +1,4 @@
--- The relocation programs of what is linked relocate their sections, and aren't refused.
+-- The relocation programs of a linked container relocate their sections, and aren't refused.
 use Rattle.std.proofs.Common.{◌≡◌, ◌∙◌, ℕ, zero, suc, ◌+◌, true, List, [], ◌∷◌, ◌++◌, Some, length, map, slice_get, refl, ap, subst, sym, arith}
 use Rattle.std.specs.List.{AllByRecursion}
 use Rattle.pef_reloc.specs.declared.fixup.Fixup.{Fixup}

@@ -1,5 +1,5 @@
--- What is true of the tables of a script: names end before a zero byte, each import is of its own library,
--- and the export table has its keys.
+-- Facts of the tables of a script: names end before a zero byte, each import is of its own library, and
+-- the export table has its keys.
 use Rattle.std.proofs.Common.{◌≡◌, ◌≢◌, ◌∙◌, ℕ, suc, zero, ◌+◌, ◌/◌, ◌^◌, ◌<◌, ◌≤◌, true, List, [], ◌∷◌, ◌++◌, Option, None, Some, length, map, get_or, slice_get, refl, ap, arith}
 use Rattle.std.specs.Prelude.{FitsSigned, IfSome, nat_lt}
 use Rattle.std.specs.Int.{w16}
@@ -60,7 +60,7 @@ ranges_inside imports k (l ∷ libraries) =
     All-cons (λ (l : Library). l.first + l.count ≤ length imports) (linked_library imports k l) (libraries_from imports (k + 1) libraries)
     (omega (arith, before-next k imports, count_by-le-length (λ (i : Import). nat_lt i.library (k + 1)) imports)) (ranges_inside imports (k + 1) libraries)
 
--- imports stand library by library, so the first library that has an import is its own
+-- imports are in the order of their libraries, so the first library that has an import is its own
 owner-from : (imports : List Import) (k at : ℕ) (libraries : List DescribedLibrary) (i j : ℕ) (x : Import) → Rises (map (λ symbol. symbol.library) imports) → slice_get imports j ≡ Some x → x.library ≡ k + i → i < length libraries
     → position_from (has_import j) at (libraries_from imports k libraries) ≡ Some (at + i)
 owner-from imports k at [] i j x rises there own under = absurd (omega arith)
@@ -86,7 +86,7 @@ own_library s j i holds there =
     ∙ owner-from s.imports 0 0 s.libraries i.library j i holds.imports.grouped there (omega arith) inside
     ∙ ap Some e
 
--- entries and programs are of sections that are there, and what exports stand for is there
+-- entries and programs are of sections that exist, and so are the sections and imports of exports
 
 entry_there : (sections : List DescribedSection) (entry : Option (ℕ × ℕ)) → EntryHolds (totals_of sections) entry → IfSome entry (λ e. e.0 < length sections)
 entry_there sections None holds = tt
@@ -150,7 +150,7 @@ unfolding built keys_at
 keys_match s =
     keys_at_places s.exports (built (export_names s)).order (order_below s)
 
--- the tables of a script are a loader section's
+-- the tables of a script are those of a loader section
 pub are_sound : (s : DescribedScript) (programs : List (List Instr)) → ScriptHolds s → AreProgramsFor (length s.sections) s.sections programs → AreTables (length s.sections) (linked_tables s programs)
 unfolding script_tables
 are_sound s programs holds are =

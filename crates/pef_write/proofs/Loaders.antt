@@ -34,7 +34,7 @@ length-program_fields at (p ∷ programs) =
     let later = length-program_fields (at + length p.bytes) programs in
     omega (arith, later)
 
--- the entries, which stand between the header and the programs
+-- the entries, between the header and the programs
 pub length-entry_fields : (t : LoaderTables) → length (spelled (entry_fields t)) + 56 ≡ programs_from t
 length-entry_fields t =
     let libraries = library_fields 0 t.libraries in
@@ -44,13 +44,13 @@ length-entry_fields t =
     let b = ap length (spelled-append imports programs) ∙ length-append (spelled imports) (spelled programs) in
     omega (arith, a, b, length-library_fields 0 t.libraries, length-import_fields (import_names_from t) t.imports, length-program_fields 0 t.programs)
 
--- all that stands before the programs is as long as they are far
+-- all bytes before the programs are as many as the offset of the programs
 pub length-front_fields : (t : LoaderTables) → length (spelled (front_fields t)) ≡ programs_from t
 length-front_fields t =
     let all = ap length (spelled-append (header_fields t) (entry_fields t)) ∙ length-append (spelled (header_fields t)) (spelled (entry_fields t)) in
     omega (arith, all, length-loader_header t, length-entry_fields t)
 
--- all that stands before the export table
+-- all bytes before the export table
 abbrev pub front_of : LoaderTables → List ℕ
 front_of t = spelled (front_fields t) ++ (program_bytes t.programs ++ strings_of t)
 

@@ -34,7 +34,7 @@ module _ (t : LoaderTables) (p : Pieces) (are : ArePieces t p) where
       ∙ ap (λ z. (spelled (header_fields t ++ entry_fields t) ++ program_bytes t.programs) ++ z) are.strings
       ∙ append_assoc (spelled (header_fields t ++ entry_fields t)) (program_bytes t.programs) (strings_of t)
 
-  -- .. and the export table behind them
+  -- .. and the export table after them
   pub whole_is : (padding whole : List ℕ) → padding ≡ padded 4 (front_of t) → whole ≡ padding ++ p.table.now → whole ≡ written_loader t
   unfolding written_loader
   whole_is padding whole a b = b ∙ ap (λ z. z ++ p.table.now) a ∙ ap (λ z. padded 4 (front_of t) ++ z) are.table

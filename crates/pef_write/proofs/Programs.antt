@@ -15,7 +15,7 @@ use Rattle.std.proofs.lemmas.Bool.{and_parts}
 use Rattle.pef_write.specs.Linked.{AreProgramsFor, IsProgramFor, program_of, programs_from}
 use Rattle.pef_write.specs.Kept.Encoded.{nonempty, nonempty_from}
 
--- a program for no fixups is empty, and one for some is not
+-- a program for no fixups is empty, and one for some fixups isn't
 no_bytes : (n : ℕ) (instrs : List Instr) → IsProgramFor n [] instrs → spelled instrs ≡ []
 no_bytes n instrs is = empty (spelled instrs) (omega (arith, length-spelled instrs, is.short))
   where
@@ -34,7 +34,7 @@ some_bytes n f fixups instrs is = by (spelled instrs) refl
         absurd (cc)
     by (b ∷ bytes) some = omega arith
 
--- a section's program has bytes where the section has fixups
+-- a section's program has bytes exactly if the section has fixups
 own_program-is : (n k : ℕ) (fixups : List Fixup) (instrs : List Instr) → IsProgramFor n fixups instrs → program_of k fixups instrs ≡ nonempty k (spelled instrs)
 own_program-is n k [] instrs is = ap (nonempty k) (sym (no_bytes n instrs is))
 own_program-is n k (f ∷ fixups) instrs is = by (spelled instrs) (some_bytes n f fixups instrs is)

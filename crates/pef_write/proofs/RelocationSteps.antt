@@ -1,4 +1,4 @@
--- Steps along the relocation programs that the code holds.
+-- Steps along the relocation programs that the code has.
 use Rattle.std.proofs.Common.{◌≡◌, ◌∙◌, ℕ, ◌+◌, ◌<◌, ◌≤◌, List, [], ◌++◌, length, drop, get_or, map, length-append, ap}
 use Rattle.std.proofs.lemmas.List.{drop_more, drop_all}
 use Rattle.pef_write.specs.declared.relocations.SectionProgram.{SectionProgram}
@@ -7,11 +7,11 @@ use Rattle.pef_write.specs.Loaders.{program_bytes, program_fields, relocation_en
 use Rattle.pef_write.specs.Kept.Views.{program_entry}
 use Rattle.pef_write.proofs.Fields.{spelled-append}
 
--- what stands for a program past the last one
+-- the value for a program past the last one
 abbrev pub no_program : SectionProgram
 no_program = record { section = 0; bytes = record { ref_ptr = (0, 0); now = [] } }
 
--- one program, and those behind it
+-- one program, and those after it
 pub program_bytes-more : (programs : List SectionProgram) (i : ℕ) → i < length programs
     → program_bytes (map program_entry (drop i programs)) ≡ (get_or programs i no_program).bytes.now ++ program_bytes (map program_entry (drop (i + 1) programs))
 program_bytes-more programs i under = ap (λ rest. program_bytes (map program_entry rest)) (drop_more programs i no_program under)
@@ -20,7 +20,7 @@ pub length-program_bytes-more : (programs : List SectionProgram) (i : ℕ) → i
     → length (program_bytes (map program_entry (drop i programs))) ≡ length (get_or programs i no_program).bytes.now + length (program_bytes (map program_entry (drop (i + 1) programs)))
 length-program_bytes-more programs i under = ap length (program_bytes-more programs i under) ∙ length-append (get_or programs i no_program).bytes.now (program_bytes (map program_entry (drop (i + 1) programs)))
 
--- one relocation header, and those behind it
+-- one relocation header, and those after it
 pub program_fields-more : (at : ℕ) (programs : List SectionProgram) (i : ℕ) → i < length programs
     → let p = get_or programs i no_program in
     spelled (program_fields at (map program_entry (drop i programs)))

@@ -1,5 +1,5 @@
--- Where a part of some bytes stands, and what is read of it there; and the entries of a table, each with
--- fields as wide as those of any other.
+-- Where a part of some bytes is, and the values read from it there; and the entries of a table, each with fields as
+-- wide as those of any other.
 use Rattle.std.proofs.Common.{◌≡◌, ◌∙◌, ℕ, zero, suc, ◌+◌, ◌*◌, ◌≤◌, List, [], ◌∷◌, ◌++◌, Some, length, take, drop, map, length-append, append-nil, append_assoc, refl, sym, ap, subst, arith}
 use Rattle.std.specs.Prelude.{slice_get}
 use Rattle.std.specs.List.{flat_map}
@@ -52,7 +52,7 @@ stands-among f (y ∷ xs) (suc i) x there =
     let P : ℕ → Type 0 = λ at. Stands (flat_map f (y ∷ xs)) (f x) at in
     subst P (sym (length-append (f y) (flat_map f (take i xs)))) all
 
--- what is made of elements that are made of others
+-- a list that is made from a mapped list
 pub flat_map-map : {X Y : Type 0} (g : Y → List ℕ) (f : X → Y) (xs : List X) → flat_map g (map f xs) ≡ flat_map (λ x. g (f x)) xs
 flat_map-map g f [] = refl
 flat_map-map g f (x ∷ xs) = ap (λ z. g (f x) ++ z) (flat_map-map g f xs)
@@ -91,14 +91,15 @@ stands-inside bytes part at s =
     let far = s.far in
     omega arith
 
--- where all before its place is left out, it stands at the front
+-- if all bytes before its place are dropped, it is at the front
 pub stands-dropped : (bytes part : List ℕ) (at : ℕ) → Stands bytes part at → Stands (drop at bytes) part 0
 stands-dropped bytes part at s =
     let rest : drop at bytes ≡ part ++ s.behind = ap (drop at) s.is ∙ drop_at s.before (part ++ s.behind) at s.far in
     let P : List ℕ → Type 0 = λ bytes. Stands bytes part 0 in
     subst P (sym rest) (stands-front part s.behind)
 
--- a table of entries whose fields are as wide as those of any other; each entry counts what it has of bytes elsewhere
+-- a table of entries whose fields are as wide as those of any other; each entry counts the bytes that it has
+-- elsewhere
 pub record IsTable {X : Type 0} (table : ℕ → List X → List Field) (one : ℕ → X → List Field) (bytes : X → List ℕ) (wide : ℕ) : Type 0 where
   pub more : (at : ℕ) (x : X) (xs : List X) → table at (x ∷ xs) ≡ one at x ++ table (at + length (bytes x)) xs
   pub width : (at : ℕ) (x : X) → widths (one at x) ≡ wide

@@ -1,5 +1,5 @@
--- What is written for tables is read as a loader section with these tables: no entry is refused, and each
--- is read back.
+-- The bytes written for tables are read as a loader section with these tables: no entry is refused, and
+-- each is read back.
 use Rattle.std.proofs.Common.{◌≡◌, ◌∙◌, ℕ, suc, ◌+◌, ◌*◌, ◌/◌, ◌%◌, ◌^◌, ◌==◌, ◌<◌, ◌≤◌, Bool, true, false, cond, inl, inr, List, [], ◌∷◌, Option, None, Some, length, drop, get_or, eq-eqb, refl, sym, subst, arith}
 use Rattle.std.specs.Prelude.{FitsSigned, IfSome, Ok, slice_get}
 use Rattle.std.specs.Int.{w16, w32, cast_signed, cast_unsigned}
@@ -34,12 +34,13 @@ use Rattle.pef_write.proofs.Listing.{zip-at, zip-length}
 use Rattle.pef_write.proofs.Standing.{import_name, library_name, name-stands, part-stands, stands-dropped, stands-in, stands-inside}
 use Rattle.pef_write.proofs.TablesStand.{export-name-stands, export_name_at, export_reads, import-name-stands, import_name_at, import_reads, key_reads, library-name-stands, library_name_at, library_reads, loader_header_reads, program-stands, program_at, relocation_reads, slot_reads, strings-stand, table-behind}
 
--- the same choice before the same others
+-- the same choice before equal others
 same_choice : (b : Bool) (x : ℕ) (others others' : Option ℕ) → others ≡ others' → option_or (cond b (Some x) None) others ≡ cond b (Some x) others'
 same_choice true x others others' same = refl
 same_choice false x others others' same = same
 
--- where each place has its number as the answer if its entry passes, the first answer is the first number
+-- if each place has its number as the answer exactly if its entry passes, the first answer is the first
+-- number
 first-from : {X : Type 0} (answer : ℕ → Option ℕ) (test : X → Bool) (at : ℕ) (xs : List X) → ((i : ℕ) (x : X) → slice_get xs i ≡ Some x → answer (at + i) ≡ cond (test x) (Some (at + i)) None)
     → first_among answer at (length xs) ≡ position_from test at xs
 first-from answer test at [] each = refl
@@ -61,7 +62,7 @@ first-place {X} answer test xs each =
     subst P e (each i x there)))
     ∙ sym (position_from-zero test xs)
 
--- what holds of all holds of each
+-- a fact of all is one of each
 all-at : {X : Type 0} (P : X → Type 0) (xs : List X) (i : ℕ) (x : X) → ((k : ℕ) (d : X) → k < length xs → P (get_or xs k d)) → slice_get xs i ≡ Some x → P x
 all-at P xs i x each there = subst P (get_or_from_slice_get xs i x x there) (each i x (slice_get_within xs i x there))
 
@@ -265,7 +266,7 @@ header_there sections t bytes a r0 =
     let term = section-signed sections t.term a.few a.term in
     rw (r0.0, r1.0, r2.0, r3.0, r4.0, r5.0, r6.0, r7.0, r8.0, r9.0, r10.0, r11.0, r12.0, r13.0, main, init, term) refl
 
--- where no entry of a list is refused, there is no first refusal
+-- if no entry of a list is refused, there is no first refusal
 none_refused : {X F : Type 0} (refusal : ℕ → Option F) (from : ℕ) (xs : List X) → ((i : ℕ) (x : X) → slice_get xs i ≡ Some x → refusal (from + i) ≡ None) → first_among refusal from (length xs) ≡ None
 none_refused refusal from [] each = refl
 none_refused {F = F} refusal from (x ∷ xs) each =
@@ -289,7 +290,7 @@ tables_inside t =
     let whole = length-written_loader t in
     omega arith
 
--- what is written is a loader section with these tables
+-- the bytes written are a loader section with these tables
 pub tables_loaded : (sections : ℕ) (t : LoaderTables) → AreTables sections t → loaded_of sections (written_loader t) ≡ Ok (loaded_tables sections t)
 tables_loaded sections t a = accepts (loaded_tables sections t) (record {
   header = header_there sections t (written_loader t) a (loader_header_reads t a.fit);
@@ -302,7 +303,7 @@ tables_loaded sections t a = accepts (loaded_tables sections t) (record {
   exports = none_of (export_refusal (written_loader t) (header_read t) sections) t.exports (export_accepted sections t a);
 })
 
--- what is read at a place of a list: what its element leads to, and past the end what none does
+-- the value read at a place of a list: that of its element, or none past the end
 read-each : {X Y : Type 0} (result : Option X → Y) (part : Y) (xs : List X) (i : ℕ) → ((x : X) → slice_get xs i ≡ Some x → part ≡ result (Some x)) → (length xs ≤ i → part ≡ result None) → part ≡ result (slice_get xs i)
 read-each result part xs i there past =
     elim (slice_get_cases xs i).1 [
@@ -310,7 +311,7 @@ read-each result part xs i there past =
       | inr behind ↦ rw behind.1 (past behind.0)
     ]
 
--- an entry that is there is read with its section and offset
+-- an entry that exists is read with its section and offset
 entry-read : (entry : Option (ℕ × ℕ)) → header_entry (section_read entry) (entry_offset entry) ≡ entry
 entry-read None = refl
 entry-read (Some entry) = refl

@@ -1,4 +1,4 @@
--- What stands where in a written loader section.
+-- What is at which place in a written loader section.
 use Rattle.std.proofs.Common.{◌≡◌, ℕ, suc, ◌+◌, ◌*◌, ◌-◌, ◌<◌, ◌≤◌, ◌^◌, List, [], ◌∷◌, ◌++◌, Some, length, take, drop, map, replicate, length-append, append-nil, sym, subst, arith}
 use Rattle.std.specs.Prelude.{Bool, true, false, ℤ, pos, negsuc, FitsSigned, slice_get}
 use Rattle.std.specs.Int.{w16, cast_unsigned, next_multiple_of}
@@ -81,12 +81,12 @@ fit-exports at limit (e ∷ exports) each inside small =
 abbrev table_zeros : LoaderTables → List ℕ
 table_zeros t = replicate (next_multiple_of (length (front_of t)) 4 - length (front_of t)) 0
 
--- the export table stands behind all else
+-- the export table is after everything else
 pub table-behind : (t : LoaderTables) → drop (exports_from t) (written_loader t) ≡ spelled (table_fields t)
 unfolding written_loader
 table-behind t = drop_at (padded 4 (front_of t)) (spelled (table_fields t)) (exports_from t) (length-front_of t)
 
--- the programs and the strings stand behind the entries
+-- the programs and the strings are after the entries
 behind-entries : (t : LoaderTables) → Stands (written_loader t) (program_bytes t.programs ++ strings_of t) (programs_from t)
 unfolding written_loader padded
 behind-entries t =
@@ -115,7 +115,7 @@ program-stands t i p there =
     let P : ℕ → Type 0 = λ at. Stands (written_loader t) p.bytes at in
     subst P e own
 
--- where the name of an entry stands, counted from the first string
+-- where the name of an entry is, counted from the first string
 abbrev pub library_name_at : LoaderTables → ℕ → ℕ
 library_name_at t i = length (flat_map library_name (take i t.libraries))
 
@@ -185,7 +185,7 @@ module _ (t : LoaderTables) (w : TablesFit t) where
       let others = fit-append (library_fields 0 t.libraries) _ libraries (fit-append (import_fields (import_names_from t) t.imports) (program_fields 0 t.programs) imports programs) in
       (main, (main', (init, (init', (term, (term', (omega arith, (omega arith, (omega arith, (omega arith, (omega arith, (omega arith, (power, (omega arith, others))))))))))))))
 
-  -- all that stands before the programs
+  -- all fields before the programs
   front_reads : Reads (written_loader t) 0 0 (front_fields t)
   unfolding written_loader padded
   front_reads =
@@ -194,7 +194,7 @@ module _ (t : LoaderTables) (w : TablesFit t) where
       let P : List ℕ → Type 0 = λ bytes. Reads bytes 0 0 (front_fields t) in
       subst P (sym all) (reads [] (rest ++ (table_zeros t ++ spelled (table_fields t))) (front_fields t) front_fits)
 
-  -- the loader header stands at the front, and the entries behind it
+  -- the loader header is at the front, and the entries after it
   pub loader_header_reads : Reads (written_loader t) 0 0 (header_fields t)
   loader_header_reads = (reads-split (written_loader t) 0 0 (header_fields t) (entry_fields t) front_reads).0
 

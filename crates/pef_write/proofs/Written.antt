@@ -1,4 +1,4 @@
--- A written container is read back as what was written.
+-- A written container is read back with its parts.
 use Rattle.std.proofs.Common.{◌≡◌, ◌∙◌, ℕ, zero, suc, ◌+◌, ◌*◌, ◌-◌, ◌<◌, ◌≤◌, ◌^◌, Bool, true, false, List, [], ◌∷◌, ◌++◌, None, Some, length, take, replicate, get_or, length-append, append_assoc, refl, sym, ap, subst, inl, inr, arith}
 use Rattle.std.specs.Prelude.{Ok, IsTrue, ◌==◌, ◌||◌, if◌then◌else◌, nat_le, nat_lt, slice_get}
 use Rattle.std.specs.Int.{w32, cast_signed, cast_unsigned, next_multiple_of}
@@ -29,7 +29,7 @@ use Rattle.pef_write.specs.Kept.Tables.{ReadsBack, contained_in}
 use Rattle.pef_write.proofs.Fields.{inward, length-padded, outward, reads}
 use Rattle.pef_write.proofs.Containers.{fronts, length-front, length-header, length-headers, length-laid_out, length-written_container}
 
--- a header whose fields stand at the front
+-- a header whose fields are at the front
 header_if : (bytes : List ℕ) (h : Header) → Reads bytes 0 0 (header_fields h) → header_of bytes ≡ Some h
 unfolding header_of header_fields
 header_if bytes h r0 =
@@ -45,7 +45,7 @@ header_if bytes h r0 =
     let r10 = r9.1 in
     rw (r0.0, r1.0, r2.0, r3.0, r4.0, r5.0, r6.0, r7.0, r8.0, r9.0, r10.0) refl
 
--- a section header whose fields stand in its place
+-- a section header whose fields are in its place
 section_if : (bytes : List ℕ) (i : ℕ) (s : SectionHeader) → cast_signed w32 (cast_unsigned w32 s.name_offset) ≡ s.name_offset → Reads bytes (40 + 28 * i) 0 (section_fields s) → section_at bytes i ≡ Some s
 unfolding section_at section_fields
 section_if bytes i s name r0 =
@@ -62,7 +62,7 @@ section_if bytes i s name r0 =
     let r9 = r8.1 in
     rw (first, r1.0, r2.0, r3.0, r4.0, r5.0, r6.0, r7.0, r8.0, r9.0, name) refl
 
--- what stands for a section past the last one
+-- the value for a section past the last one
 abbrev pub no_section : Section
 no_section = record { header = loader_header 0 0; raw = [] }
 
@@ -89,7 +89,7 @@ header_at (s ∷ sections) (suc i) under =
       place = omega (arith, later.place, first, size);
     }
 
--- what is known of a section among written bytes
+-- the facts of a section among written bytes
 record IsSound (bytes : List ℕ) (instantiated : Bool) (s : Section) : Type 0 where
   fields : AllFit (section_fields s.header)
   name : cast_signed w32 (cast_unsigned w32 s.header.name_offset) ≡ s.header.name_offset
@@ -101,7 +101,7 @@ inside_if s len inside =
     let e = le-leb (s.container_offset + s.packed_size) len inside in
     rw (e, or-true (s.packed_size == 0)) refl
 
--- the loader section, behind all others
+-- the loader section, after all others
 loader_sound : (before loader : List ℕ) → length (before ++ loader) < 2 ^ 32 → IsSound (before ++ loader) false (record { header = loader_header (length loader) (length before); raw = loader })
 unfolding section_fields
 loader_sound before loader small =
@@ -148,7 +148,7 @@ section_sound before rest s writable small =
       unmet = section_tests-unmet true header len (inside_if header len (omega arith)) (λ h. (kind_if s.header.kind writable.kind, sizes_if s (length before) writable.kind image, align));
     }
 
--- what is known of each section
+-- the facts of each section
 sections_sound : (before : List ℕ) (sections : List DescribedSection) (loader : List ℕ) (i : ℕ) (instantiated : Bool) → All IsWritable sections → length (before ++ raw_data sections loader) < 2 ^ 32 → i < length sections + 1 → instantiated ≡ nat_lt i (length sections)
     → IsSound (before ++ raw_data sections loader) instantiated (get_or (laid_out (length before) sections loader) i no_section)
 unfolding laid_out raw_data
@@ -174,11 +174,11 @@ unfolding laid_out kind_of
 last_is at [] loader = (refl, refl)
 last_is at (s ∷ sections) loader = last_is (at + next_multiple_of (length (raw_of s)) 16) sections loader
 
--- the zeros behind all headers
+-- the zeros after all headers
 abbrev front_zeros : Versions → List DescribedSection → List ℕ → List ℕ
 front_zeros v sections loader = replicate (next_multiple_of (length (fronts v sections loader)) 16 - length (fronts v sections loader)) 0
 
--- what is said of all written sections
+-- the facts of all written sections
 module _ (v : Versions) (sections : List DescribedSection) (loader : List ℕ) (w : AreWritable v sections loader) where
   count : length (written_sections sections loader) ≡ length sections + 1
   unfolding written_sections
@@ -243,7 +243,7 @@ module _ (v : Versions) (sections : List DescribedSection) (loader : List ℕ) (
     loader = (last_is (data_from (length sections)) sections loader).0;
   }
 
-  -- written bytes are the container of what was written
+  -- written bytes are the container of their parts
   pub container_of-sections : container_of (written_container v sections loader) ≡ Ok (contained_in v sections loader)
   unfolding written_sections
   container_of-sections =
@@ -265,7 +265,7 @@ module _ (v : Versions) (sections : List DescribedSection) (loader : List ℕ) (
         rw (past.0, none) refl
   ]
 
--- what is written is read back
+-- the bytes written are read back
 pub reads_back : (v : Versions) (sections : List DescribedSection) (loader bytes : List ℕ) → bytes ≡ written_container v sections loader → AreWritable v sections loader → ReadsBack v sections loader bytes
 reads_back v sections loader bytes is w = record {
   container = ap container_of is ∙ container_of-sections v sections loader w;

@@ -62,11 +62,11 @@ written_header v n = record {
   reserved = 0;
 }
 
--- the raw bytes of a section: its image, packed if its kind is
+-- the raw bytes of a section: its image, packed if its kind is packed
 abbrev pub raw_of : DescribedSection → List ℕ
 raw_of s = if is_packed s.header.kind then packed_of s.image else s.image
 
--- the header of a section whose raw bytes lie at a place. It has no name there
+-- the header of a section whose raw bytes are at a place, without a name
 abbrev pub section_header : DescribedSection → ℕ → SectionHeader
 section_header s at = record {
   name_offset = negsuc 0;
@@ -96,7 +96,7 @@ loader_header n at = record {
   reserved = 0;
 }
 
--- the sections, where the first lies at a place and each later one at the next multiple of 16 after the one
+-- the sections, if the first lies at a place and each later one at the next multiple of 16 after the one
 -- before it
 unfoldable pub laid_out : ℕ → List DescribedSection → List ℕ → List Section
 laid_out at [] loader = record { header = loader_header (length loader) at; raw = loader } ∷ []
@@ -128,7 +128,7 @@ written_container v sections loader =
     padded 16 (spelled (header_fields (written_header v (length sections))) ++ spelled_headers (written_sections sections loader))
     ++ raw_data sections loader
 
--- section k of a container is this one: its header says what the script does, and its raw bytes are those of
+-- section k of a container is this one: its header has the script's values, and its raw bytes are those of
 -- the image
 pub record IsSection (c : Contained) (k : ℕ) (s : DescribedSection) : Type 0 where
   pub at : ℕ

@@ -1,5 +1,5 @@
--- Numbers as containers have them: big-endian, in one, two or four bytes (Mac OS Runtime Architectures,
--- "PEF Structure").
+-- Numbers in containers: big-endian, in one, two or four bytes (Mac OS Runtime Architectures, "PEF
+-- Structure").
 use Rattle.std.specs.Prelude.{ℕ, ◌-◌, List, [], ◌∷◌, ◌++◌, length, replicate}
 use Rattle.std.specs.Int.{next_multiple_of}
 use Rattle.byteorder.specs.Endian.{big_bytes}
@@ -27,6 +27,6 @@ unfoldable pub spelled : List Field → List ℕ
 spelled [] = []
 spelled (field ∷ fields) = field_bytes field ++ spelled fields
 
--- some bytes, with zeros behind them up to the next multiple of a number
+-- some bytes, with zeros after them up to the next multiple of a number
 unfoldable pub padded : ℕ → List ℕ → List ℕ
 padded multiple bytes = bytes ++ replicate (next_multiple_of (length bytes) multiple - length bytes) 0

@@ -1,5 +1,5 @@
--- What is least about a linked container: for each section its relocation program, of which no flat one
--- that makes the same fixups has fewer halfwords. This is our own rule.
+-- What is least about a linked container: the relocation program of each section. No flat program that
+-- makes the same fixups has fewer halfwords. This is our own rule.
 use Rattle.std.specs.Prelude.{◌≡◌, ℕ, ◌==◌, Some, slice_get}
 use Rattle.std.specs.List.{filter}
 use Rattle.pef_cert.specs.Certified.{Certified}
@@ -8,8 +8,9 @@ use Rattle.pef_reloc.specs.Steps.{Least}
 use Rattle.pef_script.specs.Script.{DescribedScript, DescribedSection}
 use Rattle.pef_write.specs.Linked.{IsCertified, IsLinked, LinkedContainer, program_of, programs_from}
 
--- section k has a certificate that holds for its fixups; the program of that is a least one, its length
--- is the one that is told, and it is what is written of section k: nothing where there are no fixups
+-- section k has a certificate that holds for its fixups; its program is a least one; its length is the
+-- one that is reported; and it is the program that is written for section k, or nothing if there are no
+-- fixups
 pub record HasLeastProgram (s : DescribedScript) (l : LinkedContainer) (linked : IsLinked s l) (k : ℕ) (section : DescribedSection) : Type 0 where
   pub certificate : Certified
   pub there : slice_get l.certificates k ≡ Some certificate

@@ -19,8 +19,8 @@ use Rattle.pef_script.specs.WellFormed.{ScriptHolds}
 use Rattle.pef_write.specs.Containers.{written_container}
 use Rattle.pef_write.specs.Loaders.{LoaderTables, ProgramEntry, written_loader}
 
--- instructions that are a program for some fixups among so many sections: without a repeat, they make
--- the fixups, each once and in order, name no other sections, and have at most four halfwords for each
+-- instructions that are a program for some fixups among this many sections: without a repeat, they make the
+-- fixups, each once and in order, name no other sections, and have at most four halfwords for each
 pub record IsProgramFor (sections : ℕ) (fixups : List Fixup) (instrs : List Instr) : Type 0 where
   pub flat : is_flat instrs ≡ true
   pub makes : Makes fixups instrs
@@ -47,7 +47,7 @@ AreCertified k [] (c ∷ certificates) = ⊥
 AreCertified k (s ∷ sections) [] = ⊥
 AreCertified k (s ∷ sections) (c ∷ certificates) = IsCertified k s.fixups c × AreCertified (k + 1) sections certificates
 
--- library k with its imports: how many of them are its own, and how many are of the libraries before it
+-- library k with its imports: how many it has, and how many the libraries before it have
 abbrev pub linked_library : List Import → ℕ → DescribedLibrary → Library
 linked_library imports k l = record {
   name = l.name;
@@ -63,7 +63,7 @@ abbrev pub libraries_from : List Import → ℕ → List DescribedLibrary → Li
 libraries_from imports k [] = []
 libraries_from imports k (l ∷ libraries) = linked_library imports k l ∷ libraries_from imports (k + 1) libraries
 
--- the relocation program of section k, where it has fixups
+-- the relocation program of section k, if it has fixups
 abbrev pub program_of : ℕ → List Fixup → List Instr → List ProgramEntry
 program_of k [] instrs = []
 program_of k (fixup ∷ fixups) instrs = record { section = k; bytes = spelled instrs } ∷ []
@@ -73,7 +73,7 @@ abbrev pub programs_from : ℕ → List DescribedSection → List (List Instr) �
 programs_from k (s ∷ sections) (instrs ∷ programs) = program_of k s.fixups instrs ++ programs_from (k + 1) sections programs
 programs_from k sections programs = []
 
--- what stands for an export past the last one
+-- the value for an export past the last one
 abbrev pub no_export : Export
 no_export = record { name = []; class = 0; section = pos 0; value = 0 }
 
@@ -109,14 +109,14 @@ linked_loader s programs = written_loader (linked_tables s programs)
 unfoldable pub linked_bytes : DescribedScript → List (List Instr) → List ℕ
 linked_bytes s programs = written_container s.versions s.sections (linked_loader s programs)
 
--- what was linked: the container, and for each section the length of its program, in halfwords, and the
+-- a linked container: its bytes, and for each section the length of its program, in halfwords, and the
 -- certificate that none is shorter
 pub record LinkedContainer : Type 0 where
   pub bytes : List ℕ
   pub lengths : List ℕ
   pub certificates : List Certified
 
--- what was linked of a script, which keeps the limits: its container with some programs for its sections,
+-- a container linked from a script, which keeps the limits: its bytes with some programs for its sections,
 -- their lengths, and the certificates that have the programs
 pub record IsLinked (script : DescribedScript) (l : LinkedContainer) : Type 0 where
   pub holds : ScriptHolds script

@@ -1,6 +1,6 @@
 -- Which bytes are written for a loader section (Mac OS Runtime Architectures, "PEF Structure", "The
 -- Loader Section"; PEFLoaderInfoHeader and what follows it in PEFBinaryFormat.h). The tables follow each
--- other without gaps; where the strings and the export table lie is this project's own choice.
+-- other without gaps. Where the strings and the export table lie is this project's own choice.
 use Rattle.std.specs.Prelude.{ℕ, ◌+◌, ◌*◌, ◌/◌, ◌^◌, Bool, true, false, List, [], ◌∷◌, ◌++◌, Option, None, Some, length, map}
 use Rattle.std.specs.Int.{w16, cast_unsigned, next_multiple_of}
 use Rattle.std.specs.List.{flat_map}
@@ -16,8 +16,8 @@ pub record ProgramEntry : Type 0 where
   pub section : ℕ
   pub bytes : List ℕ
 
--- what a loader section has; the imports stand library by library, and the keys and the exports in the
--- order of the export table
+-- the tables of a loader section; the imports are in the order of their libraries, and the keys and the
+-- exports in the order of the export table
 pub record LoaderTables : Type 0 where
   pub main : Option (ℕ × ℕ)
   pub init : Option (ℕ × ℕ)
@@ -30,17 +30,17 @@ pub record LoaderTables : Type 0 where
   pub keys : List ℕ
   pub exports : List Export
 
--- an entry's section, and -1 where it is absent
+-- an entry's section, or -1 if it is absent
 abbrev pub entry_section : Option (ℕ × ℕ) → ℕ
 entry_section None = 0xFFFFFFFF
 entry_section (Some entry) = entry.0
 
--- an entry's offset, and 0 where it is absent
+-- an entry's offset, or 0 if it is absent
 abbrev pub entry_offset : Option (ℕ × ℕ) → ℕ
 entry_offset None = 0
 entry_offset (Some entry) = entry.1
 
--- names with a zero byte behind each
+-- names with a zero byte after each
 abbrev pub zero_ended : List (List ℕ) → List ℕ
 zero_ended names = flat_map (λ name. name ++ 0 ∷ []) names
 
@@ -59,16 +59,16 @@ import_names_from t = length (zero_ended (map (λ l. l.name) t.libraries))
 abbrev pub export_names_from : LoaderTables → ℕ
 export_names_from t = import_names_from t + length (zero_ended (map (λ i. i.name) t.imports))
 
--- where the programs begin: behind the header of 56 bytes, the libraries of 24 each, the imports of 4 and
+-- where the programs begin: after the header of 56 bytes, the libraries of 24 each, the imports of 4 and
 -- the relocation headers of 12
 abbrev pub programs_from : LoaderTables → ℕ
 programs_from t = 56 + 24 * length t.libraries + 4 * length t.imports + 12 * length t.programs
 
--- where the strings begin: behind the programs
+-- where the strings begin: after the programs
 abbrev pub strings_from : LoaderTables → ℕ
 strings_from t = programs_from t + length (program_bytes t.programs)
 
--- where the export table begins: at the next multiple of 4 behind the strings
+-- where the export table begins: at the next multiple of 4 after the strings
 abbrev pub exports_from : LoaderTables → ℕ
 exports_from t = next_multiple_of (strings_from t + length (strings_of t)) 4
 
@@ -90,7 +90,7 @@ header_fields t = Word (entry_section t.main)
     ∷ Word (length t.exports)
     ∷ []
 
--- the fields of an imported library whose name stands at an offset (PEFImportedLibrary)
+-- the fields of an imported library whose name is at an offset (PEFImportedLibrary)
 abbrev pub library_entry : ℕ → Library → List Field
 library_entry at l = Word at
     ∷ Word l.old_imp
@@ -102,7 +102,7 @@ library_entry at l = Word at
     ∷ Half 0
     ∷ []
 
--- .. and of libraries, where the first name stands there and the others follow it
+-- .. and of libraries, if the first name is there and the others follow it
 unfoldable pub library_fields : ℕ → List Library → List Field
 library_fields at [] = []
 library_fields at (l ∷ libraries) = library_entry at l ++ library_fields (at + (length l.name + 1)) libraries
@@ -112,7 +112,7 @@ abbrev pub class_byte : Bool → ℕ → ℕ
 class_byte true class = class + 0x80
 class_byte false class = class
 
--- the fields of an imported symbol whose name stands at an offset (PEFImportedSymbol)
+-- the fields of an imported symbol whose name is at an offset (PEFImportedSymbol)
 abbrev pub import_entry : ℕ → Import → List Field
 import_entry at i = Word (class_byte i.weak i.class * 2 ^ 24 + at) ∷ []
 
@@ -121,16 +121,16 @@ unfoldable pub import_fields : ℕ → List Import → List Field
 import_fields at [] = []
 import_fields at (i ∷ imports) = import_entry at i ++ import_fields (at + (length i.name + 1)) imports
 
--- the fields of the header of a program that stands at an offset (PEFLoaderRelocationHeader)
+-- the fields of the header of a program that is at an offset (PEFLoaderRelocationHeader)
 abbrev pub relocation_entry : ℕ → ProgramEntry → List Field
 relocation_entry at p = Half p.section ∷ Half 0 ∷ Word (length p.bytes / 2) ∷ Word at ∷ []
 
--- .. and of those of programs, one behind the other
+-- .. and of those of programs, one after the other
 unfoldable pub program_fields : ℕ → List ProgramEntry → List Field
 program_fields at [] = []
 program_fields at (p ∷ programs) = relocation_entry at p ++ program_fields (at + length p.bytes) programs
 
--- the fields of an exported symbol whose name stands at an offset (PEFExportedSymbol)
+-- the fields of an exported symbol whose name is at an offset (PEFExportedSymbol)
 abbrev pub export_entry : ℕ → Export → List Field
 export_entry at e = Word (e.class * 2 ^ 24 + at) ∷ Word e.value ∷ Half (cast_unsigned w16 e.section) ∷ []
 
@@ -143,7 +143,7 @@ export_fields at (e ∷ exports) = export_entry at e ++ export_fields (at + leng
 abbrev pub entry_fields : LoaderTables → List Field
 entry_fields t = library_fields 0 t.libraries ++ (import_fields (import_names_from t) t.imports ++ program_fields 0 t.programs)
 
--- all that stands before the programs
+-- all fields before the programs
 abbrev pub front_fields : LoaderTables → List Field
 front_fields t = header_fields t ++ entry_fields t
 

@@ -1,4 +1,4 @@
--- What a linked container is read as: the sections and tables of its script (Mac OS Runtime Architectures,
+-- A linked container as it is read: the sections and tables of its script (Mac OS Runtime Architectures,
 -- "PEF Structure"), with programs that relocate the sections as their fixups say.
 use Rattle.std.specs.Prelude.{◌≡◌, ◌≢◌, ℕ, ◌+◌, List, None, Ok, Some, length, map, option_map, slice_get, slice_index_or}
 use Rattle.std.specs.Option.{option_and_then}
@@ -15,7 +15,7 @@ use Rattle.pef_write.specs.Containers.{IsSection, loader_header}
 use Rattle.pef_write.specs.Linked.{IsLinked, LinkedContainer, linked_library, no_export, programs_from}
 use Rattle.pef_write.specs.Loaders.{ProgramEntry}
 
--- a container with a script's versions and sections, and its loader section behind these
+-- a container with a script's versions and sections, and its loader section after these
 pub record HasSections (s : DescribedScript) (c : Contained) : Type 0 where
   pub current : c.header.current_version ≡ s.versions.current
   pub old_def : c.header.old_def_version ≡ s.versions.old_def
@@ -48,7 +48,8 @@ pub record HasTables (s : DescribedScript) (programs : List (List Instr)) (l : L
   pub named : (e : ℕ) (export : Export) → slice_get s.exports e ≡ Some export → option_and_then (export_of l) (named_of l export.name) ≡ Some export
   pub unnamed : (name : List ℕ) → ((e : ℕ) (export : Export) → slice_get s.exports e ≡ Some export → export.name ≢ name) → named_of l name ≡ None
 
--- the bytes of a linked container are never refused, and these are its container and its loader section
+-- the bytes of a linked container are never refused, and are read as this container with this loader
+-- section
 pub record IsReadBack (s : DescribedScript) (l : LinkedContainer) (linked : IsLinked s l) : Type 0 where
   pub container : Contained
   pub loader : Loaded
@@ -57,9 +58,9 @@ pub record IsReadBack (s : DescribedScript) (l : LinkedContainer) (linked : IsLi
   pub sections : HasSections s container
   pub tables : HasTables s linked.programs loader
 
--- a relocation program of a section: it is readable; where the sections that there are have addresses, it
--- does the additions of the fixups; and where also the targets of the imports have them, it isn't refused
--- in the section's memory
+-- a relocation program of a section: it is readable; if all sections have addresses, it does the additions
+-- of the fixups; and if also the targets of the imports have addresses, it isn't refused in the section's
+-- memory
 pub record Relocates (s : DescribedScript) (section : DescribedSection) (bytes : List ℕ) : Type 0 where
   pub readable : program_fault bytes ≡ None
   pub does : (a : Addresses) (memory : List ℕ) → length a.sections ≡ length s.sections → relocated bytes a memory ≡ applied a (map add section.fixups) memory

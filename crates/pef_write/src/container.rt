@@ -15,10 +15,10 @@ use std::alloc::{AllocError, Global};
 /// The raw bytes of each section begin at a multiple of this.
 const DATA_ALIGNMENT: usize = 16;
 
-/// The alignment that a loader section's header states, as an exponent of two.
+/// The alignment in the header of a loader section, as an exponent of two.
 const LOADER_ALIGNMENT: u8 = 4;
 
-/// The container of `sections`, in their order, and of a loader section after them.
+/// Returns the container of `sections`, in their order, and of a loader section after them.
 ///
 /// It has no time stamp. All raw bytes begin at a multiple of [`DATA_ALIGNMENT`].
 pub(crate) fn write_container(
@@ -42,7 +42,7 @@ pub(crate) fn write_container(
     Ok(out)
 }
 
-/// Where the raw bytes of `count` sections and of a loader section begin.
+/// Returns where the raw bytes of `count` sections and of a loader section begin.
 fn data_from(count: usize) -> usize
     requires { count + 1 < 2 ^ 16 }
     ensures { result ≡ data_from count }
@@ -50,7 +50,7 @@ fn data_from(count: usize) -> usize
     (CONTAINER_HEADER_SIZE + SECTION_HEADER_SIZE * (count + 1)).next_multiple_of(DATA_ALIGNMENT)
 }
 
-/// The length of the container of `sections` and of a loader section.
+/// Returns the length of the container of `sections` and of a loader section.
 fn container_length(sections: &[RawSection<'_>], loader: &[u8]) -> usize
     requires count { length sections.now + 1 < 2 ^ 16 }
     requires fits { data_from (length sections.now) + length (raw_data sections.now loader.now) < 2 ^ 32 }
@@ -111,7 +111,7 @@ fn put_padded(out: &mut Vec<u8>, bytes: &[u8]) -> Result<(), AllocError>
     out.resize(out.len() + zeros, 0)
 }
 
-/// The header of a container of `count` sections and a loader section.
+/// Returns the header of a container of `count` sections and a loader section.
 fn container_header(versions: Versions, count: u16) -> Header
     requires { count + 1 < 2 ^ 16 }
     ensures { result ≡ written_header versions count }
@@ -131,7 +131,7 @@ fn container_header(versions: Versions, count: u16) -> Header
     }
 }
 
-/// The header of a section whose raw bytes lie at `at`.
+/// Returns the header of a section whose raw bytes lie at `at`.
 fn section_header(section: &RawSection<'_>, at: u32) -> SectionHeader
     ensures { result ≡ section_header section.now at }
 {
@@ -150,7 +150,7 @@ fn section_header(section: &RawSection<'_>, at: u32) -> SectionHeader
     }
 }
 
-/// The header of a loader section of `len` bytes that lies at `at`.
+/// Returns the header of a loader section of `len` bytes that lies at `at`.
 fn loader_header(len: u32, at: u32) -> SectionHeader
     ensures { result ≡ loader_header len at }
 {
@@ -168,7 +168,7 @@ fn loader_header(len: u32, at: u32) -> SectionHeader
     }
 }
 
-/// The fields of the container header, in order (PEFContainerHeader).
+/// Returns the fields of the container header, in order (PEFContainerHeader).
 #[tactic(auto, unfolding(crate::specs::Containers::header_fields))]
 fn header_fields(header: Header) -> [Field; 11]
     ensures { result ≡ header_fields header }
@@ -188,7 +188,7 @@ fn header_fields(header: Header) -> [Field; 11]
     ]
 }
 
-/// The fields of a section header, in order (PEFSectionHeader).
+/// Returns the fields of a section header, in order (PEFSectionHeader).
 #[tactic(auto, unfolding(crate::specs::Containers::section_fields))]
 fn section_fields(header: SectionHeader) -> [Field; 10]
     ensures { result ≡ section_fields header }

@@ -18,7 +18,7 @@ use pef_script::{LibraryView, Script};
 /// The byte after the name of a library or an import.
 const NAME_END: u8 = 0;
 
-/// What a class byte counts for in a word of class and name offset.
+/// The factor of a class byte in a word of class and name offset.
 const CLASS_UNIT: u32 = 1 << CLASS_SHIFT;
 
 /// Appends the entries of the libraries of `script`, and their names to the strings.
@@ -45,8 +45,8 @@ pub(crate) fn put_libraries(
     Ok(())
 }
 
-/// Where the imports of library `l` end, and those of later libraries begin. Those of earlier ones
-/// end at `from`.
+/// Returns the end of the imports of library `l`, where those of later libraries begin. Those of
+/// earlier ones end at `from`.
 fn imports_end(script: &Script<'_>, l: usize, from: usize) -> usize
     requires holds { ScriptHolds script.now }
     requires from { from ≤ count_by (λ i. nat_lt i.library (l + 1)) script.now.imports }
@@ -122,8 +122,8 @@ pub(crate) fn put_exports(
     Ok(())
 }
 
-/// The fields of a library whose name stands at `at`, and whose imports are `count` ones from number
-/// `first` on (PEFImportedLibrary).
+/// Returns the fields of a library whose name is at `at`, with `count` imports from number `first` on
+/// (PEFImportedLibrary).
 fn library_entry(library: LibraryView<'_>, at: u32, first: u32, count: u32) -> [Field; 8]
     ensures { result ≡ library_entry at (record { name = library.entry.name.now; current = library.entry.current; old_imp = library.entry.old_imp; count = count; first = first; options = options_code library.entry.options }) }
 {
@@ -139,7 +139,7 @@ fn library_entry(library: LibraryView<'_>, at: u32, first: u32, count: u32) -> [
     ]
 }
 
-/// The fields of an import whose name stands at `at` (PEFImportedSymbol).
+/// Returns the fields of an import whose name is at `at` (PEFImportedSymbol).
 fn import_entry(import: ImportView<'_>, at: u32) -> [Field; 1]
     requires class { import.class < 16 }
     requires at { at < 2 ^ 24 }
@@ -149,7 +149,7 @@ fn import_entry(import: ImportView<'_>, at: u32) -> [Field; 1]
     [Field::Word(u32::from(class) * CLASS_UNIT + at)]
 }
 
-/// The class byte of an import.
+/// Returns the class byte of an import.
 fn class_byte(weak: bool, class: u8) -> u8
     requires { class < 16 }
     ensures { result ≡ class_byte weak class }
@@ -157,7 +157,7 @@ fn class_byte(weak: bool, class: u8) -> u8
     if weak { class + WEAK_IMPORT } else { class }
 }
 
-/// The fields of an export whose name stands at `at` (PEFExportedSymbol).
+/// Returns the fields of an export whose name is at `at` (PEFExportedSymbol).
 fn export_entry(export: ExportView<'_>, at: u32) -> [Field; 3]
     requires class { export.class < 16 }
     requires section { FitsSigned w16 export.section }

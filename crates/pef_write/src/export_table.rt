@@ -8,7 +8,7 @@ use pef_hash::{Table, build};
 use pef_script::Script;
 use std::alloc::Global;
 
-/// The hash table of the names of the exports of `script`.
+/// Returns the hash table of the names of the exports of `script`.
 pub(crate) fn export_table(alloc: Global, script: &Script<'_>) -> Result<Table, LinkFault>
     requires { ScriptHolds script.now }
     ensures { IfOk result (λ table. table ≡ built (export_names script.now)) }

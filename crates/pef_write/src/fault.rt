@@ -10,12 +10,12 @@ use thiserror::Error;
 /// Why a script was not linked.
 #[derive(Clone, Copy, Debug, PartialEq, Eq, Error)]
 pub enum LinkFault {
-    /// A growth of memory was refused.
+    /// An allocation failed.
     OutOfMemory,
 }
 
 impl LinkFault {
-    /// The number of the refusal.
+    /// Returns the number of the refusal.
     pub fn number(&self) -> u32
         ensures { result ≡ 99 }
     {
@@ -24,7 +24,7 @@ impl LinkFault {
         }
     }
 
-    /// The refusal's name, which is its text.
+    /// Returns the refusal's name, which is its text.
     pub fn name(&self) -> &'static str
         ensures { result.now ≡ codes "OutOfMemory" }
     {

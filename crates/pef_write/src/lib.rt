@@ -1,8 +1,8 @@
-//! The linker: the container of a script.
+//! The linker, which writes the container of a script.
 //!
 //! The format is that of Mac OS Runtime Architectures, "PEF Structure", and of PEFBinaryFormat.h.
-//! [`link`] takes a script and gives its container, with a shortest relocation program for each section
-//! that has fixups, and a certificate for each. What it gives is read back as the script: see
+//! [`link`] takes a script and returns its container, with a shortest relocation program for each
+//! section that has fixups, and a certificate for each. The container is read back as the script: see
 //! [`linked_containers`], [`linked_programs`] and [`linked_programs_are_least`].
 #![tactic(auto)]
 

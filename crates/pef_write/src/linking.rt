@@ -13,7 +13,7 @@ use pef_script::Script;
 use std::alloc::Global;
 use std::marker::Model;
 
-/// A container that was linked of a script, with the certificates of its relocation programs.
+/// A container that was linked from a script, with the certificates of its relocation programs.
 #[derive(Debug, Drop)]
 pub struct Linked {
     bytes: Vec<u8>,
@@ -35,14 +35,14 @@ impl Model for Linked {
 }
 
 impl Linked {
-    /// The container.
+    /// Returns the container.
     pub fn bytes(&self) -> &[u8]
         ensures { result.now ≡ self.now.bytes }
     {
         &self.bytes
     }
 
-    /// The number of sections.
+    /// Returns the number of sections.
     pub fn sections(&self) -> usize
         ensures lengths { result ≡ length self.now.lengths }
         ensures certificates { result ≡ length self.now.certificates }
@@ -50,22 +50,22 @@ impl Linked {
         self.certificates.len()
     }
 
-    /// The number of halfwords of section `k`'s relocation program, or `None` past the last section. It is 0
-    /// for a section without fixups.
+    /// Returns the number of halfwords of section `k`'s relocation program, or `None` past the last section.
+    /// It is 0 for a section without fixups.
     pub fn length(&self, k: usize) -> Option<u32>
         ensures { result ≡ slice_get self.now.lengths k }
     {
         Some(self.certificates.get(k)?.program_length() as u32)
     }
 
-    /// The certificate of section `k`, or `None` past the last section.
+    /// Returns the certificate of section `k`, or `None` past the last section.
     pub fn certificate(&self, k: usize) -> Option<&Certificate>
         ensures { option_copied result ≡ slice_get self.now.certificates k }
     {
         self.certificates.get(k)
     }
 
-    /// The certificates of all sections, in order.
+    /// Returns the certificates of all sections, in order.
     pub fn certificates(&self) -> &[Certificate]
         ensures { result.now ≡ self.now.certificates }
     {
@@ -73,11 +73,12 @@ impl Linked {
     }
 }
 
-/// Links a script: its container, with a shortest relocation program for each section that has fixups.
+/// Links a script: returns its container, with a shortest relocation program for each section that has
+/// fixups.
 ///
 /// # Errors
 ///
-/// Want of memory.
+/// Only `OutOfMemory`.
 pub fn link(alloc: Global, script: &Script<'_>) -> Result<Linked, LinkFault>
     ensures { IfOk result (λ l. IsLinked script.now l) }
 {
@@ -90,7 +91,7 @@ pub fn link(alloc: Global, script: &Script<'_>) -> Result<Linked, LinkFault>
     })
 }
 
-/// The container of a script, with the programs of its sections.
+/// Returns the container of a script, with the programs of its sections.
 fn container(alloc: Global, script: &Script<'_>, programs: &[Vec<u8>]) -> Result<Vec<u8>, LinkFault>
     requires { HasRoom script.now (map (λ p. p.items) programs.now) }
     ensures { IfOk result (λ bytes. bytes.items ≡ container_with script.now (map (λ p. p.items) programs.now)) }

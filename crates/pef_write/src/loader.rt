@@ -23,7 +23,7 @@ use std::alloc::{AllocError, Global};
 /// The export table begins at a multiple of this.
 const EXPORT_TABLE_ALIGNMENT: usize = 4;
 
-/// What stands behind the loader header.
+/// The parts of a loader section after its header.
 #[derive(Clone, Copy)]
 struct Pieces<'a> {
     /// The libraries, the imports and the relocation headers.
@@ -38,7 +38,7 @@ struct Pieces<'a> {
     table: &'a [u8],
 }
 
-/// The loader section of a script, with the relocation programs of some of its sections.
+/// Returns the loader section of a script, with the relocation programs of some of its sections.
 pub(crate) fn write_loader(
     alloc: Global,
     script: &Script<'_>,
@@ -65,8 +65,8 @@ pub(crate) fn write_loader(
     join(alloc, script, pieces)
 }
 
-/// Writes the libraries, the imports and the relocation headers of a script, and the names of the first two
-/// to the strings.
+/// Writes the libraries, the imports and the relocation headers of a script, and the names of the first two to
+/// the strings.
 fn put_entries(
     entries: &mut Vec<u8>,
     strings: &mut Vec<u8>,
@@ -86,7 +86,7 @@ fn put_entries(
     Ok(())
 }
 
-/// Writes the export table of a script, and the names of the exports to the strings, behind those of libraries
+/// Writes the export table of a script, and the names of the exports to the strings, after those of libraries
 /// and imports.
 fn put_table(
     table: &mut Vec<u8>,
@@ -108,7 +108,7 @@ fn put_table(
     Ok(())
 }
 
-/// The loader section of `script` whose pieces these are.
+/// Returns the loader section of `script` with these pieces.
 fn join(alloc: Global, script: &Script<'_>, pieces: Pieces<'_>) -> Result<Vec<u8>, LinkFault>
     requires pieces { ArePieces (script_tables script.now (map program_entry pieces.programs.now)) pieces }
     requires fits { length (written_loader (script_tables script.now (map program_entry pieces.programs.now))) < 2 ^ 32 }
@@ -133,7 +133,7 @@ struct Places {
     exports: usize,
 }
 
-/// Where the pieces of a loader section begin.
+/// Returns where the pieces of a loader section begin.
 fn find_places(pieces: Pieces<'_>) -> Places
     requires { 56 + length pieces.entries.now + length (program_bytes (map program_entry pieces.programs.now)) + length pieces.strings.now < 2 ^ 32 }
     ensures programs { result.programs ≡ 56 + length pieces.entry.entries.now }
@@ -150,7 +150,7 @@ fn find_places(pieces: Pieces<'_>) -> Places
     }
 }
 
-/// The fields of the loader header, in order (PEFLoaderInfoHeader).
+/// Returns the fields of the loader header, in order (PEFLoaderInfoHeader).
 #[tactic(auto, unfolding(crate::specs::Loaders::header_fields, crate::specs::Linked::script_tables))]
 fn header_fields(script: &Script<'_>, pieces: Pieces<'_>, places: Places) -> [Field; 14]
     requires pieces { ArePieces (script_tables script.now (map program_entry pieces.programs.now)) pieces }
@@ -179,7 +179,7 @@ fn header_fields(script: &Script<'_>, pieces: Pieces<'_>, places: Places) -> [Fi
     ]
 }
 
-/// The section and the offset of an entry, and -1 and 0 where it is absent.
+/// Returns the section and the offset of an entry, or -1 and 0 if it is absent.
 fn entry_numbers(entry: Option<(u32, u32)>) -> (u32, u32)
     ensures { result ≡ (entry_section entry, entry_offset entry) }
 {

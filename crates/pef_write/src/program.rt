@@ -11,7 +11,7 @@ use pef_reloc::{Instr, encode};
 use pef_script::Script;
 use std::alloc::{AllocError, Global};
 
-/// The certificate of each section of `script`, with its program.
+/// Returns the certificate of each section of `script`, with its program.
 pub(crate) fn certificates(
     alloc: Global,
     script: &Script<'_>,
@@ -26,7 +26,7 @@ pub(crate) fn certificates(
     Ok(certificates)
 }
 
-/// The bytes of the program of each of `certificates`: none for a section without fixups.
+/// Returns the bytes of the program of each of `certificates`. A section without fixups has none.
 pub(crate) fn programs(
     alloc: Global,
     certificates: &[Certificate],
@@ -41,7 +41,7 @@ pub(crate) fn programs(
     Ok(programs)
 }
 
-/// The bytes of a program.
+/// Returns the bytes of a program.
 fn program_bytes(alloc: Global, program: &[Instr]) -> Result<Vec<u8>, AllocError>
     requires { instrs_fit program.now ≡ true }
     ensures { IfOk result (λ bytes. bytes.items ≡ spelled program.now) }

@@ -17,7 +17,7 @@ pub(crate) struct SectionProgram<'a> {
     pub bytes: &'a [u8],
 }
 
-/// Those of `programs` that have bytes, each with the number of its section.
+/// Returns those of `programs` that have bytes, each with the number of its section.
 pub(crate) fn section_programs<'p>(
     alloc: Global,
     programs: &'p [Vec<u8>],
@@ -37,7 +37,7 @@ pub(crate) fn section_programs<'p>(
     Ok(own)
 }
 
-/// How many bytes `programs` have in all.
+/// Returns how many bytes `programs` have in all.
 pub(crate) fn programs_len(programs: &[SectionProgram<'_>]) -> usize
     requires { length (program_bytes (map program_entry programs.now)) < 2 ^ 32 }
     ensures { result ≡ length (program_bytes (map program_entry programs.now)) }
@@ -78,7 +78,7 @@ pub(crate) fn put_programs(
     Ok(())
 }
 
-/// The fields of the header of a program that stands at `at` among the programs
+/// Returns the fields of the header of a program that is at `at` among the programs
 /// (PEFLoaderRelocationHeader).
 fn relocation_entry(program: SectionProgram<'_>, at: u32) -> [Field; 4]
     requires { length program.bytes.now < 2 ^ 32 }

@@ -9,7 +9,7 @@ use pef_script::{Script, Section, SectionHeader};
 use std::alloc::Global;
 use std::marker::Model;
 
-/// A section of a script with the bytes that a container has of it.
+/// A section of a script with its raw bytes in a container.
 #[derive(Drop)]
 pub(crate) struct RawSection<'s> {
     section: &'s Section<'s>,
@@ -44,7 +44,7 @@ impl<'s> RawSection<'s> {
         Ok(RawSection { section, packed })
     }
 
-    /// The section without its image and its fixups.
+    /// Returns the section without its image and its fixups.
     pub(crate) fn header(&self) -> SectionHeader<'s>
         ensures { header_in result ≡ self.now.header }
     {
@@ -52,7 +52,7 @@ impl<'s> RawSection<'s> {
         section.header
     }
 
-    /// How many bytes the image has.
+    /// Returns how many bytes the image has.
     pub(crate) fn image_len(&self) -> usize
         ensures len { result ≡ length self.now.image }
         ensures few { result ≤ 2 ^ 24 }
@@ -61,7 +61,7 @@ impl<'s> RawSection<'s> {
         section.image.len()
     }
 
-    /// The raw bytes: the image, packed if the section's kind is.
+    /// Returns the raw bytes: the image, packed if the section's kind is packed.
     pub(crate) fn bytes(&self) -> &[u8]
         ensures bytes { result.now ≡ raw_of self.now }
         ensures few { length result.now ≤ 2 * 2 ^ 24 }
@@ -74,7 +74,7 @@ impl<'s> RawSection<'s> {
     }
 }
 
-/// The sections of `script` with their raw bytes.
+/// Returns the sections of `script` with their raw bytes.
 pub(crate) fn raw_sections<'s>(
     alloc: Global,
     script: &'s Script<'_>,

@@ -1,4 +1,4 @@
-//! Laws of what is linked, for the proofs of crates that read it. The functions do nothing.
+//! Laws of linked containers, for the proofs of crates that read them. The functions do nothing.
 ghost use Rattle.std.specs.Prelude.{◌≡◌, ℕ, Some, slice_get};
 ghost use Rattle.pef_script.specs.Script.{DescribedScript, DescribedSection};
 ghost use Rattle.pef_write.specs.LeastPrograms.{HasLeastProgram};
@@ -6,20 +6,21 @@ ghost use Rattle.pef_write.specs.Linked.{IsLinked, LinkedContainer, programs_fro
 ghost use Rattle.pef_write.specs.Loaders.{ProgramEntry};
 ghost use Rattle.pef_write.specs.ReadBack.{IsReadBack, IsSectionProgram};
 
-/// What is linked is read back: its bytes are a container, and that has a loader section, with the
+/// A linked container is read back: its bytes are a container with a loader section, which has the
 /// sections and the tables of the script.
 pub fn linked_containers()
     ensures { (s : DescribedScript) (l : LinkedContainer) (linked : IsLinked s l) → IsReadBack s l linked }
 {}
 
-/// Each relocation program of what is linked relocates its section as the fixups say, and isn't refused
-/// where sections and imports have addresses.
+/// Each relocation program of a linked container relocates its section as the fixups say. It isn't
+/// refused if sections and imports have addresses.
 pub fn linked_programs()
     ensures { (s : DescribedScript) (l : LinkedContainer) (linked : IsLinked s l) (i : ℕ) (p : ProgramEntry) → slice_get (programs_from 0 s.sections linked.programs) i ≡ Some p → IsSectionProgram s p }
 {}
 
-/// The relocation program of each section of what is linked is a least one for the section's fixups, by
-/// a certificate that holds for them, and it is what the container has for the section.
+/// The relocation program of each section of a linked container is a least one for the section's
+/// fixups, by a certificate that holds for them. It is the program that the container has for the
+/// section.
 pub fn linked_programs_are_least()
     ensures { (s : DescribedScript) (l : LinkedContainer) (linked : IsLinked s l) (k : ℕ) (section : DescribedSection) → slice_get s.sections k ≡ Some section → HasLeastProgram s l linked k section }
 {}

@@ -1,4 +1,4 @@
--- The certificates of a script's sections and their relocation programs as bytes, as the code holds them.
+-- The certificates of a script's sections and their relocation programs as bytes, as the code has them.
 use Rattle.std.specs.Prelude.{◌≡◌, ℕ, ◌+◌, ◌<◌, ◌^◌, List, [], ◌∷◌, ◌++◌, length, map}
 use Rattle.pef_cert.specs.Certified.{Certified}
 use Rattle.pef_reloc.specs.Instrs.{spelled}
@@ -13,7 +13,7 @@ abbrev pub nonempty : ℕ → List ℕ → List ProgramEntry
 nonempty k [] = []
 nonempty k (b ∷ bytes) = record { section = k; bytes = b ∷ bytes } ∷ []
 
--- the programs that have bytes, where the first is that of section k
+-- the programs that have bytes, if the first is that of section k
 abbrev pub nonempty_from : ℕ → List (List ℕ) → List ProgramEntry
 nonempty_from k [] = []
 nonempty_from k (bytes ∷ programs) = nonempty k bytes ++ nonempty_from (k + 1) programs
@@ -36,7 +36,7 @@ loader_with s programs = written_loader (script_tables s (nonempty_from 0 progra
 abbrev pub container_with : DescribedScript → List (List ℕ) → List ℕ
 container_with s programs = written_container s.versions s.sections (loader_with s programs)
 
--- a script that was read, and programs for which there is room
+-- a script that was read, and programs that fit the fields
 pub record HasRoom (s : DescribedScript) (programs : List (List ℕ)) : Type 0 where
   pub holds : ScriptHolds s
   pub few : length programs < 2 ^ 15

@@ -1,4 +1,4 @@
--- Which numbers fit the fields that they are written to, and where fields are read.
+-- Which numbers fit the fields that they are written to, and at which places fields are read.
 use Rattle.std.specs.Prelude.{◌≡◌, ℕ, ◌+◌, ◌%◌, ◌^◌, ◌<◌, ◌≤◌, true, FitsSigned, Some, List, [], ◌∷◌, length, Option}
 use Rattle.std.specs.Int.{w16}
 use Rattle.std.specs.List.{All}
@@ -18,7 +18,7 @@ abbrev pub AllFit : List Field → Type 0
 AllFit [] = Unit {0}
 AllFit (field ∷ fields) = (value field < 256 ^ width field) × AllFit fields
 
--- at a place and behind it stand these fields, in their order
+-- these fields follow a place, in their order
 abbrev pub Reads : List ℕ → ℕ → ℕ → List Field → Type 0
 Reads bytes from off [] = Unit {0}
 Reads bytes from off (field ∷ fields) =

@@ -1,4 +1,4 @@
--- The pieces of a loader section, as the code holds them, and where they begin.
+-- The pieces of a loader section, as the code has them, and the places where they begin.
 use Rattle.std.specs.Prelude.{◌≡◌, ℕ, ◌++◌, List, map}
 use Rattle.std.specs.List.{flat_map}
 use Rattle.pef_hash.specs.Build.{built}

@@ -1,4 +1,4 @@
--- Tables that are a loader section's, and what they are read as.
+-- The tables of a loader section, and the values that they are read as.
 use Rattle.std.specs.Prelude.{◌≡◌, ◌≢◌, ℕ, ℤ, pos, negsuc, ◌+◌, ◌/◌, ◌^◌, ◌<◌, ◌≤◌, ◌&&◌, Bool, true, Option, None, Some, IfSome, List, Ok, length, nat_le, nat_lt, slice_get}
 use Rattle.std.specs.List.{All, AllZip, position}
 use Rattle.std.specs.Str.{bytes_eq}
@@ -29,7 +29,7 @@ contained_in v sections loader = record {
 abbrev pub linked_container : DescribedScript → List (List Instr) → Contained
 linked_container s programs = contained_in s.versions s.sections (linked_loader s programs)
 
--- what is read of bytes: the header, the loader section, and each section with its raw bytes
+-- bytes are read as this: the header, the loader section, and each section with its raw bytes
 pub record ReadsBack (v : Versions) (own : List DescribedSection) (loader : List ℕ) (bytes : List ℕ) : Type 0 where
   pub container : container_of bytes ≡ Ok (contained_in v own loader)
   pub sections : (k : ℕ) → section_of (contained_in v own loader) k ≡ slice_get (written_sections own loader) k
@@ -50,7 +50,7 @@ first_owner libraries j = position (has_import j) libraries
 abbrev pub first_named : List Export → List ℕ → Option ℕ
 first_named exports name = position (λ e. bytes_eq e.name name) exports
 
--- an entry's section as it is read, and -1 where it is absent
+-- an entry's section as it is read, or -1 if it is absent
 abbrev pub section_read : Option (ℕ × ℕ) → ℤ
 section_read None = negsuc 0
 section_read (Some entry) = pos entry.0
@@ -74,10 +74,10 @@ header_read t = record {
   export_count = length t.exports;
 }
 
--- tables that are a loader section of a container with so many sections: names end before a zero byte,
--- each import is of the first library that has it, entries and programs are in sections that are there, what an
--- export stands for is there, and the export table has its slots, and for each export a key with the length of
--- its name
+-- tables of a loader section in a container with this many sections: names end before a zero byte, each import
+-- is of the first library that has it, entries and programs are in sections that exist, each export is in a
+-- section or of an import that exists, and the export table has its slots, and for each export a key with the
+-- length of its name
 pub record AreTables (sections : ℕ) (t : LoaderTables) : Type 0 where
   pub fit : TablesFit t
   pub few : sections < 2 ^ 15
@@ -94,6 +94,6 @@ pub record AreTables (sections : ℕ) (t : LoaderTables) : Type 0 where
   pub keys : AllZip (λ key e. key / 2 ^ 16 ≡ length e.name) t.keys t.exports
   pub exports : All (λ e. has_section (header_read t) sections e.value e.section ≡ true) t.exports
 
--- the loader section that is read, of a container with so many instantiated sections
+-- the loader section that is read, in a container with this many instantiated sections
 abbrev pub loaded_tables : ℕ → LoaderTables → Loaded
 loaded_tables sections t = record { sections = sections; bytes = written_loader t; header = header_read t }

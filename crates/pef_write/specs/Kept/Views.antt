@@ -1,4 +1,4 @@
--- What the structs of the code are seen as, without places in memory.
+-- The values of the code's structs, without places in memory.
 use Rattle.pef_write.specs.declared.relocations.SectionProgram.{SectionProgram}
 use Rattle.pef_write.specs.Loaders.{ProgramEntry}
 

@@ -1,4 +1,4 @@
--- One section more is counted, and at the end none is left.
+-- One more section is counted, and at the end none is left.
 use Rattle.std.proofs.Common.{◌∙◌, ◌<◌, ◌≤◌, length, ap, arith}
 use Rattle.pef_write.specs.Containers.{raw_of}
 use Rattle.pef_write.proofs.Containers.{length-raw_data-more, raw_data-end}

@@ -1,4 +1,4 @@
--- What is counted and what is left make the whole.
+-- The part counted and the part left make the whole.
 use Rattle.std.proofs.Common.{◌≡◌, ◌+◌, drop, length}
 use Rattle.pef_write.specs.Containers.{data_from, raw_data}
 use Rattle.pef_write.proofs.container.container_length.Given as goal

@@ -1,4 +1,4 @@
--- One header more is written, and at the end that of the loader section.
+-- One more header is written, and at the end that of the loader section.
 use Rattle.std.proofs.Common.{◌≡◌, ◌∙◌, ◌<◌, ◌≤◌, ◌++◌, append-nil, get_or, length, ap, arith}
 use Rattle.std.specs.Int.{next_multiple_of}
 use Rattle.std.proofs.lemmas.Result.{on_ok_weaker}

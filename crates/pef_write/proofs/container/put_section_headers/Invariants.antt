@@ -1,4 +1,4 @@
--- What is written and what is left make the whole.
+-- The part written and the part left make the whole.
 use Rattle.std.proofs.Common.{◌≡◌, ◌+◌, ◌++◌, drop, length}
 use Rattle.pef_write.specs.Containers.{data_from, laid_out, raw_data, spelled_headers}
 use Rattle.pef_write.proofs.container.put_section_headers.Given as goal

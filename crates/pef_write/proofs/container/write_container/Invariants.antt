@@ -1,4 +1,4 @@
--- What is written and what is left make the whole.
+-- The part written and the part left make the whole.
 use Rattle.std.proofs.Common.{◌≡◌, ◌++◌, drop}
 use Rattle.pef_write.specs.Containers.{raw_data, written_container}
 use Rattle.pef_write.proofs.container.write_container.Given as goal

@@ -1,4 +1,4 @@
--- Imports stand library by library, so what was passed is all that is counted.
+-- Imports are in the order of their libraries, so the imports passed are all that are counted.
 use Rattle.std.proofs.Common.{◌+◌, ◌<◌, ◌≤◌, sym, arith}
 use Rattle.std.proofs.lemmas.Option.{slice_get_within}
 use Rattle.pef_write.proofs.Counts.{counted-found, past-all, past-found}

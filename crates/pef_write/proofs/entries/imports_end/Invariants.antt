@@ -1,4 +1,4 @@
--- All that was passed is counted.
+-- All imports passed are counted.
 use Rattle.std.proofs.Common.{◌≤◌, ◌+◌, ◌-◌, length}
 use Rattle.pef_write.proofs.Counts.{count_before}
 use Rattle.pef_write.proofs.entries.imports_end.Given as goal

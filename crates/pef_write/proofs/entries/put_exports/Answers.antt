@@ -1,4 +1,4 @@
--- One entry and one name more are written, and at the end none is left.
+-- One more entry and one more name are written, and at the end none is left.
 use Rattle.std.proofs.Common.{◌≡◌, ◌∙◌, ◌+◌, ◌<◌, ◌≤◌, ◌^◌, ◌++◌, get_or, length, length-append, ap, sym, arith}
 use Rattle.std.proofs.lemmas.Option.{get_or_from_slice_get}
 use Rattle.pef_format.specs.Exports.{Export, export_seen}

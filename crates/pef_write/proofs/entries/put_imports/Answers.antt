@@ -1,4 +1,4 @@
--- One entry and one name more are written, and at the end none is left.
+-- One more entry and one more name are written, and at the end none is left.
 use Rattle.std.proofs.Common.{◌≡◌, ◌∙◌, ◌^◌, ◌++◌, length, ap, sym, arith}
 use Rattle.std.proofs.lemmas.Option.{slice_get_within}
 use Rattle.pef_format.specs.Symbols.{Import, import_seen}

@@ -1,5 +1,5 @@
--- One entry and one name more are written, and the imports of the library end where those of the next
--- begin.
+-- One more entry and one more name are written, and the imports of the library end where those of the
+-- next begin.
 use Rattle.std.proofs.Common.{◌≡◌, ◌∙◌, ℕ, ◌-◌, ◌^◌, ◌++◌, length, refl, ap, ap₂, sym, arith}
 use Rattle.std.proofs.lemmas.Option.{slice_get_within}
 use Rattle.pef_format.specs.Symbols.{options_code}

@@ -1,4 +1,4 @@
--- One name more is listed; at the end the bytes and the lengths are those of all names.
+-- One more name is listed. At the end the bytes and the lengths are those of all names.
 use Rattle.std.proofs.Common.{◌∙◌, ◌+◌, ◌∷◌, [], length, drop, map, option_map, ap, ap₂, sym, arith}
 use Rattle.std.proofs.lemmas.Option.{slice_get_within}
 use Rattle.std.specs.List.{sum}

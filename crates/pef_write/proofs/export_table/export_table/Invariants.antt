@@ -1,4 +1,4 @@
--- What is listed and what is left make the whole.
+-- The part listed and the part left make the whole.
 use Rattle.std.proofs.Common.{◌≡◌, ◌++◌, ◌-◌, drop, length, map}
 use Rattle.pef_script.specs.Script.{export_names}
 use Rattle.pef_write.proofs.ExportNames.{joined}

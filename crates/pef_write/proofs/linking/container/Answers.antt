@@ -1,4 +1,4 @@
--- What is written is the container of the script.
+-- The bytes written are the container of the script.
 use Rattle.std.proofs.Common.{◌∙◌, ◌<◌, ◌^◌, length, map, ap, ap₂, subst, sym, arith}
 use Rattle.std.proofs.lemmas.List.{length-map}
 use Rattle.pef_script.specs.declared.parts.Versions.{Versions}

@@ -1,4 +1,4 @@
--- The programs and their lengths fit, and what is written is the container of the script.
+-- The programs and their lengths fit, and the bytes written are the container of the script.
 use Rattle.std.proofs.Common.{◌≡◌, ◌∙◌, length, map, true, refl, ap, subst, sym}
 use Rattle.std.specs.List.{All}
 use Rattle.pef_cert.specs.Certified.{Certified}

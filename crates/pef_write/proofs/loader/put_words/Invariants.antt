@@ -1,4 +1,4 @@
--- What is written and what is left make the whole.
+-- The part written and the part left make the whole.
 use Rattle.std.proofs.Common.{◌≡◌, ◌++◌, drop, map}
 use Rattle.pef_write.specs.declared.field.Field.TheVariants.{Word}
 use Rattle.pef_write.specs.Fields.{spelled}

@@ -1,4 +1,4 @@
--- There is room for what is gathered, and it makes the pieces.
+-- There is room for the parts, and they make the pieces.
 use Rattle.std.proofs.Common.{◌∙◌, ◌++◌, length, map, refl, ap, arith}
 use Rattle.pef_hash.specs.Build.{BuiltTable}
 use Rattle.pef_write.specs.Linked.{script_tables}

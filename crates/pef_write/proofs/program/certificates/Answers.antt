@@ -1,4 +1,4 @@
--- One section more is certified, and at the end all are.
+-- One more section is certified, and at the end all are.
 use Rattle.std.proofs.Common.{◌≡◌, ◌∙◌, List, length, ap, subst, arith}
 use Rattle.std.proofs.lemmas.List.{take_all}
 use Rattle.pef_reloc.specs.declared.fixup.Fixup.{Fixup}

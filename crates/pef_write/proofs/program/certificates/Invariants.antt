@@ -1,4 +1,4 @@
--- What is certified are the first sections.
+-- The first sections are certified.
 use Rattle.std.proofs.Common.{take}
 use Rattle.pef_write.specs.Linked.{AreCertified}
 use Rattle.pef_write.proofs.program.certificates.Given as goal

@@ -1,4 +1,4 @@
--- What is encoded and what is left make the whole.
+-- The part encoded and the part left make the whole.
 use Rattle.std.proofs.Common.{◌≡◌, ◌++◌, drop, map}
 use Rattle.pef_reloc.specs.Instrs.{spelled}
 use Rattle.pef_write.proofs.program.programs.Given as goal

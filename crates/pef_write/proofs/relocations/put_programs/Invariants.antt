@@ -1,4 +1,4 @@
--- What is written and what is left make the whole.
+-- The part written and the part left make the whole.
 use Rattle.std.proofs.Common.{◌≡◌, ◌++◌, drop, map}
 use Rattle.pef_write.specs.Loaders.{program_bytes}
 use Rattle.pef_write.specs.Kept.Views.{program_entry}

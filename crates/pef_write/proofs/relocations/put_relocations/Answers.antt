@@ -1,4 +1,4 @@
--- One header more is written, and at the end none is left.
+-- One more header is written, and at the end none is left.
 use Rattle.std.proofs.Common.{◌∙◌, ◌<◌, ◌≤◌, ◌++◌, length, ap, arith}
 use Rattle.pef_write.specs.Fields.{spelled}
 use Rattle.pef_write.proofs.Fields.{one_more, none_left}

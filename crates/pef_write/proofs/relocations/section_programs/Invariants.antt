@@ -1,4 +1,4 @@
--- What is listed and what is left make the whole.
+-- The part listed and the part left make the whole.
 use Rattle.std.proofs.Common.{◌≡◌, ◌++◌, drop, map}
 use Rattle.pef_write.specs.Kept.Views.{program_entry}
 use Rattle.pef_write.specs.Kept.Encoded.{nonempty_from}

@@ -1,4 +1,4 @@
--- What is listed and what is left make the whole.
+-- The part listed and the part left make the whole.
 use Rattle.std.proofs.Common.{◌≡◌, ◌++◌, drop}
 use Rattle.pef_write.proofs.sections.raw_sections.Given as goal
 

@@ -1,4 +1,4 @@
--- What is linked is read back.
+-- A linked container is read back.
 use Rattle.pef_write.proofs.LinkedLaws.{is_read_back}
 use Rattle.pef_write.proofs.theorems.linked_containers.Goals as goal
 

@@ -1,4 +1,4 @@
--- The programs of what is linked relocate their sections.
+-- The programs of a linked container relocate their sections.
 use Rattle.pef_write.proofs.LinkedPrograms.{section_programs}
 use Rattle.pef_write.proofs.theorems.linked_programs.Goals as goal
 
