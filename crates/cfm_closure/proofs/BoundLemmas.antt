@@ -1,4 +1,4 @@
--- Which fragments library entries stand for.
+-- The fragments of library entries.
 use Rattle.std.proofs.Common.{◌≡◌, ℕ, ◌<◌, Bool, true, false, cond, List, length, Option, None, Some, Ok, Err, refl, ap}
 use Rattle.std.specs.Prelude.{Result, nat_lt}
 use Rattle.std.specs.Option.{option_map_or}
@@ -31,12 +31,12 @@ bound_at-place pairs name l (Some p) q is =
     let a = came (fragment_of pairs p) (λ f. bound_by (fit_with l f) name l p) (Some q) is in
     ap Some (bound_by-place (fit_with l a.value) name l p q a.leads)
 
--- a library entry stands for the first fragment of its name
+-- a library entry means the first fragment with its name
 pub bound-place : (pairs : List Pair) (name : List ℕ) (l : Library) (q : ℕ) → bound pairs name l ≡ Ok (Some q) → place_of pairs l.name ≡ Some q
 unfolding bound
 bound-place pairs name l q is = bound_at-place pairs name l (place_of pairs l.name) q is
 
--- only entries that are there stand for a fragment
+-- only entries that exist have a fragment
 pub met_if : {A : Type 0} (b : Bool) (o : Option A) (x : A) → cond b o None ≡ Some x → b ≡ true
 met_if true o x is = refl
 met_if false o x is = absurd (cc)
@@ -45,7 +45,7 @@ library_of-below : (l : Loaded) (i : ℕ) (x : Library) → library_of l i ≡ S
 unfolding library_of library_in
 library_of-below l i x is = ltb-true i l.header.library_count (met_if (nat_lt i l.header.library_count) _ x is)
 
--- what is known of an entry that stands for a fragment
+-- the facts of an entry that has a fragment
 pub record StandsFor (pairs : List Pair) (p l q : ℕ) : Type 0 where
   pub fragment : Fragment
   pub read : fragment_of pairs p ≡ Ok fragment

@@ -1,4 +1,4 @@
--- What holds of closures.
+-- Facts of closures.
 use Rattle.std.proofs.Common.{◌≡◌, ℕ, ◌<◌, List, [], ◌∷◌, length, Option, None, Ok, Err, refl, sym, ap, ◌∙◌, subst, inl, inr, arith, Contains}
 use Rattle.std.specs.Prelude.{Result, ◌↔◌}
 use Rattle.std.specs.Option.{option_map_or}
@@ -22,7 +22,7 @@ use Rattle.cfm_closure.specs.Targets.{exports_among, follow, symbol_of, target_o
 use Rattle.cfm_closure.proofs.LoopLemmas.{again_in_store, follow-order, for_ever}
 use Rattle.cfm_closure.proofs.Ranks.{contains_cases}
 
--- what a closure consists of
+-- the parts of a closure
 record IsClosed (pairs : List Pair) (root : ℕ) (c : Closed) : Type 0 where
   pub store : c.pairs ≡ pairs
   pub order : order_of pairs root ≡ Ok c.order
@@ -50,7 +50,7 @@ closed-complete pairs root c is = order-complete pairs root c.order (is_closed p
 pub closed-root : (pairs : List Pair) (root : ℕ) (c : Closed) → root < length pairs → closed_of pairs root ≡ Ok c → EndsWith c.order root
 closed-root pairs root c inside is = order-last pairs root c.order (is_closed pairs root c is).order inside
 
--- where no import is refused, none of a fragment's is
+-- if no import is refused, none of a fragment's is
 passes-of : (pairs : List Pair) (order : List ℕ) (p : ℕ) → first_refused pairs order ≡ None → Contains order p → imports_refusal pairs p ≡ None
 passes-of pairs [] p none there = absurd (let h = there.1 in omega arith)
 passes-of pairs (q ∷ order) p none there =
@@ -70,7 +70,7 @@ closed-target pairs root c p j is there under =
     let none = passes-of pairs c.order p (is_closed pairs root c is).passes there in
     not_refused (target_of pairs p j) (none_among (import_refusal pairs p) 0 (import_count pairs p) j none (omega arith) (omega arith))
 
--- the exports of a closure are count enough
+-- the exports of a closure are enough hops
 pub own-target : (pairs : List Pair) (root : ℕ) (c : Closed) (p j : ℕ) → closed_of pairs root ≡ Ok c → Contains c.order p → target_within pairs c.order p j ≡ target_of pairs p j
 unfolding target_of
 own-target pairs root c p j is there =
@@ -80,7 +80,7 @@ own-target pairs root c p j is there =
 pub same-targets : (pairs : List Pair) (root root' : ℕ) (c c' : Closed) (p j : ℕ) → closed_of pairs root ≡ Ok c → closed_of pairs root' ≡ Ok c' → Contains c.order p → Contains c'.order p → target_within pairs c.order p j ≡ target_within pairs c'.order p j
 same-targets pairs root root' c c' p j is is' there there' = own-target pairs root c p j is there ∙ sym (own-target pairs root' c' p j is' there')
 
--- more hops than exports, and an export that is met again
+-- if there are more hops than exports, an export is visited again
 pub endless : (pairs : List Pair) (order : List ℕ) (p j : ℕ) → IsComplete pairs order → Contains order p → (follow (exports_among pairs order) pairs p j ≡ None) ↔ MeetsAgain pairs (p, j)
 endless pairs order p j complete there = (
   (λ none. again_in_store pairs (p, j) (sym (follow-order pairs order complete p j there) ∙ none)),

@@ -1,4 +1,4 @@
--- A closure is refused by an import without an end just where there is one before which no import is refused.
+-- A closure is refused for an endless import exactly if there is one before which no import is refused.
 use Rattle.std.proofs.Common.{◌≡◌, ℕ, suc, ◌+◌, ◌<◌, List, [], ◌∷◌, ◌++◌, length, Option, None, Some, Ok, Err, refl, ap, ap₂, ◌∙◌, subst, inl, inr, arith, Contains}
 use Rattle.std.specs.Prelude.{◌↔◌, ⊤, Result}
 use Rattle.std.specs.Option.{option_map_or, option_or}
@@ -21,7 +21,7 @@ use Rattle.cfm_closure.proofs.LoopLemmas.{again_in_store, for_ever}
 use Rattle.cfm_closure.proofs.Ranks.{contains_cases}
 use Rattle.cfm_closure.proofs.RefusalLemmas.{AnswerBinds, Binds, Covers, IsNamed, follow-binds, fragment-named, order-binds, ordered-binds}
 
--- a refusal is of something else
+-- a refusal of another kind
 abbrev IsOther : BindRefusal → Type 0
 IsOther (no_container f v) = ⊤
 IsOther (no_loader f v) = ⊤
@@ -59,7 +59,7 @@ contains_later : (q : ℕ) (ps : List ℕ) (r : ℕ) → Contains ps r → Conta
 contains_later q ps r (k, under, is) = (suc k, omega arith, is)
 
 module _ (pairs : List Pair) (root : ℕ) (fragment symbol : List ℕ) where
-  -- an import with these names meets an export again
+  -- an import with these names visits an export again
   record IsLoop (p j : ℕ) : Type 0 where
     pub name : (pair_of pairs p).name ≡ fragment
     pub import_name : symbol_of pairs p j ≡ symbol
@@ -80,7 +80,7 @@ module _ (pairs : List Pair) (root : ℕ) (fragment symbol : List ℕ) where
       ap (λ o. option_map_or (λ (answer : Result (Option Target) BindRefusal). answer) o (Err (reexport_loop (pair_of pairs p).name (symbol_of pairs p j)))) (for_ever pairs (p, j) (exports_in pairs) is.again)
       ∙ ap₂ (λ f s. Err (reexport_loop f s)) is.name is.import_name
 
-  -- an import of an order that is such a one, before which none is refused
+  -- an import of an order that does, before which none is refused
   record FirstLoop (order : List ℕ) : Type 0 where
     pub before : List ℕ
     pub position : ℕ
@@ -183,7 +183,7 @@ module _ (pairs : List Pair) (root : ℕ) (fragment symbol : List ℕ) where
     first = f.first;
   }
 
-  -- the order of initialization is refused otherwise
+  -- the order of initialization has other refusals
   ordered : (order : List ℕ) (r : Result (List ℕ) BindRefusal) → Binds pairs root IsOther (all_others pairs root) r → (r >>= (λ init_order. Ok (with_order order init_order))) ≡ Err (reexport_loop fragment symbol) → ⊥
   ordered order (Ok s) other is = cc
   ordered order (Err e) other is = let same : e ≡ reexport_loop fragment symbol = cc in subst IsOther same other

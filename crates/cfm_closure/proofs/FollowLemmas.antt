@@ -1,4 +1,4 @@
--- What follows many hops.
+-- Steps after many hops.
 use Rattle.std.proofs.Common.{◌≡◌, ℕ, zero, suc, ◌+◌, ◌-◌, ◌<◌, List, Option, None, Some, Ok, Err, refl, sym, ap, ◌∙◌, subst, arith}
 use Rattle.std.specs.Prelude.{Result}
 use Rattle.std.specs.Option.{option_and_then, option_map_or}
@@ -26,7 +26,7 @@ import_of_export e = import_of_value (value_of e.section e.value)
 pub passed_on : List Pair → ℕ × ℕ → ℕ
 passed_on pairs x = option_map_or import_of_export (option_and_then (λ l. export_of l x.1) (loader_at pairs x.0)) 0
 
--- what is known of a hop that goes on
+-- the facts of a hop that continues
 pub record Onward (pairs : List Pair) (v : ℕ × ℕ) (x w : ℕ × ℕ) : Type 0 where
   pub goes : GoesOn pairs v.0 v.1 x.0 x.1 w.1
   pub place : w ≡ (x.0, passed_on pairs x)
@@ -56,7 +56,7 @@ onward pairs v next is = by (hop pairs v.0 v.1) refl is
     by (Err r) was is = absurd (cc)
 
 module _ (pairs : List Pair) where
-  -- hops behind hops
+  -- hops after hops
   pub hops-then : (m n : ℕ) (v w : ℕ × ℕ) → hops pairs m v ≡ Some w → hops pairs (m + n) v ≡ hops pairs n w
   unfolding hops
   hops-then zero n v w is =
@@ -71,7 +71,7 @@ module _ (pairs : List Pair) where
       by None is deeper = absurd (cc)
       by (Some next) is deeper = deeper next.1 is
 
-  -- what is reached by many hops was reached by fewer somewhere
+  -- an import reached by many hops was reached by fewer from somewhere
   pub hops-before : (m n : ℕ) (v w : ℕ × ℕ) → hops pairs (m + n) v ≡ Some w → (u : ℕ × ℕ) × (hops pairs m v ≡ Some u)
   unfolding hops
   hops-before zero n v w is = (v, refl)
@@ -83,12 +83,12 @@ module _ (pairs : List Pair) where
       by None is deeper = absurd (cc)
       by (Some next) is deeper = deeper next.1 is
 
-  -- n hops that all go on
+  -- n hops that all continue
   pub record Goes (n : ℕ) (v : ℕ × ℕ) : Type 0 where
     pub to : ℕ × ℕ
     pub is : hops pairs n v ≡ Some to
 
-  -- nothing is answered within n hops exactly where one more goes on
+  -- there is no result within n hops exactly if one more hop continues
   pub follow-none : (n : ℕ) (v : ℕ × ℕ) → follow n pairs v.0 v.1 ≡ None → Goes (suc n) v
   unfolding follow hops
   follow-none zero v none = by (hop pairs v.0 v.1) refl none
@@ -121,7 +121,7 @@ module _ (pairs : List Pair) where
       by (Ok (through q e k)) is deeper = deeper (q, k) (record { to = g.to; is = is })
       by (Err r) is deeper = absurd (cc)
 
-  -- a way that comes back goes on for ever
+  -- a way that comes back is endless
   returns : (d : ℕ) (w : ℕ × ℕ) → hops pairs (suc d) w ≡ Some w → (n : ℕ) → (m : ℕ) × (hops pairs (n + m) w ≡ Some w)
   unfolding hops
   returns d w back zero = (0, refl)
@@ -135,7 +135,7 @@ module _ (pairs : List Pair) where
           (d, ap (λ k. hops pairs k w) e' ∙ hops-then n (suc d) w w here ∙ back)
       by (suc m, is) = let e : suc n + m ≡ n + suc m = omega arith in (m, ap (λ k. hops pairs k w) e ∙ is)
 
-  -- .. and so does a way that leads there
+  -- .. and so is a way that leads there
   pub goes_for_ever : (a d : ℕ) (v w : ℕ × ℕ) → hops pairs a v ≡ Some w → hops pairs (suc d) w ≡ Some w → (n : ℕ) → Goes n v
   goes_for_ever a d v w there back n =
       let r = returns d w back n in
@@ -144,7 +144,7 @@ module _ (pairs : List Pair) where
       let near = hops-before n (a + r.0) v w (ap (λ k. hops pairs k v) e ∙ far) in
       record { to = near.0; is = near.1 }
 
-  -- the hop behind n hops, where one more goes on
+  -- the hop after n hops, if one more continues
   pub record Step (n : ℕ) (v : ℕ × ℕ) : Type 0 where
     pub at : ℕ × ℕ
     pub reached : hops pairs n v ≡ Some at
@@ -173,7 +173,7 @@ module _ (pairs : List Pair) where
             ∙ ap (λ o. option_and_then (λ (next : (ℕ × ℕ) × (ℕ × ℕ)). Some next.0) o) is;
       }
 
-  -- an export that is met is left for the import that it passes on
+  -- an export that is visited leads to the import that it passes on
   pub met-leads : (n : ℕ) (v x : ℕ × ℕ) → met pairs n v ≡ Some x → hops pairs (n + 1) v ≡ Some (x.0, passed_on pairs x)
   unfolding hops
   met-leads n v x is = by (hops pairs n v) refl is
@@ -192,7 +192,7 @@ module _ (pairs : List Pair) where
       by None reached met = absurd (cc)
       by (Some at) reached met = on at reached (next_of (hop pairs at.0 at.1)) refl met
 
-  -- so a way on which an export is met again has no end
+  -- so a way on which an export is visited again has no end
   pub meets_again-for_ever : (v : ℕ × ℕ) → MeetsAgain pairs v → (n : ℕ) → Goes n v
   meets_again-for_ever v m n =
       let a = met-leads m.first v m.export m.was in

@@ -9,7 +9,7 @@ use Rattle.cfm_closure.specs.Fragments.{fragment_of}
 use Rattle.cfm_closure.specs.Kept.Views.{AreKept, AreRead, fragment_at}
 use Rattle.cfm_closure.specs.Views.{fragment_seen}
 
--- what was found in its place of a table is its fragment
+-- the fragment in a place of a table is the store's
 pub fragment_at-some : (table : List (Option FragmentView)) (p : ℕ) (f : FragmentView) → get_or table p None ≡ Some f → fragment_at table p ≡ Some (fragment_seen f)
 fragment_at-some table p f is = ap (option_map fragment_seen) is
 
@@ -21,7 +21,7 @@ module _ (table : List (Option FragmentView)) (p : ℕ) (f : FragmentView) (insi
   pub fragment_at-other : (q : ℕ) → q ≢ p → fragment_at (set table p (Some f)) q ≡ fragment_at table q
   fragment_at-other q other = ap (option_map fragment_seen) (get_or-set_other table p q (Some f) None other)
 
-  -- with it, all fragments of the table were read of the store
+  -- with it, all fragments of the table were read from the store
   pub AreRead-with : (pairs : List Pair) → AreRead pairs table → fragment_of pairs p ≡ Ok (fragment_seen f) → AreRead pairs (set table p (Some f))
   AreRead-with pairs read is q g here = elim (eqb_tells q p) [
     | inl same ↦ (
@@ -32,7 +32,7 @@ module _ (table : List (Option FragmentView)) (p : ℕ) (f : FragmentView) (insi
     | inr other ↦ read q g (sym (fragment_at-other q other.1) ∙ here)
   ]
 
-  -- where it wasn't there, all that were are there still
+  -- if it wasn't there, all that were are still there
   pub AreKept-with : fragment_at table p ≡ None → AreKept table (set table p (Some f))
   AreKept-with absent q g here = elim (eqb_tells q p) [
     | inl same ↦ (let P : ℕ → Type 0 = λ q. fragment_at table q ≡ Some g in absurd (let e : None ≡ Some g = sym absent ∙ subst P same.1 here in cc))

@@ -55,11 +55,11 @@ unmet-below marked b q n is below = let P : Option ℕ → Type 0 = λ b. IfSome
 
 module _ (pairs : List Pair) (table : List (Option FragmentView)) (f : Frame) (read : AreRead pairs table) (frame : IsFrame pairs table f)
     (library : Library) (is : library_of (fragment_seen f.fragment).loader (length f.libraries) ≡ Some library) (under : length f.libraries < count_of f) where
-  -- what the next library entry stands for
+  -- the fragment of the next library entry
   next_bound : bound_to pairs f.p (length f.libraries) ≡ bound pairs (fragment_seen f.fragment).name library
   next_bound = bound_to-is pairs f.p (length f.libraries) (fragment_seen f.fragment) library (read f.p (fragment_seen f.fragment) frame.read) is
 
-  -- where it is refused, so is the rest
+  -- if it is refused, so is the rest
   pub frame-refused : (e : BindFault) (s : Walked) → FailsAs e (bound pairs (fragment_seen f.fragment).name library) → FailsAs e (rest_of_frame pairs f s)
   frame-refused e s fails =
       Fails-also e (bound pairs (fragment_seen f.fragment).name library) (rest_of_frame pairs f s)
@@ -78,7 +78,7 @@ module _ (pairs : List Pair) (table : List (Option FragmentView)) (f : Frame) (r
       few = let l = long in omega arith;
     }
 
-    -- and the rest is the walk to it with what is left then
+    -- and the rest is the walk to it with the entries left then
     frame-next : (s : Walked) → rest_of_frame pairs f s ≡ (walk_to (visit pairs) b s >>= rest_of_frame pairs (record f { libraries = bounds }))
     frame-next s =
         rest_of-next pairs f.p (length f.libraries) (count_of f) s b under (next_bound ∙ bound_is)
@@ -103,14 +103,14 @@ new_frame pairs table f inside read none = record {
   few = rw none (omega arith);
 }
 
--- where a frame goes on with the walk to a fragment, so does the path
+-- if a frame continues with the walk to a fragment, so does the path
 pub met_and_rest : (pairs : List Pair) (f g : Frame) (path : List Frame) (s : Walked) (q : ℕ) → rest_of_frame pairs f s ≡ (visit pairs q s >>= rest_of_frame pairs g) → frame_and_rest pairs f path s ≡ visit_and_rest pairs q (path ++ g ∷ []) s
 met_and_rest pairs f g path s q is =
     ap (λ r. r >>= rest_of_path pairs path) is
     ∙ then_assoc (visit pairs q s) (rest_of_frame pairs g) (rest_of_path pairs path)
     ∙ then_same (visit pairs q s) _ _ (λ s. sym (rest_of_path-push pairs path g s))
 
--- the next of equal marks and equal answers
+-- the next frame for equal marks and equal results
 pub next_is : (pairs : List Pair) (marked marked' : List Bool) (order : List ℕ) (f g : Frame) (a b : Option ℕ) → marked ≡ marked' → a ≡ b → NextOf pairs (record { marked = marked; order = order }) f g a → NextOf pairs (record { marked = marked'; order = order }) f g b
 next_is pairs marked marked' order f g a b same is next =
     subst (λ b. NextOf pairs (record { marked = marked'; order = order }) f g b) is

@@ -1,4 +1,4 @@
--- Hops by what was read of the fragments.
+-- Hops by the fragments that were read.
 use Rattle.std.proofs.Common.{◌≡◌, ℕ, List, [], None, Some, Ok, Err, refl, sym, ap, ◌∙◌}
 use Rattle.std.specs.Prelude.{Result, option_map}
 use Rattle.std.specs.Option.{option_and_then, option_map_or}

@@ -1,4 +1,4 @@
--- Where a hop leads that goes on, and what many hops do.
+-- Where a hop leads if it continues, and the effect of many hops.
 use Rattle.std.proofs.Common.{◌≡◌, ℕ, Bool, true, false, cond, List, Option, None, Some, Ok, Err, refl, ap, ◌∙◌, subst}
 use Rattle.std.specs.Prelude.{option_map}
 use Rattle.std.specs.Option.{option_and_then}
@@ -14,7 +14,7 @@ use Rattle.cfm_closure.specs.Fragments.{import_at, loader_at}
 use Rattle.cfm_closure.specs.Libraries.{library_at}
 use Rattle.cfm_closure.specs.Targets.{ends, exported, hop, hop_by, hop_from, hop_of, hop_to, through}
 
--- a hop that goes on: through an export of a library's fragment that passes on an import
+-- a hop that continues: through an export of a library's fragment that passes on an import
 pub record GoesOn (pairs : List Pair) (p j q e k : ℕ) : Type 0 where
   pub symbol : Import
   pub is : import_at pairs p j ≡ Some symbol
@@ -26,7 +26,7 @@ pub record GoesOn (pairs : List Pair) (p j q e k : ℕ) : Type 0 where
   pub there : export_of loader e ≡ Some export
   pub value : value_of export.section export.value ≡ Reexport k
 
--- by what the export stands for
+-- by the value of the export
 through_by : (q' e' : ℕ) (v : ExportValue) (q e k : ℕ) → hop_by q' e' v ≡ through q e k → (q' ≡ q) × (e' ≡ e) × (v ≡ Reexport k)
 through_by q' e' (InSection section offset) q e k is = absurd (cc)
 through_by q' e' (value.Absolute n) q e k is = absurd (cc)
@@ -43,7 +43,7 @@ through_to f l i q' (Some x) q e k is =
     let by = through_by q' x.0 (value_of x.1.section x.1.value) q e k (cc) in
     (x, refl, by.0, by.1, by.2)
 
--- what is exported is the first of its name
+-- an export that is found is the first with its name
 exported_is : (name : List ℕ) (loader : Loaded) (n : Option ℕ) (x : ℕ × Export) → named_of loader name ≡ n → option_and_then (λ e. option_map (λ x. (e, x)) (export_of loader e)) n ≡ Some x → (n ≡ Some x.0) × (export_of loader x.0 ≡ Some x.1)
 exported_is name loader None x named is = absurd (cc)
 exported_is name loader (Some e) x named is = by (export_of loader e) refl is

@@ -28,13 +28,13 @@ module _ (pairs : List Pair) (s : Walked) (p : ℕ) where
       by true = refl
       by false = refl
 
-  -- where no entry waits, the fragment is ready
+  -- if no entry waits, the fragment is ready
   pub ready-all : ((k : ℕ) → k < library_count pairs p → awaits pairs s p k ≡ None) → is_ready pairs s p ≡ (library_count pairs p == library_count pairs p)
   ready-all none =
       ap is_none (first_among-none (awaits pairs s p) 0 (library_count pairs p) (λ k low high. none k (omega arith)))
       ∙ sym (eq-eqb (library_count pairs p) (library_count pairs p) refl)
 
-  -- where one does, it isn't
+  -- if one does, it isn't
   pub ready-not : (l : ℕ) → l < library_count pairs p → ((k : ℕ) → k < l → awaits pairs s p k ≡ None) → is_some (awaits pairs s p l) ≡ true → is_ready pairs s p ≡ (l == library_count pairs p)
   ready-not l under none waits =
       let x = some_of (awaits pairs s p l) waits in
@@ -43,7 +43,7 @@ module _ (pairs : List Pair) (s : Walked) (p : ℕ) where
       ap is_none (first_among-at (awaits pairs s p) 0 (library_count pairs p) l x.0 under (λ k low high. none k (omega arith)) (subst P e x.1))
       ∙ sym (ne_eqb l (library_count pairs p) (λ same. absurd (omega arith)))
 
--- entries that were passed, noted
+-- the entries that were passed, noted
 pub taking-passed : (pairs : List Pair) (order : List ℕ) (t t' : Taking) (p l : ℕ) → taken_of t' ≡ taken_of t → t'.passed.items ≡ set t.passed.items p l → p < length pairs → IsTaking pairs order t
     → ((k : ℕ) → k < l → awaits pairs (taken_of t) p k ≡ None) → IsTaking pairs order t'
 taking-passed pairs order t t' p l same is inside are none = record {
@@ -67,7 +67,7 @@ taking-passed pairs order t t' p l same is inside are none = record {
           are.passed q k (omega arith))
     ]
 
--- nothing was passed at the start
+-- no entry was passed at the start
 get_or-zero : (n p : ℕ) → get_or {A = ℕ} (replicate n 0) p 0 ≡ 0
 get_or-zero n p = elim (cases_lt p n) [
   | inl under ↦ get_or-replicate n p 0 0 under
@@ -86,14 +86,14 @@ pub taken-fresh : (pairs : List Pair) (t : Taking) → IsFresh t (length pairs) 
 taken-fresh pairs t fresh = λ i. record { marked = fresh.taken i; order = fresh.order i }
 
 module _ (pairs : List Pair) (s : Walked) (order : List ℕ) (i : ℕ) (under : i < length order) where
-  -- the next fragment is taken where it wasn't taken and is ready
+  -- the next fragment is taken if it wasn't taken and is ready
   pub next_ready-here : is_marked s (get_or order i 0) ≡ false → is_ready pairs s (get_or order i 0) ≡ true → next_ready pairs s (drop i order) ≡ Some (get_or order i 0)
   next_ready-here unmet ready =
       at_drop_more (next_ready pairs s) order i 0 under
       ∙ ap (λ m. cond (not m && is_ready pairs s (get_or order i 0)) (Some (get_or order i 0)) (next_ready pairs s (drop (i + 1) order))) unmet
       ∙ ap (λ m. cond m (Some (get_or order i 0)) (next_ready pairs s (drop (i + 1) order))) ready
 
-  -- and is the first that is left where it wasn't taken
+  -- and is the first that is left if it wasn't taken
   pub first_left-here : is_marked s (get_or order i 0) ≡ false → first_left s (drop i order) ≡ Some (get_or order i 0)
   first_left-here unmet =
       at_drop_more (first_left s) order i 0 under
@@ -106,7 +106,7 @@ place_in_order pairs order ps i complete same under =
     (complete.members (get_or ps i 0) there).place
 
 module _ (pairs : List Pair) (order : List ℕ) (s : Walked) where
-  -- the end, where no fragment is ready
+  -- the end, if no fragment is ready
   pub take_ready-none : (n : ℕ) → next_ready pairs s order ≡ None → take_ready n pairs order s ≡ taken_all pairs s (first_left s order)
   unfolding take_ready
   take_ready-none zero none = refl

@@ -1,4 +1,4 @@
--- Rows of targets, and what is noted in them.
+-- Rows of targets, and the targets noted in them.
 use Rattle.std.proofs.Common.{◌≡◌, ◌≢◌, ℕ, ◌+◌, ◌<◌, List, [], ◌∷◌, length, drop, Option, None, Some, Ok, Err, refl, sym, ap, ◌∙◌, subst, get_or, set, inl, inr, arith, Contains}
 use Rattle.std.specs.Prelude.{IsSome, replicate}
 use Rattle.std.specs.List.{AllByRecursion}
@@ -38,11 +38,11 @@ module _ (rows : Rows) (p j : ℕ) (t : Option Target) (inside : IsInTable rows 
       let b = is.1 in
       (omega arith, omega arith)
 
-  -- what was noted is known
+  -- a noted target is known
   pub known-here : known_at (noted rows p j t) p j ≡ Some t
   known-here = ap (λ r. get_or r j None) row-here ∙ get_or-set_same (get_or rows p []) j (Some t) None inside.1
 
-  -- and nothing else changes
+  -- and no other changes
   pub known-other : (q k : ℕ) → (q ≡ p → k ≢ j) → known_at (noted rows p j t) q k ≡ known_at rows q k
   known-other q k other = elim (eqb_tells q p) [
     | inl same ↦ (let P : ℕ → Type 0 = λ q. known_at (noted rows p j t) q k ≡ known_at rows q k in
@@ -73,7 +73,7 @@ module _ (pairs : List Pair) (order : List ℕ) where
       let count = are.counts p there in
       (omega arith, omega arith)
 
-  -- with a target noted that is right, what is known is right
+  -- with a right target noted, the known targets are right
   pub rows-noted : (rows : Rows) (p j : ℕ) (t : Option Target) → AreRows pairs order rows → IsInTable rows (p, j) → led_to pairs (p, j) ≡ Some (Ok t) → AreRows pairs order (noted rows p j t)
   rows-noted rows p j t are inside is = record {
     complete = are.complete;
@@ -102,7 +102,7 @@ module _ (pairs : List Pair) (order : List ℕ) where
         | inr other ↦ are.right q k u (sym (known-other rows p j t inside q k (λ e. absurd (other.1 e))) ∙ known)
       ]
 
-  -- the same of all imports of a way
+  -- the same for all imports of a way
   pub record WayNoted (rows new : Rows) : Type 0 where
     pub are : AreRows pairs order new
     pub kept : KeepsKnown rows new
@@ -120,7 +120,7 @@ pub way_in_table : (pairs : List Pair) (order : List ℕ) (rows : Rows) (start :
 way_in_table pairs order rows start [] are all = tt
 way_in_table pairs order rows start (v ∷ way) are all = (in_table pairs order rows v.0 v.1 are all.0.place all.0.import, way_in_table pairs order rows start way are all.1)
 
--- nothing is known in a new row
+-- no target is known in a new row
 pub unknown-set : (rows : Rows) (p n : ℕ) → ((q k : ℕ) → known_at rows q k ≡ None) → p < length rows → (q k : ℕ) → known_at (set rows p (replicate n None)) q k ≡ None
 unknown-set rows p n none inside q k = elim (eqb_tells q p) [
   | inl same ↦ ap (λ q. known_at (set rows p (replicate n None)) q k) same.1 ∙ ap (λ r. get_or r k None) (get_or-set_same rows p (replicate n None) [] inside) ∙ none-at {T = Option Target} n k
@@ -139,7 +139,7 @@ counts-set pairs order rows i n inside count counts k under = elim (eqb_tells (g
       ap length (get_or-set_other rows (get_or order i 0) (get_or order k 0) (replicate n None) [] other.1) ∙ counts k (omega arith))
 ]
 
--- where each fragment of an order has its row, and nothing is known, the rows are those of the order
+-- if each fragment of an order has its row, and no target is known, the rows are those of the order
 pub rows-unknown : (pairs : List Pair) (order : List ℕ) (rows : Rows) → IsComplete pairs order → IsUnknown rows (length pairs)
     → ((k : ℕ) → k < length order → length (get_or rows (get_or order k 0) []) ≡ import_count pairs (get_or order k 0)) → AreRows pairs order rows
 rows-unknown pairs order rows complete unknown counts = record {
@@ -175,14 +175,14 @@ pub unless-err : {A F : Type 0} (o : Option F) (x : A) (r : F) → unless o (Ok 
 unless-err None x r is = absurd (cc)
 unless-err (Some f) x r is = cc
 
--- the next fragment decides where one of its imports is refused, and is passed over where none is
+-- the next fragment decides if one of its imports is refused, and is passed over if none is
 pub first_refused-here : (pairs : List Pair) (order : List ℕ) (i : ℕ) (r : BindRefusal) → i < length order → imports_refusal pairs (get_or order i 0) ≡ Some r → first_refused pairs (drop i order) ≡ Some r
 first_refused-here pairs order i r under is = at_drop_more (first_refused pairs) order i 0 under ∙ ap (λ o. option_or o (first_refused pairs (drop (i + 1) order))) is
 
 pub first_refused-next : (pairs : List Pair) (order : List ℕ) (i : ℕ) → i < length order → imports_refusal pairs (get_or order i 0) ≡ None → first_refused pairs (drop (i + 1) order) ≡ first_refused pairs (drop i order)
 first_refused-next pairs order i under is = sym (at_drop_more (first_refused pairs) order i 0 under ∙ ap (λ o. option_or o (first_refused pairs (drop (i + 1) order))) is)
 
--- one fragment more is resolved
+-- one more fragment is resolved
 pub resolved-more : (pairs : List Pair) (order : List ℕ) (old new : Rows) (i : ℕ) → KeepsKnown old new → ((k : ℕ) → k < i → IsResolved pairs old (get_or order k 0)) → IsResolved pairs new (get_or order i 0)
     → (k : ℕ) → k < i + 1 → IsResolved pairs new (get_or order k 0)
 resolved-more pairs order old new i kept before here k under = elim (eqb_tells k i) [
@@ -190,6 +190,6 @@ resolved-more pairs order old new i kept before here k under = elim (eqb_tells k
   | inr other ↦ (let apart = other.1 in λ j below. kept (get_or order k 0) j (before k (omega arith) j below))
 ]
 
--- where all of an order are resolved, each of its fragments is
+-- if all of an order are resolved, each of its fragments is
 pub resolved-all : (pairs : List Pair) (order : List ℕ) (rows : Rows) → ((k : ℕ) → k < length order → IsResolved pairs rows (get_or order k 0)) → (p : ℕ) → Contains order p → IsResolved pairs rows p
 resolved-all pairs order rows all p there = subst (IsResolved pairs rows) (get_or_default order there.0 0 p there.1 ∙ there.2) (all there.0 there.1)

@@ -14,17 +14,17 @@ use Rattle.cfm_closure.proofs.FollowLemmas.{Goes, follow-on, hops-then}
 use Rattle.cfm_closure.proofs.LoopLemmas.{follow-next, follow-order}
 
 module _ (pairs : List Pair) where
-  -- what an import leads to is its target, or its refusal
+  -- the target to which an import leads is its target, or its refusal
   pub target-led : (p j : ℕ) (a : Result (Option Target) BindRefusal) → led_to pairs (p, j) ≡ Some a → target_of pairs p j ≡ a
   unfolding target_of
   target-led p j a is = ap (λ o. option_map_or (λ (answer : Result (Option Target) BindRefusal). answer) o (Err (reexport_loop (pair_of pairs p).name (symbol_of pairs p j)))) is
 
-  -- an import that leads to nothing goes on for ever
+  -- an import that leads to no target is endless
   pub target-endless : (p j : ℕ) → led_to pairs (p, j) ≡ None → target_of pairs p j ≡ Err (reexport_loop (pair_of pairs p).name (symbol_of pairs p j))
   unfolding target_of
   target-endless p j is = ap (λ o. option_map_or (λ (answer : Result (Option Target) BindRefusal). answer) o (Err (reexport_loop (pair_of pairs p).name (symbol_of pairs p j)))) is
 
-  -- what has a target is led to it
+  -- an import with a target leads to it
   pub led-target : (p j : ℕ) (t : Option Target) → target_of pairs p j ≡ Ok t → led_to pairs (p, j) ≡ Some (Ok t)
   unfolding target_of
   led-target p j t is = by (led_to pairs (p, j)) refl is
@@ -38,7 +38,7 @@ module _ (pairs : List Pair) where
   follow-at zero p j r a is there = ap (followed (λ q k. None)) is ∙ there (λ q k. None)
   follow-at (suc n) p j r a is there = ap (followed (follow n pairs)) is ∙ there (follow n pairs)
 
-  -- a hop that ends, one that is refused, and one that goes on
+  -- a hop that ends, one that is refused, and one that continues
   pub led-ends : (p j : ℕ) (t : Option Target) → hop pairs p j ≡ Ok (ends t) → led_to pairs (p, j) ≡ Some (Ok t)
   led-ends p j t is = follow-at (exports_in pairs) p j (Ok (ends t)) (Ok t) is (λ on. refl)
 
@@ -66,6 +66,6 @@ module _ (pairs : List Pair) where
       let goes : Goes pairs (suc (exports_among pairs order)) (p, j) = record { to = w; is = ap (λ m. hops pairs m (p, j)) (sym e) ∙ reached } in
       sym (follow-order pairs order complete p j there) ∙ follow-on pairs (exports_among pairs order) (p, j) goes
 
-  -- an import behind another on a way
+  -- an import after another on a way
   pub on_way-more : (order : List ℕ) (start : ℕ × ℕ) (p j q e k : ℕ) → IsOnWay pairs order start (p, j) → hop pairs p j ≡ Ok (through q e k) → Contains order q → k < import_count pairs q → IsOnWay pairs order start (q, k)
   on_way-more order start p j q e k on is there under = record { place = there; import = under; leads = led-through p j q e k is ∙ on.leads }

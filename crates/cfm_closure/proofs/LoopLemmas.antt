@@ -1,4 +1,4 @@
--- More hops than there are exports meet one of them again.
+-- If there are more hops than exports, one is visited again.
 use Rattle.std.proofs.Common.{◌≡◌, ℕ, zero, suc, ◌+◌, ◌-◌, ◌<◌, List, length, Option, None, Some, Ok, refl, sym, ap, ◌∙◌, subst, arith, Contains}
 use Rattle.std.specs.Prelude.{Result, Err, unwrap_or}
 use Rattle.std.specs.List.{range_with_len}
@@ -36,7 +36,7 @@ module _ (pairs : List Pair) (I : ℕ → Type 0) (ps : List ℕ)
         let near = hops-before pairs (suc i) (exports_among pairs ps - i) v far.to (ap (λ k. hops pairs k v) e ∙ far.is) in
         step_at pairs i v (record { to = near.0; is = near.1 })
 
-    -- the export that is met at a hop
+    -- the export that is visited at a hop
     export_at : ℕ → ℕ × ℕ
     export_at i = unwrap_or (met pairs i v) (0, 0)
 
@@ -69,7 +69,7 @@ module _ (pairs : List Pair) (I : ℕ → Type 0) (ps : List ℕ)
           again = export_at-is t.second (omega arith) ∙ ap Some (sym same);
         }
 
--- where a hop leads: a library entry stands for that fragment
+-- where a hop leads: a library entry has that fragment
 record ByLibrary (pairs : List Pair) (v : ℕ × ℕ) (next : (ℕ × ℕ) × (ℕ × ℕ)) : Type 0 where
   pub library : ℕ
   pub is : bound_to pairs v.0 library ≡ Ok (Some next.0.0)
@@ -97,15 +97,15 @@ module _ (pairs : List Pair) where
       let b = by_library pairs v next goes in
       (tt, in_store next.0.0 (stands_for pairs v.0 b.library next.0.0 b.is).inside)
 
-  -- more hops than all exports meet one of them again
+  -- if there are more hops than all exports, one is visited again
   pub again_in_store : (v : ℕ × ℕ) → follow (exports_in pairs) pairs v.0 v.1 ≡ None → MeetsAgain pairs v
   again_in_store v none = again pairs (λ q. Unit {0}) (range_with_len 0 (length pairs)) keeps_store v tt (follow-none pairs (exports_in pairs) v none)
 
-  -- an export that is met again is met for ever
+  -- an export that is visited again is visited for ever
   pub for_ever : (v : ℕ × ℕ) (n : ℕ) → MeetsAgain pairs v → follow n pairs v.0 v.1 ≡ None
   for_ever v n m = follow-on pairs n v (meets_again-for_ever pairs v m (suc n))
 
-  -- an answer stays with more hops
+  -- a result stays with more hops
   follow-more : (n : ℕ) (v : ℕ × ℕ) (a : Result (Option Target) BindRefusal) → follow n pairs v.0 v.1 ≡ Some a → follow (suc n) pairs v.0 v.1 ≡ Some a
   unfolding follow
   follow-more zero v a is = by (hop pairs v.0 v.1) is
@@ -127,7 +127,7 @@ module _ (pairs : List Pair) where
       let e : suc (m + n) ≡ suc m + n = omega arith in
       subst (λ n. follow n pairs v.0 v.1 ≡ Some a) e (follow-more (m + n) v a (follow-later m n v a is))
 
-  -- two numbers of hops that answer answer the same
+  -- two numbers of hops with a result have the same result
   same_answer : (m n : ℕ) (v : ℕ × ℕ) (a b : Result (Option Target) BindRefusal) → follow m pairs v.0 v.1 ≡ Some a → follow n pairs v.0 v.1 ≡ Some b → a ≡ b
   same_answer m n v a b is is' =
       let e : n + m ≡ m + n = omega arith in
@@ -136,7 +136,7 @@ module _ (pairs : List Pair) where
       let z : Some a ≡ Some b = sym x ∙ ap (λ k. follow k pairs v.0 v.1) e ∙ y in
       cc
 
-  -- a number of hops after which nothing is answered only where nothing ever is gives what the exports of the store give
+  -- a number of hops that has no result only if no number has one gives the result for the exports of the store
   pub enough : (n : ℕ) (v : ℕ × ℕ) → (follow n pairs v.0 v.1 ≡ None → MeetsAgain pairs v) → follow n pairs v.0 v.1 ≡ follow (exports_in pairs) pairs v.0 v.1
   enough n v meets = by (follow n pairs v.0 v.1) (follow (exports_in pairs) pairs v.0 v.1) refl refl
     where
@@ -145,7 +145,7 @@ module _ (pairs : List Pair) where
       by (Some a) None is is' = sym is ∙ for_ever v n (again_in_store v is')
       by (Some a) (Some b) is is' = ap Some (same_answer n (exports_in pairs) v a b is is')
 
-  -- the bound is never met: an import gives what the import gives that it leads to
+  -- the bound is never reached: an import has the result of the import that it leads to
   pub follow-next : (p j q e k : ℕ) → hop pairs p j ≡ Ok (through q e k) → follow (exports_in pairs) pairs p j ≡ follow (exports_in pairs) pairs q k
   unfolding follow
   follow-next p j q e k is =

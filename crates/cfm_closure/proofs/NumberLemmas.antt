@@ -27,7 +27,7 @@ values-none {T} n = ext_get_or None (values_at {T = T} (replicate n 0) []) (repl
     let inside : i < n = subst (λ m. i < m) (places {T = T} (replicate n 0) [] ∙ length-replicate n 0) under in
     value-at {T = T} (replicate n 0) [] i ∙ ap (value_of {T = T} []) (get_or-replicate n i 0 0 inside) ∙ sym (get_or-replicate n i None None inside))
 
--- what stands before a value that goes behind all
+-- the values before one that is added after all
 before-push : {T : Type 0} (values : List T) (v : T) (n : ℕ) → n < length values → slice_get (values ++ v ∷ []) n ≡ slice_get values n
 before-push [] v n under = absurd (omega arith)
 before-push (x ∷ values) v zero under = refl

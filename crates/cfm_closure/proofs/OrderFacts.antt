@@ -1,4 +1,4 @@
--- What holds of a closure order.
+-- Facts of a closure order.
 use Rattle.std.proofs.Common.{◌≡◌, ℕ, ◌<◌, ◌≤◌, true, false, not, List, [], length, Option, None, Some, Ok, sym, ap, ◌∙◌, subst, inl, inr, true≢false, arith, Contains}
 use Rattle.std.specs.Prelude.{IfSome, replicate}
 use Rattle.std.specs.List.{AllByRecursion}
@@ -17,7 +17,7 @@ use Rattle.cfm_closure.proofs.WalkFacts.{Walks, walk-does}
 use Rattle.cfm_closure.proofs.WalkRules.{came, same_ok, unmarked_inside, walk-rule}
 
 module _ (pairs : List Pair) where
-  -- at the start nothing is marked
+  -- at the start no fragment is marked
   unmarked_start : (q : ℕ) → q < length pairs → is_marked (unwalked pairs) q ≡ false
   unmarked_start q inside = get_or-replicate (length pairs) q false true inside
 
@@ -31,7 +31,7 @@ module _ (pairs : List Pair) where
   nowhere q there = let h = there.1 in omega arith
 
   module _ (s : Walked) (reaches : Reaches pairs (unwalked pairs) s) where
-    -- what was met inside the store joined the order
+    -- fragments of the store that were visited joined the order
     joined : (q : ℕ) → q < length pairs → is_marked s q ≡ true → Contains s.order q
     joined q inside met = elim (reaches.joins q met) [
       | inl before ↦ absurd (true≢false (sym before ∙ unmarked_start q inside))
@@ -62,7 +62,7 @@ module _ (pairs : List Pair) where
       }
     ]
 
-  -- what the walk from a root has done
+  -- the effect of the walk from a root
   record FromRoot (root : ℕ) (order : List ℕ) : Type 0 where
     pub to : Walked
     pub same : to.order ≡ order
@@ -98,7 +98,7 @@ module _ (pairs : List Pair) where
       let whole : a.value.order ≡ order = cc in
       (w.value.order, sym whole ∙ sym (ap (λ (s : Walked). s.order) same))
 
--- the fragment that a library entry of a member stands for is a member
+-- the fragment that a library entry of a member means is a member
 pub bound-inside : (pairs : List Pair) (order : List ℕ) (p l : ℕ) (b : Option ℕ) → IsComplete pairs order → Contains order p → bound_to pairs p l ≡ Ok b → IfSome b (λ q. Contains order q)
 bound-inside pairs order p l None complete there is = tt
 bound-inside pairs order p l (Some q) complete there is =
@@ -110,6 +110,6 @@ bound-inside pairs order p l (Some q) complete there is =
     let here = same_ok (bound_to pairs p l) h.bound (Some q) h.is is in
     h.inside q here
 
--- what holds of each element of a list holds of what it contains
+-- a fact of each element of a list is one of each that it contains
 pub all-contains : {A : Type 0} (P : A → Type 0) (xs : List A) (x : A) → AllByRecursion P xs → Contains xs x → P x
 all-contains P xs x all there = subst P there.2 (all-at P xs there.0 x all there.1)

@@ -1,4 +1,4 @@
--- The path of frames does what the recursion does.
+-- The path of frames has the effect of the recursion.
 use Rattle.std.proofs.Common.{◌≡◌, ℕ, suc, ◌+◌, ◌-◌, ◌<◌, ◌≤◌, Bool, true, false, cond, List, [], ◌∷◌, ◌++◌, length, Option, None, Some, Ok, Err, refl, sym, ap, ◌∙◌, arith}
 use Rattle.std.specs.Prelude.{Result}
 use Rattle.std.specs.Option.{option_map_or}
@@ -18,7 +18,7 @@ use Rattle.cfm_closure.specs.Kept.Paths.{rest_of, rest_of_frame, rest_of_path, v
 use Rattle.cfm_closure.specs.Kept.Walks.{unmet_of}
 use Rattle.cfm_closure.proofs.WalkRules.{walk-rule}
 
--- what is refused at first is refused
+-- a refusal at first is the refusal of the whole
 pub Fails-also : {A B : Type 0} (e : BindFault) (x : Result A BindRefusal) (y : Result B BindRefusal) → ((r : BindRefusal) → x ≡ Err r → y ≡ Err r) → FailsAs e x → FailsAs e y
 Fails-also (fault.Container f v) x y leads is = leads _ is
 Fails-also (fault.Loader f v) x y leads is = leads _ is
@@ -53,7 +53,7 @@ module _ (pairs : List Pair) (s : Walked) (size : length s.marked ≡ length pai
   few : left s ≤ length pairs
   few = let h : left s ≤ length s.marked = count_by-le-length _ s.marked in omega arith
 
-  -- a fragment that was met is passed by
+  -- a fragment that was visited is passed by
   pub visit-met : (p : ℕ) → is_marked s p ≡ true → visit pairs p s ≡ Ok s
   visit-met p met = walk-rule (length pairs) pairs p s few ∙ ap (walk_at (walk (length pairs) pairs) pairs p s) met
 
@@ -71,7 +71,7 @@ module _ (pairs : List Pair) (s : Walked) (size : length s.marked ≡ length pai
       ∙ ap (λ f. f >>= (λ f. walks_from (walk (length pairs) pairs) pairs p 0 f.loader.header.library_count (marking p s) >>= (λ s. Ok (joining p s)))) is
       ∙ ap (λ n. walks_from (walk (length pairs) pairs) pairs p 0 n (marking p s) >>= (λ s. Ok (joining p s))) (omega arith)
 
-  -- an entry leads to no fragment that wasn't met, and is passed by
+  -- an entry leads to no fragment that wasn't visited, and is passed by
   pub passed_by : (b : Option ℕ) → unmet_of s.marked b ≡ None → walk_to (visit pairs) b s ≡ Ok s
   passed_by None none = refl
   passed_by (Some q) none = by (is_marked s q) refl none
@@ -80,7 +80,7 @@ module _ (pairs : List Pair) (s : Walked) (size : length s.marked ≡ length pai
       by true met none = visit-met q met
       by false met none = absurd (cc)
 
--- what is left of a fragment begins with the walk to its next library
+-- the rest of a fragment begins with the walk to its next library
 pub rest_of-next : (pairs : List Pair) (p l count : ℕ) (s : Walked) (b : Option ℕ) → l < count → bound_to pairs p l ≡ Ok b → rest_of pairs p l count s ≡ (walk_to (visit pairs) b s >>= rest_of pairs p (l + 1) count)
 rest_of-next pairs p l count s b under is =
     let more : count - l ≡ suc (count - (l + 1)) = omega arith in
@@ -94,14 +94,15 @@ rest_of-refused pairs p l count s r under is =
     ap (λ n. walks_from (visit pairs) pairs p l n s >>= (λ s. Ok (joining p s))) more
     ∙ ap (λ r. (r >>= (λ q. walk_to (visit pairs) q s >>= walks_from (visit pairs) pairs p (l + 1) (count - (l + 1)))) >>= (λ s. Ok (joining p s))) is
 
--- what an entry of a fragment that was read stands for
+-- the fragment of an entry of a fragment that was read
 pub bound_to-is : (pairs : List Pair) (p l : ℕ) (f : Fragment) (library : Library) → fragment_of pairs p ≡ Ok f → library_of f.loader l ≡ Some library → bound_to pairs p l ≡ bound pairs f.name library
 unfolding bound_to
 bound_to-is pairs p l f library read is =
     ap (λ r. r >>= (λ f. option_map_or (bound pairs f.name) (library_of f.loader l) (Ok None))) read
     ∙ ap (λ o. option_map_or (bound pairs f.name) o (Ok None)) is
 
--- the closure order is what the walk from the root leads to, with nothing met and nothing on the path
+-- the closure order is the result of the walk from the root, with no fragment visited and none on the
+-- path
 pub order_of-start : (pairs : List Pair) (root : ℕ) (path : List Frame) (s : Walked) → path ≡ [] → s ≡ unwalked pairs → order_of pairs root ≡ (visit_and_rest pairs root path s >>= (λ s. Ok s.order))
 unfolding order_of
 order_of-start pairs root path s empty start =

@@ -1,4 +1,4 @@
--- Of more numbers than there are different ones, two are the same.
+-- If there are more numbers than different ones, two are the same.
 use Rattle.std.proofs.Common.{◌≡◌, ℕ, zero, suc, ◌+◌, ◌<◌, ◌≤◌, ◌⊎◌, Bool, true, false, not, [], length, refl, sym, ◌∙◌, inl, inr, true≢false, arith}
 use Rattle.std.specs.Prelude.{replicate}
 use Rattle.std.proofs.lemmas.Bool.Decides.{eqb_tells}
@@ -23,7 +23,7 @@ record Marked (f : ℕ → ℕ) (from n : ℕ) (s : Walked) : Type 0 where
   pub high : at < from + n
   pub is : is_marked s (f at) ≡ true
 
--- of more places than numbers are left, one has a marked number, or two have the same
+-- if there are more places than numbers left, one has a marked number, or two have the same
 more_than_left : (f : ℕ → ℕ) (n from : ℕ) (s : Walked) → left s < n → Marked f from n s ⊎ Twice f from n
 more_than_left f zero from s few = absurd (omega arith)
 more_than_left f (suc n) from s few = by (is_marked s (f from)) refl (more_than_left f n (from + 1) (marking (f from) s))

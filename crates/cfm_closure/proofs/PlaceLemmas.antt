@@ -1,4 +1,4 @@
--- Where the first pair of a name is, before and after a pair is added.
+-- The place of the first pair with a name, before and after a pair is added.
 use Rattle.std.proofs.Common.{◌≡◌, ℕ, suc, ◌+◌, ◌-◌, ◌<◌, ◌≤◌, Bool, true, false, cond, List, [], ◌∷◌, ◌++◌, map, length, Option, None, Some, refl, sym, ap, ap₂, ◌∙◌, subst, Bor, arith}
 use Rattle.std.specs.Map.{lookup}
 use Rattle.std.specs.Option.{option_or}
@@ -8,12 +8,13 @@ use Rattle.std.proofs.lemmas.Slice.Eq.{bytes_eq-Decides}
 use Rattle.cfm_closure.specs.Stores.{Pair, pair_of, place_from, place_of}
 use Rattle.cfm_closure.specs.Kept.Places.{ArePlaces, NotesPlace}
 
--- where a test is met, a value
+-- a value, if a test holds
 abbrev if_met : Bool → ℕ → Option ℕ
 if_met true x = Some x
 if_met false x = None
 
--- the first pair of a name is behind the number from which they are counted, and among the pairs
+-- the first pair with a name is at or after the number from which they are counted, and among the
+-- pairs
 place_from-inside : (at : ℕ) (pairs : List Pair) (name : List ℕ) (p : ℕ) → place_from at pairs name ≡ Some p → (at ≤ p) × (p < at + length pairs)
 place_from-inside at [] name p is = absurd (cc)
 place_from-inside at (x ∷ pairs) name p is = by (bytes_eq name x.name) is (place_from-inside (at + 1) pairs name p)
@@ -56,7 +57,7 @@ pub place_below : (pairs : List Pair) (name : List ℕ) (o : Option ℕ) → pla
 place_below pairs name None is = tt
 place_below pairs name (Some p) is = place_of-below pairs name p is
 
--- with one pair more, a name has the place that it had, or the last one
+-- with one more pair, a name has the place that it had, or the last one
 place_from-push : (at : ℕ) (pairs : List Pair) (x : Pair) (name : List ℕ) → place_from at (pairs ++ x ∷ []) name ≡ option_or (place_from at pairs name) (if_met (bytes_eq name x.name) (at + length pairs))
 place_from-push at [] x name = by (bytes_eq name x.name)
   where
@@ -83,7 +84,7 @@ lookup-push test (e ∷ entries) k v = by (test e.0) (lookup-push test entries k
     by true later = refl
     by false later = later
 
--- what isn't some is none
+-- an option that isn't some is none
 pub none_if : {A : Type 0} (o : Option A) → is_some o ≡ false → o ≡ None
 none_if None none = refl
 none_if (Some x) none = absurd (cc)
@@ -105,7 +106,7 @@ module _ (entries : List (Bor (List ℕ) × ℕ)) (name : List ℕ) (place : ℕ
       ∙ ap (λ n. option_or (place_from 0 pairs sought) (if_met (bytes_eq sought x.name) n)) (omega arith)
       ∙ sym (place_from-push 0 pairs x sought)
 
-  -- .. and one that is there already keeps its place
+  -- .. and one that already exists keeps its place
   keeps_place : (pairs : List Pair) (x : Pair) (sought : List ℕ) (here : Bool) → bytes_eq sought x.name ≡ here → is_some (place_of pairs x.name) ≡ true → place_of pairs sought ≡ option_or (place_of pairs sought) (if_met here (0 + length pairs))
   keeps_place pairs x sought true met there =
       let same = (bytes_eq-Decides sought x.name).0 met in
@@ -129,7 +130,7 @@ module _ (entries : List (Bor (List ℕ) × ℕ)) (name : List ℕ) (place : ℕ
       ∙ keeps_place pairs x sought (bytes_eq sought x.name) refl has
       ∙ sym (place_from-push 0 pairs x sought)
 
--- a pair more, seen
+-- one more pair, as a value
 pub seen-push : {A B : Type 0} (f : A → B) (xs : List A) (x : A) → map f (xs ++ x ∷ []) ≡ map f xs ++ f x ∷ []
 seen-push f [] x = refl
 seen-push f (y ∷ xs) x = ap (λ ys. f y ∷ ys) (seen-push f xs x)

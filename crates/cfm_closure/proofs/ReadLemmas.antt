@@ -1,4 +1,5 @@
--- Where a closure is refused by a fragment's bytes, it is one of the store that isn't read.
+-- If a closure is refused for a fragment's bytes, that fragment is one of the store that isn't
+-- read.
 use Rattle.std.proofs.Common.{◌≡◌, ℕ, ◌<◌, List, length, Some, Ok, Err, sym, ◌∙◌, subst}
 use Rattle.std.specs.Prelude.{◌⊎◌, ⊤}
 use Rattle.pef_loader.specs.declared.fault.LoaderFault.{LoaderFault}
@@ -11,7 +12,7 @@ use Rattle.cfm_closure.specs.Promises.{AllRead, IsOfBinding, IsOfUnread}
 use Rattle.cfm_closure.proofs.RefusalLemmas.{Binds, Covers, IsMet, IsNamed, closed-binds, fragment-named}
 
 module _ (pairs : List Pair) (root : ℕ) where
-  -- a refusal of bytes is of a fragment that isn't read
+  -- a refusal for bytes is one of a fragment that isn't read
   abbrev Tells : BindRefusal → Type 0
   Tells (no_container f v) = IsOfUnread pairs root f (no_container f v)
   Tells (no_loader f v) = IsOfUnread pairs root f (no_loader f v)
@@ -31,7 +32,7 @@ module _ (pairs : List Pair) (root : ℕ) where
     refused = is;
   }
 
-  -- a refusal of a fragment that a walk meets tells that one
+  -- a refusal of a fragment that a walk visits names that one
   told : (p : ℕ) (r : BindRefusal) → IsMet pairs root p → fragment_of pairs p ≡ Err r → Tells r
   told p r met is = by r is (fragment-named pairs p r is)
     where
@@ -55,7 +56,7 @@ module _ (pairs : List Pair) (root : ℕ) where
     bytes = told;
   }
 
-  -- so a closure that is refused by the bytes of a fragment tells one that isn't read
+  -- so a closure that is refused for the bytes of a fragment names one that isn't read
   closed-tells : (r : BindRefusal) → root < length pairs → closed_of pairs root ≡ Err r → Tells r
   closed-tells r inside is = subst (Binds pairs root Tells all_tell) is (closed-binds pairs root Tells all_tell (λ p j. tt) inside)
 
@@ -65,7 +66,7 @@ module _ (pairs : List Pair) (root : ℕ) where
   pub closed-no_loader : (name : List ℕ) (v : LoaderFault) → root < length pairs → closed_of pairs root ≡ Err (no_loader name v) → IsOfUnread pairs root name (no_loader name v)
   closed-no_loader name v inside is = closed-tells (no_loader name v) inside is
 
--- .. and where all fragments are read, there is none
+-- .. and if all fragments are read, there is none
 none-unread : (pairs : List Pair) (root : ℕ) → AllRead pairs → (name : List ℕ) (r : BindRefusal) → IsOfUnread pairs root name r → ⊥
 none-unread pairs root read name r of =
     let f = read of.position of.inside in

@@ -1,5 +1,5 @@
--- What holds of each refusal on the way to a closure: of those of fragments' bytes, of libraries, of symbols
--- and of the order of initialization.
+-- Facts of each refusal on the way to a closure: of those of fragments' bytes, of libraries, of symbols and
+-- of the order of initialization.
 use Rattle.std.proofs.Common.{◌≡◌, ℕ, zero, suc, ◌+◌, ◌<◌, Bool, true, false, cond, List, [], ◌∷◌, length, Option, None, Some, Ok, Err, refl, subst, inl, inr}
 use Rattle.std.specs.Prelude.{◌⊎◌, ⊤, Result}
 use Rattle.std.specs.Option.{option_and_then, option_map_or, option_or}
@@ -27,7 +27,7 @@ use Rattle.cfm_closure.specs.Closures.{Closed, closed_of, first_refused, import_
 use Rattle.cfm_closure.specs.Initialization.{first_left, init_order_of, next_ready, take_next, take_ready, taken_all}
 use Rattle.cfm_closure.specs.Targets.{Hop, ends, exported, exports_in, follow, followed, hop, hop_from, hop_of, hop_to, symbol_of, target_of, through}
 
--- a refusal of a fragment is of its bytes, and has its name
+-- a refusal of a fragment is one of its bytes, and has its name
 abbrev pub IsNamed : List ℕ → BindRefusal → Type 0
 IsNamed name (no_container f v) = name ≡ f
 IsNamed name (no_loader f v) = name ≡ f
@@ -51,7 +51,7 @@ unfolding fragment_of
 fragment-named pairs p r is = container-named (pair_of pairs p).name (container_of (pair_of pairs p).bytes) r is
 
 module _ (pairs : List Pair) (root : ℕ) where
-  -- a fragment that a walk can meet: the root, or the first of its name
+  -- a fragment that a walk can visit: the root, or the first with its name
   pub record IsMet (p : ℕ) : Type 0 where
     pub inside : p < length pairs
     pub found : (p ≡ root) ⊎ (place_of pairs (pair_of pairs p).name ≡ Some p)
@@ -62,7 +62,7 @@ module _ (pairs : List Pair) (root : ℕ) where
   library-met : (p l q : ℕ) → bound_to pairs p l ≡ Ok (Some q) → IsMet q
   library-met p l q is = let s = stands_for pairs p l q is in record { inside = s.inside; found = inr s.first }
 
-  -- what holds of each refusal but that of an import that leads on without an end
+  -- a fact of each refusal except that of an endless import
   pub record Covers (T : BindRefusal → Type 0) : Type 0 where
     pub library : (f l : List ℕ) → T (library_missing f l)
     pub symbol : (f l s : List ℕ) → T (symbol_missing f l s)
@@ -72,12 +72,12 @@ module _ (pairs : List Pair) (root : ℕ) where
     pub bytes : (p : ℕ) (r : BindRefusal) → IsMet p → fragment_of pairs p ≡ Err r → T r
 
   module _ (T : BindRefusal → Type 0) (covers : Covers T) where
-    -- what holds of the refusal of a result, where there is one
+    -- a fact of the refusal of a result, if there is one
     abbrev pub Binds : {A : Type 0} → Result A BindRefusal → Type 0
     Binds (Ok x) = ⊤
     Binds (Err r) = T r
 
-    -- .. and so of those of what follows
+    -- .. and so of those of the next step
     binds-then : {A B : Type 0} (r : Result A BindRefusal) (f : A → Result B BindRefusal) → Binds r → ((x : A) → r ≡ Ok x → Binds (f x)) → Binds (r >>= f)
     binds-then (Ok x) f first later = later x refl
     binds-then (Err e) f first later = first
@@ -179,7 +179,7 @@ module _ (pairs : List Pair) (root : ℕ) where
         of None = tt
         of (Some i) = from i (library_at pairs p i.library)
 
-    -- an answer, where there is one
+    -- a result, if there is one
     abbrev pub AnswerBinds : Option (Result (Option Target) BindRefusal) → Type 0
     AnswerBinds None = ⊤
     AnswerBinds (Some answer) = Binds answer
@@ -213,7 +213,7 @@ module _ (pairs : List Pair) (root : ℕ) where
           by None binds = loop p j
           by (Some answer) binds = binds
 
-      -- a refusal that is there
+      -- a refusal that exists
       abbrev RefusalBinds : Option BindRefusal → Type 0
       RefusalBinds None = ⊤
       RefusalBinds (Some r) = T r
@@ -240,7 +240,7 @@ module _ (pairs : List Pair) (root : ℕ) where
       abbrev with_order : List ℕ → List ℕ → Closed
       with_order order init_order = record { pairs = pairs; order = order; init_order = init_order }
 
-      -- what follows a closure order
+      -- the steps after a closure order
       abbrev behind : List ℕ → Option BindRefusal → Result Closed BindRefusal
       behind order refusal = unless refusal (init_order_of pairs order >>= (λ init_order. Ok (with_order order init_order)))
 

@@ -9,7 +9,7 @@ use Rattle.cfm_closure.specs.Kept.Found.{all_meant}
 use Rattle.cfm_closure.specs.Kept.Rows.{row_of, rows_of}
 use Rattle.cfm_closure.specs.Kept.Targets.{IsUnknown}
 
--- what a table of rows has in a place
+-- the row that a table of rows has in a place
 abbrev pub Row : Type 0
 Row = List (Option (Option Target))
 
@@ -22,26 +22,26 @@ rows-length table = length-map table row_of
 pub rows-set : (table : List (Option Row)) (p : ℕ) (row : Row) → rows_of (set table p (Some row)) ≡ set (rows_of table) p row
 rows-set table p row = map-set row_of table p (Some row)
 
--- the same where there was memory for it
+-- the same unless an allocation failed
 pub rows-added : {E : Type 0} (r : Result (Unit {0}) E) (old new : List (Option Row)) (p : ℕ) (row expected : Row) → OnOk r (new ≡ set old p (Some row)) → row ≡ expected → OnOk r (rows_of new ≡ set (rows_of old) p expected)
 rows-added (Ok done) old new p row expected is same = ap rows_of is ∙ rows-set old p row ∙ ap (λ (row : Row). set (rows_of old) p row) same
 rows-added (Err e) old new p row expected is same = tt
 
--- past the places of a table, and in a place without value, there is nothing
+-- past the places of a table, and in a place without value, there is no value
 pub none-at : {T : Type 0} (n p : ℕ) → get_or {A = Option T} (replicate n None) p None ≡ None
 none-at {T} n p = elim (cases_lt p n) [
   | inl under ↦ get_or-replicate n p None None under
   | inr past ↦ get_or_past (replicate {A = Option T} n None) p None (omega (arith, length-replicate {A = Option T} n None))
 ]
 
--- nothing is known in a table without rows
+-- no target is known in a table without rows
 pub unknown-none : (table : List (Option Row)) (n : ℕ) → table ≡ replicate n None → IsUnknown (rows_of table) n
 unknown-none table n is = record {
   size = rows-length table ∙ ap length is ∙ length-replicate n None;
   none = λ p j. ap (λ (row : Row). get_or row j None) (row-at table p ∙ ap row_of (ap (λ (table : List (Option Row)). get_or table p None) is ∙ none-at {T = Row} n p));
 }
 
--- of some imports nothing is known
+-- some imports without known targets
 pub all_meant-none : (n : ℕ) → all_meant (replicate n None) ≡ replicate n None
 all_meant-none zero = refl
 all_meant-none (suc n) = ap (λ row. None ∷ row) (all_meant-none n)

@@ -16,7 +16,7 @@ module _ (pairs : List Pair) (order : List ℕ) (tables : List (Option (Option L
   pub table_inside : p < length tables
   table_inside = let place = (are.complete.members p there).place in let size = are.size in omega arith
 
-  -- what stands there is of the fragment
+  -- a table in a place is that of the fragment
   pub table_found : (l : Loaded) → get_or tables p None ≡ Some (Some l) → loader_at pairs p ≡ Some l
   table_found l is = are.read p l (ap (option_and_then (λ (table : Option Loaded). table)) is)
 
@@ -38,7 +38,7 @@ module _ (pairs : List Pair) (order : List ℕ) (tables : List (Option (Option L
       ];
     }
 
--- what is told of an import of a fragment
+-- the facts of an import of a fragment
 pub record IsSymbol (pairs : List Pair) (p j : ℕ) (symbol : Option ImportView) : Type 0 where
   pub value : option_map import_seen symbol ≡ import_at pairs p j
   pub library : IfSome symbol (λ v. v.library < library_count pairs p)

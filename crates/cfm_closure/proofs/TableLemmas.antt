@@ -18,14 +18,14 @@ use Rattle.cfm_closure.proofs.RowLemmas.{none-at}
 places-none : {T : Type 0} (table : List (Option T)) (n : ℕ) → table ≡ replicate n None → length table ≡ n
 places-none table n is = ap length is ∙ length-replicate n None
 
--- nothing was read
+-- no fragment was read
 read-none : (pairs : List Pair) (table : List (Option FragmentView)) (n : ℕ) → table ≡ replicate n None → AreRead pairs table
 read-none pairs table n is p f here = absurd (let e : None ≡ Some f = sym (ap (λ table. fragment_at table p) is ∙ absent) ∙ here in cc)
   where
     absent : fragment_at (replicate n None) p ≡ None
     absent = ap (option_map fragment_seen) (none-at {T = FragmentView} n p)
 
--- the tables of a walk that met nothing
+-- the tables of a walk that visited nothing
 pub tables-none : (pairs : List Pair) (fragments : List (Option FragmentView)) (closed : List (Option ClosedFragment)) (marked : List Bool) (path : List Frame) (order : List ℕ)
     → fragments ≡ replicate (length pairs) None → closed ≡ replicate (length pairs) None → length marked ≡ length pairs → path ≡ [] → order ≡ [] → AreTables pairs fragments closed marked path order
 tables-none pairs fragments closed marked path order no_fragments no_closed marks no_path no_order = record {
@@ -38,7 +38,7 @@ tables-none pairs fragments closed marked path order no_fragments no_closed mark
 }
 
 module _ (pairs : List Pair) (table table' : List (Option FragmentView)) (kept : AreKept table table') where
-  -- what was read stays so
+  -- fragments that were read stay so
   frame-later : (f : Frame) → IsFrame pairs table f → IsFrame pairs table' f
   frame-later f is = record { inside = is.inside; read = kept f.p (fragment_seen f.fragment) is.read; bound = is.bound; few = is.few }
 
@@ -55,7 +55,7 @@ module _ (pairs : List Pair) (table table' : List (Option FragmentView)) (kept :
     }
 
 module _ (pairs : List Pair) (table : List (Option FragmentView)) (closed : List (Option ClosedFragment)) (marked : List Bool) (path : List Frame) (order : List ℕ) (are : AreTables pairs table closed marked path order) where
-  -- a fragment more that was met
+  -- one more fragment that was visited
   pub tables-marked : (p : ℕ) → AreTables pairs table closed (set marked p true) path order
   tables-marked p = record {
     fragments_size = are.fragments_size;
@@ -66,7 +66,7 @@ module _ (pairs : List Pair) (table : List (Option FragmentView)) (closed : List
     walked = are.walked;
   }
 
-  -- a frame more
+  -- one more frame
   pub tables-pushed : (f : Frame) → IsFrame pairs table f → AreTables pairs table closed marked (path ++ f ∷ []) order
   tables-pushed f is = record {
     fragments_size = are.fragments_size;
@@ -77,7 +77,7 @@ module _ (pairs : List Pair) (table : List (Option FragmentView)) (closed : List
     walked = are.walked;
   }
 
-  -- a fragment more that is done
+  -- one more fragment that is done
   pub tables-joined : (f : Frame) → IsFrame pairs table f → length f.libraries ≡ count_of f
       → AreTables pairs table (set closed f.p (Some (record { view = f.fragment; libraries = f.libraries }))) marked path (order ++ f.p ∷ [])
   tables-joined f is all = record {

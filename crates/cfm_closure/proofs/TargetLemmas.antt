@@ -66,7 +66,7 @@ module _ (pairs : List Pair) (order : List ℕ) (complete : IsComplete pairs ord
       by (value.Absolute n) has is = let same : Some (Absolute n) ≡ t = cc in subst (LiesInside pairs order) same tt
       by (Reexport import) has is = absurd (cc)
 
-  -- what is exported, or nothing
+  -- the export with a name, or none
   in_exported : (p q : ℕ) (f : Fragment) (i : Import) (t : Option Target) → Contains order q → fragment_of pairs q ≡ Ok f
       → hop_to (pair_of pairs p).name (pair_of pairs q).name i q (exported i.name f.loader) ≡ Ok (ends t) → LiesInside pairs order t
   in_exported p q f i t there read is = found (named_of f.loader i.name) refl is

@@ -1,4 +1,4 @@
--- What a walk that isn't refused has done.
+-- The effect of a walk that isn't refused.
 use Rattle.std.proofs.Common.{◌≡◌, ◌≢◌, ℕ, zero, suc, ◌+◌, ◌<◌, ◌≤◌, ◌⊎◌, Bool, true, false, List, [], ◌∷◌, ◌++◌, length, Option, None, Some, Ok, refl, sym, ◌∙◌, subst, get_or, inl, inr, true≢false, arith, Contains}
 use Rattle.std.specs.Prelude.{Result, AllPairs}
 use Rattle.std.proofs.lemmas.Bool.Decides.{eqb_tells}
@@ -14,7 +14,7 @@ use Rattle.cfm_closure.specs.Kept.Walks.{IsBound, IsDone, IsTidy, Reaches}
 use Rattle.cfm_closure.proofs.WalkRules.{came, left-marking, none_left, unmarked_inside, walk-fewer, walk_to-fewer}
 
 module _ (pairs : List Pair) where
-  -- what is done stays so where more is met
+  -- done fragments stay done if more are visited
   IsBound-later : (m m' : List Bool) (p l : ℕ) → ((q : ℕ) → get_or m q true ≡ true → get_or m' q true ≡ true) → IsBound pairs m p l → IsBound pairs m' p l
   IsBound-later m m' p l marks is = record { bound = is.bound; is = is.is; met = λ q b. marks q (is.met q b) }
 
@@ -63,7 +63,7 @@ module _ (pairs : List Pair) where
           by true met = absurd (true≢false (sym (a.marks q met) ∙ unmet))
           by false met = refl
 
--- each two of a list differ, where each two did and the last one wasn't there
+-- each two elements of a list differ, if they did before and the last one is new
 once-push : (xs : List ℕ) (y : ℕ) → AllPairs (λ p q. p ≢ q) xs → (Contains xs y → ⊥) → AllPairs (λ p q. p ≢ q) (xs ++ y ∷ [])
 once-push xs y once absent i j d less below same =
     let long : length (xs ++ y ∷ []) ≡ length xs + 1 = length_push xs y in
@@ -83,7 +83,7 @@ module _ (pairs : List Pair) (s : Walked) (p : ℕ) (unmet : is_marked s p ≡ f
   here : is_marked (marking p s) p ≡ true
   here = get_or-set_same s.marked p true true inside
 
-  -- a mark changes what is known of that fragment alone
+  -- a mark changes only that fragment
   elsewhere : (q : ℕ) → q ≢ p → is_marked (marking p s) q ≡ is_marked s q
   elsewhere q other = get_or-set_other s.marked p q true true other
 
@@ -105,7 +105,7 @@ module _ (pairs : List Pair) (s : Walked) (p : ℕ) (unmet : is_marked s p ≡ f
     | inr other ↦ inr (sym (elsewhere q other.1) ∙ met)
   ]
 
-  -- a fragment is met, walks lead to its libraries, and it joins the order
+  -- a fragment is visited, walks lead to its libraries, and it joins the order
   pub Reaches-joining : (u : Walked) → Reaches pairs (marking p s) u → IsDone pairs u.marked p → Reaches pairs s (joining p u)
   Reaches-joining u inner done = record {
     size = inner.size ∙ length-set s.marked p true;
@@ -145,7 +145,7 @@ module _ (pairs : List Pair) (s : Walked) (p : ℕ) (unmet : is_marked s p ≡ f
         | inr none ↦ true≢false (sym here ∙ none)
       ]
 
--- what a walk has done that isn't refused: it leads on, and it has met its fragment
+-- the effect of a walk that isn't refused: it continues, and it has visited its fragment
 pub record Walks (pairs : List Pair) (p : ℕ) (s t : Walked) : Type 0 where
   pub reaches : Reaches pairs s t
   pub met : is_marked t p ≡ true
@@ -153,7 +153,7 @@ pub record Walks (pairs : List Pair) (p : ℕ) (s t : Walked) : Type 0 where
 module _ (k : ℕ) (v : ℕ → Walked → Result Walked BindRefusal) (pairs : List Pair) (p : ℕ)
     (fewer : (q : ℕ) (s t : Walked) → v q s ≡ Ok t → left t ≤ left s)
     (walks : (q : ℕ) (s t : Walked) → left s ≤ k → v q s ≡ Ok t → Walks pairs q s t) where
-  -- what the walks to some libraries have done
+  -- the effect of the walks to some libraries
   record WalksFrom (l n : ℕ) (s t : Walked) : Type 0 where
     pub reaches : Reaches pairs s t
     pub libraries : (i : ℕ) → l ≤ i → i < l + n → IsBound pairs t.marked p i

@@ -1,5 +1,5 @@
--- The walk never meets its bound: with as many steps as fragments are left it meets its rule as if there
--- were no bound.
+-- The walk never reaches its bound: with as many steps as fragments are left it follows its rule as if
+-- there were no bound.
 use Rattle.std.proofs.Common.{◌≡◌, ℕ, zero, suc, ◌+◌, ◌<◌, ◌≤◌, Bool, true, false, cond, not, List, [], ◌∷◌, length, Option, None, Some, Ok, Err, refl, ap, subst, get_or, arith}
 use Rattle.std.specs.Prelude.{Result}
 use Rattle.std.proofs.lemmas.List.Sums.{sum_by-set}
@@ -10,7 +10,7 @@ use Rattle.cfm_closure.specs.Fragments.{Fragment, fragment_of}
 use Rattle.cfm_closure.specs.Libraries.{bound_to}
 use Rattle.cfm_closure.specs.Walk.{Walked, is_marked, joining, left, marking, walk, walk_at, walk_to, walks_from}
 
--- what isn't refused came of what isn't refused
+-- a result that isn't refused comes from one that isn't refused
 pub record Came {A B : Type 0} (r : Result A BindRefusal) (f : A → Result B BindRefusal) (y : B) : Type 0 where
   pub value : A
   pub is : r ≡ Ok value
@@ -20,11 +20,11 @@ pub came : {A B : Type 0} (r : Result A BindRefusal) (f : A → Result B BindRef
 came (Ok x) f y is = record { value = x; is = refl; leads = is }
 came (Err e) f y is = absurd (cc)
 
--- what is the one and the other is one
+-- two values of one result are equal
 pub same_ok : {A : Type 0} (r : Result A BindRefusal) (x y : A) → r ≡ Ok x → r ≡ Ok y → x ≡ y
 same_ok r x y is is' = cc
 
--- past the marks everything is marked
+-- past the marks every fragment is marked
 inside_if_unmarked : (marks : List Bool) (p : ℕ) → get_or marks p true ≡ false → p < length marks
 inside_if_unmarked [] p none = absurd (cc)
 inside_if_unmarked (m ∷ marks) zero none = omega arith
@@ -44,7 +44,7 @@ left-marking s p none =
     let one : one_if_not (get_or s.marked p true) ≡ 1 = ap one_if_not none in
     omega arith
 
--- so where none is left, all are marked
+-- so if none is left, all are marked
 pub none_left : (s : Walked) (p : ℕ) → left s ≡ 0 → is_marked s p ≡ true
 none_left s p none = by (is_marked s p) refl
   where
@@ -52,7 +52,7 @@ none_left s p none = by (is_marked s p) refl
     by true is = refl
     by false is = absurd (let one = left-marking s p is in omega arith)
 
--- two walks that do the same from states with at most k left, and leave no more
+-- two walks with the same effect from states with at most k left, which leave no more
 pub record SameWalks (k : ℕ) (v w : ℕ → Walked → Result Walked BindRefusal) : Type 0 where
   pub same : (p : ℕ) (s : Walked) → left s ≤ k → v p s ≡ w p s
   pub fewer : (p : ℕ) (s t : Walked) → v p s ≡ Ok t → left t ≤ left s
@@ -102,7 +102,7 @@ walk-fewer (suc n) pairs p s t is = by (is_marked s p) refl is (walk-fewer n pai
         let outer : left (joining p b.value) ≤ left s = omega arith in
         subst (λ t. left t ≤ left s) same outer
 
--- the bound has no say where it is at least the number of fragments that are left
+-- the bound doesn't matter if it is at least the number of fragments that are left
 pub walk-any : (m n : ℕ) (pairs : List Pair) (p : ℕ) (s : Walked) → left s ≤ m → left s ≤ n → walk m pairs p s ≡ walk n pairs p s
 unfolding walk
 walk-any zero zero pairs p s few few' = refl
@@ -125,7 +125,7 @@ walk-any (suc m) (suc n) pairs p s few few' = by (is_marked s p) refl (λ k q t 
         read (Ok f) same = ap (λ r. r >>= (λ s. Ok (joining p s))) (same f)
         read (Err e) same = refl
 
--- .. so with that bound the walk meets its rule as if there were none
+-- .. so with that bound the walk follows its rule as if there were none
 pub walk-rule : (n : ℕ) (pairs : List Pair) (p : ℕ) (s : Walked) → left s ≤ n → walk n pairs p s ≡ walk_at (walk n pairs) pairs p s (is_marked s p)
 unfolding walk
 walk-rule n pairs p s few = walk-any n (suc n) pairs p s few (omega arith)

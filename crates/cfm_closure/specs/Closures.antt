@@ -1,5 +1,5 @@
--- What the closure of a fragment is, or why there is none (Mac OS Runtime Architectures, "Code Fragment
--- Manager", "Preparing a Fragment").
+-- The closure of a fragment, or why there is none (Mac OS Runtime Architectures, "Code Fragment Manager",
+-- "Preparing a Fragment").
 use Rattle.std.specs.Prelude.{ℕ, List, [], ◌∷◌, Option, None, Result, Ok}
 use Rattle.std.specs.Option.{option_or}
 use Rattle.std.specs.Result.{result_err}
@@ -12,8 +12,8 @@ use Rattle.pef_words.specs.Results.{◌>>=◌}
 use Rattle.cfm_closure.specs.Initialization.{init_order_of}
 use Rattle.cfm_closure.specs.Targets.{target_of}
 
--- a closure: the store that it is of, and its fragments by their places, in closure order and in the order
--- of initialization
+-- a closure: its store, and its fragments by their places, in closure order and in the order of
+-- initialization
 pub record Closed : Type 0 where
   pub pairs : List Pair
   pub order : List ℕ
@@ -32,8 +32,8 @@ abbrev pub first_refused : List Pair → List ℕ → Option BindRefusal
 first_refused pairs [] = None
 first_refused pairs (p ∷ order) = option_or (imports_refusal pairs p) (first_refused pairs order)
 
--- the closure of the fragment in a place, or the first refusal: of the walk, of the imports, of the order of
--- initialization
+-- the closure of the fragment in a place, or the first refusal: of the walk, of the imports, or of the order
+-- of initialization
 unfoldable pub closed_of : List Pair → ℕ → Result Closed BindRefusal
 closed_of pairs root = order_of pairs root
     >>= (λ order. unless (first_refused pairs order) (init_order_of pairs order

@@ -1,4 +1,4 @@
--- The refusals of closures, their numbers and their names.
+-- The refusals of closures, with their numbers and names.
 use Rattle.std.specs.Prelude.{◌≡◌, ℕ, List, codes, Result, Ok, Err}
 use Rattle.pef_views.specs.declared.fault.ViewFault.{ViewFault}
 use Rattle.pef_views.specs.Faults.{fault_name as view_fault_name, fault_number as view_fault_number}
@@ -7,8 +7,8 @@ use Rattle.pef_loader.specs.Faults.{fault_name as loader_fault_name, fault_numbe
 use Rattle.cfm_closure.specs.declared.fault.BindFault.{BindFault}
 use Rattle.cfm_closure.specs.declared.fault.BindFault.TheVariants as fault
 
--- why a fragment has no closure, with the names that are told: of the fragment, of its library, of its
--- symbol
+-- why a fragment has no closure, with the names that are reported: of the fragment, of its library, of
+-- its symbol
 pub data BindRefusal : Type 0 where
   no_container : List ℕ → ViewFault → BindRefusal
   no_loader : List ℕ → LoaderFault → BindRefusal
@@ -19,7 +19,7 @@ pub data BindRefusal : Type 0 where
   reexport_loop : List ℕ → List ℕ → BindRefusal
   init_loop : List ℕ → BindRefusal
 
--- a fault is the refusal that was to come, where there was memory
+-- a fault is the expected refusal, unless an allocation failed
 abbrev pub FailsAs : {A : Type 0} → BindFault → Result A BindRefusal → Type 0
 FailsAs (fault.Container f v) expected = expected ≡ Err (no_container f.now v)
 FailsAs (fault.Loader f v) expected = expected ≡ Err (no_loader f.now v)
@@ -31,7 +31,7 @@ FailsAs (fault.ReexportLoop f s) expected = expected ≡ Err (reexport_loop f.no
 FailsAs (fault.InitLoop f) expected = expected ≡ Err (init_loop f.now)
 FailsAs fault.OutOfMemory expected = Unit {0}
 
--- an answer is the one that was to come, seen in its own way, where there was memory
+-- a result is the expected one, with a function applied to its value, unless an allocation failed
 abbrev pub Answers : {A B : Type 0} → (A → B) → Result A BindFault → Result B BindRefusal → Type 0
 Answers seen (Ok x) expected = expected ≡ Ok (seen x)
 Answers seen (Err e) expected = FailsAs e expected

@@ -1,4 +1,4 @@
--- What the fragments of a store are read as: a container and its loader section (Mac OS Runtime
+-- The fragments of a store as they are read: a container and its loader section (Mac OS Runtime
 -- Architectures, "PEF Structure").
 use Rattle.std.specs.Prelude.{ℕ, List, Option, option_map, Result, Ok, Err}
 use Rattle.std.specs.Option.{option_and_then, option_map_or}
@@ -28,7 +28,7 @@ with_container name (Err fault) = Err (no_container name fault)
 unfoldable pub fragment_of : List Pair → ℕ → Result Fragment BindRefusal
 fragment_of pairs p = with_container (pair_of pairs p).name (container_of (pair_of pairs p).bytes)
 
--- the container of the fragment in a place, where it can be read
+-- the container of the fragment in a place, if it can be read
 abbrev pub container_at : List Pair → ℕ → Option Contained
 container_at pairs p = option_map (λ f. f.container) (result_ok (fragment_of pairs p))
 

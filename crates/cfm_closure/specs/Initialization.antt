@@ -12,8 +12,8 @@ use Rattle.cfm_closure.specs.Fragments.{library_count, loader_at}
 use Rattle.cfm_closure.specs.Libraries.{library_at}
 use Rattle.cfm_closure.specs.Walk.{Walked, is_marked, joining, marking, unwalked}
 
--- the fragment that is to be initialized before the one in a place, by library entry l; none where the entry
--- asks for no such order, or its library is absent
+-- the fragment that must be initialized before the one in a place, by library entry l; none if the entry
+-- requires no such order, or its library is absent
 abbrev pub before_at : List Pair → ℕ → ℕ → Option Library → Option ℕ
 before_at pairs p l None = None
 before_at pairs p l (Some library) = if (options_of library.options).init_before then library_at pairs p l else None
@@ -21,11 +21,11 @@ before_at pairs p l (Some library) = if (options_of library.options).init_before
 abbrev pub before_of : List Pair → ℕ → ℕ → Option ℕ
 before_of pairs p l = before_at pairs p l (option_and_then (λ x. library_of x l) (loader_at pairs p))
 
--- l, where entry l is of a fragment that is to come first and wasn't taken
+-- l, if entry l is one of a fragment that must come first and wasn't taken
 abbrev pub awaits : List Pair → Walked → ℕ → ℕ → Option ℕ
 awaits pairs s p l = option_and_then (λ q. if is_marked s q then None else Some l) (before_of pairs p l)
 
--- all fragments that are to come first were taken
+-- all fragments that must come first were taken
 abbrev pub is_ready : List Pair → Walked → ℕ → Bool
 is_ready pairs s p = is_none (first_among (awaits pairs s p) 0 (library_count pairs p))
 
@@ -44,12 +44,12 @@ abbrev pub taken_all : List Pair → Walked → Option ℕ → Result (List ℕ)
 taken_all pairs s None = Ok s.order
 taken_all pairs s (Some p) = Err (init_loop (pair_of pairs p).name)
 
--- the next fragment is taken, and others behind it
+-- the next fragment is taken, and others after it
 abbrev pub take_next : (Walked → Result (List ℕ) BindRefusal) → List Pair → List ℕ → Walked → Option ℕ → Result (List ℕ) BindRefusal
 take_next on pairs order s None = taken_all pairs s (first_left s order)
 take_next on pairs order s (Some p) = on (joining p (marking p s))
 
--- again and again the first fragment that is ready is taken, n times at most
+-- repeatedly the first fragment that is ready is taken, n times at most
 unfoldable pub take_ready : ℕ → List Pair → List ℕ → Walked → Result (List ℕ) BindRefusal
 take_ready zero pairs order s = taken_all pairs s (first_left s order)
 take_ready (suc n) pairs order s = take_next (take_ready n pairs order) pairs order s (next_ready pairs s order)

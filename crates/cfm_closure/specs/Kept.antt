@@ -1,4 +1,4 @@
--- What the code keeps. Private contracts and proofs speak of it, public ones don't.
+-- Definitions for private contracts and proofs. No public clause cites them.
 pub mod Bindings
 pub mod Found
 pub mod Hops

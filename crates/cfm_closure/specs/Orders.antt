@@ -1,4 +1,4 @@
--- Closure orders of a store, and what holds of them beside their definition.
+-- Closure orders of a store, and their properties apart from their definition.
 use Rattle.std.specs.Prelude.{◌≡◌, ◌≢◌, ℕ, ◌<◌, ◌≤◌, List, [], ◌∷◌, ◌++◌, length, Option, Some, Ok, Contains, AllPairs}
 use Rattle.cfm_closure.specs.Stores.{Pair}
 use Rattle.cfm_closure.specs.Fragments.{Fragment, fragment_of}
@@ -9,7 +9,7 @@ pub record Ordered : Type 0 where
   pub pairs : List Pair
   pub order : List ℕ
 
--- a library entry wasn't refused, and its fragment, where it isn't absent, is in the order
+-- a library entry wasn't refused, and its fragment, if it isn't absent, is in the order
 pub record HasLibrary (pairs : List Pair) (order : List ℕ) (p l : ℕ) : Type 0 where
   pub bound : Option ℕ
   pub is : bound_to pairs p l ≡ Ok bound
@@ -22,7 +22,7 @@ pub record IsMember (pairs : List Pair) (order : List ℕ) (p : ℕ) : Type 0 wh
   pub read : fragment_of pairs p ≡ Ok fragment
   pub libraries : (l : ℕ) → l < fragment.loader.header.library_count → HasLibrary pairs order p l
 
--- with each of its fragments a closure order has all its libraries, and each stands there once
+-- a closure order has with each of its fragments all its libraries, and each fragment once
 pub record IsComplete (pairs : List Pair) (order : List ℕ) : Type 0 where
   pub members : (p : ℕ) → Contains order p → IsMember pairs order p
   pub once : AllPairs (λ p q. p ≢ q) order

@@ -1,4 +1,4 @@
--- What holds of closures beside their definitions.
+-- Properties of closures apart from their definitions.
 use Rattle.std.specs.Prelude.{◌≡◌, ◌⊎◌, ⊤, ℕ, ◌<◌, List, ◌∷◌, ◌++◌, length, Option, None, Some, Result, Ok, Err, Contains}
 use Rattle.std.specs.Option.{option_map_or}
 use Rattle.pef_loader.specs.Loader.{IsLoader, Loaded}
@@ -20,7 +20,7 @@ pub record IsSound (f : Fragment) : Type 0 where
 abbrev pub AllRead : List Pair → Type 0
 AllRead pairs = (p : ℕ) → p < length pairs → (f : Fragment) × (fragment_of pairs p ≡ Ok f)
 
--- a refusal is of libraries, of symbols or of the order of initialization, and of no fragment's bytes
+-- a refusal is one of libraries, of symbols or of the order of initialization, and not of a fragment's bytes
 abbrev pub IsOfBinding : BindRefusal → Type 0
 IsOfBinding (no_container f v) = ⊥
 IsOfBinding (no_loader f v) = ⊥
@@ -31,8 +31,8 @@ IsOfBinding (implementation_too_new f l) = ⊤
 IsOfBinding (reexport_loop f s) = ⊤
 IsOfBinding (init_loop f) = ⊤
 
--- a refusal is of the bytes of a fragment of the store, which is the root or the first with the name that is
--- told: no fragment whose bytes are read
+-- a refusal is one of the bytes of a fragment of the store, which is the root or the first with the name
+-- that is reported: never a fragment whose bytes are read
 pub record IsOfUnread (pairs : List Pair) (root : ℕ) (name : List ℕ) (refusal : BindRefusal) : Type 0 where
   pub position : ℕ
   pub inside : position < length pairs
@@ -58,8 +58,8 @@ LiesInside pairs order (Some (At fragment section offset)) = HasSection pairs or
 abbrev pub HasTarget : List Pair → ℕ → ℕ → Type 0
 HasTarget pairs p j = (target : Option Target) × (target_of pairs p j ≡ Ok target)
 
--- the closure order of a root has a fragment with an import, of these names, from which an export is met a
--- second time; no import before that one is refused
+-- the closure order of a root has a fragment with an import, with these names, from which an export is
+-- visited a second time; no import before that one is refused
 pub record IsEndless (pairs : List Pair) (root : ℕ) (fragment symbol : List ℕ) : Type 0 where
   pub before : List ℕ
   pub position : ℕ
@@ -73,7 +73,7 @@ pub record IsEndless (pairs : List Pair) (root : ℕ) (fragment symbol : List �
   pub earlier : (p j : ℕ) → Contains before p → j < import_count pairs p → HasTarget pairs p j
   pub first : (j : ℕ) → j < index → HasTarget pairs position j
 
--- the target of an import, where only the exports of some fragments are counted
+-- the target of an import, if only the exports of some fragments are counted
 abbrev pub target_within : List Pair → List ℕ → ℕ → ℕ → Result (Option Target) BindRefusal
 target_within pairs order p j =
     option_map_or (λ answer. answer) (follow (exports_among pairs order) pairs p j) (Err (reexport_loop (pair_of pairs p).name (symbol_of pairs p j)))

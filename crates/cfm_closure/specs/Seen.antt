@@ -1,4 +1,4 @@
--- What is seen of borrowed names and bytes, without places in memory.
+-- The values of borrowed names and bytes, without places in memory.
 use Rattle.std.specs.Prelude.{ℕ, List}
 use Rattle.std.specs.Borrow.{Bor}
 use Rattle.cfm_closure.specs.Stores.{Pair}

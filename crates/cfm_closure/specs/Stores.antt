@@ -1,4 +1,5 @@
--- Fragments by name: pairs of a name and the bytes of a container. The first pair of a name counts.
+-- Fragments by name: pairs of a name and the bytes of a container. If several pairs have the same
+-- name, the first is used.
 use Rattle.std.specs.Prelude.{ℕ, ◌+◌, List, [], ◌∷◌, Option, None, Some, slice_index_or, if◌then◌else◌}
 use Rattle.std.specs.Str.{bytes_eq}
 

@@ -1,4 +1,4 @@
--- What an import means (Mac OS Runtime Architectures, "Code Fragment Manager", "Resolving Imports").
+-- The target of an import (Mac OS Runtime Architectures, "Code Fragment Manager", "Resolving Imports").
 use Rattle.std.specs.Prelude.{ℕ, zero, suc, List, [], length, Option, None, Some, option_map, Result, Ok, Err, if◌then◌else◌}
 use Rattle.std.specs.List.{range_with_len, sum_by}
 use Rattle.std.specs.Option.{option_and_then, option_map_or}
@@ -26,11 +26,11 @@ hop_by q e (InSection section offset) = ends (Some (At q section offset))
 hop_by q e (value.Absolute n) = ends (Some (Absolute n))
 hop_by q e (Reexport import) = through q e import
 
--- the first export of a name, with its index
+-- the first export with a name, and its index
 abbrev pub exported : List ℕ → Loaded → Option (ℕ × Export)
 exported name l = option_and_then (λ e. option_map (λ x. (e, x)) (export_of l e)) (named_of l name)
 
--- a name that isn't exported is no target for a weak import, and a refusal for any other
+-- a name that isn't exported gives no target for a weak import, and a refusal for any other
 abbrev pub hop_to : List ℕ → List ℕ → Import → ℕ → Option (ℕ × Export) → Result Hop BindRefusal
 hop_to fragment library i q None = if i.weak then Ok (ends None) else Err (symbol_missing fragment library i.name)
 hop_to fragment library i q (Some x) = Ok (hop_by q x.0 (value_of x.1.section x.1.value))
@@ -44,11 +44,11 @@ abbrev pub hop_of : List Pair → ℕ → Option Import → Result Hop BindRefus
 hop_of pairs p None = Ok (ends None)
 hop_of pairs p (Some i) = hop_from pairs p i (library_at pairs p i.library)
 
--- where import j of the fragment in a place leads at once
+-- the next step from import j of the fragment in a place
 unfoldable pub hop : List Pair → ℕ → ℕ → Result Hop BindRefusal
 hop pairs p j = hop_of pairs p (import_at pairs p j)
 
--- what follows a hop, where it goes on
+-- the steps after a hop, if it continues
 abbrev pub after_hop : (ℕ → ℕ → Option (Result (Option Target) BindRefusal)) → Hop → Option (Result (Option Target) BindRefusal)
 after_hop on (ends target) = Some (Ok target)
 after_hop on (through q e k) = on q k
@@ -57,7 +57,7 @@ abbrev pub followed : (ℕ → ℕ → Option (Result (Option Target) BindRefusa
 followed on (Ok h) = after_hop on h
 followed on (Err refusal) = Some (Err refusal)
 
--- what an import leads to through at most n exports; none where it goes on
+-- the target of an import through at most n exports; none if it continues
 unfoldable pub follow : ℕ → List Pair → ℕ → ℕ → Option (Result (Option Target) BindRefusal)
 follow zero pairs p j = followed (λ q k. None) (hop pairs p j)
 follow (suc n) pairs p j = followed (follow n pairs) (hop pairs p j)
@@ -73,7 +73,7 @@ exports_in pairs = exports_among pairs (range_with_len 0 (length pairs))
 abbrev pub symbol_of : List Pair → ℕ → ℕ → List ℕ
 symbol_of pairs p j = option_map_or (λ i. i.name) (import_at pairs p j) []
 
--- the target of an import, or the refusal. More hops than there are exports meet one of them again, and so
+-- the target of an import, or the refusal. If there are more hops than exports, one is visited again, so
 -- they have no end
 unfoldable pub target_of : List Pair → ℕ → ℕ → Result (Option Target) BindRefusal
 target_of pairs p j =

@@ -1,13 +1,13 @@
--- When the version of a library that was found serves a fragment (Mac OS Runtime Architectures, "Code
--- Fragment Manager", "Checking for Compatible Import Libraries"). Versions are unsigned.
+-- When the version of a found library serves a fragment (Mac OS Runtime Architectures, "Code Fragment
+-- Manager", "Checking for Compatible Import Libraries"). Versions are unsigned.
 use Rattle.std.specs.Prelude.{◌==◌, nat_lt, nat_le, if◌then◌else◌}
 use Rattle.cfm_closure.specs.declared.versions.Definition.{Definition}
 use Rattle.cfm_closure.specs.declared.versions.Implementation.{Implementation}
 use Rattle.cfm_closure.specs.declared.versions.Fit.{Fit}
 use Rattle.cfm_closure.specs.declared.versions.Fit.TheVariants.{Fits, TooOld, TooNew}
 
--- equal current versions fit; a newer definition takes an implementation that isn't older than its
--- oldest one; an older definition is served where it isn't older than the implementation's oldest one
+-- equal current versions fit; a newer definition accepts an implementation that isn't older than its
+-- oldest one; an older definition is served if it isn't older than the implementation's oldest one
 abbrev pub fit_of : Definition → Implementation → Fit
 fit_of d i =
     if d.current == i.current then Fits

@@ -1,4 +1,4 @@
--- What is seen of the fragments of a store, without places in memory.
+-- The values of the fragments of a store, without places in memory.
 use Rattle.pef_views.specs.Views.{contained}
 use Rattle.pef_loader.specs.Views.{loaded}
 use Rattle.cfm_closure.specs.declared.fragment.FragmentView.{FragmentView}

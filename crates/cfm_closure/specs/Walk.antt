@@ -7,12 +7,12 @@ use Rattle.cfm_closure.specs.Faults.{BindRefusal}
 use Rattle.cfm_closure.specs.Fragments.{fragment_of}
 use Rattle.cfm_closure.specs.Libraries.{bound_to}
 
--- which fragments of the store were met, and which of them are done, in order
+-- which fragments of the store were visited, and which of them are done, in order
 pub record Walked : Type 0 where
   pub marked : List Bool
   pub order : List ℕ
 
--- a fragment was met; past the store there is none to meet
+-- a fragment was visited; past the store every fragment counts as visited
 abbrev pub is_marked : Walked → ℕ → Bool
 is_marked s p = slice_index_or s.marked p true
 
@@ -22,7 +22,7 @@ marking p s = record s { marked = slice_set s.marked p true }
 abbrev pub joining : ℕ → Walked → Walked
 joining p s = record s { order = s.order ++ p ∷ [] }
 
--- how many fragments weren't met yet
+-- how many fragments weren't visited yet
 abbrev pub left : Walked → ℕ
 left s = count_by not s.marked
 
@@ -36,20 +36,20 @@ abbrev pub walks_from : (ℕ → Walked → Result Walked BindRefusal) → List 
 walks_from walk pairs p l zero s = Ok s
 walks_from walk pairs p l (suc n) s = bound_to pairs p l >>= (λ q. walk_to walk q s >>= walks_from walk pairs p (l + 1) n)
 
--- a fragment that was met is passed by. Any other is marked and read, walks lead to its libraries, and it
--- joins the order
+-- a fragment that was visited is passed by. Any other is marked and read, walks lead to its libraries,
+-- and it joins the order
 abbrev pub walk_at : (ℕ → Walked → Result Walked BindRefusal) → List Pair → ℕ → Walked → Bool → Result Walked BindRefusal
 walk_at walk pairs p s true = Ok s
 walk_at walk pairs p s false =
     fragment_of pairs p >>= (λ f. walks_from walk pairs p 0 f.loader.header.library_count (marking p s) >>= (λ s. Ok (joining p s)))
 
--- the walk from a fragment that meets at most n others: each step marks one, so as many as are left are
+-- the walk from a fragment that visits at most n others: each step marks one, so as many as are left are
 -- enough
 unfoldable pub walk : ℕ → List Pair → ℕ → Walked → Result Walked BindRefusal
 walk zero pairs p s = Ok s
 walk (suc n) pairs p s = walk_at (walk n pairs) pairs p s (is_marked s p)
 
--- nothing was met
+-- no fragment was visited
 abbrev pub unwalked : List Pair → Walked
 unwalked pairs = record { marked = replicate (length pairs) false; order = [] }
 

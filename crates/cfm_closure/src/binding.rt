@@ -12,7 +12,7 @@ use crate::store::Store;
 use crate::versions::{Definition, Fit, Implementation, versions_fit};
 use pef_loader::LibraryView;
 
-/// How the versions of a library entry and of the fragment that was found fit.
+/// Returns how the versions of a library entry and of the found fragment fit.
 fn fit_with(library: LibraryView<'_>, found: FragmentView<'_>) -> Fit
     ensures { result ≡ fit_with (library_seen library.entry) (fragment_seen found.entry) }
 {
@@ -28,14 +28,14 @@ fn fit_with(library: LibraryView<'_>, found: FragmentView<'_>) -> Fit
     versions_fit(definition, implementation)
 }
 
-/// A weak library is absent where any other is refused.
+/// Returns `None` for a weak library, which is then absent. Any other library is refused.
 fn absent_or<'a>(weak: bool, fault: BindFault<'a>) -> Result<Option<usize>, BindFault<'a>>
     ensures { result ≡ (if weak then Ok None else Err fault.entry) }
 {
     if weak { Ok(None) } else { Err(fault) }
 }
 
-/// The place of the fragment that a library entry stands for, or `None` where it is absent.
+/// Returns the place of the fragment that a library entry means, or `None` if it is absent.
 #[tactic(auto, unfolding(crate::specs::Libraries::bound))]
 pub(crate) fn bind<'a>(
     store: &Store<'a>,

@@ -16,12 +16,11 @@ use crate::walk::Walk;
 use std::alloc::{AllocError, Global};
 use std::marker::Model;
 
-/// The closure order of a fragment: the fragment with its libraries, theirs, and so on. It has what these
-/// fragments are, and what their library entries stand for. No call takes memory but [`Bindings::of`] and
-/// [`Bindings::table`].
+/// The closure order of a fragment: the fragment with its libraries, theirs, and so on, with these fragments
+/// and the fragments of their library entries. Only [`Bindings::of`] and [`Bindings::table`] allocate.
 #[derive(Drop)]
 pub(crate) struct Bindings<'a> {
-    /// The pairs of the store. All else goes by their places.
+    /// The pairs of the store. All other tables are indexed by their places.
     pairs: Vec<(&'a [u8], &'a [u8])>,
     fragments: PlaceTable<ClosedFragment<'a>>,
     order: Vec<usize>,
@@ -42,12 +41,12 @@ impl<'a> Model for Bindings<'a> {
 }
 
 impl<'a> Bindings<'a> {
-    /// What the fragment in a place of a store needs.
+    /// Returns the closure order of the fragment in a place of a store.
     ///
     /// # Errors
     ///
-    /// The first refusal of a fragment or of a library entry, in the order in which they are met.
-    /// `OutOfMemory` may stand in the place of any later answer.
+    /// The first refusal of a fragment or of a library entry, in the order in which they are visited.
+    /// `OutOfMemory` may come instead of any later result.
     pub fn of(alloc: Global, store: &Store<'a>, root: usize) -> Result<Bindings<'a>, BindFault<'a>>
         requires { root < length store.now }
         ensures answer { Answers (λ b. b.order) result (order_of store.now root) }
@@ -63,7 +62,7 @@ impl<'a> Bindings<'a> {
         })
     }
 
-    /// How many places the store has.
+    /// Returns how many places the store has.
     pub fn places(&self) -> usize
         ensures len { result ≡ length self.now.pairs }
         ensures complete { IsComplete self.now.pairs self.now.order }
@@ -71,7 +70,7 @@ impl<'a> Bindings<'a> {
         self.pairs.len()
     }
 
-    /// A table for fragments of the store, without values.
+    /// Returns a table for fragments of the store, without values.
     pub fn table<T: Drop>(&self, alloc: Global) -> Result<PlaceTable<T>, AllocError>
         ensures none { IfOk result (λ table. table ≡ replicate (length self.now.pairs) None) }
         ensures complete { IsComplete self.now.pairs self.now.order }
@@ -79,8 +78,8 @@ impl<'a> Bindings<'a> {
         PlaceTable::new(alloc, self.pairs.len())
     }
 
-    /// The fragments by their places, each once: libraries before those that need them, as far as that can be,
-    /// and the one that needs all of them last.
+    /// Returns the fragments by their places, each once: libraries before those that need them, as far as
+    /// possible, and the fragment that needs all of them last.
     pub fn order(&self) -> &[usize]
         ensures order { result.now ≡ self.now.order }
         ensures few { length self.now.order ≤ most_pairs }
@@ -88,7 +87,7 @@ impl<'a> Bindings<'a> {
         &self.order
     }
 
-    /// How many imports a fragment of the order has.
+    /// Returns how many imports a fragment of the order has.
     pub fn imports(&self, p: usize) -> usize
         requires { Contains self.now.order p }
         ensures { result ≡ import_count self.now.pairs p }
@@ -96,7 +95,7 @@ impl<'a> Bindings<'a> {
         self.fragment(p).loader.imports()
     }
 
-    /// A fragment of the order.
+    /// Returns a fragment of the order.
     pub fn fragment(&self, p: usize) -> FragmentView<'a>
         requires { Contains self.now.order p }
         ensures { fragment_of self.now.pairs p ≡ Ok (fragment_seen result) }
@@ -104,7 +103,7 @@ impl<'a> Bindings<'a> {
         self.closed(p).view
     }
 
-    /// How many library entries a fragment of the order has.
+    /// Returns how many library entries a fragment of the order has.
     pub fn libraries(&self, p: usize) -> usize
         requires { Contains self.now.order p }
         ensures { result ≡ library_count self.now.pairs p }
@@ -112,7 +111,7 @@ impl<'a> Bindings<'a> {
         self.fragment(p).loader.libraries()
     }
 
-    /// What an entry of a fragment of the order stands for.
+    /// Returns the fragment of a library entry of a fragment of the order, or `None` if it is absent.
     pub fn library(&self, p: usize, l: usize) -> Option<usize>
         requires there { Contains self.now.order p }
         requires below { l < library_count self.now.pairs p }
@@ -125,7 +124,7 @@ impl<'a> Bindings<'a> {
         }
     }
 
-    /// What is kept of a fragment of the order.
+    /// Returns the tables of a fragment of the order.
     fn closed(&self, p: usize) -> &ClosedFragment<'a>
         requires { Contains self.now.order p }
         ensures closed { IsClosed self.now.pairs p result.now }

@@ -15,11 +15,11 @@ use pef_loader::Loader;
 use pef_views::Container;
 use std::marker::Model;
 
-/// The closure of a fragment: the fragment and all that it needs, with what its imports mean and in which
-/// order its fragments are initialized.
+/// The closure of a fragment: the fragment and all that it needs, with the targets of its imports and the
+/// order in which its fragments are initialized.
 ///
-/// Fragments go by their places in the store. The views are slices of the store's bytes, and live as long
-/// as those. No call takes memory.
+/// Fragments are given by their places in the store. The views are slices of the store's bytes, and live as
+/// long as those. No call allocates.
 #[derive(Drop)]
 pub struct Closure<'a> {
     pub(crate) bindings: Bindings<'a>,
@@ -40,7 +40,7 @@ impl<'a> Model for Closure<'a> {
 }
 
 impl<'a> Closure<'a> {
-    /// The fragments, each once: libraries before those that need them, as far as that can be, and the
+    /// Returns the fragments, each once: libraries before those that need them, as far as possible, and the
     /// fragment itself last.
     pub fn order(&self) -> &[usize]
         ensures order { result.now ≡ self.now.order }
@@ -49,14 +49,14 @@ impl<'a> Closure<'a> {
         self.bindings.order()
     }
 
-    /// The fragments in the order in which they are initialized.
+    /// Returns the fragments in the order in which they are initialized.
     pub fn init_order(&self) -> &[usize]
         ensures { result.now ≡ self.now.init_order }
     {
         &self.init_order
     }
 
-    /// The name of a fragment of the closure.
+    /// Returns the name of a fragment of the closure.
     pub fn name(&self, p: usize) -> &'a [u8]
         requires { Contains self.now.order p }
         ensures { result.now ≡ (pair_of self.now.pairs p).name }
@@ -64,7 +64,7 @@ impl<'a> Closure<'a> {
         self.bindings.fragment(p).name
     }
 
-    /// The container of a fragment of the closure.
+    /// Returns the container of a fragment of the closure.
     pub fn container(&self, p: usize) -> Container<'a>
         requires { Contains self.now.order p }
         ensures { container_at self.now.pairs p ≡ Some (contained result) }
@@ -72,7 +72,7 @@ impl<'a> Closure<'a> {
         self.bindings.fragment(p).container
     }
 
-    /// The loader section of a fragment of the closure.
+    /// Returns the loader section of a fragment of the closure.
     pub fn loader(&self, p: usize) -> Loader<'a>
         requires { Contains self.now.order p }
         ensures { loader_at self.now.pairs p ≡ Some (loaded result) }
@@ -80,7 +80,7 @@ impl<'a> Closure<'a> {
         self.bindings.fragment(p).loader
     }
 
-    /// The fragment that library entry `l` of a fragment of the closure stands for, or `None` where it is
+    /// Returns the fragment that library entry `l` of a fragment of the closure means, or `None` if it is
     /// absent.
     pub fn library(&self, p: usize, l: usize) -> Option<usize>
         requires there { Contains self.now.order p }
@@ -91,9 +91,9 @@ impl<'a> Closure<'a> {
         self.bindings.library(p, l)
     }
 
-    /// What an import of a fragment of the closure means, through as many exports as pass it on. `None`
-    /// stands for the address 0: the library is absent, or a weak import's symbol is missing. A target that
-    /// is a place is in an instantiated section of a fragment of the closure.
+    /// Returns the target of an import of a fragment of the closure, through all exports that pass it on.
+    /// `None` means the address 0: the library is absent, or a weak import's symbol is missing. If the
+    /// target is a place, it is in an instantiated section of a fragment of the closure.
     pub fn target(&self, p: usize, import: usize) -> Option<Target>
         requires there { Contains self.now.order p }
         requires below { import < import_count self.now.pairs p }

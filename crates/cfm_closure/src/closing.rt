@@ -10,13 +10,13 @@ use crate::resolve::targets_of;
 use crate::store::Store;
 use std::alloc::Global;
 
-/// The closure of the fragment in a place of a store, as [`Store::find`] gives it for a name.
+/// Returns the closure of the fragment in a place of a store, as [`Store::find`] gives it for a name.
 ///
 /// # Errors
 ///
-/// The first refusal: of a fragment or a library entry, in the order in which the walk meets them; then of
-/// an import, fragment by fragment in closure order, import by import; then of the order of
-/// initialization. `OutOfMemory` may stand in the place of any later answer.
+/// The first refusal: of a fragment or a library entry, in the order in which the walk visits them; then
+/// of an import, fragment by fragment in closure order, import by import; then of the order of
+/// initialization. `OutOfMemory` may come instead of any later result.
 #[tactic(auto, unfolding(crate::specs::Closures::closed_of))]
 pub fn closure<'a>(
     alloc: Global,

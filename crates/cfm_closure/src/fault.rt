@@ -7,14 +7,14 @@ use std::alloc::{AllocError, AllocFailed};
 use std::fmt;
 use thiserror::Error;
 
-/// Why a fragment has no closure. Its text is its name; the other names are those of fragments, of
-/// their libraries and of their symbols.
+/// Why a fragment has no closure. The text is the refusal's name. The fields are the names of fragments,
+/// of their libraries and of their symbols.
 ///
-/// A closure order is refused by the first two, by a library that is missing and by versions; what its
-/// symbols mean and how its fragments are initialized is refused by the others.
+/// A closure order is refused by the first two, for a missing library and for versions. The targets of
+/// its imports and the order of initialization are refused by the others.
 #[derive(Clone, Copy, Debug, PartialEq, Eq, Error)]
 pub enum BindFault<'a> {
-    /// The fragment's bytes are no container.
+    /// The fragment's bytes aren't a container.
     Container {
         fragment: &'a [u8],
         fault: ViewFault,
@@ -26,7 +26,7 @@ pub enum BindFault<'a> {
         fault: LoaderFault,
     },
 
-    /// The fragment needs a library that isn't there.
+    /// The fragment needs a library that the store doesn't have.
     LibraryMissing {
         fragment: &'a [u8],
         library: &'a [u8],
@@ -39,36 +39,36 @@ pub enum BindFault<'a> {
         symbol: &'a [u8],
     },
 
-    /// The library that is there is older than the fragment takes.
+    /// The library that was found is older than the fragment accepts.
     ImplementationTooOld {
         fragment: &'a [u8],
         library: &'a [u8],
     },
 
-    /// The library that is there no longer serves a fragment that was linked with so old a one.
+    /// The library that was found no longer serves a fragment that was linked with so old a library.
     ImplementationTooNew {
         fragment: &'a [u8],
         library: &'a [u8],
     },
 
-    /// The symbol leads from one re-exported import to the next without an end.
+    /// The symbol leads from one re-exported import to the next, without end.
     ReexportLoop {
         fragment: &'a [u8],
         symbol: &'a [u8],
     },
 
-    /// The fragment is to be initialized after a library that is to be initialized after it.
+    /// The fragment must be initialized after a library that must be initialized after it.
     InitLoop {
         fragment: &'a [u8],
     },
 
-    /// The machine refused memory.
+    /// An allocation failed.
     OutOfMemory,
 }
 
 impl<'a> BindFault<'a> {
-    /// The refusal's number, which no refusal of another meaning has: that of the container or the loader
-    /// section, or from 61 to 66, or 99.
+    /// Returns the refusal's number, which no refusal of another meaning has: that of the container or
+    /// the loader section, or from 61 to 66, or 99.
     pub fn number(&self) -> u32
         ensures { result ≡ fault_number self.now }
     {
@@ -85,7 +85,7 @@ impl<'a> BindFault<'a> {
         }
     }
 
-    /// The refusal's name, which is its text.
+    /// Returns the refusal's name, which is its text.
     pub fn name(&self) -> &'static str
         ensures { result.now ≡ fault_name self.now }
     {

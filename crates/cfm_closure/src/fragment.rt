@@ -23,7 +23,7 @@ pub(crate) struct FragmentView<'a> {
 #[derive(Drop)]
 pub(crate) struct ClosedFragment<'a> {
     pub view: FragmentView<'a>,
-    /// What its library entries refer to.
+    /// The fragments of its library entries.
     pub libraries: Libraries,
 }
 
@@ -50,7 +50,7 @@ impl<'a> FragmentView<'a> {
     }
 }
 
-/// The fragment in a place of a store. It is read once, and kept in a table.
+/// Returns the fragment in a place of a store. It is read once, and kept in a table.
 pub(crate) fn read_at<'a>(
     store: &Store<'a>,
     fragments: &mut PlaceTable<FragmentView<'a>>,

@@ -12,18 +12,18 @@ use crate::targets::{Found, Target};
 use pef_format::{ExportValue, ImportView};
 use pef_loader::Loader;
 
-/// Where an import leads at once.
+/// The next step from an import.
 #[derive(Clone, Copy)]
 pub(crate) enum Hop {
-    /// It means this.
+    /// The import has this target, or none.
     Ends(Found),
 
-    /// It means what an import of another fragment means, which an export there passes on.
+    /// The import has the target of an import of another fragment, which an export there passes on.
     Through { fragment: usize, import: usize },
 }
 
-/// Where export `e` of a fragment leads: into a section, to an absolute value, or to the import that it
-/// passes on.
+/// Returns the next step by export `e` of a fragment: into a section, to an absolute value, or to the
+/// import that it passes on.
 fn export_hop(fragment: usize, loader: Loader<'_>, e: usize) -> Hop
     requires { e < (loaded loader).header.export_count }
     ensures answer { HasHop fragment (loaded loader.entry) e result }
@@ -46,7 +46,8 @@ fn export_hop(fragment: usize, loader: Loader<'_>, e: usize) -> Hop
     }
 }
 
-/// Where an import of a fragment of the closure order leads at once, or that its symbol is missing.
+/// Returns the next step from an import of a fragment of the closure order, or that its symbol is
+/// missing.
 #[tactic(auto, unfolding(crate::specs::Targets::hop))]
 pub(crate) fn import_hop<'a>(
     bindings: &Bindings<'a>,
@@ -75,7 +76,7 @@ pub(crate) fn import_hop<'a>(
     }
 }
 
-/// A weak import has no target where its symbol is missing. Any other is refused.
+/// Returns no target for a weak import, whose symbol is missing. Any other import is refused.
 fn missing<'a>(
     fragment: &'a [u8],
     library: &'a [u8],

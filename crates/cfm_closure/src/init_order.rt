@@ -10,18 +10,18 @@ use crate::bindings::Bindings;
 use crate::fault::BindFault;
 use std::alloc::{AllocError, Global};
 
-/// The order of initialization, as far as it has come.
+/// The order of initialization so far.
 #[derive(Drop)]
 struct Taking {
     /// The fragments of the store that were taken.
     taken: Vec<bool>,
-    /// How many library entries of each fragment wait for nothing any more.
+    /// For each fragment the number of library entries that wait for nothing any more.
     passed: Vec<usize>,
     /// The fragments that were taken, in order.
     order: Vec<usize>,
 }
 
-/// The fragment that is to be initialized before another one, by its library entry `l`.
+/// Returns the fragment that must be initialized before another one, by its library entry `l`.
 fn before<'a>(bindings: &Bindings<'a>, p: usize, l: usize) -> Option<usize>
     requires place { Contains bindings.now.order p }
     requires library { l < library_count bindings.now.pairs p }
@@ -41,7 +41,7 @@ fn before<'a>(bindings: &Bindings<'a>, p: usize, l: usize) -> Option<usize>
 }
 
 impl Taking {
-    /// No fragment of `len` was taken.
+    /// Returns the state in which no fragment of `len` was taken.
     fn new(alloc: Global, len: usize) -> Result<Taking, AllocError>
         ensures { IfOk result (λ t. IsFresh t len) }
     {
@@ -54,7 +54,8 @@ impl Taking {
         })
     }
 
-    /// Whether library entry `l` of a fragment is of one that is to come first and wasn't taken.
+    /// Returns whether library entry `l` of a fragment is one of a fragment that must come first and
+    /// wasn't taken.
     fn awaits<'a>(&self, bindings: &Bindings<'a>, p: usize, l: usize) -> bool
         requires place { Contains bindings.now.order p }
         requires library { l < library_count bindings.now.pairs p }
@@ -67,8 +68,8 @@ impl Taking {
         }
     }
 
-    /// How many library entries of a fragment wait for nothing, from the first one on. Those that were
-    /// passed before aren't looked at again.
+    /// Returns how many library entries of a fragment wait for nothing, from the first one on. Those
+    /// that were passed before aren't tested again.
     fn passed<'a>(&self, bindings: &Bindings<'a>, p: usize) -> usize
         requires place { Contains bindings.now.order p }
         requires taking { IsTaking bindings.now.pairs bindings.now.order self.now }
@@ -84,7 +85,7 @@ impl Taking {
         libraries
     }
 
-    /// Whether all fragments that are to come before another one were taken.
+    /// Returns whether all fragments that must come before another one were taken.
     fn is_ready<'a>(&mut self, bindings: &Bindings<'a>, p: usize) -> bool
         requires place { Contains bindings.now.order p }
         requires taking { IsTaking bindings.now.pairs bindings.now.order self.old }
@@ -97,7 +98,7 @@ impl Taking {
         passed == bindings.libraries(p)
     }
 
-    /// The first fragment in closure order that wasn't taken and is ready.
+    /// Returns the first fragment in closure order that wasn't taken and is ready.
     fn next_ready<'a>(&mut self, bindings: &Bindings<'a>) -> Option<usize>
         requires { IsTaking bindings.now.pairs bindings.now.order self.old }
         ensures next { result ≡ next_ready bindings.now.pairs (taken_of self.old) bindings.now.order }
@@ -125,7 +126,7 @@ impl Taking {
         Ok(())
     }
 
-    /// The whole order, or the refusal where the first fragment that is left waits without an end.
+    /// Returns the whole order, or the refusal if the first fragment that is left waits without end.
     fn end<'a>(self, bindings: &Bindings<'a>) -> Result<Vec<usize>, BindFault<'a>>
         requires { IsTaking bindings.now.pairs bindings.now.order self }
         ensures { Answers (λ order. order.items) result (taken_all bindings.now.pairs (taken_of self) (first_left (taken_of self) bindings.now.order)) }
@@ -141,8 +142,8 @@ impl Taking {
     }
 }
 
-/// The order in which the fragments of a closure are initialized: again and again the first in closure
-/// order whose libraries that are to come first were taken.
+/// Returns the order in which the fragments of a closure are initialized: repeatedly the first in
+/// closure order for which all libraries that must come first were taken.
 pub(crate) fn initialized<'a>(
     alloc: Global,
     bindings: &Bindings<'a>,

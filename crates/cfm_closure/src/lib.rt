@@ -1,10 +1,10 @@
-//! The closure of a fragment: which fragments it needs, what their imports mean, and in which order
+//! The closure of a fragment: which fragments it needs, the targets of their imports, and the order in which
 //! initialization routines run.
 //!
 //! The rules are those of Mac OS Runtime Architectures, "Code Fragment Manager". A [`Store`] has fragments by
-//! name, and a name means the first fragment of that name. A fragment names libraries and imports their
-//! symbols, and the closure of a fragment is the fragment with all that it needs, where versions fit. Names
-//! and bytes are borrowed, and nothing of a container is copied.
+//! name, and a name means the first fragment with that name. A fragment names libraries and imports their
+//! symbols, and the closure of a fragment is the fragment with all that it needs, if versions fit. Names and
+//! bytes are borrowed, and nothing of a container is copied.
 #![tactic(auto)]
 
 mod binding;

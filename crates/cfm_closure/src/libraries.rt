@@ -3,7 +3,7 @@ ghost use Rattle.std.specs.Prelude.{◌≡◌, ◌++◌, [], ◌∷◌, length, 
 use std::alloc::{AllocFailed, Global};
 use std::marker::Model;
 
-/// Which fragments the library entries of a fragment stand for, by their places; `None` for an absent one.
+/// The fragments of a fragment's library entries, by their places, or `None` for an absent one.
 #[derive(Drop)]
 pub(crate) struct Libraries {
     places: Vec<Option<usize>>,
@@ -38,7 +38,7 @@ impl Libraries {
         self.places.len()
     }
 
-    /// The place of entry `l`, or `None` past the last one.
+    /// Returns the place of entry `l`, or `None` past the last one.
     pub fn get(&self, l: usize) -> Option<Option<usize>>
         ensures { result ≡ slice_get self.now l }
     {

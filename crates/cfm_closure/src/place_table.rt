@@ -11,9 +11,9 @@ use std::marker::Model;
 /// A place takes two bytes. Only those that have a value take more.
 #[derive(Drop)]
 pub(crate) struct PlaceTable<T> {
-    /// For each place one more than the index of its value, or 0 where it has none.
+    /// For each place one more than the index of its value, or 0 if it has none.
     numbers: Vec<u16>,
-    /// The values, in the order in which they came.
+    /// The values, in the order in which they were added.
     values: Vec<T>,
 }
 
@@ -33,7 +33,7 @@ impl<T> Model for PlaceTable<T> {
 }
 
 impl<T: Drop> PlaceTable<T> {
-    /// A table of `len` places without values.
+    /// Returns a table of `len` places without values.
     pub fn new(alloc: Global, len: usize) -> Result<PlaceTable<T>, AllocError>
         requires { len < 2 ^ 16 }
         ensures { IfOk result (λ table. table ≡ replicate len None) }
@@ -43,7 +43,7 @@ impl<T: Drop> PlaceTable<T> {
         Ok(PlaceTable { numbers, values })
     }
 
-    /// The value at place `p`, or `None` where there is none.
+    /// Returns the value at place `p`, or `None` if there is none.
     pub fn get(&self, p: usize) -> Option<&T>
         ensures { option_copied result ≡ slice_index_or self.now p None }
     {
@@ -51,7 +51,7 @@ impl<T: Drop> PlaceTable<T> {
         self.values.get(number.checked_sub(1)?)
     }
 
-    /// The value at place `p`, which has one, to be written.
+    /// Returns the value at place `p`, which has one, to be written.
     pub fn value_mut(&mut self, p: usize) -> &mut T
         requires { IsSome (slice_index_or self.old p None) }
         ensures* writes_back { sem 𝓛 (LendsValue T.row self.entry p result) }
@@ -61,11 +61,11 @@ impl<T: Drop> PlaceTable<T> {
         &mut self.values[number - 1]
     }
 
-    /// Puts a value at place `p`. The one that stood there is let go.
+    /// Puts a value at place `p`. A value that was there is dropped.
     ///
     /// # Errors
     ///
-    /// `AllocError` where the machine refuses memory. The table is then as before.
+    /// `AllocError` if an allocation fails. The table is then unchanged.
     pub fn put(&mut self, p: usize, value: T) -> Result<(), AllocError>
         requires { p < length self.old }
         ensures ok { OnOk result (self.new ≡ slice_set self.old p (Some value)) }

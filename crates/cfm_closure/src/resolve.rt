@@ -22,14 +22,14 @@ use std::alloc::{AllocError, Global};
 #[derive(Drop)]
 pub(crate) struct Resolver<'a> {
     alloc: Global,
-    /// How many exports the fragments have. An import that takes more hops has no end.
+    /// How many exports the fragments have. An import that takes more hops is endless.
     exports: usize,
     symbols: Symbols<'a>,
     /// The targets that are known.
     rows: Rows,
 }
 
-/// A row for the imports of each fragment, of which nothing is known yet.
+/// Returns a row for the imports of each fragment, with no target known yet.
 fn unknown_targets<'a>(alloc: Global, bindings: &Bindings<'a>) -> Result<Rows, AllocError>
     ensures { IfOk result (λ rows. AreRows bindings.now.pairs bindings.now.order rows) }
 {
@@ -40,7 +40,7 @@ fn unknown_targets<'a>(alloc: Global, bindings: &Bindings<'a>) -> Result<Rows, A
     Ok(rows)
 }
 
-/// How many exports the fragments of the closure have.
+/// Returns how many exports the fragments of the closure have.
 fn exports<'a>(bindings: &Bindings<'a>) -> usize
     ensures count { result ≡ exports_among bindings.now.pairs bindings.now.order }
     ensures few { result ≤ 2 ^ 40 }
@@ -52,7 +52,7 @@ fn exports<'a>(bindings: &Bindings<'a>) -> usize
     exports
 }
 
-/// Notes what all imports of a way mean.
+/// Notes the target of all imports on a way.
 fn note_way(rows: &mut Rows, way: &[(usize, usize)], found: Found)
     requires { AllByRecursion (IsInTable rows.old) way.now }
     ensures { rows.new ≡ all_noted rows.old way.now (meant found) }
@@ -62,7 +62,7 @@ fn note_way(rows: &mut Rows, way: &[(usize, usize)], found: Found)
     }
 }
 
-/// The refusal of an import that leads through exports without an end.
+/// Returns the refusal of an import that leads through exports without end.
 fn endless<'a>(bindings: &Bindings<'a>, p: usize, j: usize) -> BindFault<'a>
     requires place { Contains bindings.now.order p }
     requires import { j < import_count bindings.now.pairs p }
@@ -79,7 +79,7 @@ fn endless<'a>(bindings: &Bindings<'a>, p: usize, j: usize) -> BindFault<'a>
 }
 
 impl<'a> Resolver<'a> {
-    /// No target is known.
+    /// Returns a search in which no target is known.
     fn new(alloc: Global, bindings: &Bindings<'a>) -> Result<Resolver<'a>, AllocError>
         ensures { IfOk result (λ resolver. IsResolver bindings.now.pairs bindings.now.order resolver) }
     {
@@ -93,8 +93,8 @@ impl<'a> Resolver<'a> {
         })
     }
 
-    /// Follows an import through the exports that pass it on, up to one whose meaning is known or that ends
-    /// there, and tells the imports on the way.
+    /// Follows an import through the exports that pass it on, up to one whose target is known or that ends there,
+    /// and returns the imports on the way.
     fn follow(
         &mut self,
         bindings: &Bindings<'a>,
@@ -125,7 +125,7 @@ impl<'a> Resolver<'a> {
         Err(endless(bindings, p, j))
     }
 
-    /// Finds what an import means, and notes it for all imports that were met on the way.
+    /// Finds the target of an import, and notes it for all imports on the way.
     fn resolve(
         &mut self,
         bindings: &Bindings<'a>,
@@ -164,7 +164,8 @@ impl<'a> Resolver<'a> {
     }
 }
 
-/// The targets of all imports of a closure's fragments, which are resolved fragment by fragment in closure order.
+/// Returns the targets of all imports of a closure's fragments, which are resolved fragment by fragment in
+/// closure order.
 pub(crate) fn targets_of<'a>(alloc: Global, bindings: &Bindings<'a>) -> Result<Rows, BindFault<'a>>
     ensures answer { Passes result (first_refused bindings.now.pairs bindings.now.order) }
     ensures targets { IfOk result (λ rows. AreTargets bindings.now.pairs bindings.now.order rows) }

@@ -9,7 +9,7 @@ use crate::targets::{Found, Targets};
 use std::alloc::{AllocError, Global};
 use std::marker::Model;
 
-/// What the imports of the fragments of a closure mean, so far as that is known.
+/// The targets of the imports of a closure's fragments, as far as they are known.
 #[derive(Drop)]
 pub(crate) struct Rows {
     rows: PlaceTable<Targets>,
@@ -27,7 +27,7 @@ impl Model for Rows {
 }
 
 impl Rows {
-    /// No row, with a place for one of each fragment of the store.
+    /// Returns no rows, with a place for the row of each fragment of the store.
     pub fn new<'a>(alloc: Global, bindings: &Bindings<'a>) -> Result<Rows, AllocError>
         ensures none { IfOk result (λ rows. IsUnknown rows (length bindings.now.pairs)) }
         ensures complete { IsComplete bindings.now.pairs bindings.now.order }
@@ -36,7 +36,7 @@ impl Rows {
         Ok(Rows { rows })
     }
 
-    /// A row for the `len` imports of the fragment in a place, of which nothing is known.
+    /// Adds a row for the `len` imports of the fragment in a place, with no target known.
     pub fn add(&mut self, alloc: Global, p: usize, len: usize) -> Result<(), AllocError>
         requires { p < length self.old }
         ensures { OnOk result (self.new ≡ slice_set self.old p (replicate len None)) }
@@ -45,14 +45,14 @@ impl Rows {
         self.rows.put(p, row)
     }
 
-    /// What import `j` of the fragment in a place means, where that is known.
+    /// Returns the target of import `j` of the fragment in a place, if it is known.
     pub fn get(&self, p: usize, j: usize) -> Option<Found>
         ensures { option_map meant result ≡ known_at self.now p j }
     {
         self.rows.get(p)?.get(j)
     }
 
-    /// Notes what an import means.
+    /// Notes the target of an import.
     pub fn note(&mut self, p: usize, j: usize, found: Found)
         requires { IsInTable self.old (p, j) }
         ensures { self.new ≡ noted self.old p j (meant found) }

@@ -9,11 +9,11 @@ use indexmap::IndexMap;
 use std::alloc::Global;
 use std::marker::Model;
 
-/// How many pairs a store has at most.
+/// The most pairs of a store.
 pub const MAX_PAIRS: usize = 256;
 
 /// Fragments by name: pairs of a name and the bytes of a container, borrowed, in the order in which they
-/// were added. A name may come again; the first pair of a name counts.
+/// were added. If several pairs have the same name, the first is used.
 #[derive(Drop)]
 pub struct Store<'a> {
     pairs: Vec<(&'a [u8], &'a [u8])>,
@@ -37,7 +37,7 @@ impl<'a> Model for Store<'a> {
 }
 
 impl<'a> Store<'a> {
-    /// The empty store. Nothing is allocated yet.
+    /// Returns the empty store. Nothing is allocated yet.
     pub fn new(alloc: Global) -> Store<'a>
         ensures { result ≡ [] }
     {
@@ -47,11 +47,11 @@ impl<'a> Store<'a> {
         }
     }
 
-    /// Appends a pair, where the store isn't full ([`Store::is_full`]): it has at most [`MAX_PAIRS`].
+    /// Appends a pair, if the store isn't full ([`Store::is_full`]): it has at most [`MAX_PAIRS`].
     ///
     /// # Errors
     ///
-    /// `OutOfMemory` where the machine refuses memory. The store is then as before.
+    /// `OutOfMemory` if an allocation fails. The store is then unchanged.
     pub fn add(&mut self, name: &'a [u8], bytes: &'a [u8]) -> Result<(), StoreFault>
         requires { length self.old < most_pairs }
         ensures ok { OnOk result (self.new ≡ self.old ++ (record { name = name.now; bytes = bytes.now }) ∷ []) }
@@ -64,7 +64,7 @@ impl<'a> Store<'a> {
         Ok(())
     }
 
-    /// How many pairs there are: at most [`MAX_PAIRS`].
+    /// Returns how many pairs there are: at most [`MAX_PAIRS`].
     pub fn len(&self) -> usize
         ensures len { result ≡ length self.now }
         ensures few { result ≤ most_pairs }
@@ -72,28 +72,28 @@ impl<'a> Store<'a> {
         self.pairs.len()
     }
 
-    /// Whether there are no pairs.
+    /// Returns whether there are no pairs.
     pub fn is_empty(&self) -> bool
         ensures { result ≡ (length self.now == 0) }
     {
         self.pairs.is_empty()
     }
 
-    /// Whether there are as many pairs as a store may have: no more may be added.
+    /// Returns whether there are as many pairs as a store may have, so that none may be added.
     pub fn is_full(&self) -> bool
         ensures { result ≡ nat_le most_pairs (length self.now) }
     {
         self.len() >= MAX_PAIRS
     }
 
-    /// Pair `p`, name first, or `None` past the last one.
+    /// Returns pair `p`, name first, or `None` past the last one.
     pub fn pair(&self, p: usize) -> Option<(&'a [u8], &'a [u8])>
         ensures { option_map pair_seen result ≡ slice_get self.now p }
     {
         self.pairs.get(p).copied()
     }
 
-    /// All pairs.
+    /// Returns all pairs.
     pub fn pairs(&self) -> &[(&'a [u8], &'a [u8])]
         ensures pairs { map pair_seen result.now ≡ self.now }
         ensures few { length self.now ≤ most_pairs }
@@ -101,7 +101,7 @@ impl<'a> Store<'a> {
         &self.pairs
     }
 
-    /// Pair `p`, which is there.
+    /// Returns pair `p`, which must exist.
     pub fn at(&self, p: usize) -> (&'a [u8], &'a [u8])
         requires { p < length self.now }
         ensures { pair_seen result ≡ pair_of self.now p }
@@ -109,7 +109,7 @@ impl<'a> Store<'a> {
         self.pairs[p]
     }
 
-    /// The place of the first pair with a name.
+    /// Returns the place of the first pair with a name.
     pub fn find(&self, name: &[u8]) -> Option<usize>
         ensures place { result ≡ place_of self.now name.now }
         ensures below { IfSome result (λ p. p < length self.now) }

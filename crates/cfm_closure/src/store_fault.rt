@@ -8,12 +8,12 @@ use thiserror::Error;
 /// Why a pair isn't added to a store.
 #[derive(Clone, Copy, Debug, PartialEq, Eq, Error)]
 pub enum StoreFault {
-    /// The machine refused memory.
+    /// An allocation failed.
     OutOfMemory,
 }
 
 impl StoreFault {
-    /// The refusal's number.
+    /// Returns the refusal's number.
     pub fn number(&self) -> u32
         ensures { result ≡ fault_number self.now }
     {
@@ -22,7 +22,7 @@ impl StoreFault {
         }
     }
 
-    /// The refusal's name, which is its text.
+    /// Returns the refusal's name, which is its text.
     pub fn name(&self) -> &'static str
         ensures { result.now ≡ fault_name self.now }
     {

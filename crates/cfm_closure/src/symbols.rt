@@ -9,17 +9,17 @@ use pef_format::ImportView;
 use pef_loader::ImportTable;
 use std::alloc::{AllocError, Global};
 
-/// The imports of the fragments of a closure. Those of a fragment are read once, all together, when one of
-/// them is asked for: in its turn, or before where the exports of another fragment pass it on.
+/// The imports of the fragments of a closure. The imports of a fragment are read once, all together, when
+/// one of them is needed: in its turn, or earlier if the exports of another fragment pass it on.
 #[derive(Drop)]
 pub(crate) struct Symbols<'a> {
     alloc: Global,
-    /// The imports of the fragments that were asked for. `None` stands where they were let go.
+    /// The imports of the fragments that were read. `None` for those that were released.
     tables: PlaceTable<Option<ImportTable<'a>>>,
 }
 
 impl<'a> Symbols<'a> {
-    /// None was asked for.
+    /// Returns tables of which none was read.
     pub fn new(alloc: Global, bindings: &Bindings<'a>) -> Result<Symbols<'a>, AllocError>
         ensures { IfOk result (λ symbols. AreSymbolsOf bindings.now.pairs bindings.now.order symbols) }
     {
@@ -27,7 +27,7 @@ impl<'a> Symbols<'a> {
         Ok(Symbols { alloc, tables })
     }
 
-    /// Import `j` of a fragment of the closure order, or `None` past the last one.
+    /// Returns import `j` of a fragment of the closure order, or `None` past the last one.
     pub fn import(
         &mut self,
         bindings: &Bindings<'a>,
@@ -50,7 +50,7 @@ impl<'a> Symbols<'a> {
         Ok(import)
     }
 
-    /// Lets go of the imports of a fragment, whose targets are all known.
+    /// Releases the imports of a fragment, whose targets are all known.
     pub fn release(&mut self, bindings: &Bindings<'a>, p: usize)
         requires place { Contains bindings.now.order p }
         requires symbols { AreSymbolsOf bindings.now.pairs bindings.now.order self.old }

@@ -4,7 +4,7 @@ ghost use Rattle.cfm_closure.specs.Kept.Found.{meant};
 use std::alloc::{AllocError, Global};
 use std::marker::Model;
 
-/// What an import means.
+/// The target of an import.
 #[derive(Clone, Copy, Debug, PartialEq, Eq)]
 pub enum Target {
     /// A number that no placement changes.
@@ -18,10 +18,10 @@ pub enum Target {
     },
 }
 
-/// What was found that an import means.
+/// The target that was found for an import.
 #[derive(Clone, Copy)]
 pub(crate) enum Found {
-    /// Nothing: its library is absent, or it is weak and its symbol is missing.
+    /// None: its library is absent, or it is weak and its symbol is missing.
     Missing,
 
     There(Target),
@@ -38,7 +38,7 @@ impl Found {
     }
 }
 
-/// What the imports of a fragment mean, so far as that is known.
+/// The targets of the imports of a fragment, as far as they are known.
 #[derive(Drop)]
 pub(crate) struct Targets {
     known: Vec<Option<Found>>,
@@ -56,7 +56,7 @@ impl Model for Targets {
 }
 
 impl Targets {
-    /// Of `len` imports nothing is known.
+    /// Returns `len` imports without known targets.
     pub fn unknown(alloc: Global, len: usize) -> Result<Targets, AllocError>
         ensures { IfOk result (λ targets. targets ≡ replicate len None) }
     {
@@ -65,14 +65,14 @@ impl Targets {
         })
     }
 
-    /// What import `j` means, where that is known.
+    /// Returns the target of import `j`, if it is known.
     pub fn get(&self, j: usize) -> Option<Found>
         ensures { option_map meant result ≡ slice_index_or self.now j None }
     {
         known_at(&self.known, j)
     }
 
-    /// Notes what import `j` means.
+    /// Notes the target of import `j`.
     pub fn note(&mut self, j: usize, found: Found)
         requires { j < length self.old }
         ensures { self.new ≡ slice_set self.old j (Some (meant found)) }
@@ -81,7 +81,7 @@ impl Targets {
     }
 }
 
-/// What is known of import `j`.
+/// Returns the target of import `j`, if it is known.
 fn known_at(known: &[Option<Found>], j: usize) -> Option<Found>
     ensures { result ≡ slice_index_or known.now j None }
 {

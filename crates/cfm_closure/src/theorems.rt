@@ -12,9 +12,9 @@ ghost use Rattle.cfm_closure.specs.Promises.{AllRead, HasTarget, IsEndless, IsOf
 ghost use Rattle.cfm_closure.specs.Reexports.{MeetsAgain};
 ghost use Rattle.cfm_closure.specs.Targets.{exports_among, follow, target_of};
 
-/// A closure order has each fragment once, with each of its fragments all its libraries, and its root
-/// last: the order that the walk from a root gives, also where an import is refused after it, and so that of
-/// a closure.
+/// A closure order has each fragment once, with each of its fragments all its libraries, and its root last. It
+/// is the order that the walk from a root gives, also if an import is refused later, and so the order of a
+/// closure.
 pub fn closure_orders()
     ensures walked { (pairs : List Pair) (root : ℕ) (order : List ℕ) → order_of pairs root ≡ Ok order → IsComplete pairs order }
     ensures ends { (pairs : List Pair) (root : ℕ) (order : List ℕ) → root < length pairs → order_of pairs root ≡ Ok order → EndsWith order root }
@@ -24,35 +24,35 @@ pub fn closure_orders()
     ensures root { (pairs : List Pair) (root : ℕ) (c : Closed) → root < length pairs → closed_of pairs root ≡ Ok c → EndsWith c.order root }
 {}
 
-/// Every import of a closure's fragments has a target, or none: none is refused.
+/// Every import of a closure's fragments has a target, or none. None is refused.
 pub fn closure_targets()
     ensures { (pairs : List Pair) (root : ℕ) (c : Closed) (p j : ℕ) → closed_of pairs root ≡ Ok c → Contains c.order p → j < import_count pairs p → HasTarget pairs p j }
 {}
 
-/// Where the closures of two roots of one store both have a fragment, its imports have the same targets in
-/// both, those without one included, though each closure counts its own exports alone.
+/// If the closures of two roots of one store both have a fragment, its imports have the same targets in both,
+/// or none in both, though each closure counts only its own exports.
 pub fn closures_agree()
     ensures own { (pairs : List Pair) (root : ℕ) (c : Closed) (p j : ℕ) → closed_of pairs root ≡ Ok c → Contains c.order p → target_within pairs c.order p j ≡ target_of pairs p j }
     ensures agree { (pairs : List Pair) (root root' : ℕ) (c c' : Closed) (p j : ℕ) → closed_of pairs root ≡ Ok c → closed_of pairs root' ≡ Ok c' → Contains c.order p → Contains c'.order p → target_within pairs c.order p j ≡ target_within pairs c'.order p j }
 {}
 
-/// An import needs more hops than its closure has exports exactly if an export is met a second time. So a
+/// An import needs more hops than its closure has exports exactly if an export is visited a second time. So a
 /// closure is refused as a loop of re-exports exactly if an import of its order, with the names in the refusal,
-/// meets an export a second time, and no import before that one is refused.
+/// visits an export a second time, and no import before that one is refused.
 pub fn endless_imports()
     ensures bound { (pairs : List Pair) (order : List ℕ) (p j : ℕ) → IsComplete pairs order → Contains order p → (follow (exports_among pairs order) pairs p j ≡ None) ↔ MeetsAgain pairs (p, j) }
     ensures refused { (pairs : List Pair) (root : ℕ) (fragment symbol : List ℕ) → root < length pairs → (closed_of pairs root ≡ Err (reexport_loop fragment symbol)) ↔ IsEndless pairs root fragment symbol }
 {}
 
-/// Where a closure is refused by the bytes of a fragment, the name that is told is that of a fragment of the
-/// store that isn't read: of the root, or of the first with the name. So it is never told of a fragment
-/// whose bytes are read.
+/// If a closure is refused for the bytes of a fragment, the name that is reported is that of a fragment of the
+/// store that isn't read: of the root, or of the first with the name. So a fragment whose bytes are read is
+/// never reported.
 pub fn unread_fragments()
     ensures container { (pairs : List Pair) (root : ℕ) (name : List ℕ) (fault : ViewFault) → root < length pairs → closed_of pairs root ≡ Err (no_container name fault) → IsOfUnread pairs root name (no_container name fault) }
     ensures loader { (pairs : List Pair) (root : ℕ) (name : List ℕ) (fault : LoaderFault) → root < length pairs → closed_of pairs root ≡ Err (no_loader name fault) → IsOfUnread pairs root name (no_loader name fault) }
 {}
 
-/// Where all fragments of a store are read, none of its closures is refused by the bytes of a fragment.
+/// If all fragments of a store are read, none of its closures is refused for the bytes of a fragment.
 pub fn readable_stores()
     ensures { (pairs : List Pair) (root : ℕ) (r : BindRefusal) → AllRead pairs → root < length pairs → closed_of pairs root ≡ Err r → IsOfBinding r }
 {}

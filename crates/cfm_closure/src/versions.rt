@@ -1,16 +1,16 @@
 ghost use Rattle.std.specs.Prelude.{◌≡◌};
 ghost use Rattle.cfm_closure.specs.Versions.{fit_of};
 
-/// The versions of the library that a fragment was linked with: what the fragment's entry of that
-/// library says (PEFImportedLibrary).
+/// The versions of the library that a fragment was linked with, from the fragment's entry of that
+/// library (PEFImportedLibrary).
 #[derive(Clone, Copy, Debug, PartialEq, Eq)]
 pub struct Definition {
     pub current: u32,
-    /// The oldest implementation that the fragment takes.
+    /// The oldest implementation that the fragment accepts.
     pub old_imp: u32,
 }
 
-/// The versions of the library that was found: what its container says (PEFContainerHeader).
+/// The versions of the library that was found, from its container (PEFContainerHeader).
 #[derive(Clone, Copy, Debug, PartialEq, Eq)]
 pub struct Implementation {
     pub current: u32,
@@ -22,16 +22,17 @@ pub struct Implementation {
 #[derive(Clone, Copy, Debug, PartialEq, Eq)]
 pub enum Fit {
     Fits,
-    /// The implementation is older than the definition takes.
+    /// The implementation is older than the definition accepts.
     TooOld,
-    /// The implementation no longer serves a definition that old.
+    /// The implementation no longer serves so old a definition.
     TooNew,
 }
 
-/// Whether the library that was found serves a fragment that was linked with the other one.
+/// Returns whether the library that was found serves a fragment that was linked with the other one.
 ///
-/// Equal current versions fit. A newer definition asks how old an implementation it takes, and an older
-/// one is asked by the implementation how old it is. Versions are unsigned.
+/// Equal current versions fit. If the definition is newer, its oldest supported implementation version
+/// decides. If it is older, the implementation's oldest supported definition version decides. Versions
+/// are unsigned.
 pub fn versions_fit(definition: Definition, implementation: Implementation) -> Fit
     ensures { result ≡ fit_of definition implementation }
 {

@@ -14,16 +14,17 @@ use crate::place_table::PlaceTable;
 use crate::store::Store;
 use std::alloc::{AllocError, Global};
 
-/// A fragment that was met and isn't done: the walk is in one of its libraries.
+/// A fragment that was visited and isn't done: the walk is in one of its libraries.
 #[derive(Drop)]
 pub(crate) struct Frame<'a> {
     p: usize,
     fragment: FragmentView<'a>,
-    /// What its library entries refer to, up to the one that the walk is in.
+    /// The fragments of its library entries, up to the one that the walk is in.
     libraries: Libraries,
 }
 
-/// The walk from a fragment to all that it needs. Its tables go by the places of the store.
+/// The walk from a fragment to all that it needs. Its tables are indexed by the places of the
+/// store.
 #[derive(Drop)]
 pub(crate) struct Walk<'a> {
     alloc: Global,
@@ -32,13 +33,13 @@ pub(crate) struct Walk<'a> {
     /// Those that are done.
     pub closed: PlaceTable<ClosedFragment<'a>>,
     marked: Vec<bool>,
-    /// From the root to the fragment that the walk is in.
+    /// The fragments from the root to the one that the walk is in.
     path: Vec<Frame<'a>>,
-    /// The same, in the order in which they were done.
+    /// Those that are done, in the order in which they were done.
     pub order: Vec<usize>,
 }
 
-/// The fragment of a library entry, if it is there and wasn't met yet.
+/// Returns the fragment of a library entry, if it exists and wasn't visited yet.
 fn unmet(marked: &[bool], bound: Option<usize>) -> Option<usize>
     requires { ForSome bound (λ q. q < length marked.now) }
     ensures { result ≡ unmet_of marked.now bound }
@@ -47,7 +48,7 @@ fn unmet(marked: &[bool], bound: Option<usize>) -> Option<usize>
     if marked[q] { None } else { Some(q) }
 }
 
-/// Binds library entries of a fragment until one stands for a fragment that wasn't met yet.
+/// Binds library entries of a fragment until one has a fragment that wasn't visited yet.
 fn bind_next<'a>(
     store: &Store<'a>,
     fragments: &mut PlaceTable<FragmentView<'a>>,
@@ -77,7 +78,7 @@ fn bind_next<'a>(
 }
 
 impl<'a> Walk<'a> {
-    /// A walk that met no fragment yet.
+    /// Returns a walk that visited no fragment yet.
     fn new(alloc: Global, store: &Store<'a>) -> Result<Walk<'a>, AllocError>
         ensures walk { IfOk result (λ w. IsWalk store.now w) }
         ensures state { IfOk result (λ w. state_of w ≡ unwalked store.now) }
@@ -97,7 +98,7 @@ impl<'a> Walk<'a> {
         })
     }
 
-    /// The walk from a fragment, done.
+    /// Returns the completed walk from a fragment.
     pub fn from_root(
         alloc: Global,
         store: &Store<'a>,
@@ -113,7 +114,7 @@ impl<'a> Walk<'a> {
         Ok(walk)
     }
 
-    /// Meets a fragment that wasn't met yet: it is read, and goes onto the path.
+    /// Visits a new fragment: it is read, and put onto the path.
     fn enter(&mut self, store: &Store<'a>, p: usize) -> Result<(), BindFault<'a>>
         requires place { p < length store.now }
         requires unmet { is_marked (state_of self.old) p ≡ false }
@@ -132,7 +133,7 @@ impl<'a> Walk<'a> {
         Ok(())
     }
 
-    /// Ends with a fragment: it joins the order.
+    /// Ends the visit of a fragment: it joins the order.
     fn finish(&mut self, store: &Store<'a>, frame: Frame<'a>) -> Result<(), BindFault<'a>>
         requires walk { IsWalk store.now self.old }
         requires frame { IsFrame store.now self.old.fragments frame }
@@ -151,7 +152,7 @@ impl<'a> Walk<'a> {
         Ok(())
     }
 
-    /// Goes on in the last fragment of the path, which was taken off it.
+    /// Continues in the last fragment of the path, which was taken off it.
     fn step(&mut self, store: &Store<'a>, frame: Frame<'a>) -> Result<(), BindFault<'a>>
         requires walk { IsWalk store.now self.old }
         requires frame { IsFrame store.now self.old.fragments frame }
@@ -169,7 +170,7 @@ impl<'a> Walk<'a> {
         }
     }
 
-    /// Goes on until no fragment is left on the path.
+    /// Continues until no fragment is left on the path.
     fn run(&mut self, store: &Store<'a>) -> Result<(), BindFault<'a>>
         requires walk { IsWalk store.now self.old }
         ensures walk { OnOk result (IsWalk store.now self.new) }

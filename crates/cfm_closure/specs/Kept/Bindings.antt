@@ -1,4 +1,4 @@
--- What is kept of a closure order: its fragments and what their library entries stand for.
+-- The tables of a closure order: its fragments and the fragments of their library entries.
 use Rattle.std.specs.Prelude.{◌≡◌, ℕ, ◌≤◌, List, length, Option}
 use Rattle.std.specs.List.{AllByRecursion}
 use Rattle.cfm_closure.specs.Stores.{Pair}

@@ -1,4 +1,4 @@
--- Where the code's hops lead.
+-- The next steps in the code.
 use Rattle.std.specs.Prelude.{◌≡◌, ℕ, ◌<◌, List, Some, Result, Ok, Err, Contains}
 use Rattle.pef_format.specs.Exports.{Export, value_of}
 use Rattle.pef_loader.specs.Loader.{Loaded, export_of}
@@ -11,7 +11,7 @@ use Rattle.cfm_closure.specs.declared.hops.Hop.TheVariants as code
 use Rattle.cfm_closure.specs.Targets.{Hop, ends, hop_by, through}
 use Rattle.cfm_closure.specs.Kept.Found.{meant}
 
--- a hop of the code doesn't tell which export it goes through
+-- a step of the code doesn't have the export that it goes through
 abbrev pub IsHop : CodeHop → Hop → Type 0
 IsHop (code.Ends found) h = h ≡ ends (meant found)
 IsHop (code.Through q k) h = (e : ℕ) × (h ≡ through q e k)
@@ -20,13 +20,13 @@ IsHop (code.Through q k) h = (e : ℕ) × (h ≡ through q e k)
 abbrev pub HasHop : ℕ → Loaded → ℕ → CodeHop → Type 0
 HasHop q l e h = (x : Export) × (export_of l e ≡ Some x) × IsHop h (hop_by q e (value_of x.section x.value))
 
--- an answer is the hop, or the refusal
+-- a result is the hop, or the refusal
 abbrev pub LeadsTo : Result CodeHop BindFault → Result Hop BindRefusal → Type 0
 LeadsTo (Ok (code.Ends found)) expected = expected ≡ Ok (ends (meant found))
 LeadsTo (Ok (code.Through q k)) expected = (e : ℕ) × (expected ≡ Ok (through q e k))
 LeadsTo (Err e) expected = FailsAs e expected
 
--- an import that is passed on is one of so many
+-- an import that is passed on has a number below this
 abbrev pub StaysBelow : ℕ → CodeHop → Type 0
 StaysBelow count (code.Ends found) = Unit {0}
 StaysBelow count (code.Through q k) = k < count

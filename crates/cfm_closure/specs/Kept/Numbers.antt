@@ -1,7 +1,7 @@
 -- How a table has its values: in a list, and for each place a number.
 use Rattle.std.specs.Prelude.{◌≡◌, ℕ, zero, suc, ◌^◌, ◌≤◌, ◌<◌, Bool, true, false, List, length, map, slice_get, slice_index_or, count_by, Option, None}
 
--- the value of a number: 0 has none
+-- the value with a number; none for 0
 abbrev pub value_of : {T : Type 0} → List T → ℕ → Option T
 value_of values zero = None
 value_of values (suc n) = slice_get values n
@@ -14,7 +14,7 @@ abbrev pub is_number : ℕ → Bool
 is_number zero = false
 is_number (suc n) = true
 
--- each number is that of a value, and different places have different ones
+-- each number is that of a value, and different places have different numbers
 pub record IsSound {T : Type 0} (numbers : List ℕ) (values : List T) : Type 0 where
   pub few : length numbers < 2 ^ 16
   pub count : count_by is_number numbers ≡ length values

@@ -1,4 +1,4 @@
--- What the walk keeps instead of a recursion: the fragments that were met and aren't done, each with its
+-- The state of the walk, in place of a recursion: the fragments that were visited and aren't done, each with its
 -- library entries that are.
 use Rattle.std.specs.Prelude.{◌≡◌, ℕ, ◌+◌, ◌-◌, ◌*◌, ◌<◌, ◌≤◌, Bool, false, List, [], ◌∷◌, length, slice_get, slice_index_or, Option, None, Some, Result, Ok, Err}
 use Rattle.std.specs.List.{AllByRecursion}
@@ -20,34 +20,34 @@ use Rattle.cfm_closure.specs.Views.{fragment_seen}
 abbrev pub visit : List Pair → ℕ → Walked → Result Walked BindRefusal
 visit pairs p s = walk (length pairs) pairs p s
 
--- what is left of it in fragment p of so many libraries, when the walks to those before entry l are done
+-- the rest of it in fragment p with this many libraries, when the walks to those before entry l are done
 abbrev pub rest_of : List Pair → ℕ → ℕ → ℕ → Walked → Result Walked BindRefusal
 rest_of pairs p l count s = walks_from (visit pairs) pairs p l (count - l) s >>= (λ s. Ok (joining p s))
 
 abbrev pub count_of : Frame → ℕ
 count_of f = (fragment_seen f.fragment).loader.header.library_count
 
--- the same of a frame of the path
+-- the same for a frame of the path
 abbrev pub rest_of_frame : List Pair → Frame → Walked → Result Walked BindRefusal
 rest_of_frame pairs f s = rest_of pairs f.p (length f.libraries) (count_of f) s
 
--- and of the whole path, the last frame first
+-- and for the whole path, the last frame first
 abbrev pub rest_of_path : List Pair → List Frame → Walked → Result Walked BindRefusal
 rest_of_path pairs [] s = Ok s
 rest_of_path pairs (f ∷ path) s = rest_of_path pairs path s >>= rest_of_frame pairs f
 
--- the same behind the walk from a fragment, and behind the rest of a frame
+-- the same after the walk from a fragment, and after the rest of a frame
 abbrev pub visit_and_rest : List Pair → ℕ → List Frame → Walked → Result Walked BindRefusal
 visit_and_rest pairs p path s = visit pairs p s >>= rest_of_path pairs path
 
 abbrev pub frame_and_rest : List Pair → Frame → List Frame → Walked → Result Walked BindRefusal
 frame_and_rest pairs f path s = rest_of_frame pairs f s >>= rest_of_path pairs path
 
--- the library entries of a fragment that were bound stand for these
+-- the library entries of a fragment that were bound have these fragments
 abbrev pub AreBound : List Pair → ℕ → List (Option ℕ) → Type 0
 AreBound pairs p bounds = (l : ℕ) (bound : Option ℕ) → slice_get bounds l ≡ Some bound → bound_to pairs p l ≡ Ok bound
 
--- a frame is of a fragment that was read, whose first library entries were bound
+-- a frame is one of a fragment that was read, whose first library entries were bound
 pub record IsFrame (pairs : List Pair) (table : List (Option FragmentView)) (f : Frame) : Type 0 where
   pub inside : f.p < length pairs
   pub read : fragment_at table f.p ≡ Some (fragment_seen f.fragment)
@@ -60,7 +60,7 @@ pub record IsClosed (pairs : List Pair) (p : ℕ) (f : ClosedFragment) : Type 0 
   pub bound : AreBound pairs p f.libraries
   pub all : length f.libraries ≡ (fragment_seen f.view).loader.header.library_count
 
--- one stands in this place
+-- one is in this place
 pub record IsWalked (pairs : List Pair) (closed : List (Option ClosedFragment)) (p : ℕ) : Type 0 where
   pub inside : p < length pairs
   pub fragment : ClosedFragment
@@ -82,18 +82,18 @@ pub record AreTables (pairs : List Pair) (fragments : List (Option FragmentView)
 abbrev pub IsWalk : List Pair → Walk → Type 0
 IsWalk pairs w = AreTables pairs w.fragments w.closed w.marked.items w.path.items w.order.items
 
--- an answer leads on to what is left, or is the refusal that was to come
+-- a result continues with the rest, or is the expected refusal
 abbrev pub Continues : {A : Type 0} → Result A BindFault → Result Walked BindRefusal → Result Walked BindRefusal → Type 0
 Continues (Ok done) now expected = expected ≡ now
 Continues (Err e) now expected = FailsAs e expected
 
--- what is left in a frame: the walk to the next fragment that wasn't met and the rest of the frame, or only that
+-- the rest of a frame: the walk to the next fragment that wasn't visited and the rest of the frame, or only that
 -- the fragment joins the order
 abbrev pub NextOf : List Pair → Walked → Frame → Frame → Option ℕ → Type 0
 NextOf pairs s before now None = (rest_of_frame pairs before s ≡ Ok (joining before.p s)) × (length now.libraries ≡ count_of now)
 NextOf pairs s before now (Some q) = (rest_of_frame pairs before s ≡ (visit pairs q s >>= rest_of_frame pairs now)) × (is_marked s q ≡ false) × (q < length pairs)
 
--- the same as the answer of the search for it
+-- the same for the result of the search for it
 abbrev pub Next : List Pair → Walked → Frame → Frame → Result (Option ℕ) BindFault → Type 0
 Next pairs s before now (Ok next) = NextOf pairs s before now next
 Next pairs s before now (Err e) = FailsAs e (rest_of_frame pairs before s)
@@ -103,6 +103,6 @@ pub record IsSameFrame (old new : Frame) : Type 0 where
   pub p : new.p ≡ old.p
   pub fragment : new.fragment ≡ old.fragment
 
--- what is left to be done: two steps for each fragment that wasn't met, one for each that isn't done
+-- the steps left: two for each fragment that wasn't visited, one for each that isn't done
 abbrev pub steps_left : Walk → ℕ
 steps_left w = 2 * left (state_of w) + length w.path.items

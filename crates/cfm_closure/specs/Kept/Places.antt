@@ -1,4 +1,4 @@
--- Where the first pair of each name is.
+-- The place of the first pair of each name.
 use Rattle.std.specs.Prelude.{◌≡◌, ℕ, ◌≤◌, List, [], ◌∷◌, ◌++◌, length}
 use Rattle.std.specs.Borrow.{Bor}
 use Rattle.std.specs.Map.{lookup}
@@ -10,11 +10,12 @@ use Rattle.cfm_closure.specs.Limits.{most_pairs}
 abbrev pub ArePlaces : List Pair → List (Bor (List ℕ) × ℕ) → Type 0
 ArePlaces pairs entries = (name : List ℕ) → lookup (λ (k : Bor (List ℕ)). bytes_eq name k.now) entries ≡ place_of pairs name
 
--- at most so many pairs, and the place of each name
+-- at most this many pairs, and the place of each name
 pub record IsStore (pairs : List Pair) (entries : List (Bor (List ℕ) × ℕ)) : Type 0 where
   pub places : ArePlaces pairs entries
   pub few : length pairs ≤ most_pairs
 
--- a table with the place of each name has it still when a pair of this name goes behind all pairs
+-- a table with the place of each name still has it after a pair with this name is added after all
+-- pairs
 abbrev pub NotesPlace : List (Bor (List ℕ) × ℕ) → List ℕ → ℕ → List (Bor (List ℕ) × ℕ) → Type 0
 NotesPlace old name place new = (pairs : List Pair) (x : Pair) → ArePlaces pairs old → x.name ≡ name → place ≡ length pairs → ArePlaces (pairs ++ x ∷ []) new

@@ -1,4 +1,4 @@
--- What the search for targets keeps.
+-- The state of the search for targets.
 use Rattle.std.specs.Prelude.{◌≡◌, ℕ, ◌≤◌, ◌^◌, List}
 use Rattle.cfm_closure.specs.Stores.{Pair}
 use Rattle.cfm_closure.specs.declared.resolve.Resolver.{Resolver}
@@ -6,7 +6,7 @@ use Rattle.cfm_closure.specs.Targets.{exports_among}
 use Rattle.cfm_closure.specs.Kept.Symbols.{AreSymbolsOf}
 use Rattle.cfm_closure.specs.Kept.Targets.{AreRows}
 
--- it is of a closure order, and what it knows is right
+-- it is one for a closure order, and the known targets are right
 pub record IsResolver (pairs : List Pair) (order : List ℕ) (r : Resolver) : Type 0 where
   pub exports : r.exports ≡ exports_among pairs order
   pub few : r.exports ≤ 2 ^ 40

@@ -2,7 +2,7 @@
 use Rattle.std.specs.Prelude.{List, [], map, Option, None, Some}
 use Rattle.cfm_closure.specs.declared.targets.Target.{Target}
 
--- a place without row has one without imports
+-- a place without a row has one without imports
 abbrev pub row_of : Option (List (Option (Option Target))) → List (Option (Option Target))
 row_of None = []
 row_of (Some row) = row

@@ -1,4 +1,4 @@
--- What is kept while fragments are taken for initialization.
+-- The state while fragments are taken for initialization.
 use Rattle.std.specs.Prelude.{◌≡◌, ℕ, ◌<◌, List, [], length, replicate, slice_index_or, false, None}
 use Rattle.cfm_closure.specs.Stores.{Pair}
 use Rattle.cfm_closure.specs.Orders.{IsComplete}
@@ -9,7 +9,7 @@ use Rattle.cfm_closure.specs.Initialization.{awaits}
 abbrev pub taken_of : Taking → Walked
 taken_of t = record { marked = t.taken.items; order = t.order.items }
 
--- nothing was taken
+-- no fragment was taken
 pub record IsFresh (t : Taking) (len : ℕ) : Type 0 where
   pub taken : t.taken.items ≡ replicate len false
   pub passed : t.passed.items ≡ replicate len 0

@@ -1,4 +1,4 @@
--- What is known of imports while their targets are found.
+-- The known targets of imports while they are searched.
 use Rattle.std.specs.Prelude.{◌≡◌, ℕ, ◌<◌, List, [], ◌∷◌, length, slice_index_or, slice_set, Option, None, Some, Result, Ok, Err, Contains, IsSome}
 use Rattle.pef_words.specs.Refusals.{unless}
 use Rattle.cfm_closure.specs.Stores.{Pair}
@@ -9,12 +9,12 @@ use Rattle.cfm_closure.specs.Orders.{IsComplete}
 use Rattle.cfm_closure.specs.declared.targets.Target.{Target}
 use Rattle.cfm_closure.specs.Targets.{exports_in, follow}
 
--- an answer is that there is no refusal, or it is the refusal
+-- a result is no refusal, or the refusal
 abbrev pub Passes : {A : Type 0} → Result A BindFault → Option BindRefusal → Type 0
 Passes (Ok x) refusal = refusal ≡ None
 Passes (Err e) refusal = FailsAs {A = Unit {0}} e (unless refusal (Ok (tt {0})))
 
--- for each place of the store a row, with what is known of each import
+-- for each place of the store a row, with the known target of each import
 abbrev pub Rows : Type 0
 Rows = List (List (Option (Option Target)))
 
@@ -24,20 +24,20 @@ known_at rows p j = slice_index_or (slice_index_or rows p []) j None
 abbrev pub IsKnown : Rows → ℕ → ℕ → Type 0
 IsKnown rows p j = IsSome (known_at rows p j)
 
--- so many rows, in which nothing is known
+-- this many rows, with no target known
 pub record IsUnknown (rows : Rows) (count : ℕ) : Type 0 where
   pub size : length rows ≡ count
   pub none : (p j : ℕ) → known_at rows p j ≡ None
 
--- what was known stays known
+-- known targets stay known
 abbrev pub KeepsKnown : Rows → Rows → Type 0
 KeepsKnown old new = (p j : ℕ) → IsKnown old p j → IsKnown new p j
 
--- with the target of an import noted
+-- the rows with the target of an import noted
 abbrev pub noted : Rows → ℕ → ℕ → Option Target → Rows
 noted rows p j target = slice_set rows p (slice_set (slice_index_or rows p []) j (Some target))
 
--- with the target of some imports noted
+-- the rows with the target of some imports noted
 abbrev pub all_noted : Rows → List (ℕ × ℕ) → Option Target → Rows
 all_noted rows [] target = rows
 all_noted rows (v ∷ way) target = all_noted (noted rows v.0 v.1 target) way target
@@ -46,11 +46,11 @@ all_noted rows (v ∷ way) target = all_noted (noted rows v.0 v.1 target) way ta
 abbrev pub IsInTable : Rows → ℕ × ℕ → Type 0
 IsInTable rows v = (v.0 < length rows) × (v.1 < length (slice_index_or rows v.0 []))
 
--- where an import leads to, through as many exports as it takes
+-- the target of an import, through all exports that pass it on
 abbrev pub led_to : List Pair → ℕ × ℕ → Option (Result (Option Target) BindRefusal)
 led_to pairs v = follow (exports_in pairs) pairs v.0 v.1
 
--- the rows of a closure order: what is known is right
+-- the rows of a closure order: the known targets are right
 pub record AreRows (pairs : List Pair) (order : List ℕ) (rows : Rows) : Type 0 where
   pub complete : IsComplete pairs order
   pub size : length rows ≡ length pairs

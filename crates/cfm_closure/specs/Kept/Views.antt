@@ -9,10 +9,10 @@ use Rattle.cfm_closure.specs.Views.{fragment_seen}
 abbrev pub fragment_at : List (Option FragmentView) → ℕ → Option Fragment
 fragment_at table p = option_map fragment_seen (slice_index_or table p None)
 
--- what a table has was read of the store
+-- the fragments of a table were read from the store
 abbrev pub AreRead : List Pair → List (Option FragmentView) → Type 0
 AreRead pairs table = (p : ℕ) (f : Fragment) → fragment_at table p ≡ Some f → fragment_of pairs p ≡ Ok f
 
--- what one table has, another has too
+-- the fragments of one table are in another too
 abbrev pub AreKept : List (Option FragmentView) → List (Option FragmentView) → Type 0
 AreKept old new = (p : ℕ) (f : Fragment) → fragment_at old p ≡ Some f → fragment_at new p ≡ Some f

@@ -1,4 +1,4 @@
--- What stands in its place was read.
+-- The fragment in its place was read.
 use Rattle.std.proofs.Common.{sym}
 use Rattle.cfm_closure.specs.Views.{fragment_seen}
 use Rattle.cfm_closure.proofs.FragmentLemmas.{fragment_at-some}

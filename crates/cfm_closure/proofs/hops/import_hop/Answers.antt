@@ -1,4 +1,4 @@
--- A missing symbol is told by its fragment, library and name.
+-- A missing symbol is reported by its fragment, library and name.
 use Rattle.std.proofs.Common.{subst, sym}
 use Rattle.pef_format.specs.Symbols.{import_seen}
 use Rattle.cfm_closure.specs.Views.{fragment_seen}

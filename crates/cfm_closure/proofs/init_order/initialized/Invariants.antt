@@ -1,4 +1,4 @@
--- What is left to be taken.
+-- The fragments left to be taken.
 use Rattle.std.proofs.Common.{◌≡◌, ◌-◌, length}
 use Rattle.cfm_closure.specs.Initialization.{init_order_of, take_ready}
 use Rattle.cfm_closure.specs.Kept.Taken.{IsTaking, taken_of}

@@ -1,4 +1,4 @@
--- What is left of the way is noted in what was noted.
+-- The rest of the way is noted after the part already noted.
 use Rattle.std.proofs.Common.{◌≡◌, drop}
 use Rattle.std.specs.List.{AllByRecursion}
 use Rattle.cfm_closure.specs.Kept.Found.{meant}

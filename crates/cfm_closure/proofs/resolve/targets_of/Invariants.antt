@@ -1,4 +1,4 @@
--- What is left decides, and all targets so far are known.
+-- The fragments left decide, and all targets so far are known.
 use Rattle.std.proofs.Common.{◌≡◌, ℕ, ◌<◌, drop, get_or}
 use Rattle.cfm_closure.specs.Closures.{first_refused}
 use Rattle.cfm_closure.specs.Kept.Resolvers.{IsResolver}

@@ -1,4 +1,4 @@
--- A row more, of which nothing is known.
+-- One more row, without known targets.
 use Rattle.std.proofs.Common.{◌≡◌, ◌<◌, ◌≤◌, ◌∙◌, ℕ, List, [], None, Contains, refl, length, get_or, replicate, set, ap, subst, sym, arith}
 use Rattle.std.proofs.lemmas.List.{length-set}
 use Rattle.std.proofs.lemmas.List.Elements.{Contains-get_or}

@@ -1,4 +1,4 @@
--- One row for each fragment so far, and nothing is known.
+-- One row for each fragment so far, and no target is known.
 use Rattle.std.proofs.Common.{◌≡◌, ℕ, ◌<◌, [], length, get_or}
 use Rattle.cfm_closure.specs.Fragments.{import_count}
 use Rattle.cfm_closure.specs.Kept.Targets.{IsUnknown}

@@ -1,4 +1,4 @@
--- A name that has no place gets this one, behind the others; a name that has one keeps it.
+-- A name that has no place gets this one, after the others. A name that has one keeps it.
 use Rattle.std.proofs.Common.{◌∙◌, refl, sym}
 use Rattle.indexmap.proofs.CallerLemmas.{insert_entry-new}
 use Rattle.cfm_closure.proofs.PlaceLemmas.{NotesPlace-new, NotesPlace-known, none_if}

@@ -1,4 +1,4 @@
--- The next library entry is refused, stands for a fragment that wasn't met, or is passed by.
+-- The next library entry is refused, has a fragment that wasn't visited, or is passed by.
 use Rattle.std.proofs.Common.{◌<◌, ◌∙◌, length, refl, sym, ap, arith}
 use Rattle.std.proofs.lemmas.Result.{err_from_is_err_and}
 use Rattle.pef_loader.specs.Loader.{library_of}

@@ -1,4 +1,4 @@
--- What is left of the fragment stays the same.
+-- The rest of the fragment stays the same.
 use Rattle.std.proofs.Common.{◌≡◌, ℕ, ◌-◌, List, length}
 use Rattle.cfm_closure.specs.Kept.Paths.{IsFrame, IsSameFrame, count_of, rest_of_frame}
 use Rattle.cfm_closure.specs.Kept.Views.{AreKept, AreRead}

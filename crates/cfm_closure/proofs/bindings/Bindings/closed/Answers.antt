@@ -1,4 +1,4 @@
--- A fragment of the order stands in its place.
+-- A fragment of the order is in its place.
 use Rattle.std.proofs.Common.{◌≡◌, ◌∙◌, Some, map, sym, subst}
 use Rattle.cfm_closure.specs.Seen.{pair_seen}
 use Rattle.cfm_closure.specs.Kept.Paths.{IsClosed, IsWalked}

@@ -1,4 +1,4 @@
--- What is kept of it was read of the store.
+-- The tables of it were read from the store.
 use Rattle.cfm_closure.proofs.bindings.Bindings.fragment.Goals as goal
 
 pub returns : goal.returns

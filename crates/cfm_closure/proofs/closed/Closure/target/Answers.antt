@@ -1,4 +1,4 @@
--- What is known of an import is its target.
+-- The known target of an import is its target.
 use Rattle.std.proofs.Common.{◌≡◌, ◌∙◌, Ok, Some, ap, sym}
 use Rattle.cfm_closure.specs.Kept.Targets.{known_at}
 use Rattle.cfm_closure.proofs.LeadLemmas.{target-led}

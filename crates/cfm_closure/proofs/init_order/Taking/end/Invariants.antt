@@ -1,4 +1,4 @@
--- What is left decides.
+-- The fragments left decide.
 use Rattle.std.proofs.Common.{◌≡◌, drop}
 use Rattle.cfm_closure.specs.Initialization.{first_left}
 use Rattle.cfm_closure.specs.Kept.Taken.{taken_of}

@@ -1,4 +1,4 @@
--- What is left decides.
+-- The fragments left decide.
 use Rattle.std.proofs.Common.{◌≡◌, drop}
 use Rattle.cfm_closure.specs.Initialization.{next_ready}
 use Rattle.cfm_closure.specs.Kept.Taken.{IsTaking, taken_of}

@@ -1,4 +1,4 @@
--- What is reached has the target of the import from which the hops began.
+-- The import reached has the target of the import from which the hops began.
 use Rattle.std.proofs.Common.{◌≡◌, ◌+◌, Ok, Err, [], ◌∷◌, refl, sym, subst, ◌∙◌, arith}
 use Rattle.std.specs.List.{AllByRecursion}
 use Rattle.std.proofs.lemmas.Result.{err_from_is_err_and}

@@ -1,4 +1,4 @@
--- What is left decides, and all targets so far are known.
+-- The imports left decide, and all targets so far are known.
 use Rattle.std.proofs.Common.{◌≡◌, ℕ, ◌-◌, ◌<◌}
 use Rattle.pef_words.specs.Refusals.{first_among}
 use Rattle.cfm_closure.specs.Fragments.{import_count}

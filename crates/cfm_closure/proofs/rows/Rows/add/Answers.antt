@@ -1,4 +1,4 @@
--- A row more.
+-- One more row.
 use Rattle.cfm_closure.proofs.RowLemmas.{rows-added}
 use Rattle.cfm_closure.proofs.rows.Rows.add.Goals as goal
 

@@ -1,4 +1,4 @@
--- Nothing is known.
+-- No target is known.
 use Rattle.cfm_closure.proofs.RowLemmas.{unknown-none}
 use Rattle.cfm_closure.proofs.rows.Rows.new.Goals as goal
 

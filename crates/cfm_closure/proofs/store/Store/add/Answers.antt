@@ -1,4 +1,4 @@
--- The table of places keeps step with the pairs.
+-- The table of places has all pairs.
 use Rattle.std.proofs.Common.{◌≡◌, ℕ, ◌+◌, ◌<◌, ◌≤◌, length, map, ap, refl, sym, subst, ◌∙◌, arith}
 use Rattle.std.proofs.lemmas.List.{length_push}
 use Rattle.cfm_closure.specs.Kept.Places.{ArePlaces}

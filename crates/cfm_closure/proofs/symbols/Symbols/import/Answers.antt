@@ -1,4 +1,4 @@
--- What the table has is of the fragment.
+-- The table's entry is that of the fragment.
 use Rattle.std.proofs.Common.{◌≡◌, ◌∙◌, Some, sym, ap}
 use Rattle.cfm_closure.specs.Views.{fragment_seen}
 use Rattle.cfm_closure.specs.Fragments.{loader_at}

@@ -1,4 +1,4 @@
--- What is known of the import.
+-- The known target of the import.
 use Rattle.std.proofs.Common.{◌∙◌, None, get_or, option_map, ap, sym}
 use Rattle.std.proofs.Math.ListN.{get_or-map}
 use Rattle.cfm_closure.specs.Kept.Found.{meant}

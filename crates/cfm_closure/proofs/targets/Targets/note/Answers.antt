@@ -1,4 +1,4 @@
--- It is known of the import, and of no other.
+-- It is known for the import, and for no other.
 use Rattle.std.proofs.Common.{Some, option_map}
 use Rattle.std.proofs.lemmas.List.{map-set}
 use Rattle.cfm_closure.specs.Kept.Found.{meant}

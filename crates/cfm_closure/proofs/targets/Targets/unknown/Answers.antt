@@ -1,4 +1,4 @@
--- Nothing is known.
+-- No target is known.
 use Rattle.std.proofs.Common.{◌≡◌, ◌∙◌, None, replicate, ap, rules}
 use Rattle.cfm_closure.specs.Kept.Found.{all_meant}
 use Rattle.cfm_closure.proofs.RowLemmas.{all_meant-none}

@@ -1,4 +1,4 @@
--- Nothing was met.
+-- No fragment was visited.
 use Rattle.std.proofs.Common.{None, ap, replicate, ◌∙◌, arith}
 use Rattle.cfm_closure.proofs.TableLemmas.{tables-none}
 use Rattle.cfm_closure.proofs.walk.Walk.new.Goals as goal

@@ -1,4 +1,4 @@
--- What is left of the path stays the same.
+-- The rest of the path stays the same.
 use Rattle.std.proofs.Common.{◌≡◌}
 use Rattle.cfm_closure.specs.Kept.Paths.{IsWalk, rest_of_path, state_of, steps_left}
 use Rattle.cfm_closure.proofs.walk.Walk.run.Given as goal

@@ -1,4 +1,4 @@
--- A frame goes on with the next fragment that wasn't met, or its fragment is done.
+-- A frame continues with the next fragment that wasn't visited, or its fragment is done.
 use Rattle.std.proofs.Common.{◌∙◌, sym, ap, subst}
 use Rattle.pef_words.specs.Results.{◌>>=◌}
 use Rattle.cfm_closure.specs.Kept.Paths.{Continues, rest_of_path, state_of, visit_and_rest}
