@@ -1,4 +1,4 @@
--- What a change of the instances leaves laid out.
+-- The instances stay laid out after a change.
 use Rattle.std.proofs.Common.{◌≡◌, ℕ, suc, ◌+◌, ◌≤◌, List, [], ◌∷◌, ◌++◌, length, drop, sym, subst, inl, inr, arith, length-take, length-drop, length-append}
 use Rattle.std.proofs.lemmas.Bool.Decides.{eqb_tells, leb_tells}
 use Rattle.cfm_memory.specs.Limits.{first_address}
@@ -6,7 +6,7 @@ use Rattle.cfm_memory.specs.Instances.{Instance, Layout, with_instance, without,
 use Rattle.cfm_memory.specs.Placement.{taken, end_of, IsFree, IsInOrder, IsLaidOut}
 use Rattle.cfm_memory.proofs.Placing.{some_taken}
 
--- instances that begin behind an address begin behind a lower one
+-- instances that begin after an address begin after a lower one
 pub laid_out_from : (from lower limit : ℕ) (xs : List Instance) → lower ≤ from → IsLaidOut from limit xs → IsLaidOut lower limit xs
 laid_out_from from lower limit [] less laid = tt
 laid_out_from from lower limit (x ∷ xs) less laid = (omega arith, laid.1, laid.2)

@@ -6,7 +6,7 @@ use Rattle.cfm_memory.specs.Instances.{Instance, bytes_at, with_instance, withou
 use Rattle.cfm_memory.specs.Placement.{end_of, IsFree, IsLaidOut}
 use Rattle.cfm_memory.proofs.Placing.{some_taken}
 
--- where something is free, no instance begins
+-- no instance begins in a free range
 pub nothing_at_free : (xs : List Instance) (address end : ℕ) → address < end → IsFree address end xs → bytes_at xs address ≡ None
 nothing_at_free [] address end some free = refl
 nothing_at_free (x ∷ xs) address end some free =
@@ -16,7 +16,7 @@ nothing_at_free (x ∷ xs) address end some free =
       | inr other ↦ rw other.0 (nothing_at_free xs address end some free.1)
     ]
 
--- where instances begin behind an address, none begins there
+-- if instances begin after an address, none begins there
 pub nothing_before : (xs : List Instance) (address from limit : ℕ) → address < from → IsLaidOut from limit xs → bytes_at xs address ≡ None
 nothing_before [] address from limit less laid = refl
 nothing_before (x ∷ xs) address from limit less laid =
@@ -57,7 +57,7 @@ given_back_other (x ∷ xs) gone address apart =
       | inr other ↦ rw other.0 (ap (λ r. cond (x.address == address) (Some x.bytes) r) (given_back_other xs gone address apart))
     ]
 
--- an instance that was written to has what was written, at its length
+-- an instance that was written to has the written bytes, at its length
 pub written_here : (xs : List Instance) (address : ℕ) (w bytes : List ℕ) → bytes_at xs address ≡ Some bytes → bytes_at (with_bytes xs address w) address ≡ Some (fitted bytes w)
 written_here [] address w bytes is = absurd (cc)
 written_here (x ∷ xs) address w bytes is =
@@ -75,6 +75,6 @@ written_other (x ∷ xs) written address w apart =
       | inr other ↦ rw other.0 (ap (λ r. cond (x.address == address) (Some x.bytes) r) (written_other xs written address w apart))
     ]
 
--- what is written at an instance's length stands there as it is
+-- bytes written with an instance's length are unchanged
 pub fitted_same : (xs w : List ℕ) → length w ≡ length xs → fitted xs w ≡ w
 fitted_same xs w same = rw (← same) (take-append_seam w (drop (length w) xs))

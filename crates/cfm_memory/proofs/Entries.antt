@@ -49,7 +49,7 @@ some_found : (o : Option (Vec ℕ)) (size : ℕ) → has_length (option_map (λ 
 some_found None size held = absurd (cc)
 some_found (Some v) size held = refl
 
--- the map has something at the address of an instance that is held
+-- the map has an entry at the address of an instance that is held
 pub held_found : (es : List (ℕ × Vec ℕ)) (limit : ℕ) (place : Place) (m : Layout) → record { limit = limit; instances = instances es } ≡ m → IsTrue (holds_place m place) → IsSome (found es place.address)
 held_found es limit place m view_is held =
     let is : has_length (bytes_at (instances es) place.address) place.size ≡ true = rw (← view_is) at held in
@@ -65,7 +65,7 @@ held_bytes es limit place m view_is held =
     let there = some_is (found es place.address) (held_found es limit place m view_is held) in
     (there.0.items, bytes_found es place.address there.0 there.1)
 
--- what is lent of the map is there where the map has it
+-- a borrow of the map exists if the map has the entry
 pub lent_there : (o : Option (MutBor (Vec ℕ))) (there : Option (Vec ℕ)) → option_copied_mut o ≡ there → IsSome there → IsSome o
 lent_there None there is some = (let none : false ≡ true = subst (λ (o : Option (Vec ℕ)). IsSome o) (sym is) some in absurd (cc))
 lent_there (Some r) there is some = refl
@@ -128,7 +128,7 @@ laid_out_among from limit front (e ∷ es) laid =
       | inr before ↦ rw (from_is front e.0, before.0) (laid_out_among from limit front es (laid_out_from (end_of (instance_seen e)) from limit (instances es) (omega arith) laid.2))
     ]
 
--- what is free is free among them
+-- a range that is free is free among them
 pub free_among : (address end front : ℕ) (es : List (ℕ × Vec ℕ)) → IsFree address end (instances es) → IsFree address end (instances (entries_from front es))
 free_among address end front [] free = tt
 free_among address end front (e ∷ es) free =
@@ -137,7 +137,7 @@ free_among address end front (e ∷ es) free =
       | inr before ↦ rw (from_is front e.0, before.0) (free_among address end front es free.1)
     ]
 
--- and the other way round behind the address, where no instance lies across it
+-- and the other way round after the address, if no instance lies across it
 pub free_of_all : (address end front : ℕ) (es : List (ℕ × Vec ℕ)) → front ≤ address → IsFree front front (instances es) → IsFree address end (instances (entries_from front es)) → IsFree address end (instances es)
 free_of_all address end front [] low between free = tt
 free_of_all address end front (e ∷ es) low between free =
@@ -163,7 +163,7 @@ not_before x others address len less =
       | inr before ↦ rw before.0 refl
     ]
 
--- where no instance begins up to an address, no bytes are there
+-- if no instance begins up to an address, no bytes are there
 pub none_to : (es : List (ℕ × Vec ℕ)) (address len : ℕ) → entries_to address es ≡ [] → range_at (instances es) address len ≡ None
 none_to [] address len none = refl
 none_to (e ∷ es) address len none =
@@ -172,7 +172,8 @@ none_to (e ∷ es) address len none =
       | inr before ↦ not_before (instance_seen e) _ address len before.1 ∙ none_to es address len (rw (to_is address e.0, before.0) at none)
     ]
 
--- an instance that ends before another has no more of a range behind that one's begin than that one
+-- an instance that ends before another has no more bytes of a range after that one's begin than
+-- that one
 last_has : (x y : Instance) (others : Option (List ℕ)) (address len : ℕ) → end_of x ≤ y.address → y.address ≤ address → others ≡ range_in y address len → option_or (range_in x address len) others ≡ range_in y address len
 last_has x y others address len behind begins is =
     let inside = within_taken (length x.bytes) in
@@ -220,7 +221,7 @@ last_begins (x ∷ es) (b ∷ before) e address is =
       | inr behind ↦ last_begins es (b ∷ before) e address (rw (to_is address x.0, behind.0) at is)
     ]
 
--- and lies behind where the others begin
+-- and lies after the others' begins
 last_behind : (from limit : ℕ) (es before : List (ℕ × Vec ℕ)) (e : ℕ × Vec ℕ) (address : ℕ) → IsLaidOut from limit (instances es) → entries_to address es ≡ before ++ e ∷ [] → from ≤ e.0
 last_behind from limit [] [] e address laid is = absurd (cc)
 last_behind from limit [] (b ∷ before) e address laid is = absurd (cc)

@@ -11,7 +11,7 @@ use Rattle.std.proofs.lemmas.Option.{same_Some}
 use Rattle.cfm_memory.proofs.Placing.{some_taken, free_before}
 use Rattle.cfm_memory.proofs.Ranges.{begins_behind}
 
--- with a new instance less is free
+-- a range that is free with a new instance is free without it
 free_without_new : (address end : ℕ) (xs : List Instance) (y : Instance) → IsFree address end (with_instance xs y) → IsFree address end xs
 free_without_new address end [] y free = tt
 free_without_new address end (x ∷ xs) y free =
@@ -28,7 +28,7 @@ free_with_new address end (x ∷ xs) y apart free =
       | inr above ↦ rw above.0 (apart, free)
     ]
 
--- a new instance stands at the front or behind it
+-- a new instance is at the front or after it
 pub front_with_new : (xs : List Instance) (y : Instance) (front : ℕ) → front ≤ y.address → IsFront xs front → IsFront (with_instance xs y) front
 front_with_new xs y front behind is = record {
   low = is.low;
@@ -36,7 +36,7 @@ front_with_new xs y front behind is = record {
   full = λ other low free. is.full other low (free_without_new other (other + 1) xs y free);
 }
 
--- what is free for some bytes is so for one
+-- a range that is free for some bytes is free for one
 free_for_one : (address end : ℕ) (xs : List Instance) → address < end → IsFree address end xs → IsFree address (address + 1) xs
 free_for_one address end [] some free = tt
 free_for_one address end (x ∷ xs) some free =
@@ -45,7 +45,7 @@ free_for_one address end (x ∷ xs) some free =
 pub front_below : (xs : List Instance) (front address end : ℕ) → IsFront xs front → first_address ≤ address → address < end → IsFree address end xs → front ≤ address
 front_below xs front address end is low some free = is.full address low (free_for_one address end xs some free)
 
--- the instance at an address ends behind it, and no other lies across its end
+-- the instance at an address ends after it, and no other lies across its end
 ends_between : (from limit : ℕ) (xs : List Instance) (address : ℕ) (bytes : List ℕ) → IsLaidOut from limit xs → bytes_at xs address ≡ Some bytes → IsFree (address + taken (length bytes)) (address + taken (length bytes)) xs
 ends_between from limit [] address bytes laid is = absurd (cc)
 ends_between from limit (x ∷ xs) address bytes laid is =
@@ -72,7 +72,7 @@ none_inside (x ∷ xs) address other bytes is free low =
       | inr apart ↦ none_inside xs address other bytes (rw apart.0 at is) free.1 low
     ]
 
--- the front passes the instance that stands at it
+-- the front passes the instance that is at it
 pub front_behind : (limit : ℕ) (xs : List Instance) (front : ℕ) (bytes : List ℕ) → IsLaidOut first_address limit xs → bytes_at xs front ≡ Some bytes → IsFront xs front → IsFront xs (front + taken (length bytes))
 front_behind limit xs front bytes laid at is = record {
   low = (let h = is.low in omega arith);
@@ -112,7 +112,7 @@ free_without address end other (x ∷ xs) free =
       | inr apart ↦ rw apart.0 (free.0, free_without address end other xs free.1)
     ]
 
--- what is free below the address of an instance is so with it
+-- a range that is free below the address of an instance is free with it
 free_below : (xs : List Instance) (other address : ℕ) → other < address → IsFree other (other + 1) (without xs address) → IsFree other (other + 1) xs
 free_below [] other address less free = tt
 free_below (x ∷ xs) other address less free =
@@ -129,7 +129,7 @@ min_between a b xs at_a at_b =
       | inr le ↦ (let e : b ≡ min a b = omega arith in subst P e at_b)
     ]
 
--- an instance that goes leaves its address free
+-- a removed instance leaves its address free
 pub front_without : (limit : ℕ) (xs : List Instance) (front address : ℕ) (bytes : List ℕ) → first_address ≤ address → IsLaidOut first_address limit xs → bytes_at xs address ≡ Some bytes → IsFront xs front → IsFront (without xs address) (min front address)
 front_without limit xs front address bytes from laid at is = record {
   low = (let h = is.low in omega arith);
@@ -156,7 +156,7 @@ free_unwritten address end other w (x ∷ xs) free =
       | inr apart ↦ (let there = rw apart.0 at free in (there.0, free_unwritten address end other w xs there.1))
     ]
 
--- what is written moves nothing
+-- a write moves nothing
 pub front_written : (xs : List Instance) (front address : ℕ) (w : List ℕ) → IsFront xs front → IsFront (with_bytes xs address w) front
 front_written xs front address w is = record {
   low = is.low;

@@ -1,4 +1,4 @@
--- What is left of a memory when some instances are given back, whatever was written to them.
+-- A memory after some instances are removed, whatever was written to them.
 use Rattle.std.proofs.Common.{◌<◌, ◌==◌, ◌∙◌, ◌∷◌, ◌≡◌, ◌≢◌, IsTrue, List, [], ap, arith, inl, inr, length, refl, suc, sym, zero, ℕ}
 use Rattle.std.proofs.lemmas.Bool.Decides.{eqb_tells, leb_tells}
 use Rattle.cfm_memory.specs.Extents.{ArePlaced, Extent, given_back, place_at}
@@ -9,7 +9,7 @@ use Rattle.cfm_memory.proofs.Changes.{length-fitted}
 use Rattle.cfm_memory.proofs.Contents.{given_back_other}
 use Rattle.std.proofs.Common.{replicate}
 
--- a new instance that is given back leaves what was there
+-- a new instance that is removed leaves the earlier instances
 without_new : (xs : List Instance) (y : Instance) → without (with_instance xs y) y.address ≡ xs
 without_new [] y = elim (eqb_tells y.address y.address) [ inl same ↦ rw same.0 refl | inr other ↦ absurd (other.1 refl) ]
 without_new (x ∷ xs) y =
@@ -24,7 +24,7 @@ without_new (x ∷ xs) y =
 pub new_given_back : (m : Layout) (p : Place) → with_instances (with_new m p) (without (with_new m p).instances p.address) ≡ m
 new_given_back m p = ap (with_instances m) (without_new m.instances (record { address = p.address; bytes = replicate p.size 0 }))
 
--- two instances may be given back in either order
+-- two instances may be removed in either order
 without_both : (xs : List Instance) (a b : ℕ) → without (without xs a) b ≡ without (without xs b) a
 without_both [] a b = refl
 without_both (x ∷ xs) a b =
@@ -45,7 +45,7 @@ given_back_without m a (p ∷ places) =
     ap (λ ys. given_back (with_instances m ys) places) (without_both m.instances a p.address)
     ∙ given_back_without (with_instances m (without m.instances p.address)) a places
 
--- new instances that are given back leave what was there
+-- new instances that are removed leave the earlier instances
 pub placed_given_back : (m : Layout) (extents : List Extent) (places : List Place) (after : Layout) → ArePlaced m extents places after → given_back after places ≡ m
 placed_given_back m [] [] after placed = placed
 placed_given_back m [] (p ∷ places) after placed = absurd placed
@@ -55,7 +55,7 @@ placed_given_back m (e ∷ extents) (p ∷ places) after placed =
     ∙ ap (λ (k : Layout). with_instances k (without k.instances p.address)) (placed_given_back (with_new m p) extents places after placed.1)
     ∙ new_given_back m p
 
--- what was written to an instance is gone with it
+-- bytes written to an instance are removed with it
 without_written : (xs : List Instance) (address : ℕ) (w : List ℕ) → without (with_bytes xs address w) address ≡ without xs address
 without_written [] address w = refl
 without_written (x ∷ xs) address w =
@@ -64,7 +64,7 @@ without_written (x ∷ xs) address w =
       | inr other ↦ rw other.0 (rw other.0 (ap (λ ys. x ∷ ys) (without_written xs address w)))
     ]
 
--- and stays when another one goes
+-- and stay when another one is removed
 without_other : (xs : List Instance) (address gone : ℕ) (w : List ℕ) → address ≢ gone → without (with_bytes xs address w) gone ≡ with_bytes (without xs gone) address w
 without_other [] address gone w apart = refl
 without_other (x ∷ xs) address gone w apart =
@@ -79,7 +79,7 @@ without_other (x ∷ xs) address gone w apart =
       ]
     ]
 
--- what was written to one of some instances is gone when they are given back
+-- bytes written to one of some instances are gone when these are removed
 pub written_given_back : (m : Layout) (address : ℕ) (w : List ℕ) (places : List Place) (k : ℕ) → k < length places → (place_at places k).address ≡ address
     → given_back (with_instances m (with_bytes m.instances address w)) places ≡ given_back m places
 written_given_back m address w [] k under is = absurd (omega arith)
@@ -105,11 +105,11 @@ given_back_elsewhere m (p ∷ places) address apart =
     given_back_elsewhere (with_instances m (without m.instances p.address)) places address (λ k under. apart (suc k) (omega arith))
     ∙ given_back_other m.instances p.address address (apart 0 (omega arith))
 
--- so an instance is held where another one goes
+-- so an instance is held after another one is removed
 pub held_elsewhere : (m : Layout) (gone : ℕ) (p : Place) → gone ≢ p.address → IsTrue (holds_place m p) → IsTrue (holds_place (with_instances m (without m.instances gone)) p)
 held_elsewhere m gone p apart held = rw (given_back_other m.instances gone p.address apart) held
 
--- what is written to an instance leaves all lengths, so what was held is held
+-- a write to an instance doesn't change lengths, so each instance that was held is held
 pub written_holds : (xs : List Instance) (address other size : ℕ) (w : List ℕ) → has_length (bytes_at (with_bytes xs address w) other) size ≡ has_length (bytes_at xs other) size
 written_holds [] address other size w = refl
 written_holds (x ∷ xs) address other size w =

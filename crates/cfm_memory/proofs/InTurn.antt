@@ -1,4 +1,4 @@
--- How placements follow one another, and what they leave of each other.
+-- How placements follow one another, and their effect on each other.
 use Rattle.std.proofs.Common.{◌≡◌, ◌≢◌, ℕ, zero, suc, ◌+◌, ◌<◌, List, [], ◌∷◌, ◌++◌, Option, None, Some, length, get_or, replicate, refl, sym, ap, subst, ◌∙◌, inl, inr, IsTrue, arith, rules}
 use Rattle.std.proofs.lemmas.Bool.{cases_lt}
 use Rattle.std.proofs.lemmas.List.{get_or_default, length-replicate}
@@ -9,21 +9,21 @@ use Rattle.cfm_memory.specs.declared.place.Place.{Place}
 use Rattle.cfm_memory.proofs.Contents.{nothing_at_free, placed_here, placed_other}
 use Rattle.cfm_memory.proofs.Placing.{some_taken}
 
--- what stands for a place, and for an extent, past the last one
+-- the value for a place, and for an extent, past the last one
 abbrev nowhere : Place
 nowhere = record { address = 0; size = 0 }
 
 abbrev pub no_extent : Extent
 no_extent = record { size = 0; alignment = 0 }
 
--- extents that are placed behind placed ones are placed in one turn
+-- extents that are placed after placed ones are placed in one turn
 pub placed-append : (m mid after : Layout) (extents others : List Extent) (places more : List Place) → ArePlaced m extents places mid → ArePlaced mid others more after → ArePlaced m (extents ++ others) (places ++ more) after
 placed-append m mid after [] others [] more placed later = subst (λ (k : Layout). ArePlaced k others more after) placed later
 placed-append m mid after [] others (p ∷ places) more placed later = absurd placed
 placed-append m mid after (e ∷ extents) others [] more placed later = absurd placed
 placed-append m mid after (e ∷ extents) others (p ∷ places) more placed later = (placed.0, placed-append (with_new m p) mid after extents others places more placed.1 later)
 
--- extents that lack room behind placed ones lack it in one turn
+-- extents that lack room after placed ones lack it in one turn
 pub lack-behind : (m mid : Layout) (extents others : List Extent) (places : List Place) → ArePlaced m extents places mid → LackRoom mid others → LackRoom m (extents ++ others)
 lack-behind m mid [] others [] placed lack = subst (λ (k : Layout). LackRoom k others) placed lack
 lack-behind m mid [] others (p ∷ places) placed lack = absurd placed
@@ -37,17 +37,17 @@ length-placed m [] (p ∷ places) after placed = absurd placed
 length-placed m (e ∷ extents) [] after placed = absurd placed
 length-placed m (e ∷ extents) (p ∷ places) after placed = ap suc (length-placed (with_new m p) extents places after placed.1)
 
--- nothing stands at a place with room
+-- no instance is at a place with room
 fresh : (m : Layout) (e : Extent) (p : Place) → IsPlaceFor m e p → bytes_at m.instances p.address ≡ None
 fresh m e p placed =
     let some = some_taken e.size in
     nothing_at_free m.instances p.address (p.address + taken e.size) (omega (arith, some)) placed.lowest.room.free
 
--- where there are bytes there is not nothing
+-- if there are bytes the result isn't `None`
 some_is_not_none : {A : Type 0} (o : Option A) (x : A) → o ≡ Some x → o ≡ None → ⊥
 some_is_not_none o x some none = cc
 
--- placements leave the instances that are there
+-- placements leave the earlier instances
 pub placed_stays : (m : Layout) (extents : List Extent) (places : List Place) (after : Layout) (address : ℕ) (bytes : List ℕ)
     → ArePlaced m extents places after → bytes_at m.instances address ≡ Some bytes → bytes_at after.instances address ≡ Some bytes
 placed_stays m [] [] after address bytes placed there = rw placed there
@@ -78,7 +78,7 @@ placed_size m (e ∷ extents) [] after placed k = absurd placed
 placed_size m (e ∷ extents) (p ∷ places) after placed zero = placed.0.size
 placed_size m (e ∷ extents) (p ∷ places) after placed (suc k) = placed_size (with_new m p) extents places after placed.1 k
 
--- a place is none of an instance that was there before
+-- a new place isn't that of an earlier instance
 place_new : (m : Layout) (extents : List Extent) (places : List Place) (after : Layout) (k : ℕ) (d : Place) (address : ℕ) (bytes : List ℕ)
     → ArePlaced m extents places after → k < length places → bytes_at m.instances address ≡ Some bytes → address ≢ (get_or places k d).address
 place_new m [] [] after k d address bytes placed under there = absurd (omega arith)
@@ -94,7 +94,7 @@ pub placed_new : (m : Layout) (extents : List Extent) (places : List Place) (aft
     → ArePlaced m extents places after → k < length places → bytes_at m.instances address ≡ Some bytes → address ≢ (place_at places k).address
 placed_new m extents places after k address bytes placed under there = place_new m extents places after k nowhere address bytes placed under there
 
--- no two new instances have one address
+-- no two new instances have the same address
 distinct : (m : Layout) (extents : List Extent) (places : List Place) (after : Layout) (j k : ℕ) (d : Place)
     → ArePlaced m extents places after → j < k → k < length places → (get_or places j d).address ≢ (get_or places k d).address
 distinct m [] [] after j k d placed order under = absurd (omega arith)
@@ -119,13 +119,13 @@ apart_both places j k low high apart other = elim (cases_lt j k) [
 pub is_held : (m : Layout) (p : Place) (bytes : List ℕ) → bytes_at m.instances p.address ≡ Some bytes → length bytes ≡ p.size → IsTrue (holds_place m p)
 is_held m p bytes there len = rw (there, len) (search rules)
 
--- instances that stand at their places at the right lengths are held there
+-- instances that are at their places at the right lengths are held there
 pub stand_held : (m : Layout) (places : List Place) (bytes : ℕ → List ℕ) → Stand m places bytes → ((k : ℕ) → k < length places → length (bytes k) ≡ (place_at places k).size) → AreHeld m places
 stand_held m places bytes stand len k d under =
     let P : Place → Type 0 = λ p. IsTrue (holds_place m p) in
     subst P (get_or_default places k nowhere d under) (is_held m (place_at places k) (bytes k) (stand k under) (len k under))
 
--- so new instances are
+-- so new instances are held
 pub placed_held : (m : Layout) (extents : List Extent) (places : List Place) (after : Layout) → ArePlaced m extents places after → AreHeld after places
 placed_held m extents places after placed =
     stand_held after places (zeros_at places) (placed_stand m extents places after placed) (λ k under. length-replicate {A = ℕ} (place_at places k).size 0)

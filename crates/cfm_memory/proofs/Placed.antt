@@ -1,4 +1,4 @@
--- What is kept of a memory when an instance comes or goes, or is written to.
+-- The invariant of a memory after an instance is placed, removed or written to.
 use Rattle.std.proofs.Common.{◌≡◌, ℕ, ◌+◌, ◌≤◌, min, List, Some, length, subst, sym, arith}
 use Rattle.std.specs.BTreeMap.{insert_entry}
 use Rattle.std.specs.Global.{Vec}

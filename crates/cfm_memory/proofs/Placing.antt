@@ -1,4 +1,4 @@
--- Where the first free address lies among instances that stand one behind the other.
+-- Where the first free address lies among instances that follow one another.
 use Rattle.std.proofs.Common.{◌≡◌, ℕ, ◌+◌, ◌/◌, ◌%◌, ◌<◌, ◌≤◌, List, [], ◌∷◌, inl, inr, arith}
 use Rattle.std.proofs.lemmas.Bool.{cases_lt}
 use Rattle.std.proofs.Math.Nat.{mul-le-mul_left}
@@ -27,7 +27,7 @@ pub taken_most : (size : ℕ) → taken size ≤ size + 16
 unfolding taken
 taken_most size = omega arith
 
--- what ends before the instances begin meets none of them
+-- a range that ends before the instances begin overlaps none of them
 pub free_before : (address end from limit : ℕ) (xs : List Instance) → end ≤ from → IsLaidOut from limit xs → IsFree address end xs
 free_before address end from limit [] before laid = tt
 free_before address end from limit (x ∷ xs) before laid =
@@ -42,7 +42,7 @@ first_before n step at from limit x xs aligned before laid = record {
   first = λ b low _ _. low;
 }
 
--- otherwise it is behind that instance
+-- otherwise it is after that instance
 pub first_behind : (n step at next : ℕ) (x : Instance) (xs : List Instance) (r : ℕ) → x.address < at + n → at ≤ next → end_of x ≤ next
     → ((b : ℕ) → at ≤ b → end_of x ≤ b → b % step ≡ 0 → next ≤ b) → IsFirstFree n step next xs r → IsFirstFree n step at (x ∷ xs) r
 first_behind n step at next x xs r over low behind least rest = record {

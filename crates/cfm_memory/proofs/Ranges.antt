@@ -5,7 +5,7 @@ use Rattle.cfm_memory.specs.Instances.{Instance, bytes_at}
 use Rattle.cfm_memory.specs.Placement.{IsLaidOut}
 use Rattle.cfm_memory.proofs.Contents.{nothing_before}
 
--- an instance among those from an address on begins there or behind it
+-- an instance among those from an address on begins there or after it
 pub begins_behind : (xs : List Instance) (address from limit : ℕ) (bytes : List ℕ) → IsLaidOut from limit xs → bytes_at xs address ≡ Some bytes → from ≤ address
 begins_behind xs address from limit bytes laid is =
     elim (cases_lt address from) [

@@ -8,7 +8,8 @@ use Rattle.cfm_memory.specs.Limits.{first_address}
 use Rattle.cfm_memory.specs.Placement.{IsFree, IsRoom, end_of, step_of, taken, with_new}
 use Rattle.cfm_memory.proofs.Placing.{taken_most}
 
--- what some extents take at most: each its size, what it is rounded up by, and what is left free before it
+-- the most that some extents take: for each its size, the bytes that it is rounded up by, and those left
+-- free before it
 abbrev pub most_taken : List Extent → ℕ
 most_taken [] = 0
 most_taken (e ∷ extents) = e.size + 16 + step_of e.alignment + most_taken extents
@@ -30,12 +31,12 @@ ends_with from (x ∷ xs) y end ends = go (ends_with from xs y end ends.1) (ltb 
     go later true = (ends.0, later)
     go later false = (end, ends)
 
--- behind all instances everything is free
+-- after all instances everything is free
 free_behind : (address end from : ℕ) (xs : List Instance) → from ≤ address → EndBy from xs → IsFree address end xs
 free_behind address end from [] low ends = tt
 free_behind address end from (x ∷ xs) low ends = (inr (omega (arith, low, ends.0)), free_behind address end from xs low ends.1)
 
--- the next multiple of a step behind an address
+-- the next multiple of a step after an address
 abbrev next_step : ℕ → ℕ → ℕ
 next_step step from = step * (from / step + 1)
 
@@ -46,7 +47,7 @@ some_step : (alignment : ℕ) → 16 ≤ step_of alignment
 unfolding step_of
 some_step alignment = le-max_left 16 (2 ^ alignment)
 
--- behind all instances an extent has room
+-- after all instances an extent has room
 room_behind : (m : Layout) (e : Extent) (from : ℕ) → first_address ≤ from → from + (e.size + 16 + step_of e.alignment) ≤ m.limit → EndBy from m.instances → IsRoom m e.size e.alignment (next_step (step_of e.alignment) from)
 room_behind m e from low limit ends =
     let near = next_near (step_of e.alignment) from (omega (arith, some_step e.alignment)) in
@@ -67,6 +68,6 @@ none_lacks m (e ∷ extents) from low limit ends (inr (p, placed, later)) =
     let to = from + (e.size + 16 + step_of e.alignment) in
     none_lacks (with_new m p) extents to (omega (arith, low)) (omega (arith, limit)) (ends_with to m.instances (record { address = p.address; bytes = replicate p.size 0 }) (omega (arith, lowest, near.1, size)) (ends_later from to m.instances (omega arith) ends)) later
 
--- extents that take no more than lies below the limit find room in empty memory
+-- extents that take no more than the space below the limit find room in empty memory
 pub all_find_room : (limit : ℕ) (extents : List Extent) → first_address + most_taken extents ≤ limit → LackRoom (no_instances limit) extents → ⊥
 all_find_room limit extents enough lack = none_lacks (no_instances limit) extents first_address (omega arith) enough tt lack

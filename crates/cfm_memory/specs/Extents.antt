@@ -1,7 +1,7 @@
--- Where several instances are placed, each in turn at the lowest address with room, what stands at their
--- places, and what is left when they are given back. A section header says how much memory a section needs
--- and how it is aligned (Mac OS Runtime Architectures, "PEF Structure", section headers: totalSize,
--- alignment); that places are given in turn is this project's own rule of placement.
+-- Several instances are placed, each in turn at the lowest address with room: the bytes at their places,
+-- and the memory after they are removed. A section header says how much memory a section needs and how it
+-- is aligned (Mac OS Runtime Architectures, "PEF Structure", section headers: totalSize, alignment). That
+-- places are given in turn is this project's own rule of placement.
 use Rattle.std.specs.Prelude.{◌≡◌, ◌≢◌, ◌⊎◌, ⊤, ℕ, ◌<◌, List, [], ◌∷◌, All, IsTrue, Some, length, replicate, slice_index_or}
 use Rattle.cfm_memory.specs.Instances.{Layout, bytes_at, holds_place, with_instances, without}
 use Rattle.cfm_memory.specs.Placement.{IsLowest, IsRoom, with_new}
@@ -9,7 +9,7 @@ use Rattle.cfm_memory.specs.declared.place.Place.{Place}
 use Rattle.cfm_memory.specs.declared.place.MemoryFault.{MemoryFault}
 use Rattle.cfm_memory.specs.declared.place.MemoryFault.TheVariants.{NoRoom, OutOfMemory}
 
--- what an instance needs of memory: its size, and its alignment as an exponent of two
+-- the memory that an instance needs: its size, and its alignment as an exponent of two
 pub record Extent : Type 0 where
   pub size : ℕ
   pub alignment : ℕ
@@ -19,7 +19,7 @@ pub record IsPlaceFor (m : Layout) (e : Extent) (p : Place) : Type 0 where
   pub size : p.size ≡ e.size
   pub lowest : IsLowest m e.size e.alignment p.address
 
--- new instances of some extents were placed in a memory, in order, and it became another
+-- new instances of some extents were placed in a memory, in order, which gave another memory
 abbrev pub ArePlaced : Layout → List Extent → List Place → Layout → Type 0
 ArePlaced m [] [] after = after ≡ m
 ArePlaced m [] (p ∷ places) after = ⊥
@@ -30,12 +30,12 @@ ArePlaced m (e ∷ extents) (p ∷ places) after = IsPlaceFor m e p × ArePlaced
 abbrev pub HasNoRoomFor : Layout → Extent → Type 0
 HasNoRoomFor m e = (address : ℕ) → IsRoom m e.size e.alignment address → ⊥
 
--- one of some extents finds no room behind those before it
+-- one of some extents finds no room after those before it
 abbrev pub LackRoom : Layout → List Extent → Type 0
 LackRoom m [] = ⊥
 LackRoom m (e ∷ extents) = HasNoRoomFor m e ⊎ ((p : Place) × IsPlaceFor m e p × LackRoom (with_new m p) extents)
 
--- why some extents may not be placed: for want of room where there is none
+-- why some extents may not be placed: `NoRoom` if there is no room
 abbrev pub MayNotPlace : MemoryFault → Layout → List Extent → Type 0
 MayNotPlace NoRoom m extents = LackRoom m extents
 MayNotPlace OutOfMemory m extents = ⊤
@@ -48,7 +48,7 @@ no_instances limit = record { limit = limit; instances = [] }
 abbrev pub place_at : List Place → ℕ → Place
 place_at places k = slice_index_or places k (record { address = 0; size = 0 })
 
--- instances stand at some places, each with the bytes that are given for its number
+-- instances are at some places, each with the bytes that are given for its number
 abbrev pub Stand : Layout → List Place → (ℕ → List ℕ) → Type 0
 Stand m places bytes = (k : ℕ) → k < length places → bytes_at m.instances (place_at places k).address ≡ Some (bytes k)
 
@@ -56,11 +56,11 @@ Stand m places bytes = (k : ℕ) → k < length places → bytes_at m.instances 
 abbrev pub zeros_at : List Place → ℕ → List ℕ
 zeros_at places k = replicate (place_at places k).size 0
 
--- an instance stands at each of some places, at its size
+-- an instance of the place's size is at each of some places
 abbrev pub AreHeld : Layout → List Place → Type 0
 AreHeld m places = All (λ p. IsTrue (holds_place m p)) places
 
--- no two places have one address
+-- no two places have the same address
 abbrev pub AreApart : List Place → Type 0
 AreApart places = (j k : ℕ) → j < k → k < length places → (place_at places j).address ≢ (place_at places k).address
 

@@ -1,2 +1,2 @@
--- What the code keeps: these definitions serve private contracts and proofs, and no public clause cites them.
+-- Definitions for private contracts and proofs. No public clause cites them.
 pub mod Searches

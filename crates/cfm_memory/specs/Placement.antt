@@ -1,6 +1,6 @@
--- Where an instance may lie: the lowest free address that has its alignment. The format says how a
+-- Where an instance may lie: at the lowest free address that has its alignment. The format says how a
 -- section's memory is aligned (Mac OS Runtime Architectures, "PEF Structure", section headers: alignment,
--- an exponent of two) and leaves open where it lies, so the rest is this project's own rule of placement.
+-- an exponent of two), but not where it lies. So the rest is this project's own rule of placement.
 use Rattle.std.specs.Prelude.{◌≡◌, ℕ, ◌+◌, ◌%◌, ◌^◌, ◌≤◌, ◌⊎◌, max, List, [], ◌∷◌, length, replicate}
 use Rattle.std.specs.Int.{next_multiple_of}
 use Rattle.cfm_memory.specs.Instances.{Instance, Layout, with_instance, with_instances}
@@ -9,19 +9,19 @@ use Rattle.cfm_memory.specs.declared.place.MemoryFault.{MemoryFault}
 use Rattle.cfm_memory.specs.declared.place.MemoryFault.TheVariants.{NoRoom, OutOfMemory}
 use Rattle.cfm_memory.specs.Limits.{first_address, grain}
 
--- the bytes that an instance of some size takes: one at least, rounded up to a multiple of the grain
+-- the bytes that an instance of some size takes: at least one, rounded up to a multiple of the grain
 unfoldable pub taken : ℕ → ℕ
 taken size = next_multiple_of (max size 1) grain
 
--- what the address of an instance is a multiple of, from the exponent of its alignment
+-- the number of which the address of an instance is a multiple, from the exponent of its alignment
 unfoldable pub step_of : ℕ → ℕ
 step_of alignment = max grain (2 ^ alignment)
 
--- the address behind the last byte that an instance takes
+-- the address after the last byte that an instance takes
 abbrev pub end_of : Instance → ℕ
 end_of x = x.address + taken (length x.bytes)
 
--- what is taken from an address to an end meets no instance
+-- the bytes from an address to an end overlap no instance
 abbrev pub IsFree : ℕ → ℕ → List Instance → Type 0
 IsFree address end [] = Unit {0}
 IsFree address end (x ∷ xs) = ((end ≤ x.address) ⊎ (end_of x ≤ address)) × IsFree address end xs
@@ -42,16 +42,17 @@ pub record IsLowest (m : Layout) (size alignment address : ℕ) : Type 0 where
 abbrev pub with_new : Layout → Place → Layout
 with_new m place = with_instances m (with_instance m.instances (record { address = place.address; bytes = replicate place.size 0 }))
 
--- when an instance may be refused: no room where no address has it, and out of memory only where one has
+-- when an instance may be refused: for no room if no address has it, and for a failed allocation only if
+-- one has
 abbrev pub MayRefuse : Layout → ℕ → ℕ → MemoryFault → Type 0
 MayRefuse m size alignment NoRoom = (address : ℕ) → IsRoom m size alignment address → ⊥
 MayRefuse m size alignment OutOfMemory = (address : ℕ) × IsRoom m size alignment address
 
--- instances from an address on to a limit, one behind the other
+-- instances from an address on up to a limit, one after the other
 abbrev pub IsLaidOut : ℕ → ℕ → List Instance → Type 0
 IsLaidOut from limit [] = Unit {0}
 IsLaidOut from limit (x ∷ xs) = (from ≤ x.address) × (end_of x ≤ limit) × IsLaidOut (end_of x) limit xs
 
--- the instances of a memory lie in the order of their addresses, and none meets another
+-- the instances of a memory lie in the order of their addresses, and none overlaps another
 abbrev pub IsInOrder : Layout → Type 0
 IsInOrder m = IsLaidOut first_address m.limit m.instances

@@ -1,4 +1,4 @@
--- What the code's memory is seen as, without places in the machine's memory.
+-- The value of the code's memory, without places in the machine's memory.
 use Rattle.std.specs.Prelude.{ℕ, map}
 use Rattle.std.specs.Global.{Vec}
 use Rattle.cfm_memory.specs.declared.memory.Memory.TheInside.{Inside}

@@ -2,7 +2,7 @@
 //!
 //! An instance is a section that was given memory. [`Memory::place`] finds the lowest free address for
 //! one. The format says how a section is aligned (Mac OS Runtime Architectures, "PEF Structure", section
-//! headers) and leaves open where it lies.
+//! headers), but not where it lies.
 #![tactic(auto)]
 
 mod memory;

@@ -16,7 +16,7 @@ use std::marker::Model;
 /// The lowest address of an instance.
 const FIRST_ADDRESS: u32 = 0x0001_0000;
 
-/// The addresses of instances, and how many bytes each takes, are multiples of this.
+/// The addresses of instances, and their sizes rounded up, are multiples of this.
 const GRAIN: u64 = 16;
 
 /// Memory that holds instances of sections, each at an address of its own.
@@ -47,7 +47,7 @@ impl Model for Memory {
 }
 
 impl Memory {
-    /// Memory without instances, in which none may pass the address `limit`.
+    /// Returns memory without instances, in which none may exceed the address `limit`.
     pub fn new(alloc: Global, limit: u32) -> Memory
         ensures { result ≡ record { limit = limit; instances = [] } }
     {
@@ -61,14 +61,14 @@ impl Memory {
 
     /// Places a new instance of `size` zero bytes at the lowest address that has room for it.
     ///
-    /// An instance takes one byte at least, rounded up to a multiple of 16, and its address is a
-    /// multiple of 16 and of 2^`alignment`, from 00010000 (hex) on. `alignment` is an exponent of two,
-    /// at most 31, as a section header has it.
+    /// An instance takes at least one byte, rounded up to a multiple of 16. Its address is a multiple
+    /// of 16 and of 2^`alignment`, from 00010000 (hex) on. `alignment` is an exponent of two, at most
+    /// 31, as in a section header.
     ///
     /// # Errors
     ///
-    /// `NoRoom` where no address has room below the limit; else `OutOfMemory` where the machine
-    /// refuses memory. Neither changes the memory.
+    /// `NoRoom` if no address has room below the limit; otherwise `OutOfMemory` if an allocation
+    /// fails. Neither changes the memory.
     #[tactic(auto, using(crate::proofs::Changes::laid_out_seen))]
     pub fn place(&mut self, size: u32, alignment: u8) -> Result<Place, MemoryFault>
         requires { alignment ≤ greatest_alignment }
@@ -89,7 +89,7 @@ impl Memory {
         Ok(Place { address, size })
     }
 
-    /// The lowest address that has room for an instance of `size` bytes.
+    /// Returns the lowest address that has room for an instance of `size` bytes.
     fn lowest_room(&self, size: u32, alignment: u8) -> Option<u32>
         requires { alignment ≤ greatest_alignment }
         ensures { MatchOption result ((address : ℕ) → IsRoom self.now size alignment address → ⊥) (λ address. IsLowest self.now size alignment address) }
@@ -103,7 +103,7 @@ impl Memory {
         Some(address as u32)
     }
 
-    /// The lowest multiple of `step` from which on `taken` bytes meet no instance.
+    /// Returns the lowest multiple of `step` from which `taken` bytes overlap no instance.
     fn first_free(&self, taken: u64, step: u64) -> u64
         requires taken { (0 < taken) × (taken ≤ 2 ^ 33) }
         requires step { (0 < step) × (step ≤ 2 ^ 31) }
@@ -122,7 +122,7 @@ impl Memory {
         address
     }
 
-    /// The address behind the instances that stand at the front, one behind the other.
+    /// Returns the address after the instances that follow one another from the front on.
     fn next_front(&self) -> u32
         ensures { IsFront self.now.instances result }
     {
@@ -133,7 +133,7 @@ impl Memory {
         front
     }
 
-    /// Whether an instance has just this address and size.
+    /// Returns whether an instance has exactly this address and size.
     #[tactic(auto, using(crate::proofs::Changes::laid_out_seen))]
     pub fn holds(&self, place: Place) -> bool
         ensures held { result ≡ holds_place self.now place }
@@ -145,7 +145,7 @@ impl Memory {
         }
     }
 
-    /// The bytes of the instance at `place`.
+    /// Returns the bytes of the instance at `place`.
     #[tactic(auto, using(crate::proofs::Changes::laid_out_seen))]
     pub fn part(&self, place: Place) -> &[u8]
         requires { IsTrue (holds_place self.now place) }
@@ -156,7 +156,8 @@ impl Memory {
         self.instances[&place.address].as_slice()
     }
 
-    /// The bytes of the instance at `place`, to be written. All others keep theirs.
+    /// Returns the bytes of the instance at `place`, to be written. The bytes of all others are
+    /// unchanged.
     pub fn part_mut(&mut self, place: Place) -> &mut [u8]
         requires { IsTrue (holds_place self.old place) }
         ensures* writes_back { sem 𝓛 (LendsPart self.entry place.address result) }
@@ -167,7 +168,7 @@ impl Memory {
         bytes.as_mut_slice()
     }
 
-    /// Takes away the instance at `place`. All others keep their addresses and bytes.
+    /// Removes the instance at `place`. The addresses and bytes of all others are unchanged.
     #[tactic(auto, using(crate::proofs::Changes::laid_out_seen))]
     pub fn give_back(&mut self, place: Place)
         requires { IsTrue (holds_place self.old place) }
@@ -178,8 +179,8 @@ impl Memory {
         self.front = self.front.min(place.address);
     }
 
-    /// The `len` bytes from `address` on, or `None` where they don't lie inside one instance. An empty
-    /// range may also stand at an instance's end.
+    /// Returns the `len` bytes from `address` on, or `None` if they don't lie inside one instance. An
+    /// empty range may also be at an instance's end.
     #[tactic(auto, using(crate::proofs::Changes::laid_out_seen))]
     pub fn at(&self, address: u32, len: u32) -> Option<&[u8]>
         ensures range { option_copied result ≡ range_at self.now.instances address len }
@@ -190,7 +191,7 @@ impl Memory {
     }
 }
 
-/// The `len` bytes of an instance from an offset on, where they lie inside it.
+/// Returns the `len` bytes of an instance from an offset on, if they lie inside it.
 fn range_of(bytes: &[u8], from: u32, len: u32) -> Option<&[u8]>
     ensures { option_copied result ≡ part_of bytes.now from len }
 {
@@ -202,14 +203,14 @@ fn range_of(bytes: &[u8], from: u32, len: u32) -> Option<&[u8]>
     Some(&bytes[from..from + len])
 }
 
-/// `len` zero bytes.
+/// Returns `len` zero bytes.
 fn zeros(alloc: Global, len: usize) -> Result<Vec<u8>, AllocError>
     ensures { IfOk result (λ bytes. bytes.items ≡ replicate len 0) }
 {
     vec![in alloc; 0; len]
 }
 
-/// How many bytes an instance of `size` bytes takes.
+/// Returns how many bytes an instance of `size` bytes takes.
 #[tactic(auto, unfolding(crate::specs::Placement::taken))]
 fn taken_by(size: u64) -> u64
     requires { size ≤ 2 ^ 32 }
@@ -218,7 +219,7 @@ fn taken_by(size: u64) -> u64
     size.max(1).next_multiple_of(GRAIN)
 }
 
-/// What an instance's address is a multiple of.
+/// Returns the number of which an instance's address is a multiple.
 #[tactic(auto, unfolding(crate::specs::Placement::step_of))]
 fn step_by(alignment: u8) -> u64
     requires { alignment ≤ greatest_alignment }

@@ -5,27 +5,27 @@ use std::alloc::{AllocError, AllocFailed};
 use std::fmt;
 use thiserror::Error;
 
-/// Where an instance lies.
+/// The place of an instance.
 #[derive(Clone, Copy, Debug, PartialEq, Eq)]
 pub struct Place {
     /// The address of its first byte.
     pub address: u32,
-    /// How many bytes it has that can be read, which may be fewer than it takes.
+    /// The number of its readable bytes, which may be less than it takes.
     pub size: u32,
 }
 
-/// Why an instance isn't placed. Its text is its name.
+/// Why an instance isn't placed. The text is the refusal's name.
 #[derive(Clone, Copy, Debug, PartialEq, Eq, Error)]
 pub enum MemoryFault {
     /// No address below the limit has room for the instance.
     NoRoom,
-    /// An address has room, and the machine refused memory for the instance.
+    /// An address has room, but an allocation for the instance failed.
     OutOfMemory,
 }
 
 impl MemoryFault {
-    /// The refusal's number: 67, which no refusal of another crate has, or 99, which is want of memory
-    /// in all crates.
+    /// Returns the refusal's number: 67, which no refusal of another crate has, or 99, a failed
+    /// allocation in all crates.
     pub fn number(&self) -> u32
         ensures { result ≡ fault_number self.now }
     {
@@ -35,7 +35,7 @@ impl MemoryFault {
         }
     }
 
-    /// The refusal's name, which is its text.
+    /// Returns the refusal's name, which is its text.
     pub fn name(&self) -> &'static str
         ensures { result.now ≡ fault_name self.now }
     {

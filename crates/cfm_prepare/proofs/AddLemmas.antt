@@ -4,7 +4,7 @@ use Rattle.cfm_closure.specs.Stores.{Pair}
 use Rattle.cfm_prepare.specs.Contexts.{ContextState, Open, fresh_state, open_of}
 use Rattle.cfm_prepare.specs.Runs.{Runs, Step, closed, prepared}
 
--- numbers are never taken back
+-- numbers are never reused
 given-grows : (s t : ContextState) (steps : List Step) → Runs s steps t → s.given ≤ t.given
 given-grows s t [] run = (let same : t.given ≡ s.given = ap (λ (x : ContextState). x.given) run in omega (arith, same))
 given-grows s t (prepared name number ∷ steps) run = (let more = given-grows run.0 t steps run.2 in omega (arith, more, run.1.given))

@@ -15,7 +15,7 @@ use Rattle.cfm_prepare.proofs.ListLemmas.{contains-next}
 use Rattle.cfm_prepare.proofs.PlacedLemmas.{placed-back}
 use Rattle.cfm_prepare.proofs.ReadyLemmas.{held-rejoined, ready-behind}
 
--- what was placed can be given back
+-- the fragments that were placed can be released
 pub begun-of : (pairs : List Pair) (m : Layout) (there now : List Present) (ps new : List ℕ) (after : Layout) → AreReady m there → ((p : ℕ) → has ps p ≡ true → has new p ≡ true) → HavePlaced pairs m there ps now after → HaveBegun m there new now after
 begun-of pairs m there now ps new after ready inside have = record {
   fresh = have.fresh;
@@ -38,7 +38,7 @@ begun-after pairs m there now ps mid after have ready held same = record {
 new-of : (pairs : List Pair) (m : Layout) (there now : List Present) (ps : List ℕ) (mid : Layout) (have : HavePlaced pairs m there ps now mid) → AreNew pairs m ps have.fresh
 new-of pairs m there now ps mid have = record { are = have.are; empty = mid; placed = have.placed }
 
--- all is done, or it isn't
+-- all steps succeeded, or one was refused
 pub prepared-after : {A : Type 0} (r : Result A FragmentFault) (pairs : List Pair) (m : Layout) (there now : List Present) (ps : List ℕ) (mid after : Layout) (all : List Present) (have : HavePlaced pairs m there ps now mid)
     → all ≡ now → first_bad_image pairs have.fresh ≡ None → all_given_back after have.fresh ≡ all_given_back mid have.fresh
     → RelocatesUpTo r (first_bad_program pairs all have.fresh) → OnOk r (StandAll after have.fresh (section_of pairs all))

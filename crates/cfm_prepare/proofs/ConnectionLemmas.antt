@@ -40,7 +40,7 @@ found-from (Some o ∷ slots) n (suc k) number is at = elim (eqb_tells o.number 
 pub found-is : (slots : List (Option Open)) (number : ℕ) → AreAtNumbers 0 slots → get_or slots number None ≡ open_of (open_in slots) number
 found-is slots number at = found-from slots 0 number number (omega arith) at
 
--- one is taken out
+-- one is removed
 emptied-from : (slots : List (Option Open)) (n k number : ℕ) → number ≡ n + k → AreAtNumbers n slots → open_in (set slots k None) ≡ open_without (open_in slots) number
 emptied-from [] n k number is at = refl
 emptied-from (None ∷ slots) n zero number is at = sym (same-before slots (suc n) number (omega (arith, is)) at)
@@ -65,7 +65,7 @@ emptied-at (Some o ∷ slots) n zero at = at.1
 emptied-at (None ∷ slots) n (suc k) at = emptied-at slots (suc n) k at
 emptied-at (Some o ∷ slots) n (suc k) at = (at.0, emptied-at slots (suc n) k at.1)
 
--- one is put behind the others
+-- one is put after the others
 pub pushed-is : (slots : List (Option Open)) (o : Open) → open_in (slots ++ Some o ∷ []) ≡ open_in slots ++ o ∷ []
 pushed-is [] o = refl
 pushed-is (None ∷ slots) o = pushed-is slots o
@@ -85,7 +85,7 @@ past-without (Some o ∷ slots) n number past at = elim (eqb_tells o.number numb
   | inr other ↦ rw other.0 (ap (λ ys. o ∷ ys) (past-without slots (suc n) number (omega (arith, past)) at.1))
 ]
 
--- no more are left
+-- there are no more than before
 pub fewer-without : (os : List Open) (number : ℕ) → length (open_without os number) ≤ length os
 fewer-without [] number = omega arith
 fewer-without (o ∷ os) number = elim (eqb_tells o.number number) [
@@ -93,7 +93,7 @@ fewer-without (o ∷ os) number = elim (eqb_tells o.number number) [
   | inr other ↦ (let more = fewer-without os number in rw other.0 (omega (arith, more)))
 ]
 
--- all are left where none has the number
+-- all are left if none has the number
 absent-without : (os : List Open) (number : ℕ) → open_of os number ≡ None → open_without os number ≡ os
 absent-without [] number none = refl
 absent-without (o ∷ os) number none = elim (eqb_tells o.number number) [

@@ -10,7 +10,7 @@ use Rattle.cfm_prepare.specs.Kept.Ready.{AreAbsent, HavePlaced, found_in}
 use Rattle.cfm_prepare.proofs.ListLemmas.{has-first, has-get, has-later}
 use Rattle.cfm_prepare.proofs.SlotLemmas.{places-append, present-append}
 
--- a position is found where a fragment has it
+-- a position is found if a fragment has it
 pub present-has : (fs : List Present) (p : ℕ) → is_present fs p ≡ has (positions fs) p
 present-has [] p = refl
 present-has (f ∷ fs) p = ap (λ b. cond (f.position == p) true b) (present-has fs p)
@@ -29,7 +29,7 @@ once-before (q ∷ qs) (suc i) once under =
     let low : i < length qs = omega (arith, under) in
     ap₂ (λ a b. cond a true b) (apart-of q (get_or qs i 0) qs once.0 (has-get qs i low)) (once-before qs i once.1 low)
 
--- a fragment that is placed next isn't there yet
+-- a fragment that is placed next doesn't exist yet
 pub absent-next : (pairs : List Pair) (m after : Layout) (there now : List Present) (new : List ℕ) (i : ℕ) → AreAbsent there new → HavePlaced pairs m there (take i new) now after → i < length new → is_present now (get_or new i 0) ≡ false
 absent-next pairs m after there now new i absent have under =
     let q = get_or new i 0 in
@@ -69,7 +69,7 @@ found-at all [] i places under is = absurd (omega (arith, under))
 found-at all (p ∷ ps) zero places under is = ap (λ (qs : List Place). record { position = p; places = qs }) is
 found-at all (p ∷ ps) (suc i) places under is = found-at all ps i places (omega (arith, under)) is
 
--- what is new of a closure is once there, and absent
+-- the new positions of a closure are listed once, and absent
 pub new-has : (fs : List Present) (ps : List ℕ) (p : ℕ) → has (new_among fs ps) p ≡ true → has ps p ≡ true
 new-has fs [] p there = there
 new-has fs (q ∷ qs) p there = go (is_present fs q) (q == p) there (new-has fs qs p)
@@ -84,7 +84,7 @@ new-has fs (q ∷ qs) p there = go (is_present fs q) (q == p) there (new-has fs 
         rest true there apart = there
         rest false there apart = ap (λ b. cond b true (has (new_among fs qs) p)) (sym apart) ∙ there
 
--- what the first of a list have, the list has
+-- a number that the first elements have is in the list
 pub take-has : (n : ℕ) (ps : List ℕ) (p : ℕ) → has (take n ps) p ≡ true → has ps p ≡ true
 take-has zero ps p there = absurd (cc)
 take-has (suc n) [] p there = there
@@ -94,7 +94,7 @@ take-has (suc n) (q ∷ qs) p there = go (q == p) (take-has n qs p) there
     go true more there = refl
     go false more there = more there
 
--- so what is new of a closure is absent
+-- so the new positions of a closure are absent
 none-new : (fs : List Present) (ps : List ℕ) (p : ℕ) → has (new_among fs ps) p ≡ true → is_present fs p ≡ false
 none-new fs [] p there = absurd (cc)
 none-new fs (q ∷ qs) p there = go (is_present fs q) refl there (λ here. none-new fs qs p here)

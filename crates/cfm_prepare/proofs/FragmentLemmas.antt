@@ -1,4 +1,4 @@
--- A fragment's container and its loader section, and what is prepared of them.
+-- A fragment's container and its loader section, and how they are prepared.
 use Rattle.std.proofs.Common.{◌≡◌, ℕ, suc, ◌+◌, ◌-◌, ◌<◌, List, [], ◌∷◌, ◌++◌, Option, None, Some, Result, Ok, Err, length, option_map, refl, sym, ap, subst, ◌∙◌, arith}
 use Rattle.std.specs.Option.{option_and_then, option_map_or}
 use Rattle.std.specs.Result.{result_ok, result_unwrap_or}
@@ -49,7 +49,7 @@ placed-there pairs p c before after places is placed =
 pub length-there : (pairs : List Pair) (p : ℕ) (c : Contained) (before after : Layout) (places : List Place) → container_at pairs p ≡ Some c → ArePlaced before (extents_in pairs p) places after → length places ≡ c.header.instantiated_section_count
 length-there pairs p c before after places is placed = length-fragment c before after places (placed-there pairs p c before after places is placed)
 
--- what is filled, and why it may not be
+-- how a section is filled, and why it may not be
 filled-there : (pairs : List Pair) (p : ℕ) (c : Contained) (k : ℕ) → container_at pairs p ≡ Some c → section_filled pairs p k ≡ filled_at c k
 filled-there pairs p c k is = ap (λ o. option_map_or (λ (d : Contained). filled_at d k) o []) is
 
@@ -57,7 +57,7 @@ pub image-there : (pairs : List Pair) (p : ℕ) (c : Contained) (n : ℕ) → co
 image-there pairs p c n is count =
     ap (λ o. option_and_then (λ (d : Contained). first_image_refusal d d.header.instantiated_section_count) o) is ∙ ap (first_image_refusal c) (sym count)
 
--- the same of a fragment that is relocated
+-- the same for a fragment that is relocated
 pub stand-there : (pairs : List Pair) (p : ℕ) (c : Contained) (m : Layout) (places : List Place) → container_at pairs p ≡ Some c → Stand m places (section_filled pairs p) → Stand m places (filled_at c)
 stand-there pairs p c m places is stand = λ k under. stand k under ∙ ap Some (filled-there pairs p c k is)
 

@@ -1,4 +1,4 @@
--- Fragments in memory: what is left when they are given back, and what a change of one leaves of the others.
+-- Fragments in memory: the memory after they are released, and the effect of a change of one on the others.
 use Rattle.std.proofs.Common.{◌≡◌, ◌≢◌, ℕ, zero, suc, ◌<◌, List, [], ◌∷◌, length, refl, sym, ap, subst, ◌∙◌, IsTrue, arith}
 use Rattle.std.proofs.lemmas.List.{get_or_default}
 use Rattle.cfm_memory.specs.Extents.{AreHeld, Stand, given_back, place_at}
@@ -7,7 +7,7 @@ use Rattle.cfm_memory.specs.declared.place.Place.{Place}
 use Rattle.cfm_memory.proofs.Laws.{given_back_elsewhere, given_back_without}
 use Rattle.cfm_prepare.specs.Fragments.{Present, all_given_back, present_at}
 
--- what stands for a place, and for a fragment, past the last one
+-- the value for a place, and for a fragment, past the last one
 abbrev pub nowhere : Place
 nowhere = record { address = 0; size = 0 }
 
@@ -24,7 +24,7 @@ pub all-swap : (m : Layout) (fs : List Present) (ps : List Place) → all_given_
 all-swap m [] ps = refl
 all-swap m (f ∷ fs) ps = ap (λ (k : Layout). all_given_back k fs) (given-swap m ps f.places) ∙ all-swap (given_back m f.places) fs ps
 
--- a change of one fragment's sections is gone with all of them
+-- a change of one fragment's sections is gone after all are released
 pub all-one : (m after : Layout) (fs : List Present) (i : ℕ) → i < length fs → given_back after (present_at fs i).places ≡ given_back m (present_at fs i).places → all_given_back after fs ≡ all_given_back m fs
 all-one m after [] i under same = absurd (omega arith)
 all-one m after (f ∷ fs) zero under same = ap (λ (k : Layout). all_given_back k fs) same
@@ -40,7 +40,7 @@ all-elsewhere m (f ∷ fs) address apart =
     all-elsewhere (given_back m f.places) fs address (λ i k under there. apart (suc i) k (omega arith) there)
     ∙ given_back_elsewhere m f.places address (λ k under. apart 0 k (omega arith) under)
 
--- the same of a change of one fragment's sections
+-- the same for a change of one fragment's sections
 pub other_same : (m after : Layout) (ps : List Place) (address : ℕ) → given_back after ps ≡ given_back m ps → ((k : ℕ) → k < length ps → (place_at ps k).address ≢ address)
     → bytes_at after.instances address ≡ bytes_at m.instances address
 other_same m after ps address same apart =
@@ -50,7 +50,7 @@ pub stand_other : (m after : Layout) (ps qs : List Place) (bytes : ℕ → List 
     → ((a b : ℕ) → a < length ps → b < length qs → (place_at ps a).address ≢ (place_at qs b).address) → Stand m qs bytes → Stand after qs bytes
 stand_other m after ps qs bytes same apart stand k under = other_same m after ps (place_at qs k).address same (λ a low. apart a k low under) ∙ stand k under
 
--- what is held at an address is held wherever the bytes there are the same
+-- an instance that is held at an address is held wherever the bytes there are the same
 pub held_same : (m after : Layout) (qs : List Place) → ((k : ℕ) → k < length qs → bytes_at after.instances (place_at qs k).address ≡ bytes_at m.instances (place_at qs k).address) → AreHeld m qs → AreHeld after qs
 held_same m after qs same held k d under =
     let P : Place → Type 0 = λ p. IsTrue (holds_place after p) in

@@ -13,7 +13,7 @@ use Rattle.cfm_prepare.specs.Images.{filled_at, filled_in, image_of, image_refus
 filled_zeros : (image : List ℕ) (size : ℕ) → image ++ drop (length image) (replicate size 0) ≡ filled image size
 filled_zeros image size = ap (λ (z : List ℕ). image ++ z) (drop-replicate (length image) size 0)
 
--- a step that filled some memory, or was refused, by what it was to put at its front
+-- a step that filled some memory or was refused, by the bytes for its front
 pub filling_refused : {A : Type 0} (r : Result A PackFault) (memory part : List ℕ) (image : Result (List ℕ) PackFault)
     → result_map (λ _. memory) r ≡ result_map (λ (i : List ℕ). i ++ drop (length i) part) image → result_err r ≡ result_err image
 filling_refused (Ok x) memory part (Ok i) is = refl
@@ -30,14 +30,14 @@ filling_done (Ok x) memory part (Ok i) size is zeros =
     let whole : memory ≡ i ++ drop (length i) part = cc in
     whole ∙ ap (λ (z : List ℕ). i ++ drop (length i) z) zeros ∙ filled_zeros i size
 
--- what is known of a section that is there
+-- the facts of a section that exists
 pub refusal_there : (c : Contained) (k : ℕ) (s : Section) → Some s ≡ section_of c k → image_refusal c k ≡ result_err (image_of s)
 refusal_there c k s is = rw (← is) refl
 
 pub filled_there : (c : Contained) (k : ℕ) (s : Section) → Some s ≡ section_of c k → filled_at c k ≡ result_unwrap_or (filled_in s) []
 filled_there c k s is = rw (← is) refl
 
--- what holds of a step that was done
+-- a fact of a step that succeeded
 pub on_ok : {A : Type 0} (r : Result A PackFault) {P Q : Type 0} → (P → Q) → OnOk r P → OnOk r Q
 on_ok (Ok x) gives holds = gives holds
 on_ok (Err e) gives holds = tt

@@ -1,4 +1,4 @@
--- What stays of a fragment that is present, over a step behind any list of steps.
+-- A fragment that is present keeps its memory over a step, after any list of steps.
 use Rattle.std.proofs.Common.{◌≡◌, ◌≢◌, ℕ, suc, ◌<◌, ◌==◌, Bool, true, false, List, [], ◌∷◌, ◌++◌, Some, cond, length, refl, sym, ap, subst, ◌∙◌, inl, inr, arith}
 use Rattle.std.proofs.lemmas.Bool.Decides.{eqb_tells}
 use Rattle.cfm_memory.specs.Extents.{given_back, place_at}
@@ -14,7 +14,7 @@ use Rattle.cfm_prepare.specs.Runs.{Keeps, Runs, Step, Takes, closed, prepared}
 use Rattle.cfm_prepare.specs.Steps.{Closes, Prepares}
 use Rattle.cfm_prepare.proofs.RunLemmas.{present-needed}
 
--- what holds of each of some fragments
+-- a fact of each of some fragments
 abbrev pub AllBy : (Present → Type 0) → List Present → Type 0
 AllBy P [] = Unit {0}
 AllBy P (f ∷ fs) = P f × AllBy P fs
@@ -75,7 +75,7 @@ apart-needed : (os : List Open) (fs : List Present) → AreApartAll fs → AreAp
 apart-needed os [] apart = tt
 apart-needed os (f ∷ fs) apart = chosen-apart (is_needed os f.position) f (needed_of os fs) (all-needed (ArePairApart f) os fs apart.0) (apart-needed os fs apart.1)
 
--- those that are kept are apart from those that go
+-- those that are kept are apart from those that are released
 abbrev AreParted : List Present → List Present → Type 0
 AreParted ns us = AllBy (λ h. AllBy (λ g. ArePairApart g h) us) ns
 
@@ -101,7 +101,7 @@ keeps-apart m (g ∷ gs) f apart k under =
 there-kept : (m after : Layout) (f : Present) → IsThere m f → Keeps m after f.places → IsThere after f
 there-kept m after f there keeps k under = ((there k under).0, keeps k under ∙ (there k under).1)
 
--- what holds of a state
+-- the invariant of a state
 pub record IsLaid (s : ContextState) : Type 0 where
   pub there : AllBy (IsThere s.memory) s.present
   pub apart : AreApartAll s.present
@@ -149,7 +149,7 @@ laid-all pairs s t [] laid run = subst IsLaid (sym run) laid
 laid-all pairs s t (prepared name number ∷ steps) laid run = laid-all pairs run.0 t steps (laid-prepare pairs s run.0 name number laid run.1) run.2
 laid-all pairs s t (closed number ∷ steps) laid run = laid-all pairs run.0 t steps (laid-close s run.0 number laid run.1) run.2
 
--- the places of a fragment keep what those of all do
+-- a fact of the places of all fragments is one of those of a fragment
 places-keep : (m after : Layout) (fs : List Present) (p : ℕ) → AllBy (λ f. Keeps m after f.places) fs → Keeps m after (places_of fs p)
 places-keep m after [] p all k under = absurd (omega arith)
 places-keep m after (f ∷ fs) p all k under = elim (eqb_tells f.position p) [

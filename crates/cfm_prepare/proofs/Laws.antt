@@ -1,4 +1,5 @@
--- What this crate offers to the proofs of others: facts of contexts, as `specs/` defines them.
+-- Facts of contexts, as `specs/` defines them, for the proofs of other crates.
 
--- a fragment that is present is prepared with the addresses of now; so is each of a closure that was prepared
+-- a fragment that is present is prepared with the present addresses; so is each of a closure that was
+-- prepared
 pub use Rattle.cfm_prepare.proofs.NowLemmas.{run-now, run-prepares}

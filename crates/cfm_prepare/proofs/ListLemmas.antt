@@ -22,7 +22,7 @@ has-get (q ∷ qs) (suc i) under = has-later q qs (get_or qs i 0) (has-get qs i 
 pub contains-next : (q p : ℕ) (qs : List ℕ) → Contains qs p → Contains (q ∷ qs) p
 contains-next q p qs there = (suc there.0, omega (arith, there.1), there.2)
 
--- what a list has is in it
+-- a number that a list has is in it
 pub has-contains : (ps : List ℕ) (p : ℕ) → has ps p ≡ true → Contains ps p
 has-contains [] p is = absurd (cc)
 has-contains (q ∷ qs) p is = elim (eqb_tells q p) [
@@ -30,13 +30,13 @@ has-contains (q ∷ qs) p is = elim (eqb_tells q p) [
   | inr other ↦ contains-next q p qs (has-contains qs p (ap (λ b. cond b true (has qs p)) (sym other.0) ∙ is))
 ]
 
--- what is in a list, the list has
+-- a number in a list is one that the list has
 pub has-at : (ps : List ℕ) (p : ℕ) → Contains ps p → has ps p ≡ true
 has-at [] p there = absurd (let low = there.1 in omega arith)
 has-at (q ∷ qs) p (zero, low, is) = elim (eqb_tells q p) [ inl same ↦ rw same.0 refl | inr other ↦ (let same : q ≡ p = is in absurd (other.1 same)) ]
 has-at (q ∷ qs) p (suc k, low, is) = elim (eqb_tells q p) [ inl same ↦ rw same.0 refl | inr other ↦ rw other.0 (has-at qs p (k, omega (arith, low), is)) ]
 
--- a list in which all are apart has none twice
+-- a list in which all numbers differ has none twice
 pub once-from-pairs : (xs : List ℕ) → AllPairs (λ p q. p ≢ q) xs → IsOnce xs
 once-from-pairs [] apart = tt
 once-from-pairs (x ∷ xs) apart =
@@ -46,7 +46,7 @@ once-from-pairs (x ∷ xs) apart =
     go true is = let there = has-contains xs x is in absurd (apart 0 (suc there.0) x (omega arith) (let h = there.1 in omega (arith, h)) (sym there.2))
     go false is = refl
 
--- what is pushed where the push isn't refused
+-- the elements that are pushed, unless the push is refused
 pub pushed-ok : {A E T : Type 0} (r : Result A E) (xs ys : List T) → is_err r ≡ false → cond (is_ok r) xs ys ≡ xs
 pushed-ok (Ok x) xs ys is = refl
 pushed-ok (Err e) xs ys is = absurd (cc)

@@ -1,4 +1,5 @@
--- A fragment that is present is prepared as its container says, with the addresses of now, after any list of steps.
+-- A fragment that is present is prepared as its container says, with the present addresses, after any list of
+-- steps.
 use Rattle.std.proofs.Common.{◌≡◌, ℕ, zero, suc, ◌+◌, ◌==◌, ◌%◌, ◌^◌, Bool, true, false, List, [], ◌∷◌, ◌++◌, Option, None, Some, Ok, Err, Contains, cond, refl, sym, ap, ap₂, subst, ◌∙◌, inl, inr}
 use Rattle.std.specs.Prelude.{Result}
 use Rattle.std.specs.Result.{result_unwrap_or}
@@ -80,7 +81,7 @@ module _ (pairs : List Pair) (os : List Open) (are : AreClosed pairs os) (all no
   imports-same p from zero needed = refl
   imports-same p from (suc n) needed = ap₂ (λ (a : ℕ) (rest : List ℕ). a ∷ rest) (import-same p from needed) (imports-same p (from + 1) n needed)
 
-  -- so its sections are prepared to the same
+  -- so its sections are prepared in the same way
   section-same : (f : Present) (k : ℕ) → is_needed os f.position ≡ true → section_of pairs now f k ≡ section_of pairs all f k
   section-same f k needed =
       ap (λ (is : List ℕ). prepared_in pairs (addresses_at f.places is) f.position k) (imports-same f.position 0 (import_count pairs f.position) needed)
@@ -101,7 +102,7 @@ own-present (f ∷ fs) = (
 own-needed : (pairs : List Pair) (s : ContextState) → IsSound pairs s → AllBy (λ f. is_needed s.connections f.position ≡ true) s.present
 own-needed pairs s sound = all-map (λ f. is_present s.present f.position ≡ true) (λ f. is_needed s.connections f.position ≡ true) s.present (λ f is. sym (sound.same f.position) ∙ is) (own-present s.present)
 
--- what holds of a state
+-- the invariant of a state
 abbrev StandsNow : List Pair → Layout → List Present → Present → Type 0
 StandsNow pairs m all f = Stand m f.places (section_of pairs all f)
 
@@ -162,7 +163,7 @@ now-all pairs s t (closed number ∷ steps) now run = now-all pairs run.0 t step
 fresh-now : (pairs : List Pair) (limit : ℕ) → IsNow pairs (fresh_state pairs limit)
 fresh-now pairs limit = record { sound = fresh-sound pairs limit; laid = record { there = tt; apart = tt }; fits = tt; stand = tt }
 
--- what holds of each, holds of the one of a position
+-- a fact of each is one of the fragment with a position
 at-position : (P : ℕ → List Place → Type 0) (fs : List Present) (p : ℕ) → AllBy (λ f. P f.position f.places) fs → is_present fs p ≡ true → P p (places_of fs p)
 at-position P [] p all is = absurd (cc)
 at-position P (f ∷ fs) p all is = elim (eqb_tells f.position p) [

@@ -1,4 +1,4 @@
--- The extents of a container's sections, one behind the other.
+-- The extents of a container's sections, one after the other.
 use Rattle.std.proofs.Common.{◌≡◌, ℕ, zero, suc, ◌+◌, ◌-◌, ◌<◌, List, [], ◌∷◌, ◌++◌, refl, sym, ap, subst, ◌∙◌, inl, length, get_or, arith}
 use Rattle.cfm_memory.specs.Extents.{ArePlaced, Extent, IsPlaceFor, MayNotPlace, place_at}
 use Rattle.cfm_memory.specs.Instances.{Layout}
@@ -10,7 +10,7 @@ use Rattle.cfm_memory.proofs.Laws.{lack-behind, length-placed, no_extent, placed
 use Rattle.pef_views.specs.Container.{Contained}
 use Rattle.cfm_prepare.specs.Images.{extent_at, extents_from, extents_of}
 
--- some extents and those behind them
+-- some extents and those after them
 extents_split : (c : Contained) (from i n : ℕ) → extents_from c from (i + n) ≡ extents_from c from i ++ extents_from c (from + i) n
 extents_split c from zero n =
     let none : zero + n ≡ n = omega arith in

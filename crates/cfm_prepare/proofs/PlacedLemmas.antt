@@ -17,14 +17,14 @@ placed-push pairs m mid after [] f placed new =
     (after, subst P placed new, refl)
 placed-push pairs m mid after (g ∷ fs) f placed new = (placed.0, placed.1, placed-push pairs placed.0 mid after fs f placed.2 new)
 
--- all can be given back
+-- all can be released
 pub placed-back : (pairs : List Pair) (m : Layout) (fs : List Present) (after : Layout) → AllPlaced pairs m fs after → all_given_back after fs ≡ m
 placed-back pairs m [] after placed = placed
 placed-back pairs m (f ∷ fs) after placed =
     all-swap after fs f.places ∙ ap (λ (k : Layout). given_back k f.places) (placed-back pairs placed.0 fs after placed.2)
     ∙ placed_given_back m (extents_in pairs f.position) f.places placed.0 placed.1
 
--- what was there stays
+-- the earlier instances stay
 pub placed-stays : (pairs : List Pair) (m : Layout) (fs : List Present) (after : Layout) (address : ℕ) (bytes : List ℕ) → AllPlaced pairs m fs after
     → bytes_at m.instances address ≡ Some bytes → bytes_at after.instances address ≡ Some bytes
 placed-stays pairs m [] after address bytes placed there = rw placed there

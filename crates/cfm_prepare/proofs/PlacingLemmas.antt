@@ -1,4 +1,4 @@
--- What is placed behind what, and what is refused there.
+-- The order of placement, and the refusals after each placement.
 use Rattle.std.proofs.Common.{◌≡◌, ℕ, List, [], ◌∷◌, ◌++◌, refl, sym, ap, subst, ◌∙◌, inl, inr}
 use Rattle.cfm_memory.specs.Extents.{ArePlaced, LackRoom}
 use Rattle.cfm_memory.specs.Instances.{Layout}
@@ -33,7 +33,7 @@ have-more pairs m mid after there now next new more p places have placed next_is
       placed = placed-push pairs m mid after have.fresh f have.placed placed;
     }
 
--- a fragment that lacks room behind others lacks it among all
+-- a fragment that lacks room after others lacks it among all
 lacks-behind : (pairs : List Pair) (m mid : Layout) (fs : List Present) (p : ℕ) (ps : List ℕ) (name : List ℕ)
     → AllPlaced pairs m fs mid → LackRoom mid (extents_in pairs p) → name ≡ (pair_of pairs p).name → LacksRoom pairs m (positions fs ++ p ∷ ps) name
 lacks-behind pairs m mid [] p ps name placed lack is =

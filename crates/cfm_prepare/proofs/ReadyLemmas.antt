@@ -1,4 +1,5 @@
--- Fragments that stand in memory, each section at an address of its own, when some come and go.
+-- Fragments that are in memory, each section at an address of its own, when some are added and
+-- released.
 use Rattle.std.proofs.Common.{◌≡◌, ◌≢◌, ℕ, suc, ◌+◌, ◌-◌, ◌<◌, List, [], ◌∷◌, ◌++◌, Option, None, Some, length, refl, sym, ap, subst, ◌∙◌, inl, inr, IsTrue, arith}
 use Rattle.std.proofs.lemmas.Bool.{cases_lt}
 use Rattle.std.proofs.lemmas.Bool.Decides.{eqb_tells}
@@ -15,7 +16,7 @@ use Rattle.cfm_prepare.specs.Kept.Ready.{AllApart, AllHeld, AreReady}
 use Rattle.cfm_prepare.proofs.GroupLemmas.{ArePairApart, all-elsewhere, held_same, no_fragment, nowhere, turned}
 use Rattle.cfm_prepare.proofs.PlacedLemmas.{placed-apart, placed-held, placed-new, placed-own, placed-stays}
 
--- what holds of some fragments and of others holds of all
+-- a fact of some fragments and of others is one of all
 each-of : (P : Present → Type 0) (xs ys : List Present) → ((i : ℕ) → i < length xs → P (present_at xs i)) → ((i : ℕ) → i < length ys → P (present_at ys i))
     → (i : ℕ) → i < length (xs ++ ys) → P (present_at (xs ++ ys) i)
 each-of P xs ys left right i under = elim (cases_lt i (length xs)) [
@@ -77,7 +78,7 @@ right-apart xs ys all i j a b under high other =
     pair-of (present_at ys i) (present_at ys j) (present_at (xs ++ ys) (length xs + i)) (present_at (xs ++ ys) (length xs + j)) (sym (at-right xs ys i)) (sym (at-right xs ys j))
     (λ a b. all (length xs + i) (length xs + j) a b (omega (arith, under, length-append xs ys)) (omega (arith, high, length-append xs ys)) (λ e. other (omega (arith, e)))) a b
 
--- what is held has bytes
+-- an instance that is held has bytes
 held-some : (o : Option (List ℕ)) (size : ℕ) → IsTrue (has_length o size) → (bytes : List ℕ) × (o ≡ Some bytes)
 held-some None size held = absurd (cc)
 held-some (Some bytes) size held = (bytes, refl)
@@ -85,7 +86,7 @@ held-some (Some bytes) size held = (bytes, refl)
 bytes-there : (m : Layout) (qs : List Place) (k : ℕ) → AreHeld m qs → k < length qs → (bytes : List ℕ) × (bytes_at m.instances (place_at qs k).address ≡ Some bytes)
 bytes-there m qs k held under = held-some (bytes_at m.instances (place_at qs k).address) (place_at qs k).size (held k nowhere under)
 
--- new fragments behind those that are there
+-- new fragments after those that exist
 pub ready-behind : (pairs : List Pair) (m : Layout) (there fresh : List Present) (after : Layout) → AreReady m there → AllPlaced pairs m fresh after → AreReady after (there ++ fresh)
 ready-behind pairs m there fresh after ready placed = record {
   held = each-of (λ f. AreHeld after f.places) there fresh
@@ -113,7 +114,7 @@ held-rejoined m after there fresh ready held same = record {
   apart = ready.apart;
 }
 
--- one fragment goes
+-- one fragment is released
 pub ready-without : (m : Layout) (xs : List Present) (f : Present) (ys : List Present) → AreReady m (xs ++ f ∷ ys) → AreReady (given_back m f.places) (xs ++ ys)
 ready-without m xs f ys ready = record {
   held = each-of (λ g. AreHeld (given_back m f.places) g.places) xs ys

@@ -1,4 +1,4 @@
--- Fragments that are given back one by one, in any order.
+-- Fragments that are released one by one, in any order.
 use Rattle.std.proofs.Common.{◌≡◌, ◌+◌, ◌<◌, ◌≤◌, ℕ, Bool, true, false, List, [], ◌∷◌, ◌++◌, cond, drop, filter, get_or, length, not, refl, sym, ap, ap₂, subst, ◌∙◌, inl, inr}
 use Rattle.std.proofs.lemmas.Bool.Decides.{eqb_tells}
 use Rattle.std.proofs.lemmas.List.{at_drop_more, drop_all}
@@ -21,7 +21,7 @@ kept-without : (keep : ℕ → Bool) (xs : List Present) (f : Present) (ys : Lis
 kept-without keep [] f ys out = ap (λ b. cond b (f ∷ kept_by keep ys) (kept_by keep ys)) out
 kept-without keep (x ∷ xs) f ys out = ap (λ zs. cond (keep x.position) (x ∷ zs) zs) (kept-without keep xs f ys out)
 
--- and may go first of the others
+-- and may be released first of the others
 gone-first : (keep : ℕ → Bool) (m : Layout) (xs : List Present) (f : Present) (ys : List Present) → keep f.position ≡ false
     → all_given_back m (gone_by keep (xs ++ f ∷ ys)) ≡ all_given_back (given_back m f.places) (gone_by keep (xs ++ ys))
 gone-first keep m [] f ys out = ap (λ b. all_given_back m (cond (not b) (f ∷ gone_by keep ys) (gone_by keep ys))) out
@@ -42,14 +42,14 @@ present-more (x ∷ xs) f ys p there = elim (eqb_tells x.position p) [
   | inr other ↦ (let rest : is_present (xs ++ ys) p ≡ true = rw other.0 at there in rw other.0 (present-more xs f ys p rest))
 ]
 
--- of a list with another number first, the others have it
+-- if another number is first in a list, the others have it
 has-behind : (q : ℕ) (qs : List ℕ) (p : ℕ) → (q ≡ p → true ≡ false) → has (q ∷ qs) p ≡ true → has qs p ≡ true
 has-behind q qs p apart there = elim (eqb_tells q p) [
   | inl same ↦ (let wrong : true ≡ false = apart same.1 in absurd (cc))
   | inr other ↦ ap (λ b. cond b true (has qs p)) (sym other.0) ∙ there
 ]
 
--- what isn't kept is given back, but for some positions that are left
+-- the fragments that aren't kept are released, except for some positions that are left
 pub record AreGiven (keep : ℕ → Bool) (all : List Present) (before : Layout) (now : List Present) (m : Layout) (rest : List ℕ) : Type 0 where
   pub kept : kept_by keep now ≡ kept_by keep all
   pub memory : all_given_back m (gone_by keep now) ≡ all_given_back before (gone_by keep all)
@@ -63,7 +63,7 @@ given-kept keep all now before m q qs stays s = record {
   left = λ p out there. has-behind q qs p (λ e. sym stays ∙ ap keep e ∙ out) (s.left p out there);
 }
 
--- any other is given back, or wasn't there
+-- any other is released, or wasn't there
 pub given-gone : (keep : ℕ → Bool) (all fs now : List Present) (before m after : Layout) (q : ℕ) (qs : List ℕ) → keep q ≡ false → IsGivenBack m fs q after now
     → AreGiven keep all before fs m (q ∷ qs) → AreGiven keep all before now after qs
 given-gone keep all fs now before m after q qs out (inl absent) s =
@@ -86,7 +86,7 @@ given-gone keep all fs now before m after q qs out (inr (places, taken, after_is
           has-behind q qs p (λ e. sym there ∙ ap (is_present now) (sym e) ∙ taken.gone) (s.left p free before_there);
     }
 
--- where none is left, all that are there are kept
+-- if none is left, all that exist are kept
 pub record AreAllKept (keep : ℕ → Bool) (fs : List Present) : Type 0 where
   pub kept : kept_by keep fs ≡ fs
   pub gone : gone_by keep fs ≡ []
@@ -134,7 +134,7 @@ these-gone ps (f ∷ fs) = go (has ps f.position) (these-gone ps fs)
     go true same = ap (λ ys. f ∷ ys) same
     go false same = same
 
--- of fragments with other positions none goes, and of fragments with these all
+-- none of the fragments with other positions is released, and all with these are
 pub others-all : (ps : List ℕ) (xs ys : List Present) → ((p : ℕ) → has ps p ≡ true → is_present xs p ≡ false) → ((p : ℕ) → is_present ys p ≡ true → has ps p ≡ true) → (others_of ps (xs ++ ys) ≡ xs) × (these_of ps (xs ++ ys) ≡ ys)
 others-all ps [] [] out are = (refl, refl)
 others-all ps [] (y ∷ ys) out are =

@@ -1,5 +1,4 @@
--- What holds after any list of steps: the fragments that are present are those of the open connections'
--- closures.
+-- After any list of steps the fragments that are present are those of the open connections' closures.
 use Rattle.std.proofs.Common.{◌≡◌, ℕ, ◌==◌, Bool, true, false, List, [], ◌∷◌, ◌++◌, Ok, cond, refl, sym, ap, subst, ◌∙◌, inl, inr}
 use Rattle.std.proofs.lemmas.Bool.Decides.{eqb_tells}
 use Rattle.cfm_closure.specs.Stores.{Pair}
@@ -74,7 +73,7 @@ present-needed os (f ∷ fs) p =
     choice (is_needed os f.position) f (needed_of os fs) p
     ∙ kept-at (is_needed os f.position) (is_needed os p) f.position p (is_present (needed_of os fs) p) (is_present fs p) (λ is. ap (is_needed os) is) (present-needed os fs p)
 
--- what is needed without a connection is needed with it
+-- a fragment that is needed without a connection is needed with it
 needed-without : (os : List Open) (number p : ℕ) → is_needed (open_without os number) p ≡ true → is_needed os p ≡ true
 needed-without [] number p is = is
 needed-without (o ∷ os) number p is = elim (eqb_tells o.number number) [
@@ -99,7 +98,7 @@ closed-without : (pairs : List Pair) (os : List Open) (number : ℕ) → AreClos
 closed-without pairs [] number are = are
 closed-without pairs (o ∷ os) number are = elim (eqb_tells o.number number) [ inl same ↦ rw same.0 are.1 | inr other ↦ rw other.0 (are.0, closed-without pairs os number are.1) ]
 
--- what holds of a state
+-- the invariant of a state
 pub record IsSound (pairs : List Pair) (s : ContextState) : Type 0 where
   pub store : s.pairs ≡ pairs
   pub closures : AreClosed pairs s.connections

@@ -1,4 +1,4 @@
--- What stands at a place ends below the limit of memory.
+-- An instance at a place ends below the limit of memory.
 use Rattle.std.proofs.Common.{◌≡◌, ℕ, ◌+◌, ◌≤◌, List, [], ◌∷◌, Some, length, cond, sym, ap, ◌∙◌, inl, inr, arith}
 use Rattle.std.proofs.lemmas.Bool.Decides.{eqb_tells}
 use Rattle.cfm_memory.specs.Instances.{Instance, bytes_at}
@@ -11,7 +11,7 @@ ends-below x bytes limit found below =
     let len : length x.bytes ≡ length bytes = ap length (same_Some x.bytes bytes found) in
     omega (arith, len, within_taken (length x.bytes), below)
 
--- an instance ends below the limit of those that it is one of
+-- an instance of a memory ends below its limit
 pub laid-below : (from limit : ℕ) (xs : List Instance) (address : ℕ) (bytes : List ℕ) → IsLaidOut from limit xs → bytes_at xs address ≡ Some bytes → address + length bytes ≤ limit
 laid-below from limit [] address bytes laid is = absurd (cc)
 laid-below from limit (x ∷ xs) address bytes laid is = elim (eqb_tells x.address address) [

@@ -11,7 +11,7 @@ use Rattle.cfm_prepare.specs.Kept.Slots.{AreSlots, IsRemoved, in_slot, in_slots,
 use Rattle.cfm_prepare.specs.declared.slots.Placed.{Placed}
 use Rattle.cfm_prepare.proofs.ListLemmas.{has-first, has-later}
 
--- fragments behind others
+-- fragments after others
 pub present-append : (xs ys : List Present) (p : ℕ) → is_present (xs ++ ys) p ≡ cond (is_present xs p) true (is_present ys p)
 present-append [] ys p = refl
 present-append (x ∷ xs) ys p = go (x.position == p) (present-append xs ys p)
@@ -29,7 +29,7 @@ places-append (x ∷ xs) ys p = go (x.position == p) (places-append xs ys p)
     go true same = refl
     go false same = same
 
--- numbers behind others
+-- numbers after others
 has-append : (ps qs : List ℕ) (p : ℕ) → has (ps ++ qs) p ≡ cond (has ps p) true (has qs p)
 has-append [] qs p = refl
 has-append (q ∷ ps) qs p = go (q == p) (has-append ps qs p)
@@ -58,7 +58,7 @@ has-between : (front back : List ℕ) (p q : ℕ) → has (front ++ p ∷ back) 
 has-between [] back p q = refl
 has-between (r ∷ front) back p q = ap (λ b. cond (r == q) true b) (has-between front back p q) ∙ swapped (r == q) (p == q) (has (front ++ back) q)
 
--- what was between others once isn't among them
+-- a number that was between others once isn't among them
 record IsOut (p : ℕ) (ps : List ℕ) : Type 0 where
   pub gone : has ps p ≡ false
   pub once : IsOnce ps
@@ -121,7 +121,7 @@ not_either true = refl
 not_either false = refl
 
 module _ (slots : List (Option Placed)) (order : List ℕ) (p : ℕ) (f : Placed) (are : AreSlots slots order) (under : p < length slots) where
-  -- a fragment is put behind the others
+  -- a fragment is put after the others
   module _ (absent : has order p ≡ false) where
     pub put-last : in_slots (set slots p (Some f)) (order ++ p ∷ []) ≡ in_slots slots order ++ (record { position = p; places = f.places.items }) ∷ []
     put-last =
@@ -146,7 +146,7 @@ module _ (slots : List (Option Placed)) (order : List ℕ) (p : ℕ) (f : Placed
           | inr other ↦ rw other.0 (not_either (has order q) ∙ are.listed q ∙ ap is_some (sym (get_or-set_other slots p q (Some f) None (λ e. absurd (other.1 (sym e))))))
         ]
 
-  -- a fragment is taken out from between the others
+  -- a fragment is removed from between the others
   module _ (now : List ℕ) (removed : IsRemoved order now p) where
     out : IsOut p (removed.front ++ removed.back)
     out = once-without removed.front removed.back p (subst IsOnce removed.was are.once)

@@ -1,4 +1,4 @@
--- One fragment of some is filled or relocated: what that leaves of the others.
+-- One fragment of some is filled or relocated: the effect on the others.
 use Rattle.std.proofs.Common.{◌≡◌, ◌≢◌, ℕ, suc, ◌+◌, ◌<◌, ◌≤◌, List, [], ◌∷◌, None, All, Contains, length, drop, Option, Err, refl, sym, ap, subst, ◌∙◌, inl, inr, arith}
 use Rattle.std.specs.Option.{option_or}
 use Rattle.std.proofs.lemmas.Bool.{cases_lt}
@@ -36,7 +36,7 @@ done-next m after fs i bytes apart under same done here j low = elim (cases_lt j
       subst P is here)
 ]
 
--- those behind it
+-- those after it
 pub left-next : (m after : Layout) (fs : List Present) (i : ℕ) (bytes : Present → ℕ → List ℕ) → AllApart fs → i < length fs
     → given_back after (present_at fs i).places ≡ given_back m (present_at fs i).places
     → ((j : ℕ) → i ≤ j → j < length fs → Stand m (present_at fs j).places (bytes (present_at fs j)))
@@ -52,7 +52,7 @@ held-next m after fs i apart under same here held j high = elim (eqb_tells i j) 
   | inr other ↦ held_other m after (present_at fs i).places (present_at fs j).places same (λ a b. apart i j a b under high other.1) (held j high)
 ]
 
--- what is refused among those that are left
+-- the refusal among those that are left
 pub image-next : (pairs : List Pair) (fs : List Present) (i : ℕ) → i < length fs → named pairs (present_at fs i).position (image_refusal_in pairs (present_at fs i).position) ≡ None
     → first_bad_image pairs (drop (i + 1) fs) ≡ first_bad_image pairs (drop i fs)
 image-next pairs fs i under unrefused =

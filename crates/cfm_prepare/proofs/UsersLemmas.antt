@@ -11,7 +11,7 @@ use Rattle.std.proofs.lemmas.Option.{same_Some}
 use Rattle.cfm_prepare.specs.Contexts.{Open, is_needed, needed_of, open_of, open_without, unneeded_of}
 use Rattle.cfm_prepare.specs.Kept.Users.{AreUsedBut, CountsMore, CountUsers, count_at, counted, is_used, unused_of, used_of, users_of}
 
--- a fragment is needed where it has users
+-- a fragment is needed if it has users
 needed-one : (b c : Bool) (n : ℕ) → c ≡ nat_lt 0 n → cond b true c ≡ nat_lt 0 (cond b 1 0 + n)
 needed-one true c n is = grind (arith, nat_tests)
 needed-one false c n is = (let plus : n ≡ 0 + n = omega arith in is ∙ ap (nat_lt 0) plus)
@@ -102,19 +102,19 @@ less-first q qs before after v under v_is once more = λ p.
       | inr other ↦ (let there = count-other after q v p (λ e. other.1 (sym e)) in rw other.0 (sym there ∙ more p))
     ]
 
--- an order of none counts nothing
+-- an empty order counts nothing
 pub none-more : (counts : List ℕ) → CountsMore [] counts counts
 none-more counts = λ p. omega arith
 
--- the others of an order have the counts that they had
+-- the others of an order have unchanged counts
 pub still-to-come : (q : ℕ) (qs counts : List ℕ) (v p : ℕ) → has qs q ≡ false → has qs p ≡ true → count_at (set counts q v) p ≡ count_at counts p
 still-to-come q qs counts v p once there = count-other counts q v p (λ e. absurd (let wrong : has qs q ≡ true = rw e at there in cc))
 
--- the users behind one connection less
+-- the users after one connection less
 pub left-count : (os : List Open) (number : ℕ) (o : Open) (before after : List ℕ) → open_of os number ≡ Some o → CountUsers before os → CountsMore o.closed.order after before → CountUsers after (open_without os number)
 left-count os number o before after is counts more = λ p. (let a = counts p in let b = more p in let c = users-without os number o p is in omega (arith, a, b, c))
 
--- and behind one more
+-- and after one more
 pub entered-count : (os : List Open) (o : Open) (before after : List ℕ) → CountUsers before os → CountsMore o.closed.order before after → CountUsers after (os ++ o ∷ [])
 entered-count os o before after counts more = λ p. more p ∙ ap (λ n. n + counted o.closed.order p) (counts p) ∙ sym (users-push os o p)
 
@@ -126,7 +126,7 @@ used-of os number o counts p is users there =
     let one : counted o.closed.order p ≡ 1 = rw there refl in
     omega (arith, a, c, one)
 
--- counts that are as they were are of the same users
+-- unchanged counts are those of the same users
 pub same_users : (before after : List ℕ) (os : List Open) → ((p : ℕ) → count_at after p ≡ count_at before p) → CountUsers before os → CountUsers after os
 same_users before after os same counts = λ p. same p ∙ counts p
 
@@ -138,7 +138,7 @@ used-but before after fs order more used = λ p out there. go (has order p) (cou
     go true a n is some out = refl
     go false a n is some out = absurd (let less : nat_lt 0 a ≡ true = grind (arith, nat_tests, is, some) in (let wrong : true ≡ false = sym less ∙ out in cc))
 
--- what stays has users
+-- a fragment that stays has users
 pub still-used : (counts : List ℕ) (fs : List Present) (p : ℕ) → is_present (used_of counts fs) p ≡ true → 0 < count_at counts p
 still-used counts [] p there = absurd (cc)
 still-used counts (f ∷ fs) p there = go (is_used counts f) refl there (λ here. still-used counts fs p here)

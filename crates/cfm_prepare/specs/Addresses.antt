@@ -14,8 +14,8 @@ use Rattle.cfm_closure.specs.declared.targets.Target.TheVariants.{Absolute, At}
 use Rattle.cfm_prepare.specs.Prepared.{addresses_at}
 use Rattle.cfm_prepare.specs.Fragments.{Present, named, places_of, prepared_in, reloc_refusal_in}
 
--- the address of a target, where fragments lie as they do: 0 where there is no target, a number as it is, or
--- a section's address and the offset in it, modulo 2^32
+-- the address of a target, if fragments have these places: 0 if there is no target, a number itself, or a
+-- section's address plus the offset in it, modulo 2^32
 abbrev pub target_address : List Present → Option Target → ℕ
 target_address all None = 0
 target_address all (Some (Absolute number)) = number
@@ -25,16 +25,16 @@ target_address all (Some (At p section offset)) = ((place_at (places_of all p) s
 abbrev pub import_address : List Pair → List Present → ℕ → ℕ → ℕ
 import_address pairs all p j = target_address all (result_unwrap_or (target_of pairs p j) None)
 
--- the same of n imports from a number on
+-- the same for n imports from a number on
 abbrev pub addresses_from : List Pair → List Present → ℕ → ℕ → ℕ → List ℕ
 addresses_from pairs all p j zero = []
 addresses_from pairs all p j (suc n) = import_address pairs all p j ∷ addresses_from pairs all p (j + 1) n
 
--- what a fragment is relocated with
+-- the addresses that a fragment is relocated with
 abbrev pub addresses_of : List Pair → List Present → Present → Addresses
 addresses_of pairs all f = addresses_at f.places (addresses_from pairs all f.position 0 (import_count pairs f.position))
 
--- section k of a fragment, when all is done
+-- section k of a fragment after relocation
 abbrev pub section_of : List Pair → List Present → Present → ℕ → List ℕ
 section_of pairs all f k = prepared_in pairs (addresses_of pairs all f) f.position k
 

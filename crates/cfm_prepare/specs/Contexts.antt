@@ -14,15 +14,15 @@ use Rattle.cfm_prepare.specs.Lists.{has}
 abbrev pub most_connections : ℕ
 most_connections = 65536
 
--- an open connection: its number, the fragment that was asked for by its place in the store, and the closure
--- of that
+-- an open connection: its number, the requested fragment by its place in the store, and that fragment's
+-- closure
 pub record Open : Type 0 where
   pub number : ℕ
   pub root : ℕ
   pub closed : Closed
 
--- a context: the store and the memory that it is of, how many numbers were given, the open connections, and
--- the fragments that are present
+-- a context: its store and its memory, how many numbers were given, the open connections, and the fragments
+-- that are present
 pub record ContextState : Type 0 where
   pub pairs : List Pair
   pub memory : Layout
@@ -34,16 +34,16 @@ pub record ContextState : Type 0 where
 abbrev pub fresh_state : List Pair → ℕ → ContextState
 fresh_state pairs limit = record { pairs = pairs; memory = no_instances limit; given = 0; connections = []; present = [] }
 
--- a context with one fragment more in its store, behind the others
+-- a context with one fragment more in its store, after the others
 abbrev pub added : ContextState → List ℕ → List ℕ → ContextState
 added s name bytes = record s { pairs = s.pairs ++ (record { name = name; bytes = bytes }) ∷ [] }
 
--- the open connection of a number
+-- the open connection with a number
 abbrev pub open_of : List Open → ℕ → Option Open
 open_of [] number = None
 open_of (o ∷ os) number = if o.number == number then Some o else open_of os number
 
--- the open connections without that of a number
+-- the open connections without the one with a number
 abbrev pub open_without : List Open → ℕ → List Open
 open_without [] number = []
 open_without (o ∷ os) number = if o.number == number then os else o ∷ open_without os number
@@ -53,12 +53,12 @@ abbrev pub is_needed : List Open → ℕ → Bool
 is_needed [] p = false
 is_needed (o ∷ os) p = if has o.closed.order p then true else is_needed os p
 
--- the fragments that an open connection's closure has
+-- the fragments in the closure of an open connection
 abbrev pub needed_of : List Open → List Present → List Present
 needed_of connections [] = []
 needed_of connections (f ∷ fs) = if is_needed connections f.position then f ∷ needed_of connections fs else needed_of connections fs
 
--- those that none has
+-- the fragments in none
 abbrev pub unneeded_of : List Open → List Present → List Present
 unneeded_of connections [] = []
 unneeded_of connections (f ∷ fs) = if is_needed connections f.position then unneeded_of connections fs else f ∷ unneeded_of connections fs

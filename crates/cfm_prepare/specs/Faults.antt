@@ -1,4 +1,4 @@
--- The refusals of contexts, their numbers and their names. Those of closures and of fragments are those of the
+-- The refusals of contexts, with their numbers and names. Those of closures and of fragments are those of the
 -- crates that find them.
 use Rattle.std.specs.Prelude.{ℕ, List, codes}
 use Rattle.cfm_closure.specs.Faults as bind
@@ -32,7 +32,7 @@ close_fault_number BadConnection = 68
 abbrev pub close_fault_name : CloseFault → List ℕ
 close_fault_name BadConnection = codes "BadConnection"
 
--- of a fragment that isn't added. Only a library has such calls, so two of the numbers are from 200 on
+-- for a fragment that isn't added. Only a library has such calls, so two of the numbers are from 200 on
 abbrev pub add_fault_number : AddFault → ℕ
 add_fault_number add.AddedTooLate = 203
 add_fault_number add.StoreFull = 204

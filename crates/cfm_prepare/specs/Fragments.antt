@@ -1,6 +1,6 @@
--- What is prepared of a fragment of a store: what its sections need of memory, what they are filled with, and
--- what its relocation headers make of them (Mac OS Runtime Architectures, "PEF Structure"). Of a fragment that
--- can't be read there is nothing.
+-- How a fragment of a store is prepared: the memory that its sections need, the bytes that they are filled
+-- with, and the effect of its relocation headers (Mac OS Runtime Architectures, "PEF Structure"). A fragment
+-- that can't be read has no sections.
 use Rattle.std.specs.Prelude.{◌≡◌, ◌⊎◌, ℕ, ◌<◌, ◌==◌, Bool, false, true, List, [], ◌∷◌, ◌++◌, Option, None, if◌then◌else◌, length, map, option_map, slice_index_or}
 use Rattle.std.specs.Option.{option_and_then, option_map_or, option_or}
 use Rattle.cfm_memory.specs.Extents.{Extent, Stand, given_back, no_instances}
@@ -35,26 +35,26 @@ present_at fs j = slice_index_or fs j (record { position = 0; places = [] })
 abbrev pub positions : List Present → List ℕ
 positions fs = map (λ (f : Present). f.position) fs
 
--- the sections of the first of some fragments that is of a position; none where there is none
+-- the sections of the first of some fragments with a position; none if there is none
 abbrev pub places_of : List Present → ℕ → List Place
 places_of [] p = []
 places_of (f ∷ fs) p = if f.position == p then f.places else places_of fs p
 
--- the fragment of a position, with the places that it has among some
+-- the fragment with a position, and the places that it has among some
 abbrev pub present_of : List Present → ℕ → Present
 present_of all p = record { position = p; places = places_of all p }
 
--- whether one of some fragments is of a position
+-- whether one of some fragments has a position
 abbrev pub is_present : List Present → ℕ → Bool
 is_present [] p = false
 is_present (f ∷ fs) p = if f.position == p then true else is_present fs p
 
--- those positions of which there is no fragment, in their order
+-- the positions that have no fragment, in their order
 abbrev pub new_among : List Present → List ℕ → List ℕ
 new_among fs [] = []
 new_among fs (p ∷ ps) = if is_present fs p then new_among fs ps else p ∷ new_among fs ps
 
--- what a fragment's sections need of memory, in order
+-- the memory that a fragment's sections need, in order
 abbrev pub extents_in : List Pair → ℕ → List Extent
 extents_in pairs p = option_map_or extents_of (container_at pairs p) []
 
@@ -66,7 +66,7 @@ section_filled pairs p k = option_map_or (λ c. filled_at c k) (container_at pai
 abbrev pub image_refusal_in : List Pair → ℕ → Option PackFault
 image_refusal_in pairs p = option_and_then (λ c. first_image_refusal c c.header.instantiated_section_count) (container_at pairs p)
 
--- section k of a fragment, when it is relocated under some addresses
+-- section k of a fragment, relocated under some addresses
 abbrev pub prepared_in : List Pair → Addresses → ℕ → ℕ → List ℕ
 prepared_in pairs a p k = option_map_or (λ c. option_map_or (λ l. prepared_at c l a k) (loader_at pairs p) []) (container_at pairs p) []
 
@@ -92,7 +92,7 @@ abbrev pub all_given_back : Layout → List Present → Layout
 all_given_back m [] = m
 all_given_back m (f ∷ fs) = all_given_back (given_back m f.places) fs
 
--- the fragment of a position was taken out
+-- the fragment with a position was removed
 pub record IsTaken (fs now : List Present) (p : ℕ) (places : List Place) : Type 0 where
   pub front : List Present
   pub back : List Present
@@ -100,7 +100,7 @@ pub record IsTaken (fs now : List Present) (p : ℕ) (places : List Place) : Typ
   pub is : now ≡ front ++ back
   pub gone : is_present now p ≡ false
 
--- the fragment of a position was given back, or there was none
+-- the fragment with a position was released, or there was none
 abbrev pub IsGivenBack : Layout → List Present → ℕ → Layout → List Present → Type 0
 IsGivenBack m fs p after now =
     ((is_present fs p ≡ false) × (now ≡ fs) × (after ≡ m))

@@ -1,6 +1,6 @@
--- What a container's instantiated sections need of memory, and what they are filled with (Mac OS Runtime
--- Architectures, "PEF Structure", section headers: totalSize, unpackedSize, alignment; section contents;
--- pattern-initialized data).
+-- The memory that a container's instantiated sections need, and the bytes that they are filled with (Mac
+-- OS Runtime Architectures, "PEF Structure", section headers: totalSize, unpackedSize, alignment; section
+-- contents; pattern-initialized data).
 use Rattle.std.specs.Prelude.{ℕ, zero, suc, ◌+◌, List, [], ◌∷◌, Option, Result, Ok, if◌then◌else◌, take}
 use Rattle.std.specs.Option.{option_and_then, option_map_or}
 use Rattle.std.specs.Result.{result_err, result_unwrap_or}
@@ -12,25 +12,25 @@ use Rattle.pef_views.specs.Container.{Contained, Section, section_of}
 use Rattle.pef_words.specs.Bytes.{filled}
 use Rattle.pef_words.specs.Refusals.{first_among, result_map}
 
--- what a section needs of memory: its total length, at its alignment
+-- the memory that a section needs: its total length, at its alignment
 abbrev pub extent_in : Section → Extent
 extent_in s = record { size = s.header.total_size; alignment = s.header.alignment }
 
--- the same of section k of a container
+-- the same for section k of a container
 abbrev pub extent_at : Contained → ℕ → Extent
 extent_at c k = option_map_or extent_in (section_of c k) (record { size = 0; alignment = 0 })
 
--- the same of n sections from a number on
+-- the same for n sections from a number on
 abbrev pub extents_from : Contained → ℕ → ℕ → List Extent
 extents_from c from zero = []
 extents_from c from (suc n) = extent_at c from ∷ extents_from c (from + 1) n
 
--- what a container's instantiated sections need of memory, in the order of their numbers
+-- the memory that a container's instantiated sections need, in the order of their numbers
 abbrev pub extents_of : Contained → List Extent
 extents_of c = extents_from c 0 c.header.instantiated_section_count
 
--- the image of a section: of pattern-initialized data what its raw bytes spell, or why they spell nothing,
--- and else the first of its raw bytes
+-- the image of a section: for pattern-initialized data the bytes that its raw bytes spell, or why they
+-- spell none; otherwise the first of its raw bytes
 unfoldable pub image_of : Section → Result (List ℕ) PackFault
 image_of s =
     if is_packed (kind_of s.header.section_kind) then pattern_text s.raw s.header.unpacked_size
@@ -40,7 +40,7 @@ image_of s =
 abbrev pub filled_in : Section → Result (List ℕ) PackFault
 filled_in s = result_map (λ image. filled image s.header.total_size) (image_of s)
 
--- the same of section k of a container; nothing where that is refused
+-- the same for section k of a container; empty if that is refused
 abbrev pub filled_at : Contained → ℕ → List ℕ
 filled_at c k = option_map_or (λ s. result_unwrap_or (filled_in s) []) (section_of c k) []
 

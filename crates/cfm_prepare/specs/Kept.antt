@@ -1,4 +1,4 @@
--- What the code keeps. Private contracts and proofs speak of it, public ones don't.
+-- Definitions for private contracts and proofs. No public clause cites them.
 pub mod Connections
 pub mod Contexts
 pub mod Ready

@@ -1,5 +1,5 @@
--- What a fragment that is present has in memory (Mac OS Runtime Architectures, "Code Fragment Manager",
--- "Preparing a Fragment").
+-- The memory of a fragment that is present (Mac OS Runtime Architectures, "Code Fragment Manager", "Preparing a
+-- Fragment").
 use Rattle.std.specs.Prelude.{ℕ, List}
 use Rattle.cfm_memory.specs.Extents.{ArePlaced, Stand}
 use Rattle.cfm_memory.specs.Instances.{Layout}
@@ -8,9 +8,9 @@ use Rattle.cfm_prepare.specs.Addresses.{section_of}
 use Rattle.cfm_prepare.specs.Fragments.{extents_in, places_of, present_of}
 use Rattle.cfm_prepare.specs.Contexts.{ContextState}
 
--- a fragment's sections were placed, as its container says, in some memory (in which one, says the preparation that
--- placed them, `Prepares`; and that they stay, the law `kept_fragments`); and in the memory of now each has what it is
--- prepared to, with the addresses that its sections and its imports' targets have now
+-- a fragment's sections were placed, as its container says, in some memory. `Prepares` says in which one, and the law
+-- `kept_fragments` that they stay. In the memory of now each has its prepared bytes, with the addresses that its
+-- sections and its imports' targets have now
 pub record IsPreparedNow (pairs : List Pair) (s : ContextState) (p : ℕ) : Type 0 where
   pub before : Layout
   pub empty : Layout

@@ -1,6 +1,6 @@
--- Where several fragments are placed, and what they become when they are prepared together. That their
+-- Where several fragments are placed, and their memory after they are prepared together. That their
 -- sections are placed in turn, that all are placed before any is filled, and all filled before any is
--- relocated, is this project's own rule.
+-- relocated, are this project's own rules.
 use Rattle.std.specs.Prelude.{◌≡◌, ◌⊎◌, ℕ, List, [], ◌∷◌, ◌++◌, None}
 use Rattle.cfm_memory.specs.Extents.{ArePlaced, LackRoom}
 use Rattle.cfm_memory.specs.Instances.{Layout}
@@ -15,12 +15,12 @@ pub record Fits (pairs : List Pair) (f : Present) : Type 0 where
   pub after : Layout
   pub placed : ArePlaced before (extents_in pairs f.position) f.places after
 
--- fragments were placed in a memory, one behind the other, and it became another
+-- fragments were placed in a memory, one after another, which gave another memory
 abbrev pub AllPlaced : List Pair → Layout → List Present → Layout → Type 0
 AllPlaced pairs m [] after = after ≡ m
 AllPlaced pairs m (f ∷ fs) after = (mid : Layout) × ArePlaced m (extents_in pairs f.position) f.places mid × AllPlaced pairs mid fs after
 
--- of some fragments, the one with a name finds no room behind those before it
+-- the fragment with this name is the one of some that finds no room after those before it
 abbrev pub LacksRoom : List Pair → Layout → List ℕ → List ℕ → Type 0
 LacksRoom pairs m [] name = ⊥
 LacksRoom pairs m (p ∷ ps) name =
@@ -33,7 +33,7 @@ pub record AreNew (pairs : List Pair) (m : Layout) (new : List ℕ) (fresh : Lis
   pub empty : Layout
   pub placed : AllPlaced pairs m fresh empty
 
--- new fragments were prepared in a memory beside those that are there, and it became another: they have new
+-- new fragments were prepared in a memory with those that exist, which gave another memory: they have new
 -- places, and nothing else changed; none is refused; and each section has its prepared memory
 pub record ArePrepared (pairs : List Pair) (there : List Present) (m : Layout) (new : List ℕ) (fresh : List Present) (after : Layout) : Type 0 where
   pub are : AreNew pairs m new fresh

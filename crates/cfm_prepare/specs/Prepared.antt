@@ -1,6 +1,6 @@
--- What a fragment becomes in memory: its instantiated sections, which have some places, are filled, then
--- relocated by its relocation headers, one after the other; and where it is entered (Mac OS Runtime
--- Architectures, "PEF Structure").
+-- A fragment in memory: its instantiated sections, which have some places, are filled, then relocated by
+-- its relocation headers, one after another; and its entry points (Mac OS Runtime Architectures, "PEF
+-- Structure").
 use Rattle.std.specs.Prelude.{ℕ, ◌+◌, ◌%◌, ◌^◌, List, Option, map, option_map}
 use Rattle.cfm_memory.specs.Extents.{place_at}
 use Rattle.cfm_memory.specs.declared.place.Place.{Place}
@@ -19,7 +19,7 @@ addresses_at places imports = record { sections = map (λ p. p.address) places; 
 abbrev pub entry_address : List Place → Option (ℕ × ℕ) → Option ℕ
 entry_address places entry = option_map (λ e. ((place_at places e.0).address + e.1) % 2 ^ 32) entry
 
--- the memory of section k under some addresses: filled, and then what the relocation headers make of it
+-- the memory of section k under some addresses: filled, then relocated by the relocation headers
 abbrev pub prepared_at : Contained → Loaded → Addresses → ℕ → List ℕ
 prepared_at c l a k = (relocated_by a k (reloc_of l) 0 l.header.reloc_count (filled_at c k)).memory
 

@@ -1,5 +1,6 @@
--- What a context tells of its connections: the sections of their roots, where their fragments are entered, and
--- what these export (Mac OS Runtime Architectures, "Code Fragment Manager", "Finding Symbols").
+-- What a context reports about its connections: the sections of their roots, the entry points of their
+-- fragments, and the exports of these (Mac OS Runtime Architectures, "Code Fragment Manager", "Finding
+-- Symbols").
 use Rattle.std.specs.Prelude.{ℕ, List, Option, None, Some, if◌then◌else◌, option_map}
 use Rattle.std.specs.Option.{option_and_then}
 use Rattle.pef_format.specs.declared.export.ExportValue.{ExportValue}
@@ -30,17 +31,17 @@ export_address pairs all p (InSection section offset) = target_address all (Some
 export_address pairs all p (Absolute number) = number
 export_address pairs all p (Reexport import) = import_address pairs all p import
 
--- the address of a fragment's first export of a name
+-- the address of a fragment's first export with a name
 abbrev pub symbol_at : List Pair → List Present → ℕ → List ℕ → Option ℕ
 symbol_at pairs all p name =
     option_map (λ x. export_address pairs all p (value_of x.section x.value))
     (option_and_then (λ l. option_and_then (export_of l) (named_of l name)) (loader_at pairs p))
 
--- the same of a connection's root
+-- the same for a connection's root
 abbrev pub symbol_address : List Present → Open → List ℕ → Option ℕ
 symbol_address all o name = symbol_at o.closed.pairs all o.root name
 
--- and of a fragment that a connection's closure has
+-- and for a fragment that a connection's closure has
 abbrev pub symbol_of : List Present → Open → ℕ → List ℕ → Option ℕ
 symbol_of all o p name = if has o.closed.order p then symbol_at o.closed.pairs all p name else None
 
@@ -53,7 +54,7 @@ section_header_of o p i =
 abbrev pub main_address : List Present → Open → Option ℕ
 main_address all o = entry_address (places_of all o.root) (option_and_then main_of (loader_at o.closed.pairs o.root))
 
--- the addresses at which a fragment is entered
+-- the addresses of a fragment's entry points
 abbrev pub entries_at : List Pair → List Present → ℕ → Entries
 entries_at pairs all p = record {
   init = entry_address (places_of all p) (option_and_then init_of (loader_at pairs p));
@@ -61,6 +62,6 @@ entries_at pairs all p = record {
   term = entry_address (places_of all p) (option_and_then term_of (loader_at pairs p));
 }
 
--- the same, where a connection's closure has the fragment
+-- the same, if a connection's closure has the fragment
 abbrev pub entries_of : List Present → Open → ℕ → Option Entries
 entries_of all o p = if has o.closed.order p then Some (entries_at o.closed.pairs all p) else None

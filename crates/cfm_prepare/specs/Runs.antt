@@ -1,4 +1,4 @@
--- Lists of preparations and closings. Those that are refused change nothing, and so are left out.
+-- Lists of preparations and closings. Refused ones change nothing, and so are left out.
 use Rattle.std.specs.Prelude.{◌≡◌, ℕ, ◌<◌, List, [], ◌∷◌, Ok, length}
 use Rattle.cfm_memory.specs.Extents.{place_at}
 use Rattle.cfm_memory.specs.Instances.{Layout, bytes_at}
@@ -8,7 +8,8 @@ use Rattle.cfm_closure.specs.Closures.{closed_of}
 use Rattle.cfm_prepare.specs.Contexts.{ContextState, Open}
 use Rattle.cfm_prepare.specs.Steps.{Closes, Prepares}
 
--- a fragment was prepared by its name, which gave a number, or the connection of a number was closed
+-- a fragment was prepared by its name, which gave a number, or the connection with a number was
+-- closed
 pub data Step : Type 0 where
   prepared : List ℕ → ℕ → Step
   closed : ℕ → Step

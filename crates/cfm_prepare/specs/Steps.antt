@@ -15,13 +15,13 @@ use Rattle.cfm_prepare.specs.declared.add_fault.AddFault.TheVariants as add
 use Rattle.cfm_prepare.specs.declared.fault.PrepareFault.{PrepareFault}
 use Rattle.cfm_prepare.specs.declared.fault.PrepareFault.TheVariants as fault
 
--- why a fragment isn't added: a connection was given; else the store is full; or memory is refused
+-- why a fragment isn't added: a connection was given; otherwise the store is full; or an allocation fails
 abbrev pub MayNotAdd : ContextState → AddFault → Type 0
 MayNotAdd s add.AddedTooLate = 0 < s.given
 MayNotAdd s add.StoreFull = (s.given ≡ 0) × (most_pairs ≤ length s.pairs)
 MayNotAdd s add.OutOfMemory = (s.given ≡ 0) × (length s.pairs < most_pairs)
 
--- a number is left, and a name has a fragment, in this place
+-- a number is left, and the fragment with a name is in this place
 pub record HasRoot (s : ContextState) (name : List ℕ) : Type 0 where
   pub left : s.given < most_connections
   pub root : ℕ
@@ -53,8 +53,8 @@ pub record IsRefusedLate (s : ContextState) (name : List ℕ) (f : FragmentFault
   pub closure : HasClosure s name
   pub why : MayNotPrepareNew s.pairs s.present s.memory (new_of s closure.closed) f
 
--- why a fragment isn't prepared: all numbers were given; else the name isn't in the store; else it has no
--- closure; else its new fragments aren't prepared. Memory may be refused behind the first two
+-- why a fragment isn't prepared: all numbers were given; otherwise the name isn't in the store; otherwise it
+-- has no closure; otherwise its new fragments can't be prepared. An allocation may fail after the first two
 abbrev pub MayNotPrepare : ContextState → List ℕ → PrepareFault → Type 0
 MayNotPrepare s name fault.TooManyConnections = most_connections ≤ s.given
 MayNotPrepare s name fault.RootMissing = (s.given < most_connections) × (place_of s.pairs name ≡ None)
@@ -62,7 +62,7 @@ MayNotPrepare s name (fault.Bind f) = (has : HasRoot s name) × FailsAs f (close
 MayNotPrepare s name (fault.Fragment f) = IsRefusedLate s name f
 MayNotPrepare s name fault.OutOfMemory = HasRoot s name
 
--- an open connection is closed: the fragments that no other connection's closure has are given back
+-- an open connection is closed: the fragments that no other connection's closure has are released
 pub record Closes (s : ContextState) (number : ℕ) (t : ContextState) : Type 0 where
   pub closed : Open
   pub was : open_of s.connections number ≡ Some closed

@@ -4,21 +4,21 @@ ghost use Rattle.cfm_prepare.specs.Faults.{add_fault_name, add_fault_number};
 use std::fmt;
 use thiserror::Error;
 
-/// Why a fragment isn't added to a context. Its text is its name.
+/// Why a fragment isn't added to a context. The text is the refusal's name.
 #[derive(Clone, Copy, Debug, PartialEq, Eq, Error)]
 pub enum AddFault {
     /// A connection was already given.
     AddedTooLate,
 
-    /// The store has as many fragments as it may.
+    /// The store has as many fragments as it may have.
     StoreFull,
 
-    /// The machine refused memory.
+    /// An allocation failed.
     OutOfMemory,
 }
 
 impl AddFault {
-    /// The refusal's number.
+    /// Returns the refusal's number.
     pub fn number(&self) -> u32
         ensures { result ≡ add_fault_number self.now }
     {
@@ -29,7 +29,7 @@ impl AddFault {
         }
     }
 
-    /// The refusal's name, which is its text.
+    /// Returns the refusal's name, which is its text.
     pub fn name(&self) -> &'static str
         ensures { result.now ≡ add_fault_name self.now }
     {

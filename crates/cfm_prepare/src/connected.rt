@@ -67,14 +67,14 @@ impl<'a> Connected<'a> {
         &self.closure
     }
 
-    /// The address of the root's first export of a name.
+    /// Returns the address of the root's first export of a name.
     pub fn root_symbol(&self, fragments: &Fragments, name: &[u8]) -> Option<u32>
         ensures { result ≡ symbol_address fragments.now.present self.now name.now }
     {
         self.symbol_at(fragments, self.root, name)
     }
 
-    /// The address of the first export of a name, of a fragment of the closure.
+    /// Returns the address of the first export of a name, of a fragment of the closure.
     pub fn symbol(&self, fragments: &Fragments, position: usize, name: &[u8]) -> Option<u32>
         ensures { result ≡ symbol_of fragments.now.present self.now position name.now }
     {
@@ -84,7 +84,7 @@ impl<'a> Connected<'a> {
         self.symbol_at(fragments, position, name)
     }
 
-    /// The same of a fragment that the closure has.
+    /// Returns the same for a fragment of the closure.
     #[tactic(auto, unfolding(crate::specs::Readers::symbol_at))]
     fn symbol_at(&self, fragments: &Fragments, position: usize, name: &[u8]) -> Option<u32>
         requires { Contains self.now.closed.order position }
@@ -96,7 +96,7 @@ impl<'a> Connected<'a> {
         Some(self.export_address(fragments, position, &loader, export.value()))
     }
 
-    /// The address of an export of a fragment that the closure has.
+    /// Returns the address of an export of a fragment that the closure has.
     fn export_address(
         &self,
         fragments: &Fragments,
@@ -122,7 +122,7 @@ impl<'a> Connected<'a> {
         }
     }
 
-    /// The header of section `i` in the container of a fragment of the closure.
+    /// Returns the header of section `i` in the container of a fragment of the closure.
     pub fn section_header(&self, position: usize, i: usize) -> Option<SectionHeader>
         ensures { result ≡ section_header_of self.now position i }
     {
@@ -133,7 +133,7 @@ impl<'a> Connected<'a> {
         Some(section.header)
     }
 
-    /// The address of the root's main entry.
+    /// Returns the address of the root's main entry.
     pub fn main(&self, fragments: &Fragments) -> Option<u32>
         ensures { result ≡ main_address fragments.now.present self.now }
     {
@@ -141,7 +141,7 @@ impl<'a> Connected<'a> {
         find_entries(&loader, fragments.places(self.root)).main
     }
 
-    /// The addresses at which a fragment of the closure is entered.
+    /// Returns the addresses of the entry points of a fragment of the closure.
     pub fn entries(&self, fragments: &Fragments, position: usize) -> Option<Entries>
         ensures { result ≡ entries_of fragments.now.present self.now position }
     {
@@ -153,7 +153,7 @@ impl<'a> Connected<'a> {
     }
 }
 
-/// Whether a list has a number.
+/// Returns whether a list has a number.
 fn has(numbers: &[usize], number: usize) -> bool
     ensures { result ≡ has numbers.now number }
 {

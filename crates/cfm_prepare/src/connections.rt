@@ -10,7 +10,7 @@ use std::marker::Model;
 /// The open connections of a context, each in the slot of its number.
 #[derive(Drop)]
 pub(crate) struct Connections<'a> {
-    /// A slot for each number that was given; empty where the connection was closed.
+    /// A slot for each number that was given, empty if the connection was closed.
     slots: Vec<Option<Connected<'a>>>,
 }
 
@@ -26,7 +26,7 @@ impl<'a> Model for Connections<'a> {
 }
 
 impl<'a> Connections<'a> {
-    /// No connections. Nothing is allocated yet.
+    /// Returns no connections. Nothing is allocated yet.
     pub fn new(alloc: Global) -> Connections<'a>
         ensures none { result.items ≡ [] }
         ensures given { result.given ≡ 0 }
@@ -36,21 +36,21 @@ impl<'a> Connections<'a> {
         }
     }
 
-    /// How many numbers were given, which is the next one.
+    /// Returns how many numbers were given. That is the next number.
     pub fn given(&self) -> usize
         ensures { result ≡ self.now.given }
     {
         self.slots.len()
     }
 
-    /// The connection of a number.
+    /// Returns the connection with a number.
     pub fn get(&self, number: u32) -> Option<&Connected<'a>>
         ensures { option_copied result ≡ open_of self.now.items number }
     {
         slot(&self.slots, number as usize)
     }
 
-    /// Makes room for one connection more.
+    /// Makes room for one more connection.
     pub fn reserve(&mut self) -> Result<(), AllocError>
         ensures room { OnOk result (0 < self.new.left) }
         ensures items { self.new.items ≡ self.old.items }
@@ -60,7 +60,7 @@ impl<'a> Connections<'a> {
         Ok(())
     }
 
-    /// Puts a connection behind the others, in the slot of its number.
+    /// Puts a connection after the others, in the slot of its number.
     pub fn push(&mut self, connected: Connected<'a>)
         requires room { 0 < self.old.left }
         requires number { connected.number ≡ self.old.given }
@@ -72,7 +72,7 @@ impl<'a> Connections<'a> {
         }
     }
 
-    /// Takes out the connection of a number.
+    /// Removes the connection with a number, and returns it.
     pub fn remove(&mut self, number: u32) -> Option<Connected<'a>>
         ensures taken { result ≡ open_of self.old.items number }
         ensures items { self.new.items ≡ open_without self.old.items number }

@@ -23,14 +23,14 @@ use std::marker::Model;
 /// How many connections a context gives in all.
 const MOST_CONNECTIONS: usize = 65_536;
 
-/// A connection to a fragment that was prepared, by its number. No number comes twice in a context.
+/// A connection to a fragment that was prepared, by its number. A context gives each number once.
 #[derive(Clone, Copy, Debug, PartialEq, Eq)]
 pub struct Connection(pub u32);
 
 /// Fragments in one memory, which are prepared and shared as connections need them.
 ///
-/// A fragment is present exactly where the closure of an open connection has it. While it is present it
-/// keeps its addresses.
+/// A fragment is present exactly if the closure of an open connection has it. While it is present its
+/// addresses don't change.
 #[derive(Drop)]
 pub struct Context<'a> {
     alloc: Global,
@@ -54,8 +54,8 @@ impl<'a> Model for Context<'a> {
 }
 
 impl<'a> Context<'a> {
-    /// A context over the fragments of a store, in which nothing is prepared. No section may pass the
-    /// address `limit`. Nothing is allocated yet.
+    /// Returns a context over the fragments of a store, in which nothing is prepared. No section may exceed
+    /// the address `limit`. Nothing is allocated yet.
     pub fn new(alloc: Global, store: Store<'a>, limit: u32) -> Context<'a>
         ensures { result ≡ fresh_state store.entry limit }
     {
@@ -68,12 +68,12 @@ impl<'a> Context<'a> {
         }
     }
 
-    /// Adds a fragment to the store. Its name may be there already: the first fragment of a name counts.
+    /// Adds a fragment to the store. If several fragments have the same name, the first is used.
     ///
     /// # Errors
     ///
-    /// `AddedTooLate` if a connection was ever given; else `StoreFull` if the store is full; or
-    /// `OutOfMemory`. The context is then as it was.
+    /// `AddedTooLate` if a connection was ever given; otherwise `StoreFull` if the store is full; or
+    /// `OutOfMemory`. The context is then unchanged.
     pub fn add(&mut self, name: &'a [u8], bytes: &'a [u8]) -> Result<(), AddFault>
         ensures added { OnOk result ((self.old.given ≡ 0) × (self.new ≡ added self.old name.now bytes.now)) }
         ensures refused { IfErr result (λ fault. MayNotAdd self.old fault) }
@@ -91,14 +91,14 @@ impl<'a> Context<'a> {
         }
     }
 
-    /// Opens a connection to the fragment of a name: the fragments of its closure that aren't present are
+    /// Opens a connection to the fragment with a name: the fragments of its closure that aren't present are
     /// placed, filled and relocated.
     ///
     /// # Errors
     ///
-    /// `TooManyConnections` where all numbers were given; else `RootMissing` where the store has no such
-    /// name; else the first refusal of the closure, of placement, of the images, of the relocation
-    /// headers, in this order; or `OutOfMemory`. The context is then as it was.
+    /// `TooManyConnections` if all numbers were given; otherwise `RootMissing` if the store has no fragment
+    /// with this name; otherwise the first refusal of the closure, of placement, of the images, or of the
+    /// relocation headers, in this order; or `OutOfMemory`. The context is then unchanged.
     pub fn prepare(&mut self, name: &[u8]) -> Result<Connection, PrepareFault<'a>>
         ensures prepared { IfOk result (λ connection. Prepares self.old name.now connection.0 self.new) }
         ensures refused { IfErr result (λ fault. MayNotPrepare self.old name.now fault) }
@@ -132,11 +132,11 @@ impl<'a> Context<'a> {
         Ok(Connection(number))
     }
 
-    /// Closes a connection: the fragments that no other open connection needs are given back.
+    /// Closes a connection, and releases the fragments that no other open connection needs.
     ///
     /// # Errors
     ///
-    /// `BadConnection` where no open connection has this number. The context is then as it was.
+    /// `BadConnection` if no open connection has this number. The context is then unchanged.
     pub fn close(&mut self, connection: Connection) -> Result<(), CloseFault>
         ensures closed { OnOk result (Closes self.old connection.0 self.new) }
         ensures refused { OnErr result (open_of self.old.connections connection.0 ≡ None) }
@@ -151,8 +151,8 @@ impl<'a> Context<'a> {
         Ok(())
     }
 
-    /// The address of the first export of a name, of the fragment that a connection was opened to. `None`
-    /// where there is none, or the connection isn't open.
+    /// Returns the address of the first export with a name, of the fragment that a connection was opened to.
+    /// `None` if there is none, or the connection isn't open.
     pub fn symbol(&self, connection: Connection, name: &[u8]) -> Option<u32>
         ensures { result ≡ option_and_then (λ o. symbol_address self.now.present o name.now) (open_of self.now.connections connection.0) }
     {
@@ -160,7 +160,7 @@ impl<'a> Context<'a> {
         connected.root_symbol(&self.fragments, name)
     }
 
-    /// The address and the bytes of section `i` of the fragment that a connection was opened to.
+    /// Returns the address and the bytes of section `i` of the fragment that a connection was opened to.
     pub fn section(&self, connection: Connection, i: usize) -> Option<(u32, &[u8])>
         ensures { option_map section_seen result ≡ root_section self.now connection.0 i }
     {
@@ -168,7 +168,7 @@ impl<'a> Context<'a> {
         self.fragment_section(connected.root(), i)
     }
 
-    /// The address of the main entry of the fragment that a connection was opened to.
+    /// Returns the address of the main entry of the fragment that a connection was opened to.
     pub fn main(&self, connection: Connection) -> Option<u32>
         ensures { result ≡ option_and_then (λ o. main_address self.now.present o) (open_of self.now.connections connection.0) }
     {
@@ -176,8 +176,8 @@ impl<'a> Context<'a> {
         connected.main(&self.fragments)
     }
 
-    /// The fragments of a connection's closure in the order of their initialization, by their places in
-    /// the store.
+    /// Returns the fragments of a connection's closure in the order of their initialization, by their places
+    /// in the store.
     pub fn init_order(&self, connection: Connection) -> Option<&[usize]>
         ensures { option_copied result ≡ option_map (λ o. o.closed.init_order) (open_of self.now.connections connection.0) }
     {
@@ -185,7 +185,7 @@ impl<'a> Context<'a> {
         Some(connected.closure().init_order())
     }
 
-    /// The fragments of a connection's closure in closure order, by their places in the store.
+    /// Returns the fragments of a connection's closure in closure order, by their places in the store.
     pub fn fragments(&self, connection: Connection) -> Option<&[usize]>
         ensures { option_copied result ≡ option_map (λ o. o.closed.order) (open_of self.now.connections connection.0) }
     {
@@ -193,7 +193,7 @@ impl<'a> Context<'a> {
         Some(connected.closure().order())
     }
 
-    /// The address and the bytes of section `i` of the fragment in a place of the store. `None` where the
+    /// Returns the address and the bytes of section `i` of the fragment in a place of the store. `None` if the
     /// fragment isn't present, or has no such section.
     pub fn fragment_section(&self, position: usize, i: usize) -> Option<(u32, &[u8])>
         ensures section { option_map section_seen result ≡ section_present self.now.memory self.now.present position i }
@@ -202,15 +202,16 @@ impl<'a> Context<'a> {
         self.fragments.section(position, i)
     }
 
-    /// How many instantiated sections the fragment in a place of the store has; none where it isn't present.
+    /// Returns how many instantiated sections the fragment in a place of the store has, or 0 if it isn't
+    /// present.
     pub fn section_count(&self, position: usize) -> usize
         ensures { result ≡ length (places_of self.now.present position) }
     {
         self.fragments.places(position).len()
     }
 
-    /// The addresses at which a fragment of a connection's closure is entered, given by its place in the
-    /// store. `None` where the closure lacks the fragment, or the connection isn't open.
+    /// Returns the addresses of the entry points of a fragment of a connection's closure, given by its place
+    /// in the store. `None` if the closure lacks the fragment, or the connection isn't open.
     pub fn fragment_entries(&self, connection: Connection, position: usize) -> Option<Entries>
         ensures { result ≡ option_and_then (λ o. entries_of self.now.present o position) (open_of self.now.connections connection.0) }
     {
@@ -218,8 +219,9 @@ impl<'a> Context<'a> {
         connected.entries(&self.fragments, position)
     }
 
-    /// The address of the first export of a name, of a fragment of a connection's closure, given by its place
-    /// in the store. `None` where there is none, the closure lacks the fragment, or the connection isn't open.
+    /// Returns the address of the first export with a name, of a fragment of a connection's closure, given by
+    /// its place in the store. `None` if there is none, the closure lacks the fragment, or the connection
+    /// isn't open.
     pub fn fragment_symbol(
         &self,
         connection: Connection,
@@ -232,9 +234,9 @@ impl<'a> Context<'a> {
         connected.symbol(&self.fragments, position, name)
     }
 
-    /// The header of section `i` in the container of a fragment of a connection's closure, given by its place
-    /// in the store. `None` past the last section, where the closure lacks the fragment, or the connection
-    /// isn't open.
+    /// Returns the header of section `i` in the container of a fragment of a connection's closure, given by
+    /// its place in the store. `None` past the last section, if the closure lacks the fragment, or the
+    /// connection isn't open.
     pub fn fragment_section_header(
         &self,
         connection: Connection,
@@ -247,7 +249,7 @@ impl<'a> Context<'a> {
         connected.section_header(position, i)
     }
 
-    /// The name of the fragment in a place of the store. `None` past the last place.
+    /// Returns the name of the fragment in a place of the store. `None` past the last place.
     pub fn name(&self, position: usize) -> Option<&'a [u8]>
         ensures { option_map (λ n. n.now) result ≡ option_map (λ p. p.name) (slice_get self.now.pairs position) }
     {

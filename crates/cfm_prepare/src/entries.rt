@@ -7,7 +7,7 @@ use crate::places::section_address;
 use cfm_memory::Place;
 use pef_loader::Loader;
 
-/// The addresses at which a fragment is entered, of those entries that are there.
+/// The addresses of a fragment's entry points, as far as it has them.
 #[derive(Clone, Copy, Debug, PartialEq, Eq)]
 pub struct Entries {
     pub init: Option<u32>,
@@ -15,7 +15,8 @@ pub struct Entries {
     pub term: Option<u32>,
 }
 
-/// The addresses of a loader section's entries, of a fragment whose sections have these places.
+/// Returns the addresses of a loader section's entry points, in a fragment whose sections have
+/// these places.
 pub(crate) fn find_entries(loader: &Loader<'_>, places: &[Place]) -> Entries
     ensures init { result.init ≡ entry_address places.now (init_of (loaded loader.now)) }
     ensures main { result.main ≡ entry_address places.now (main_of (loaded loader.now)) }
@@ -28,7 +29,7 @@ pub(crate) fn find_entries(loader: &Loader<'_>, places: &[Place]) -> Entries
     }
 }
 
-/// The address of an entry, given by its section and the offset in it.
+/// Returns the address of an entry, given by its section and the offset in it.
 fn entry_address(places: &[Place], entry: Option<(u32, u32)>) -> Option<u32>
     ensures { result ≡ entry_address places.now entry }
 {

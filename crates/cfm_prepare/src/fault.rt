@@ -7,27 +7,28 @@ use std::alloc::{AllocError, AllocFailed};
 use std::fmt;
 use thiserror::Error;
 
-/// Why a fragment isn't prepared. Its text is its name.
+/// Why a fragment isn't prepared. The text is the refusal's name.
 #[derive(Clone, Copy, Debug, PartialEq, Eq, Error)]
 pub enum PrepareFault<'a> {
     /// All numbers of connections were given.
     TooManyConnections,
 
-    /// The store has no fragment of that name.
+    /// The store has no fragment with this name.
     RootMissing,
 
     /// The fragment has no closure.
     Bind(BindFault<'a>),
 
-    /// The new fragments of the closure aren't prepared.
+    /// The new fragments of the closure can't be prepared.
     Fragment(FragmentFault<'a>),
 
-    /// The machine refused memory.
+    /// An allocation failed.
     OutOfMemory,
 }
 
 impl<'a> PrepareFault<'a> {
-    /// The refusal's number: 69, 60, that of the closure's or of a fragment's refusal, or 99.
+    /// Returns the refusal's number: 69, 60, that of the closure's or of a fragment's refusal, or
+    /// 99.
     pub fn number(&self) -> u32
         ensures { result ≡ fault_number self.now }
     {
@@ -40,7 +41,7 @@ impl<'a> PrepareFault<'a> {
         }
     }
 
-    /// The refusal's name, which is its text.
+    /// Returns the refusal's name, which is its text.
     pub fn name(&self) -> &'static str
         ensures { result.now ≡ fault_name self.now }
     {
@@ -109,7 +110,7 @@ impl<'a, T: Drop> From<AllocFailed<T>> for PrepareFault<'a> {
     }
 }
 
-/// Why a connection isn't closed. Its text is its name.
+/// Why a connection isn't closed. The text is the refusal's name.
 #[derive(Clone, Copy, Debug, PartialEq, Eq, Error)]
 pub enum CloseFault {
     /// No open connection has this number.
@@ -117,7 +118,7 @@ pub enum CloseFault {
 }
 
 impl CloseFault {
-    /// The refusal's number.
+    /// Returns the refusal's number.
     pub fn number(&self) -> u32
         ensures { result ≡ close_fault_number self.now }
     {
@@ -126,7 +127,7 @@ impl CloseFault {
         }
     }
 
-    /// The refusal's name, which is its text.
+    /// Returns the refusal's name, which is its text.
     pub fn name(&self) -> &'static str
         ensures { result.now ≡ close_fault_name self.now }
     {

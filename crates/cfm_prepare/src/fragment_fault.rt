@@ -7,8 +7,8 @@ use std::alloc::{AllocError, AllocFailed};
 use std::fmt;
 use thiserror::Error;
 
-/// Why the new fragments of a closure aren't prepared. Its text is its name; `fragment` is the name of the
-/// fragment that is refused.
+/// Why the new fragments of a closure aren't prepared. The text is the refusal's name. `fragment` is the
+/// name of the fragment that is refused.
 #[derive(Clone, Copy, Debug, PartialEq, Eq, Error)]
 pub enum FragmentFault<'a> {
     /// A section finds no room in memory.
@@ -22,18 +22,18 @@ pub enum FragmentFault<'a> {
         fault: PackFault,
     },
 
-    /// A relocation program is no program, or can't be applied.
+    /// A relocation program isn't readable, or can't be applied.
     Reloc {
         fragment: &'a [u8],
         fault: RelocFault,
     },
 
-    /// The machine refused memory.
+    /// An allocation failed.
     OutOfMemory,
 }
 
 impl<'a> FragmentFault<'a> {
-    /// The refusal's number: 67, 21 to 25, 31 to 39, or 99.
+    /// Returns the refusal's number: 67, 21 to 25, 31 to 39, or 99.
     pub fn number(&self) -> u32
         ensures { result ≡ fault_number self.now }
     {
@@ -45,7 +45,7 @@ impl<'a> FragmentFault<'a> {
         }
     }
 
-    /// The refusal's name, which is its text.
+    /// Returns the refusal's name, which is its text.
     pub fn name(&self) -> &'static str
         ensures { result.now ≡ fault_name self.now }
     {

@@ -37,7 +37,7 @@ impl Model for Fragments {
 }
 
 impl Fragments {
-    /// No fragments. No section of one may pass the address `limit`. Nothing is allocated yet.
+    /// Returns no fragments. No section of one may exceed the address `limit`. Nothing is allocated yet.
     pub fn new(alloc: Global, limit: u32) -> Fragments
         ensures { result ≡ none_present limit }
     {
@@ -53,8 +53,8 @@ impl Fragments {
     ///
     /// # Errors
     ///
-    /// The first refusal of placement, of the images, of the relocation headers, in this order; or
-    /// `OutOfMemory`. What is present is then as it was.
+    /// The first refusal of placement, of the images, or of the relocation headers, in this order; or
+    /// `OutOfMemory`. The fragments that were present are then unchanged.
     pub fn prepare<'a>(&mut self, closure: &Closure<'a>) -> Result<(), FragmentFault<'a>>
         requires { IsOnce closure.now.order }
         ensures prepared { OnOk result ((fresh : List Present) × (self.new.present ≡ self.old.present ++ fresh) × ArePrepared closure.now.pairs self.old.present self.old.memory (new_among self.old.present closure.now.order) fresh self.new.memory) }
@@ -71,22 +71,22 @@ impl Fragments {
         )
     }
 
-    /// Gives back the fragment in a place of the store, where it is present.
+    /// Releases the fragment in a place of the store, if it is present.
     pub fn give_back(&mut self, position: usize)
         ensures { IsGivenBack self.old.memory self.old.present position self.new.memory self.new.present }
     {
         give_back_fragment(&mut self.memory, &mut self.present, position);
     }
 
-    /// Where the instantiated sections of the fragment in a place of the store lie, in their order; none where
-    /// it isn't present.
+    /// Returns where the instantiated sections of the fragment in a place of the store lie, in their order;
+    /// none if it isn't present.
     pub fn places(&self, position: usize) -> &[Place]
         ensures { result.now ≡ places_of self.now.present position }
     {
         self.present.places(position)
     }
 
-    /// The address and the bytes of section `i` of the fragment in a place of the store. `None` where the
+    /// Returns the address and the bytes of section `i` of the fragment in a place of the store. `None` if the
     /// fragment isn't present, or has no such section.
     pub fn section(&self, position: usize, i: usize) -> Option<(u32, &[u8])>
         ensures section { option_map section_seen result ≡ section_present self.now.memory self.now.present position i }
@@ -96,7 +96,7 @@ impl Fragments {
         Some((place.address, self.memory.part(place)))
     }
 
-    /// The address of a target: 0 where there is none.
+    /// Returns the address of a target, or 0 if there is none.
     pub fn target_address(&self, target: Option<Target>) -> u32
         ensures { result ≡ target_address self.now.present target }
     {

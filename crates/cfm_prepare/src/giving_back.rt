@@ -6,7 +6,7 @@ use crate::places::give_back;
 use crate::slots::Slots;
 use cfm_memory::Memory;
 
-/// Gives back the fragments in some places of the store, where they are present.
+/// Releases the fragments in some places of the store, if they are present.
 pub(crate) fn give_back_all(memory: &mut Memory, present: &mut Slots, positions: &[usize])
     requires ready { AreReady memory.old present.old.items }
     ensures present { present.new.items ≡ others_of positions.now present.old.items }
@@ -17,7 +17,7 @@ pub(crate) fn give_back_all(memory: &mut Memory, present: &mut Slots, positions:
     }
 }
 
-/// Gives back the fragment in a place of the store, where it is present.
+/// Releases the fragment in a place of the store, if it is present.
 pub(crate) fn give_back_fragment(memory: &mut Memory, present: &mut Slots, position: usize)
     requires ready { AreReady memory.old present.old.items }
     ensures back { IsGivenBack memory.old present.old.items position memory.new present.new.items }

@@ -14,13 +14,13 @@ use pef_views::{Container, SectionView};
 /// Fills the sections at some places, all zeros, with their images, in order, up to the first that is
 /// refused. `places` are those of a container's first instantiated sections.
 ///
-/// Of pattern-initialized data the image is expanded, of other kinds it is copied, in both cases straight
-/// into the section's memory.
+/// The image of pattern-initialized data is expanded, and that of other kinds is copied, in both cases
+/// directly into the section's memory.
 ///
 /// # Errors
 ///
 /// The refusal of the first section of pattern-initialized data that has one. The sections up to that one
-/// then have any bytes; nothing is given back.
+/// then have unspecified bytes. None is released.
 pub(crate) fn fill_sections(
     memory: &mut Memory,
     places: &[Place],
@@ -63,7 +63,7 @@ fn fill_section(
     fill(part, section)
 }
 
-/// Puts a section's image at the front of some memory.
+/// Writes a section's image to the front of some memory.
 #[tactic(auto, unfolding(crate::specs::Images::image_of))]
 fn fill(memory: &mut [u8], section: &SectionView<'_>) -> Result<(), PackFault>
     requires section { IsInstantiable (seen section.now) }

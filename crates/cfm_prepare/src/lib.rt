@@ -1,13 +1,13 @@
 //! Contexts: fragments that are prepared in one memory, shared by the connections that need them, and
-//! given back when the last of these is closed.
+//! released when the last of these is closed.
 //!
 //! The new fragments of a closure take each of three steps together: their sections are placed, filled with
-//! their images, and relocated. Where one is refused, what was placed is given back.
+//! their images, and relocated. If one is refused, all that were placed are released.
 //!
-//! What a section's image is, and what relocation does to it, is the format's (Mac OS Runtime Architectures,
-//! "PEF Structure"). That fragments are shared is the Code Fragment Manager's rule ("Code Fragment Manager").
-//! Where sections lie, how connections are numbered, and which of several refusals comes first, is this
-//! project's own.
+//! A section's image, and the effect of relocation on it, are those of the format (Mac OS Runtime
+//! Architectures, "PEF Structure"). That fragments are shared is the Code Fragment Manager's rule ("Code
+//! Fragment Manager"). Where sections lie, how connections are numbered, and which of several refusals comes
+//! first, are this project's own.
 #![tactic(auto)]
 
 mod add_fault;

@@ -14,8 +14,8 @@ use std::alloc::Global;
 ///
 /// # Errors
 ///
-/// `NoRoom` where a section finds no room behind those before it, and `OutOfMemory` where the machine
-/// refuses memory. The memory is then as it was: what was placed is given back.
+/// `NoRoom` if a section finds no room after those before it, and `OutOfMemory` if an allocation fails.
+/// The memory is then unchanged: the sections that were placed are released.
 pub(crate) fn place_sections(
     alloc: Global,
     memory: &mut Memory,
@@ -57,7 +57,7 @@ fn place_each(
     Ok(())
 }
 
-/// Appends the place of an instance. Where the machine refuses memory for it, the instance is given back.
+/// Appends the place of an instance. If an allocation fails, the instance is released.
 fn keep(memory: &mut Memory, places: &mut Vec<Place>, place: Place) -> Result<(), MemoryFault>
     requires { IsTrue (holds_place memory.old place) }
     ensures kept { OnOk result ((memory.new ≡ memory.old) × (places.new.items ≡ places.old.items ++ place ∷ [])) }
@@ -73,7 +73,7 @@ fn keep(memory: &mut Memory, places: &mut Vec<Place>, place: Place) -> Result<()
     }
 }
 
-/// Gives back the instances at some places, whatever was written to them.
+/// Releases the instances at some places, whatever was written to them.
 pub(crate) fn give_back(memory: &mut Memory, places: &[Place])
     requires held { AreHeld memory.old places.now }
     requires apart { AreApart places.now }
@@ -84,11 +84,11 @@ pub(crate) fn give_back(memory: &mut Memory, places: &[Place])
     }
 }
 
-/// The addresses of some places, in order.
+/// Returns the addresses of some places, in order.
 ///
 /// # Errors
 ///
-/// `OutOfMemory` where the machine refuses memory.
+/// `OutOfMemory` if an allocation fails.
 pub(crate) fn section_addresses(alloc: Global, places: &[Place]) -> Result<Vec<u32>, MemoryFault>
     ensures addresses { IfOk result (λ sections. sections.items ≡ map (λ p. p.address) places.now) }
     ensures refused { OnErr result (result ≡ Err OutOfMemory) }
@@ -100,7 +100,8 @@ pub(crate) fn section_addresses(alloc: Global, places: &[Place]) -> Result<Vec<u
     Ok(addresses)
 }
 
-/// The address of a section of a fragment whose sections have these places; 0 where it isn't there.
+/// Returns the address of a section of a fragment whose sections have these places, or 0 if there is no
+/// such section.
 pub(crate) fn section_address(places: &[Place], section: u32) -> u32
     ensures { result ≡ (place_at places.now section).address }
 {

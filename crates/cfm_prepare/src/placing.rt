@@ -12,7 +12,7 @@ use cfm_closure::Closure;
 use cfm_memory::{Memory, MemoryFault};
 use std::alloc::Global;
 
-/// Places new fragments of a closure, in turn, and puts them behind those that are present.
+/// Places new fragments of a closure, in turn, and adds them after those that are present.
 pub(crate) fn place_fragments<'a>(
     alloc: Global,
     memory: &mut Memory,
@@ -32,7 +32,7 @@ pub(crate) fn place_fragments<'a>(
     Ok(())
 }
 
-/// Places a fragment of a closure, and puts it behind those that are present.
+/// Places a fragment of a closure, and adds it after those that are present.
 fn place_fragment<'a>(
     alloc: Global,
     memory: &mut Memory,

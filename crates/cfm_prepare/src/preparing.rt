@@ -14,8 +14,8 @@ use cfm_closure::Closure;
 use cfm_memory::Memory;
 use std::alloc::Global;
 
-/// Prepares new fragments of a closure, and puts them behind those that are present. Where it is refused,
-/// what was placed is given back.
+/// Prepares new fragments of a closure, and adds them after those that are present. If one is refused,
+/// those that were placed are released.
 pub(crate) fn prepare_new<'a>(
     alloc: Global,
     memory: &mut Memory,

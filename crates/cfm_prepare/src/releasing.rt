@@ -5,7 +5,7 @@ ghost use Rattle.cfm_prepare.specs.Kept.Users.{AreUsedBut, unused_of, used_of};
 use crate::fragments::Fragments;
 use crate::users::has_users;
 
-/// Gives back the fragments of an order that have no users. All others have some.
+/// Releases the fragments of an order that have no users. All other fragments have some.
 pub(crate) fn release(fragments: &mut Fragments, users: &[usize], order: &[usize])
     requires { AreUsedBut users.now fragments.old.present order.now }
     ensures present { fragments.new.present ≡ used_of users.now fragments.old.present }

@@ -14,8 +14,8 @@ use cfm_closure::{Closure, Target};
 use cfm_memory::Memory;
 use std::alloc::{AllocError, Global};
 
-/// Relocates new fragments, which were filled, up to the first that is refused. The fragments that are present
-/// have the new ones among them.
+/// Relocates new fragments, which were filled, up to the first that is refused. The new ones are among the
+/// fragments that are present.
 pub(crate) fn relocate_fragments<'a>(
     alloc: Global,
     memory: &mut Memory,
@@ -73,7 +73,7 @@ fn relocate_fragment<'a>(
     }
 }
 
-/// The addresses of the targets of a fragment's imports.
+/// Returns the addresses of the targets of a fragment's imports.
 fn import_addresses(
     alloc: Global,
     closure: &Closure<'_>,
@@ -92,7 +92,7 @@ fn import_addresses(
     Ok(addresses)
 }
 
-/// The address of a target.
+/// Returns the address of a target.
 pub(crate) fn target_address(present: &Slots, target: Option<Target>) -> u32
     ensures { result ≡ target_address present.now.items target }
 {

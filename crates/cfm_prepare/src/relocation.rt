@@ -13,14 +13,14 @@ use pef_reloc::{Program, RelocFault, apply};
 /// Relocates the sections at some places by the relocation headers, in their order, up to the first that
 /// is refused.
 ///
-/// `places` and `sections` are the places and the addresses of the fragment's instantiated sections,
+/// `places` and `sections` are the places and the addresses of the fragment's instantiated sections, and
 /// `imports` the addresses of its imports' targets. Each header is read and applied, from fresh
 /// registers, before the next is read.
 ///
 /// # Errors
 ///
-/// The first refusal, of a header's program or of what it does. The sections then have any bytes; nothing
-/// is given back.
+/// The first refusal, of a header's program or of its execution. The sections then have unspecified
+/// bytes. None is released.
 pub(crate) fn relocate_sections(
     memory: &mut Memory,
     places: &[Place],

@@ -36,7 +36,7 @@ impl Model for Slots {
 }
 
 impl Slots {
-    /// No fragments. Nothing is allocated yet.
+    /// Returns no fragments. Nothing is allocated yet.
     pub fn new(alloc: Global) -> Slots
         ensures { result.items ≡ [] }
     {
@@ -46,7 +46,7 @@ impl Slots {
         }
     }
 
-    /// Where the sections of the fragment in a place of the store lie; none where it isn't present.
+    /// Returns where the sections of the fragment in a place of the store lie; none if it isn't present.
     pub fn places(&self, position: usize) -> &[Place]
         ensures { result.now ≡ places_of self.now.items position }
     {
@@ -56,7 +56,7 @@ impl Slots {
         }
     }
 
-    /// Whether the fragment in a place of the store is present.
+    /// Returns whether the fragment in a place of the store is present.
     pub fn has(&self, position: usize) -> bool
         ensures { result ≡ is_present self.now.items position }
     {
@@ -67,7 +67,7 @@ impl Slots {
     ///
     /// # Errors
     ///
-    /// Where the machine refuses memory.
+    /// `AllocError` if an allocation fails.
     pub fn make_room(&mut self, position: usize) -> Result<(), AllocError>
         ensures room { OnOk result (HasRoom self.new position) }
         ensures same { self.new.items ≡ self.old.items }
@@ -76,7 +76,7 @@ impl Slots {
         grow(&mut self.slots, position)
     }
 
-    /// Puts a fragment behind the others.
+    /// Puts a fragment after the others.
     pub fn put(&mut self, position: usize, places: Vec<Place>)
         requires room { HasRoom self.old position }
         requires absent { is_present self.old.items position ≡ false }
@@ -88,7 +88,7 @@ impl Slots {
         }
     }
 
-    /// Takes out a fragment, and tells where its sections lie. `None` where it isn't present.
+    /// Removes a fragment, and returns where its sections lie. `None` if it isn't present.
     pub fn take(&mut self, position: usize) -> Option<Vec<Place>>
         ensures taken { IfSome result (λ places. IsTaken self.old.items self.new.items position places.items) }
         ensures absent { IfNone result ((is_present self.old.items position ≡ false) × (self.new.items ≡ self.old.items)) }
@@ -104,7 +104,7 @@ impl Slots {
     }
 }
 
-/// Makes slots up to that of a place of the store.
+/// Adds slots up to that of a place of the store.
 fn grow(slots: &mut Vec<Option<Placed>>, position: usize) -> Result<(), AllocError>
     ensures room { OnOk result (position < length slots.new.items) }
     ensures same { (p : ℕ) → slot_at slots.new.items p ≡ slot_at slots.old.items p }
@@ -115,7 +115,7 @@ fn grow(slots: &mut Vec<Option<Placed>>, position: usize) -> Result<(), AllocErr
     Ok(())
 }
 
-/// Takes a place of the store out of some that have it.
+/// Removes a place of the store from some that have it.
 fn take_out(order: &mut Vec<usize>, position: usize)
     requires { has order.old.items position ≡ true }
     ensures { IsRemoved order.old.items order.new.items position }
@@ -128,14 +128,14 @@ fn take_out(order: &mut Vec<usize>, position: usize)
     }
 }
 
-/// What a slot holds.
+/// Returns what a slot holds.
 pub(crate) fn slot<T>(slots: &[Option<T>], number: usize) -> Option<&T>
     ensures { option_copied result ≡ slice_index_or slots.now number None }
 {
     slots.get(number)?.as_ref()
 }
 
-/// The fragments of a closure that aren't present, in its order.
+/// Returns the fragments of a closure that aren't present, in its order.
 pub(crate) fn new_among(
     alloc: Global,
     present: &Slots,

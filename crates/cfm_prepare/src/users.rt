@@ -4,7 +4,7 @@ ghost use Rattle.cfm_prepare.specs.Kept.Users.{CountsMore, count_at};
 
 use std::alloc::AllocError;
 
-/// Makes room for the counts of so many fragments.
+/// Makes room for the counts of this many fragments.
 pub(crate) fn make_room(users: &mut Vec<usize>, fragments: usize) -> Result<(), AllocError>
     ensures room { OnOk result (fragments ≤ length users.new.items) }
     ensures same { (p : ℕ) → count_at users.new.items p ≡ count_at users.old.items p }
@@ -15,7 +15,7 @@ pub(crate) fn make_room(users: &mut Vec<usize>, fragments: usize) -> Result<(), 
     Ok(())
 }
 
-/// Whether a fragment is in use.
+/// Returns whether a fragment is in use.
 pub(crate) fn has_users(users: &[usize], position: usize) -> bool
     ensures { result ≡ nat_lt 0 (count_at users.now position) }
 {
@@ -25,7 +25,7 @@ pub(crate) fn has_users(users: &[usize], position: usize) -> bool
     }
 }
 
-/// Counts one more user of each fragment of an order.
+/// Counts one more user for each fragment of an order.
 pub(crate) fn enter(users: &mut Vec<usize>, order: &[usize])
     requires once { IsOnce order.now }
     requires inside { (p : ℕ) → has order.now p ≡ true → p < length users.old.items }
@@ -37,7 +37,7 @@ pub(crate) fn enter(users: &mut Vec<usize>, order: &[usize])
     }
 }
 
-/// Counts one user less of each fragment of an order.
+/// Counts one user less for each fragment of an order.
 pub(crate) fn leave(users: &mut Vec<usize>, order: &[usize])
     requires once { IsOnce order.now }
     requires used { (p : ℕ) → has order.now p ≡ true → 0 < count_at users.old.items p }

@@ -1,4 +1,4 @@
--- What the searches through the instances answer, each over a list.
+-- The results of the searches through the instances, each over a list.
 use Rattle.std.specs.Prelude.{◌≡◌, ℕ, ◌+◌, ◌%◌, ◌^◌, ◌<◌, ◌≤◌, List, Option, None, Some, if◌then◌else◌, length, take, drop, nat_le}
 use Rattle.cfm_memory.specs.Instances.{Instance}
 use Rattle.cfm_memory.specs.Limits.{first_address}
@@ -10,19 +10,20 @@ pub record IsFront (xs : List Instance) (front : ℕ) : Type 0 where
   pub between : IsFree front front xs
   pub full : (other : ℕ) → first_address ≤ other → IsFree other (other + 1) xs → front ≤ other
 
--- what is kept of a memory: its instances are laid out, its front is one, and its limit has 32 bits
+-- the invariant of a memory: its instances are laid out, its front is one, and its limit has 32
+-- bits
 pub record IsKept (limit : ℕ) (xs : List Instance) (front : ℕ) : Type 0 where
   pub laid_out : IsLaidOut first_address limit xs
   pub is_front : IsFront xs front
   pub small : limit < 2 ^ 32
 
--- the first multiple of a step, from an address on, at which some bytes meet no instance
+-- the first multiple of a step, from an address on, at which some bytes overlap no instance
 pub record IsFirstFree (bytes step from : ℕ) (xs : List Instance) (address : ℕ) : Type 0 where
   pub low : from ≤ address
   pub aligned : address % step ≡ 0
   pub free : IsFree address (address + bytes) xs
   pub first : (other : ℕ) → from ≤ other → other % step ≡ 0 → IsFree other (other + bytes) xs → address ≤ other
 
--- the len bytes from a place on, where they are there
+-- the len bytes from a place on, if they are there
 abbrev pub part_of : List ℕ → ℕ → ℕ → Option (List ℕ)
 part_of bytes from len = if nat_le (from + len) (length bytes) then Some (take len (drop from bytes)) else None

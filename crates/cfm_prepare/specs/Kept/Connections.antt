@@ -1,8 +1,9 @@
--- How open connections are kept: in slots, each in that of its number.
+-- How open connections are kept: in slots, each in the slot of its number.
 use Rattle.std.specs.Prelude.{◌≡◌, ℕ, suc, List, [], ◌∷◌, Option, None, Some}
 use Rattle.cfm_prepare.specs.Contexts.{Open}
 
--- what is seen of them: those that are open, how many numbers were given, and for how many more there is room
+-- the value of the slots: the open connections, how many numbers were given, and for how many more there is
+-- room
 pub record Numbered : Type 0 where
   pub items : List Open
   pub given : ℕ
@@ -14,7 +15,7 @@ open_in [] = []
 open_in (None ∷ slots) = open_in slots
 open_in (Some o ∷ slots) = o ∷ open_in slots
 
--- each stands at its number, where that of the first slot is n
+-- each is at its number, if that of the first slot is n
 abbrev pub AreAtNumbers : ℕ → List (Option Open) → Type 0
 AreAtNumbers n [] = Unit {0}
 AreAtNumbers n (None ∷ slots) = AreAtNumbers (suc n) slots

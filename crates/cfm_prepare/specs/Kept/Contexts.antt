@@ -1,4 +1,4 @@
--- What is kept of a context.
+-- The invariant of a context.
 use Rattle.std.specs.Prelude.{◌≡◌, ℕ, ◌<◌, ◌≤◌, true, List, length}
 use Rattle.cfm_prepare.specs.Fragments.{Present, is_present}
 use Rattle.cfm_prepare.specs.Contexts.{Open, most_connections}

@@ -1,4 +1,4 @@
--- What is kept of present fragments: their sections stand in memory, each at an address of its own.
+-- The invariant of present fragments: their sections are in memory, each at an address of its own.
 use Rattle.std.specs.Prelude.{◌≡◌, ◌≢◌, ℕ, ◌<◌, false, true, List, [], ◌∷◌, length, ◌++◌, Contains, Result, Ok, Err, Option, None, Some, if◌then◌else◌}
 use Rattle.cfm_memory.specs.Extents.{AreApart, AreHeld, LackRoom, place_at}
 use Rattle.cfm_memory.specs.Instances.{Layout}
@@ -15,7 +15,7 @@ use Rattle.cfm_prepare.specs.declared.fragment_fault.FragmentFault.TheVariants a
 abbrev pub AllHeld : Layout → List Present → Type 0
 AllHeld m fs = (i : ℕ) → i < length fs → AreHeld m (present_at fs i).places
 
--- no two sections of one fragment have one address
+-- no two sections of one fragment have the same address
 abbrev pub OwnApart : List Present → Type 0
 OwnApart fs = (i : ℕ) → i < length fs → AreApart (present_at fs i).places
 
@@ -24,7 +24,7 @@ abbrev pub AllApart : List Present → Type 0
 AllApart fs = (i j a b : ℕ) → i < length fs → j < length fs → i ≢ j → a < length (present_at fs i).places → b < length (present_at fs j).places
     → (place_at (present_at fs i).places a).address ≢ (place_at (present_at fs j).places b).address
 
--- fragments that can be written to and given back, one by one
+-- fragments that can be written to and released, one by one
 pub record AreReady (m : Layout) (fs : List Present) : Type 0 where
   pub held : AllHeld m fs
   pub own : OwnApart fs
@@ -38,14 +38,14 @@ AllFit pairs fs = (i : ℕ) → i < length fs → Fits pairs (present_at fs i)
 abbrev pub AllIn : List ℕ → List Present → Type 0
 AllIn order fs = (i : ℕ) → i < length fs → Contains order (present_at fs i).position
 
--- fragments with new positions were placed behind those that are there
+-- fragments with new positions were placed after those that exist
 pub record HavePlaced (pairs : List Pair) (m : Layout) (there : List Present) (new : List ℕ) (now : List Present) (after : Layout) : Type 0 where
   pub fresh : List Present
   pub behind : now ≡ there ++ fresh
   pub are : positions fresh ≡ new
   pub placed : AllPlaced pairs m fresh after
 
--- the fragments of some positions, with the places that they have among all
+-- the fragments with some positions, with the places that they have among all
 abbrev pub found_in : List Present → List ℕ → List Present
 found_in all [] = []
 found_in all (p ∷ ps) = present_of all p ∷ found_in all ps
@@ -55,7 +55,7 @@ pub record AreAbsent (fs : List Present) (ps : List ℕ) : Type 0 where
   pub once : IsOnce ps
   pub none : (p : ℕ) → has ps p ≡ true → is_present fs p ≡ false
 
--- new fragments stand behind those that were there; they can be given back, and then memory is as it was
+-- new fragments are after those that existed; they can be released, which leaves memory as it was before
 pub record HaveBegun (m : Layout) (there : List Present) (new : List ℕ) (now : List Present) (after : Layout) : Type 0 where
   pub fresh : List Present
   pub behind : now ≡ there ++ fresh
@@ -63,7 +63,7 @@ pub record HaveBegun (m : Layout) (there : List Present) (new : List ℕ) (now :
   pub others : all_given_back after fresh ≡ m
   pub ready : AreReady after now
 
--- the fragments of some positions, and the others
+-- the fragments with some positions, and the others
 abbrev pub these_of : List ℕ → List Present → List Present
 these_of ps [] = []
 these_of ps (f ∷ fs) = if has ps f.position then f ∷ these_of ps fs else these_of ps fs
@@ -79,7 +79,7 @@ IsNotPlaced pairs p m (fault.Pack f k) = ⊥
 IsNotPlaced pairs p m (fault.Reloc f k) = ⊥
 IsNotPlaced pairs p m fault.OutOfMemory = Unit {0}
 
--- what filling answers: the first refusal of an image, or that there is none
+-- the result of filling: the first refusal of an image, or none
 abbrev pub FillsUpTo : {A : Type 0} → Result A FragmentFault → Option (List ℕ × PackFault) → Type 0
 FillsUpTo (Ok done) first = first ≡ None
 FillsUpTo (Err (fault.NoRoom f)) first = ⊥
@@ -87,8 +87,7 @@ FillsUpTo (Err (fault.Pack f k)) first = first ≡ Some (f.now, k)
 FillsUpTo (Err (fault.Reloc f k)) first = ⊥
 FillsUpTo (Err fault.OutOfMemory) first = ⊥
 
--- what relocating answers: the first refusal of a relocation header, or that there is none; or that memory was
--- refused
+-- the result of relocating: the first refusal of a relocation header, or none; or an allocation failed
 abbrev pub RelocatesUpTo : {A : Type 0} → Result A FragmentFault → Option (List ℕ × RelocFault) → Type 0
 RelocatesUpTo (Ok done) first = first ≡ None
 RelocatesUpTo (Err (fault.NoRoom f)) first = ⊥

@@ -7,7 +7,7 @@ use Rattle.cfm_prepare.specs.Fragments.{Present}
 use Rattle.cfm_prepare.specs.Lists.{IsOnce, has}
 use Rattle.cfm_prepare.specs.declared.slots.Placed.{Placed}
 
--- what is seen of them: the fragments in the order in which they were placed, how many places of the store have a
+-- the value of the slots: the fragments in the order in which they were placed, how many places of the store have a
 -- slot, and how many more fragments there is room for
 pub record Table : Type 0 where
   pub items : List Present
@@ -18,7 +18,7 @@ pub record Table : Type 0 where
 abbrev pub HasRoom : Table → ℕ → Type 0
 HasRoom t p = (p < t.room) × (0 < t.left)
 
--- what is in the slot of a place of the store
+-- the content of the slot of a place of the store
 abbrev pub slot_at : List (Option Placed) → ℕ → Option Placed
 slot_at slots p = slice_index_or slots p None
 
@@ -30,7 +30,7 @@ slot_places (Some f) = f.places.items
 abbrev pub in_slot : List (Option Placed) → ℕ → Present
 in_slot slots p = record { position = p; places = slot_places (slot_at slots p) }
 
--- the fragments of some places, in the order of these
+-- the fragments in some places, in the order of these
 abbrev pub in_slots : List (Option Placed) → List ℕ → List Present
 in_slots slots order = map (in_slot slots) order
 
@@ -39,7 +39,7 @@ pub record AreSlots (slots : List (Option Placed)) (order : List ℕ) : Type 0 w
   pub once : IsOnce order
   pub listed : (p : ℕ) → has order p ≡ is_some (slot_at slots p)
 
--- a place was taken out of some
+-- a place was removed from some
 pub record IsRemoved (ps now : List ℕ) (p : ℕ) : Type 0 where
   pub front : List ℕ
   pub back : List ℕ

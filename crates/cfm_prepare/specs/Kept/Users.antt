@@ -13,7 +13,7 @@ abbrev pub users_of : List Open → ℕ → ℕ
 users_of [] p = 0
 users_of (o ∷ os) p = counted o.closed.order p + users_of os p
 
--- count p; past the last one, none
+-- count p, or 0 past the last one
 abbrev pub count_at : List ℕ → ℕ → ℕ
 count_at counts p = slice_index_or counts p 0
 
@@ -33,7 +33,7 @@ is_used counts f = nat_lt 0 (count_at counts f.position)
 abbrev pub used_of : List ℕ → List Present → List Present
 used_of counts fs = filter (is_used counts) fs
 
--- those that have none
+-- the fragments that have none
 abbrev pub unused_of : List ℕ → List Present → List Present
 unused_of counts fs = filter (λ f. not (is_used counts f)) fs
 

@@ -1,4 +1,4 @@
--- One fragment more is filled, and the others keep what they have.
+-- One more fragment is filled, and the others don't change.
 use Rattle.std.proofs.Common.{Err, length, ◌≤◌, ap, ◌<◌, ◌≡◌, None, Contains, arith, sym, subst, ◌∙◌}
 use Rattle.std.proofs.lemmas.List.{drop_all}
 use Rattle.std.proofs.lemmas.Result.{err_from_is_err_and}

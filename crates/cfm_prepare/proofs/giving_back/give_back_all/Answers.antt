@@ -1,4 +1,4 @@
--- One fragment more is given back.
+-- One more fragment is released.
 use Rattle.std.proofs.Common.{◌≡◌, ◌+◌, ◌≤◌, ℕ, Bool, false, drop, get_or, length, not, ap, ◌∙◌, arith}
 use Rattle.cfm_prepare.specs.Lists.{has}
 use Rattle.cfm_prepare.specs.Fragments.{all_given_back}

@@ -1,4 +1,4 @@
--- What is left of the positions goes.
+-- The positions left are released.
 use Rattle.std.proofs.Common.{drop, not}
 use Rattle.cfm_prepare.specs.Kept.Ready.{AreReady}
 use Rattle.cfm_prepare.specs.Lists.{has}

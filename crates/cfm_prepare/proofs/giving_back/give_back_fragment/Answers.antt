@@ -1,4 +1,4 @@
--- The fragment stands in memory, so its sections can be given back.
+-- The fragment is in memory, so its sections can be released.
 use Rattle.std.proofs.Common.{◌≡◌, ◌++◌, List, sym, ap, subst, ◌∙◌}
 use Rattle.cfm_memory.specs.Extents.{AreApart, AreHeld, given_back}
 use Rattle.cfm_memory.specs.Instances.{Layout}

@@ -1,4 +1,4 @@
--- What was placed so far, and what is refused behind it.
+-- The sections placed so far, and the refusal after them.
 use Rattle.std.proofs.Common.{◌≡◌, ◌+◌, List, IsTrue, sym, ap, subst, ◌∙◌, arith}
 use Rattle.std.specs.Option.{option_map_or}
 use Rattle.std.proofs.lemmas.Result.{err_from_is_err_and}

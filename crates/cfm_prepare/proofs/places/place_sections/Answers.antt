@@ -1,4 +1,4 @@
--- What was placed so far is held and apart, so it is given back.
+-- The sections placed so far are held and apart, so they are released.
 use Rattle.std.proofs.Common.{List, sym, ap, subst, ◌∙◌}
 use Rattle.cfm_memory.specs.Extents.{AreApart, AreHeld, given_back}
 use Rattle.cfm_memory.specs.declared.place.Place.{Place}

@@ -1,4 +1,4 @@
--- One fragment more is placed, or it is the first that is refused.
+-- One more fragment is placed, or it is the first that is refused.
 use Rattle.std.proofs.Common.{◌≡◌, ◌+◌, ◌++◌, ◌∷◌, ℕ, List, drop, get_or, take, sym, ◌∙◌}
 use Rattle.std.proofs.lemmas.List.{at_drop_more, take-append-drop, take_more}
 use Rattle.std.proofs.lemmas.Result.{err_from_is_err_and}

@@ -1,4 +1,4 @@
--- Where it is refused, what was placed goes, and nothing else.
+-- If it is refused, the fragments placed are released, and nothing else.
 use Rattle.std.proofs.Common.{◌≡◌, ℕ, List, sym, ap, subst, ◌∙◌}
 use Rattle.cfm_memory.specs.Instances.{Layout}
 use Rattle.cfm_prepare.specs.Fragments.{Present, all_given_back}
@@ -6,7 +6,7 @@ use Rattle.cfm_prepare.specs.Kept.Ready.{AreAbsent, AreReady, HaveBegun, others_
 use Rattle.cfm_prepare.proofs.ReleaseLemmas.{others-all}
 use Rattle.cfm_prepare.proofs.preparing.prepare_new.Goals as goal
 
--- what is left when the new fragments are given back
+-- the memory after the new fragments are released
 is-undone : (m mid after : Layout) (there now left : List Present) (new : List ℕ) → AreAbsent there new → HaveBegun m there new now mid → left ≡ others_of new now → after ≡ all_given_back mid (these_of new now)
     → (after ≡ m) × (left ≡ there)
 is-undone m mid after there now left new absent begun left_is after_is =

@@ -1,4 +1,4 @@
--- The new fragments are placed, filled and relocated, or what was placed can be given back.
+-- The new fragments are placed, filled and relocated, or those placed can be released.
 use Rattle.std.proofs.Common.{◌≡◌, List, None, Err, OnOk, refl, take, sym, ap, subst, ◌∙◌}
 use Rattle.std.proofs.lemmas.Result.{err_from_is_err_and}
 use Rattle.cfm_memory.specs.Extents.{zeros_at}

@@ -1,4 +1,4 @@
--- A fragment that has no users is given back, and one that has some is passed.
+-- A fragment without users is released, and one that has some is passed.
 use Rattle.std.proofs.Common.{◌+◌, ◌≤◌, ℕ, Bool, drop, get_or, length, nat_lt, sym, ◌∙◌, arith}
 use Rattle.cfm_prepare.proofs.ReleaseLemmas.{given-first, given-gone, given-kept, given-past}
 use Rattle.cfm_prepare.specs.Kept.Users.{count_at}

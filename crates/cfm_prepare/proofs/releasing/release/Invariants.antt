@@ -1,4 +1,4 @@
--- What is left of the order may go.
+-- The rest of the order may be released.
 use Rattle.std.proofs.Common.{drop, nat_lt}
 use Rattle.cfm_prepare.proofs.ReleaseLemmas.{AreGiven}
 use Rattle.cfm_prepare.specs.Kept.Users.{count_at}

@@ -1,4 +1,4 @@
--- One address more is there.
+-- One more address is there.
 use Rattle.cfm_prepare.specs.Addresses.{addresses_from}
 use Rattle.cfm_prepare.proofs.FragmentLemmas.{imports-next}
 use Rattle.cfm_prepare.proofs.relocating.import_addresses.Goals as goal

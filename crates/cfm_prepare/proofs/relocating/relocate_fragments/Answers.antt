@@ -1,4 +1,4 @@
--- One fragment more is relocated, and the others keep what they have.
+-- One more fragment is relocated, and the others don't change.
 use Rattle.std.proofs.Common.{Err, length, ◌≤◌, ap, arith, ◌<◌, get_or, refl, ◌≡◌, None, Contains, sym, subst, ◌∙◌}
 use Rattle.std.proofs.lemmas.List.{drop_all}
 use Rattle.std.proofs.lemmas.Result.{err_from_is_err_and}

@@ -1,4 +1,4 @@
--- What the program makes of the section's memory is put back in its place.
+-- The section's memory, relocated by the program, is put back in its place.
 use Rattle.std.proofs.Common.{◌≡◌, ℕ, List, Some, length, sym, ap, ◌∙◌, arith}
 use Rattle.cfm_memory.proofs.Laws.{fitted_same, written_given_back, written_here, written_holds, written_other}
 use Rattle.pef_reloc.specs.Applied.{Addresses, Done}

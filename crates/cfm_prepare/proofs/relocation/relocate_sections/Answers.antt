@@ -1,4 +1,4 @@
--- What is left of the headers.
+-- The headers left.
 use Rattle.std.proofs.Common.{◌≡◌, ◌<◌, Some, length, refl, sym, ◌∙◌, arith}
 use Rattle.std.proofs.lemmas.Result.{err_from_is_err_and}
 use Rattle.pef_loader.specs.Loader.{reloc_of}

@@ -1,4 +1,4 @@
--- What is before the place that is found, and what is after it.
+-- The numbers before the place that is found, and those after it.
 use Rattle.std.proofs.Common.{◌≡◌, ◌+◌, ◌<◌, ◌++◌, ◌∷◌, length, take, drop, get_or, arith, sym, ap, ◌∙◌}
 use Rattle.std.proofs.lemmas.List.{at_drop_more, get_or_default, take-append-drop}
 use Rattle.cfm_prepare.proofs.slots.take_out.Goals as goal

@@ -7,7 +7,7 @@ use Rattle.cfm_prepare.specs.Kept.Users.{CountsMore, count_at}
 use Rattle.cfm_prepare.proofs.UsersLemmas.{more-first, still-to-come}
 use Rattle.cfm_prepare.proofs.users.enter.Goals as goal
 
--- what holds of all that are left holds of the first
+-- a fact of all that are left is one of the first
 first-has : (P : ℕ → Type 0) (order : List ℕ) (i : ℕ) → i < length order → ((p : ℕ) → has (drop i order) p ≡ true → P p) → P (get_or order i 0)
 first-has P order i under all = all (get_or order i 0) (at_drop_more (λ (ys : List ℕ). has ys (get_or order i 0)) order i 0 under ∙ has-first (get_or order i 0) (drop (i + 1) order))
 

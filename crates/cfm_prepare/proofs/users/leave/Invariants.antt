@@ -1,4 +1,4 @@
--- What is left of the order stands to be counted.
+-- The rest of the order is still to be counted.
 use Rattle.std.proofs.Common.{◌≡◌, ◌<◌, ℕ, List, true, drop}
 use Rattle.cfm_prepare.specs.Lists.{IsOnce, has}
 use Rattle.cfm_prepare.specs.Kept.Users.{CountsMore, count_at}

@@ -1,4 +1,4 @@
--- The search goes on behind an instance that is in the way, and ends before one that isn't.
+-- The search continues after an instance that is in the way, and ends before one that isn't.
 use Rattle.std.proofs.Common.{◌≡◌, ℕ, ◌+◌, ◌%◌, ◌<◌, ◌≤◌, ◌^◌, max, List, ◌∷◌, Option, Some, Bor, length, ap, subst, ◌∙◌, inl, inr, arith}
 use Rattle.std.specs.Global.{Vec}
 use Rattle.std.specs.Map.Iter.{TakesFirst, deref_pair}
@@ -43,7 +43,7 @@ loop-start-init c =
           (first_from _ _ _ _ _ r (omega (arith, next.lower_bound, c.from.ensures)) (λ b low aligned. no_multiple_between _ b c.args.step (omega arith) next.multiple aligned (omega (arith, next.upper_bound, c.from.ensures))) (rw e at h)));
     }
 
--- what is left begins with the instance at hand
+-- the rest begins with the current instance
 next_is : (s t : List (ℕ × Vec ℕ)) (r : Option (Bor ℕ × Bor (Vec ℕ))) (start : Bor ℕ) (bytes : Bor (Vec ℕ)) → r ≡ Some (start, bytes) → TakesFirst deref_pair s r t → instances s ≡ instance_seen (start.now, bytes.now) ∷ instances t
 next_is s t r start bytes is steps = ap instances (rest_more deref_pair s t r (start, bytes) is steps)
 

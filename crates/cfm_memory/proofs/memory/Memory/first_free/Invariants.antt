@@ -1,4 +1,4 @@
--- The first free address behind the instances so far is the first of all.
+-- The first free address after the instances so far is the first of all.
 use Rattle.std.proofs.Common.{◌≡◌, ℕ, ◌%◌, ◌^◌, ◌<◌, map}
 use Rattle.cfm_memory.specs.Limits.{first_address}
 use Rattle.cfm_memory.specs.Placement.{IsLaidOut}

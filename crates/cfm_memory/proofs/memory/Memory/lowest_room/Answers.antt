@@ -1,4 +1,4 @@
--- What an instance takes and where the first free address lies are small enough for the sum.
+-- The bytes that an instance takes and the first free address are small enough for the sum.
 use Rattle.std.proofs.Common.{arith}
 use Rattle.cfm_memory.proofs.Placing.{some_taken, taken_most}
 use Rattle.cfm_memory.proofs.memory.Memory.lowest_room.Goals as goal

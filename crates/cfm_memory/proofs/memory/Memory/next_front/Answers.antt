@@ -1,4 +1,4 @@
--- An instance that stands at the front ends below the limit, and the front goes behind it.
+-- An instance that is at the front ends below the limit, and the front moves past it.
 use Rattle.std.proofs.Common.{length, ap, ◌∙◌, arith}
 use Rattle.cfm_memory.specs.Limits.{first_address}
 use Rattle.cfm_memory.specs.Placement.{taken}

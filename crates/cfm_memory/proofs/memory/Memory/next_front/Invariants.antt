@@ -1,4 +1,4 @@
--- So far all instances that were passed stand one behind the other.
+-- So far all instances that were passed follow one another.
 use Rattle.std.proofs.Common.{◌-◌, ◌^◌}
 use Rattle.cfm_memory.specs.Kept.Searches.{IsFront}
 use Rattle.cfm_memory.proofs.memory.Memory.next_front.Given as goal

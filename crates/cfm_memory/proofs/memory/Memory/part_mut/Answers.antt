@@ -1,4 +1,4 @@
--- What is left behind the part is in that entry alone.
+-- A write through the part changes that entry alone.
 use Rattle.std.proofs.Common.{◌≡◌, Some, refl, sym, ap, ◌∙◌}
 use Rattle.std.specs.Option.{option_copied_mut}
 use Rattle.std.specs.Vec.{with_items}

@@ -1,4 +1,4 @@
--- The slot of the number is the one behind the others.
+-- The slot of the number is the one after the others.
 use Rattle.std.proofs.Common.{◌≡◌, ◌++◌, ◌∷◌, [], false, length, Some, arith, ap, sym, subst, ◌∙◌}
 use Rattle.std.specs.Result.{is_err}
 use Rattle.std.proofs.lemmas.List.{length_push}

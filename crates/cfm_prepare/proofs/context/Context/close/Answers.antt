@@ -1,4 +1,4 @@
--- The connection is taken out by its number; what only it needed is given back.
+-- The connection is removed by its number, and the fragments that only it needed are released.
 use Rattle.std.proofs.Common.{◌≡◌, ◌≤◌, ℕ, List, true, Some, length, sym, ap, subst, ◌∙◌, refl, arith}
 use Rattle.cfm_closure.specs.Closures.{Closed}
 use Rattle.cfm_prepare.specs.Lists.{has}

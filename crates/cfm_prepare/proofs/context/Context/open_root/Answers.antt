@@ -1,4 +1,4 @@
--- The closure is that of the store; its new fragments are prepared, or the first refusal is that of all.
+-- The closure is that of the store. Its new fragments are prepared, or the first refusal is that of all.
 use Rattle.std.proofs.Common.{true, arith, ◌≡◌, ◌<◌, ◌+◌, ◌++◌, ◌∷◌, ℕ, List, [], length, Some, refl, sym, ap, subst, ◌∙◌}
 use Rattle.std.proofs.lemmas.List.{length-append}
 use Rattle.std.proofs.lemmas.Result.{err_from_is_err_and}

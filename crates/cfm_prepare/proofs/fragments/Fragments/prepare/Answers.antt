@@ -1,4 +1,4 @@
--- What is new of the closure is of it, once, and absent.
+-- The new fragments of the closure are of it, once, and absent.
 use Rattle.std.proofs.Common.{◌≡◌, ℕ, List, All, Contains, sym, ap, subst, ◌∙◌}
 use Rattle.cfm_prepare.specs.Fragments.{Present, new_among}
 use Rattle.cfm_prepare.specs.Lists.{IsOnce}

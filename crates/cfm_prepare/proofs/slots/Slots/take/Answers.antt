@@ -1,4 +1,4 @@
--- The slot of a place has the fragment there; without it the others stay in their order.
+-- The slot of a place has the fragment there. Without it the others stay in their order.
 use Rattle.std.proofs.Common.{◌≡◌, ◌<◌, length, Option, None, Some, arith, refl, subst, sym, ap, ◌∙◌}
 use Rattle.std.specs.Option.{is_some}
 use Rattle.std.proofs.Math.ListN.{set}
