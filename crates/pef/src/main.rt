@@ -21,7 +21,8 @@ fn main(rt: HostRuntime) -> ExitCode {
     ExitCode::from(status)
 }
 
-/// The words of the command line. A line that the system can't hand over has none, and so is no good one.
+/// Returns the arguments of the command line. If the system can't give them, there are none, and such a
+/// command line is invalid.
 fn words(rt: &(impl Env + AllocGlobal)) -> Result<Vec<String>, AllocError> {
     match env::args(rt) {
         Ok(words) => words.collect(rt.alloc()),

@@ -21,7 +21,7 @@ place-same m e p q one other =
     let address : p.address ≡ q.address = omega (arith, one.lowest.lowest q.address other.lowest.room, other.lowest.lowest p.address one.lowest.room) in
     ap₂ (λ (a n : ℕ). record { address = a; size = n }) address (one.size ∙ sym other.size)
 
--- so have several, which leave one memory
+-- so several extents have one list of places, which gives one memory
 placed-same : (m : Layout) (es : List Extent) (ps qs : List Place) (after other : Layout) → ArePlaced m es ps after → ArePlaced m es qs other → (ps ≡ qs) × (after ≡ other)
 placed-same m [] [] [] after other one two = (refl, one ∙ sym two)
 placed-same m [] [] (q ∷ qs) after other one two = absurd two
@@ -33,7 +33,7 @@ placed-same m (e ∷ es) (p ∷ ps) (q ∷ qs) after other one two =
     let rest = placed-same (with_new m p) es ps qs after other one.1 (subst (λ r. ArePlaced (with_new m r) es qs other) (sym same) two.1) in
     (ap₂ (λ r rs. r ∷ rs) same rest.0, rest.1)
 
--- what was placed had room
+-- an instance that was placed had room
 placed-room : (m : Layout) (es : List Extent) (ps : List Place) (after : Layout) → ArePlaced m es ps after → LackRoom m es → ⊥
 placed-room m [] ps after placed lack = lack
 placed-room m (e ∷ es) [] after placed lack = placed
@@ -48,7 +48,7 @@ all-room pairs m (f ∷ fs) after name placed (inr later) =
     let same = placed-same m (extents_in pairs f.position) later.0 f.places later.1 placed.0 later.2 placed.1 in
     all-room pairs placed.0 fs after name placed.2 (subst (λ mid. LacksRoom pairs mid (positions fs) name) same.1 later.3)
 
--- fragments find one set of places
+-- fragments have one list of places
 all-same : (pairs : List Pair) (m : Layout) (fs gs : List Present) (after other : Layout) → AllPlaced pairs m fs after → AllPlaced pairs m gs other → positions fs ≡ positions gs → fs ≡ gs
 all-same pairs m [] [] after other one two same = refl
 all-same pairs m [] (g ∷ gs) after other one two same = absurd (cc)
@@ -60,7 +60,7 @@ all-same pairs m (f ∷ fs) (g ∷ gs) after other one two same =
     let rest = all-same pairs one.0 fs gs after other one.2 (subst (λ mid. AllPlaced pairs mid gs other) (sym both.1) two.2) later in
     ap₂ (λ (x : Present) (xs : List Present). x ∷ xs) (ap₂ (λ (p : ℕ) (places : List Place). record { position = p; places = places }) here both.0) rest
 
--- where none is refused, each isn't
+-- if no fragment is refused, each one isn't
 image-at : (pairs : List Pair) (fs : List Present) (p k : ℕ) → first_bad_image pairs fs ≡ None → k < length (positions fs) → slice_index_or (positions fs) k p ≡ p → image_refusal_in pairs p ≡ None
 image-at pairs [] p k is low at = absurd (omega (arith, low))
 image-at pairs (f ∷ fs) p k is low at = by k (image_refusal_in pairs f.position) refl is low at (λ j. image-at pairs fs p j)

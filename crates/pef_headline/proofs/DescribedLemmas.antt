@@ -1,5 +1,5 @@
--- A container that was linked of a script, placed, filled and relocated with any addresses of its imports' targets,
--- has the memory that the script describes under these; and nothing of it is refused.
+-- A container that was linked from a script, placed, filled and relocated with any addresses of its imports'
+-- targets, has the memory that the script describes under these addresses. Nothing of it is refused.
 use Rattle.std.proofs.Common.{◌≡◌, ℕ, suc, ◌+◌, ◌<◌, ◌^◌, Bool, true, false, List, [], ◌∷◌, None, Some, get_or, length, map, option_map, take, refl, sym, ap, ap₂, subst, ◌∙◌, arith}
 use Rattle.std.specs.List.{slice_get}
 use Rattle.std.specs.Option.{option_and_then, option_map_or}
@@ -52,12 +52,12 @@ raw_expands : (packed : Bool) (image : List ℕ) → length image < 2 ^ 32
 raw_expands true image small = packed-expands image small
 raw_expands false image small = ap Ok (take_all (length image) image (omega arith))
 
--- so the image of a section of a script comes of its raw bytes
+-- so the image of a section of a script comes from its raw bytes
 image_whole : (m n : ℕ) (s : DescribedSection) (at : ℕ) → SectionHolds m n s → image_of (record { header = section_header s at; raw = raw_of s }) ≡ Ok s.image
 unfolding image_of
 image_whole m n s at holds = rw (kind-again s.header.kind holds.kind) (raw_expands (is_packed s.header.kind) s.image (omega (arith, holds.image, holds.total)))
 
--- extents that a script's sections need, where each section of a container is one of the script
+-- the extents are those that a script's sections need, if each section of a container is one of the script
 extents_same : (c : Contained) (sections : List DescribedSection) (from : ℕ) → ((k : ℕ) (s : DescribedSection) → slice_get sections k ≡ Some s → extent_at c (from + k) ≡ described_extent s)
     → extents_from c from (length sections) ≡ map described_extent sections
 extents_same c [] from each = refl
@@ -96,7 +96,7 @@ module _ (script : DescribedScript) (k : LinkedContainer) (linked : IsLinked scr
       let part = of.sections.each i s there in
       ap (option_and_then (λ t. result_err (image_of t))) part.is ∙ ap result_err (image_whole (length script.sections) (length script.imports) s part.at (held i s there))
 
-  -- section i is made what the script describes
+  -- section i becomes what the script describes
   made : (a : Addresses) → AreAddresses script a → (i : ℕ) (s : DescribedSection) → slice_get script.sections i ≡ Some s
       → relocated_by a i (reloc_of l) 0 l.header.reloc_count (filled s.image s.header.total) ≡ untouched (described_memory (address_of a) s)
   made a there_are i s there =
@@ -153,7 +153,7 @@ module _ (script : DescribedScript) (k : LinkedContainer) (linked : IsLinked scr
   pub length-extents : length (extents_of c) ≡ length script.sections
   length-extents = ap length extents_are ∙ length-map script.sections described_extent
 
-  -- places of its sections give addresses, with as many as it has imports
+  -- places of its sections give addresses, one for each import
   pub addresses_are : (before empty : Layout) (imports : List ℕ) (places : List Place) → length imports ≡ length script.imports → ArePlaced before (extents_of c) places empty → AreAddresses script (addresses_at places imports)
   addresses_are before empty imports places count placed = record {
     sections = length-map places (λ (p : Place). p.address) ∙ length-placed before (extents_of c) places empty placed ∙ length-extents;

@@ -1,4 +1,4 @@
--- The headline, phrase by phrase, of what is proved of memory, of refusals and of least programs.
+-- The headline, phrase by phrase, from the facts of memory, refusals and least programs.
 use Rattle.std.proofs.Common.{◌≡◌, ℕ, true, List, [], ◌∷◌, None, Result, Ok, Err, Contains, sym, ap, subst, ◌∙◌}
 use Rattle.cfm_closure.specs.Closures.{Closed}
 use Rattle.cfm_memory.specs.Extents.{ArePlaced}
@@ -29,7 +29,7 @@ run-pairs (step ∷ steps) s t run = run-pairs steps run.0 t run.2 ∙ step-pair
 reached-pairs : (s : ContextState) (reached : IsReached s) → s.pairs ≡ reached.pairs
 reached-pairs s reached = run-pairs reached.steps _ s reached.run
 
--- what is present has the described memory
+-- a present fragment has the described memory
 pub headline-present : (script : DescribedScript) (s : ContextState) (p : ℕ) → IsReached s → HasLinked s.pairs p script → is_present s.present p ≡ true → HasDescribedMemory s p script
 headline-present script s p reached linked is =
     let same = reached-pairs s reached in
@@ -37,7 +37,7 @@ headline-present script s p reached linked is =
     let now = present-described script here.container reached.pairs reached.limit reached.steps s p here.linked here.bytes reached.run is in
     record { present = is; memory = subst (λ pairs. IsDescribedNow pairs s script p) (sym same) now }
 
--- and so has, after a preparation, what its closure has
+-- and so has the closure's fragment after a preparation
 prepared-present : (script : DescribedScript) (s t : ContextState) (name : List ℕ) (number p : ℕ) → IsReached s → HasLinked s.pairs p script → (step : Prepares s name number t) → Contains step.closure.closed.order p → HasDescribedMemory t p script
 prepared-present script s t name number p reached linked step there =
     let same = reached-pairs s reached in
@@ -63,7 +63,7 @@ headline-least script pairs p linked =
     let read = linked-read script linked.container pairs p linked.linked linked.bytes in
     record { fragment = read.0; read = read.1; least = λ k section there. linked_least script linked.container pairs p read.0 k section linked.linked linked.bytes read.1 there }
 
--- a linked container isn't what is refused
+-- a linked container isn't one that is refused
 pub sound-images : (script : DescribedScript) (pairs : List Pair) (p : ℕ) → HasLinked pairs p script → image_refusal_in pairs p ≡ None
 sound-images script pairs p linked = linked-filled script linked.container pairs p linked.linked linked.bytes
 

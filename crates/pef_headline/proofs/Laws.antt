@@ -1,8 +1,8 @@
--- What this crate offers to the proofs of others: facts of linked fragments.
+-- Facts of linked fragments, for the proofs of other crates.
 
--- what a linked container's sections need of memory is what the script describes
+-- a linked container's sections need the memory that the script describes
 pub use Rattle.pef_headline.proofs.DescribedLemmas.{extents_are}
--- a linked container is read back, and has the described memory under the addresses of now
+-- a linked container is read back, and has the described memory under the present addresses
 pub use Rattle.pef_headline.proofs.NowLemmas.{described-from, extents-in, linked-read, loader-is, own, whole}
--- what is refused for an image or a relocation header wasn't linked
+-- a fragment that is refused for an image or a relocation header wasn't linked
 pub use Rattle.pef_headline.proofs.RefusedLemmas.{refused-image, refused-program}

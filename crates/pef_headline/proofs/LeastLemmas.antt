@@ -25,11 +25,11 @@ use Rattle.pef_headline.proofs.LinkedLemmas.{fragment_linked, read_fragment}
 abbrev own_of : ℕ → List ProgramEntry → List ProgramEntry
 own_of k programs = filter (λ p. p.section == k) programs
 
--- no header for a section, where the test says so
+-- no header is that of a section, if the test says so
 is_other : (k : ℕ) (p : ProgramEntry) → (p.section == k) ≡ false → p.section ≢ k
 is_other k p other same = let wrong : true ≡ false = sym (eq-eqb p.section k same) ∙ other in absurd (cc)
 
--- where no program is a section's, each is another's
+-- if no program is a section's, each is another's
 none_owned : (k i : ℕ) (programs : List ProgramEntry) → own_of k programs ≡ [] → IsOther k (option_map program_read (slice_get programs i))
 none_owned k i [] none = tt
 none_owned k i (p ∷ programs) none = by i (p.section == k) refl (λ j others. none_owned k j programs others)
@@ -66,7 +66,8 @@ one_owned k (q ∷ programs) p one = by (q.section == k) refl (λ others. one_ow
         let o = among (rw own at one) in
         record { place = suc o.place; here = o.here; others = later o own }
 
--- a loader section with the tables of a script has a section's program, which is what is written of the section
+-- a loader section with the tables of a script has a section's program, which is the one that is written for
+-- the section
 pub has_program : (s : DescribedScript) (programs : List (List Instr)) (loader : Loaded) (k : ℕ) (fixups : List Fixup) (instrs : List Instr) → HasTables s programs loader → own_of k (programs_from 0 s.sections programs) ≡ program_of k fixups instrs → HasProgram loader k fixups (spelled instrs)
 has_program s programs loader k [] instrs tables own = λ i. subst (IsOther k) (sym (tables.relocs i)) (none_owned k i (programs_from 0 s.sections programs) own)
 has_program s programs loader k (fixup ∷ fixups) instrs tables own =
@@ -89,7 +90,7 @@ program_readable script linked is k (fixup ∷ fixups) instrs own least =
 fragment_is : (f g : Fragment) (read : Result Fragment BindRefusal) → read ≡ Ok f → read ≡ Ok g → f ≡ g
 fragment_is f g read one two = let both = sym one ∙ two in cc
 
--- each section of what was linked has a least program, in the loader section that is read of its bytes
+-- each section of a linked container has a least program, in the loader section that is read from its bytes
 pub linked_least : (script : DescribedScript) (linked : LinkedContainer) (pairs : List Pair) (p : ℕ) (f : Fragment) (k : ℕ) (section : DescribedSection) → IsLinked script linked → (pair_of pairs p).bytes ≡ linked.bytes
     → fragment_of pairs p ≡ Ok f → slice_get script.sections k ≡ Some section → HasLeast linked f.loader k section.fixups
 linked_least script linked pairs p f k section is holds read there =

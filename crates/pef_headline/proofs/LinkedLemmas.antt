@@ -1,4 +1,4 @@
--- What is linked of a script is read back as the script's container, under any name and in any store.
+-- Linked bytes are read back as the script's container, under any name and in any store.
 use Rattle.std.proofs.Common.{◌≡◌, List, ℕ, Ok, ap, ◌∙◌}
 use Rattle.cfm_closure.specs.Stores.{Pair, pair_of}
 use Rattle.cfm_closure.specs.Fragments.{Fragment, fragment_of, with_container, with_loader}

@@ -57,7 +57,7 @@ module _ (script : DescribedScript) (k : LinkedContainer) (linked : IsLinked scr
       ap (λ o. option_map_or (λ (c : Contained). option_map_or (λ (l : Loaded). prepared_at c l a i) (loader_at pairs p) []) o []) container-is
       ∙ ap (λ o. option_map_or (λ (l : Loaded). prepared_at whole.container l a i) o []) loader-is
 
-  -- with places its sections and its imports have addresses
+  -- with places, its sections and its imports have addresses
   addressed : (all : List Present) (before empty : Layout) (places : List Place) → ArePlaced before (extents_in pairs p) places empty → AreAddresses script (addresses_at places (addresses_from pairs all p 0 (import_count pairs p)))
   addressed all before empty places placed =
       addresses_are script k linked whole.container whole.loader own.of before empty (addresses_from pairs all p 0 (import_count pairs p)) places (length-from pairs all p 0 (import_count pairs p) ∙ count-is)

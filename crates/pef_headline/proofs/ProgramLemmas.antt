@@ -1,4 +1,5 @@
--- The relocation programs of a script's sections make of their filled memory what the script describes.
+-- The relocation programs of a script's sections turn their filled memory into the memory that the script
+-- describes.
 use Rattle.std.proofs.Common.{◌≡◌, ◌≢◌, ◌⊎◌, ℕ, zero, suc, ◌+◌, ◌<◌, List, [], ◌∷◌, ◌++◌, Option, None, Some, length, option_map, refl, sym, ap, subst, ◌∙◌, inl, inr, arith}
 use Rattle.std.specs.List.{AllByRecursion, slice_get}
 use Rattle.std.proofs.lemmas.Option.{slice_get_within}
@@ -29,7 +30,8 @@ fixups_inside a s holds =
 abbrev pub AreOthers : ℕ → List ProgramEntry → Type 0
 AreOthers k programs = AllByRecursion (λ (p : ProgramEntry). p.section ≢ k) programs
 
--- the relocation program in one place is section k's, made for its fixups among so many sections, and no other is
+-- the relocation program in one place is section k's, made for its fixups among this many sections, and no other
+-- is
 pub record HasProgram (count k : ℕ) (fixups : List Fixup) (programs : List ProgramEntry) : Type 0 where
   pub instrs : List Instr
   pub program : IsProgramFor count fixups instrs
@@ -67,7 +69,7 @@ own_first count k (fixup ∷ fixups) instrs later program others = inl (record {
     other zero p at apart = absurd (apart refl)
     other (suc j) p at apart = all-get (λ (q : ProgramEntry). q.section ≢ k) later j p others at
 
--- behind another section's program
+-- after another section's program
 own_later : (count k j : ℕ) (own fixups : List Fixup) (instrs : List Instr) (later : List ProgramEntry) → j ≢ k → Owns count k own later → Owns count k own (program_of j fixups instrs ++ later)
 own_later count k j own [] instrs later apart owns = owns
 own_later count k j own (fixup ∷ fixups) instrs later apart (inr none) = inr (none.0, (apart, none.1))
@@ -101,7 +103,7 @@ is_other : (k : ℕ) (o : Option ProgramEntry) → ((p : ProgramEntry) → o ≡
 is_other k None none = tt
 is_other k (Some p) each = each p refl
 
--- what the relocation headers make of a section's memory, where its own program makes it of its fixups
+-- the memory that the relocation headers make of a section's memory, if its own program makes it from its fixups
 pub section_made : (a : Addresses) (header : ℕ → Option (ℕ × List ℕ)) (programs : List ProgramEntry) (count k : ℕ) (fixups : List Fixup) (memory : List ℕ)
     → ((i : ℕ) → header i ≡ option_map program_read (slice_get programs i)) → Owns count k fixups programs
     → ((instrs : List Instr) → IsProgramFor count fixups instrs → program_done a (spelled instrs) memory ≡ untouched (with_bases (address_of a) 0 fixups memory))

@@ -1,4 +1,4 @@
--- Where new fragments are refused for an image or a relocation header, it is one with bytes that weren't linked.
+-- If new fragments are refused for an image or a relocation header, one of them has bytes that weren't linked.
 use Rattle.std.proofs.Common.{◌≡◌, ℕ, suc, List, [], ◌∷◌, ◌++◌, Option, None, Some, Ok, Err, Contains, inl, inr, refl, sym, ap, subst, ◌∙◌, arith}
 use Rattle.std.specs.Option.{option_or}
 use Rattle.cfm_closure.specs.Stores.{Pair, pair_of, place_of}
@@ -102,7 +102,7 @@ bad-program pairs all m after (f ∷ fs) name k placed is = by (reloc_refusal_in
       refused = was;
     }
 
--- what is refused isn't linked
+-- a fragment that is refused isn't linked
 image-foreign : (pairs : List Pair) (ps : List ℕ) (name : List ℕ) (r : HasRefusedImage pairs ps name) → IsForeign pairs r.position
 image-foreign pairs ps name r script linked =
     let none : image_refusal_in pairs r.position ≡ None = linked-filled script linked.container pairs r.position linked.linked linked.bytes in
@@ -126,7 +126,7 @@ refused-program pairs there m new name k bad =
     let r = bad-program pairs (there ++ bad.fresh) m bad.are.empty bad.fresh name k bad.are.placed bad.first in
     subst (λ ps. HasForeign pairs ps name) bad.are.are (record { position = r.one.position; member = r.position; is = r.is; foreign = header-foreign pairs (there ++ bad.fresh) bad.fresh name r })
 
--- so where the others are sound, none is
+-- so if the others are sound, none is refused
 no-image : (s : ContextState) (c : Closed) (name : List ℕ) (k : PackFault) → OthersAreSound s c → HasBadImage s.pairs s.memory (new_of s c) name k → ⊥
 no-image s c name k sound bad =
     let r = bad-image s.pairs bad.fresh name k bad.first in
@@ -152,7 +152,7 @@ same-closed s name a b =
     let other : closed_of s.pairs a.has.root ≡ Ok b.closed = ap (closed_of s.pairs) roots ∙ b.is in
     cc
 
--- where a fragment has a closure, it isn't refused for having none
+-- if a fragment has a closure, it isn't refused for having none
 bound : (s : ContextState) (name : List ℕ) (closure : HasClosure s name) (f : BindFault) (has : HasRoot s name) → FailsAs f (closed_of s.pairs has.root) → binds.fault_number f ≡ 99
 bound s name closure f has fails = by f (subst (FailsAs f) (ap (closed_of s.pairs) roots ∙ closure.is) fails)
   where
@@ -173,7 +173,8 @@ bound s name closure f has fails = by f (subst (FailsAs f) (ap (closed_of s.pair
     by (bind.InitLoop f) e = absurd (cc)
     by bind.OutOfMemory e = refl
 
--- where its libraries resolve, its sections find room and the others are sound, a root is refused for want of memory alone
+-- if its libraries resolve, its sections find room and the others are sound, a root is refused only for a failed
+-- allocation
 pub refused-bound : (s : ContextState) (name : List ℕ) (closure : HasClosure s name) (f : PrepareFault) → ((other : List ℕ) → LacksRoom s.pairs s.memory (new_of s closure.closed) other → ⊥) → OthersAreSound s closure.closed → MayNotPrepare s name f → fault_number f ≡ 99
 refused-bound s name closure fault.TooManyConnections rooms sound why = absurd (omega (arith, why, closure.has.left))
 refused-bound s name closure fault.RootMissing rooms sound why = let there : place_of s.pairs name ≡ Some closure.has.root = closure.has.is in let none : place_of s.pairs name ≡ None = why.1 in absurd (cc)
@@ -186,7 +187,7 @@ refused-bound s name closure (fault.Fragment (fragment.Reloc f k)) rooms sound w
 refused-bound s name closure (fault.Fragment fragment.OutOfMemory) rooms sound why = refl
 refused-bound s name closure fault.OutOfMemory rooms sound why = refl
 
--- a fragment that isn't read isn't linked, and it is the one that its name stands for
+-- a fragment that isn't read isn't linked, and it is the one that its name means
 unread : (pairs : List Pair) (root : ℕ) (asked name : List ℕ) (r : BindRefusal) → place_of pairs asked ≡ Some root → IsOfUnread pairs root name r → NamesForeign pairs name
 unread pairs root asked name r is of = record {
   position = of.position;

@@ -18,13 +18,13 @@ use Rattle.pef_headline.specs.Least.{HasLeast}
 use Rattle.pef_headline.specs.Now.{IsDescribedNow}
 use Rattle.pef_write.specs.Linked.{IsLinked, LinkedContainer}
 
--- "container that the linker writes": in place p of a store are the bytes that are linked of the script
+-- "container that the linker writes": place p of a store has the bytes that are linked from the script
 pub record HasLinked (pairs : List Pair) (p : ℕ) (script : DescribedScript) : Type 0 where
   pub container : LinkedContainer
   pub linked : IsLinked script container
   pub bytes : (pair_of pairs p).bytes ≡ container.bytes
 
--- the bytes in place p are no container that the linker writes, whatever the script
+-- the bytes in place p aren't a container that the linker writes, for any script
 abbrev pub IsForeign : List Pair → ℕ → Type 0
 IsForeign pairs p = (script : DescribedScript) → HasLinked pairs p script → ⊥
 
@@ -54,7 +54,7 @@ pub record OthersAreSound (s : ContextState) (closed : Closed) : Type 0 where
   pub headers : (fresh : List Present) (f : Present) → AreNew s.pairs s.memory (new_of s closed) fresh → Contains fresh f → IsForeign s.pairs f.position
       → reloc_refusal_in s.pairs (addresses_of s.pairs (s.present ++ fresh) f) f.position ≡ None
 
--- what `Context::prepare` may answer to a name, and the context afterwards, in the words of its own clauses
+-- what `Context::prepare` may return for a name, and the context afterwards, in the words of its own clauses
 abbrev pub MayAnswer : ContextState → List ℕ → Result ℕ PrepareFault → ContextState → Type 0
 MayAnswer s name (Ok number) t = Prepares s name number t
 MayAnswer s name (Err fault) t = MayNotPrepare s name fault × (t ≡ s)
@@ -64,8 +64,8 @@ pub record HasDescribedMemory (s : ContextState) (p : ℕ) (script : DescribedSc
   pub present : is_present s.present p ≡ true
   pub memory : IsDescribedNow s.pairs s script p
 
--- "prepares": the answer is the next connection, and the fragment in place p has the described memory afterwards; or it
--- is 99, the refusal for want of memory, and the context is as it was
+-- "prepares": the result is the next connection, and the fragment in place p has the described memory afterwards; or it
+-- is 99, the refusal for a failed allocation, and the context is unchanged
 abbrev pub PreparesAsDescribed : ContextState → Result ℕ PrepareFault → ContextState → ℕ → DescribedScript → Type 0
 PreparesAsDescribed s (Ok number) t p script = (number ≡ s.given) × HasDescribedMemory t p script
 PreparesAsDescribed s (Err fault) t p script = (fault_number fault ≡ 99) × (t ≡ s)

@@ -1,4 +1,4 @@
--- What is least about a container that was linked, as its bytes are read: for each section the relocation program. No
+-- What is least about a container that was linked, as its bytes are read: the relocation program of each section. No
 -- repeat-free program that makes the same fixups has fewer halfwords. This is our own rule.
 use Rattle.std.specs.Prelude.{◌≡◌, ◌≢◌, ℕ, ◌*◌, List, [], ◌∷◌, None, Some, length, slice_get}
 use Rattle.pef_cert.specs.Certified.{Certified}
@@ -11,13 +11,13 @@ use Rattle.pef_reloc.specs.Unrolled.{instrs_of, program_fault}
 use Rattle.pef_reloc.specs.declared.fixup.Fixup.{Fixup}
 use Rattle.pef_write.specs.Linked.{LinkedContainer}
 
--- one relocation header is section k's, with this program, and no other is
+-- one relocation header is that of section k, with this program, and no other is
 pub record HasOneHeader (loader : Loaded) (k : ℕ) (program : List ℕ) : Type 0 where
   pub place : ℕ
   pub here : reloc_of loader place ≡ Some (k, program)
   pub others : (i : ℕ) → i ≢ place → IsOther k (reloc_of loader i)
 
--- a section with fixups has one relocation header, and that has this program; a section without fixups has none
+-- a section with fixups has one relocation header, with this program; a section without fixups has none
 abbrev pub HasProgram : Loaded → ℕ → List Fixup → List ℕ → Type 0
 HasProgram loader k [] program = (i : ℕ) → IsOther k (reloc_of loader i)
 HasProgram loader k (fixup ∷ fixups) program = HasOneHeader loader k program

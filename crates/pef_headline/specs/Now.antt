@@ -1,5 +1,5 @@
 -- When a fragment of a context has the memory that a script describes (docs/SCRIPTS.md, `section`, `bytes`, `fix`,
--- `tvector`), with the addresses of now.
+-- `tvector`), with the present addresses.
 use Rattle.std.specs.Prelude.{ℕ, List, length, map}
 use Rattle.cfm_closure.specs.Stores.{Pair}
 use Rattle.cfm_prepare.specs.Prepared.{addresses_at}
@@ -12,18 +12,18 @@ use Rattle.pef_reloc.specs.Applied.{address_of}
 use Rattle.pef_script.specs.Described.{described_at}
 use Rattle.pef_script.specs.Script.{DescribedScript, DescribedSection}
 
--- what a section needs of memory
+-- the memory that a section needs
 abbrev pub described_extent : DescribedSection → Extent
 described_extent s = record { size = s.header.total; alignment = s.header.align }
 
--- the same of all sections of a script, in order
+-- the memory that each section of a script needs, in order
 abbrev pub described_extents : DescribedScript → List Extent
 described_extents script = map described_extent script.sections
 
--- each section of the script has a place of the section's length and alignment (each in turn was the lowest with room in
--- some memory; in which one, says the preparation that placed them, `Prepares`), and in the memory of now each place holds
--- exactly the bytes that the script describes, under the addresses that the fragment's sections and its imports' targets
--- have now (0 for an import that has no target)
+-- each section of the script has a place of the section's length and alignment. Each in turn was the lowest with room
+-- in some memory; `Prepares` says in which one. In the memory of now each place holds exactly the bytes that the script
+-- describes, under the addresses that the fragment's sections and its imports' targets have now (0 for an import that
+-- has no target)
 pub record IsDescribedNow (pairs : List Pair) (s : ContextState) (script : DescribedScript) (p : ℕ) : Type 0 where
   pub before : Layout
   pub empty : Layout

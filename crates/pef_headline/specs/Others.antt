@@ -1,9 +1,9 @@
--- Fragments that are refused, and that aren't what the linker writes.
+-- Fragments that are refused, and that the linker doesn't write.
 use Rattle.std.specs.Prelude.{◌≡◌, ℕ, List, Contains, Some}
 use Rattle.cfm_closure.specs.Stores.{Pair, pair_of, place_of}
 use Rattle.pef_headline.specs.Headline.{IsForeign}
 
--- among some fragments of a store there is one with a name that is foreign
+-- one of some fragments of a store has this name and is foreign
 pub record HasForeign (pairs : List Pair) (ps : List ℕ) (name : List ℕ) : Type 0 where
   pub position : ℕ
   pub member : Contains ps position

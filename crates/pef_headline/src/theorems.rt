@@ -1,5 +1,5 @@
-//! The headline and two laws of refusals: laws of the definitions that the crates below promise by.
-//! The functions do nothing.
+//! The headline and two laws of refusals. They are laws of the definitions in which the crates below state their
+//! contracts. The functions do nothing.
 ghost use Rattle.std.specs.Prelude.{◌≡◌, ℕ, List, None, Err, Contains, Result, true};
 ghost use Rattle.cfm_closure.specs.Stores.{Pair};
 ghost use Rattle.cfm_closure.specs.Faults.{no_container, no_loader};
@@ -20,22 +20,21 @@ ghost use Rattle.pef_headline.specs.Headline.{HasDescribedMemory, HasLeastProgra
 ghost use Rattle.pef_headline.specs.Others.{HasForeign, NamesForeign};
 ghost use Rattle.pef_views.specs.declared.fault.ViewFault.{ViewFault};
 
-/// The headline. Every container that the linker writes prepares, wherever its libraries resolve and its
-/// sections find room, to exactly the memory that its script describes; and for each section its relocation
-/// program has no more halfwords than any repeat-free program that makes the script's fixups, each once and
-/// in address order.
+/// The headline. Every container that the linker writes prepares, wherever its libraries resolve and its sections find
+/// room, to exactly the memory that its script describes; and for each section its relocation program has no more
+/// halfwords than any repeat-free program that makes the script's fixups, each once and in address order.
 ///
 /// `prepares`, the first half: a store has the linked bytes in place `p`. After any list of preparations and closings a
-/// root is prepared by its name, and its closure has `p`: it is the root itself, or what the root needs. The call gives
-/// the next connection, and the fragment in `p` is present with the described memory. The only refusal is 99, for want
-/// of memory, and then the context is as it was. The conditions: the root is in the store, and its closure isn't
-/// refused; fewer than 65,536 connections were given; the fragments of the closure that aren't present yet find room;
-/// and none of these that wasn't linked has an image or a relocation header that is refused.
+/// root is prepared by its name, and its closure has `p`: it is the root itself, or the root needs it. The call gives
+/// the next connection, and the fragment in `p` is present with the described memory. The only refusal is 99, for a
+/// failed allocation, and then the context is unchanged. The conditions: the root is in the store, and its closure
+/// isn't refused. Fewer than 65,536 connections were given. The fragments of the closure that aren't present yet find
+/// room. None of these that wasn't linked has an image or a relocation header that is refused.
 ///
 /// `present`: whenever the fragment in `p` is present, it has the described memory, under the addresses that its
-/// sections and its imports' targets have now. So it keeps what `prepares` gives as long as it is present.
+/// sections and its imports' targets have now. So what `prepares` gives is kept as long as the fragment is present.
 ///
-/// `least`, the second half: the linked bytes are read as a container with a loader section, and that has a least
+/// `least`, the second half: the linked bytes are read as a container with a loader section, which has a least
 /// relocation program for each section of the script.
 pub fn headline()
     ensures prepares { (script : DescribedScript) (s t : ContextState) (name : List ℕ) (p : ℕ) (answer : Result ℕ PrepareFault) → IsReached s → HasLinked s.pairs p script → (resolve : LibrariesResolve s name) → Contains resolve.closed.order p
@@ -44,7 +43,8 @@ pub fn headline()
     ensures least { (script : DescribedScript) (pairs : List Pair) (p : ℕ) (linked : HasLinked pairs p script) → HasLeastPrograms pairs p script linked.container }
 {}
 
-/// Each preparation that gives a connection meets the conditions of `prepares`, so they ask for no more than it needs.
+/// Each preparation that gives a connection meets the conditions of `prepares`, so the conditions require no more than
+/// it needs.
 pub fn conditions_are_met()
     ensures { (s t : ContextState) (name : List ℕ) (number : ℕ) → Prepares s name number t → (resolve : LibrariesResolve s name) × SectionsFindRoom s resolve.closed × OthersAreSound s resolve.closed }
 {}
@@ -58,8 +58,8 @@ pub fn linked_is_sound()
 {}
 
 /// So if new fragments of a closure are refused for an image or a relocation header, the refusal names one of them that
-/// wasn't linked of any script. If the bytes of a fragment aren't read, the refusal names a fragment of the store that
-/// wasn't linked of any.
+/// wasn't linked from any script. If the bytes of a fragment aren't read, the refusal names a fragment of the store
+/// that wasn't linked from any script.
 pub fn refusals_are_of_others()
     ensures image { (pairs : List Pair) (m : Layout) (new : List ℕ) (name : List ℕ) (k : PackFault) → HasBadImage pairs m new name k → HasForeign pairs new name }
     ensures program { (pairs : List Pair) (there : List Present) (m : Layout) (new : List ℕ) (name : List ℕ) (k : RelocFault) → HasBadProgram pairs there m new name k → HasForeign pairs new name }

@@ -1,4 +1,4 @@
--- Pieces one behind the other.
+-- Pieces one after the other.
 use Rattle.std.proofs.Common.{◌≡◌, ℕ, suc, ◌+◌, ◌-◌, ◌<◌, ◌≤◌, List, [], ◌∷◌, ◌++◌, refl, sym, ap, ◌∙◌, append_assoc, arith}
 use Rattle.std.proofs.lemmas.List.{append-nil}
 use Rattle.std.specs.Prelude.{None, Result, Ok, Err}
@@ -21,13 +21,13 @@ behind-text text (piece ∷ pieces) =
 pub pieces-more : (piece : Piece) (pieces : List Piece) → pieces_text (piece ∷ pieces) ≡ piece_text piece ++ pieces_text pieces
 pieces-more piece pieces = behind-text (piece_text piece) pieces
 
--- the texts of the things from one on begin with its own
+-- the texts of the parts from one on begin with its own
 pub each_text-more : (text : ℕ → List ℕ) (i n : ℕ) → i < n → each_text text i (n - i) ≡ text i ++ each_text text (i + 1) (n - (i + 1))
 each_text-more text i n under =
     let e : n - i ≡ suc (n - (i + 1)) = omega arith in
     rw e refl
 
--- behind the last one there is no text
+-- after the last one there is no text
 pub each_text-none : (text : ℕ → List ℕ) (i n : ℕ) → n ≤ i → each_text text i (n - i) ≡ []
 each_text-none text i n past =
     let e : n - i ≡ 0 = omega arith in

@@ -1,5 +1,5 @@
 -- How a relocation instruction is listed: its halfwords, its kind (PEFBinaryFormat.h, the relocation
--- opcodes), and its numbers as they mean.
+-- opcodes), and its numbers by their meanings.
 use Rattle.std.specs.Prelude.{ℕ, List, [], ◌∷◌, ◌++◌, codes, decimal}
 use Rattle.byteorder.specs.Endian.{big_bytes}
 use Rattle.pef_reloc.specs.declared.instr.Instr.{Instr}
@@ -57,7 +57,7 @@ abbrev pub halfwords_text : List ℕ → List ℕ
 halfwords_text [] = []
 halfwords_text (w ∷ words) = hex_text (big_bytes 2 w) ++ (32 ∷ halfwords_text words)
 
--- numbers in decimal, each behind a space
+-- numbers in decimal, each after a space
 abbrev pub numbers_text : List ℕ → List ℕ
 numbers_text [] = []
 numbers_text (n ∷ numbers) = 32 ∷ decimal n ++ numbers_text numbers

@@ -36,7 +36,7 @@ abbrev pub with_container : Result Contained ViewFault → Result Parts ListFaul
 with_container (Ok c) = with_loader c (loaded_of c.header.instantiated_section_count c.loader)
 with_container (Err fault) = Err (View fault)
 
--- what the bytes can be listed as, or the first refusal: of the container, of its loader section, of the
--- programs in the order of their headers
+-- what the bytes are listed as, or the first refusal: of the container, of its loader section, or of the programs
+-- in the order of their headers
 unfoldable pub listed_of : List ℕ → Result Parts ListFault
 listed_of bytes = with_container (container_of bytes)

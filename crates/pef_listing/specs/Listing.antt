@@ -1,6 +1,6 @@
--- What a listing of a container says (docs/FORMATS.md, "Listings"): a line for each thing that it holds, in this order:
--- its header, its sections, libraries, imports and entries, each relocation header with its instructions, its exports.
--- Numbers are decimal; options, offsets, addresses and values are upper-case hex.
+-- The listing of a container (docs/FORMATS.md, "Listings"): a line for each thing in it, in this order: its header, its
+-- sections, libraries, imports and entries, each relocation header with its instructions, its exports. Numbers are
+-- decimal. Options, offsets, addresses and values are upper-case hex.
 use Rattle.std.specs.Prelude.{ℕ, ℤ, pos, negsuc, zero, suc, ◌+◌, Bool, List, [], ◌∷◌, ◌++◌, Option, None, Some, codes, decimal, if◌then◌else◌, length, ◌/◌}
 use Rattle.std.specs.Option.{option_map_or}
 use Rattle.std.specs.Str.{bytes_eq}
@@ -28,7 +28,7 @@ container_text h =
     ++ codes " oldimp " ++ decimal h.old_imp_version
     ++ codes " date " ++ decimal h.date_time_stamp ++ codes "\n"
 
--- a section's name; `-` stands for none, so a name that is `-` is escaped
+-- a section's name; `-` means none, so the name `-` is escaped
 unfoldable pub section_name_text : Option (List ℕ) → List ℕ
 section_name_text None = codes "-"
 section_name_text (Some name) = if bytes_eq name (codes "-") then codes "%2D" else name_text name
@@ -54,7 +54,7 @@ library_text l =
     ++ codes " oldimp " ++ decimal l.old_imp
     ++ codes " options " ++ hex_text (l.options ∷ []) ++ codes "\n"
 
--- `weak` for an import that may be missing, else `strong`
+-- `weak` for an import that may be missing, otherwise `strong`
 abbrev pub strength_text : Bool → List ℕ
 strength_text weak = if weak then codes " weak\n" else codes " strong\n"
 
@@ -65,7 +65,7 @@ import_text j i library =
     ++ codes " of " ++ name_text library
     ++ codes " class " ++ decimal i.class ++ strength_text i.weak
 
--- the line of an entry that is there: its section and its offset
+-- the line of an entry that the container has: its section and its offset
 abbrev pub entry_text : List ℕ → Option (ℕ × ℕ) → List ℕ
 entry_text label None = []
 entry_text label (Some e) = label ++ decimal e.0 ++ codes " " ++ word_text e.1 ++ codes "\n"
@@ -91,7 +91,7 @@ export_text e =
 unfoldable pub reloc_text : ℕ × List ℕ → List ℕ
 reloc_text r = codes "reloc section " ++ decimal r.0 ++ codes " halfwords " ++ decimal (length r.1 / 2) ++ codes "\n" ++ program_text (instrs_of r.1)
 
--- the lines of the things with a number, none past the last one of each kind
+-- the lines of the parts with a number, none past the last one of each kind
 unfoldable pub section_lines : Contained → ℕ → List ℕ
 section_lines c i = option_map_or (λ s. section_text i s (section_name_of c i)) (section_of c i) []
 
@@ -122,8 +122,7 @@ imported_lines l = each_text (library_lines l) 0 l.header.library_count ++ each_
 abbrev pub entries_lines : Loaded → List ℕ
 entries_lines l = entry_text (codes "main ") (main_of l) ++ entry_text (codes "init ") (init_of l) ++ entry_text (codes "term ") (term_of l)
 
--- the listing of a container: what it is, what it needs, where it is entered, how it is relocated, what it
--- offers
+-- the listing of a container: what it is, what it needs, where it is entered, how it is relocated, what it exports
 abbrev pub listing_text : Contained → Loaded → List ℕ
 listing_text c l =
     container_lines c ++ imported_lines l ++ entries_lines l

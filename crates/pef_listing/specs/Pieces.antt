@@ -5,7 +5,7 @@ use Rattle.pef_listing.specs.declared.pieces.Piece.TheVariants.{Text, Name, Numb
 use Rattle.pef_ports.specs.Names.{name_text}
 use Rattle.pef_ports.specs.Text.{hex_text, word_text}
 
--- a piece as it is printed: text as it stands, a name with its bytes that could break a line escaped, a
+-- a piece as it is printed: text unchanged, a name with the bytes escaped that could break a line, a
 -- number in decimal, one of 32 bits in eight hex digits, and one of 8 bits in two
 abbrev pub piece_text : Piece → List ℕ
 piece_text (Text text) = text.now
@@ -14,12 +14,12 @@ piece_text (Number n) = decimal n
 piece_text (Word n) = word_text n
 piece_text (Byte n) = hex_text (n ∷ [])
 
--- pieces behind a text
+-- pieces after a text
 abbrev pub pieces_behind : List ℕ → List Piece → List ℕ
 pieces_behind text [] = text
 pieces_behind text (piece ∷ pieces) = pieces_behind (text ++ piece_text piece) pieces
 
--- the pieces one behind the other
+-- the pieces one after the other
 abbrev pub pieces_text : List Piece → List ℕ
 pieces_text [] = []
 pieces_text (piece ∷ pieces) = pieces_behind (piece_text piece) pieces

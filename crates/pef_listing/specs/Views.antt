@@ -1,4 +1,4 @@
--- What a listing shows, without places in memory.
+-- The values that a listing shows, without places in memory.
 use Rattle.pef_views.specs.Views.{contained}
 use Rattle.pef_loader.specs.Views.{loaded}
 use Rattle.pef_listing.specs.declared.listing.Listing.{Listing}

@@ -10,7 +10,7 @@ use thiserror::Error;
 /// Why bytes can't be listed: the first refusal of their readers.
 #[derive(Clone, Copy, Debug, PartialEq, Eq, Error)]
 pub enum ListFault {
-    /// They are no container.
+    /// They aren't a container.
     View(ViewFault),
     /// The container's loader section breaks a rule.
     Loader(LoaderFault),
@@ -19,7 +19,7 @@ pub enum ListFault {
 }
 
 impl ListFault {
-    /// The number of the refusal.
+    /// Returns the number of the refusal.
     pub fn number(&self) -> u32
         ensures { result ≡ fault_number self.now }
     {
@@ -30,7 +30,7 @@ impl ListFault {
         }
     }
 
-    /// The refusal's name, which is its text.
+    /// Returns the refusal's name, which is its text.
     pub fn name(&self) -> &'static str
         ensures { result.now ≡ fault_name self.now }
     {

@@ -10,7 +10,7 @@ ghost use Rattle.pef_ports.specs.Sent.{Sends};
 use pef_ports::{Line, Page, Sink, StreamFault, push_hex, push_number, push_text, send};
 use pef_reloc::{Instr, Program, Spelling};
 
-/// Prints the lines of a program's instructions, unrolled in no way.
+/// Prints the lines of a program's instructions. Repeats aren't unrolled.
 pub fn print_program<W: Sink>(
     out: &mut W,
     page: &mut Page,
@@ -25,7 +25,7 @@ pub fn print_program<W: Sink>(
     Ok(())
 }
 
-/// The line of an instruction.
+/// Returns the line of an instruction.
 #[tactic(auto, unfolding(crate::specs::Instructions::instr_text))]
 fn instr_line(instr: Instr) -> Line
     requires { instr_fits instr ≡ true }
@@ -61,7 +61,7 @@ fn push_halfword(line: &mut Line, halfword: u16)
     push_text(line, b" ");
 }
 
-/// Appends the numbers of an instruction, as they mean.
+/// Appends the numbers of an instruction, by their meanings.
 fn push_numbers(line: &mut Line, instr: Instr)
     requires { array_vec_len line.old ≤ 25 }
     ensures text { line.new.items ≡ line.old.items ++ numbers_text (numbers_of instr) }
@@ -102,7 +102,7 @@ fn push_numbers(line: &mut Line, instr: Instr)
     }
 }
 
-/// Appends a number behind a space.
+/// Appends a number after a space.
 fn push_count(line: &mut Line, n: u32)
     requires { array_vec_len line.old ≤ 46 }
     ensures text { line.new.items ≡ line.old.items ++ numbers_text (n ∷ []) }
@@ -112,7 +112,7 @@ fn push_count(line: &mut Line, n: u32)
     push_number(line, u64::from(n));
 }
 
-/// The name of an instruction's kind.
+/// Returns the name of an instruction's kind.
 fn kind_name(instr: Instr) -> &'static [u8]
     ensures name { result.now ≡ kind_name instr }
     ensures short { length result.now ≤ 15 }

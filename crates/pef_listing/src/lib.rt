@@ -1,8 +1,8 @@
 //! Listings of containers: a line for each section, library, import, entry, relocation instruction and
 //! export.
 //!
-//! [`Listing::read`] reads all that is to be listed, and says the first refusal; [`Listing::print`] prints
-//! the lines.
+//! [`Listing::read`] reads all parts to be listed, and reports the first refusal. [`Listing::print`]
+//! prints the lines.
 #![tactic(auto)]
 
 mod fault;

@@ -17,19 +17,19 @@ use pef_ports::{Page, Sink, StreamFault};
 use pef_reloc::Program;
 use pef_views::{Container, Header};
 
-/// Things of a container that are listed by their numbers.
+/// Parts of a container that are listed by their numbers.
 pub trait Lines {
-    /// How many there are.
+    /// The number of parts.
     ghost many: { Self → ℕ };
 
     /// The lines of one of them.
     ghost text: { Self → ℕ → List ℕ };
 
-    /// How many there are.
+    /// Returns the number of parts.
     fn len(&self) -> usize
         ensures { result ≡ many self.now };
 
-    /// Prints the lines of thing `i`.
+    /// Prints the lines of part `i`.
     fn print_at<W: Sink>(&self, out: &mut W, page: &mut Page, i: usize) -> Result<(), StreamFault>
         requires { i < many self.now }
         ensures { Sends result (W.stream out.old) (W.stream out.new) page.old.items page.new.items (text self.now i) };
@@ -125,7 +125,7 @@ impl<'a> Lines for Sections<'a> {
     }
 }
 
-/// A section's name as it is listed.
+/// Returns a section's name as it is listed.
 #[tactic(auto, unfolding(crate::specs::Listing::section_name_text))]
 fn name_piece<'a>(name: Option<&'a [u8]>) -> Piece<'a>
     ensures { piece_text result ≡ section_name_text (option_copied name.entry) }
@@ -175,7 +175,7 @@ impl<'a> Lines for Libraries<'a> {
     }
 }
 
-/// Prints the lines of the imported symbols, whose libraries are found for many imports at once.
+/// Prints the lines of the imported symbols. Their libraries are found for many imports at once.
 pub fn print_imports<W: Sink>(
     out: &mut W,
     page: &mut Page,
@@ -264,7 +264,7 @@ impl<'a> Lines for Exported<'a> {
     }
 }
 
-/// The relocation headers of a loader section, of which each program is readable.
+/// The relocation headers of a loader section. Each program is readable.
 #[derive(Clone, Copy)]
 pub struct Relocations<'a> {
     pub loader: Loader<'a>,
@@ -303,7 +303,7 @@ impl<'a> Lines for Relocations<'a> {
     }
 }
 
-/// Prints the line of an entry, where the entry is there.
+/// Prints the line of an entry, if the container has it.
 pub fn print_entry<W: Sink>(
     out: &mut W,
     page: &mut Page,
@@ -335,7 +335,7 @@ struct SectionNumber {
     magnitude: u32,
 }
 
-/// The number of the section that an export is in.
+/// Returns the number of the section that an export is in.
 fn section_number(export: ExportView<'_>) -> SectionNumber
     ensures sign { result.sign.now ≡ sign_text export.entry.section }
     ensures magnitude { result.magnitude ≡ magnitude export.entry.section }
@@ -346,7 +346,7 @@ fn section_number(export: ExportView<'_>) -> SectionNumber
     }
 }
 
-/// How an import's line ends: whether it may be missing.
+/// Returns the end of an import's line: whether the import may be missing.
 fn strength(weak: bool) -> &'static [u8]
     ensures { result.now ≡ strength_text weak }
 {

@@ -17,7 +17,7 @@ use pef_ports::{Page, Sink, StreamFault};
 use pef_reloc::{Program, RelocFault};
 use pef_views::Container;
 
-/// A container of which each part was read, so that all of it can be listed.
+/// A container whose parts were all read, so that all of it can be listed.
 #[derive(Clone, Copy, Debug)]
 pub struct Listing<'a> {
     container: Container<'a>,
@@ -34,8 +34,8 @@ impl<'a> Listing<'a> {
     ///
     /// # Errors
     ///
-    /// The first refusal: of the container, of its loader section, of its relocation programs in the order
-    /// of their headers.
+    /// The first refusal: of the container, of its loader section, or of its relocation programs in the
+    /// order of their headers.
     #[tactic(auto, unfolding(crate::specs::Listed::listed_of))]
     pub fn read(bytes: &'a [u8]) -> Result<Listing<'a>, ListFault>
         ensures { result_map parts result ≡ listed_of bytes.entry.now }
@@ -55,7 +55,7 @@ impl<'a> Listing<'a> {
     }
 
     /// Prints all lines: what the container is, what it needs, where it is entered, how it is relocated,
-    /// and what it offers.
+    /// and what it exports.
     pub fn print<W: Sink>(&self, out: &mut W, page: &mut Page) -> Result<(), StreamFault>
         ensures { Sends result (W.stream out.old) (W.stream out.new) page.old.items page.new.items (listing_text (parts self.now).container (parts self.now).loader) }
     {
@@ -108,7 +108,7 @@ fn print_entries<W: Sink>(
     print_entry(out, page, b"term ", term)
 }
 
-/// The first refusal of a relocation program, header by header.
+/// Tests the relocation programs, header by header, and reports the first refusal.
 fn test_programs(loader: &Loader<'_>) -> Result<(), RelocFault>
     ensures { result_err result ≡ programs_fault (loaded loader.now) }
 {
@@ -118,7 +118,7 @@ fn test_programs(loader: &Loader<'_>) -> Result<(), RelocFault>
     Ok(())
 }
 
-/// The refusal of the program of relocation header `k`.
+/// Tests the program of relocation header `k`.
 fn test_program(loader: &Loader<'_>, k: usize) -> Result<(), RelocFault>
     ensures { result_err result ≡ program_refusal (loaded loader.now) k }
 {

@@ -9,9 +9,9 @@ use pef_ports::{Line, Page, Sink, StreamFault, print_name, push_hex, push_word, 
 pub enum Piece<'a> {
     /// A number in decimal.
     Number(u64),
-    /// Text as it stands.
+    /// Text, printed unchanged.
     Text(&'a [u8]),
-    /// A name, whose bytes that could break a line are escaped.
+    /// A name. Bytes that could break a line are escaped.
     Name(&'a [u8]),
     /// A number of 32 bits in eight hex digits.
     Word(u32),
@@ -19,7 +19,7 @@ pub enum Piece<'a> {
     Byte(u8),
 }
 
-/// Prints pieces one behind the other.
+/// Prints pieces one after the other.
 pub fn print_pieces<W: Sink>(
     out: &mut W,
     page: &mut Page,

@@ -1,4 +1,4 @@
--- How what was read adds up.
+-- How reads add up.
 use Rattle.std.proofs.Common.{ℕ, List, ◌++◌, Option, None, Some, sym, ap, subst, ◌∙◌, append_assoc}
 use Rattle.pef_ports.specs.Ports.{Begins}
 

@@ -1,2 +1,2 @@
--- What this crate offers to the proofs of others: facts of its definitions.
+-- Facts of the definitions, for the proofs of other crates.
 pub mod Sending

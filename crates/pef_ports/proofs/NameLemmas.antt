@@ -3,12 +3,12 @@ use Rattle.std.proofs.Common.{◌≡◌, ℕ, ◌+◌, ◌<◌, true, List, [], 
 use Rattle.std.proofs.lemmas.List.{at_drop_more, take_more}
 use Rattle.pef_ports.specs.Names.{byte_text, is_plain_byte, name_text}
 
--- a byte that is printed as it stands
+-- a byte that is printed unchanged
 plain_text : (b : ℕ) → is_plain_byte b ≡ true → byte_text b ≡ b ∷ []
 unfolding byte_text
 plain_text b plain = rw plain refl
 
--- one more byte at the front that is printed as it stands
+-- one more byte at the front that is printed unchanged
 pub plain_more : (name : List ℕ) (i : ℕ) → i < length name → is_plain_byte (get_or name i 0) ≡ true → name_text name ≡ take i name ++ name_text (drop i name) → name_text name ≡ take (i + 1) name ++ name_text (drop (i + 1) name)
 plain_more name i under plain so_far =
     let rest = name_text (drop (i + 1) name) in

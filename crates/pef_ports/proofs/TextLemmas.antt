@@ -40,7 +40,7 @@ unfolding rows
 dump_text-none address [] none = refl
 dump_text-none address (b ∷ bytes) none = absurd (omega arith)
 
--- the address counts only where there are bytes
+-- the address counts only if there are bytes
 pub dump_text-at : (a b : ℕ) (bytes : List ℕ) → (0 < length bytes → a ≡ b) → dump_text a bytes ≡ dump_text b bytes
 unfolding rows
 dump_text-at a b [] same = refl

@@ -1,4 +1,4 @@
--- The refusals of an input, their numbers and their names. They are this project's own.
+-- The refusals of an input, with their numbers and names. They are this project's own.
 use Rattle.std.specs.Prelude.{ℕ, List, codes}
 use Rattle.pef_ports.specs.declared.input.InputFault.{InputFault}
 use Rattle.pef_ports.specs.declared.input.InputFault.TheVariants.{Unreadable, TooLong, OutOfMemory}

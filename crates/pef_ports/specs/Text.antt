@@ -15,7 +15,7 @@ hex_text (b ∷ bytes) = hex_digit (b / 16) ∷ hex_digit (b % 16) ∷ hex_text 
 abbrev pub word_text : ℕ → List ℕ
 word_text n = hex_text (big_bytes 4 n)
 
--- n groups of four bytes, each behind a space
+-- n groups of four bytes, each after a space
 unfoldable pub groups : ℕ → List ℕ → List ℕ
 groups zero bytes = []
 groups (suc n) bytes = 32 ∷ hex_text (take 4 bytes) ++ groups n (drop 4 bytes)

@@ -7,13 +7,13 @@ use crate::line::{Line, push_hex, push_word};
 use crate::page::{Page, send};
 use crate::ports::{Sink, StreamFault};
 
-/// How many bytes of memory stand in a line.
+/// How many bytes of memory a line shows.
 const ROW: usize = 16;
 
-/// How many bytes of memory stand in a group of a line.
+/// How many bytes of memory a group of a line shows.
 const GROUP: usize = 4;
 
-/// Prints `bytes`, which stand at `address`, in lines of sixteen.
+/// Prints `bytes`, which begin at `address`, in lines of sixteen.
 pub fn print_memory<W: Sink>(
     out: &mut W,
     page: &mut Page,
@@ -34,7 +34,7 @@ pub fn print_memory<W: Sink>(
     Ok(())
 }
 
-/// The line of some bytes of memory.
+/// Returns the line of some bytes of memory.
 fn line_of(address: u32, bytes: &[u8]) -> Line
     requires { length bytes.now ≤ 16 }
     ensures { result.items ≡ row_text address bytes.now }

@@ -8,22 +8,22 @@ use std::alloc::{AllocError, Global};
 use std::fmt;
 use thiserror::Error;
 
-/// How many bytes are asked for at a time.
+/// How many bytes are read at a time.
 const CHUNK: usize = 65536;
 
-/// Why an input could not be read whole. Its text is its name.
+/// Why an input could not be read whole. The text is the refusal's name.
 #[derive(Clone, Copy, Debug, PartialEq, Eq, Error)]
 pub enum InputFault {
     /// The input failed.
     Unreadable,
     /// The input has more bytes than the limit.
     TooLong,
-    /// A growth of memory was refused.
+    /// An allocation failed.
     OutOfMemory,
 }
 
 impl InputFault {
-    /// The refusal's number: 73 or 74, which no refusal of another crate has, or 99.
+    /// Returns the refusal's number: 73 or 74, which no refusal of another crate has, or 99.
     pub fn number(&self) -> u32
         ensures { result ≡ fault_number self.now }
     {
@@ -34,7 +34,7 @@ impl InputFault {
         }
     }
 
-    /// The refusal's name, which is its text.
+    /// Returns the refusal's name, which is its text.
     pub fn name(&self) -> &'static str
         ensures { result.now ≡ fault_name self.now }
     {
@@ -68,7 +68,7 @@ impl From<AllocError> for InputFault {
     }
 }
 
-/// Reads an input to its end, where it has no more than `limit` bytes.
+/// Reads an input to its end, if it has no more than `limit` bytes.
 pub fn read_input<R: Source>(
     alloc: Global,
     input: &mut R,
@@ -88,8 +88,8 @@ pub fn read_input<R: Source>(
     }
 }
 
-/// Reads the next bytes of an input, of which no more than `room` may come. It takes no memory, so its
-/// two faults are told as they are.
+/// Reads the next bytes of an input. More than `room` bytes are refused. It allocates nothing, so its
+/// two faults are reported unchanged.
 fn read_chunk<R: Source>(input: &mut R, chunk: &mut [u8], room: usize) -> Result<usize, InputFault>
     ensures { ReadsChunk result (R.stream input.old) (R.stream input.new) chunk.new room }
 {

@@ -51,7 +51,7 @@ pub fn push_hex(line: &mut Line, bytes: &[u8])
     }
 }
 
-/// The upper-case digit of a number below sixteen.
+/// Returns the upper-case digit of a number below sixteen.
 fn digit(d: u8) -> u8
     requires { d < 16 }
     ensures { result ≡ hex_digit d }

@@ -6,9 +6,9 @@ use crate::line::{Line, push_hex};
 use crate::page::{Page, send};
 use crate::ports::{Sink, StreamFault};
 
-/// Prints a name or a path, its bytes that could break a line as `%` and two digits.
+/// Prints a name or a path. A byte that could break a line is printed as `%` and two digits.
 ///
-/// Bytes that are printed as they stand are sent together.
+/// Bytes that are printed unchanged are sent together.
 pub fn print_name<W: Sink>(out: &mut W, page: &mut Page, name: &[u8]) -> Result<(), StreamFault>
     ensures { Sends result (W.stream out.old) (W.stream out.new) page.old.items page.new.items (name_text name.now) }
 {
@@ -25,7 +25,7 @@ pub fn print_name<W: Sink>(out: &mut W, page: &mut Page, name: &[u8]) -> Result<
     Ok(())
 }
 
-/// How many bytes at the front of a name are printed as they stand.
+/// Returns how many bytes at the front of a name are printed unchanged.
 #[tactic(auto, using(crate::proofs::NameLemmas::plain_more))]
 fn plain_len(name: &[u8]) -> usize
     ensures inside { result ≤ length name.now }
@@ -39,14 +39,14 @@ fn plain_len(name: &[u8]) -> usize
     name.len()
 }
 
-/// Whether a byte is printed as it stands.
+/// Returns whether a byte is printed unchanged.
 fn is_plain(b: u8) -> bool
     ensures { result ≡ is_plain_byte b }
 {
     b.is_ascii_graphic() && b != b'%'
 }
 
-/// A byte of a name as it is printed.
+/// Returns a byte of a name as it is printed.
 #[tactic(auto, unfolding(crate::specs::Names::byte_text))]
 fn byte_text(b: u8) -> Line
     ensures { result.items ≡ byte_text b }

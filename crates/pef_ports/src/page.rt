@@ -4,13 +4,13 @@ ghost use Rattle.pef_ports.specs.Sent.{Sends};
 use crate::ports::{Sink, StreamFault};
 use arrayvec::ArrayVec;
 
-/// How many bytes wait before they go out together.
+/// How many bytes wait before they are written together.
 const PAGE: usize = 8192;
 
-/// The bytes of an output that wait to go out.
+/// The bytes of an output that wait to be written.
 pub type Page = ArrayVec<u8, PAGE>;
 
-/// Sends `bytes` behind what waits in the page.
+/// Sends `bytes` after those that wait in the page.
 pub fn send<W: Sink>(out: &mut W, page: &mut Page, bytes: &[u8]) -> Result<(), StreamFault>
     ensures { Sends result (W.stream out.old) (W.stream out.new) page.old.items page.new.items bytes.now }
 {
@@ -24,7 +24,7 @@ pub fn send<W: Sink>(out: &mut W, page: &mut Page, bytes: &[u8]) -> Result<(), S
     write_all(out, bytes)
 }
 
-/// Sends what waits in the page, which is empty then.
+/// Writes the bytes that wait in the page, which is empty then.
 pub fn flush<W: Sink>(out: &mut W, page: &mut Page) -> Result<(), StreamFault>
     ensures sends { Sends result (W.stream out.old) (W.stream out.new) page.old.items page.new.items [] }
     ensures empty { OnOk result (page.new.items ≡ []) }
@@ -34,7 +34,7 @@ pub fn flush<W: Sink>(out: &mut W, page: &mut Page) -> Result<(), StreamFault>
     Ok(())
 }
 
-/// Sends all of `bytes`, with no page between.
+/// Writes all of `bytes`, without the page.
 fn write_all<W: Sink>(out: &mut W, bytes: &[u8]) -> Result<(), StreamFault>
     ensures { Sends result (W.stream out.old) (W.stream out.new) [] [] bytes.now }
 {

@@ -17,51 +17,51 @@ pub enum FileFault {
     /// The file failed, and the failure was counted.
     #[error("the file failed")]
     Failed,
-    /// A growth of memory was refused.
+    /// An allocation failed.
     #[error("out of memory")]
     OutOfMemory,
 }
 
-/// Where a command's output goes.
+/// The output of a command.
 pub trait Sink {
-    /// How the output stands; its bytes are those that went out so far.
+    /// The state of the output. Its bytes are those written so far.
     ghost stream: { Self → Stream };
 
-    /// Takes a part of `bytes` from their front, and of some bytes at least one, and says how many.
+    /// Writes a prefix of `bytes`, at least one byte unless `bytes` is empty, and returns its length.
     fn write(&mut self, bytes: &[u8]) -> Result<usize, StreamFault>
         ensures { WritesSome result (stream self.old) (stream self.new) bytes.now };
 }
 
-/// Where a command's input comes from.
+/// The input of a command.
 pub trait Source {
-    /// How the input stands; its bytes are those that are still to come.
+    /// The state of the input. Its bytes are those still to be read.
     ghost stream: { Self → Stream };
 
-    /// Puts the next bytes at the front of `buffer`, and says how many: into a buffer that isn't empty
-    /// none only at the end.
+    /// Reads the next bytes into the front of `buffer`, and returns how many. Into a buffer that isn't
+    /// empty it reads none only at the end.
     fn read(&mut self, buffer: &mut [u8]) -> Result<usize, StreamFault>
         ensures { ReadsSome result (stream self.old) (stream self.new) buffer.new };
 }
 
 /// The files that a command reads and writes, by their paths.
 pub trait Files {
-    /// How the files stand.
+    /// The state of the files.
     ghost state: { Self → FilesState };
 
-    /// A call of `read` by a path leads from these files to those, with this answer. A port need not say
-    /// more of it than that; by this name it is told which calls a run made.
+    /// A call of `read` by a path leads from these files to those, with this result. A port need not say
+    /// more about it. By this name a clause can say which calls a run made.
     ghost was_read: { Self → List ℕ → Result (List ℕ) FileFault → Self → Type 0 } = { λ _ _ _ _. Unit {0} };
 
-    /// The same of a call of `write` by a path with some bytes.
+    /// The same for a call of `write` by a path with some bytes.
     ghost was_written: { Self → List ℕ → List ℕ → Result (Unit {0}) FileFault → Self → Type 0 } = { λ _ _ _ _ _. Unit {0} };
 
-    /// All bytes of the file at `path`. No file is changed.
+    /// Returns all bytes of the file at `path`. No file is changed.
     fn read(&mut self, alloc: Global, path: &[u8]) -> Result<Vec<u8>, FileFault>
         ensures call { was_read self.old path.now (result_map (λ bytes. bytes.items) result) self.new }
         ensures told { ReadsFile (result_map (λ bytes. bytes.items) result) (state self.old) (state self.new) path.now };
 
-    /// Leaves just `bytes` in the file at `path`; where it fails, any bytes or none. No other file is
-    /// changed.
+    /// Replaces the contents of the file at `path` by `bytes`. If it fails, the file may have any bytes
+    /// or none. No other file is changed.
     fn write(&mut self, path: &[u8], bytes: &[u8]) -> Result<(), FileFault>
         ensures call { was_written self.old path.now bytes.now result self.new }
         ensures told { WritesFile result (state self.old) (state self.new) path.now bytes.now };

@@ -1,5 +1,5 @@
-//! Files and streams of the system, behind the ports of the tool. The files count their failures, and tell which calls
-//! of a disk were made; the streams tell the bytes of the reader or writer that they have, where that tells them.
+//! Files and streams of the system, as ports of the tool. The files count their failures, and report which calls of a
+//! disk were made. The streams report the bytes of the reader or writer that they have, if that reports them.
 
 mod disk;
 #[cfg(test)]

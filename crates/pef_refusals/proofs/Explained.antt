@@ -1,4 +1,4 @@
--- That the numbers with a name are those with help, for `named_are_explained`.
+-- The numbers with a name are those with help, for `named_are_explained`.
 use Rattle.std.specs.Prelude.{◌≡◌, ℕ, if◌then◌else◌, nat_le}
 use Rattle.std.proofs.Common.{arith}
 use Rattle.std.specs.Option.{is_some}
@@ -51,7 +51,7 @@ between number =
     let of_rest = above number in
     grind arith
 
--- a number has a name just if it has help
+-- a number has a name exactly if it has help
 pub explained : (number : ℕ) → is_some (name_of number) ≡ is_some (help_of number)
 explained number =
     let of_container = container number in

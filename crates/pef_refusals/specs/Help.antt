@@ -1,4 +1,4 @@
--- What refusals mean and what to do, by their numbers (docs/REFUSALS.md says it at length).
+-- What refusals mean and what to do, by their numbers (docs/ERRORS.md explains them at length).
 use Rattle.std.specs.Prelude.{◌==◌, ℕ, List, Option, None, Some, codes, if◌then◌else◌, nat_le}
 
 -- of a container

@@ -1,4 +1,4 @@
--- What refusals are called, by their numbers (docs/REFUSALS.md).
+-- Names of refusals, by their numbers (docs/ERRORS.md).
 use Rattle.std.specs.Prelude.{◌==◌, ℕ, List, Option, None, Some, codes, if◌then◌else◌, nat_le}
 
 -- of a container

@@ -17,7 +17,7 @@ pub fn help(number: u32) -> Option<&'static str>
     }
 }
 
-/// The help of a container.
+/// Returns the help of a container.
 #[tactic(auto, unfolding(crate::specs::Help::container_help))]
 fn container_help(number: u32) -> Option<&'static str>
     ensures { option_map (λ text. text.now) result ≡ container_help number }
@@ -53,7 +53,7 @@ fn container_help(number: u32) -> Option<&'static str>
     }
 }
 
-/// The help of a loader section.
+/// Returns the help of a loader section.
 #[tactic(auto, unfolding(crate::specs::Help::loader_help))]
 fn loader_help(number: u32) -> Option<&'static str>
     ensures { option_map (λ text. text.now) result ≡ loader_help number }
@@ -87,7 +87,7 @@ fn loader_help(number: u32) -> Option<&'static str>
     }
 }
 
-/// The help of packed data.
+/// Returns the help of packed data.
 #[tactic(auto, unfolding(crate::specs::Help::packed_help))]
 fn packed_help(number: u32) -> Option<&'static str>
     ensures { option_map (λ text. text.now) result ≡ packed_help number }
@@ -110,7 +110,7 @@ fn packed_help(number: u32) -> Option<&'static str>
     }
 }
 
-/// The help of relocation programs.
+/// Returns the help of relocation programs.
 #[tactic(auto, unfolding(crate::specs::Help::relocation_help))]
 fn relocation_help(number: u32) -> Option<&'static str>
     ensures { option_map (λ text. text.now) result ≡ relocation_help number }
@@ -143,7 +143,7 @@ fn relocation_help(number: u32) -> Option<&'static str>
     }
 }
 
-/// The help of scripts.
+/// Returns the help of scripts.
 #[tactic(auto, unfolding(crate::specs::Help::script_help))]
 fn script_help(number: u32) -> Option<&'static str>
     ensures { option_map (λ text. text.now) result ≡ script_help number }
@@ -180,7 +180,7 @@ fn script_help(number: u32) -> Option<&'static str>
     }
 }
 
-/// The help of certificates, closures, placement and connections.
+/// Returns the help of certificates, closures, placement and connections.
 #[tactic(auto, unfolding(crate::specs::Help::closure_help))]
 fn closure_help(number: u32) -> Option<&'static str>
     ensures { option_map (λ text. text.now) result ≡ closure_help number }
@@ -224,7 +224,7 @@ fn closure_help(number: u32) -> Option<&'static str>
     }
 }
 
-/// The help of files, inputs and memory.
+/// Returns the help of files, inputs and memory.
 #[tactic(auto, unfolding(crate::specs::Help::port_help))]
 fn port_help(number: u32) -> Option<&'static str>
     ensures { option_map (λ text. text.now) result ≡ port_help number }

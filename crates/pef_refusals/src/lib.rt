@@ -1,6 +1,7 @@
-//! What a refusal is called, and what it means: its number leads to its name and to one or two sentences of help.
+//! The name of a refusal, and its meaning: a number gives its name and one or two sentences of help.
 //!
-//! A number means the same in every crate. The crate that finds a refusal declares it; docs/REFUSALS.md has the whole list.
+//! A number means the same in every crate. The crate that finds a refusal declares it. docs/ERRORS.md has the whole
+//! list.
 #![tactic(auto)]
 
 mod explanations;

@@ -1,4 +1,4 @@
-//! What refusals are called.
+//! Names of refusals.
 ghost use Rattle.std.specs.Prelude.{◌≡◌, option_map};
 ghost use Rattle.pef_refusals.specs.Names.{closure_name, container_name, loader_name, name_of, packed_name, port_name, relocation_name, script_name};
 
@@ -17,7 +17,7 @@ pub fn name(number: u32) -> Option<&'static str>
     }
 }
 
-/// The names of a container.
+/// Returns the names of a container.
 #[tactic(auto, unfolding(crate::specs::Names::container_name))]
 fn container_name(number: u32) -> Option<&'static str>
     ensures { option_map (λ text. text.now) result ≡ container_name number }
@@ -37,7 +37,7 @@ fn container_name(number: u32) -> Option<&'static str>
     }
 }
 
-/// The names of a loader section.
+/// Returns the names of a loader section.
 #[tactic(auto, unfolding(crate::specs::Names::loader_name))]
 fn loader_name(number: u32) -> Option<&'static str>
     ensures { option_map (λ text. text.now) result ≡ loader_name number }
@@ -57,7 +57,7 @@ fn loader_name(number: u32) -> Option<&'static str>
     }
 }
 
-/// The names of packed data.
+/// Returns the names of packed data.
 #[tactic(auto, unfolding(crate::specs::Names::packed_name))]
 fn packed_name(number: u32) -> Option<&'static str>
     ensures { option_map (λ text. text.now) result ≡ packed_name number }
@@ -72,7 +72,7 @@ fn packed_name(number: u32) -> Option<&'static str>
     }
 }
 
-/// The names of relocation programs.
+/// Returns the names of relocation programs.
 #[tactic(auto, unfolding(crate::specs::Names::relocation_name))]
 fn relocation_name(number: u32) -> Option<&'static str>
     ensures { option_map (λ text. text.now) result ≡ relocation_name number }
@@ -91,7 +91,7 @@ fn relocation_name(number: u32) -> Option<&'static str>
     }
 }
 
-/// The names of scripts.
+/// Returns the names of scripts.
 #[tactic(auto, unfolding(crate::specs::Names::script_name))]
 fn script_name(number: u32) -> Option<&'static str>
     ensures { option_map (λ text. text.now) result ≡ script_name number }
@@ -110,7 +110,7 @@ fn script_name(number: u32) -> Option<&'static str>
     }
 }
 
-/// The names of certificates, closures, placement and connections.
+/// Returns the names of certificates, closures, placement and connections.
 #[tactic(auto, unfolding(crate::specs::Names::closure_name))]
 fn closure_name(number: u32) -> Option<&'static str>
     ensures { option_map (λ text. text.now) result ≡ closure_name number }
@@ -132,7 +132,7 @@ fn closure_name(number: u32) -> Option<&'static str>
     }
 }
 
-/// The names of files, inputs and memory.
+/// Returns the names of files, inputs and memory.
 #[tactic(auto, unfolding(crate::specs::Names::port_name))]
 fn port_name(number: u32) -> Option<&'static str>
     ensures { option_map (λ text. text.now) result ≡ port_name number }

@@ -1,4 +1,4 @@
--- How what was sent adds up: text after text, and text that is sent piece by piece.
+-- How sends add up: text after text, and text that is sent piece by piece.
 use Rattle.std.proofs.Common.{◌≡◌, ℕ, List, [], ◌++◌, Option, None, Some, Result, Ok, Err, IsErrAnd, OnOk, length, take, refl, sym, ap, ◌∙◌, subst, append_assoc}
 use Rattle.std.proofs.Math.Seq.{take-append_seam}
 use Rattle.std.proofs.lemmas.List.{append-nil}
@@ -6,14 +6,14 @@ use Rattle.std.proofs.lemmas.Result.{err_from_is_err_and}
 use Rattle.pef_ports.specs.Ports.{Stream, Grows, LastFailed, NoneFailed, one_more}
 use Rattle.pef_ports.specs.Sent.{Prints, Sends, StopsShort}
 
--- bytes that went out after others
+-- bytes that were written after others
 pub Grows-then : (a b c : Option (List ℕ)) (x y : List ℕ) → Grows a b x → Grows b c y → Grows a c (x ++ y)
 Grows-then None b c x y p q = tt
 Grows-then (Some w) b c x y p q =
     let P : Option (List ℕ) → Type 0 = λ o. Grows o c y in
     subst P p q ∙ ap Some (append_assoc w x y)
 
--- where nothing is sent, nothing goes out
+-- if nothing is sent, nothing is written
 Grows-none : (a : Option (List ℕ)) → Grows a a []
 Grows-none None = tt
 Grows-none (Some w) = ap Some (sym (append-nil w))
@@ -67,20 +67,20 @@ pub Sends-then : {A E : Type 0} {a b : Stream} {p l t : List ℕ} (r : Result A 
 Sends-then (Ok x) c q u first second = Prints-then first second
 Sends-then (Err e) c q u first second = StopsShort-then first second
 
--- what went out of a text that began a page is a front of it
+-- the bytes written of a text that began a page are a prefix of it
 pub StopsShort-front : {a b : Stream} {t : List ℕ} → StopsShort a b [] t → (k : ℕ) × Grows a.bytes b.bytes (take k t)
 StopsShort-front {a} {b} {t} short =
     let P : List ℕ → Type 0 = λ (x : List ℕ). Grows a.bytes b.bytes x in
     (length short.sent, subst P (sym (ap (take (length short.sent)) (sym short.whole) ∙ take-append_seam short.sent short.left)) short.out)
 
--- where a text that was sent leaves nothing in the page
+-- if the page is empty after a text that was sent
 pub Sends-empty : {A E : Type 0} (r : Result A E) (a b : Stream) (p q t : List ℕ) → OnOk r (q ≡ []) → Sends r a b p q t → Sends r a b p [] t
 Sends-empty (Ok x) a b p q t empty sends =
     let P : List ℕ → Type 0 = λ (page : List ℕ). Prints a b p page t in
     subst P empty sends
 Sends-empty (Err e) a b p q t empty sends = sends
 
--- a front of a text was sent, and the rest is still to be sent
+-- a prefix of a text was sent, and the rest is still to be sent
 pub record IsSentUpTo (before after : Stream) (page page' text rest : List ℕ) : Type 0 where
   pub front : List ℕ
   pub prints : Prints before after page page' front

@@ -1,10 +1,10 @@
--- What one read of an input comes to, of which no more than some bytes may come.
+-- The result of one read of an input, if no more than some bytes may come.
 use Rattle.std.specs.Prelude.{◌≡◌, ℕ, ◌<◌, ◌≤◌, List, Result, Ok, Err, length, take}
 use Rattle.pef_ports.specs.declared.input.InputFault.{InputFault}
 use Rattle.pef_ports.specs.declared.input.InputFault.TheVariants.{Unreadable, TooLong, OutOfMemory}
 use Rattle.pef_ports.specs.Ports.{Stream, AtEnd, Begins, LastFailed, NoneFailed}
 
--- more bytes came than may come
+-- more bytes came than were allowed
 pub record CameTooMany (before after : Stream) (chunk : List ℕ) (room : ℕ) : Type 0 where
   pub count : ℕ
   pub inside : count ≤ length chunk
@@ -12,7 +12,7 @@ pub record CameTooMany (before after : Stream) (chunk : List ℕ) (room : ℕ) :
   pub begins : Begins before.bytes after.bytes (take count chunk)
   pub sound : NoneFailed before after
 
--- so many bytes came, and none only at the end
+-- this many bytes came, and none only at the end
 pub record Came (before after : Stream) (chunk : List ℕ) (room count : ℕ) : Type 0 where
   pub inside : count ≤ length chunk
   pub fits : count ≤ room

@@ -1,4 +1,4 @@
--- What the port over a disk answers, by what the disk did.
+-- The results of the port over a disk, by what the disk did.
 use Rattle.std.specs.Prelude.{◌≡◌, ◌⊎◌, ℕ, List, Result, Ok, Err}
 use Rattle.std.specs.Str.{IsUtf8}
 use Rattle.std.specs.IoError.{error_kind}
@@ -13,18 +13,18 @@ abbrev pub seen : {A B : Type 0} → (A → B) → Result A Error → Result B E
 seen f (Ok value) = Ok (f value)
 seen f (Err error) = Err (error_kind error)
 
--- the fault of an error: want of memory, or a failure
+-- the fault of an error: a failed allocation, or a failure
 abbrev pub fault_of : ErrorKind → FileFault
 fault_of kind.OutOfMemory = OutOfMemory
 fault_of _ = Failed
 
--- the port's answer
+-- the port's result
 abbrev pub answer_of : {A : Type 0} → Result A ErrorKind → Result A FileFault
 answer_of (Ok value) = Ok value
 answer_of (Err kind) = Err (fault_of kind)
 
--- the disk was called by just this path, and what it did is answered; or the path is no text, by which no file can be
--- asked for
+-- the disk was called with exactly this path, and the result is what it did; or the path isn't UTF-8, so no file can
+-- be named by it
 abbrev pub IsAnswered : {A : Type 0} → (Result A ErrorKind → Type 0) → List ℕ → Result A FileFault → Type 0
 IsAnswered {A} Did path answer =
     (IsUtf8 path × ((did : Result A ErrorKind) × Did did × (answer ≡ answer_of did)))

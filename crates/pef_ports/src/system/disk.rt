@@ -12,18 +12,18 @@ use std::{fs, rt, str};
 
 /// A system's whole files, by their paths.
 pub trait Disk {
-    /// A call of `read_file` by a path may do this. A disk need not say more of it than that. The name lets a clause
-    /// say which calls a port made.
+    /// A call of `read_file` by a path may do this. A disk need not say more about it. By this name a clause can say
+    /// which calls a port made.
     ghost did_read: { Self → List ℕ → Result (List ℕ) ErrorKind → Type 0 } = { λ _ _ _. Unit {0} };
 
-    /// The same of a call of `write_file` by a path with some bytes.
+    /// The same for a call of `write_file` by a path with some bytes.
     ghost did_write: { Self → List ℕ → List ℕ → Result (Unit {0}) ErrorKind → Type 0 } = { λ _ _ _ _. Unit {0} };
 
-    /// All bytes of the file at `path`.
+    /// Returns all bytes of the file at `path`.
     fn read_file(&self, path: &str) -> io::Result<Vec<u8>>
         ensures { did_read self.now path.now (seen (λ bytes. bytes.items) result) };
 
-    /// Leaves just `bytes` in the file at `path`.
+    /// Replaces the contents of the file at `path` by `bytes`.
     fn write_file(&self, path: &str, bytes: &[u8]) -> io::Result<()>
         ensures { did_write self.now path.now bytes.now (seen (λ done. done) result) };
 }
@@ -51,7 +51,7 @@ impl<'a, D: Disk> DiskFiles<'a, D> {
         DiskFiles { disk, failures: 0 }
     }
 
-    /// The answer for what the disk did, with a failure counted.
+    /// Returns the result for what the disk did. A failure is counted.
     fn answer<T: Drop>(&mut self, did: io::Result<T>) -> Result<T, FileFault>
         ensures answer { result ≡ answer_of (seen (λ value. value) did) }
         ensures done { OnOk result (self.new.failures ≡ self.old.failures) }
@@ -112,7 +112,7 @@ mod tests {
     use super::*;
     use std::test::Fail;
 
-    /// What is written is what the file has then, also where it had more.
+    /// The file has exactly the bytes written, also if it was longer before.
     #[test]
     fn written_files(rt: HostRuntime) -> Result<(), Fail> {
         let rows: [&[u8]; 3] = [b"ten \x00 bytes", b"two", b""];
@@ -127,7 +127,7 @@ mod tests {
         Ok(())
     }
 
-    /// A path is taken with its outer spaces.
+    /// A path keeps its leading and trailing spaces.
     #[test]
     fn outer_spaces(rt: HostRuntime) -> Result<(), Fail> {
         let others: [&[u8]; 3] = [b"a b", b" a b", b"a b "];
@@ -143,8 +143,8 @@ mod tests {
         Ok(())
     }
 
-    /// A file that isn't there, folders that aren't, a folder in place of a file, paths that are no text, and a
-    /// device that is full.
+    /// A file that doesn't exist, folders that don't exist, a folder in place of a file, paths that aren't UTF-8,
+    /// and a full device.
     #[test]
     fn failures(rt: HostRuntime) {
         let unreadable: [&[u8]; 4] = [b"no such file", b"no such folder/a", b".", b"\xFF"];

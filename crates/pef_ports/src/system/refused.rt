@@ -1,12 +1,12 @@
-//! Reading a real file where memory is refused. That shows where this test is run with one growth refused after
-//! another, as by `tools/refuse-memory`.
+//! Reading a real file when an allocation fails. To test this, run it with one allocation failing after
+//! another, as `tools/refuse-memory` does.
 
 use crate::system::disk::DiskFiles;
 use crate::{FileFault, Files};
 use std::fs;
 use std::test::Fail;
 
-/// The file is read whole; or memory is refused, which is no failure of the file.
+/// The file is read whole, or an allocation fails, which isn't a failure of the file.
 #[test]
 fn read(rt: HostRuntime) -> Result<(), Fail> {
     let bytes = [7; 40_000];

@@ -68,7 +68,7 @@ impl<W: Write + Drop> Sink for Output<W> {
 
     fn write(&mut self, bytes: &[u8]) -> Result<usize, StreamFault> {
         match self.writer.write(bytes) {
-            // A write that takes nothing of some bytes would be asked for again without end.
+            // A write that takes no byte of some would be repeated without end.
             Ok(taken) if taken > 0 || bytes.is_empty() => {
                 self.failed = false;
                 Ok(taken)
@@ -89,7 +89,7 @@ mod tests {
     use std::io;
     use std::test::Fail;
 
-    /// Takes a byte a call.
+    /// Takes one byte each call.
     #[derive(Drop)]
     struct Drip {
         bytes: Vec<u8>,
@@ -124,7 +124,7 @@ mod tests {
         assert!(rt; out.failures == 0);
     }
 
-    /// A device that is full takes nothing. Where there is none, nothing is tried.
+    /// A full device takes nothing. If there is none, nothing is tried.
     #[test]
     fn full_device(rt: HostRuntime) {
         let Ok(device) = File::create(&rt, "/dev/full") else {
@@ -152,7 +152,7 @@ mod tests {
         Ok(())
     }
 
-    /// A folder can be opened, and not be read.
+    /// A folder can be opened, but not read.
     #[test]
     fn folder(rt: HostRuntime) -> Result<(), Fail> {
         let mut input = Input::new(File::open(&rt, ".")?);

@@ -1,4 +1,4 @@
--- What is left decides.
+-- The programs left decide.
 use Rattle.std.proofs.Common.{◌≡◌, ◌-◌}
 use Rattle.pef_words.specs.Refusals.{first_among}
 use Rattle.pef_loader.specs.Views.{loaded}

@@ -1,4 +1,4 @@
--- What is left of the lines.
+-- The lines left.
 use Rattle.std.proofs.Common.{◌≡◌, ◌<◌, ◌+◌, ◌-◌, ◌++◌, length, take, drop, sym, ap, ◌∙◌, arith, rules}
 use Rattle.std.proofs.lemmas.List.{take_min, drop_min}
 use Rattle.pef_ports.specs.Text.{dump_text, row_text}

@@ -1,4 +1,4 @@
--- What is left of the groups, and how long they get.
+-- The groups left, and their length.
 use Rattle.std.proofs.Common.{◌≡◌, ◌<◌, ◌++◌, length, take, drop, sym, ap, ◌∙◌, append_assoc, arith, rules}
 use Rattle.std.proofs.lemmas.List.{take_min, drop_min, length-drop, append-nil}
 use Rattle.pef_ports.proofs.TextLemmas.{group_text-more, group_text-none}

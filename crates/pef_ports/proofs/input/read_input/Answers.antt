@@ -1,4 +1,4 @@
--- Where memory is refused, what was read is within the limit.
+-- If an allocation fails, the bytes read so far are within the limit.
 use Rattle.std.proofs.Common.{◌++◌, ◌∙◌, take, arith, length-append, length-take}
 use Rattle.std.proofs.lemmas.Result.{err_from_is_err_and}
 use Rattle.pef_ports.proofs.InputLemmas.{Begins-then}

@@ -1,4 +1,4 @@
--- Each run of plain bytes sends itself, and the byte behind it its text.
+-- Each run of plain bytes is sent unchanged, and the byte after it as its text.
 use Rattle.std.proofs.Common.{◌≡◌, ◌++◌, List, ℕ, length, sym, ap, ap₂, ◌∙◌, rules}
 use Rattle.pef_ports.specs.Names.{name_text}
 use Rattle.pef_ports.proofs.Laws.Sending.{Sends-short, sent-all, sent-nothing, sent-piece, sent-short}

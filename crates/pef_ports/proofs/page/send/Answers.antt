@@ -1,4 +1,4 @@
--- What waited goes out first, and then the bytes that don't fit into the page.
+-- The bytes that wait are written first, and then the bytes that don't fit into the page.
 use Rattle.std.proofs.Common.{◌≡◌, [], rules}
 use Rattle.pef_ports.proofs.Laws.Sending.{Sends-short, Sends-then, StopsShort-longer}
 use Rattle.pef_ports.proofs.page.send.Goals as goal

@@ -1,4 +1,4 @@
--- What went out so far, and what the next write sends of the rest.
+-- The bytes written so far, and those that the next write takes of the rest.
 use Rattle.std.proofs.Common.{[], ◌++◌, take, drop, ap, ◌∙◌, arith}
 use Rattle.std.proofs.Math.Seq.{take-add}
 use Rattle.std.proofs.lemmas.List.{append-nil, take-append-drop}
