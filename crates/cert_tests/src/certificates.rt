@@ -9,16 +9,16 @@ use test_data::labels::{
 };
 use test_data::lists::{Listed, S0, S1, S2, fixups, spelled};
 
-/// Programs, by their bytes, each with the labels it is checked against.
+/// Programs, as bytes, each with the labels that it is checked against.
 type Programs = &'static [(Labelled, &'static [u8])];
 
-/// Whether a certificate is a yes for fixups, which fit.
+/// Returns whether a certificate is accepted for fixups that fit.
 fn is_yes(rt: &impl Abort, fixups: &[Fixup], certificate: &Certificate) -> bool {
     assert!(rt; fixups_fit(fixups));
     check(fixups, certificate)
 }
 
-/// Whether a certificate with these labels and this program is a yes.
+/// Returns whether a certificate with these labels and this program is accepted.
 fn holds(rt: &impl Abort, alloc: Global, labelled: Labelled, program: &[Instr]) -> bool {
     let (listed, registers, labels) = labelled;
     let certificate = certificate(rt, alloc, program, registers, labels);
@@ -26,7 +26,7 @@ fn holds(rt: &impl Abort, alloc: Global, labelled: Labelled, program: &[Instr]) 
     is_yes(rt, &fixups, &certificate)
 }
 
-/// Whether the program that bytes spell is a yes.
+/// Returns whether the program that these bytes spell is accepted.
 fn spells_yes(rt: &impl Abort, alloc: Global, labelled: Labelled, bytes: &[u8]) -> bool {
     let program = spelled(alloc, bytes).expect(rt, "instructions");
     holds(rt, alloc, labelled, &program)
@@ -49,10 +49,10 @@ const TRANSITION_LATER: Labelled = (VECTORS_LATER, &[0, 1], VECTORS_LABELS);
 /// The greatest label that can be written.
 const MOST: u32 = 4_294_967_295;
 
-/// Nothing to make.
+/// No fixups.
 const NOTHING: Labelled = (&[], &[], &[0]);
 
-/// Behind `VTable8 1` the second word lies 1,024 bytes ahead, 4 more than a skip can go.
+/// After `VTable8 1` the second word lies 1,024 bytes ahead, 4 more than a skip can go.
 const VTABLE_SHORT: Labelled = (
     &[(0, S1), (1032, S1)],
     &[1],
@@ -85,7 +85,7 @@ const WORDS: Labelled = (
     &[1, 1, 1, 2, 1, 1, 1, 2, 1, 1, 1, 1, 0, 0, 0, 0],
 );
 
-/// The labels of one fixup, which one halfword makes where the position is its own.
+/// The labels of one fixup. One halfword makes it if the position is its own.
 const ALONE: &[u32] = &[1, 1, 1, 1, 0, 0, 0, 0];
 
 /// Labels that are lower than the least lengths.
@@ -267,8 +267,8 @@ const LARGE_HIGH: Labelled = (
     &[5, 3, 2, 0],
 );
 
-/// The second word lies 8 bytes behind the first one's end, so a skip reaches it, though neither offset is
-/// a multiple of 4.
+/// The second word lies 8 bytes after the first one's end, so a skip reaches it, though neither offset is a
+/// multiple of 4.
 const UNALIGNED_HIGH: Labelled = (
     &[(1, S1), (13, S1)],
     &[1],
@@ -400,7 +400,7 @@ fn instructions_that_do_not_fit(rt: HostRuntime) {
     }
 }
 
-/// Words of section 1, one behind the other, from an offset on.
+/// Returns words of section 1, one after the other, from an offset on.
 fn words(rt: &impl Abort, alloc: Global, from: u32, count: u32) -> Vec<Fixup> {
     assert!(rt; from <= 4);
     assert!(rt; count <= 600);
@@ -412,7 +412,8 @@ fn words(rt: &impl Abort, alloc: Global, from: u32, count: u32) -> Vec<Fixup> {
     fixups
 }
 
-/// Labels for so many words. They are the least lengths, but those of the first word are at least `first`.
+/// Returns labels for this many words. They are the least lengths, but those of the first word are at least
+/// `first`.
 fn words_labels(rt: &impl Abort, alloc: Global, count: u32, first: u32) -> LabelRows {
     let mut rows = LabelRows::new(alloc, 4);
     push_words(rt, &mut rows, count, first);
@@ -429,7 +430,7 @@ fn push_words(rt: &impl Abort, rows: &mut LabelRows, count: u32, first: u32) {
     push(rt, rows, &[0, 0, 0, 0]);
 }
 
-/// A certificate for such words.
+/// Returns a certificate for such words.
 fn words_certificate(
     rt: &impl Abort,
     alloc: Global,
@@ -450,8 +451,8 @@ const TWO_RUNS: &[Instr] = &[Instr::BySectD(1), Instr::BySectD(511)];
 
 const NO_SKIP: &[Instr] = &[Instr::IncrPosition(4), Instr::BySectD(63)];
 
-/// The offset of the first word, how many words there are, a program, what its first labels are at least, and
-/// whether it is a yes.
+/// The offset of the first word, the number of words, a program, the least value of its first labels, and
+/// whether the certificate is accepted.
 type LongRun = (u32, u32, &'static [Instr], u32, bool);
 
 const LONG_RUNS: &[LongRun] = &[

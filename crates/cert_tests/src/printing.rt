@@ -7,7 +7,7 @@ use std::alloc::Global;
 use std::fmt::Write;
 use std::process::Abort;
 
-/// Texts in either version, and what is printed of what is read of them.
+/// Texts in either version, and their printed form after they are read.
 const TEXTS: &[(&str, &str)] = &[
     (TWO_SECTIONS, TWO_SECTIONS_RANGES),
     (TWO_SECTIONS_RANGES, TWO_SECTIONS_RANGES),
@@ -22,7 +22,7 @@ const TEXTS: &[(&str, &str)] = &[
     (MOST_ROWS_RANGES, MOST_ROWS_RANGES),
 ];
 
-/// What is printed of what is read of a text.
+/// Returns the printed form of a text after it is read.
 fn read_and_printed(rt: &impl Abort, alloc: Global, text: &str) -> Vec<u8> {
     let certificates = Certificate::read(alloc, text.as_bytes()).expect(rt, "certificates");
     Certificate::print(alloc, &certificates).expect(rt, "a text")
@@ -37,7 +37,8 @@ fn printed_again(rt: HostRuntime) {
     }
 }
 
-/// A text with as many fixups as one may have, and as many halfwords, in which no two rows are alike.
+/// Returns a text with as many fixups as one may have, and as many halfwords, in which no two rows
+/// are alike.
 fn most_fixups(rt: &impl Abort, alloc: Global) -> String {
     let mut text = String::new(alloc);
     push_head(rt, &mut text);
@@ -48,7 +49,7 @@ fn most_fixups(rt: &impl Abort, alloc: Global) -> String {
     text
 }
 
-/// The lines before the rows.
+/// Appends the lines before the rows.
 fn push_head(rt: &impl Abort, text: &mut String) {
     text.push_str("pefcert 2\nsection 0\nfixups 65536\nlength 65536\nprogram")
         .expect(rt, "memory");

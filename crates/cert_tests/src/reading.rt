@@ -5,7 +5,7 @@ use std::alloc::Global;
 use std::process::Abort;
 use test_data::labels::{VECTORS_LABELS, labels};
 
-/// The line of a refusal, or `None` where the text is read. Stops where memory is refused.
+/// Returns the line of a refusal, or `None` if the text is read. Stops if an allocation fails.
 fn refused_line(rt: &impl Abort, alloc: Global, text: &str) -> Option<usize> {
     match Certificate::read(alloc, text.as_bytes()) {
         Ok(_) => None,
@@ -13,7 +13,7 @@ fn refused_line(rt: &impl Abort, alloc: Global, text: &str) -> Option<usize> {
     }
 }
 
-/// Whether a certificate has these parts.
+/// Returns whether a certificate has these parts.
 fn has(
     certificate: &Certificate,
     section: u32,
@@ -72,7 +72,7 @@ fn most_rows(rt: HostRuntime) {
     assert!(rt; has(&certificates[0], 0, &[], &[], 65_537));
 }
 
-/// Texts after `pefcert 1`, and the number of the line that is refused, or `None` where the text is read.
+/// Texts after `pefcert 1`, and the number of the line that is refused, or `None` if the text is read.
 const TEXTS: &[(&str, Option<usize>)] = &[
     ("end\n", None),
     ("", Some(2)),
@@ -172,7 +172,7 @@ const TEXTS: &[(&str, Option<usize>)] = &[
     ),
 ];
 
-/// The line of a refusal of these lines after others.
+/// Returns the line of a refusal of these lines after others.
 fn refused_line_after(rt: &impl Abort, alloc: Global, before: &str, lines: &str) -> Option<usize> {
     let mut text = String::from_str(alloc, before).expect(rt, "memory");
     text.push_str(lines).expect(rt, "memory");
@@ -192,7 +192,7 @@ fn lines(rt: HostRuntime) {
 const BEFORE_RANGES: &str =
     "pefcert 2\nsection 2\nfixups 3\nlength 2\nprogram 6402 4202\nregisters 2 *\n";
 
-/// Lines after these, and the number of the line that is refused, or `None` where the text is read.
+/// Lines after these, and the number of the line that is refused, or `None` if the text is read.
 const RANGES: &[(&str, Option<usize>)] = &[
     (
         "at 0 1 1 1 1 2\nat 2 2 1 1 1 1\nat 3 3 0 0 0 0\nend\n",
@@ -258,7 +258,7 @@ fn ranges(rt: HostRuntime) {
     }
 }
 
-/// Lines after `pefcert 2`, of which the last is refused, and its number.
+/// Lines after `pefcert 2`, of which the last is refused, and the number of that line.
 const LIMITS: &[(&str, usize)] = &[
     ("section 0\nfixups 65537\n", 3),
     (
@@ -276,7 +276,7 @@ fn limits(rt: HostRuntime) {
     }
 }
 
-/// Whole texts, and the number of the line that is refused, or `None` where the text is read.
+/// Whole texts, and the number of the line that is refused, or `None` if the text is read.
 const WHOLE_TEXTS: &[(&str, Option<usize>)] = &[
     ("", Some(1)),
     ("pefcert 1", Some(1)),

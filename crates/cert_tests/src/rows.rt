@@ -1,4 +1,4 @@
-//! Rows of labels, and what is kept of them.
+//! Rows of labels, and their kept form.
 use crate::tables::push;
 use pef_cert::LabelRows;
 use std::alloc::Global;
@@ -37,7 +37,7 @@ fn rows_are_kept(rt: HostRuntime) {
     assert_runs(&rt, &rows);
 }
 
-/// Puts a row behind others, so many times.
+/// Puts a row after others, this many times.
 fn push_times(rt: &impl Abort, rows: &mut LabelRows, row: &[u32], count: usize) {
     assert!(rt; row.len() == rows.width());
     assert!(rt; rows.rows() < usize::MAX - 10 && count <= 10);
@@ -74,7 +74,7 @@ const KEPT: &[Kept] = &[
     (1 << 63, &[1, 2], &[], false),
 ];
 
-/// Tests whether rows are kept so, and that they are given back as they are.
+/// Tests whether rows are kept so, and that they are read back unchanged.
 fn assert_kept(rt: &impl Abort, alloc: Global, kept: Kept) {
     let (width, ends, values, want) = kept;
     let own_ends = Vec::from_slice(alloc, ends).expect(rt, "memory");
@@ -109,7 +109,7 @@ const TURNED: &[Turned] = &[
     (0, &[&[], &[], &[]], &[&[], &[], &[]]),
 ];
 
-/// Rows of a width, in this order.
+/// Returns rows of this width, in this order.
 fn rows_of(rt: &impl Abort, alloc: Global, width: usize, labels: &[&[u32]]) -> LabelRows {
     let mut rows = LabelRows::new(alloc, width);
     for row in labels {

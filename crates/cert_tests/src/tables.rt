@@ -4,14 +4,14 @@ use pef_reloc::Instr;
 use std::alloc::Global;
 use std::process::Abort;
 
-/// Puts a row of labels behind others.
+/// Puts a row of labels after others.
 pub fn push(rt: &impl Abort, rows: &mut LabelRows, row: &[u32]) {
     assert!(rt; row.len() == rows.width());
     assert!(rt; rows.rows() < usize::MAX);
     rows.push(row).expect(rt, "memory");
 }
 
-/// A certificate with these labels.
+/// Returns a certificate with these labels.
 pub fn certificate(
     rt: &impl Abort,
     alloc: Global,
@@ -30,14 +30,14 @@ pub fn certificate(
     }
 }
 
-/// The rows of these labels, for so many classes.
+/// Returns the rows of these labels, for this many classes.
 fn rows(rt: &impl Abort, alloc: Global, classes: usize, labels: &[u32]) -> LabelRows {
     let mut rows = LabelRows::new(alloc, width(rt, classes));
     push_all(rt, &mut rows, labels);
     rows
 }
 
-/// How many labels a row has, for so many classes.
+/// Returns how many labels a row has, for this many classes.
 fn width(rt: &impl Abort, classes: usize) -> usize {
     match classes.checked_mul(classes) {
         Some(width) => width,
@@ -45,7 +45,7 @@ fn width(rt: &impl Abort, classes: usize) -> usize {
     }
 }
 
-/// Puts labels behind others, row by row.
+/// Puts labels after others, row by row.
 fn push_all(rt: &impl Abort, rows: &mut LabelRows, labels: &[u32]) {
     assert!(rt; rows.width() > 0);
     for row in labels.chunks(rows.width()) {

@@ -5,7 +5,7 @@ use test_data::changes::{At, Change};
 use test_data::scripts::{LIBRARY, USER};
 use test_links::fragments::{Fragment, container};
 
-/// What is told of closures of the first fragment.
+/// Fragments, and the text of the closure of the first.
 const LIBRARIES: &[(&[Fragment], &str)] = &[
     (
         &[("A", USER, &[]), ("B", USER, &[]), ("L", LIBRARY, &[])],
@@ -16,7 +16,7 @@ const LIBRARIES: &[(&[Fragment], &str)] = &[
         &[("A", "library L 1 0 weak\nimport v data strong\n", &[])],
         "order 0, init 0, 0.0 none",
     ),
-    // The first pair of a name counts.
+    // If two pairs have the same name, the first is used.
     (
         &[
             ("A", USER, &[]),
@@ -101,14 +101,14 @@ const ORDERS: &[(&[Fragment], &str)] = &[
         ],
         "66 InitLoop B",
     ),
-    // An absent library doesn't have to come first.
+    // An absent library need not come first.
     (
         &[("A", "library B 0 0 weak,before\n", &[])],
         "order 0, init 0",
     ),
 ];
 
-/// Circles of three with one library that is to come first, in each place, and with three of them.
+/// Circles of three with one library that comes first, in each place, and with three of them.
 const CIRCLES: &[(&[Fragment], &str)] = &[
     (
         &[
@@ -144,7 +144,7 @@ const CIRCLES: &[(&[Fragment], &str)] = &[
     ),
 ];
 
-/// What is written over the section of the only export, so that it is absolute, or passes on an import.
+/// Bytes written over the section of the only export, so that the export is absolute or passes on an import.
 const ABSOLUTE: &[Change] = &[(At::End(2), b"\xFF\xFE")];
 
 const REEXPORT: &[Change] = &[(At::End(2), b"\xFF\xFD")];
@@ -209,7 +209,7 @@ const TARGETS: &[(&[Fragment], &str)] = &[
 
 /// Chains of exports that pass on imports.
 const CHAINS: &[(&[Fragment], &str)] = &[
-    // One that ends where a weak library is absent, and where a weak symbol is missing.
+    // A chain that ends because a weak library is absent, and one that ends because a weak symbol is missing.
     (
         &[
             ("A", "library M 1 0 -\nimport u data strong\n", &[]),
@@ -233,8 +233,8 @@ const CHAINS: &[(&[Fragment], &str)] = &[
         ],
         "order 2 1 0, init 2 1 0, 1.0 none, 0.0 none",
     ),
-    // One that ends where a strong symbol is missing names the fragment whose import that is, not the one
-    // from which the hops began.
+    // A chain that ends because a strong symbol is missing. The refusal names the fragment that has this
+    // import, not the fragment where the chain begins.
     (
         &[
             (
@@ -246,7 +246,7 @@ const CHAINS: &[(&[Fragment], &str)] = &[
         ],
         "62 SymbolMissing M A w",
     ),
-    // A circle of one, and of two.
+    // A circle of one fragment, and of two.
     (
         &[(
             "P",
@@ -272,7 +272,7 @@ const CHAINS: &[(&[Fragment], &str)] = &[
     ),
 ];
 
-/// Tests what is told of some fragments.
+/// Tests the text of the closures of some fragments.
 fn test_told(rt: &impl Abort, alloc: Global, rows: &[(&[Fragment], &str)]) {
     for row in rows {
         let (fragments, wanted) = *row;
@@ -305,17 +305,17 @@ fn chains(rt: HostRuntime) {
     test_told(&rt, rt.alloc(), CHAINS);
 }
 
-/// Tests what is told of fragments with these names and bytes.
+/// Tests the text of the closure of fragments with these names and bytes.
 fn test_told_of_pairs(rt: &impl Abort, alloc: Global, pairs: &[(&str, &[u8])], wanted: &str) {
     let told = told_of_pairs(rt, alloc, pairs);
     assert!(rt; told.as_str() == wanted);
 }
 
-/// What makes section 0 the main one in a container without sections: that stands at the head of the loader
-/// section, here at 80.
+/// A change that makes section 0 the main one in a container without sections. The field is at the head of the
+/// loader section, here at 80.
 const BAD_MAIN: &[Change] = &[(At::Front(80), &[0; 4])];
 
-/// A fragment whose library is weak. One that can't be read is refused all the same.
+/// A fragment whose library is weak. A weak library that can't be read is refused too.
 const NEEDS_WEAK: &str = "library L 0 0 weak\n";
 
 #[test]
@@ -333,8 +333,8 @@ fn unreadable_loader(rt: HostRuntime) {
     test_told_of_pairs(&rt, rt.alloc(), &pairs, "16 BadEntry L");
 }
 
-/// What gives the second of two libraries the import of the first. It stands at 160: its count of imports at
-/// 172, its first one at 176.
+/// A change that gives the second of two libraries the import of the first. The second library is at 160, its
+/// count of imports at 172 and its first import at 176.
 const SHARED_IMPORT: &[Change] = &[(At::Front(175), &[1]), (At::Front(179), &[0])];
 
 /// An import in the ranges of two libraries belongs to the first.
@@ -359,11 +359,11 @@ fn import_of_two_libraries(rt: HostRuntime) {
     test_told_of_pairs(&rt, alloc, &pairs, wanted);
 }
 
-/// A container that passes on its import 1, whose libraries don't have its imports in order: import 1 is of
-/// library 0.
+/// Returns a container that passes on its import 1, and whose libraries don't have its imports in order:
+/// import 1 is of library 0.
 ///
-/// The loader section's place stands in the second section header, at 88. In that section the libraries
-/// stand at 56 and 80, with their first imports at 72 and 96.
+/// The offset of the loader section is in the second section header, at 88. In that section the libraries are
+/// at 56 and 80, with their first imports at 72 and 96.
 fn turned_imports(rt: &impl Abort, alloc: Global) -> Vec<u8> {
     let mut bytes = container(
         alloc,
@@ -381,8 +381,7 @@ fn turned_imports(rt: &impl Abort, alloc: Global) -> Vec<u8> {
     bytes
 }
 
-/// Of two fragments that need one another, the first of the order has an import that an export of the second
-/// passes on.
+/// Two fragments need each other. The first of the order has an import that an export of the second passes on.
 #[test]
 fn import_before_its_turn(rt: HostRuntime) {
     let alloc = rt.alloc();

@@ -1,4 +1,4 @@
-//! What is told of closures.
+//! Closures as texts.
 
 use cfm_closure::{BindFault, Closure, Store, Target, closure};
 use std::alloc::Global;
@@ -7,21 +7,21 @@ use std::process::Abort;
 use test_links::fragments::{Fragment, add, containers, store_of};
 use test_links::tell_names;
 
-/// What is told of the closure of the first fragment of a store: its order, the order of initialization,
-/// and the targets of the fragments' imports; or its refusal with the names that it tells.
+/// Returns the closure of the first fragment of a store as a text: its order, the order of
+/// initialization, and the targets of the fragments' imports; or its refusal with the names in it.
 pub(crate) fn told(rt: &impl Abort, alloc: Global, fragments: &[Fragment]) -> String {
     let containers = containers(alloc, fragments).expect(rt, "containers");
     let store = store_of(alloc, fragments, &containers).expect(rt, "a store");
     told_of(rt, alloc, &store)
 }
 
-/// The same of fragments with these names and bytes.
+/// Returns the same for fragments with these names and bytes.
 pub(crate) fn told_of_pairs(rt: &impl Abort, alloc: Global, pairs: &[(&str, &[u8])]) -> String {
     let store = store_of_pairs(rt, alloc, pairs);
     told_of(rt, alloc, &store)
 }
 
-/// A store of fragments with these names and bytes.
+/// Returns a store of fragments with these names and bytes.
 fn store_of_pairs<'a>(rt: &impl Abort, alloc: Global, pairs: &[(&'a str, &'a [u8])]) -> Store<'a> {
     let mut store = Store::new(alloc);
     for pair in pairs {
@@ -31,7 +31,7 @@ fn store_of_pairs<'a>(rt: &impl Abort, alloc: Global, pairs: &[(&'a str, &'a [u8
     store
 }
 
-/// The same of a store.
+/// Returns the same for a store.
 fn told_of(rt: &impl Abort, alloc: Global, store: &Store<'_>) -> String {
     assert!(rt; !store.is_empty());
     match closure(alloc, store, 0) {
@@ -40,7 +40,7 @@ fn told_of(rt: &impl Abort, alloc: Global, store: &Store<'_>) -> String {
     }
 }
 
-/// A refusal by its number and its name, with the names that it tells.
+/// Returns a refusal as a text: its number, its name, and the names in it.
 fn told_fault(rt: &impl Abort, alloc: Global, fault: BindFault<'_>) -> String {
     let mut text = format!(in alloc; "{} {fault}", fault.number()).expect(rt, "memory");
     tell_names(&mut text, fault).expect(rt, "memory");
@@ -71,7 +71,7 @@ fn tell_places(rt: &impl Abort, text: &mut String, places: &[usize]) {
     }
 }
 
-/// An import of a fragment, and what it means.
+/// Writes an import of a fragment, and its target.
 fn tell_import(rt: &impl Abort, text: &mut String, p: usize, j: usize, target: Option<Target>) {
     write!(text, ", {p}.{j}").expect(rt, "memory");
     tell_target(rt, text, target);

@@ -1,8 +1,8 @@
 use cfm_closure::{Definition, Fit, Implementation, Store, versions_fit};
 use std::process::Abort;
 
-/// Versions: of the definition the current and the oldest implementation, of the implementation the current
-/// and the oldest definition.
+/// Versions: the current definition version and the oldest implementation version of the definition, then
+/// the current implementation version and the oldest definition version of the implementation.
 const VERSIONS: &[(u32, u32, u32, u32, Fit)] = &[
     (5, 3, 3, 0, Fit::Fits),
     (5, 3, 2, 0, Fit::TooOld),

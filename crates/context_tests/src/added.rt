@@ -1,4 +1,5 @@
-//! Fragments that are added to a context, and what it says of each fragment of a connection.
+//! Fragments that are added to a context, and what the context reports about each fragment of a
+//! connection.
 
 use crate::fixture::LIMIT;
 use crate::readers::{A, prepared};
@@ -11,7 +12,7 @@ use test_links::fragments::{Fragment, containers};
 
 const FRAGMENTS: &[Fragment] = &[A, ("L", LIBRARY, &[])];
 
-/// A context without fragments.
+/// Returns a context without fragments.
 pub(crate) fn empty<'a>(alloc: Global) -> Context<'a> {
     Context::new(alloc, Store::new(alloc), LIMIT)
 }
@@ -24,7 +25,8 @@ fn add_all<'a>(rt: &impl Abort, context: &mut Context<'a>, containers: &'a [Vec<
     assert!(rt; context.add(b"L", b"no container").is_ok());
 }
 
-/// The addresses of symbols of both fragments, and none of one that the closure lacks.
+/// Tests the addresses of symbols of both fragments, and that a fragment outside the closure has
+/// none.
 fn test_symbols(rt: &impl Abort, context: &Context<'_>) {
     let open = Connection(0);
     assert!(rt; context.fragment_symbol(open, 0, b"own") == Some(0x0001_0014));
@@ -34,7 +36,7 @@ fn test_symbols(rt: &impl Abort, context: &Context<'_>) {
     assert!(rt; context.fragment_symbol(Connection(1), 0, b"own").is_none());
 }
 
-/// The kind of each section is data (1), and its share is the process (1).
+/// Tests that the kind of each section is data (1), and its share is the process (1).
 fn test_headers(rt: &impl Abort, context: &Context<'_>) {
     for fragment in 0..2 {
         let Some(header) = context.fragment_section_header(Connection(0), fragment, 0) else {
@@ -52,7 +54,8 @@ fn test_headers(rt: &impl Abort, context: &Context<'_>) {
     );
 }
 
-/// Fragments are added up to the first connection, also after a refusal. The first of a name counts.
+/// Fragments are added before the first connection, also after a refusal. If two have the same name,
+/// the first is used.
 #[test]
 fn added(rt: HostRuntime) {
     let containers = containers(rt.alloc(), FRAGMENTS).expect(&rt, "containers");

@@ -9,15 +9,15 @@ use test_links::{tell_name, tell_names};
 /// The limit of the command's memory.
 pub(crate) const LIMIT: u32 = 0x1000_0000;
 
-/// What is done: a fragment is prepared, or a connection closed.
+/// A step: prepare a fragment, or close a connection.
 #[derive(Clone, Copy)]
 pub(crate) enum Step {
     Prepare(&'static str),
     Close(u32),
 }
 
-/// Takes steps in a context over some fragments, and compares after each what was answered, and which
-/// sections are present.
+/// Takes steps in a context over some fragments. After each step, compares its result and the
+/// sections that are present.
 pub(crate) fn take_steps(
     rt: &impl Abort,
     alloc: Global,
@@ -30,7 +30,7 @@ pub(crate) fn take_steps(
     take_steps_in(rt, alloc, &mut context, steps);
 }
 
-/// A context over some fragments, which have these containers.
+/// Returns a context over some fragments, which have these containers.
 pub(crate) fn context_of<'a>(
     rt: &impl Abort,
     alloc: Global,
@@ -60,7 +60,7 @@ fn test_step(rt: &impl Abort, alloc: Global, context: &mut Context<'_>, step: St
     assert!(rt; text.as_str() == wanted);
 }
 
-/// What a step is answered, and which sections are present behind it.
+/// Writes the result of a step, and the sections that are present after it.
 fn tell_step(rt: &impl Abort, text: &mut String, context: &mut Context<'_>, step: Step) {
     take_step(rt, text, context, step);
     for p in 0..FRAGMENTS {
@@ -90,7 +90,8 @@ fn tell_closed(rt: &impl Abort, text: &mut String, answer: Result<(), CloseFault
     told.expect(rt, "memory");
 }
 
-/// The sections of the fragment at a place, where it is present, each with its address and its bytes.
+/// Writes the sections of the fragment at a place, if it is present, each with its address and its
+/// bytes.
 fn tell_sections(rt: &impl Abort, text: &mut String, context: &Context<'_>, position: usize) {
     let Some(name) = context.name(position) else {
         return;
@@ -104,7 +105,7 @@ fn tell_sections(rt: &impl Abort, text: &mut String, context: &Context<'_>, posi
     }
 }
 
-/// An address, and the bytes that lie there.
+/// Writes an address, and the bytes at it.
 pub(crate) fn tell_memory(rt: &impl Abort, text: &mut String, address: u32, bytes: &[u8]) {
     write!(text, " {address:08X} ").expect(rt, "memory");
     for byte in bytes {

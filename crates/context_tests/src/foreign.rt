@@ -12,7 +12,7 @@ use test_links::fragments::{Fragment, add};
 /// Fragments, and steps in a context over them.
 type Case = (&'static [Fragment], &'static [(Step, &'static str)]);
 
-/// With one halfword more, the program names a section that isn't there.
+/// With one halfword more, the program names a section that doesn't exist.
 const LONGER: &[(Step, &str)] = &[
     (Prepare("x"), "39 SectionOutside x"),
     (
@@ -21,7 +21,7 @@ const LONGER: &[(Step, &str)] = &[
     ),
 ];
 
-/// A store of a changed container, `x`, and the one that it was made of, `y`.
+/// Returns a store of a changed container, `x`, and of the original one, `y`.
 fn store_of_changed<'a>(rt: &impl Abort, alloc: Global, longer: &'a [u8]) -> Store<'a> {
     let mut store = Store::new(alloc);
     add(&mut store, "x", longer).expect(rt, "room in the store");
@@ -52,7 +52,7 @@ const PACKED: Fragment = (
     &[(At::Front(55), &[8]), (At::Front(64), &[2])],
 );
 
-/// The same, with a byte that is no opcode.
+/// The same, with a byte that isn't an opcode.
 const BAD_PACKED: Fragment = (
     "L",
     "versions 1 0 0\nsection l data process 4 8\nbytes l A2\nexport v data l 0\n",
@@ -80,10 +80,10 @@ fn packed_library(rt: HostRuntime) {
     }
 }
 
-/// What makes the export of a fragment, its last, pass on import 0.
+/// A change that makes the export of a fragment, its last, pass on import 0.
 pub(crate) const PASSED: &[Change] = &[(At::End(2), b"\xFF\xFD")];
 
-/// An import that two fragments pass on, from one to the next.
+/// An import that two fragments pass on, one to the next.
 const PASSED_ON: &[Fragment] = &[
     (
         "A",
@@ -126,7 +126,7 @@ const STRONG_IMPORT: &str =
 const WEAK_LIBRARY: &str =
     "library L 1 0 weak\nimport v data strong\nsection a data process 4 4\nbytes a 00000007\nfix a 0 import v\n";
 
-/// What a weak import, a missing library and a circle lead to.
+/// Closures with a weak import, a missing library and a circle.
 const BINDINGS: &[Case] = &[
     (
         &[("A", WEAK_IMPORT, &[]), ("L", LIBRARY, &[])],

@@ -14,8 +14,8 @@ use test_data::limits::{
 };
 use test_links::fragments::{add, container};
 
-/// A script with as many imports and libraries as one may have: all imports are weak and of the first library, and all
-/// other libraries are weak and missing.
+/// Returns a script with as many imports and libraries as one may have: all imports are weak and of the first library,
+/// and all other libraries are weak and missing.
 fn importing(rt: &impl Abort, alloc: Global) -> String {
     let mut text = String::new(alloc);
     text.push_str("library L 0 0 -\n").expect(rt, "memory");
@@ -28,7 +28,7 @@ fn importing(rt: &impl Abort, alloc: Global) -> String {
     text
 }
 
-/// A script with as many exports as one may have, at an offset each.
+/// Returns a script with as many exports as one may have, at an offset each.
 fn exporting(rt: &impl Abort, alloc: Global) -> String {
     let mut text = String::new(alloc);
     text.push_str("section d data process 4 16384\n")
@@ -39,7 +39,7 @@ fn exporting(rt: &impl Abort, alloc: Global) -> String {
     text
 }
 
-/// A store of the fragment with the imports and of its library.
+/// Returns a store of the fragment with the imports and of its library.
 fn store_of_imports<'a>(
     rt: &impl Abort,
     alloc: Global,
@@ -52,7 +52,7 @@ fn store_of_imports<'a>(
     store
 }
 
-/// What an import means: the export of its number, or nothing where the library hasn't so many.
+/// Returns what an import means: the export with its number, or nothing if the library has fewer exports.
 fn wanted(import: usize) -> Option<Target> {
     if import >= EXPORTS as usize {
         return None;
@@ -105,13 +105,14 @@ fn most_imports(rt: HostRuntime) {
     test_containers(&rt, alloc, &user, &library);
 }
 
-/// The address of a fragment of the chain: the last one lies first, and each takes 16 bytes with the gap behind it.
+/// Returns the address of a fragment of the chain: the last one lies first, and each takes 16 bytes with the gap after
+/// it.
 fn address_of(p: usize) -> u32 {
     let behind = (many::FRAGMENTS - 1).saturating_sub(p) as u32;
     behind.wrapping_mul(16).wrapping_add(0x0001_0000)
 }
 
-/// The word of a fragment of the chain.
+/// Returns the word of a fragment of the chain.
 fn word_of(p: usize) -> u32 {
     let next = p.wrapping_add(1);
     if next < many::FRAGMENTS {
@@ -155,7 +156,7 @@ const TOTAL: u32 = 0x0100_0000;
 /// How many sections of that length are placed.
 const COUNT: usize = 8;
 
-/// Eight sections of the greatest length, in which the last word is the section's own address.
+/// Returns a script of eight sections of the greatest length, in which the last word is the section's own address.
 fn greatest(rt: &impl Abort, alloc: Global) -> String {
     let mut text = String::new(alloc);
     push_sections(&mut text, COUNT, 4, TOTAL).expect(rt, "memory");

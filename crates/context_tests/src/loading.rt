@@ -1,5 +1,4 @@
-//! What `docs/EMBEDDING.md` shows to the author of an emulator: `store_of`, `load` and `prepare_app` have its lines word
-//! for word.
+//! The examples of `docs/EMBEDDING.md`: `store_of`, `load` and `prepare_app` have its lines word for word.
 
 use cfm_closure::Store;
 use cfm_prepare::Context;
@@ -15,7 +14,7 @@ struct Machine {
 }
 
 impl Machine {
-    /// Copies bytes to an address, where the machine has memory for them.
+    /// Copies bytes to an address, if the machine has memory for them.
     fn write(&mut self, address: u32, bytes: &[u8]) {
         let from = address.saturating_sub(0x0001_0000) as usize;
         if from <= 24 && bytes.len() <= 24 - from {
@@ -24,7 +23,7 @@ impl Machine {
     }
 }
 
-/// Prepares an application, and copies its sections into a machine.
+/// Prepares an application, and copies its sections into the memory of a machine.
 fn prepare_app(context: &mut Context<'_>, machine: &mut Machine) -> Result<(), Fail> {
     let app = context.prepare(b"App")?;
     for position in context.fragments(app).unwrap_or(&[]) {
@@ -40,7 +39,7 @@ fn prepare_app(context: &mut Context<'_>, machine: &mut Machine) -> Result<(), F
     Ok(())
 }
 
-/// A store of an application and its library.
+/// Returns a store of an application and its library.
 fn store_of<'a>(
     alloc: Global,
     tools_bytes: &'a [u8],
@@ -70,7 +69,7 @@ const TOOLS: &[u8] =
 const APP: &[u8] =
     b"library Tools 1 0 -\nimport answer data strong\nsection data data process 4 8\nbytes data 0000000000000004\nfix data 0 import answer\nfix data 4 section data\nmain data 0\n";
 
-/// Tests the memory of a machine: the library lies at 00010000, and the application behind it, at 00010010.
+/// Tests the memory of a machine: the library lies at 00010000, and the application after it, at 00010010.
 fn test_loaded(rt: &impl Abort, machine: &Machine) {
     let mut wanted = [0xEE; 24];
     wanted[..4].copy_from_slice(&[0, 0, 0, 0x2A]);

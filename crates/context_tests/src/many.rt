@@ -20,7 +20,7 @@ pub(crate) enum Needs {
     All,
 }
 
-/// The script of a fragment that needs all.
+/// Returns the script of a fragment that needs all.
 fn needing_all(rt: &impl Abort, alloc: Global) -> String {
     let mut text = String::new(alloc);
     for q in 0..FRAGMENTS {
@@ -29,15 +29,15 @@ fn needing_all(rt: &impl Abort, alloc: Global) -> String {
     text
 }
 
-/// The script of a fragment that needs another one, and whose word is the address of that one's. If the store has no
-/// such fragment, the word is 0.
+/// Returns the script of a fragment that needs another one, and whose word is the address of that fragment's word.
+/// If the store has no such fragment, the word is 0.
 fn needing_next(rt: &impl Abort, alloc: Global, next: usize) -> String {
     format!(in alloc;
         "library f{next} 0 0 weak\nimport v data strong\nsection s data process 4 4\nfix s 0 import v\nexport v data s 0\n"
     ).expect(rt, "memory")
 }
 
-/// The script of a fragment.
+/// Returns the script of a fragment.
 fn script(rt: &impl Abort, alloc: Global, p: usize, needs: Needs) -> String {
     let next = p.wrapping_add(1);
     match needs {
@@ -47,7 +47,7 @@ fn script(rt: &impl Abort, alloc: Global, p: usize, needs: Needs) -> String {
     }
 }
 
-/// The containers of all fragments.
+/// Returns the containers of all fragments.
 pub(crate) fn containers(rt: &impl Abort, alloc: Global, needs: Needs) -> Vec<Vec<u8>> {
     let mut containers = Vec::new(alloc);
     for p in 0..FRAGMENTS {
@@ -58,7 +58,7 @@ pub(crate) fn containers(rt: &impl Abort, alloc: Global, needs: Needs) -> Vec<Ve
     containers
 }
 
-/// The names of all fragments.
+/// Returns the names of all fragments.
 pub(crate) fn names(rt: &impl Abort, alloc: Global) -> Vec<String> {
     let mut names = Vec::new(alloc);
     for p in 0..FRAGMENTS {
@@ -68,7 +68,7 @@ pub(crate) fn names(rt: &impl Abort, alloc: Global) -> Vec<String> {
     names
 }
 
-/// The store of these fragments.
+/// Returns the store of these fragments.
 pub(crate) fn store_of_all<'a>(
     rt: &impl Abort,
     alloc: Global,
@@ -91,7 +91,7 @@ fn test_first(rt: &impl Abort, alloc: Global, store: &Store<'_>) {
     }
 }
 
-/// The last fragment comes first, also in the order of initialization.
+/// Tests that the last fragment comes first, also in the order of initialization.
 fn test_reversed(rt: &impl Abort, closure: &Closure<'_>) {
     let order = closure.order();
     assert!(rt; order.len() == FRAGMENTS);
@@ -108,7 +108,8 @@ fn test_closure(rt: &impl Abort, alloc: Global, names: &[String], needs: Needs) 
     test_first(rt, alloc, &store);
 }
 
-/// Each fragment needs the next one, and each needs all. That the last one needs the first changes nothing.
+/// Each fragment needs the next one, and each needs all. A ring, in which the last needs the first, gives the same
+/// result.
 #[test]
 fn chain_ring_and_complete_graph(rt: HostRuntime) {
     let names = names(&rt, rt.alloc());

@@ -15,7 +15,7 @@ pub(crate) const A: Fragment = (
 
 const FRAGMENTS: &[Fragment] = &[A, ("L", LIBRARY, &[])];
 
-/// What is told of a connection.
+/// Returns what the readers report about a connection, as a text.
 pub(crate) fn told(
     rt: &impl Abort,
     alloc: Global,
@@ -41,7 +41,7 @@ fn tell_connection(
     tell_order(rt, text, context.fragments(connection));
 }
 
-/// The addresses of two symbols and of the main routine.
+/// Writes the addresses of two symbols and of the main routine.
 fn tell_addresses(
     rt: &impl Abort,
     text: &mut String,
@@ -84,7 +84,7 @@ fn tell_order(rt: &impl Abort, text: &mut String, order: Option<&[usize]>) {
     }
 }
 
-/// Tests what is told of a connection.
+/// Tests what the readers report about a connection.
 pub(crate) fn test_told(
     rt: &impl Abort,
     alloc: Global,
@@ -96,7 +96,8 @@ pub(crate) fn test_told(
     assert!(rt; told.as_str() == wanted);
 }
 
-/// Tests what is told of the first connection in a context, and when it is closed.
+/// Tests what the readers report about the first connection in a context, while it is open and after it is
+/// closed.
 fn test_open_and_closed(rt: &impl Abort, alloc: Global, context: &mut Context<'_>) {
     assert!(rt; context.prepare(b"A").is_ok());
     test_told(
@@ -123,7 +124,7 @@ fn readers(rt: HostRuntime) {
     test_open_and_closed(&rt, rt.alloc(), &mut context);
 }
 
-/// The number of a connection to a fragment, or that of its refusal.
+/// Returns the number of a connection to a fragment, or that of its refusal.
 pub(crate) fn prepared(context: &mut Context<'_>, name: &[u8]) -> Result<u32, u32> {
     match context.prepare(name) {
         Ok(connection) => Ok(connection.0),
@@ -133,7 +134,7 @@ pub(crate) fn prepared(context: &mut Context<'_>, name: &[u8]) -> Result<u32, u3
 
 const EMPTY: &[Fragment] = &[("E", "", &[])];
 
-/// Prepares and closes a fragment until the numbers come to an end, since none comes twice.
+/// Prepares and closes a fragment until no number is left, since no number is used twice.
 fn use_all_numbers(rt: &impl Abort, context: &mut Context<'_>) {
     for number in 0..65_536 {
         assert!(rt; prepared(context, b"E") == Ok(number));

@@ -1,5 +1,5 @@
-//! Calls to which memory is refused. That shows where these tests are run with one growth refused after another, as by
-//! `tools/refuse-memory`.
+//! Calls in which an allocation fails. To test this, run it with one allocation failing after another, as
+//! `tools/refuse-memory` does.
 
 use crate::added::empty;
 use crate::fixture::{LIMIT, context_of, tell_memory};
@@ -17,13 +17,13 @@ use test_links::fragments::{Fragment, containers};
 /// A library with one export, and two fragments that import it.
 const FRAGMENTS: &[Fragment] = &[("A", USER, &[]), ("B", USER, &[]), ("L", LIBRARY, &[])];
 
-/// The same with more in the two, so that each reader has something to tell.
+/// The same with more in the two, so that each reader has something to report.
 const RICH_FRAGMENTS: &[Fragment] = &[("A", RICH, &[]), ("B", RICH, &[]), ("L", LIBRARY, &[])];
 
 const RICH: &str =
     "library L 1 0 before\nimport v data strong\nsection a data process 4 4\nfix a 0 import v\nexport own data a 0\nmain a 0\ninit a 2\nterm a 3\n";
 
-/// What each reader of a context tells of the first two connections and of all fragments.
+/// Returns what each reader of a context reports about the first two connections and about all fragments.
 fn all_told(rt: &impl Abort, alloc: Global, context: &Context<'_>) -> String {
     let mut text = told(rt, alloc, context, Connection(0));
     let second = told(rt, alloc, context, Connection(1));
@@ -34,7 +34,7 @@ fn all_told(rt: &impl Abort, alloc: Global, context: &Context<'_>) -> String {
     text
 }
 
-/// How many sections of a fragment are present, the first of them, and where the first connection enters it.
+/// Writes how many sections of a fragment are present, the first of them, and the entry point of the first connection.
 fn tell_fragment(rt: &impl Abort, text: &mut String, context: &Context<'_>, position: usize) {
     let named = context.name(position).is_some();
     let count = context.section_count(position);
@@ -55,7 +55,7 @@ fn tell_entries(rt: &impl Abort, text: &mut String, context: &Context<'_>, posit
     }
 }
 
-/// Prepares the second of two fragments behind the first, and once more where memory is refused.
+/// Prepares the second of two fragments after the first, and once more if an allocation fails.
 fn prepare_again(
     rt: &(impl Abort + Print),
     alloc: Global,
@@ -70,7 +70,7 @@ fn prepare_again(
     Ok(())
 }
 
-/// Prepares the second fragment, behind which the same is told of the first as before.
+/// Prepares the second fragment, and tests that the readers report the same about the first as before.
 fn prepare_second(
     rt: &(impl Abort + Print),
     alloc: Global,
@@ -85,7 +85,7 @@ fn prepare_second(
     Ok(())
 }
 
-/// Prepares it, and once more where memory is refused, which has changed nothing. Tells whether it was.
+/// Prepares it, and once more if an allocation fails, which changes nothing. Returns whether one failed.
 fn prepare_until_answered(
     rt: &impl Abort,
     alloc: Global,
@@ -102,8 +102,8 @@ fn prepare_until_answered(
     refused
 }
 
-/// Where memory is refused to `prepare`, the readers answer as before, and the next `prepare` answers as this one
-/// would have.
+/// If an allocation fails in `prepare`, the readers return the same as before, and the next `prepare` returns what
+/// this one would have returned.
 #[test]
 fn prepared_again(rt: HostRuntime) -> Result<(), Fail> {
     let wanted = "no own, no v, no main, 0 at 00010020 00010000, no 1, order 2 1, order 2 1";
@@ -123,7 +123,7 @@ const FIRST: Place = Place {
     size: 8,
 };
 
-/// Whether the first instance has its bytes, and nothing is placed right after it.
+/// Returns whether the first instance has its bytes, and nothing is placed right after it.
 fn has_first_alone(memory: &Memory) -> bool {
     memory.holds(FIRST)
         && memory.part(FIRST) == b"\0\0\0\0\0\0\0\x2A".as_slice()
@@ -156,7 +156,8 @@ fn place_first(rt: &impl Abort, memory: &mut Memory) {
     assert!(rt; has_first_alone(memory));
 }
 
-/// Where memory is refused to `place`, nothing is placed, and the next `place` answers as this one would have.
+/// If an allocation fails in `place`, nothing is placed, and the next `place` returns what this one would have
+/// returned.
 #[test]
 fn placed_again(rt: HostRuntime) -> Result<(), Fail> {
     let mut memory = Memory::new(rt.alloc(), 0x0100_0000);
@@ -168,7 +169,7 @@ fn placed_again(rt: HostRuntime) -> Result<(), Fail> {
     Ok(())
 }
 
-/// If an allocation fails, nothing is added, and the next `add` adds. Returns whether it failed.
+/// Adds a fragment, and once more if an allocation fails, which adds nothing. Returns whether one failed.
 fn add_until_answered(rt: &impl Abort, context: &mut Context<'_>) -> bool {
     let mut answer = context.add(b"B", b"b");
     let refused = answer == Err(AddFault::OutOfMemory);
@@ -180,7 +181,7 @@ fn add_until_answered(rt: &impl Abort, context: &mut Context<'_>) -> bool {
     refused
 }
 
-/// If memory is refused to `add`, the context is as before.
+/// If an allocation fails in `add`, the context is unchanged.
 #[test]
 fn added_again(rt: HostRuntime) -> Result<(), Fail> {
     let mut context = empty(rt.alloc());

@@ -61,7 +61,7 @@ fn relocated_once(rt: HostRuntime) {
     take_steps(&rt, rt.alloc(), USERS_OF_RELOCATED, LIMIT, RELOCATED_ONCE);
 }
 
-/// What finds no room leaves nothing.
+/// A fragment that finds no room leaves nothing in memory.
 const NO_ROOM: &[(Step, &str)] = &[
     (Prepare("A"), "67 NoRoom A"),
     (Prepare("L"), "0, L 00010000 0000002A"),

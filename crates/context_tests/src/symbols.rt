@@ -1,4 +1,4 @@
-//! Addresses of symbols: none of a connection that is closed, and those of exports that are absolute or pass on an import.
+//! Addresses of symbols. A closed connection has none. Exports may be absolute or pass on an import.
 
 use crate::fixture::{LIMIT, context_of};
 use crate::foreign::PASSED;
@@ -11,7 +11,7 @@ use test_data::changes::{At, Change};
 use test_data::scripts::LIBRARY;
 use test_links::fragments::{Fragment, containers};
 
-/// The address of a symbol of a connection.
+/// Returns the address of a symbol of a connection.
 fn symbol(context: &Context<'_>, connection: u32, name: &str) -> Option<u32> {
     context.symbol(Connection(connection), name.as_bytes())
 }
@@ -26,7 +26,7 @@ fn open_and_close(rt: &impl Abort, context: &mut Context<'_>) {
     assert!(rt; prepared(context, b"L") == Ok(3));
 }
 
-/// A connection that is closed has no symbols, though the library is present for others.
+/// Tests that a closed connection has no symbols, though the library is present for others.
 fn test_closed(rt: &impl Abort, context: &mut Context<'_>) {
     open_and_close(rt, context);
     for connection in [0, 4] {
@@ -57,7 +57,7 @@ const ABSOLUTE: &[Change] = &[(At::End(2), b"\xFF\xFE")];
 
 const ABSOLUTE_ONE: &[Change] = &[(At::End(6), b"\x80\x00\x00\x01\xFF\xFE")];
 
-/// A library whose export lies at an offset, so that its address is none of a section.
+/// A library whose export is at an offset, so that its address isn't that of a section.
 const OFFSET: &str = "versions 1 0 0\nsection l data process 4 8\nexport v data l 4\n";
 
 /// Fragments, and the address of `u` of the first.

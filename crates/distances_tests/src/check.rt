@@ -8,7 +8,7 @@ const WORDS: [&str; 3] = ["check", "a", "b"];
 /// What is printed of the certificates of both sections.
 const CHECKED: &[u8] = b"section 0 yes 0\nsection 1 yes 1\n";
 
-/// Certificates where a label of section 1 is too small, and one where it is too great.
+/// Certificates with a label of section 1 that is too small, and one with a label that is too great.
 const LABELS_BELOW: &[u8] = b"\
       pefcert 1\nsection 0\nfixups 0\nlength 0\nprogram -\nregisters *\nat 0 0\n\
       section 1\nfixups 4\nlength 1\nprogram 4601\nregisters 0 1 *\n\
@@ -35,7 +35,7 @@ const TURNED: &[u8] = b"\
 /// A script with one section without fixups.
 const PLAIN: &[u8] = b"section d data process 4 4\n";
 
-/// Scripts and certificates, what is printed of them, and the status.
+/// Scripts and certificates, the output, and the status.
 const CHECKS: &[(&[u8], &[u8], &[u8], u8)] = &[
     (VECTORS, VECTORS_CERTIFIED, CHECKED, 0),
     (VECTORS, LABELS_BELOW, b"section 0 yes 0\nsection 1 no\n", 1),
@@ -84,8 +84,8 @@ fn check(rt: HostRuntime) -> Result<(), Fail> {
     Ok(())
 }
 
-/// Words with files that aren't there: what is printed, and the calls. SCRIPT is read before CERT, and both before a
-/// line of either.
+/// Arguments with files that don't exist, the output, and the calls. SCRIPT is read before CERT, and both before a
+/// line of either is parsed.
 const MISSING: &[(&[&str], &[u8], (u64, u64))] = &[
     (
         &["check", "none", "b"],
@@ -114,7 +114,7 @@ fn check_missing(rt: HostRuntime) -> Result<(), Fail> {
     Ok(())
 }
 
-/// The call that fails, and how, what is printed, and the calls.
+/// The call that fails, how it fails, the output, and the calls.
 const FAILING: &[(u32, FileFault, &[u8], (u64, u64))] = &[
     (
         1,

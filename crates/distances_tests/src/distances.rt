@@ -8,7 +8,7 @@ use test_bench::scripts::{VECTORS, VECTORS_CERTIFIED};
 
 const WORDS: [&str; 2] = ["distances", "a"];
 
-/// Scripts, what is printed of them, and the status.
+/// Scripts, the output, and the status.
 const PRINTED: &[(&[u8], &[u8], u8)] = &[
     (VECTORS, VECTORS_CERTIFIED, 0),
     (b"", b"pefcert 2\nend\n", 0),
@@ -41,7 +41,7 @@ fn distances(rt: HostRuntime) -> Result<(), Fail> {
     Ok(())
 }
 
-/// Asserts what is printed of a script, which stays as it is.
+/// Asserts what is printed for a script, which stays unchanged.
 fn assert_printed(
     rt: &impl Abort,
     alloc: Global,
@@ -58,7 +58,7 @@ fn assert_printed(
 /// Scripts, and what `check` prints of them with the certificates that `distances` prints.
 const CHECKED: &[(&str, &str)] = &[
     ("", ""),
-    // an import behind two sections; four words of two sections in turn
+    // an import after two sections; four words of two sections in turn
     (
         "library l 0 0 -\nimport i data strong\nsection a data process 4 12\nsection b data process 4 4\nfix a 0 section a\nfix a 4 section b\nfix a 8 import i\n",
         "section 0 yes 2\nsection 1 yes 0\n",
@@ -126,7 +126,7 @@ const CHECKED: &[(&str, &str)] = &[
     ),
 ];
 
-/// What `distances` prints is accepted by `check`, with these lengths.
+/// `check` accepts what `distances` prints, with these lengths.
 #[test]
 fn distances_checked(rt: HostRuntime) -> Result<(), Fail> {
     for row in CHECKED {
@@ -136,7 +136,7 @@ fn distances_checked(rt: HostRuntime) -> Result<(), Fail> {
     Ok(())
 }
 
-/// What `distances` prints of a script is accepted by `check`, which prints this.
+/// Asserts that `check` accepts what `distances` prints for a script, and prints this.
 fn assert_checked(alloc: Global, script: &[u8], printed: &[u8]) -> Result<(), Fail> {
     let certified = run_tool(alloc, Handed::file(&WORDS, script))?;
     let certificates = certified.printed.as_slice();
@@ -145,7 +145,7 @@ fn assert_checked(alloc: Global, script: &[u8], printed: &[u8]) -> Result<(), Fa
     Ok(())
 }
 
-/// A script with so many words of its second section in a row.
+/// Returns a script with this many words of its second section in a row.
 fn words_of_second(alloc: Global, from: u32, count: u32) -> Result<String, AllocError> {
     let mut text = String::new(alloc);
     text.push_str("section a data process 4 4096\nsection b data process 4 4\n")?;
@@ -167,7 +167,7 @@ const RUNS: &[(u32, u32, &[u8])] = &[
     (4, 64, b"section 0 yes 2\nsection 1 yes 0\n"),
 ];
 
-/// The longest runs of one section, and those behind a skip, which adds 63 at most.
+/// The longest runs of one section, and those after a skip, which adds 63 at most.
 #[test]
 fn distances_of_runs(rt: HostRuntime) -> Result<(), Fail> {
     for row in RUNS {
@@ -178,7 +178,7 @@ fn distances_of_runs(rt: HostRuntime) -> Result<(), Fail> {
     Ok(())
 }
 
-/// Eight sections, of which the last has 16,384 fixups, at every other word, by all sections in turn.
+/// Returns eight sections, of which the last has 16,384 fixups, at every other word, by all sections in turn.
 fn many_in_turn(alloc: Global) -> Result<String, AllocError> {
     let mut text = String::new(alloc);
     push_sections(&mut text, IN_TURN.sections, 4, IN_TURN.every_other())?;
@@ -197,7 +197,7 @@ fn distances_of_many_in_turn(rt: HostRuntime) -> Result<(), Fail> {
     assert_checked(rt.alloc(), script.as_bytes(), MANY_IN_TURN)
 }
 
-/// Lines for the words of a section, by two sections in turn.
+/// Appends lines for the words of a section, by two sections in turn.
 fn push_two_in_turn(text: &mut String, section: u32, other: u32) -> Result<(), AllocError> {
     for word in 0..MOST.fixups {
         let base = if word % 2 == 0 { section } else { other };
@@ -210,7 +210,8 @@ fn push_two_in_turn(text: &mut String, section: u32, other: u32) -> Result<(), A
     Ok(())
 }
 
-/// Sixteen sections with as many fixups as there can be, by each section and the one so far on in turn.
+/// Returns sixteen sections with as many fixups as there can be, by each section and the one so far on in
+/// turn.
 fn most_in_turn(alloc: Global, apart: u32) -> Result<String, AllocError> {
     let mut text = String::new(alloc);
     push_sections(&mut text, MOST.sections, 4, MOST.fixups.wrapping_mul(4))?;
@@ -220,8 +221,9 @@ fn most_in_turn(alloc: Global, apart: u32) -> Result<String, AllocError> {
     Ok(text)
 }
 
-/// How far the second section is, and what `check` prints. A pair of words is one unit, and 512 units are one
-/// halfword: 64 halfwords, and one more for each register that doesn't hold its section at the start.
+/// The distance to the second section, and what `check` prints. A pair of words is one unit, and 512 units
+/// are one halfword. So there are 64 halfwords, and one more for each register that doesn't hold its section
+/// at the start.
 const MOST_IN_TURN: &[(u32, &[u8])] = &[
     (
         0,
@@ -254,7 +256,7 @@ fn distances_output_fails(rt: HostRuntime) -> Result<(), Fail> {
     assert_cut_output(rt.alloc(), Handed::file(&WORDS, VECTORS), VECTORS_CERTIFIED)
 }
 
-/// A library with 601 imports, and a section of 16 bytes.
+/// Returns a library with 601 imports, and a section of 16 bytes.
 fn imports(alloc: Global) -> Result<String, AllocError> {
     let mut text = String::new(alloc);
     text.push_str("library l 0 0 -\n")?;
@@ -265,7 +267,7 @@ fn imports(alloc: Global) -> Result<String, AllocError> {
     Ok(text)
 }
 
-/// Lines that stand behind the imports and the section, and what `check` prints.
+/// Lines after the imports and the section, and what `check` prints.
 const IMPORTED: &[(&str, &[u8])] = &[
     (
         "fix a 0 import i511\nfix a 4 import i512\n",

@@ -12,10 +12,10 @@ use std::test::Fail;
 /// How many fixups a section can have.
 const FIXUPS: u32 = 65_536;
 
-/// Two sections, which can be one.
+/// Pairs of sections. The two of a pair can be the same.
 const PAIRS: [(u32, u32); 2] = [(15, 15), (15, 0)];
 
-/// A word after the other, of two sections in turn.
+/// Returns words one after another, by two sections in turn.
 fn in_turn(alloc: Global, first: u32, second: u32) -> Result<Vec<Fixup>, AllocError> {
     let mut fixups = Vec::new(alloc);
     for word in 0..FIXUPS {
@@ -40,7 +40,7 @@ fn push_rows(
     rows.push_many(row, count)
 }
 
-/// The same labels, but for one that is 1 greater, in the range of a place among them.
+/// Returns the same labels, except that one is greater by 1, in the range of a place among them.
 fn raised(
     rt: &impl Abort,
     alloc: Global,
@@ -65,7 +65,7 @@ fn raised(
     Ok(rows)
 }
 
-/// How many ranges labels have.
+/// Returns how many ranges labels have.
 fn ranges(labels: &LabelRows) -> usize {
     labels.kept().ends.len()
 }

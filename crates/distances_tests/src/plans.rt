@@ -34,7 +34,7 @@ fn distances_are_plans(rt: HostRuntime) -> Result<(), Fail> {
     Ok(())
 }
 
-/// The certificates that `distances` prints of a script.
+/// Returns the certificates that `distances` prints of a script.
 fn printed_certificates(alloc: Global, text: &[u8]) -> Result<Vec<Certificate>, Fail> {
     let printed = run_tool(alloc, Handed::file(&["distances", "a"], text))?.printed;
     Ok(Certificate::read(alloc, printed.as_slice())?)
@@ -68,7 +68,7 @@ fn test_plan(
     Ok(())
 }
 
-/// The plan of a section's fixups.
+/// Returns the plan of a section's fixups.
 fn planned(
     rt: &impl Abort,
     alloc: Global,
@@ -80,7 +80,7 @@ fn planned(
     Ok(plan(alloc, section, fixups)?)
 }
 
-/// Whether two certificates have the same parts.
+/// Returns whether two certificates have the same parts.
 fn is_same(alloc: Global, one: &Certificate, other: &Certificate) -> Result<bool, AllocError> {
     Ok(
         one.section == other.section

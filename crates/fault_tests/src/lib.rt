@@ -1,5 +1,5 @@
-//! Tests of what `Display` writes of each refusal: its name, and of a script's or certificate's refusal also the line. The
-//! names are those of `docs/REFUSALS.md`.
+//! Tests of what `Display` writes for each refusal: its name, and for a refusal of a script or certificate also the
+//! line. The names are those of `docs/ERRORS.md`.
 #![tactic(auto)]
 
 #[cfg(test)]

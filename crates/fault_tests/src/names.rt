@@ -220,7 +220,7 @@ const PREPARATIONS: &[(PrepareFault<'static>, &str)] = &[
     (PrepareFault::OutOfMemory, "OutOfMemory"),
 ];
 
-/// Tests the text of a refusal. No width changes it.
+/// Tests the text of a refusal. A width doesn't change it.
 fn test_text<F: fmt::Display>(rt: &impl Abort, alloc: Global, fault: &F, name: &str) {
     let plain = format!(in alloc; "{fault}").expect(rt, "memory");
     assert!(rt; plain.as_str() == name, "{name}");

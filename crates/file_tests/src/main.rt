@@ -1,14 +1,15 @@
-//! The commands over real files, one behind another in a folder that has some of the examples, as a user gives
-//! them. What they print and how they end has to be what the file `stdout` has.
+//! The commands over real files, one after another, in a folder with some of the examples, as a user runs
+//! them. Their output and their statuses must match the file `stdout`.
 //!
-//! It is a program and no test, since a program has files and an input, and is built by two compilers.
+//! This is a program and not a test, since only a program has files and an input, and since programs are built
+//! by two compilers.
 #![tactic(auto)]
 
 use pef_ports::system::{DiskFiles, Input, Output};
 use pef_tool::run;
 use std::io;
 
-/// What is run, in turn.
+/// The commands to run, in turn.
 const LINES: &[&str] = &[
     "pef link transition-vectors.pefscript go.pef",
     "pef list go.pef",
@@ -22,7 +23,7 @@ const LINES: &[&str] = &[
     "pef link missing.pefscript never.pef",
     "pef list never.pef",
     "pef link shared-library.pefscript nowhere/tools.pef",
-    // over a container of more bytes
+    // over a longer container
     "pef link shared-library.pefscript go.pef",
     "pef load Tools=go.pef",
     "pef show",
@@ -37,7 +38,7 @@ fn main(rt: HostRuntime) -> io::Result<()> {
     Ok(())
 }
 
-/// Runs the tool on the words of a line: its status.
+/// Runs the tool with the arguments of a line, and returns its status.
 fn run_line(rt: &HostRuntime, line: &str) -> io::Result<u8> {
     let alloc = rt.alloc();
     let mut words = Vec::new(alloc);

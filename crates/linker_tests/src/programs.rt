@@ -12,8 +12,8 @@ use test_data::limits::{self, MOST};
 use test_data::lists::{Listed, S0, S1, S2, spelled};
 use test_links::link_text;
 
-/// Fixups of a section, how many halfwords their shortest program has, and its bytes where there is one
-/// such program alone.
+/// Fixups of a section, the number of halfwords of their shortest program, and its bytes if only one program is
+/// shortest.
 const LISTS: &[(Listed, u32, &[u8])] = &[
     (&[], 0, &[]),
     (&[(0, S0), (4, S1), (8, Base::Import(0))], 2, &[]),
@@ -47,7 +47,7 @@ const OWN: usize = 1;
 /// How many imports are declared.
 const IMPORTS: u32 = 601;
 
-/// The lines of the library and its imports.
+/// Appends the lines of the library and its imports.
 fn push_imports(rt: &impl Abort, text: &mut String) {
     text.push_str("library Tools 1 0 -\n").expect(rt, "memory");
     for number in 0..IMPORTS {
@@ -55,21 +55,21 @@ fn push_imports(rt: &impl Abort, text: &mut String) {
     }
 }
 
-/// The lines of three sections.
+/// Appends the lines of three sections.
 fn push_sections(rt: &impl Abort, text: &mut String) {
     for number in 0..3 {
         write!(text, "section s{number} data process 4 262144\n").expect(rt, "memory");
     }
 }
 
-/// The lines of the fixups of the second section.
+/// Appends the lines of the fixups of the second section.
 fn push_listed(rt: &impl Abort, text: &mut String, listed: &[(u32, Base)]) {
     for (offset, base) in listed {
         push_fixup(rt, text, *offset, *base);
     }
 }
 
-/// The line of a fixup of the second section.
+/// Appends the line of a fixup of the second section.
 fn push_fixup(rt: &impl Abort, text: &mut String, offset: u32, base: Base) {
     let pushed = match base {
         Base::Section(number) => write!(text, "fix s{OWN} {offset} section s{number}\n"),
@@ -78,7 +78,7 @@ fn push_fixup(rt: &impl Abort, text: &mut String, offset: u32, base: Base) {
     pushed.expect(rt, "memory");
 }
 
-/// A script of three sections, of which the second has these fixups.
+/// Returns a script of three sections, of which the second has these fixups.
 fn script_of(rt: &impl Abort, alloc: Global, listed: &[(u32, Base)]) -> String {
     let mut text = String::new(alloc);
     push_imports(rt, &mut text);
@@ -87,7 +87,7 @@ fn script_of(rt: &impl Abort, alloc: Global, listed: &[(u32, Base)]) -> String {
     text
 }
 
-/// How many relocation headers a container has, and the section and the program of the first.
+/// Returns how many relocation headers a container has, and the section and the program of the first.
 fn first_header<'a>(rt: &impl Abort, bytes: &'a [u8]) -> (usize, u32, &'a [u8]) {
     let container = Container::read(bytes).expect(rt, "a container");
     let loader = Loader::read(&container).expect(rt, "a loader section");
@@ -114,15 +114,15 @@ fn link_listed(rt: &impl Abort, alloc: Global, listed: &[(u32, Base)]) -> Linked
     link_text(alloc, text.as_bytes()).expect(rt, "a container")
 }
 
-/// Tests the length of the section's program, and its bytes where some are given.
+/// Tests the length of the section's program, and its bytes if some are given.
 fn test_bytes(rt: &impl Abort, linked: &Linked, written: &[u8], halfwords: u32, bytes: &[u8]) {
     let lengths = (linked.length(OWN), written.len());
     assert!(rt; lengths == (Some(halfwords), 2 * halfwords as usize));
     assert!(rt; bytes.is_empty() || written == bytes);
 }
 
-/// Tests a container whose second section has so many fixups: the section's program, and that it is the
-/// one of the certificate.
+/// Tests a container whose second section has this many fixups: the section's program, and that it is the one of the
+/// certificate.
 fn test_linked(
     rt: &impl Abort,
     alloc: Global,
@@ -139,8 +139,8 @@ fn test_linked(
     }
 }
 
-/// Tests the program of the section with these fixups: its length, that it is the one of the certificate,
-/// and its bytes where some are given.
+/// Tests the program of the section with these fixups: its length, that it is the one of the certificate, and its
+/// bytes if some are given.
 fn test_program(
     rt: &impl Abort,
     alloc: Global,
@@ -165,7 +165,7 @@ fn shortest_programs(rt: HostRuntime) {
     test_programs(&rt, rt.alloc(), LISTS);
 }
 
-/// Words of section 1 in a row, from an offset on.
+/// Returns words of section 1 in a row, from an offset on.
 fn words(rt: &impl Abort, alloc: Global, count: u32, from: u32) -> Vec<(u32, Base)> {
     let mut listed = Vec::new(alloc);
     for i in 0..count {
@@ -175,8 +175,8 @@ fn words(rt: &impl Abort, alloc: Global, count: u32, from: u32) -> Vec<(u32, Bas
     listed
 }
 
-/// How many words in a row, the offset of the first, how many halfwords their program has, and its bytes
-/// where some are given.
+/// The number of words in a row, the offset of the first, the number of halfwords of their program, and its bytes if
+/// some are given.
 const IN_A_ROW: &[(u32, u32, u32, &[u8])] = &[
     (512, 0, 1, &[0x43, 0xFF]),
     (513, 0, 2, &[]),
@@ -212,17 +212,17 @@ const TOTAL: u32 = 16_777_216;
 /// How many of the fixups below have more than 4,096 bytes before them.
 const FAR: u32 = 4_016;
 
-/// How many halfwords the longest program has that the limits allow: three for each of 65,536 fixups, and one more for
-/// each far one.
+/// The number of halfwords of the longest program that the limits allow: three for each of 65,536 fixups, and one more
+/// for each far one.
 ///
-/// A fixup takes two halfwords where its import is above 511, and no base takes more. To get to its offset takes none
-/// where it adjoins the one before, one past 4,096 bytes or fewer, and two past any more. A section has room for
-/// 16,515,072 bytes between its fixups: one before each, and 4,096 more before 4,016 of them. So no fixups take more.
-/// These don't take fewer: all are by one import, so no instruction makes two, and no move of one halfword passes more
-/// than 4,096 bytes.
+/// A fixup takes two halfwords if its import is above 511, and no base takes more. A move to its offset takes no
+/// halfword if the fixup adjoins the one before, one halfword to pass up to 4,096 bytes, and two to pass more. A
+/// section has room for 16,515,072 bytes between its fixups: one before each, and 4,096 more before 4,016 of them. So
+/// no fixups take more. These don't take fewer: all are by one import, so no instruction makes two, and no move of one
+/// halfword passes more than 4,096 bytes.
 const LONGEST: u32 = 200_624;
 
-/// The lines of these fixups.
+/// Appends the lines of these fixups.
 fn push_longest(rt: &impl Abort, text: &mut String) {
     let mut end = 0u32;
     for i in 0..MOST.fixups {
@@ -234,7 +234,7 @@ fn push_longest(rt: &impl Abort, text: &mut String) {
     assert!(rt; end == TOTAL);
 }
 
-/// A script of two sections, of which the second has these fixups.
+/// Returns a script of two sections, of which the second has these fixups.
 fn longest_script(rt: &impl Abort, alloc: Global) -> String {
     let mut text = String::new(alloc);
     push_imports(rt, &mut text);
@@ -290,7 +290,7 @@ fn test_labels(rt: &impl Abort, alloc: Global, certificate: &Certificate, wanted
     assert!(rt; labels.as_slice() == wanted, "section {section}");
 }
 
-/// The certificate of a section.
+/// Returns the certificate of a section.
 fn certificate_of<'a>(rt: &impl Abort, linked: &'a Linked, section: u32) -> &'a Certificate {
     let found = linked.certificate(section as usize);
     let certificate = found.expect(rt, "a certificate");

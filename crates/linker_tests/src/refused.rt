@@ -1,5 +1,5 @@
-//! `link` where memory is refused to it. That shows where this test is run with one growth refused after another, as by
-//! `tools/refuse-memory`.
+//! `link` when an allocation fails. To test this, run it with one allocation failing after another, as
+//! `tools/refuse-memory` does.
 
 use pef_script::Script;
 use pef_write::{LinkFault, Linked, link};
@@ -10,7 +10,7 @@ use test_data::containers::VECTORS_LEAST;
 use test_data::refusals::{say_answered, say_begins};
 use test_data::scripts::VECTORS;
 
-/// Links a script, and once more where memory is refused, and says whether that was so.
+/// Links a script, and once more if an allocation fails. Also returns whether one failed.
 fn link_refused(rt: &impl Abort, alloc: Global, script: &Script<'_>) -> (Linked, bool) {
     match link(alloc, script) {
         Ok(linked) => (linked, false),
@@ -18,7 +18,7 @@ fn link_refused(rt: &impl Abort, alloc: Global, script: &Script<'_>) -> (Linked,
     }
 }
 
-/// Tests that a script is linked to a container, also where memory is refused at first.
+/// Tests that a script is linked to a container, also if an allocation fails at first.
 fn link_again(
     rt: &(impl Abort + Print),
     alloc: Global,
@@ -35,7 +35,7 @@ fn link_again(
     say_answered(rt, refused)
 }
 
-/// Where memory is refused to `link`, it says so, and the next `link` gives the container.
+/// If an allocation fails in `link`, `link` reports it, and the next `link` gives the container.
 #[test]
 fn linked_again(rt: HostRuntime) -> Result<(), Fail> {
     let alloc = rt.alloc();

@@ -7,10 +7,10 @@ use std::process::Abort;
 use test_data::limits::{MOST, Spaced, at_all_limits, push_fixups};
 use test_data::scripts::VECTORS;
 
-/// The number and the line of a refusal, or `None` where the text is read.
+/// The number and the line of a refusal, or `None` if the text is read.
 type Refusal = Option<(u32, usize)>;
 
-/// The refusal of a text.
+/// Returns the refusal of a text.
 fn refusal(alloc: Global, text: &str) -> Refusal {
     match Script::read(alloc, text.as_bytes()) {
         Ok(_) => None,
@@ -20,7 +20,7 @@ fn refusal(alloc: Global, text: &str) -> Refusal {
 
 const TWO_LINES: &str = "section d data process 4 8\nfix d 0 section d\n";
 
-/// Third lines, behind the two above, and the refusal's number: 0 where the text is read.
+/// Third lines, after the two above, and the refusal's number: 0 if the text is read.
 const THIRD_LINES: &[(&str, u32)] = &[
     ("", 0),
     ("# any \u{7F} bytes ", 0),
@@ -81,7 +81,7 @@ const ANY_ORDER: &[(&str, &[&str], u32)] = &[
     ("9", &["tvector d 0 d d", "fix d 3 section d"], 46),
     ("10", &["fix d 4 section d", "tvector d 4 d d"], 47),
     ("9", &["fix d 0 section d", "tvector d 1 d d"], 46),
-    // Against an earlier line than the one before, from above and from below.
+    // Compared with a line before the previous one, from above and from below.
     (
         "16",
         &[
@@ -185,7 +185,7 @@ const FIRST_FAULTS: &[(&str, (u32, usize))] = &[
     ("section a data process 4 4\nterm a 5", (47, 2)),
 ];
 
-/// The refusal of the two lines above with a third.
+/// Returns the refusal of the two lines above with a third.
 fn refusal_of_third(rt: &impl Abort, alloc: Global, line: &str) -> Refusal {
     let text = format!(in alloc; "{TWO_LINES}{line}").expect(rt, "memory");
     refusal(alloc, &text)
@@ -200,7 +200,7 @@ fn read_third_lines(rt: HostRuntime) {
     }
 }
 
-/// The refusal of a section `d` of so many bytes, and of some lines.
+/// Returns the refusal of a section `d` of this many bytes, and of some lines.
 fn refusal_of_lines(rt: &impl Abort, alloc: Global, total: &str, lines: &[&str]) -> Refusal {
     let mut text = format!(in alloc; "section d data process 4 {total}").expect(rt, "memory");
     for line in lines {
@@ -252,7 +252,7 @@ main data 0
 term code 4
 ";
 
-/// How many libraries, imports, sections and exports there are.
+/// Returns how many libraries, imports, sections and exports there are.
 fn counts(script: &Script) -> (usize, usize, usize, usize) {
     (
         script.libraries(),
@@ -359,7 +359,7 @@ fn has_entries(script: &Script) -> bool {
     script.main() == Some((1, 0)) && script.init().is_none() && script.term() == Some((0, 4))
 }
 
-/// Tests the script of every line.
+/// Tests the script that has every kind of line.
 fn test_parts(rt: &impl Abort, script: &Script) {
     assert!(rt; has_tables(script));
     assert!(rt; has_sections(script));
@@ -444,7 +444,7 @@ fn worked(rt: HostRuntime) {
     test_worked_entries(&rt, &script);
 }
 
-/// So many lines that declare names, behind a first line.
+/// Returns this many lines that declare names, after a first line.
 fn names(
     rt: &impl Abort,
     alloc: Global,
@@ -461,7 +461,7 @@ fn names(
     text
 }
 
-/// A first line, what the lines behind it begin and end with, and how many of them are read.
+/// A first line, what the lines after it begin and end with, and how many of them are read.
 const COUNTS: &[(&str, &str, &str, u32)] = &[
     ("", "section s", " data process 0 0", 16),
     ("", "library l", " 1 0 -", 4096),
@@ -475,7 +475,7 @@ const COUNTS: &[(&str, &str, &str, u32)] = &[
     ("absolute z code 0", "absolute e", " data 0", 16_382),
 ];
 
-/// The refusal of so many lines that declare names, behind a first line.
+/// Returns the refusal of this many lines that declare names, after a first line.
 fn refusal_of_names(
     rt: &impl Abort,
     alloc: Global,
@@ -488,7 +488,7 @@ fn refusal_of_names(
     refusal(alloc, &text)
 }
 
-/// Tests that so many names are read, and no more.
+/// Tests that this many names are read, and no more.
 fn test_most_names(rt: &impl Abort, alloc: Global, row: &(&str, &str, &str, u32)) {
     let (first, front, end, most) = *row;
     let read = refusal_of_names(rt, alloc, first, front, most, end);
@@ -504,7 +504,7 @@ fn read_most_names(rt: HostRuntime) {
     }
 }
 
-/// A library and imports, whose names of 255 bytes have all the bytes that names may have.
+/// Returns a library and imports, whose names of 255 bytes have all the bytes that names may have.
 fn longest_names(rt: &impl Abort, alloc: Global) -> String {
     let mut text = String::new(alloc);
     write!(text, "library {:0255} 1 0 -", 0).expect(rt, "memory");
@@ -514,20 +514,20 @@ fn longest_names(rt: &impl Abort, alloc: Global) -> String {
     text
 }
 
-/// The refusal of a text with one more import.
+/// Returns the refusal of a text with one more import.
 fn refusal_of_one_more(rt: &impl Abort, alloc: Global, text: &str) -> Refusal {
     let more = format!(in alloc; "{text}\nimport x data strong").expect(rt, "memory");
     refusal(alloc, &more)
 }
 
-/// The refusals of the longest names, and of these with one more.
+/// Returns the refusals of the longest names, and of these with one more.
 fn refusals_of_longest(rt: &impl Abort, alloc: Global) -> (Refusal, Refusal) {
     let text = longest_names(rt, alloc);
     let more = refusal_of_one_more(rt, alloc, &text);
     (refusal(alloc, &text), more)
 }
 
-/// The refusal of a name of 256 bytes.
+/// Returns the refusal of a name of 256 bytes.
 fn refusal_of_longer(rt: &impl Abort, alloc: Global) -> Refusal {
     let longer = format!(in alloc; "library {:0256} 1 0 -", 0).expect(rt, "memory");
     refusal(alloc, &longer)
@@ -551,7 +551,7 @@ const FIXUPS: &[(u32, &str, Refusal)] = &[
     (65_535, "tvector s 0 s s", Some((48, 65_537))),
 ];
 
-/// The refusal of a section with so many fixups side by side, and a last line.
+/// Returns the refusal of a section with this many fixups side by side, and a last line.
 fn refusal_of_fixups(rt: &impl Abort, alloc: Global, count: u32, last: &str) -> Refusal {
     let mut text = format!(in alloc; "section s data process 0 262152\n").expect(rt, "memory");
     let fixups = Spaced {

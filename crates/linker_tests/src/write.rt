@@ -48,7 +48,7 @@ fix d 0 section d
 fix d 4 section d
 ";
 
-/// Its container: in `ONE_SECTION` the kind and the raw bytes are others.
+/// Its container: in `ONE_SECTION` the kind and the raw bytes differ.
 const PACKED: &[Change] = &[
     (At::Front(64), &[0x02]),
     (
@@ -128,7 +128,7 @@ const WHOLE: [u8; 524] = [
     0x00, 0x00, 0x00, 0x02, 0x00, 0x00, 0x00, 0x00, 0x00, 0x00, 0x00, 0x02, 0x40, 0x00, 0x00, 0x00,
     0x00, 0x00, 0x00, 0x0B, 0x00, 0x00, 0x00, 0x04, 0x00, 0x00, 0x00, 0x05, 0x00, 0x00, 0x00, 0x03,
     0x00, 0x00, 0x00, 0x02, 0xC0, 0x00, 0x00, 0x00,
-    // Imports: class, 80 (hex) more for the weak, and where the name stands.
+    // Imports: the class, plus 80 (hex) for the weak ones, and the offset of the name.
     0x00, 0x00, 0x00, 0x10, 0x81, 0x00, 0x00, 0x14, 0x82, 0x00, 0x00, 0x18, 0x03, 0x00, 0x00, 0x1E,
     0x04, 0x00, 0x00, 0x23,
     // The program of section 1: import 1, sections 0 and 1, import 4.
@@ -143,7 +143,7 @@ const WHOLE: [u8; 524] = [
     0x00, 0x10, 0x00, 0x00, 0x00, 0x18, 0x00, 0x04, 0x00, 0x01, 0x00, 0x63, 0x00, 0x01, 0x00, 0x64,
     0x00, 0x01, 0x00, 0x67, 0x00, 0x01, 0x00, 0x68, 0x00, 0x01, 0x00, 0x61, 0x00, 0x01, 0x00, 0x62,
     0x00, 0x01, 0x00, 0x65, 0x00, 0x01, 0x00, 0x66, 0x00, 0x01, 0x00, 0x69, 0x00, 0x01, 0x00, 0x6A,
-    // Exports: class and where the name stands, offset, section.
+    // Exports: class and offset of the name, offset, section.
     0x00, 0x00, 0x00, 0x28, 0x00, 0x00, 0x00, 0x02, 0x00, 0x00, 0x02, 0x00, 0x00, 0x29, 0x00, 0x00,
     0x00, 0x06, 0x00, 0x01, 0x00, 0x00, 0x00, 0x2A, 0x00, 0x00, 0x00, 0x06, 0x00, 0x00, 0x02, 0x00,
     0x00, 0x2B, 0x00, 0x00, 0x00, 0x0E, 0x00, 0x01, 0x00, 0x00, 0x00, 0x2C, 0x00, 0x00, 0x00, 0x00,
@@ -174,7 +174,7 @@ fn test_linked(rt: &impl Abort, linked: &Linked, bytes: &[u8], lengths: &[u32]) 
     assert!(rt; linked.sections() == sections && linked.length(sections).is_none());
 }
 
-/// Links a script, and tests what comes of it.
+/// Links a script, and tests the result.
 fn test_link(rt: &impl Abort, alloc: Global, row: &Row) {
     let (text, bytes, lengths) = *row;
     let linked = link_text(alloc, text).expect(rt, "a container");
@@ -198,7 +198,7 @@ fn packed(rt: HostRuntime) {
     test_linked(&rt, &linked, &bytes, &[1]);
 }
 
-/// The last six bytes of the container of the lines of `EXPORTED` with one more.
+/// Returns the last six bytes of the container of the lines of `EXPORTED` with one more.
 fn last_six(rt: &impl Abort, alloc: Global, line: &str) -> Vec<u8> {
     let text = format!(in alloc;
         "library L 1 0 -\nimport v data strong\nimport w data weak\nsection m data process 4 4\n{line}\n"
@@ -224,16 +224,15 @@ const TOTAL: u32 = 16_777_216;
 /// The bytes of a line of contents.
 const LINE_BYTES: u32 = 16_384;
 
-/// A script that has as much of everything as one may have: the names have 8,388,608 bytes with their ends,
-/// the first two sections are full, and no two fixups adjoin, so that each takes three halfwords: a move, and
-/// two for an import with a great number.
+/// Returns a script at every limit: the names have 8,388,608 bytes with their zero bytes, and the first two sections
+/// are full. No two fixups adjoin, so each takes three halfwords: a move, and two for an import with a great number.
 fn greatest_script(rt: &impl Abort, alloc: Global) -> String {
     let mut text = String::new(alloc);
     push_greatest(rt, alloc, &mut text);
     text
 }
 
-/// The lines of the greatest script.
+/// Appends the lines of the greatest script.
 fn push_greatest(rt: &impl Abort, alloc: Global, text: &mut String) {
     push_libraries(rt, text);
     push_sections(text, MOST.sections, 12, TOTAL).expect(rt, "memory");
@@ -241,7 +240,7 @@ fn push_greatest(rt: &impl Abort, alloc: Global, text: &mut String) {
     push_exports(rt, text);
 }
 
-/// The lines for all libraries with their imports.
+/// Appends the lines for all libraries with their imports.
 fn push_libraries(rt: &impl Abort, text: &mut String) {
     write!(text, "library {:0223} 1 0 -\n", 0).expect(rt, "memory");
     push_imports(rt, text, 0);
@@ -251,27 +250,27 @@ fn push_libraries(rt: &impl Abort, text: &mut String) {
     }
 }
 
-/// The lines for the contents of a full section.
+/// Appends the lines for the contents of a full section.
 fn push_full_section(rt: &impl Abort, alloc: Global, text: &mut String, section: &str) {
     let zeros = format!(in alloc; "bytes {section} {:032768}\n", 0).expect(rt, "memory");
     push_times(rt, text, &zeros, TOTAL / LINE_BYTES);
 }
 
-/// A line, so many times.
+/// Appends a line, this many times.
 fn push_times(rt: &impl Abort, text: &mut String, line: &str, times: u32) {
     for _ in 0..times {
         text.push_str(line).expect(rt, "memory");
     }
 }
 
-/// The lines for the exports.
+/// Appends the lines for the exports.
 fn push_exports(rt: &impl Abort, text: &mut String) {
     for export in 0..EXPORTS {
         write!(text, "export {export:095} tvector s7 {export}\n").expect(rt, "memory");
     }
 }
 
-/// The lines for the imports of a library.
+/// Appends the lines for the imports of a library.
 fn push_imports(rt: &impl Abort, text: &mut String, library: u32) {
     for import in 0..IMPORTS_EACH {
         let number = library.wrapping_mul(IMPORTS_EACH).wrapping_add(import);
@@ -279,7 +278,8 @@ fn push_imports(rt: &impl Abort, text: &mut String, library: u32) {
     }
 }
 
-/// The line for an import. The last one has a short name, since all fixups spell it, and the first one a long name.
+/// Appends the line for an import. The last one has a short name, since all fixups have it, and the first one a long
+/// name.
 fn push_import(rt: &impl Abort, text: &mut String, number: u32) {
     const LAST: u32 = IMPORTS - 1;
     let pushed = match number {
@@ -297,7 +297,7 @@ const FAR: Spaced = Spaced {
     count: MOST.fixups,
 };
 
-/// The lines for the contents of all sections: the bytes of the first two, and in each the address of the
+/// Appends the lines for the contents of all sections: the bytes of the first two, and in each the address of the
 /// last import, 256 bytes apart.
 fn push_contents(rt: &impl Abort, alloc: Global, text: &mut String) {
     for section in &SECTIONS[..2] {
@@ -309,18 +309,18 @@ fn push_contents(rt: &impl Abort, alloc: Global, text: &mut String) {
     }
 }
 
-/// The first import of a library, and how many it has.
+/// Returns the first import of a library, and how many it has.
 fn imports_of(rt: &impl Abort, loader: &Loader<'_>, l: usize) -> (u32, u32) {
     let library = loader.library(l).expect(rt, "a library");
     (library.first, library.count)
 }
 
-/// The library of an import.
+/// Returns the library of an import.
 fn library_of(rt: &impl Abort, loader: &Loader<'_>, j: usize) -> usize {
     loader.import(j).expect(rt, "an import").library
 }
 
-/// The section of a relocation header, and how many bytes its program has.
+/// Returns the section of a relocation header, and how many bytes its program has.
 fn program_of(rt: &impl Abort, loader: &Loader<'_>, h: usize) -> (u32, usize) {
     let (section, program) = loader.reloc(h).expect(rt, "a relocation header");
     (section, program.len())
@@ -368,10 +368,10 @@ fn test_greatest_linked(rt: &impl Abort, linked: &Linked) {
     test_greatest(rt, linked.bytes());
 }
 
-/// The greatest script is linked, and read back. Its container has 528 bytes of headers, the two full
-/// sections, and a loader section: 56 bytes, 24 a library, 4 an import and 12 a relocated section, six bytes
-/// a fixup, the names without the ends of those of exports and 3 zeros, and 2,048 slots, a key and ten bytes
-/// an export.
+/// The greatest script is linked, and its container is read. The container has 528 bytes of headers, the two full
+/// sections, and a loader section. That has 56 bytes, 24 for each library, 4 for each import, 12 for each relocated
+/// section, six for each fixup, the names without the zero bytes of exports' names, 3 zeros, 2,048 slots, and a key
+/// and ten bytes for each export.
 #[test]
 fn linked_greatest(rt: HostRuntime) {
     let text = greatest_script(&rt, rt.alloc());

@@ -1,6 +1,6 @@
 //! Tests of relocation, placed memory and prepared fragments, a file for each library, a table for each call. They go
-//! through public calls. The expected values come from the format's documents and worked examples, never from the program;
-//! but `place_against_a_scan` finds its addresses by a scan of its own, as the rule of placement says it.
+//! through public calls. The expected values come from the format's documents and worked examples, never from the
+//! program. Only `place_against_a_scan` computes its addresses, by a scan that follows the rule of placement.
 #![tactic(auto)]
 
 #[cfg(test)]

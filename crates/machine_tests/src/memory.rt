@@ -10,7 +10,7 @@ fn placed(rt: &impl Abort, memory: &mut Memory, size: u32, alignment: u8) -> Pla
     }
 }
 
-/// Size, alignment and address of an instance. An address of 0 stands for the refusal `NoRoom`.
+/// Size, alignment and address of an instance. An address of 0 means the refusal `NoRoom`.
 type Row = (u32, u8, u32);
 
 /// Places an instance.
@@ -53,10 +53,10 @@ const FIRST_AGAIN: &[Row] = &[
     (1, 0, 0x1_0050),
 ];
 
-/// A gap that is too small is passed over, also by what would fit but for its alignment.
+/// A gap that is too small is passed over, and so is one that only the alignment makes too small.
 const ROUND_A_GAP: &[Row] = &[(17, 0, 0x1_0060), (16, 5, 0x1_0080), (16, 4, 0x1_0030)];
 
-/// What ends at the limit, or fills a gap, has just room.
+/// An instance that ends at the limit, or fills a gap, just has room.
 const JUST_ROOM: &[Row] = &[
     (0x00FE_0001, 0, 0),
     (0x00FD_FFF0, 0, 0x2_0010),
@@ -97,8 +97,8 @@ fn place_below_a_limit(rt: HostRuntime) {
     }
 }
 
-/// How many instances, the size and the alignment of each, and the distance of their addresses: 64 MiB
-/// and more in one piece and in many, and all that the sections of a script may have.
+/// How many instances, the size and the alignment of each, and the distance between their addresses:
+/// 64 MiB and more in one piece and in many, and as much as the sections of a script may have.
 const MUCH: &[(u32, u32, u8, u32)] = &[
     (1, 0x0400_0001, 31, 0),
     (8, 0x0100_0000, 12, 0x0100_0000),
@@ -134,7 +134,7 @@ fn place_alike(
     }
 }
 
-/// Want of memory isn't told where there is memory.
+/// `OutOfMemory` isn't reported if there is memory.
 #[test]
 fn place_much(rt: HostRuntime) {
     for row in MUCH {
@@ -155,7 +155,7 @@ fn write_second(rt: &impl Abort, memory: &mut Memory) {
     part.fill(7);
 }
 
-/// A memory with instances of 16, 20 and 0 bytes, of which the second is written to.
+/// Returns a memory with instances of 16, 20 and 0 bytes, of which the second is written to.
 fn written(rt: &impl Abort, alloc: Global) -> Memory {
     let mut memory = Memory::new(alloc, 0x2_0000);
     write_second(rt, &mut memory);
@@ -165,7 +165,7 @@ fn written(rt: &impl Abort, alloc: Global) -> Memory {
 /// Address and size of each instance, and its bytes.
 const HELD: &[(u32, u32, u8)] = &[(0x1_0000, 16, 0), (0x1_0010, 20, 7), (0x1_0030, 0, 0)];
 
-/// Address and size of what is no instance.
+/// Address and size of ranges that aren't instances.
 const NOT_HELD: &[(u32, u32)] = &[(0x1_0000, 20), (0x1_0010, 16), (0x1_0020, 4), (0x1_0040, 0)];
 
 /// Tests that an instance is there, with one byte throughout.
@@ -192,7 +192,7 @@ fn holds_and_part(rt: HostRuntime) {
     test_held(&rt, &written(&rt, rt.alloc()));
 }
 
-/// Address, length, and the sum of the bytes there, where they lie inside one instance.
+/// Address, length, and the sum of the bytes there, if they lie inside one instance.
 const SUMS: &[(u32, u32, Option<u64>)] = &[
     (0x1_0000, 16, Some(0)),
     (0x1_0008, 9, None),
@@ -208,7 +208,7 @@ const SUMS: &[(u32, u32, Option<u64>)] = &[
     (0xFFFF_FFFF, 0xFFFF_FFFF, None),
 ];
 
-/// The sum of some bytes, where they lie inside one instance.
+/// Returns the sum of some bytes, if they lie inside one instance.
 fn sum_at(memory: &Memory, address: u32, len: u32) -> Option<u64> {
     let range = memory.at(address, len)?;
     Some(
@@ -232,12 +232,12 @@ fn at(rt: HostRuntime) {
     test_sums(&rt, &written(&rt, rt.alloc()));
 }
 
-/// How many bytes an instance takes.
+/// Returns how many bytes an instance takes.
 fn taken(size: u32) -> u64 {
     u64::from(size).max(1).next_multiple_of(16)
 }
 
-/// Whether a new instance at an address meets none of some.
+/// Returns whether a new instance at an address overlaps none of some.
 fn is_free(instances: &[Place], address: u32, size: u32) -> bool {
     let start = u64::from(address);
     let end = start.saturating_add(taken(size));
@@ -250,7 +250,8 @@ fn is_free(instances: &[Place], address: u32, size: u32) -> bool {
     true
 }
 
-/// The lowest address with room below 00020000 (hex): each one is tried with all instances.
+/// Returns the lowest address with room below 00020000 (hex). Each address is tried against all
+/// instances.
 fn lowest(instances: &[Place], size: u32, alignment: u32) -> Option<u32> {
     for grain in 0x1000..0x2000u32 {
         let address = grain * 16;
@@ -262,7 +263,7 @@ fn lowest(instances: &[Place], size: u32, alignment: u32) -> Option<u32> {
     None
 }
 
-/// Places an instance where a scan of all places it.
+/// Places an instance, if a scan of all instances places it.
 fn place_as_scanned(
     rt: &impl Abort,
     memory: &mut Memory,
@@ -286,7 +287,7 @@ fn place_as_scanned(
     }
 }
 
-/// Gives an instance back, or places one.
+/// Removes an instance, or places one.
 fn come_or_go(
     rt: &impl Abort,
     memory: &mut Memory,
@@ -313,7 +314,8 @@ fn test_against_a_scan(rt: &impl Abort, memory: &mut Memory, instances: &mut Vec
     assert!(rt; instances.len() > 40 && instances.len() < 160);
 }
 
-/// Instances of many sizes and alignments come and go, and each comes where a scan of all places it.
+/// Instances of many sizes and alignments are placed and removed. Each is placed exactly if a scan of
+/// all instances places it.
 #[test]
 fn place_against_a_scan(rt: HostRuntime) {
     let mut memory = Memory::new(rt.alloc(), 0x2_0000);

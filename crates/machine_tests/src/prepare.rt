@@ -3,8 +3,8 @@ use cfm_prepare::Context;
 use std::alloc::Global;
 use std::process::Abort;
 
-/// A container, and what comes of it where it is prepared in empty memory up to 00020000 (hex). It has one
-/// import, which it exports itself as the number 00000100.
+/// A container, and the result if it is prepared in empty memory up to 00020000 (hex). It has one import, which
+/// it exports itself as the number 00000100.
 #[derive(Clone, Copy, Debug)]
 struct Row {
     /// The first section: its kind, its total length, the length of its image, and its raw bytes.
@@ -17,7 +17,7 @@ struct Row {
     next_program: &'static [u8],
     /// Whether a second section follows, of one word, 00000001.
     second: bool,
-    /// The first section's memory, or the number of the refusal.
+    /// The first section's memory after preparation, or the number of the refusal.
     wanted: Result<&'static [u8], u32>,
 }
 
@@ -33,7 +33,7 @@ const ZEROS: Row = Row {
     wanted: Ok(b"\x00\x00\x00\x00"),
 };
 
-/// One byte of pattern-initialized data, whose raw bytes begin with a byte that is no opcode.
+/// One byte of pattern-initialized data, whose raw bytes begin with a byte that isn't an opcode.
 const BAD_PATTERN: Row = Row {
     kind: 2,
     total: 1,
@@ -43,7 +43,7 @@ const BAD_PATTERN: Row = Row {
     ..ZEROS
 };
 
-/// Zeros stand behind an image, packed or not; raw bytes past it are passed over.
+/// Zeros follow an image, packed or not, and raw bytes past it are passed over.
 const IMAGES: &[Row] = &[
     ZEROS,
     Row {
@@ -68,8 +68,8 @@ const IMAGES: &[Row] = &[
     },
 ];
 
-/// Addresses are added to what stands there; each header begins with fresh registers. A register of a
-/// section that isn't there adds nothing; an instruction that names it is refused.
+/// Addresses are added to the words in memory. Each header begins with fresh registers. A register with a
+/// section that doesn't exist adds nothing, but an instruction that names such a section is refused.
 const RELOCATED: &[Row] = &[
     Row {
         unpacked: 4,
@@ -197,7 +197,7 @@ const BAD_PROGRAMS: &[Row] = &[
     },
 ];
 
-/// Room comes before images, images before programs, and a program is applied before the next is read.
+/// Room is tested before images, and images before programs. A program is applied before the next is read.
 const FIRST_REFUSALS: &[Row] = &[
     Row {
         total: 0x1_0001,
@@ -264,7 +264,8 @@ const WORD: Section = Section {
     packed: 4,
 };
 
-/// A section header without a name or an address, at an alignment of 16. The raw bytes stand at a place.
+/// Appends a section header without a name or an address, at an alignment of 16. The raw bytes are at this
+/// place.
 fn push_section(rt: &impl Abort, bytes: &mut Vec<u8>, section: Section, at: u32) {
     let Section {
         kind,
@@ -276,7 +277,7 @@ fn push_section(rt: &impl Abort, bytes: &mut Vec<u8>, section: Section, at: u32)
     push(rt, bytes, &[kind, 1, 4, 0]);
 }
 
-/// The loader section of a row: no entries, one library with one import, a relocation header for each
+/// Returns the loader section of a row: no entries, one library with one import, a relocation header for each
 /// program that isn't empty, and one export.
 fn loader(rt: &impl Abort, alloc: Global, row: &Row) -> Vec<u8> {
     let mut headers = Vec::new(alloc);
@@ -304,8 +305,8 @@ fn loader(rt: &impl Abort, alloc: Global, row: &Row) -> Vec<u8> {
     bytes
 }
 
-/// The headers of a container whose last section is its loader section. The raw bytes of the sections follow one
-/// another behind them.
+/// Appends the headers of a container whose last section is its loader section. The raw bytes of the sections
+/// follow one another after the headers.
 fn push_headers(rt: &impl Abort, bytes: &mut Vec<u8>, sections: &[Section]) {
     let count = u16::try_from(sections.len()).expect(rt, "few sections");
     push(rt, bytes, b"Joy!peffpwpc");
@@ -320,7 +321,7 @@ fn push_headers(rt: &impl Abort, bytes: &mut Vec<u8>, sections: &[Section]) {
     }
 }
 
-/// The container of a row.
+/// Returns the container of a row.
 fn container(rt: &impl Abort, alloc: Global, row: &Row) -> Vec<u8> {
     let loader = loader(rt, alloc, row);
     let first = Section {
@@ -349,14 +350,14 @@ fn container(rt: &impl Abort, alloc: Global, row: &Row) -> Vec<u8> {
     bytes
 }
 
-/// A store of the one fragment of a container.
+/// Returns a store of the one fragment of a container.
 fn store_of<'a>(rt: &impl Abort, alloc: Global, container: &'a [u8]) -> Store<'a> {
     let mut store = Store::new(alloc);
     store.add(b"it", container).expect(rt, "memory");
     store
 }
 
-/// The number of the fragment's refusal, where it isn't prepared.
+/// Returns the number of the fragment's refusal, if it isn't prepared.
 fn refusal(context: &mut Context<'_>) -> Option<u32> {
     match context.prepare(b"it") {
         Ok(_) => None,
@@ -364,7 +365,7 @@ fn refusal(context: &mut Context<'_>) -> Option<u32> {
     }
 }
 
-/// Whether the first section stands at the lowest address, and its memory is the wanted one.
+/// Returns whether the first section is at the lowest address, and its memory is the wanted one.
 fn shows(context: &Context<'_>, wanted: &[u8]) -> bool {
     match context.fragment_section(0, 0) {
         Some((address, bytes)) => address == 0x1_0000 && bytes == wanted,
@@ -372,7 +373,7 @@ fn shows(context: &Context<'_>, wanted: &[u8]) -> bool {
     }
 }
 
-/// Prepares the fragment of a row, and compares what comes of it. Where it is refused, it isn't present.
+/// Prepares the fragment of a row, and compares the result. If it is refused, it isn't present.
 fn test_prepared(rt: &impl Abort, context: &mut Context<'_>, row: &Row) {
     let refusal = refusal(context);
     let sections = context.section_count(0);

@@ -5,7 +5,7 @@ use pef_reloc::{Base, Fixup, Instr, Program, apply, encode, fixups_fit};
 use std::alloc::Global;
 use std::process::Abort;
 
-/// The number of the refusal that a program is read with, and 0 where it is read.
+/// Returns the number of the refusal when a program is read, or 0 if it is read.
 fn read_number(bytes: &[u8]) -> u32 {
     match Program::read(bytes) {
         Ok(_) => 0,
@@ -13,7 +13,7 @@ fn read_number(bytes: &[u8]) -> u32 {
     }
 }
 
-/// The number of the refusal that a program is read or applied with, and 0 where it is done.
+/// Returns the number of the refusal when a program is read or applied, or 0 if it is applied.
 fn apply_number(bytes: &[u8], memory: &mut [u8], sections: &[u32], imports: &[u32]) -> u32 {
     match Program::read(bytes) {
         Ok(program) => match apply(&program, memory, sections, imports) {
@@ -79,7 +79,7 @@ const LONG: Instr = Instr::LgRepeat {
 };
 
 /// The bytes of a program, a halfword, the instruction that starts there, and the words that the program
-/// makes of zeros, where the sections lie at 1, 2 and 3 and the imports at 5, 6 and 7.
+/// makes of zeros, if the sections are at 1, 2 and 3 and the imports at 5, 6 and 7.
 const KINDS: &[(&[u8], u8, Instr, &[u32])] = &[
     (&[0x00, 0x42], 0, SKIP, &[0, 2, 2, 0, 0, 0]),
     (&[0x40, 1], 0, Instr::BySectC(2), &[1, 1, 0, 0, 0, 0]),
@@ -198,7 +198,7 @@ const REPEAT: Instr = Instr::LgRepeat {
     count: 0,
 };
 
-/// What starts at each of its halfwords.
+/// The instruction that starts at each of its halfwords.
 const STARTS: &[Option<Instr>] = &[
     Some(Instr::BySectD(1)),
     Some(REPEAT),
@@ -207,7 +207,7 @@ const STARTS: &[Option<Instr>] = &[
     None,
 ];
 
-/// What a walk over it comes to.
+/// The instructions that a walk over it gives.
 const WALK: &[Option<Instr>] = &[
     Some(Instr::BySectD(1)),
     Some(REPEAT),
@@ -252,7 +252,7 @@ fn instructions_walked(rt: HostRuntime) {
 const ZEROS: &[u8] = &[0; 12];
 
 /// A program's bytes, memory, the addresses of sections and of imports, and then the number of the
-/// refusal, 0 for none, and memory.
+/// refusal, 0 for none, and the memory after it.
 const APPLIED: &[(&[u8], &[u8], &[u32], &[u32], u32, &[u8])] = &[
     (
         &[0x42, 0x00, 0x90, 0x01],
@@ -270,7 +270,7 @@ const APPLIED: &[(&[u8], &[u8], &[u32], &[u32], u32, &[u8])] = &[
         0,
         &[0, 0, 2, 0, 0, 0, 0, 0, 0, 0, 0, 0],
     ),
-    // The additions before a refusal stand.
+    // The additions before a refusal are kept.
     (
         &[0x42, 0x00, 0xB0, 0x3F, 0xFF, 0xFF],
         ZEROS,
@@ -304,10 +304,10 @@ const APPLIED: &[(&[u8], &[u8], &[u32], &[u32], u32, &[u8])] = &[
         &[0, 0, 0, 7, 0, 0, 0, 0, 0, 0, 0, 0],
     ),
     (&[0x80, 0x08, 0x40, 0x00], ZEROS, &[0x100], &[], 37, ZEROS),
-    // Of several refusals at one addition a missing section comes first, then a missing import.
+    // If one addition has several refusals, a missing section is reported first, then a missing import.
     (&[0x80, 0x0B, 0x66, 0x01], ZEROS, &[], &[], 39, ZEROS),
     (&[0x80, 0x0B, 0x60, 0x00], ZEROS, &[], &[], 38, ZEROS),
-    // A register with its start value adds 0 where there is no such section.
+    // A register with its start value adds 0 if there is no such section.
     (
         &[0x42, 0x00, 0x40, 0x00],
         &[1, 2, 3, 4, 5, 6, 7, 8, 0, 0, 0, 0],
@@ -413,7 +413,7 @@ fn fixups_that_fit(rt: HostRuntime) {
 /// How many fixups there may be.
 const MOST_FIXUPS: u32 = 65_536;
 
-/// As many fixups as there may be, one for each of as many imports.
+/// Appends as many fixups as there may be, one for each of as many imports.
 fn push_most_fixups(rt: &impl Abort, fixups: &mut Vec<Fixup>) {
     for i in 0..MOST_FIXUPS {
         push_fixup(rt, fixups, 8 * i, Base::Import(i));
@@ -438,7 +438,7 @@ fn most_fixups(rt: HostRuntime) {
     test_most_fixups(&rt, &mut fixups);
 }
 
-/// So many instructions alike.
+/// Returns this many instructions alike.
 fn alike(rt: &impl Abort, alloc: Global, instr: Instr, count: usize) -> Vec<Instr>
     requires { instr_fits instr ≡ true }
     ensures { instrs_fit result.items ≡ true }
@@ -446,7 +446,7 @@ fn alike(rt: &impl Abort, alloc: Global, instr: Instr, count: usize) -> Vec<Inst
     vec![in alloc; instr; count].expect(rt, "memory")
 }
 
-/// The bytes of a million instructions.
+/// Returns the bytes of a million instructions.
 fn million(rt: &impl Abort, alloc: Global) -> Vec<u8> {
     let instrs = alike(rt, alloc, Instr::TVector8(2), 1_000_000);
     encode(alloc, &instrs).expect(rt, "memory")
@@ -459,7 +459,7 @@ fn test_million(rt: &impl Abort, bytes: &[u8], program: &Program<'_>) {
     assert!(rt; program.instr_at(1_000_000).is_none());
 }
 
-/// Tests sixteen million bytes of ones, to which they are applied.
+/// Tests sixteen million bytes of ones after a million instructions are applied to them.
 fn test_million_applied(rt: &impl Abort, memory: &[u8]) {
     for words in memory.chunks_exact(8) {
         assert!(rt; words == [2, 1, 1, 1, 3, 1, 1, 1].as_slice());

@@ -1,4 +1,4 @@
-//! Plans against the plain method's.
+//! Plans compared with those of the plain method.
 use crate::plans::{assert_length, planned};
 use crate::reference::{number_at, plain_plan};
 use pef_cert::{Certificate, LabelRows};
@@ -24,7 +24,7 @@ fn compare_plan(rt: &impl Abort, alloc: Global, fixups: &[Fixup], certificate: &
     assert!(rt; certificate.program_length() == u64::from(plain.length));
 }
 
-/// Asserts that rows have these labels, of which the last row is the one where no fixup is left.
+/// Asserts that rows have these labels. The last row is for no fixups left.
 fn assert_same(rt: &impl Abort, rows: &LabelRows, labels: &[u32], fixups: usize) {
     let mut left = fixups;
     let mut runs = rows.runs();
@@ -39,7 +39,7 @@ fn assert_same(rt: &impl Abort, rows: &LabelRows, labels: &[u32], fixups: usize)
     assert!(rt; left == usize::MAX);
 }
 
-/// Asserts that a row has the labels where so many fixups are left.
+/// Asserts that the row for this number of fixups left has these labels.
 fn assert_same_row(rt: &impl Abort, row: &[u32], labels: &[u32], left: usize) {
     let from = left.wrapping_mul(row.len());
     for place in 0..row.len() {

@@ -10,7 +10,8 @@ const CHOICES: u32 = 40;
 
 const NONE: u32 = CHOICES - 1;
 
-/// The list of a number, whose four digits choose its fixups; none for numbers of no list.
+/// Returns the list with this number, whose four digits choose its fixups, or `None` if the number has no
+/// list.
 fn list_of(rt: &impl Abort, alloc: Global, number: u32) -> Option<Vec<Fixup>> {
     let mut fixups = Vec::new(alloc);
     let mut rest = number;
@@ -45,8 +46,8 @@ fn assert_least(rt: &impl Abort, alloc: Global, fixups: &[Fixup], number: u32) {
     assert!(rt; certificate.program_length() == least, "{number}");
 }
 
-/// Each list of up to four fixups within 16 bytes, of two sections and one import, against a search of the
-/// machine.
+/// Each list of up to four fixups within 16 bytes, of two sections and one import, compared with a search
+/// of the machine.
 #[test]
 fn least_of_all_short_lists(rt: HostRuntime) {
     let mut lists = 0u32;

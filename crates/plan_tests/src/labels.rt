@@ -30,7 +30,7 @@ fn assert_labels(rt: &impl Abort, alloc: Global, labelled: Labelled) {
     assert!(rt; found.as_slice() == wanted, "{listed:?}");
 }
 
-/// The plan of a list.
+/// Returns the plan of a list.
 fn planned_of(rt: &impl Abort, alloc: Global, listed: Listed) -> Certificate {
     let fixups = fixups(alloc, listed).expect(rt, "memory");
     planned(rt, alloc, &fixups)

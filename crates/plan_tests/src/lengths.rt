@@ -78,7 +78,7 @@ fn least_lengths(rt: HostRuntime) {
     }
 }
 
-/// Words in a row, more than one instruction makes, of two sections in turn.
+/// Returns words in a row, more than one instruction makes, of two sections in turn.
 fn words_in_turn(rt: &impl Abort, alloc: Global, even: Base) -> Vec<(u32, Base)> {
     let mut words = Vec::new(alloc);
     for i in 0..1_030u32 {

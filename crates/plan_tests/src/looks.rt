@@ -11,7 +11,7 @@ use std::cell::Cell;
 use std::process::Abort;
 use test_data::lists::S1;
 
-/// How many looks the plan of some fixups takes, and how many labels it has.
+/// Returns how many looks the plan of some fixups takes, and how many labels it has.
 fn looks_and_labels(rt: &impl Abort, alloc: Global, fixups: &[Fixup]) -> (u64, usize)
     requires { fixups_fit fixups.now ≡ true }
 {
@@ -21,15 +21,15 @@ fn looks_and_labels(rt: &impl Abort, alloc: Global, fixups: &[Fixup]) -> (u64, u
     (looks.get(), labels.rows().wrapping_mul(labels.width()))
 }
 
-/// So many words of section 1 in a row, and the looks that their plan takes. Section 1 and every other section are two
-/// classes of a register, so a row has four labels, and a column of it two.
+/// This many words of section 1 in a row, and the looks that their plan takes. Section 1 and every other section are
+/// two classes of a register, so a row has four labels, and a column of it two.
 ///
-/// For each word the values right after it (4) and a word further on if register D holds the section (2) are read, and
-/// three windows take in a row: of words (4), of skips (2), of words a word apart (2). The two windows of pairs take in a
-/// number each (2) for each word but the last. That is 14 for each word, and 2 for each but the last. Then the program
-/// is read off at the first word: the end after one word, each end of the run of words, and the one end of a run a word
-/// apart. For two words that makes 28 + 2 + 4. For 64 words it makes 896 + 126 + 66; and the window of skips, which has
-/// room for 63, looks once more at 63 rows of two as they grow old, 126 looks.
+/// For each word the values right after it (4) and a word further on with register D holding the section (2) are read,
+/// and three windows take in a row: of words (4), of skips (2), of words a word apart (2). The two windows of pairs
+/// take in a number each (2) for each word but the last. That is 14 for each word, and 2 for each but the last. Then
+/// the program is read off at the first word: the end after one word, each end of the run of words, and the one end of
+/// a run a word apart. For two words that makes 28 + 2 + 4. For 64 words it makes 896 + 126 + 66. In addition the
+/// window of skips, which has room for 63, looks once more at 63 rows of two as they grow old, 126 looks.
 const LOOKS: &[(u32, u64)] = &[(2, 34), (64, 1_214)];
 
 #[test]

@@ -9,7 +9,7 @@ use std::alloc::Global;
 use std::process::Abort;
 use test_data::lists::S1;
 
-/// The plan of fixups that fit.
+/// Returns the plan of fixups that fit.
 pub fn planned(rt: &impl Abort, alloc: Global, fixups: &[Fixup]) -> Certificate
     ensures { fixups_fit fixups.now ≡ true }
 {
@@ -17,7 +17,7 @@ pub fn planned(rt: &impl Abort, alloc: Global, fixups: &[Fixup]) -> Certificate
     plan(alloc, 3, fixups).expect(rt, "a plan")
 }
 
-/// Plans fixups and compares the length of the program. The certificate is a yes.
+/// Plans fixups and compares the length of the program. The certificate is accepted.
 pub fn assert_length(rt: &impl Abort, alloc: Global, fixups: &[Fixup], length: u64) {
     let certificate = planned(rt, alloc, fixups);
     assert_certified(rt, fixups, &certificate, length);
@@ -32,7 +32,7 @@ fn assert_certified(rt: &impl Abort, fixups: &[Fixup], certificate: &Certificate
     assert!(rt; check(fixups, certificate), "{first:?} ..");
 }
 
-/// So many fixups in a row, of two sections in turn, so many bytes apart.
+/// Returns this many fixups in a row, of two sections in turn, this many bytes apart.
 pub fn in_a_row(rt: &impl Abort, alloc: Global, count: u32, step: u32, other: Base) -> Vec<Fixup> {
     let mut fixups = Vec::new(alloc);
     for i in 0..count {

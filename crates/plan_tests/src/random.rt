@@ -1,4 +1,4 @@
-//! Plans of random lists against the plain method.
+//! Plans of random lists compared with those of the plain method.
 ghost use Rattle.std.specs.Prelude.{◌<◌};
 
 use crate::compared::compare;
@@ -25,7 +25,7 @@ struct Random {
 }
 
 impl Random {
-    /// A number below a bound.
+    /// Returns a number below a bound.
     fn below(&mut self, bound: u32) -> u32
         requires { 0 < bound }
         ensures { result < bound }
@@ -47,7 +47,8 @@ impl Random {
     }
 }
 
-/// Fixups in runs of all kinds, broken at the limits of instructions, and short runs of two sections in turn.
+/// Returns fixups in runs of all kinds, broken at the limits of instructions, and short runs of two sections
+/// in turn.
 fn random_list(rt: &impl Abort, alloc: Global, random: &mut Random) -> Vec<Fixup> {
     let mut fixups = Vec::new(alloc);
     let mut offset = random.one_of(&GAPS);
@@ -62,7 +63,7 @@ fn random_list(rt: &impl Abort, alloc: Global, random: &mut Random) -> Vec<Fixup
     fixups
 }
 
-/// Puts a run of one kind behind others, from an offset on. Hands out the offset behind it.
+/// Puts a run of one kind after others, from an offset on. Returns the offset after it.
 fn push_run(
     rt: &impl Abort,
     fixups: &mut Vec<Fixup>,

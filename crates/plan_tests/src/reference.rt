@@ -4,16 +4,16 @@ use std::alloc::Global;
 use std::cell::Cell;
 use std::process::Abort;
 
-/// What the plain method finds.
+/// The result of the plain method.
 #[derive(Drop)]
 pub struct PlainPlan {
-    /// The labels, row by row, where none is left to where all are.
+    /// The labels, row by row, from no fixups left to all fixups left.
     pub labels: Vec<u32>,
     /// The least length of a program.
     pub length: u32,
 }
 
-/// The labels of fixups with these registers, and the least length.
+/// Returns the labels of fixups with these registers, and the least length.
 pub fn plain_plan(
     rt: &impl Abort,
     alloc: Global,
@@ -24,7 +24,7 @@ pub fn plain_plan(
     counted_plain_plan(rt, alloc, fixups, registers, &looks)
 }
 
-/// The same, with a count of the looks: how often the value behind an end of a run is read.
+/// Returns the same, with a count of the looks: how often the value after an end of a run is read.
 pub fn counted_plain_plan(
     rt: &impl Abort,
     alloc: Global,
@@ -52,7 +52,7 @@ fn zeros(rt: &impl Abort, alloc: Global, count: usize) -> Vec<u32> {
     vec![in alloc; 0; count].expect(rt, "memory")
 }
 
-/// A number of a list, 0 past its end.
+/// Returns a number of a list, 0 past its end.
 pub fn number_at(numbers: &[u32], at: usize) -> u32 {
     match numbers.get(at) {
         Some(number) => *number,
@@ -60,7 +60,7 @@ pub fn number_at(numbers: &[u32], at: usize) -> u32 {
     }
 }
 
-/// The place of a section among registers.
+/// Returns the place of a section among registers.
 fn place_of(registers: &[u32], section: u32) -> usize {
     let mut place = 0usize;
     for register in registers {
@@ -72,7 +72,7 @@ fn place_of(registers: &[u32], section: u32) -> usize {
     place
 }
 
-/// 1 where a register's class has to change, else 0.
+/// Returns 1 if a register's class has to change, otherwise 0.
 fn change(class: usize, other: usize) -> u32 {
     if class == other { 0 } else { 1 }
 }
@@ -100,7 +100,7 @@ struct Run {
 }
 
 impl<'a> Plain<'a> {
-    /// Puts the rows of all fixups behind others, the last fixup's first.
+    /// Puts the rows of all fixups after others, the last fixup's first.
     fn add_rows(self, rt: &impl Abort, alloc: Global, labels: &mut Vec<u32>, skips: &mut Vec<u32>) {
         for left in 0..self.fixups.len() {
             let at = self.fixups.len() - left - 1;
@@ -108,7 +108,7 @@ impl<'a> Plain<'a> {
         }
     }
 
-    /// The extension at the start, from all labels and least skips.
+    /// Returns the extension at the start, from all labels and least skips.
     fn from_start(self, labels: &[u32], skips: &[u32]) -> u32 {
         let plain = Plain {
             labels,
@@ -120,7 +120,7 @@ impl<'a> Plain<'a> {
         plain.value(0, 0, c, d)
     }
 
-    /// Puts a fixup's labels and least skips behind those so far.
+    /// Puts a fixup's labels and least skips after those so far.
     fn add_row(
         self,
         rt: &impl Abort,
@@ -165,7 +165,7 @@ impl<'a> Plain<'a> {
         row
     }
 
-    /// The least over all classes, with 1 for each register that changes.
+    /// Returns the least over all classes, with 1 for each register that changes.
     fn closed(self, direct: &[u32], c: usize, d: usize) -> u32 {
         let mut best = u32::MAX;
         for from_c in 0..self.classes {
@@ -206,7 +206,7 @@ impl<'a> Plain<'a> {
         }
     }
 
-    /// The least that the instructions lead to which add at a fixup.
+    /// Returns the least value of the instructions that add at a fixup.
     fn direct(self, at: usize, c: usize, d: usize) -> u32 {
         match self.base_at(at) {
             Base::Section(section) => self.direct_section(at, section, c, d),
@@ -266,7 +266,7 @@ impl<'a> Plain<'a> {
         }
     }
 
-    /// The best end of a run, each tried.
+    /// Returns the best end of a run. Each end is tried.
     fn best_of(self, at: usize, run: Run) -> u32 {
         let mut best = u32::MAX;
         let mut next = at;
@@ -305,13 +305,13 @@ impl<'a> Plain<'a> {
         best
     }
 
-    /// The value behind an end of a run.
+    /// Returns the value after an end of a run.
     fn look(self, at: usize, position: u64, c: usize, d: usize) -> u32 {
         self.looks.set(self.looks.get().wrapping_add(1));
         self.value(at, position, c, d)
     }
 
-    /// The extension where the fixups from an index on are left.
+    /// Returns the extension when the fixups from an index on are left.
     fn value(self, at: usize, position: u64, c: usize, d: usize) -> u32 {
         if at >= self.fixups.len() {
             return 0;
@@ -361,7 +361,7 @@ impl<'a> Plain<'a> {
         }
     }
 
-    /// The class of a fixup's section.
+    /// Returns the class of a fixup's section.
     fn class_at(self, at: usize) -> Option<usize> {
         match self.base_at(at) {
             Base::Section(section) => Some(place_of(self.registers, section)),
@@ -369,7 +369,7 @@ impl<'a> Plain<'a> {
         }
     }
 
-    /// One more than the last import before a fixup.
+    /// Returns one more than the last import before a fixup.
     fn next_import(self, at: usize) -> u32 {
         let mut index = 0;
         for fixup in self.fixups.iter().take(at) {

@@ -3,10 +3,10 @@ use pef_reloc::{Base, Fixup};
 use std::alloc::Global;
 use std::process::Abort;
 
-/// Positions are told apart up to this one, which lies behind all fixups.
+/// Positions up to this one are told apart. It lies after all fixups.
 const LAST_POSITION: u32 = 31;
 
-/// Import indices up to this one, which is that of no import here.
+/// Import indices up to this one are told apart. No import here has it.
 const LAST_INDEX: u32 = 2;
 
 /// The class of a register with a section that no fixup has.
@@ -80,7 +80,7 @@ impl Lengths {
         }
     }
 
-    /// Each instruction from a state that so many halfwords lead to.
+    /// Takes each instruction from a state that this many halfwords lead to.
     fn go_on(&mut self, fixups: &[Fixup], from: State, length: u32) {
         let one = length.wrapping_add(1);
         for bytes in 1..32 {
@@ -112,7 +112,7 @@ impl Lengths {
     }
 }
 
-/// The state behind one addition, where it is the next fixup's.
+/// Returns the state after one addition, if it is that of the next fixup.
 fn add(fixups: &[Fixup], state: State, base: Base) -> Option<State> {
     let next = fixups.get(state.made as usize)?;
     if next.offset != state.position || next.base != base {
@@ -130,7 +130,7 @@ fn add(fixups: &[Fixup], state: State, base: Base) -> Option<State> {
     })
 }
 
-/// The same for the section of a class.
+/// Returns the same for the section of a class.
 fn add_class(fixups: &[Fixup], state: State, class: u32) -> Option<State> {
     if class == NO_SECTION {
         return None;
@@ -138,7 +138,7 @@ fn add_class(fixups: &[Fixup], state: State, class: u32) -> Option<State> {
     add(fixups, state, Base::Section(class))
 }
 
-/// The state behind so many words of a class, so many bytes apart.
+/// Returns the state after this many words of a class, this many bytes apart.
 fn rows(fixups: &[Fixup], from: State, count: u32, class: u32, stride: u32) -> Option<State> {
     let mut state = from;
     for _ in 0..count {
@@ -148,7 +148,7 @@ fn rows(fixups: &[Fixup], from: State, count: u32, class: u32, stride: u32) -> O
     Some(state)
 }
 
-/// The same of pairs of the registers' sections.
+/// Returns the same of pairs of the registers' sections.
 fn pairs(fixups: &[Fixup], from: State, count: u32, stride: u32) -> Option<State> {
     let mut state = from;
     for _ in 0..count {
@@ -159,7 +159,7 @@ fn pairs(fixups: &[Fixup], from: State, count: u32, stride: u32) -> Option<State
     Some(state)
 }
 
-/// The same of imports from the next one on.
+/// Returns the same of imports from the next one on.
 fn imports(fixups: &[Fixup], from: State, count: u32) -> Option<State> {
     let mut state = from;
     for _ in 0..count {
@@ -168,7 +168,7 @@ fn imports(fixups: &[Fixup], from: State, count: u32) -> Option<State> {
     Some(state)
 }
 
-/// The least length, or 21 where it is greater.
+/// Returns the least length, or 21 if it is greater.
 pub fn least_length(rt: &impl Abort, alloc: Global, fixups: &[Fixup]) -> u32 {
     let mut lengths = Lengths {
         lengths: vec![in alloc; u32::MAX; STATES].expect(rt, "memory"),

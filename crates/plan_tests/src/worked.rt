@@ -1,4 +1,4 @@
-//! Plans of worked lists and of long runs against the plain method.
+//! Plans of worked lists and of long runs compared with those of the plain method.
 use crate::compared::compare_with;
 use crate::plans::in_a_row;
 use pef_reloc::{Base, Fixup};
@@ -33,7 +33,7 @@ fn labels_of_worked_lists(rt: HostRuntime) {
     }
 }
 
-/// 64 words, of which a skip to the first adds 63 alone.
+/// 64 words, of which a skip to the first adds only 63.
 #[test]
 fn labels_of_more_words_than_a_skip_adds(rt: HostRuntime) {
     let mut fixups = in_a_row(&rt, rt.alloc(), 64, 4, S1);
@@ -61,7 +61,7 @@ fn labels_of_long_runs(rt: HostRuntime) {
     }
 }
 
-/// 16,384 fixups at every other word, by eight sections in turn.
+/// Returns 16,384 fixups at every other word, by eight sections in turn.
 fn all_in_turn(rt: &impl Abort, alloc: Global) -> Vec<Fixup> {
     let mut fixups = Vec::new(alloc);
     for i in 0..IN_TURN.fixups {

@@ -1,7 +1,7 @@
 use pef_loader::Loader;
 use pef_views::Container;
 
-/// The number of a container's refusal, or `None` where it is read.
+/// Returns the number of a container's refusal, or `None` if it is read.
 pub(crate) fn refused_container(bytes: &[u8]) -> Option<u32> {
     match Container::read(bytes) {
         Ok(_) => None,
@@ -9,7 +9,8 @@ pub(crate) fn refused_container(bytes: &[u8]) -> Option<u32> {
     }
 }
 
-/// The number of the refusal of a container or of its loader section, or `None` where both are read.
+/// Returns the number of the refusal of a container or of its loader section, or `None` if both are
+/// read.
 pub(crate) fn refused_loader(bytes: &[u8]) -> Option<u32> {
     match Container::read(bytes) {
         Ok(container) => match Loader::read(&container) {

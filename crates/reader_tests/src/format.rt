@@ -61,8 +61,8 @@ fn classes(rt: HostRuntime) {
     }
 }
 
-/// A byte of options, whether the library is initialized first and whether it is weak, and the byte that is
-/// written for it.
+/// A byte of options, whether the library is initialized first, whether it is weak, and the byte that is
+/// written for them.
 const OPTIONS: &[(u8, bool, bool, u8)] = &[
     (0, false, false, 0),
     (0x40, false, true, 0x40),

@@ -75,7 +75,7 @@ fn powers(rt: HostRuntime) {
     }
 }
 
-/// The table of one export, `go`, with another slot word or key.
+/// Returns the table of one export, `go`, with another slot word or key.
 fn table_of_go(slot: u32, key: u32) -> [u8; 18] {
     let [a, b, c, d] = slot.to_be_bytes();
     let [e, f, g, h] = key.to_be_bytes();
@@ -110,7 +110,7 @@ fn find(rt: HostRuntime) {
     assert!(rt; none.find(b"go").is_none());
 }
 
-/// The table of `a`, `b` and `c` in two slots, with other slot words or another last key.
+/// Returns the table of `a`, `b` and `c` in two slots, with other slot words or another last key.
 fn table_of_three(rt: &impl Abort, words: [u32; 5]) -> [u8; 50] {
     let mut table = [0; 50];
     for (i, word) in words.iter().enumerate() {
@@ -122,7 +122,7 @@ fn table_of_three(rt: &impl Abort, words: [u32; 5]) -> [u8; 50] {
         table[at + 2] = c;
         table[at + 3] = d;
     }
-    // Where their names begin in the strings.
+    // The offsets of their names in the strings.
     table[33] = 1;
     table[43] = 2;
     table
@@ -130,7 +130,7 @@ fn table_of_three(rt: &impl Abort, words: [u32; 5]) -> [u8; 50] {
 
 /// The slots of 61, 62 and 63 (hex) are 1, 1 and 0, so `c` comes first.
 const THREE: &[[u32; 5]] = &[
-    // A regular table, and one that is but for its last key.
+    // A regular table, and one with a wrong last key.
     [
         0x0004_0000,
         0x0008_0001,
@@ -145,7 +145,7 @@ const THREE: &[[u32; 5]] = &[
         0x0001_0061,
         0x0001_0064,
     ],
-    // But for a count, one short and one over, and but for a first index that is one too far.
+    // A count that is one short or one over, and a first index that is one too far.
     [
         0x0004_0000,
         0x0004_0001,
@@ -326,7 +326,7 @@ fn test_greatest_keys(rt: &impl Abort, keys: &[u32], order: &[u32]) {
     }
 }
 
-/// Two bytes for each name: name i is the number i.
+/// Writes two bytes for each name: name i is the number i.
 fn fill_numbers(names: &mut [u8; 32_766]) {
     for (i, byte) in names.iter_mut().enumerate() {
         let number = (i / 2) as u16;

@@ -28,8 +28,7 @@ const LIBRARIES: [u8; 195] = [
 /// Words at some places, and the number of the refusal.
 type Refused = (&'static [(usize, u32)], Option<u32>);
 
-/// The loader header stands at 160, the relocation header at 216, the slot at 232, the key at 236 and the
-/// export at 240.
+/// The loader header is at 160, the relocation header at 216, the slot at 232, the key at 236 and the export at 240.
 const GO_WORDS: &[Refused] = &[
     (&[], None),
     (&[(112, 0)], Some(11)),
@@ -74,7 +73,7 @@ const GO_WORDS: &[Refused] = &[
     (&[(246, 0xFFFE)], None),
 ];
 
-/// The loader header stands at 68, the libraries at 124 and 148, the imports at 172, 176 and 180, the strings at 184.
+/// The loader header is at 68, the libraries at 124 and 148, the imports at 172, 176 and 180, the strings at 184.
 const LIBRARY_WORDS: &[Refused] = &[
     (&[], None),
     (&[(124, 10)], None),
@@ -116,7 +115,7 @@ fn read(rt: HostRuntime) {
     test_refused(&rt, rt.alloc(), &LIBRARIES, LIBRARY_WORDS);
 }
 
-/// How many libraries, imports, relocation headers and exports there are.
+/// Returns how many libraries, imports, relocation headers and exports there are.
 fn counts(loader: &Loader<'_>) -> [usize; 4] {
     [
         loader.libraries(),
@@ -126,7 +125,8 @@ fn counts(loader: &Loader<'_>) -> [usize; 4] {
     ]
 }
 
-/// Where the instructions, the names and the slots begin, and to which power of two there are slots.
+/// Returns where the instructions, the names and the slots begin, and the power of two that gives the number of
+/// slots.
 fn places(header: LoaderHeader) -> [u32; 4] {
     [
         header.reloc_instr_offset,
@@ -155,7 +155,7 @@ fn exported<'a>(loader: &Loader<'a>, i: usize) -> Option<Exported<'a>> {
     Some((export.name, export.class(), export.value()))
 }
 
-/// Where `main`, `init` and `term` stand: a section and an offset.
+/// Where `main`, `init` and `term` are: a section and an offset.
 type Entries = (Option<(u32, u32)>, Option<(u32, u32)>, Option<(u32, u32)>);
 
 fn entries(loader: &Loader<'_>) -> Entries {
@@ -214,7 +214,7 @@ const EXPORTS_NAMED: &[(&[(usize, u32)], &[u8], Option<usize>)] = &[
     (&[], b"g", None),
 ];
 
-/// The number of a name's export.
+/// Returns the number of a name's export.
 fn export_named(rt: &impl Abort, container: &[u8], name: &[u8]) -> Option<usize> {
     let container = Container::read(container).expect(rt, "a container");
     let loader = Loader::read(&container).expect(rt, "a loader section");
@@ -286,7 +286,7 @@ fn test_import(rt: &impl Abort, j: usize, import: Option<ImportView<'_>>) {
     assert!(rt; imported(import) == IMPORTED.get(j).copied(), "import {j}");
 }
 
-/// Imports are read one by one, by a reader, and from a table. The last one that is tried isn't there.
+/// Tests that imports are read one by one, by a reader, and from a table. The last one that is tried doesn't exist.
 fn test_imports(rt: &impl Abort, alloc: Global, loader: &Loader<'_>) {
     let mut reader = ImportReader::new(*loader);
     let table = ImportTable::read(alloc, *loader).expect(rt, "memory");
@@ -354,7 +354,7 @@ const TWO_BLOCKS: &[(usize, u32)] = &[
     (164, 0),
 ];
 
-/// Imports of both blocks and their libraries, in rising order, and back again, and one that isn't there.
+/// Imports of both blocks and their libraries, in rising order, and back again, and one that doesn't exist.
 const OWNED: &[(usize, Option<usize>)] = &[
     (0, Some(1)),
     (16_383, Some(1)),
@@ -369,7 +369,7 @@ fn library_of(import: Option<ImportView<'_>>) -> Option<usize> {
     Some(import?.library)
 }
 
-/// Imports are read by a reader, and from a table.
+/// Tests that imports are read by a reader, and from a table.
 fn test_owned(rt: &impl Abort, alloc: Global, loader: Loader<'_>) {
     let mut reader = ImportReader::new(loader);
     let table = ImportTable::read(alloc, loader).expect(rt, "memory");

@@ -41,7 +41,7 @@ const IMAGES: &[Image<'static>] = &[
     (&[0x82, 0x03, 0x00], &[0, 0]),
     (&[0x81, 0x00, 0x03], &[0; 4]),
     (&[0x80, 0x00, 0x01, 0x02, 0x07, 0x08], &[0x07, 0x08]),
-    // The greatest number of parts and of repeats, where they are empty: it takes no time.
+    // The greatest number of parts and of repeats, with empty parts: this takes no time.
     (
         &[0x60, 0x00, 0x00, 0x8F, 0xFF, 0xFF, 0xFF, 0x7F, 0x21, 0x09],
         &[0x09],
@@ -105,7 +105,7 @@ const REFUSED: &[(&[u8], usize, u32)] = &[
     (&[0x42], 1, 21),
     (&[0x60, 0x7F, 0x90, 0x80, 0x80, 0x80, 0x00], 1, 23),
     (&[0x60, 0x7F, 0x01], 1, 21),
-    // Too long comes before too few bytes to copy.
+    // Output that is too long is reported before bytes that are missing.
     (&[0x20, 0x8F, 0xFF, 0xFF, 0xFF, 0x7F], 1, 24),
     (&[0x22, 0x01, 0x02], 1, 24),
     (&[0x22], 1, 24),
@@ -143,7 +143,7 @@ const REFUSED: &[(&[u8], usize, u32)] = &[
     ),
 ];
 
-/// The number of the refusal of packed bytes, or `None` where they expand.
+/// Returns the number of the refusal of packed bytes, or `None` if they expand.
 fn refusal(packed: &[u8], out: &mut [u8]) -> Option<u32> {
     match expand(packed, out) {
         Ok(()) => None,
@@ -162,7 +162,7 @@ fn expand_refused(rt: HostRuntime) {
     }
 }
 
-/// Packed bytes, and the image of which they are packed.
+/// Packed bytes, and the image that they were packed from.
 const PACKED: &[Image<'static>] = &[
     (&[], &[]),
     (&[0x03, 0x25, 1, 2, 0, 0, 3], &[0, 0, 0, 1, 2, 0, 0, 3]),
@@ -200,7 +200,7 @@ fn pack_images(rt: HostRuntime) {
     }
 }
 
-/// A count, and how instructions with it begin: that of zeros, and that of a block.
+/// A count, and how instructions with it begin: one for zeros, and one for a block.
 const COUNTS: &[(usize, &[u8], &[u8])] = &[
     (31, &[0x1F], &[0x3F]),
     (32, &[0x00, 0x20], &[0x20, 0x20]),

@@ -167,7 +167,7 @@ const OTHER_KINDS: &[(SectionKind, u32)] = &[
     (SectionKind::Traceback, 0x0804_0400),
 ];
 
-/// Tests the kind of section 3, which is behind those that are instantiated.
+/// Tests the kind of section 3, which follows the instantiated ones.
 fn test_kind(rt: &impl Abort, bytes: &[u8], kind: SectionKind) {
     let container = Container::read(bytes).expect(rt, "a container");
     assert!(rt; container.header().instantiated_section_count == 2);
@@ -200,14 +200,14 @@ const RAW_BYTES: &[(&[(usize, u32)], &[u8])] = &[
     (&[], RAW),
     // An image of four bytes: the raw bytes beyond it belong to the section.
     (&[(52, 4)], RAW),
-    // No raw bytes, at the end and far behind it.
+    // No raw bytes, at the end and far after it.
     (&[(52, 0), (56, 0), (60, 250)], &[]),
     (&[(52, 0), (56, 0), (60, 0xFFFF_FFFF)], &[]),
-    // The first of two loader sections counts.
+    // If there are two loader sections, the first is used.
     (&[(32, 0x0004_0002), (148, 0x0400_0000)], RAW),
 ];
 
-/// The raw bytes of sections 0, 2 and 4.
+/// Returns the raw bytes of sections 0, 2 and 4.
 fn raw_parts<'a>(container: &Container<'a>) -> [Option<&'a [u8]>; 3] {
     [container.raw(0), container.raw(2), container.raw(4)]
 }

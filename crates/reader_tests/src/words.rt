@@ -1,7 +1,7 @@
 use pef_words::Cut;
 use std::process::Abort;
 
-/// An offset, and what stands there as `u8`, `u16`, `i16`, `u32` and `i32`.
+/// An offset, and the numbers there as `u8`, `u16`, `i16`, `u32` and `i32`.
 type Numbers = (
     usize,
     Option<u8>,
@@ -44,7 +44,7 @@ const NUMBERS: &[Numbers] = &[
     (usize::MAX, None, None, None, None, None),
 ];
 
-/// The numbers at an offset.
+/// Returns the numbers at an offset.
 fn numbers_at(cut: Cut<'_>, at: usize) -> Numbers {
     (
         at,
@@ -84,7 +84,7 @@ const PARTS: &[(&[u8], usize, usize, Option<&[u8]>)] = &[
     (b"", 1, 0, None),
 ];
 
-/// Tests that a part ends where it ends, and not where its source does.
+/// Tests that a part ends at its own end, and not at the end of its source.
 fn test_end(rt: &impl Abort, part: Cut<'_>, len: usize) {
     assert!(rt; (part.len(), part.u8_at(len)) == (len, None));
 }

@@ -5,14 +5,14 @@ use std::alloc::Global;
 /// A place in a container.
 #[derive(Clone, Copy, Debug)]
 pub enum At {
-    /// So many bytes behind its front.
+    /// At this offset from the front.
     Front(usize),
-    /// So many bytes before its end.
+    /// At this distance from the end.
     End(usize),
 }
 
 impl At {
-    /// How many bytes stand before this place in a container of so many.
+    /// Returns the offset of this place in a container of this length, or `None` if it is outside.
     fn within(self, len: usize) -> Option<usize> {
         match self {
             At::Front(before) => Some(before),
@@ -21,10 +21,10 @@ impl At {
     }
 }
 
-/// Other bytes, and the place from which on they are written.
+/// Bytes to write, and the place to write them at.
 pub type Change = (At, &'static [u8]);
 
-/// Writes other bytes from a place on. `None` where the container ends before them.
+/// Writes bytes at a place. `None` if the container ends before their end.
 pub fn change(bytes: &mut [u8], at: At, other: &[u8]) -> Option<()> {
     let len = bytes.len();
     match at.within(len) {
@@ -36,14 +36,15 @@ pub fn change(bytes: &mut [u8], at: At, other: &[u8]) -> Option<()> {
     }
 }
 
-/// A copy of a container, with other bytes from a place on. `None` where it ends before them, or memory is refused.
+/// Returns a copy of a container, with other bytes at a place. `None` if it ends before their end, or an allocation
+/// fails.
 pub fn changed(alloc: Global, container: &[u8], at: At, other: &[u8]) -> Option<Vec<u8>> {
     let mut bytes = Vec::from_slice(alloc, container).ok()?;
     change(&mut bytes, at, other)?;
     Some(bytes)
 }
 
-/// Writes words at some places. `None` where the container ends before one.
+/// Writes words at some offsets. `None` if the container ends before the end of one.
 pub fn change_words(bytes: &mut [u8], words: &[(usize, u32)]) -> Option<()> {
     for (at, word) in words {
         change(bytes, At::Front(*at), &word.to_be_bytes())?;
@@ -51,7 +52,8 @@ pub fn change_words(bytes: &mut [u8], words: &[(usize, u32)]) -> Option<()> {
     Some(())
 }
 
-/// A copy of a container, with other words at some places. `None` where it ends before one, or memory is refused.
+/// Returns a copy of a container, with other words at some offsets. `None` if it ends before the end of one, or an
+/// allocation fails.
 pub fn with_words(alloc: Global, container: &[u8], words: &[(usize, u32)]) -> Option<Vec<u8>> {
     let mut bytes = Vec::from_slice(alloc, container).ok()?;
     change_words(&mut bytes, words)?;

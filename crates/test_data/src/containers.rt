@@ -1,7 +1,7 @@
-//! Containers that are spelled by hand.
+//! Containers written by hand.
 
 /// The container of the script with two transition vectors: code of 8 bytes and data of 16, a program of one
-/// halfword and the export `go`. The section headers stand at 40, 68 and 96, the section name table at 124, and
+/// halfword and the export `go`. The section headers are at 40, 68 and 96, the section name table at 124, and
 /// the loader section, of 90 bytes, at 160.
 pub const VECTORS_BYTES: [u8; 250] = [
     // Container header: version 1, two sections and the loader section.
@@ -34,11 +34,11 @@ pub const VECTORS_BYTES: [u8; 250] = [
 /// The same, as a slice.
 pub const VECTORS_LEAST: &[u8] = &VECTORS_BYTES;
 
-/// What `link` doesn't write: sections that aren't instantiated, sections with a name, one of them `-`, one
-/// empty and one with bytes that are escaped; a weak import of a weak library; each kind of relocation
-/// instruction; a relocation header without instructions; and each kind of export. The header and the
-/// section headers end at 208, then come the names, the raw data from 219, and from 237 the loader
-/// section, with its program from 377.
+/// A container with what `link` doesn't write. It has sections that aren't instantiated; sections with a name,
+/// one of them `-`, one empty and one with bytes that are escaped; a weak import of a weak library; each kind
+/// of relocation instruction; a relocation header without instructions; and each kind of export. The header and
+/// the section headers end at 208. The names follow, then the raw data from 219 and the loader section from
+/// 237, with its program at 377.
 pub const RICH: &[u8] = b"\
       \x4A\x6F\x79\x21\x70\x65\x66\x66\x70\x77\x70\x63\x00\x00\x00\x01\
       \x9A\x8B\x7C\x6D\x00\x00\x00\x05\x00\x00\x00\x06\x00\x00\x00\x07\

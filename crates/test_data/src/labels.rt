@@ -23,14 +23,14 @@ pub const VECTORS_LABELS: &[u32] = &[
 /// The vectors with their labels.
 pub const TRANSITION: Labelled = (VECTORS, &[0, 1], VECTORS_LABELS);
 
-/// Two words, of which the second is as far as a skip goes behind `VTable8 1`.
+/// Two words. The second is as far as a skip reaches after `VTable8 1`.
 pub const VTABLE: Labelled = (
     &[(0, S1), (1028, S1)],
     &[1],
     &[2, 3, 2, 3, 1, 1, 1, 1, 0, 0, 0, 0],
 );
 
-/// The second is as far as a move and a skip go.
+/// The second word is as far as a move and a skip reach.
 pub const VTABLE_FAR: Labelled = (
     &[(0, S1), (5124, S1)],
     &[1],
@@ -44,14 +44,14 @@ pub const SPACED: Labelled = (
     &[1, 2, 1, 2, 1, 2, 1, 2, 1, 1, 1, 1, 0, 0, 0, 0],
 );
 
-/// Words behind a word that is passed.
+/// Words after a word that has no fixup.
 pub const SKIPPED: Labelled = (
     &[(4, S2), (8, S2), (12, S2)],
     &[2],
     &[1, 1, 1, 2, 1, 1, 1, 2, 1, 1, 1, 1, 0, 0, 0, 0],
 );
 
-/// Words of one section and one of another, where the longest run is not the best.
+/// Words of one section and one of another, for which the longest run isn't the best.
 pub const SHORTER: Labelled = (
     &[(0, S1), (8, S1), (12, S0)],
     &[0, 1],
@@ -63,7 +63,7 @@ pub const SHORTER: Labelled = (
     ],
 );
 
-/// A pair, and a word as far behind it as a skip goes.
+/// A pair, and a word as far after it as a skip reaches.
 pub const PAIR_THEN_FAR: Labelled = (
     &[(0, S0), (4, S1), (1032, S1)],
     &[0, 1],
@@ -112,7 +112,7 @@ pub const IMPORTS_TWICE: Labelled = (
     &[3, 3, 2, 1, 0],
 );
 
-/// All labels of a certificate, row after row.
+/// Returns all labels of a certificate, row after row.
 pub fn labels(alloc: Global, certificate: &Certificate) -> Result<Vec<u32>, AllocError> {
     let mut found = Vec::new(alloc);
     let mut runs = certificate.labels.runs();

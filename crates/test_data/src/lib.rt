@@ -1,5 +1,5 @@
-//! What tests of several crates stand on: scripts and containers that are spelled by hand and changed, scripts at
-//! the limits, fixups in tables, and worked examples of labels.
+//! Data of tests in several crates: scripts, containers written by hand and changed, scripts at the limits,
+//! fixups in tables, and worked examples of labels.
 #![tactic(auto)]
 
 pub mod changes;

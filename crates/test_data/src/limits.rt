@@ -1,4 +1,4 @@
-//! Scripts at the limits: how much of each a script may have, and lines for as much.
+//! Scripts at the limits: how much a script may have of each part, and lines for as much.
 
 use std::alloc::{AllocError, Global};
 use std::fmt::Write;
@@ -22,14 +22,14 @@ pub const MOST: Size = Size {
     fixups: 65_536,
 };
 
-/// What is linked if the fixups are by all sections in turn, which takes the longest of all.
+/// What is linked if the fixups are by all sections in turn, which takes longest.
 pub const IN_TURN: Size = Size {
     sections: 8,
     fixups: 16_384,
 };
 
 impl Size {
-    /// The length of a section whose fixups stand at every other word.
+    /// Returns the length of a section whose fixups are at every other word.
     pub fn every_other(self) -> u32 {
         self.fixups.wrapping_mul(8)
     }
@@ -39,7 +39,7 @@ pub const LIBRARIES: u32 = 4096;
 
 pub const IMPORTS: u32 = 65_536;
 
-/// The imports of each library, where each has as many.
+/// The imports of each library, if each has as many.
 pub const IMPORTS_EACH: u32 = 16;
 
 pub const EXPORTS: u32 = 16_383;
@@ -52,7 +52,7 @@ pub struct Spaced {
     pub count: u32,
 }
 
-/// Lines for fixups of a section by a base that is spelled.
+/// Appends lines for fixups of a section by a base, given as text.
 pub fn push_fixups(
     text: &mut String,
     section: &str,
@@ -66,7 +66,7 @@ pub fn push_fixups(
     Ok(())
 }
 
-/// Lines for so many sections, of this alignment and length.
+/// Appends lines for this many sections, of this alignment and length.
 pub fn push_sections(
     text: &mut String,
     sections: usize,
@@ -79,7 +79,7 @@ pub fn push_sections(
     Ok(())
 }
 
-/// Lines for the fixups of a section by all sections in turn, at every other word.
+/// Appends lines for the fixups of a section by all sections in turn, at every other word.
 pub fn push_in_turn(text: &mut String, section: &str, size: Size) -> Result<(), AllocError> {
     let mut base = 0usize;
     for i in 0..size.fixups {
@@ -92,14 +92,14 @@ pub fn push_in_turn(text: &mut String, section: &str, size: Size) -> Result<(), 
     Ok(())
 }
 
-/// How many halfwords the shortest program for `IN_TURN` of these has: one for each fixup, and one for each of the 16,383 words
-/// between two, less 2,048. So many fixups are by section 1, which is section D at the start, and so are made by an
-/// instruction that passes a word besides. To set section D anew takes a halfword and saves no more, since the next
-/// fixup by the same section is eight fixups ahead.
+/// How many halfwords the shortest program for `IN_TURN` of these has: one for each fixup, and one for each of the
+/// 16,383 words between two, less 2,048. That many fixups are by section 1, which is section D at the start, so they
+/// are made by an instruction that also passes a word. To set section D anew takes a halfword and saves no more, since
+/// the next fixup by the same section is eight fixups ahead.
 pub const IN_TURN_LENGTH: u32 = 30_719;
 
-/// Lines for the fixups of all sections at every other word: of the first four sections by a base that is spelled, of
-/// the others by all sections in turn.
+/// Appends lines for the fixups of all sections at every other word: those of the first four sections by a base, given
+/// as text, those of the others by all sections in turn.
 pub fn push_every_other(text: &mut String, size: Size, base: &str) -> Result<(), AllocError> {
     let fixups = Spaced {
         first: 0,
@@ -115,7 +115,7 @@ pub fn push_every_other(text: &mut String, size: Size, base: &str) -> Result<(),
     Ok(())
 }
 
-/// Lines for all libraries with their imports.
+/// Appends lines for all libraries with their imports.
 fn push_imports(text: &mut String) -> Result<(), AllocError> {
     for import in 0..IMPORTS {
         if import % IMPORTS_EACH == 0 {
@@ -126,8 +126,8 @@ fn push_imports(text: &mut String) -> Result<(), AllocError> {
     Ok(())
 }
 
-/// A script at the limits of libraries, imports and exports, with so many sections, and with fixups that don't adjoin, by
-/// the last import and by all sections in turn.
+/// Returns a script at the limits of libraries, imports and exports, with this many sections, and with fixups that
+/// don't adjoin, by the last import and by all sections in turn.
 pub fn at_all_limits(alloc: Global, size: Size) -> Result<String, AllocError> {
     let mut text = String::new(alloc);
     push_imports(&mut text)?;

@@ -13,7 +13,7 @@ pub const S3: Base = Base::Section(3);
 /// Fixups by offset and base.
 pub type Listed = &'static [(u32, Base)];
 
-/// The fixups of a table.
+/// Returns the fixups of a table.
 pub fn fixups(alloc: Global, listed: &[(u32, Base)]) -> Result<Vec<Fixup>, AllocError> {
     let mut fixups = Vec::new(alloc);
     for fixup in listed {
@@ -23,7 +23,7 @@ pub fn fixups(alloc: Global, listed: &[(u32, Base)]) -> Result<Vec<Fixup>, Alloc
     Ok(fixups)
 }
 
-/// The instructions that bytes spell. `None` where they spell none, or memory is refused.
+/// Returns the instructions that bytes spell. `None` if they spell none, or an allocation fails.
 pub fn spelled(alloc: Global, bytes: &[u8]) -> Option<Vec<Instr>> {
     let mut instrs = Vec::new(alloc);
     let mut walk = Program::read(bytes).ok()?.instrs();

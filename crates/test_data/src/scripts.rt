@@ -1,4 +1,4 @@
-//! Scripts that several tests run, with what they come to.
+//! Scripts that several tests run, with their results.
 
 /// One section with two fixups by its own address.
 pub const EXAMPLE: &[u8] =
@@ -26,7 +26,7 @@ pub const EXAMPLE_CONTAINER: &[u8] = b"\
       \x00\x00\x00\x00\x00\x00\x00\x00\x00\x00\x00\x00\x00\x00\x00\x03\
       \x00\x00\x00\x00\x64\x00\x00\x41\x00\x41\x00\x00\x00\x00\x00\x00";
 
-/// That program: section D is set, then each word is added to behind a skip.
+/// That program: section D is set, then each word is added to after a skip.
 pub const EXAMPLE_PROGRAM: &[u8] = b"\x64\x00\x00\x41\x00\x41";
 
 /// The container of an empty script.

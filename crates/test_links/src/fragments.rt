@@ -5,12 +5,13 @@ use cfm_closure::Store;
 use std::alloc::Global;
 use test_data::changes::{Change, change};
 
-/// A fragment: its name, its script, and what is written over some bytes of its container.
+/// A fragment: its name, its script, and the bytes written over some bytes of its container.
 ///
-/// Where a script has one export, that export's section is the last two bytes, and its value the four before them.
+/// If a script has one export, that export's section is the last two bytes, and its value the four before them.
 pub type Fragment = (&'static str, &'static str, &'static [Change]);
 
-/// The container of a script, with some changes. `None` where it has none, or memory is refused.
+/// Returns the container of a script, with some changes. `None` if the script is refused, a change doesn't fit, or
+/// an allocation fails.
 pub fn container(alloc: Global, script: &str, changes: &[Change]) -> Option<Vec<u8>> {
     let linked = link_text(alloc, script.as_bytes())?;
     let mut bytes = Vec::from_slice(alloc, linked.bytes()).ok()?;
@@ -20,7 +21,7 @@ pub fn container(alloc: Global, script: &str, changes: &[Change]) -> Option<Vec<
     Some(bytes)
 }
 
-/// The containers of some fragments.
+/// Returns the containers of some fragments.
 pub fn containers(alloc: Global, fragments: &[Fragment]) -> Option<Vec<Vec<u8>>> {
     let mut containers = Vec::new(alloc);
     for (_, script, changes) in fragments {
@@ -30,7 +31,7 @@ pub fn containers(alloc: Global, fragments: &[Fragment]) -> Option<Vec<Vec<u8>>>
     Some(containers)
 }
 
-/// Adds a pair to a store. `None` where that is full, or memory is refused.
+/// Adds a pair to a store. `None` if the store is full, or an allocation fails.
 pub fn add<'a>(store: &mut Store<'a>, name: &'a str, bytes: &'a [u8]) -> Option<()> {
     if store.is_full() {
         return None;
@@ -38,7 +39,7 @@ pub fn add<'a>(store: &mut Store<'a>, name: &'a str, bytes: &'a [u8]) -> Option<
     store.add(name.as_bytes(), bytes).ok()
 }
 
-/// A store of some fragments, which have these containers.
+/// Returns a store of some fragments, which have these containers.
 pub fn store_of<'a>(
     alloc: Global,
     fragments: &[Fragment],

@@ -1,5 +1,4 @@
-//! What tests over linked scripts stand on: scripts are linked, fragments are made of them, and the names are told that
-//! a refusal has.
+//! Helpers of tests over linked scripts: they link scripts, make fragments of them, and write the names in a refusal.
 #![tactic(auto)]
 
 pub mod fragments;
@@ -9,13 +8,13 @@ use pef_script::Script;
 use pef_write::{Linked, link};
 use std::alloc::{AllocError, Global};
 
-/// Links a script. `None` where it is none, or memory is refused.
+/// Links a script. `None` if it is refused, or an allocation fails.
 pub fn link_text(alloc: Global, text: &[u8]) -> Option<Linked> {
     let script = Script::read(alloc, text).ok()?;
     link(alloc, &script).ok()
 }
 
-/// Tells the names that a refusal has, behind a space each: the fragment, its library and the symbol.
+/// Writes the names in a refusal, each after a space: the fragment, its library and the symbol.
 pub fn tell_names(text: &mut String, fault: BindFault<'_>) -> Result<(), AllocError> {
     match fault {
         BindFault::Container { fragment, .. } | BindFault::Loader { fragment, .. } => {
@@ -45,7 +44,7 @@ pub fn tell_names(text: &mut String, fault: BindFault<'_>) -> Result<(), AllocEr
     }
 }
 
-/// Tells a name behind a space, a byte a character.
+/// Writes a name after a space, with a character for each byte.
 pub fn tell_name(text: &mut String, name: &[u8]) -> Result<(), AllocError> {
     text.push(' ')?;
     for byte in name {
