@@ -6,8 +6,8 @@ use Rattle.cfm_closure.specs.declared.versions.Implementation.{Implementation}
 use Rattle.cfm_closure.specs.declared.versions.Fit.{Fit}
 use Rattle.cfm_closure.specs.declared.versions.Fit.TheVariants.{Fits, TooOld, TooNew}
 
--- equal current versions fit; a newer definition accepts an implementation that isn't older than its
--- oldest one; an older definition is served if it isn't older than the implementation's oldest one
+-- equal current versions fit. A newer definition accepts an implementation that isn't older than its
+-- oldest one. An older definition is served if it isn't older than the implementation's oldest one
 abbrev pub fit_of : Definition → Implementation → Fit
 fit_of d i =
     if d.current == i.current then Fits

@@ -14,9 +14,9 @@ use std::alloc::Global;
 ///
 /// # Errors
 ///
-/// The first refusal: of a fragment or a library entry, in the order in which the walk visits them; then
-/// of an import, fragment by fragment in closure order, import by import; then of the order of
-/// initialization. `OutOfMemory` may come instead of any later result.
+/// The first refusal. Fragments and library entries come first, in the order in which the walk visits
+/// them. Imports come next, fragment by fragment in closure order, import by import. The order of
+/// initialization comes last. `OutOfMemory` may come instead of any later result.
 #[tactic(auto, unfolding(crate::specs::Closures::closed_of))]
 pub fn closure<'a>(
     alloc: Global,

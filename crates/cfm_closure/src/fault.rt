@@ -10,8 +10,8 @@ use thiserror::Error;
 /// Why a fragment has no closure. The text is the refusal's name. The fields are the names of fragments,
 /// of their libraries and of their symbols.
 ///
-/// A closure order is refused by the first two, for a missing library and for versions. The targets of
-/// its imports and the order of initialization are refused by the others.
+/// A closure order is refused for the first two, for a missing library, and for versions. The targets of
+/// its imports and the order of initialization are refused for the others.
 #[derive(Clone, Copy, Debug, PartialEq, Eq, Error)]
 pub enum BindFault<'a> {
     /// The fragment's bytes aren't a container.

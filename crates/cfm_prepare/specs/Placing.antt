@@ -33,8 +33,8 @@ pub record AreNew (pairs : List Pair) (m : Layout) (new : List ℕ) (fresh : Lis
   pub empty : Layout
   pub placed : AllPlaced pairs m fresh empty
 
--- new fragments were prepared in a memory with those that exist, which gave another memory: they have new
--- places, and nothing else changed; none is refused; and each section has its prepared memory
+-- new fragments were prepared in a memory with those that exist, which gave another memory. They have new
+-- places, and nothing else changed. None is refused, and each section has its prepared memory
 pub record ArePrepared (pairs : List Pair) (there : List Present) (m : Layout) (new : List ℕ) (fresh : List Present) (after : Layout) : Type 0 where
   pub are : AreNew pairs m new fresh
   pub others : all_given_back after fresh ≡ m

@@ -23,8 +23,8 @@ pub record HasBadProgram (pairs : List Pair) (there : List Present) (m : Layout)
   pub filled : first_bad_image pairs fresh ≡ None
   pub first : first_bad_program pairs (there ++ fresh) fresh ≡ Some (name, k)
 
--- why new fragments aren't prepared: one finds no room; otherwise an image is refused; otherwise a
--- relocation header; or an allocation fails
+-- why new fragments aren't prepared: one finds no room, or else an image is refused, or else a relocation
+-- header, or an allocation fails
 abbrev pub MayNotPrepareNew : List Pair → List Present → Layout → List ℕ → FragmentFault → Type 0
 MayNotPrepareNew pairs there m new (fault.NoRoom f) = LacksRoom pairs m new f.now
 MayNotPrepareNew pairs there m new (fault.Pack f k) = HasBadImage pairs m new f.now k

@@ -15,7 +15,7 @@ use Rattle.cfm_prepare.specs.declared.add_fault.AddFault.TheVariants as add
 use Rattle.cfm_prepare.specs.declared.fault.PrepareFault.{PrepareFault}
 use Rattle.cfm_prepare.specs.declared.fault.PrepareFault.TheVariants as fault
 
--- why a fragment isn't added: a connection was given; otherwise the store is full; or an allocation fails
+-- why a fragment isn't added: a connection was given, or else the store is full, or an allocation fails
 abbrev pub MayNotAdd : ContextState → AddFault → Type 0
 MayNotAdd s add.AddedTooLate = 0 < s.given
 MayNotAdd s add.StoreFull = (s.given ≡ 0) × (most_pairs ≤ length s.pairs)
@@ -53,8 +53,8 @@ pub record IsRefusedLate (s : ContextState) (name : List ℕ) (f : FragmentFault
   pub closure : HasClosure s name
   pub why : MayNotPrepareNew s.pairs s.present s.memory (new_of s closure.closed) f
 
--- why a fragment isn't prepared: all numbers were given; otherwise the name isn't in the store; otherwise it
--- has no closure; otherwise its new fragments can't be prepared. An allocation may fail after the first two
+-- why a fragment isn't prepared: all numbers were given, or else the name isn't in the store, or else it has
+-- no closure, or else its new fragments can't be prepared. An allocation may fail after the first two
 abbrev pub MayNotPrepare : ContextState → List ℕ → PrepareFault → Type 0
 MayNotPrepare s name fault.TooManyConnections = most_connections ≤ s.given
 MayNotPrepare s name fault.RootMissing = (s.given < most_connections) × (place_of s.pairs name ≡ None)

@@ -72,8 +72,8 @@ impl<'a> Context<'a> {
     ///
     /// # Errors
     ///
-    /// `AddedTooLate` if a connection was ever given; otherwise `StoreFull` if the store is full; or
-    /// `OutOfMemory`. The context is then unchanged.
+    /// `AddedTooLate` if a connection was ever given. Otherwise `StoreFull` if the store is full.
+    /// `OutOfMemory` if an allocation fails. After an error the context is unchanged.
     pub fn add(&mut self, name: &'a [u8], bytes: &'a [u8]) -> Result<(), AddFault>
         ensures added { OnOk result ((self.old.given ≡ 0) × (self.new ≡ added self.old name.now bytes.now)) }
         ensures refused { IfErr result (λ fault. MayNotAdd self.old fault) }
@@ -96,9 +96,10 @@ impl<'a> Context<'a> {
     ///
     /// # Errors
     ///
-    /// `TooManyConnections` if all numbers were given; otherwise `RootMissing` if the store has no fragment
-    /// with this name; otherwise the first refusal of the closure, of placement, of the images, or of the
-    /// relocation headers, in this order; or `OutOfMemory`. The context is then unchanged.
+    /// `TooManyConnections` if all numbers were given. Otherwise `RootMissing` if the store has no fragment
+    /// with this name. Otherwise the first refusal of the closure, of placement, of the images, or of the
+    /// relocation headers, in this order. `OutOfMemory` if an allocation fails. After an error the context is
+    /// unchanged.
     pub fn prepare(&mut self, name: &[u8]) -> Result<Connection, PrepareFault<'a>>
         ensures prepared { IfOk result (λ connection. Prepares self.old name.now connection.0 self.new) }
         ensures refused { IfErr result (λ fault. MayNotPrepare self.old name.now fault) }

@@ -61,7 +61,8 @@ slot_first word = word % index_limit
 unfoldable pub key_of : ExportTable → ℕ → Option ℕ
 key_of t i = if nat_lt i t.count then number_at 4 t.bytes (key_place t.power i) else None
 
--- an export in its 10 bytes: a class byte, whose low four bits count, and a name offset of 24 bits; a value; a section
+-- an export in its 10 bytes: a class byte, whose low four bits count, with a name offset of 24 bits, then a value and a
+-- section
 unfoldable pub entry_at : List ℕ → ℕ → Option Entry
 entry_at bytes at = do
   word ← number_at 4 bytes at

@@ -23,8 +23,8 @@ HasProgram loader k [] program = (i : ℕ) → IsOther k (reloc_of loader i)
 HasProgram loader k (fixup ∷ fixups) program = HasOneHeader loader k program
 
 -- the bytes of section k's relocation program (no bytes if there is no header) are read as instructions that make the
--- section's fixups, each once and in address order; no repeat-free program that makes them so has fewer halfwords; and
--- what was linked has a certificate of the program, which is valid for the fixups
+-- section's fixups, each once and in address order. No repeat-free program that makes them so has fewer halfwords. The
+-- linked container has a certificate of the program, which is valid for the fixups
 pub record HasLeast (linked : LinkedContainer) (loader : Loaded) (k : ℕ) (fixups : List Fixup) : Type 0 where
   pub program : List ℕ
   pub header : HasProgram loader k fixups program

@@ -12,7 +12,7 @@ pub enum PackFault {
     Truncated,
     /// An instruction has an unknown opcode.
     BadOpcode,
-    /// An argument has more than 32 bits or five bytes.
+    /// An argument has more than 32 bits, or more than five bytes.
     CountTooLarge,
     /// An instruction spells more bytes than are left to write.
     TooLong,

@@ -20,8 +20,8 @@ IsLonger (Some coming) limit = limit < length coming
 abbrev pub WasReadWithin : Stream → Stream → ℕ → Type 0
 WasReadWithin before after limit = (bytes : List ℕ) × Begins before.bytes after.bytes bytes × (length bytes ≤ limit)
 
--- a whole input was read; or a read failed, and it was the last; or the input is too long; or an allocation failed
--- before that was found
+-- a whole input was read, or a read failed and was the last, or the input is too long, or an allocation failed before
+-- that was found
 abbrev pub ReadsInput : Result (Vec ℕ Global) InputFault → Stream → Stream → ℕ → Type 0
 ReadsInput (Ok bytes) before after limit = IsWhole before.bytes bytes.items × Begins before.bytes after.bytes bytes.items × (length bytes.items ≤ limit) × NoneFailed before after
 ReadsInput (Err Unreadable) before after limit = LastFailed before after

@@ -3,8 +3,8 @@ use Rattle.std.specs.Prelude.{◌≡◌, ◌≢◌, ℕ, ◌+◌, ◌-◌, ◌<�
 use Rattle.pef_ports.specs.declared.ports.FileFault.{FileFault}
 use Rattle.pef_ports.specs.declared.ports.FileFault.TheVariants.{Failed, OutOfMemory}
 
--- the state of an input or an output: its bytes, if it reports them; how many of its calls failed, up to the greatest
--- number of 64 bits; and whether its last call failed
+-- the state of an input or an output: its bytes, if it reports them, how many of its calls failed, up to the greatest
+-- number of 64 bits, and whether its last call failed
 pub record Stream : Type 0 where
   pub bytes : Option (List ℕ)
   pub failures : ℕ

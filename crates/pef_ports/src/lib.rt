@@ -1,5 +1,5 @@
-//! The ports of the tool, which are its files, its input and its output; reading a whole input; and the
-//! printing that commands share: text through a page, lines, names, and memory in hex.
+//! The ports of the tool, which are its files, its input and its output. Also reading a whole input, and
+//! the printing that commands share: text through a page, lines, names, and memory in hex.
 #![tactic(auto)]
 
 mod dump;

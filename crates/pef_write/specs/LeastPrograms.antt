@@ -8,8 +8,8 @@ use Rattle.pef_reloc.specs.Steps.{Least}
 use Rattle.pef_script.specs.Script.{DescribedScript, DescribedSection}
 use Rattle.pef_write.specs.Linked.{IsCertified, IsLinked, LinkedContainer, program_of, programs_from}
 
--- section k has a certificate that holds for its fixups; its program is a least one; its length is the
--- one that is reported; and it is the program that is written for section k, or nothing if there are no
+-- section k has a certificate that holds for its fixups. Its program is a least one, its length is the
+-- one that is reported, and it is the program that is written for section k, or nothing if there are no
 -- fixups
 pub record HasLeastProgram (s : DescribedScript) (l : LinkedContainer) (linked : IsLinked s l) (k : ℕ) (section : DescribedSection) : Type 0 where
   pub certificate : Certified

@@ -58,9 +58,8 @@ pub record IsReadBack (s : DescribedScript) (l : LinkedContainer) (linked : IsLi
   pub sections : HasSections s container
   pub tables : HasTables s linked.programs loader
 
--- a relocation program of a section: it is readable; if all sections have addresses, it does the additions
--- of the fixups; and if also the targets of the imports have addresses, it isn't refused in the section's
--- memory
+-- a relocation program of a section is readable. If all sections have addresses, it does the additions of
+-- the fixups. If also the targets of the imports have addresses, it isn't refused in the section's memory
 pub record Relocates (s : DescribedScript) (section : DescribedSection) (bytes : List ℕ) : Type 0 where
   pub readable : program_fault bytes ≡ None
   pub does : (a : Addresses) (memory : List ℕ) → length a.sections ≡ length s.sections → relocated bytes a memory ≡ applied a (map add section.fixups) memory

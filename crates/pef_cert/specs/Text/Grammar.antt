@@ -31,7 +31,7 @@ rows_read width at (suc n) rows left = do
   row ← line_read (row_line width at) left
   rows_read width (at + 1) n (rows ++ row.0 ∷ []) row.1
 
--- version 2: the labels of the last of some rows; none if there is no row; each row has some
+-- version 2: the labels of the last of some rows, or none if there is no row. Each row has some
 abbrev pub last_labels : List (List ℕ) → List ℕ
 last_labels rows = slice_index_or rows (length rows - 1) []
 

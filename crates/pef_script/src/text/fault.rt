@@ -142,7 +142,7 @@ impl From<AllocError> for ScriptFault {
     }
 }
 
-/// Why a line was refused.
+/// Why a line was not read: it was refused, or an allocation failed.
 #[derive(Clone, Copy)]
 pub enum Stop {
     Refused(LineFault),
