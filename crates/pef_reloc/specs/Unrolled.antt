@@ -1,7 +1,8 @@
 -- The instructions that a program with repeats executes, and why a program is refused (Mac OS Runtime
--- Architectures, "PEF Structure", the relocation instruction set; PEFBinaryFormat.h, kPEFRelocSmRepeat and
--- kPEFRelocLgRepeat). A repeat runs the preceding halfwords this many more times. The pass that ran before
--- it isn't counted. That, the refusals and the limit of steps are this project's own rules.
+-- Architectures, "PEF Structure", the relocation instruction set; PEFBinaryFormat.h, kPEFRelocSmRepeat
+-- and kPEFRelocLgRepeat). A repeat runs the preceding halfwords as many more times as its count says.
+-- The pass that ran before it isn't counted. That, the refusals and the limit of steps are this
+-- project's own rules.
 use Rattle.std.specs.Prelude.{ℕ, zero, suc, ◌+◌, ◌-◌, nat_le, if◌then◌else◌, List, [], ◌∷◌, ◌++◌, length, Option, None, Some, Result, Ok, Err}
 use Rattle.std.specs.Option.{option_or}
 use Rattle.std.specs.Result.{result_unwrap_or}
