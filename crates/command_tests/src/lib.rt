@@ -1,9 +1,11 @@
-//! Tests of the commands through `run`, over files, an input and an output in memory. Those of `distances` and `check`
+//! Tests of the commands through `run`, and of what explains how a run ended, over files, an input and an output in memory. Those of `distances` and `check`
 //! stand in a crate of their own, but for the memory that is refused to them.
 //!
 //! Expected values come from the documents and from worked examples, never from the program.
 #![tactic(auto)]
 
+#[cfg(test)]
+mod explained;
 #[cfg(test)]
 mod failures;
 #[cfg(test)]

@@ -1,8 +1,9 @@
-//! The program `pef`: the commands of `pef_tool` over real files, standard input and standard output.
+//! The program `pef`: the commands of `pef_tool` over real files, the standard input and the standard output. How a run
+//! ended is explained on the standard error.
 #![tactic(auto)]
 
 use pef_ports::system::{DiskFiles, Input, Output};
-use pef_tool::{Refusal, deliver, run};
+use pef_tool::{explain, out_of_memory, perform};
 use std::alloc::AllocError;
 use std::env;
 use std::io::ErrorKind;
@@ -14,11 +15,16 @@ fn main(rt: HostRuntime) -> ExitCode {
     let mut files = DiskFiles::new(&rt);
     let mut input = Input::new(rt.stdin());
     let mut out = Output::new(rt.stdout());
-    let status = match words(&rt) {
-        Ok(words) => run(alloc, words.as_slice(), &mut files, &mut input, &mut out),
-        Err(AllocError) => deliver(&mut out, &Refusal::OutOfMemory),
+    let mut notes = Output::new(rt.stderr());
+    let (words, outcome) = match words(&rt) {
+        Ok(words) => {
+            let outcome = perform(alloc, words.as_slice(), &mut files, &mut input, &mut out);
+            (words, outcome)
+        }
+        Err(AllocError) => (Vec::new(alloc), out_of_memory(&mut out)),
     };
-    ExitCode::from(status)
+    explain(alloc, words.as_slice(), outcome, &mut notes);
+    ExitCode::from(outcome.status())
 }
 
 /// Returns the arguments of the command line. If the system can't give them, there are none, and such a

@@ -1,13 +1,13 @@
 ghost use Rattle.std.specs.Prelude.{◌≡◌, IfOk, length, true};
 ghost use Rattle.pef_ports.specs.Sent.{Sends};
 ghost use Rattle.pef_reloc.specs.Fixups.{fixups_fit};
-ghost use Rattle.pef_tool.specs.Answers.Answers.{Answer, IsDelivered};
+ghost use Rattle.pef_tool.specs.Answers.Answers.{Answer, IsDelivered, status_of};
 ghost use Rattle.pef_tool.specs.Check.{AreVerdicts, CheckAnswers, IsVerdict, Judges, are_numbered, judged_answer, match_sections, verdict_text, verdicts_status, verdicts_text};
 ghost use Rattle.pef_tool.specs.Kept.Judged.{JudgesRead, JudgesScript};
 ghost use Rattle.pef_words.specs.Refusals.{result_map};
 
 use crate::answers::{
-    DONE, FileRefusal, REFUSED, Refusal, Reply, certificate_refusal, deliver, script_refusal,
+    FileRefusal, Outcome, Refusal, Reply, certificate_refusal, deliver, script_refusal,
 };
 use pef_cert::{Certificate, check};
 use pef_ports::{FileFault, Files, Line, Page, Sink, StreamFault, push_number, push_text, send};
@@ -39,10 +39,10 @@ pub fn check_files<F: Files, W: Sink>(
     script: &[u8],
     cert: &[u8],
     out: &mut W,
-) -> u8
+) -> Outcome
     ensures { (answer : Answer)
         × CheckAnswers (record { state = F.state; was_read = F.was_read; was_written = F.was_written }) files.old files.new script.now cert.now answer
-        × IsDelivered (W.stream out.old) (W.stream out.new) answer result }
+        × IsDelivered (W.stream out.old) (W.stream out.new) answer (status_of result) }
 {
     let text = match files.read(alloc, script) {
         Ok(text) => text,
@@ -158,8 +158,8 @@ impl Reply for Verdicts {
 
     ghost answer = { λ v. judged_answer (Ok v.verdicts.items) };
 
-    fn status(&self) -> u8 {
-        verdicts_status(self.verdicts.as_slice())
+    fn outcome(&self) -> Outcome {
+        verdicts_outcome(self.verdicts.as_slice())
     }
 
     fn print<W: Sink>(&self, out: &mut W, page: &mut Page) -> Result<(), StreamFault> {
@@ -167,16 +167,16 @@ impl Reply for Verdicts {
     }
 }
 
-/// The status that verdicts end the run with.
-fn verdicts_status(verdicts: &[Verdict]) -> u8
-    ensures { result ≡ verdicts_status verdicts.now }
+/// How a run ends with some verdicts.
+fn verdicts_outcome(verdicts: &[Verdict]) -> Outcome
+    ensures { status_of result ≡ verdicts_status verdicts.now }
 {
     for verdict in verdicts {
         if *verdict == Verdict::No {
-            return REFUSED;
+            return Outcome::SaidNo;
         }
     }
-    DONE
+    Outcome::Done
 }
 
 /// Prints verdicts on sections, numbered from 0.

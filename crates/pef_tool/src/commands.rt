@@ -1,10 +1,12 @@
 ghost use Rattle.std.specs.Prelude.{Some, map, string_bytes};
 ghost use Rattle.pef_tool.specs.Request.CommandLine.{asked_by};
 ghost use Rattle.pef_tool.specs.Request.Requests.{asked_of};
-ghost use Rattle.pef_tool.specs.Answers.Answers.{Answer, IsDelivered};
+ghost use Rattle.pef_tool.specs.Answers.Answers.{Answer, IsDelivered, answer_refused, status_of};
+ghost use Rattle.pef_tool.specs.Answers.Refusals.{refusal_text};
+ghost use Rattle.pef_tool.specs.declared.answers.refusal.Refusal.TheVariants.{OutOfMemory};
 ghost use Rattle.pef_tool.specs.Run.{RunAnswers};
 
-use crate::answers::{Refusal, Usage, deliver};
+use crate::answers::{Outcome, Refusal, Usage, deliver};
 use crate::check::check_files;
 use crate::distances::print_distances;
 use crate::link::link_files;
@@ -15,9 +17,9 @@ use crate::show::show_input;
 use pef_ports::{Files, Sink, Source};
 use std::alloc::Global;
 
-/// Runs the command that the words ask for, of which the first is the program's name.
+/// Runs the command that the words ask for, of which the first is the program's name, and returns the status.
 ///
-/// The status is 0 where the command is done, 1 where it is refused or the output fails, and 2 where the
+/// The status is 0 if the command is done, 1 if it is refused, `check` says no or the output fails, and 2 if the
 /// words ask for no command of this program.
 pub fn run<F: Files, R: Source, W: Sink>(
     alloc: Global,
@@ -30,11 +32,33 @@ pub fn run<F: Files, R: Source, W: Sink>(
         × RunAnswers (record { state = F.state; was_read = F.was_read; was_written = F.was_written }) R.stream (asked_by (map string_bytes words.now)) files.old files.new input.old input.new answer
         × IsDelivered (W.stream out.old) (W.stream out.new) answer result }
 {
+    perform(alloc, words, files, input, out).status()
+}
+
+/// Does what [`run`] does, and returns how it ended, which [`explain`](crate::explain) takes.
+pub fn perform<F: Files, R: Source, W: Sink>(
+    alloc: Global,
+    words: &[String],
+    files: &mut F,
+    input: &mut R,
+    out: &mut W,
+) -> Outcome
+    ensures { (answer : Answer)
+        × RunAnswers (record { state = F.state; was_read = F.was_read; was_written = F.was_written }) R.stream (asked_by (map string_bytes words.now)) files.old files.new input.old input.new answer
+        × IsDelivered (W.stream out.old) (W.stream out.new) answer (status_of result) }
+{
     match read_words(alloc, words) {
         Ok(request) => run_request(alloc, request, files, input, out),
         Err(WordsFault::Usage) => deliver(out, &Usage),
         Err(WordsFault::OutOfMemory) => deliver(out, &Refusal::OutOfMemory),
     }
+}
+
+/// Prints that memory was refused before there were words.
+pub fn out_of_memory<W: Sink>(out: &mut W) -> Outcome
+    ensures { IsDelivered (W.stream out.old) (W.stream out.new) (answer_refused (refusal_text OutOfMemory)) (status_of result) }
+{
+    deliver(out, &Refusal::OutOfMemory)
 }
 
 /// Runs the command of a request.
@@ -44,10 +68,10 @@ fn run_request<F: Files, R: Source, W: Sink>(
     files: &mut F,
     input: &mut R,
     out: &mut W,
-) -> u8
+) -> Outcome
     ensures { (answer : Answer)
         × RunAnswers (record { state = F.state; was_read = F.was_read; was_written = F.was_written }) R.stream (Some (asked_of request.entry)) files.old files.new input.old input.new answer
-        × IsDelivered (W.stream out.old) (W.stream out.new) answer result }
+        × IsDelivered (W.stream out.old) (W.stream out.new) answer (status_of result) }
 {
     match request {
         Request::Show => show_input(alloc, input, out),

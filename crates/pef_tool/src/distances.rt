@@ -1,7 +1,7 @@
-ghost use Rattle.pef_tool.specs.Answers.Answers.{Answer, IsDelivered, answer_done};
+ghost use Rattle.pef_tool.specs.Answers.Answers.{Answer, IsDelivered, answer_done, status_of};
 ghost use Rattle.pef_tool.specs.Distances.{DistancesAnswers};
 
-use crate::answers::{DONE, FileRefusal, Refusal, Reply, deliver};
+use crate::answers::{FileRefusal, Outcome, Refusal, Reply, deliver};
 use crate::linking::link_text;
 use pef_cert::Certificate;
 use pef_ports::{FileFault, Files, Page, Sink, StreamFault, send};
@@ -16,10 +16,10 @@ pub fn print_distances<F: Files, W: Sink>(
     files: &mut F,
     script: &[u8],
     out: &mut W,
-) -> u8
+) -> Outcome
     ensures { (answer : Answer)
         × DistancesAnswers (record { state = F.state; was_read = F.was_read; was_written = F.was_written }) files.old files.new script.now answer
-        × IsDelivered (W.stream out.old) (W.stream out.new) answer result }
+        × IsDelivered (W.stream out.old) (W.stream out.new) answer (status_of result) }
 {
     let text = match files.read(alloc, script) {
         Ok(text) => text,
@@ -45,8 +45,8 @@ struct Distances {
 impl Reply for Distances {
     ghost answer = { λ distances. answer_done distances.text.items };
 
-    fn status(&self) -> u8 {
-        DONE
+    fn outcome(&self) -> Outcome {
+        Outcome::Done
     }
 
     fn print<W: Sink>(&self, out: &mut W, page: &mut Page) -> Result<(), StreamFault> {

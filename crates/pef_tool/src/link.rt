@@ -1,9 +1,9 @@
 ghost use Rattle.std.specs.Prelude.{◌≡◌};
 ghost use Rattle.pef_ports.specs.Sent.{Sends};
-ghost use Rattle.pef_tool.specs.Answers.Answers.{Answer, IsDelivered, answer_done};
+ghost use Rattle.pef_tool.specs.Answers.Answers.{Answer, IsDelivered, answer_done, status_of};
 ghost use Rattle.pef_tool.specs.Link.{LinkAnswers, length_text, lengths_text, linked_text, size_text};
 
-use crate::answers::{DONE, FileRefusal, Refusal, Reply, deliver};
+use crate::answers::{FileRefusal, Outcome, Refusal, Reply, deliver};
 use crate::linking::link_text;
 use pef_ports::{FileFault, Files, Line, Page, Sink, StreamFault, push_number, push_text, send};
 use pef_write::Linked;
@@ -18,10 +18,10 @@ pub fn link_files<F: Files, W: Sink>(
     script: &[u8],
     target: &[u8],
     out: &mut W,
-) -> u8
+) -> Outcome
     ensures { (answer : Answer)
         × LinkAnswers (record { state = F.state; was_read = F.was_read; was_written = F.was_written }) files.old files.new script.now target.now answer
-        × IsDelivered (W.stream out.old) (W.stream out.new) answer result }
+        × IsDelivered (W.stream out.old) (W.stream out.new) answer (status_of result) }
 {
     let text = match files.read(alloc, script) {
         Ok(text) => text,
@@ -48,8 +48,8 @@ struct LinkedReply<'a> {
 impl<'a> Reply for LinkedReply<'a> {
     ghost answer = { λ reply. answer_done (linked_text reply.linked.now) };
 
-    fn status(&self) -> u8 {
-        DONE
+    fn outcome(&self) -> Outcome {
+        Outcome::Done
     }
 
     fn print<W: Sink>(&self, out: &mut W, page: &mut Page) -> Result<(), StreamFault> {

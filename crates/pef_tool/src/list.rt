@@ -1,9 +1,9 @@
 ghost use Rattle.pef_listing.specs.Listing.{listing_text};
 ghost use Rattle.pef_listing.specs.Views.{parts};
-ghost use Rattle.pef_tool.specs.Answers.Answers.{Answer, IsDelivered, answer_done};
+ghost use Rattle.pef_tool.specs.Answers.Answers.{Answer, IsDelivered, answer_done, status_of};
 ghost use Rattle.pef_tool.specs.List.{ListAnswers};
 
-use crate::answers::{DONE, FileRefusal, Refusal, Reply, deliver};
+use crate::answers::{FileRefusal, Outcome, Refusal, Reply, deliver};
 use pef_listing::Listing;
 use pef_ports::{FileFault, Files, Page, Sink, StreamFault};
 use std::alloc::Global;
@@ -11,10 +11,15 @@ use std::alloc::Global;
 /// Lists the container at a path: its sections, libraries, imports, entries, relocation programs and exports.
 ///
 /// All of them are read before the first line is printed.
-pub fn list_file<F: Files, W: Sink>(alloc: Global, files: &mut F, path: &[u8], out: &mut W) -> u8
+pub fn list_file<F: Files, W: Sink>(
+    alloc: Global,
+    files: &mut F,
+    path: &[u8],
+    out: &mut W,
+) -> Outcome
     ensures { (answer : Answer)
         × ListAnswers (record { state = F.state; was_read = F.was_read; was_written = F.was_written }) files.old files.new path.now answer
-        × IsDelivered (W.stream out.old) (W.stream out.new) answer result }
+        × IsDelivered (W.stream out.old) (W.stream out.new) answer (status_of result) }
 {
     let bytes = match files.read(alloc, path) {
         Ok(bytes) => bytes,
@@ -36,8 +41,8 @@ struct ListedReply<'a> {
 impl<'a> Reply for ListedReply<'a> {
     ghost answer = { λ reply. answer_done (listing_text (parts reply.listing).container (parts reply.listing).loader) };
 
-    fn status(&self) -> u8 {
-        DONE
+    fn outcome(&self) -> Outcome {
+        Outcome::Done
     }
 
     fn print<W: Sink>(&self, out: &mut W, page: &mut Page) -> Result<(), StreamFault> {

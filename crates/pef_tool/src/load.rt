@@ -1,12 +1,12 @@
 ghost use Rattle.std.specs.Prelude.{◌≡◌, ◌≤◌, IfErr, IfOk, Ok, length, map};
 ghost use Rattle.pef_ports.specs.Ports.{Reads};
 ghost use Rattle.pef_tool.specs.Request.Requests.{named_path};
-ghost use Rattle.pef_tool.specs.Answers.Answers.{Answer, IsDelivered};
+ghost use Rattle.pef_tool.specs.Answers.Answers.{Answer, IsDelivered, status_of};
 ghost use Rattle.pef_tool.specs.Kept.Loading.{StopsFile, StopsReading};
 ghost use Rattle.pef_tool.specs.Limits.{most_files};
 ghost use Rattle.pef_tool.specs.Load.{LoadAnswers, WereRead, paired};
 
-use crate::answers::{FileRefusal, Refusal, Usage, deliver};
+use crate::answers::{FileRefusal, Outcome, Refusal, Usage, deliver};
 use crate::loaded::deliver_root;
 use crate::request::NamedFile;
 use cfm_closure::{MAX_PAIRS, Store, StoreFault};
@@ -30,10 +30,10 @@ pub fn load_files<F: Files, W: Sink>(
     files: &mut F,
     named: &[NamedFile<'_>],
     out: &mut W,
-) -> u8
+) -> Outcome
     ensures { (answer : Answer)
         × LoadAnswers (record { state = F.state; was_read = F.was_read; was_written = F.was_written }) files.old files.new (map named_path named.now) answer
-        × IsDelivered (W.stream out.old) (W.stream out.new) answer result }
+        × IsDelivered (W.stream out.old) (W.stream out.new) answer (status_of result) }
 {
     if named.is_empty() || named.len() > MAX_PAIRS {
         return deliver(out, &Usage);

@@ -1,7 +1,7 @@
 ghost use Rattle.std.specs.Prelude.{◌≡◌, ◌<◌, ◌≤◌, ◌^◌, IfErr, IfOk, Some};
 ghost use Rattle.cfm_prepare.specs.Contexts.{fresh_state};
 ghost use Rattle.cfm_prepare.specs.Steps.{MayNotPrepare, Prepares};
-ghost use Rattle.pef_tool.specs.Answers.Answers.{IsDelivered, answer_done};
+ghost use Rattle.pef_tool.specs.Answers.Answers.{IsDelivered, answer_done, status_of};
 ghost use Rattle.pef_ports.specs.Sent.{Sends};
 ghost use Rattle.pef_tool.specs.Fragment.{entry_text, sections_text};
 ghost use Rattle.pef_tool.specs.Kept.Rooted.{RootEnds, RootOutcome, root_answer};
@@ -9,7 +9,7 @@ ghost use Rattle.pef_tool.specs.Kept.Routines.{address_in, place_of, routine_tex
 ghost use Rattle.pef_tool.specs.Limits.{memory_limit};
 ghost use Rattle.pef_tool.specs.Loaded.{entry_label, fragment_name, fragment_text, fragments_text, init_order_in, loaded_text, order_in, sections_in};
 
-use crate::answers::{DONE, Reply, deliver, print_behind, print_name_end};
+use crate::answers::{Outcome, Reply, deliver, print_behind, print_name_end};
 use crate::fragment::{entry_line, print_bytes};
 use cfm_closure::Store;
 use cfm_prepare::{Connection, Context, Entries, PrepareFault};
@@ -47,10 +47,10 @@ fn prepare_root<'a>(
 }
 
 /// Prepares the fragment of a name, and prints the memory of its closure, or why it isn't prepared.
-pub fn deliver_root<W: Sink>(alloc: Global, store: Store<'_>, name: &[u8], out: &mut W) -> u8
+pub fn deliver_root<W: Sink>(alloc: Global, store: Store<'_>, name: &[u8], out: &mut W) -> Outcome
     ensures { (outcome : RootOutcome)
         × RootEnds store.entry name.now outcome
-        × IsDelivered (W.stream out.old) (W.stream out.new) (root_answer outcome) result }
+        × IsDelivered (W.stream out.old) (W.stream out.new) (root_answer outcome) (status_of result) }
 {
     match prepare_root(alloc, store, name) {
         Ok(loaded) => deliver(out, &loaded),
@@ -61,8 +61,8 @@ pub fn deliver_root<W: Sink>(alloc: Global, store: Store<'_>, name: &[u8], out: 
 impl<'a> Reply for Loaded<'a> {
     ghost answer = { λ loaded. answer_done (loaded_text loaded.context loaded.connection.0) };
 
-    fn status(&self) -> u8 {
-        DONE
+    fn outcome(&self) -> Outcome {
+        Outcome::Done
     }
 
     fn print<W: Sink>(&self, out: &mut W, page: &mut Page) -> Result<(), StreamFault> {

@@ -3,7 +3,9 @@
 mod command_line;
 mod files;
 mod theorems;
+mod usage;
 
 pub use command_line::{Request, WordsFault, read_words};
 pub use files::NamedFile;
 pub use theorems::plain_words;
+pub use usage::words_help;

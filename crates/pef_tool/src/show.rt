@@ -1,11 +1,11 @@
 ghost use Rattle.std.specs.Prelude.{◌≡◌, IfOk};
-ghost use Rattle.pef_tool.specs.Answers.Answers.{Answer, IsDelivered};
+ghost use Rattle.pef_tool.specs.Answers.Answers.{Answer, IsDelivered, status_of};
 ghost use Rattle.pef_script.specs.Script.{DescribedScript};
 ghost use Rattle.pef_write.specs.Linked.{IsLinked};
 ghost use Rattle.pef_tool.specs.Kept.Showing.{ScriptEnds};
 ghost use Rattle.pef_tool.specs.Show.{ShowAnswers, ShowOutcome, it_alone, show_answer};
 
-use crate::answers::{Refusal, deliver, input_refusal, script_refusal};
+use crate::answers::{Outcome, Refusal, deliver, input_refusal, script_refusal};
 use crate::loaded::deliver_root;
 use cfm_closure::{Store, StoreFault};
 use pef_ports::{Sink, Source, read_input};
@@ -17,10 +17,10 @@ use std::alloc::Global;
 const INPUT_LIMIT: usize = 536_870_912;
 
 /// Links the script on the input, prepares it alone, and shows its memory.
-pub fn show_input<R: Source, W: Sink>(alloc: Global, input: &mut R, out: &mut W) -> u8
+pub fn show_input<R: Source, W: Sink>(alloc: Global, input: &mut R, out: &mut W) -> Outcome
     ensures { (answer : Answer)
         × ShowAnswers (R.stream input.old) (R.stream input.new) answer
-        × IsDelivered (W.stream out.old) (W.stream out.new) answer result }
+        × IsDelivered (W.stream out.old) (W.stream out.new) answer (status_of result) }
 {
     let text = match read_input(alloc, input, INPUT_LIMIT) {
         Ok(text) => text,
@@ -33,10 +33,10 @@ pub fn show_input<R: Source, W: Sink>(alloc: Global, input: &mut R, out: &mut W)
 }
 
 /// Links a script, and shows its container.
-fn show_script<W: Sink>(alloc: Global, script: &Script<'_>, out: &mut W) -> u8
+fn show_script<W: Sink>(alloc: Global, script: &Script<'_>, out: &mut W) -> Outcome
     ensures { (outcome : ShowOutcome)
         × ScriptEnds script.now outcome
-        × IsDelivered (W.stream out.old) (W.stream out.new) (show_answer outcome) result }
+        × IsDelivered (W.stream out.old) (W.stream out.new) (show_answer outcome) (status_of result) }
 {
     match link(alloc, script) {
         Ok(linked) => show_linked(alloc, &linked, out),
@@ -47,10 +47,10 @@ fn show_script<W: Sink>(alloc: Global, script: &Script<'_>, out: &mut W) -> u8
 /// Prepares a linked container alone under the name `it`, and shows it. It may have no closure, and its sections may
 /// find no room. Of the other faults of preparation only want of memory can come: packed images expand, and the
 /// relocation programs are sound.
-fn show_linked<W: Sink>(alloc: Global, linked: &Linked, out: &mut W) -> u8
+fn show_linked<W: Sink>(alloc: Global, linked: &Linked, out: &mut W) -> Outcome
     ensures { (script : DescribedScript) → IsLinked script linked.now → (outcome : ShowOutcome)
         × ScriptEnds script outcome
-        × IsDelivered (W.stream out.old) (W.stream out.new) (show_answer outcome) result }
+        × IsDelivered (W.stream out.old) (W.stream out.new) (show_answer outcome) (status_of result) }
 {
     let Ok(store) = it_alone(alloc, linked.bytes()) else {
         return deliver(out, &Refusal::OutOfMemory);

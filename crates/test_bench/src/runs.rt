@@ -3,7 +3,7 @@
 ghost use Rattle.std.specs.Prelude.{◌<◌};
 
 use crate::ports::{Papers, Sheet, Slip, Text};
-use pef_tool::{FileFault, run};
+use pef_tool::{FileFault, explain, perform, run};
 use std::alloc::{AllocError, Global};
 use std::test::Fail;
 use test_data::refusals::{say_answered, say_begins};
@@ -158,6 +158,52 @@ pub fn run_tool(alloc: Global, handed: Handed<'_>) -> Result<Outcome, Fail>
         papers,
         left: input.rest().len(),
     })
+}
+
+/// Runs the tool, and explains how the run ended on an output that fails at a call. Both outputs take a byte a call.
+/// Returns what the run leaves, and what the explanation's output has.
+pub fn run_explained(
+    alloc: Global,
+    handed: Handed<'_>,
+    notes_fail_at: usize,
+) -> Result<(Outcome, Vec<u8>), Fail> {
+    let mut papers = Papers::new(alloc, handed.files_fail_at, handed.fault);
+    put_file(&mut papers, "a", handed.file)?;
+    if let Some(second) = handed.second {
+        put_file(&mut papers, "b", second)?;
+    }
+    let line = line_of(alloc, handed.words)?;
+    let mut input = Text::new(handed.input, 1, handed.input_fails_at);
+    let mut out = Sheet::new(alloc, 1, handed.out_fails_at)?;
+    let mut notes = Sheet::new(alloc, 1, notes_fail_at)?;
+    let ended = perform(alloc, line.as_slice(), &mut papers, &mut input, &mut out);
+    explain(alloc, line.as_slice(), ended, &mut notes);
+    let outcome = Outcome {
+        printed: out.into_bytes(),
+        status: ended.status(),
+        papers,
+        left: input.rest().len(),
+    };
+    Ok((outcome, notes.into_bytes()))
+}
+
+/// Runs the tool, which must print this and end with this status. Its explanation begins like this, or there is none where
+/// this is empty.
+pub fn assert_explains(
+    alloc: Global,
+    handed: Handed<'_>,
+    printed: &[u8],
+    status: u8,
+    begins: &[u8],
+) -> Result<(), Fail> {
+    let (outcome, explained) = run_explained(alloc, handed, 0)?;
+    if outcome.printed.as_slice() != printed || outcome.status != status {
+        return Err(unlike(handed.words, &outcome.printed, outcome.status));
+    }
+    if !explained.as_slice().starts_with(begins) || explained.is_empty() != begins.is_empty() {
+        return Err(unlike(handed.words, &explained, outcome.status));
+    }
+    Ok(())
 }
 
 /// Runs the tool, which must print this and end with this status.

@@ -1,6 +1,8 @@
 -- What a command answers, and how its answer goes out (README, "Output and status").
 use Rattle.std.specs.Prelude.{◌≡◌, ◌⊎◌, ℕ, List, codes, take}
 use Rattle.pef_ports.specs.Ports.{Stream, Grows, LastFailed, NoneFailed}
+use Rattle.pef_tool.specs.declared.answers.outcome.Outcome.{Outcome}
+use Rattle.pef_tool.specs.declared.answers.outcome.Outcome.TheVariants.{Done, SaidNo, Refused, Usage, OutputFailed}
 
 -- an answer: what is printed, and the status that the run ends with
 pub record Answer : Type 0 where
@@ -18,6 +20,14 @@ answer_refused text = record { text = text; status = 1 }
 -- the answer to words that are no line of this program
 abbrev pub answer_usage : Answer
 answer_usage = record { text = codes "usage\n"; status = 2 }
+
+-- the status of each outcome
+abbrev pub status_of : Outcome → ℕ
+status_of Done = 0
+status_of SaidNo = 1
+status_of (Refused number) = 1
+status_of Usage = 2
+status_of OutputFailed = 1
 
 -- the answer goes out whole; or a front of it, then the output fails at its last call, and the status is 1
 abbrev pub IsDelivered : Stream → Stream → Answer → ℕ → Type 0

@@ -5,16 +5,17 @@ ghost use Rattle.pef_ports.specs.Sent.{Sends};
 ghost use Rattle.pef_tool.specs.Answers.Answers.{answer_refused};
 ghost use Rattle.pef_tool.specs.Answers.Refusals.{bind_refusal_text, refused_text, told_fragment, told_library, told_symbol, told_text};
 
+use crate::answers::outcome::Outcome;
 use crate::answers::refusal::refused_line;
-use crate::answers::reply::{REFUSED, Reply};
+use crate::answers::reply::Reply;
 use cfm_closure::BindFault;
 use pef_ports::{Line, Page, Sink, StreamFault, print_name, send};
 
 impl<'a> Reply for BindFault<'a> {
     ghost answer = { λ fault. answer_refused (bind_refusal_text fault) };
 
-    fn status(&self) -> u8 {
-        REFUSED
+    fn outcome(&self) -> Outcome {
+        Outcome::Refused(self.number())
     }
 
     fn print<W: Sink>(&self, out: &mut W, page: &mut Page) -> Result<(), StreamFault> {

@@ -5,16 +5,17 @@ ghost use Rattle.pef_tool.specs.Answers.Answers.{answer_refused};
 ghost use Rattle.pef_tool.specs.Answers.Refusals.{prepare_refusal_text, refused_text, told_unprepared, unprepared_text};
 
 use crate::answers::bind_refusal::print_told;
+use crate::answers::outcome::Outcome;
 use crate::answers::refusal::refused_line;
-use crate::answers::reply::{REFUSED, Reply};
+use crate::answers::reply::Reply;
 use cfm_prepare::{FragmentFault, PrepareFault};
 use pef_ports::{Line, Page, Sink, StreamFault, send};
 
 impl<'a> Reply for PrepareFault<'a> {
     ghost answer = { λ fault. answer_refused (prepare_refusal_text fault) };
 
-    fn status(&self) -> u8 {
-        REFUSED
+    fn outcome(&self) -> Outcome {
+        Outcome::Refused(self.number())
     }
 
     fn print<W: Sink>(&self, out: &mut W, page: &mut Page) -> Result<(), StreamFault> {

@@ -5,7 +5,8 @@ ghost use Rattle.pef_tool.specs.Answers.Answers.{answer_refused};
 ghost use Rattle.pef_tool.specs.Answers.Told.{certificate_refusal, input_refusal, script_refusal};
 ghost use Rattle.pef_tool.specs.Answers.Refusals.{file_name_of, file_number_of, file_refusal_start, file_refusal_text, name_end, name_of, number_of, path_of, place_of, refusal_text, refused_text};
 
-use crate::answers::reply::{REFUSED, Reply};
+use crate::answers::outcome::Outcome;
+use crate::answers::reply::Reply;
 use pef_cert::CertFault;
 use pef_listing::ListFault;
 use pef_ports::{
@@ -112,8 +113,8 @@ pub fn refused_line(number: u32, name: &str) -> Line
 impl Reply for Refusal {
     ghost answer = { λ refusal. answer_refused (refusal_text refusal) };
 
-    fn status(&self) -> u8 {
-        REFUSED
+    fn outcome(&self) -> Outcome {
+        Outcome::Refused(self.number())
     }
 
     fn print<W: Sink>(&self, out: &mut W, page: &mut Page) -> Result<(), StreamFault> {
@@ -205,8 +206,8 @@ impl<'a> FileRefusal<'a> {
 impl<'a> Reply for FileRefusal<'a> {
     ghost answer = { λ refusal. answer_refused (file_refusal_text refusal) };
 
-    fn status(&self) -> u8 {
-        REFUSED
+    fn outcome(&self) -> Outcome {
+        Outcome::Refused(self.number())
     }
 
     fn print<W: Sink>(&self, out: &mut W, page: &mut Page) -> Result<(), StreamFault> {

@@ -1,7 +1,8 @@
 ghost use Rattle.std.specs.Prelude.{◌≡◌, IfOk, false, map, string_bytes};
-ghost use Rattle.clap.specs.Words.{app_of, found_of, rows_of};
+ghost use Rattle.clap.specs.Walk.{rule_of};
+ghost use Rattle.clap.specs.Words.{app_of, found_of, new_app, rows_of};
 ghost use Rattle.clap.specs.declared.builder.command.Command.TheViews.{out-Command};
-ghost use Rattle.pef_tool.specs.Request.CommandLine.{asked_by, check_asked, check_command, command_asked, distances_asked, distances_command, link_asked, link_command, list_asked, list_command, load_asked, load_command, pef};
+ghost use Rattle.pef_tool.specs.Request.CommandLine.{asked_by, check_asked, check_command, command_asked, distances_asked, distances_command, link_asked, link_command, list_asked, list_command, load_asked, load_command, operand, pef};
 ghost use Rattle.pef_tool.specs.Request.Kept.Commands.{HasOneMore};
 ghost use Rattle.pef_tool.specs.Request.Kept.Kinds.{fault_of_kind};
 ghost use Rattle.pef_tool.specs.Request.Requests.{AnswersWords};
@@ -10,6 +11,9 @@ use crate::request::files::{NamedFile, named_files};
 use clap::error::ErrorKind;
 use clap::{Arg, ArgMatches, Command};
 use std::alloc::{AllocError, AllocFailed, Global};
+
+/// What a SCRIPT is.
+const SCRIPT_HELP: &str = "A script (docs/SCRIPTS.md)";
 
 /// The most files of `load`.
 const MOST_FILES: usize = 256;
@@ -79,14 +83,18 @@ pub fn read_words<'a>(alloc: Global, words: &'a [String]) -> Result<Request<'a>,
 }
 
 /// The program's commands.
-fn command<'a>(alloc: Global) -> Result<Command<'a>, AllocError>
+pub(crate) fn command<'a>(alloc: Global) -> Result<Command<'a>, AllocError>
     ensures app { IfOk result (λ c. app_of c ≡ pef) }
 {
     let with_show = Command::new(alloc, "pef")
         .subcommand_required(true)
         .disable_help_flag(true)
         .disable_help_subcommand(true)
-        .subcommand(Command::new(alloc, "show"))?;
+        .subcommand(described(
+            alloc,
+            "show",
+            "Prints the memory that the script on the standard input becomes",
+        ))?;
     let with_link = with_command(with_show, link_command(alloc))?;
     let with_list = with_command(with_link, list_command(alloc))?;
     let with_check = with_command(with_list, check_command(alloc))?;
@@ -104,14 +112,32 @@ fn with_command<'a>(
     top.subcommand(more?)
 }
 
+/// A command without operands, and what it does.
+fn described<'a>(alloc: Global, name: &'a str, about: &'a str) -> Command<'a>
+    ensures app { app_of result ≡ new_app name.entry.now }
+    ensures local { (out-Command result).has_globals ≡ false }
+{
+    Command::new(alloc, name).about(about)
+}
+
+/// An operand that has to be there, and what it is.
+fn operand<'a>(alloc: Global, name: &'a str, help: &'a str) -> Arg<'a>
+    ensures rule { rule_of result ≡ operand name.entry.now }
+    ensures local { result.global ≡ false }
+{
+    Arg::new(alloc, name).required(true).help(help)
+}
+
 /// The command `link SCRIPT OUT`.
 fn link_command<'a>(alloc: Global) -> Result<Command<'a>, AllocError>
     ensures app { IfOk result (λ c. app_of c ≡ link_command) }
     ensures local { IfOk result (λ c. (out-Command c).has_globals ≡ false) }
 {
-    let script = Arg::new(alloc, "SCRIPT").required(true);
-    let out = Arg::new(alloc, "OUT").required(true);
-    Command::new(alloc, "link").arg(script)?.arg(out)
+    let script = operand(alloc, "SCRIPT", SCRIPT_HELP);
+    let out = operand(alloc, "OUT", "The file that gets the container");
+    described(alloc, "link", "Links a script to a container")
+        .arg(script)?
+        .arg(out)
 }
 
 /// The command `list FILE`.
@@ -119,8 +145,8 @@ fn list_command<'a>(alloc: Global) -> Result<Command<'a>, AllocError>
     ensures app { IfOk result (λ c. app_of c ≡ list_command) }
     ensures local { IfOk result (λ c. (out-Command c).has_globals ≡ false) }
 {
-    let file = Arg::new(alloc, "FILE").required(true);
-    Command::new(alloc, "list").arg(file)
+    let file = operand(alloc, "FILE", "A container");
+    described(alloc, "list", "Lists what a container declares").arg(file)
 }
 
 /// The command `check SCRIPT CERT`.
@@ -128,20 +154,33 @@ fn check_command<'a>(alloc: Global) -> Result<Command<'a>, AllocError>
     ensures app { IfOk result (λ c. app_of c ≡ check_command) }
     ensures local { IfOk result (λ c. (out-Command c).has_globals ≡ false) }
 {
-    let script = Arg::new(alloc, "SCRIPT").required(true);
-    let cert = Arg::new(alloc, "CERT").required(true);
-    Command::new(alloc, "check").arg(script)?.arg(cert)
+    let script = operand(alloc, "SCRIPT", SCRIPT_HELP);
+    let cert = operand(
+        alloc,
+        "CERT",
+        "The certificates of its sections, as `distances` prints them",
+    );
+    described(
+        alloc,
+        "check",
+        "Checks the certificates of a script's sections",
+    )
+    .arg(script)?
+    .arg(cert)
 }
 
 /// The command `load NAME=FILE ..`.
-fn load_command<'a>(alloc: Global) -> Result<Command<'a>, AllocError>
+pub(crate) fn load_command<'a>(alloc: Global) -> Result<Command<'a>, AllocError>
     ensures app { IfOk result (λ c. app_of c ≡ load_command) }
     ensures local { IfOk result (λ c. (out-Command c).has_globals ≡ false) }
 {
-    let files = Arg::new(alloc, "NAME=FILE")
-        .required(true)
-        .num_args(1..=MOST_FILES);
-    Command::new(alloc, "load").arg(files)
+    let files = operand(
+        alloc,
+        "NAME=FILE",
+        "Containers, each with the name of its fragment: the first is loaded, the others are its libraries",
+    )
+    .num_args(1..=MOST_FILES);
+    described(alloc, "load", "Prints the memory that containers become").arg(files)
 }
 
 /// The command `distances SCRIPT`.
@@ -149,8 +188,13 @@ fn distances_command<'a>(alloc: Global) -> Result<Command<'a>, AllocError>
     ensures app { IfOk result (λ c. app_of c ≡ distances_command) }
     ensures local { IfOk result (λ c. (out-Command c).has_globals ≡ false) }
 {
-    let script = Arg::new(alloc, "SCRIPT").required(true);
-    Command::new(alloc, "distances").arg(script)
+    let script = operand(alloc, "SCRIPT", SCRIPT_HELP);
+    described(
+        alloc,
+        "distances",
+        "Prints certificates that no relocation program without repeats is shorter than that of `link`",
+    )
+    .arg(script)
 }
 
 /// The request of a command's name and operands.

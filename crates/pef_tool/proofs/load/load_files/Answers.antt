@@ -6,7 +6,7 @@ use Rattle.std.specs.declared.alloc.Global.{Global}
 use Rattle.std.specs.declared.vec.Vec.{Vec}
 use Rattle.pef_ports.specs.Ports.{FilesPort}
 use Rattle.pef_tool.specs.Request.Requests.{named_path}
-use Rattle.pef_tool.specs.Answers.Answers.{Answer, IsDelivered, answer_refused}
+use Rattle.pef_tool.specs.Answers.Answers.{Answer, IsDelivered, answer_refused, status_of}
 use Rattle.pef_tool.specs.Load.{first_name, lacks_memory, load_answer, paired, unreadable}
 use Rattle.pef_tool.specs.Answers.Refusals.{refusal_text, unreadable_text}
 use Rattle.pef_tool.specs.declared.answers.refusal.Refusal.TheVariants.{OutOfMemory}
@@ -20,7 +20,7 @@ pub returns-in-Err-Unreadable : goal.returns-in-Err-Unreadable
 returns-in-Err-Unreadable g c =
     let stream = g.W.Sink.stream in
     let ends = rw c.in-Err-Unreadable.field-0-is at c.in-Err-Unreadable.ensures.refused in
-    let P : Bor (List ℕ) → Type 0 = λ path. IsDelivered (stream c.args.out.now) (stream c.deliver-in-Err-Unreadable.new.out) (answer_refused (unreadable_text path.now)) c.deliver-in-Err-Unreadable.result in
+    let P : Bor (List ℕ) → Type 0 = λ path. IsDelivered (stream c.args.out.now) (stream c.deliver-in-Err-Unreadable.new.out) (answer_refused (unreadable_text path.now)) (status_of c.deliver-in-Err-Unreadable.result) in
     (answer_refused (unreadable_text c.in-Err-Unreadable.path.now), (unreadable c.in-Err-Unreadable.path.now, ends, refl), subst P c.in-Err-Unreadable.path-is c.deliver-in-Err-Unreadable.ensures)
 
 pub store_of-requires-clause-each : goal.store_of-requires-clause-each
@@ -49,5 +49,5 @@ returns g c =
     let some : 0 < length named = some-files named c.is_empty.result c.is_empty.ensures c.if-is_empty.false in
     let name : c.as_bytes.result.now ≡ first_name (map named_path named) = c.as_bytes.ensures.value ∙ sym (first-is named _ some) in
     let ends = root-loads port c.args.files.now c.read_files.new.files (map named_path named) contents c.deliver_root.ensures.0 c.in-Ok.ensures.read (rw (← store, ← name) c.deliver_root.ensures.1) in
-    let P : Answer → Type 0 = λ answer. IsDelivered (stream c.args.out.now) (stream c.deliver_root.new.out) answer c.deliver_root.result in
+    let P : Answer → Type 0 = λ answer. IsDelivered (stream c.args.out.now) (stream c.deliver_root.new.out) answer (status_of c.deliver_root.result) in
     (load_answer ends.0, (ends.0, ends.1, refl), subst P ends.2 c.deliver_root.ensures.2)

@@ -12,7 +12,7 @@ returns c =
     let required = ap app_of_fields c.subcommand_required.ensures ∙ ap (on_top (λ s. record s { subcommand_required = true })) c.new.ensures.app in
     let no_flag = ap app_of_fields c.disable_help_flag.ensures ∙ ap (on_top (λ s. record s { disable_help_flag = true })) required in
     let top = ap app_of_fields c.disable_help_subcommand.ensures ∙ ap (on_top (λ s. record s { disable_help_subcommand = true })) no_flag in
-    let with_show = c.in_ok-with_show.ensures.shape c.new-2.ensures.local ∙ ap₂ with_subcommand top (ap (λ a. a.top) c.new-2.ensures.app) in
+    let with_show = c.in_ok-with_show.ensures.shape c.described.ensures.local ∙ ap₂ with_subcommand top (ap (λ a. a.top) c.described.ensures.app) in
     let with_link = one_more c.link_command.result link_command c.in_ok-with_link.with_link with_show c.link_command.ensures.app c.link_command.ensures.local c.in_ok-with_link.ensures in
     let with_list = one_more c.list_command.result list_command c.in_ok-with_list.with_list with_link c.list_command.ensures.app c.list_command.ensures.local c.in_ok-with_list.ensures in
     let with_check = one_more c.check_command.result check_command c.in_ok-with_check.with_check with_list c.check_command.ensures.app c.check_command.ensures.local c.in_ok-with_check.ensures in

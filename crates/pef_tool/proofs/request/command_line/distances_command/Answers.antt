@@ -1,22 +1,11 @@
 -- The operand adds its rule, and isn't global.
-use Rattle.std.proofs.Common.{◌||◌, Bool, true, ap, ap₂, ◌∙◌}
+use Rattle.std.proofs.Common.{◌||◌, Bool, ap₂, ◌∙◌}
 use Rattle.std.proofs.lemmas.Result.{IfOk-weaker}
 use Rattle.clap.specs.Simple.{with_rule}
-use Rattle.clap.specs.Walk.{Rule, rule_of}
-use Rattle.clap.specs.declared.builder.arg.Arg.{Arg}
 use Rattle.pef_tool.proofs.request.command_line.distances_command.Goals as goal
 
-abbrev is_global : Arg → Bool
-is_global a = a.global
-
-abbrev needed : Rule → Rule
-needed rule = record rule { required = true }
-
 pub returns : goal.returns
-returns c =
-    let script_is = ap rule_of c.required-script.ensures ∙ ap needed c.new.ensures.rule in
-    let script_local = ap is_global c.required-script.ensures ∙ c.new.ensures.optional.1 in
-    record {
-      app = IfOk-weaker c.arg.result _ _ (λ r added. added.shape script_local ∙ ap₂ with_rule c.new-2.ensures.app script_is) c.arg.ensures;
-      local = IfOk-weaker c.arg.result _ _ (λ r added. added.globals ∙ ap₂ (λ (a b : Bool). a || b) c.new-2.ensures.local script_local) c.arg.ensures;
-    }
+returns c = record {
+  app = IfOk-weaker c.arg.result _ _ (λ r added. added.shape c.operand-script.ensures.local ∙ ap₂ with_rule c.described.ensures.app c.operand-script.ensures.rule) c.arg.ensures;
+  local = IfOk-weaker c.arg.result _ _ (λ r added. added.globals ∙ ap₂ (λ (a b : Bool). a || b) c.described.ensures.local c.operand-script.ensures.local) c.arg.ensures;
+}

@@ -1,5 +1,5 @@
 -- The operand adds its rule, and isn't global.
-use Rattle.std.proofs.Common.{◌≡◌, ◌||◌, ℕ, Bool, true, max, Option, None, Some, IsSomeAnd, refl, ap, ap₂, ◌∙◌}
+use Rattle.std.proofs.Common.{◌≡◌, ◌||◌, ℕ, Bool, max, Option, None, Some, IsSomeAnd, refl, ap, ap₂, ◌∙◌}
 use Rattle.std.proofs.lemmas.Result.{IfOk-weaker}
 use Rattle.clap.specs.Simple.{with_rule}
 use Rattle.clap.specs.Walk.{Rule, rule_of}
@@ -9,9 +9,6 @@ use Rattle.pef_tool.proofs.request.command_line.load_command.Goals as goal
 
 abbrev is_global : Arg → Bool
 is_global a = a.global
-
-abbrev needed : Rule → Rule
-needed rule = record rule { required = true }
 
 abbrev ranged : Rule → Option ValueRange → Rule
 ranged rule range = record rule { range = range }
@@ -24,11 +21,10 @@ range_of (Some r) low high is low_is high_is = rw (is, low_is, high_is) refl
 
 pub returns : goal.returns
 returns c =
-    let required_is = ap rule_of c.required.ensures ∙ ap needed c.new.ensures.rule in
-    let range_is = range_of c.num_args-files.result.num_vals c.new-2.result.start c.new-2.result.end c.num_args-files.ensures.1 c.new-2.ensures.start c.new-2.ensures.end in
-    let files_is = ap rule_of c.num_args-files.ensures.0 ∙ ap₂ ranged required_is range_is in
-    let files_local = ap is_global c.num_args-files.ensures.0 ∙ ap is_global c.required.ensures ∙ c.new.ensures.optional.1 in
+    let range_is = range_of c.num_args-files.result.num_vals c.new.result.start c.new.result.end c.num_args-files.ensures.1 c.new.ensures.start c.new.ensures.end in
+    let files_is = ap rule_of c.num_args-files.ensures.0 ∙ ap₂ ranged c.operand.ensures.rule range_is in
+    let files_local = ap is_global c.num_args-files.ensures.0 ∙ c.operand.ensures.local in
     record {
-      app = IfOk-weaker c.arg.result _ _ (λ r added. added.shape files_local ∙ ap₂ with_rule c.new-3.ensures.app files_is) c.arg.ensures;
-      local = IfOk-weaker c.arg.result _ _ (λ r added. added.globals ∙ ap₂ (λ (a b : Bool). a || b) c.new-3.ensures.local files_local) c.arg.ensures;
+      app = IfOk-weaker c.arg.result _ _ (λ r added. added.shape files_local ∙ ap₂ with_rule c.described.ensures.app files_is) c.arg.ensures;
+      local = IfOk-weaker c.arg.result _ _ (λ r added. added.globals ∙ ap₂ (λ (a b : Bool). a || b) c.described.ensures.local files_local) c.arg.ensures;
     }

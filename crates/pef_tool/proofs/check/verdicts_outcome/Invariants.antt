@@ -1,6 +1,6 @@
 use Rattle.std.proofs.Common.{◌≡◌, drop}
 use Rattle.pef_tool.specs.Check.{verdicts_status}
-use Rattle.pef_tool.proofs.check.verdicts_status.Given as goal
+use Rattle.pef_tool.proofs.check.verdicts_outcome.Given as goal
 
 -- those that are left decide
 abbrev pub invariant-loop-verdict : goal.invariant-loop-verdict
