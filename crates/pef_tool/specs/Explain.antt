@@ -10,7 +10,7 @@ use Rattle.pef_tool.specs.declared.answers.outcome.Outcome.TheVariants.{Done, Sa
 abbrev pub IsNoted : Stream → Stream → List ℕ → Type 0
 IsNoted before after text = (status : ℕ) × IsDelivered before after (answer_done text) status
 
--- the help for a refusal is written as a line, if there is some
+-- help is written as a line, if there is some
 abbrev pub NotesHelp : Option (List ℕ) → Stream → Stream → Type 0
 NotesHelp None before after = after ≡ before
 NotesHelp (Some text) before after = IsNoted before after (text ++ 10 ∷ [])
@@ -21,4 +21,4 @@ Explains Done before after = after ≡ before
 Explains SaidNo before after = after ≡ before
 Explains (Refused number) before after = NotesHelp (help_of number) before after
 Explains Usage before after = (text : List ℕ) × IsNoted before after text
-Explains OutputFailed before after = IsNoted before after (codes "The standard output failed, so a part of the answer may be missing.\n")
+Explains OutputFailed before after = NotesHelp (Some (codes "The standard output failed, so a part of the answer may be missing.")) before after

@@ -10,7 +10,7 @@ use pef_refusals::help;
 use std::alloc::Global;
 
 /// What is said if the output failed.
-const OUTPUT_FAILED: &str = "The standard output failed, so a part of the answer may be missing.\n";
+const OUTPUT_FAILED: &str = "The standard output failed, so a part of the answer may be missing.";
 
 /// What is said if there is no memory for the help.
 const NO_HELP: &str = "An allocation failed, so there is no help.\n";
@@ -26,11 +26,11 @@ pub fn explain<W: Sink>(alloc: Global, words: &[String], outcome: Outcome, notes
         Outcome::Done | Outcome::SaidNo => {}
         Outcome::Refused(number) => note_help(notes, help(number)),
         Outcome::Usage => note_usage(alloc, words, notes),
-        Outcome::OutputFailed => write_note(notes, OUTPUT_FAILED.as_bytes(), b""),
+        Outcome::OutputFailed => note_help(notes, Some(OUTPUT_FAILED)),
     }
 }
 
-/// Writes the help for a refusal, if there is some.
+/// Writes a line of help, if there is some.
 fn note_help<W: Sink>(notes: &mut W, text: Option<&'static str>)
     ensures { NotesHelp (option_map (λ text. text.now) text.entry) (W.stream notes.old) (W.stream notes.new) }
 {
