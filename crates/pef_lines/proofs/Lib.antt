@@ -3,3 +3,4 @@ mod Cuts
 mod Digits
 mod LineLemmas
 mod PairLemmas
+mod WordLemmas

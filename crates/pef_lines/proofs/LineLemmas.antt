@@ -23,7 +23,7 @@ parts_of-last byte (b ∷ bytes) none = by (b == byte) (cut_at byte bytes) none 
     by false None none others = ap (longer_first b) (others refl)
     by false (Some p) none others = absurd (cc)
 
--- the first part ends where the first such byte stands
+-- the first part ends before the first such byte
 pub parts_of-cut : (byte : ℕ) (text part behind : List ℕ) → cut_at byte text ≡ Some (part, behind) → parts_of byte text ≡ part ∷ parts_of byte behind
 parts_of-cut byte [] part behind cut = absurd (cc)
 parts_of-cut byte (b ∷ bytes) part behind cut = by (b == byte) (cut_at byte bytes) cut (parts_of-cut byte bytes)
@@ -48,7 +48,7 @@ lines_of-last text none = parts_of-last 0x0A text none
 pub lines_of-cut : (text line behind : List ℕ) → cut_at 0x0A text ≡ Some (line, behind) → lines_of text ≡ line ∷ lines_of behind
 lines_of-cut text line behind cut = parts_of-cut 0x0A text line behind cut
 
--- a text is what stands before a byte, the byte, and what stands behind it
+-- a text is what is before a byte, the byte, and what is after it
 pub cut_at-parts : (byte : ℕ) (text before behind : List ℕ) → cut_at byte text ≡ Some (before, behind) → text ≡ before ++ byte ∷ behind
 cut_at-parts byte [] before behind cut = absurd (cc)
 cut_at-parts byte (b ∷ bytes) before behind cut = by (b == byte) refl (cut_at byte bytes) cut (cut_at-parts byte bytes)
@@ -65,7 +65,7 @@ cut_at-parts byte (b ∷ bytes) before behind cut = by (b == byte) refl (cut_at 
         let r : p.1 ≡ behind = ap back cut in
         rw (← l, ← r) (ap (λ (t : List ℕ). b ∷ t) (others p.0 p.1 refl))
 
--- less than the text is behind its first line
+-- what is after the first line is shorter than the text
 pub cut_at-shorter : (byte : ℕ) (text line behind : List ℕ) → cut_at byte text ≡ Some (line, behind) → length behind + 1 ≤ length text
 cut_at-shorter byte [] line behind cut = absurd (cc)
 cut_at-shorter byte (b ∷ bytes) line behind cut = by (b == byte) (cut_at byte bytes) cut (cut_at-shorter byte bytes)

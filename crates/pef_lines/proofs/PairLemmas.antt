@@ -10,7 +10,7 @@ use Rattle.pef_lines.specs.Pairs.{hex_byte, hex_bytes}
 use Rattle.pef_lines.specs.Kept.Pairs.{is_hex}
 use Rattle.pef_lines.specs.Views.{bytes_of_pairs, digit_value}
 
--- without the bytes behind it, a pair is none
+-- without the bytes after it, a pair is none
 none_behind : (pair : Option ℕ) → option_and_then (λ byte. option_map (λ bytes. byte ∷ bytes) None) pair ≡ None
 none_behind None = refl
 none_behind (Some byte) = refl
@@ -22,7 +22,7 @@ pairs_of-odd k (high ∷ []) odd = refl
 pairs_of-odd zero (high ∷ low ∷ digits) odd = absurd (omega arith)
 pairs_of-odd (suc k) (high ∷ low ∷ digits) odd = rw (pairs_of-odd k digits (omega arith)) (none_behind (hex_byte high low))
 
--- where one byte is no hex digit, nothing is bytes_of_pairs
+-- if one byte is no hex digit, nothing is spelled
 pub pairs_of-bad : (digits : List ℕ) → list_all is_hex digits ≡ false → hex_bytes digits ≡ None
 pairs_of-bad [] bad = absurd (cc)
 pairs_of-bad (high ∷ []) bad = refl
@@ -34,7 +34,7 @@ pairs_of-bad (high ∷ low ∷ digits) bad = by (hex_value high) (hex_value low)
     by (Some x) None bad others = refl
     by (Some x) (Some y) bad others = rw (others bad) refl
 
--- and else the bytes are those of the digits' values
+-- otherwise the bytes are those of the digits' values
 pub pairs_of-good : (k : ℕ) (digits : List ℕ) → length digits ≡ 2 * k → list_all is_hex digits ≡ true → hex_bytes digits ≡ Some (bytes_of_pairs digits)
 pairs_of-good k [] even good = refl
 pairs_of-good zero (high ∷ digits) even good = absurd (omega arith)

@@ -1,2 +1,3 @@
--- What only the code keeps and its private contracts cite. Nothing here is part of what the crate promises.
+-- Definitions for the crate's own proofs and private contracts. No other crate uses them.
 pub mod Pairs
+pub mod Words

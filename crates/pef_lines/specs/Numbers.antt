@@ -10,12 +10,12 @@ hex_value b =
     else if nat_le 0x61 b && nat_le b 0x66 then Some (b - 0x57)
     else None
 
--- a number, where it is below a limit
+-- a number, if it is below a limit
 abbrev pub below : ℕ → Option ℕ → Option ℕ
 below limit None = None
 below limit (Some n) = if nat_lt n limit then Some n else None
 
--- the number that digits to a base spell behind a number so far
+-- the number that digits to a base spell after a number so far
 abbrev pub digits_value : ℕ → ℕ → List ℕ → Option ℕ
 digits_value base so_far [] = Some so_far
 digits_value base so_far (b ∷ bytes) = option_and_then (λ d. digits_value base (so_far * base + d) bytes) (below base (hex_value b))

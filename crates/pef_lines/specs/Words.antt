@@ -15,7 +15,7 @@ is_word bytes = not (length bytes == 0) && list_all is_printing bytes
 unfoldable pub last_word : List ℕ → Option (List ℕ)
 last_word line = if is_word line then Some line else None
 
--- the word before a space and what stands behind it
+-- the word before a space, and what is after it
 abbrev pub word_before : Option (List ℕ × List ℕ) → Option (List ℕ × List ℕ)
 word_before None = None
 word_before (Some p) = if is_word p.0 then Some p else None

@@ -4,7 +4,7 @@ ghost use Rattle.pef_lines.specs.Numbers.{below, decimal_number, digits_number, 
 /// The most hex digits of a number.
 const MAX_HEX_DIGITS: usize = 8;
 
-/// The value of a hex digit, of either case.
+/// Returns the value of a hex digit, of either case.
 pub fn hex_digit(digit: u8) -> Option<u8>
     ensures { result ≡ hex_value digit }
 {
@@ -16,7 +16,7 @@ pub fn hex_digit(digit: u8) -> Option<u8>
     }
 }
 
-/// The value of a digit to a base.
+/// Returns the value of a digit to a base.
 fn digit_to(base: u8, digit: u8) -> Option<u8>
     ensures { result ≡ below base (hex_value digit) }
 {
@@ -26,7 +26,7 @@ fn digit_to(base: u8, digit: u8) -> Option<u8>
     }
 }
 
-/// The number that digits to a base from 1 to 16 spell, where it has 32 bits.
+/// Returns the number that digits to a base from 1 to 16 spell, if it has 32 bits.
 fn digits_number(base: u8, digits: &[u8]) -> Option<u32>
     requires least { 1 ≤ base }
     requires most { base ≤ 16 }
@@ -42,7 +42,7 @@ fn digits_number(base: u8, digits: &[u8]) -> Option<u32>
     Some(value as u32)
 }
 
-/// The number that one to eight hex digits spell, of either case.
+/// Returns the number that one to eight hex digits spell, of either case.
 pub fn hex_number(digits: &[u8]) -> Option<u32>
     ensures { result ≡ hex_number digits.now }
 {
@@ -52,7 +52,7 @@ pub fn hex_number(digits: &[u8]) -> Option<u32>
     digits_number(16, digits)
 }
 
-/// The number that decimal digits without a leading zero spell, where it has 32 bits.
+/// Returns the number that decimal digits without a leading zero spell, if it has 32 bits.
 pub fn decimal_number(digits: &[u8]) -> Option<u32>
     ensures { result ≡ decimal_number digits.now }
 {

@@ -26,7 +26,7 @@ impl<'a> Model for Pairs<'a> {
 }
 
 impl<'a> Pairs<'a> {
-    /// The pairs that a word has, where it has nothing else.
+    /// Returns the pairs of a word, if it has nothing else.
     pub fn read(word: &'a [u8]) -> Option<Pairs<'a>>
         ensures { result ≡ hex_bytes word.entry.now }
     {
@@ -39,7 +39,7 @@ impl<'a> Pairs<'a> {
         Some(Pairs { digits: word })
     }
 
-    /// How many bytes they spell.
+    /// Returns how many bytes they spell.
     pub fn count(&self) -> usize
         ensures { result ≡ length self.now }
     {
@@ -66,7 +66,7 @@ fn append_spelled(digits: &[u8], bytes: &mut Vec<u8>) -> Result<(), AllocError>
     Ok(())
 }
 
-// The loops below look at every digit, whatever they found before, so that many are done at a time.
+// The loops below look at every digit, so that the compiler makes them test many at a time.
 
 fn all_hex(digits: &[u8]) -> bool
     ensures { result ≡ list_all is_hex digits.now }
@@ -78,7 +78,7 @@ fn all_hex(digits: &[u8]) -> bool
     all
 }
 
-/// The value of a hex digit, and 0 of another byte.
+/// Returns the value of a hex digit, and 0 for another byte.
 fn digit_value(digit: u8) -> u8
     ensures value { result ≡ digit_value digit }
     ensures most { result ≤ 15 }

@@ -1,6 +1,7 @@
-ghost use Rattle.std.specs.Prelude.{◌≡◌, option_map};
+ghost use Rattle.std.specs.Prelude.{◌≡◌, ◌≤◌, length, option_map};
 ghost use Rattle.std.specs.List.{list_all};
 ghost use Rattle.std.specs.Option.{option_copied};
+ghost use Rattle.pef_lines.specs.Kept.Words.{printing_len, word_parted};
 ghost use Rattle.pef_lines.specs.Lines.{cut_at};
 ghost use Rattle.pef_lines.specs.Words.{is_printing, is_word, last_word, next_word};
 
@@ -9,7 +10,7 @@ use memchr::memchr;
 /// The byte that ends a line.
 pub const LINE_FEED: u8 = b'\n';
 
-/// What stands before the first such byte and what behind it, or `None` where there is no such byte.
+/// Returns what is before the first such byte and what is after it, or `None` if there is no such byte.
 pub fn cut_at(byte: u8, bytes: &[u8]) -> Option<(&[u8], &[u8])>
     ensures { option_map (λ p. (p.0.now, p.1.now)) result ≡ cut_at byte bytes.now }
 {
@@ -19,14 +20,15 @@ pub fn cut_at(byte: u8, bytes: &[u8]) -> Option<(&[u8], &[u8])>
     Some((before, behind))
 }
 
-/// Whether these are one or more printing bytes, none of them a space.
+/// Returns whether these are one or more printing bytes, none of them a space.
 fn is_word(bytes: &[u8]) -> bool
     ensures { result ≡ is_word bytes.now }
 {
     !bytes.is_empty() && all_printing(bytes)
 }
 
-/// Whether all are printing bytes, and no space. It looks at each, so that many are done at a time.
+/// Returns whether all are printing bytes, and no space. It looks at every byte, so that the compiler makes it test
+/// many at a time.
 fn all_printing(bytes: &[u8]) -> bool
     ensures { result ≡ list_all is_printing bytes.now }
 {
@@ -37,7 +39,7 @@ fn all_printing(bytes: &[u8]) -> bool
     all
 }
 
-/// The one word that is left of a line.
+/// Returns the one word that is left of a line.
 #[tactic(auto, unfolding(crate::specs::Words::last_word))]
 pub fn last_word(line: &[u8]) -> Option<&[u8]>
     ensures { option_copied result ≡ last_word line.now }
@@ -48,14 +50,35 @@ pub fn last_word(line: &[u8]) -> Option<&[u8]>
     Some(line)
 }
 
-/// The next word of a line, and what follows the space behind it.
-#[tactic(auto, unfolding(crate::specs::Words::next_word))]
+/// Returns the next word of a line, and what follows the space after it. It looks at each byte once.
+#[tactic(auto, using(crate::proofs::WordLemmas::front_word))]
 pub fn next_word(line: &[u8]) -> Option<(&[u8], &[u8])>
     ensures { option_map (λ p. (p.0.now, p.1.now)) result ≡ next_word line.now }
 {
-    let (word, rest) = cut_at(b' ', line)?;
-    if !is_word(word) {
+    let (word, rest) = line.split_at(printing_len(line));
+    word_parted(word, rest)
+}
+
+/// Returns a word that isn't empty, and what follows the space after it.
+fn word_parted<'l>(word: &'l [u8], rest: &'l [u8]) -> Option<(&'l [u8], &'l [u8])>
+    ensures { option_map (λ p. (p.0.now, p.1.now)) result ≡ word_parted word.entry.now rest.entry.now }
+{
+    let (end, behind) = rest.split_first()?;
+    if *end != b' ' || word.is_empty() {
         return None;
     }
-    Some((word, rest))
+    Some((word, behind))
+}
+
+/// Returns how many printing bytes, no spaces, there are at the front.
+fn printing_len(bytes: &[u8]) -> usize
+    ensures is { result ≡ printing_len bytes.now }
+    ensures inside { result ≤ length bytes.now }
+{
+    for (at, byte) in bytes.iter().enumerate() {
+        if !matches!(*byte, 0x21..=0x7E) {
+            return at;
+        }
+    }
+    bytes.len()
 }

@@ -1,4 +1,4 @@
--- The room behind the bytes that are there is just that of the pairs.
+-- The room after the bytes that are there is that of the pairs.
 use Rattle.std.proofs.Common.{◌/◌, length, arith}
 use Rattle.pef_lines.proofs.PairLemmas.{length-spelled}
 use Rattle.pef_lines.proofs.pairs.append_spelled.Goals as goal

@@ -1,4 +1,4 @@
--- Where the search finds no such byte there is no cut, and else it is where the search finds the first.
+-- If the search finds no such byte there is no cut. Otherwise the cut is at the first one.
 use Rattle.std.proofs.Common.{sym, eq-eqb, arith}
 use Rattle.std.proofs.lemmas.Bool.{eqb-true}
 use Rattle.pef_lines.proofs.Cuts.{cut_at-none, cut_at-some}

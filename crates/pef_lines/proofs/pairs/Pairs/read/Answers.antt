@@ -1,4 +1,4 @@
--- An odd number of digits and a byte that is no digit spell nothing, and else each pair is a byte.
+-- An odd number of digits and a byte that is no digit spell nothing. Otherwise each pair is a byte.
 use Rattle.std.proofs.Common.{◌/◌, length, sym, arith}
 use Rattle.pef_lines.proofs.PairLemmas.{pairs_of-odd, pairs_of-bad, pairs_of-good}
 use Rattle.pef_lines.proofs.pairs.Pairs.read.Goals as goal
