@@ -1,15 +1,18 @@
-ghost use Rattle.std.specs.Prelude.{◌≡◌, ℕ, ◌+◌, ◌<◌};
+ghost use Rattle.std.specs.Prelude.{◌≡◌, ◌<◌};
 ghost use Rattle.pef_loader.specs.Import.{owner_of};
-ghost use Rattle.pef_loader.specs.Kept.Cursors.{IsTurn};
-ghost use Rattle.pef_loader.specs.Kept.Ranges.{AreInOrder, end_of};
+ghost use Rattle.pef_loader.specs.Kept.Cursors.{AreWithout, HasRange};
+ghost use Rattle.pef_loader.specs.Kept.Ranges.{AreInOrder};
 
 use crate::header::LoaderHeader;
-use crate::owner::imports_of;
+use crate::ranges::imports_of;
 use pef_words::Cut;
 use std::ops::Range;
 
-/// The library whose turn it is, where the libraries' ranges are in order and imports are asked for in
-/// rising order.
+/// One of the libraries, with the range of its imports. It moves on to the library that has an import.
+///
+/// If the libraries are in the order of their imports, one cursor finds the library of each import. It passes
+/// each library once if the imports are asked for in rising order. If the libraries are in any other order, a
+/// cursor at the first library finds the library of one import.
 #[derive(Drop)]
 pub(crate) struct OwnerCursor {
     library: usize,
@@ -17,9 +20,10 @@ pub(crate) struct OwnerCursor {
 }
 
 impl OwnerCursor {
-    /// At the first library.
+    /// Returns a cursor at the first library.
     pub(crate) fn new(cut: Cut<'_>) -> OwnerCursor
-        ensures { (n : ℕ) → IsTurn cut.entry.bytes.now n 0 result }
+        ensures range { HasRange cut.entry.bytes.now result }
+        ensures first { result.library ≡ 0 }
     {
         OwnerCursor {
             library: 0,
@@ -27,33 +31,34 @@ impl OwnerCursor {
         }
     }
 
-    /// The first library that has import `j`. The imports that were asked for before are before it.
+    /// Returns the first library that has import `j`.
     pub(crate) fn owner(&mut self, cut: Cut<'_>, header: LoaderHeader, j: usize) -> Option<usize>
-        requires order { AreInOrder cut.bytes.now header.library_count }
-        requires turn { IsTurn cut.bytes.now header.library_count j self.old }
-        ensures turn { IsTurn cut.entry.bytes.now header.library_count (j + 1) self.new }
+        requires range { HasRange cut.bytes.now self.old }
+        requires order { 0 < self.old.library → AreInOrder cut.bytes.now header.library_count }
+        ensures range { HasRange cut.entry.bytes.now self.new }
         ensures value { result ≡ owner_of cut.entry.bytes.now header j }
     {
-        self.advance(cut, header, j);
-        if self.library >= header.library_count as usize {
-            return None;
+        if self.library >= header.library_count as usize || j < self.imports.start {
+            *self = OwnerCursor::new(cut);
         }
-        if j < self.imports.start {
-            return None;
-        }
-        Some(self.library)
+        self.advance(cut, header, j)
     }
 
-    /// Goes on to the first library whose imports end behind import `j`.
-    fn advance(&mut self, cut: Cut<'_>, header: LoaderHeader, j: usize)
-        requires { IsTurn cut.bytes.now header.library_count j self.old }
-        ensures turn { IsTurn cut.entry.bytes.now header.library_count j self.new }
-        ensures past { self.new.library < header.library_count → j < end_of cut.entry.bytes.now self.new.library }
+    /// Moves on to the first library that has import `j`. No library before this one has it.
+    fn advance(&mut self, cut: Cut<'_>, header: LoaderHeader, j: usize) -> Option<usize>
+        requires range { HasRange cut.bytes.now self.old }
+        requires passed { AreWithout cut.bytes.now self.old.library j }
+        ensures range { HasRange cut.entry.bytes.now self.new }
+        ensures value { result ≡ owner_of cut.entry.bytes.now header j }
     {
         let count = header.library_count as usize;
-        while self.library < count && self.imports.end <= j {
+        while self.library < count {
+            if self.imports.contains(&j) {
+                return Some(self.library);
+            }
             self.library += 1;
             self.imports = imports_of(cut, self.library);
         }
+        None
     }
 }

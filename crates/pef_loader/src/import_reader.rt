@@ -2,23 +2,28 @@ ghost use Rattle.std.specs.Prelude.{◌≡◌, ◌<◌, ◌↔◌, IfSome, IsSom
 ghost use Rattle.std.specs.Option.{ForSome};
 ghost use Rattle.pef_loader.specs.Import.{owner_of};
 ghost use Rattle.pef_loader.specs.Kept.Blocks.{AreOwners};
+ghost use Rattle.pef_loader.specs.Kept.Cursors.{HasRange};
 ghost use Rattle.pef_loader.specs.Loader.{import_of};
 
 use crate::block::OwnerBlock;
+use crate::cursor::OwnerCursor;
 use crate::tables::Loader;
 use pef_format::ImportView;
 
 /// Reads the imports of a loader section, for callers that want many of them and have no memory for an
 /// [`ImportTable`](crate::ImportTable).
 ///
-/// Where the libraries come in the order of their imports, each import's library is found by halving. Else,
-/// for imports in rising order, one walk over all libraries finds those of some thousand imports. In any
-/// other order it answers the same, and may walk for each import.
+/// For imports in rising order, one walk over the libraries finds the libraries of all imports if the libraries
+/// are in the order of their imports, and those of 16,384 imports if not. In any other order the answers are the
+/// same, and each may need a walk.
 #[derive(Drop)]
 pub struct ImportReader<'a> {
     loader: Loader<'a>,
+    /// Finds an import's library if the libraries are in order.
+    cursor: OwnerCursor,
     /// The last block that was painted. Libraries in order need none.
     block: Option<OwnerBlock>,
+    ghost range: { HasRange loader.cut.bytes.now cursor },
     ghost painted: { ForSome block (λ b. AreOwners loader.cut.bytes.now loader.header b.from b.cells) },
 }
 
@@ -31,11 +36,12 @@ impl<'a> ImportReader<'a> {
     {
         ImportReader {
             loader,
+            cursor: OwnerCursor::new(loader.cut),
             block: None,
         }
     }
 
-    /// Import `j`, or `None` past the last one: the answer of [`Loader::import`].
+    /// Returns import `j`, or `None` past the last one, as [`Loader::import`] does.
     #[tactic(auto, unfolding(crate::specs::Loader::import_of, crate::specs::Import::import_in))]
     pub fn import(&mut self, j: usize) -> Option<ImportView<'a>>
         ensures value { option_map import_seen result ≡ import_of (loaded self.old.loader) j }
@@ -44,9 +50,6 @@ impl<'a> ImportReader<'a> {
         ensures same { self.new.loader ≡ self.old.loader }
     {
         let loader = self.loader;
-        if loader.in_order {
-            return loader.import(j);
-        }
         if j >= loader.imports() {
             return None;
         }
@@ -54,20 +57,22 @@ impl<'a> ImportReader<'a> {
         loader.import_of(library, j)
     }
 
-    /// The first library that has import `j`, by blocks.
+    /// Returns the first library that has import `j`.
     fn owner(&mut self, j: usize) -> Option<usize>
         ensures value { result ≡ owner_of self.old.loader.cut.bytes.now self.old.loader.header j }
         ensures same { self.new.loader ≡ self.old.loader }
     {
         let loader = self.loader;
+        if loader.in_order {
+            return self.cursor.owner(loader.cut, loader.header, j);
+        }
         match &mut self.block {
             Some(block) => block.owner(loader.cut, loader.header, j),
             None => self.first_owner(j),
         }
     }
 
-    /// The same, where no block was painted yet. Inside of `owner` each import would pay for the locals of a
-    /// block.
+    /// Does the same if no block was painted yet. Inside `owner`, each call would pay for the locals of a block.
     #[inline(never)]
     fn first_owner(&mut self, j: usize) -> Option<usize>
         ensures value { result ≡ owner_of self.old.loader.cut.bytes.now self.old.loader.header j }

@@ -16,8 +16,8 @@ mod import_table;
 mod layout;
 mod library;
 mod names;
-mod owner;
 mod painting;
+mod ranges;
 mod reloc;
 mod tables;
 

@@ -2,7 +2,7 @@ ghost use Rattle.std.specs.Prelude.{◌≡◌, ◌+◌, ◌<◌, ◌≤◌, ◌^
 ghost use Rattle.pef_loader.specs.Kept.Blocks.{AreEmpty, AreOwners, AreSteps, IsPainted, IsStep, cell_library};
 
 use crate::header::LoaderHeader;
-use crate::owner::imports_of;
+use crate::ranges::imports_of;
 use pef_words::Cut;
 use std::ops::Range;
 

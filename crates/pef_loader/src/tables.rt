@@ -20,7 +20,7 @@ use crate::header::{LoaderHeader, is_entry, read_header};
 use crate::import::{read_import, test_import};
 use crate::library::{LibraryView, read_library, test_library};
 use crate::names::names_end;
-use crate::owner::{are_in_order, owner};
+use crate::ranges::are_in_order;
 use crate::reloc::{instructions, read_reloc, test_reloc};
 use pef_format::{EntryPoint, ExportView, ImportView};
 use pef_hash::Exports;
@@ -160,7 +160,8 @@ impl<'a> Loader<'a> {
         })
     }
 
-    /// Import `j`, or `None` past the last one.
+    /// Returns import `j`, or `None` past the last one. Each call walks over the libraries, from the first one on:
+    /// an [`ImportReader`](crate::ImportReader) reads many imports faster.
     #[tactic(auto, unfolding(crate::specs::Loader::import_of, crate::specs::Import::import_in))]
     pub fn import(&self, j: usize) -> Option<ImportView<'a>>
         ensures value { option_map import_seen result ≡ import_of (loaded self.now) j }
@@ -170,7 +171,7 @@ impl<'a> Loader<'a> {
         if j >= self.header.import_count as usize {
             return None;
         }
-        let library = owner(self.cut, self.header, self.in_order, j)?;
+        let library = OwnerCursor::new(self.cut).owner(self.cut, self.header, j)?;
         self.import_of(library, j)
     }
 

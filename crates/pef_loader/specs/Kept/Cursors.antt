@@ -1,12 +1,14 @@
--- Cursors over libraries whose ranges follow one another.
-use Rattle.std.specs.Prelude.{◌≡◌, ℕ, ◌≤◌, List}
+-- Cursors over libraries.
+use Rattle.std.specs.Prelude.{◌≡◌, ℕ, ◌<◌, List, false}
 use Rattle.pef_loader.specs.declared.cursor.OwnerCursor.{OwnerCursor}
-use Rattle.pef_loader.specs.Kept.Ranges.{AreBehind, end_of, first_of}
+use Rattle.pef_loader.specs.Library.{owns}
+use Rattle.pef_loader.specs.Kept.Ranges.{end_of, first_of}
 
--- a cursor stands at one of n libraries, or past the last one, with the imports of that library, and those
--- before it end before import j does
-pub record IsTurn (bytes : List ℕ) (n j : ℕ) (cursor : OwnerCursor) : Type 0 where
-  pub within : cursor.library ≤ n
-  pub behind : AreBehind bytes cursor.library j
+-- a cursor keeps the imports of its library
+pub record HasRange (bytes : List ℕ) (cursor : OwnerCursor) : Type 0 where
   pub start : cursor.imports.start ≡ first_of bytes cursor.library
   pub end : cursor.imports.end ≡ end_of bytes cursor.library
+
+-- no library before library l has import j
+abbrev pub AreWithout : List ℕ → ℕ → ℕ → Type 0
+AreWithout bytes l j = (i : ℕ) → i < l → owns bytes j i ≡ false

@@ -13,13 +13,3 @@ end_of bytes i = option_map_or (λ e. e.first + e.count) (library_at bytes i) 0
 -- the ranges of the n libraries follow one another
 abbrev pub AreInOrder : List ℕ → ℕ → Type 0
 AreInOrder bytes n = (i : ℕ) → i + 1 < n → end_of bytes i ≤ first_of bytes (i + 1)
-
--- the ranges of the libraries before l end before import j does
-abbrev pub AreBehind : List ℕ → ℕ → ℕ → Type 0
-AreBehind bytes l j = (i : ℕ) → i < l → end_of bytes i ≤ j
-
--- l is the first of the n libraries whose range ends behind import j
-pub record IsFirstPast (bytes : List ℕ) (n j l : ℕ) : Type 0 where
-  pub within : l ≤ n
-  pub behind : AreBehind bytes l j
-  pub past : l < n → j < end_of bytes l

@@ -8,14 +8,14 @@ use Rattle.pef_loader.proofs.tables.test_imports_in_order.Goals as goal
 pub loop-j-init : goal.loop-j-init
 loop-j-init c =
     let all : c.args.header.import_count - 0 ≡ c.args.header.import_count = omega arith in
-    record { left = rw all refl; turn = c.new-owners.ensures c.args.header.library_count }
+    record { left = rw all refl; range = c.new-owners.ensures.range }
 
 pub loop-j-preserved : goal.loop-j-preserved
 loop-j-preserved c =
     let under : c.loop-j.j < c.args.header.import_count = omega arith in
     record {
       left = sym (first_among-next (import_refusal c.args.cut.bytes.now c.args.header) _ _ under (sym c.in_ok-test_import.ensures)) ∙ c.loop-j.invariant.left;
-      turn = c.owner-owner.ensures.turn;
+      range = c.owner-owner.ensures.range;
     }
 
 pub returns-in_err-test_import : goal.returns-in_err-test_import

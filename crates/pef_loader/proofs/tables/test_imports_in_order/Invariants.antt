@@ -1,13 +1,13 @@
--- What is left decides, and the cursor has passed no library that can have an import which is left.
+-- What is left decides, and the cursor has the imports of its library.
 use Rattle.std.proofs.Common.{◌≡◌, ◌-◌}
 use Rattle.pef_words.specs.Refusals.{first_among}
 use Rattle.pef_loader.specs.Import.{import_refusal}
-use Rattle.pef_loader.specs.Kept.Cursors.{IsTurn}
+use Rattle.pef_loader.specs.Kept.Cursors.{HasRange}
 use Rattle.pef_loader.proofs.tables.test_imports_in_order.Given as goal
 
 abbrev pub invariant-loop-j : goal.invariant-loop-j
 invariant-loop-j l = record {
   left : first_among (import_refusal l.cut.bytes.now l.header) l.j (l.header.import_count - l.j)
       ≡ first_among (import_refusal l.cut.bytes.now l.header) 0 l.header.import_count;
-  turn : IsTurn l.cut.bytes.now l.header.library_count l.j l.owners;
+  range : HasRange l.cut.bytes.now l.owners;
 }

@@ -1,7 +1,7 @@
 -- The ranges so far follow one another, and the last of them ends here.
 use Rattle.std.proofs.Common.{◌≡◌, ℕ, ◌+◌, ◌<◌, ◌≤◌}
 use Rattle.pef_loader.specs.Kept.Ranges.{end_of, first_of}
-use Rattle.pef_loader.proofs.owner.are_in_order.Given as goal
+use Rattle.pef_loader.proofs.ranges.are_in_order.Given as goal
 
 abbrev pub invariant-loop-i : goal.invariant-loop-i
 invariant-loop-i l = record {

@@ -1,6 +1,6 @@
 -- A range that begins before the last one ends doesn't follow it.
 use Rattle.pef_loader.proofs.RangeLemmas.{out_of_order}
-use Rattle.pef_loader.proofs.owner.are_in_order.Goals as goal
+use Rattle.pef_loader.proofs.ranges.are_in_order.Goals as goal
 use Rattle.std.proofs.Common.{arith}
 
 pub returns-then-imports-end : goal.returns-then-imports-end
