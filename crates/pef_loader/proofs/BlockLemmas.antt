@@ -34,7 +34,7 @@ or-assoc : {F : Type 0} (a b c : Option F) → option_or a (option_or b c) ≡ o
 or-assoc None b c = refl
 or-assoc (Some x) b c = refl
 
--- one place more answers where none before it does
+-- one more place counts only if no place before it answers
 among-more : {F : Type 0} (answer : ℕ → Option F) (from n : ℕ) → first_among answer from (suc n) ≡ option_or (first_among answer from n) (answer (from + n))
 among-more answer from zero =
     let e : from + 0 ≡ from = omega arith in

@@ -48,7 +48,7 @@ pub accepted : (l : Loaded) → IsLoader l → IsAccepted l
 unfolding loaded_of
 accepted l ok = header_ok l (header_of l.bytes) refl ok
 
--- where the header is there and no test is met, the bytes are that loader section
+-- if there is a header and no test is met, the bytes are that loader section
 pub accepts : (l : Loaded) → IsAccepted l → IsLoader l
 unfolding loaded_of
 accepts l a = rw (a.header, a.tables, a.libraries, a.imports, a.entries, a.relocs, a.table, a.exports) refl

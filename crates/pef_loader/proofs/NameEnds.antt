@@ -1,4 +1,4 @@
--- Where the last zero byte stands, the last name ends.
+-- The last name ends at the last zero byte.
 use Rattle.std.proofs.Common.{◌≡◌, ◌≢◌, ℕ, zero, suc, ◌+◌, ◌-◌, ◌<◌, ◌≤◌, inl, inr, List, [], ◌∷◌, Option, None, Some, false, length, get_or, drop, refl, sym, ◌∙◌, ap, length-drop, arith}
 use Rattle.std.specs.Option.{is_none, option_map}
 use Rattle.std.proofs.Common.{eq-eqb}
@@ -9,12 +9,12 @@ use Rattle.pef_words.specs.Bytes.{before_zero, name_at}
 use Rattle.pef_words.proofs.Laws.Names.{before_zero-none}
 use Rattle.pef_loader.specs.Kept.Names.{NamesEndAt}
 
--- a name is there whatever stands before it
+-- a name is there, whatever comes before it
 is_none-cons : (b : ℕ) (o : Option (List ℕ)) → is_none (option_map (λ name. b ∷ name) o) ≡ is_none o
 is_none-cons b None = refl
 is_none-cons b (Some name) = refl
 
--- where there is a zero byte, there is a name before it
+-- if there is a zero byte, there is a name before it
 before_zero-there : (bytes : List ℕ) (k : ℕ) → k < length bytes → get_or bytes k 0 ≡ 0 → is_none (before_zero bytes) ≡ false
 before_zero-there [] k under here = absurd (omega arith)
 before_zero-there (b ∷ bytes) zero under here = rw (eq-eqb b 0 here) refl
@@ -25,7 +25,7 @@ before_zero-there (b ∷ bytes) (suc k) under here =
       | inr other ↦ rw other.0 (is_none-cons b (before_zero bytes) ∙ later)
     ]
 
--- without a zero byte no name stands anywhere
+-- without a zero byte there is no name
 pub no_names : (bytes : List ℕ) → ((k : ℕ) → k < length bytes → get_or bytes k 0 ≢ 0) → NamesEndAt bytes 0
 unfolding name_at
 no_names bytes nowhere at =

@@ -12,7 +12,7 @@ use Rattle.pef_loader.specs.declared.header.LoaderHeader.{LoaderHeader}
 use Rattle.pef_loader.specs.declared.fault.LoaderFault.{LoaderFault}
 use Rattle.pef_loader.specs.declared.fault.LoaderFault.TheVariants.{BadExportTable, BadName, BadExportSection}
 
--- there are no exports, or slots, keys and exports are there
+-- there are no exports, or the slots, the keys and the exports don't pass the end
 abbrev pub has_exports : List ℕ → LoaderHeader → Bool
 has_exports bytes h = has_table h.export_power h.export_count (drop h.export_hash_offset bytes)
 
@@ -25,7 +25,7 @@ export_table bytes h = record {
   strings = drop h.strings_offset bytes;
 }
 
--- what an export stands for is there: an instantiated section, or one of the imports
+-- an export's value exists: it is in an instantiated section, it is absolute, or it is that of one of the imports
 abbrev pub is_there : LoaderHeader → ℕ → ExportValue → Bool
 is_there h sections (InSection section offset) = nat_lt section sections
 is_there h sections (Absolute value) = true
@@ -34,7 +34,7 @@ is_there h sections (Reexport import) = nat_lt import h.import_count
 abbrev pub has_section : LoaderHeader → ℕ → ℕ → ℤ → Bool
 has_section h sections value section = is_export_section section && is_there h sections (value_of section value)
 
--- the tests of export i, in order; a name passes the end also where the strings begin behind it
+-- the tests of export i, in order. A name also passes the end if the strings begin after the end
 unfoldable pub export_tests : List ℕ → LoaderHeader → ℕ → ℕ → Entry → List (Bool × LoaderFault)
 export_tests bytes h sections i e = (nat_lt (length bytes) h.strings_offset || is_none (name_of (export_table bytes h) i), BadName)
     ∷ (not (has_section h sections e.value e.section), BadExportSection)
@@ -44,7 +44,7 @@ export_tests bytes h sections i e = (nat_lt (length bytes) h.strings_offset || i
 abbrev pub export_refusal : List ℕ → LoaderHeader → ℕ → ℕ → Option LoaderFault
 export_refusal bytes h sections i = option_map_or (λ e. first_met (export_tests bytes h sections i e)) (entry_of (export_table bytes h) i) (Some BadExportTable)
 
--- export i with its name; none past the last one
+-- export i with its name, or none past the last one
 unfoldable pub export_in : List ℕ → LoaderHeader → ℕ → Option Export
 export_in bytes h i = do
   e ← entry_of (export_table bytes h) i

@@ -1,4 +1,4 @@
--- The refusals of a loader section and their numbers.
+-- The errors of a loader section and their numbers.
 use Rattle.std.specs.Prelude.{ℕ, List, codes}
 use Rattle.pef_loader.specs.declared.fault.LoaderFault.{LoaderFault}
 use Rattle.pef_loader.specs.declared.fault.LoaderFault.TheVariants.{LoaderShort, BadTableOffset, BadName, BadLibraryRange, OrphanImport, BadEntry, BadRelocSection, RelocOutside, BadExportTable, BadExportSection}
@@ -15,7 +15,7 @@ fault_number RelocOutside = 18
 fault_number BadExportTable = 19
 fault_number BadExportSection = 20
 
--- the names of the refusals, which are their texts
+-- the names of the errors, which are their texts
 abbrev pub fault_name : LoaderFault → List ℕ
 fault_name LoaderShort = codes "LoaderShort"
 fault_name BadTableOffset = codes "BadTableOffset"

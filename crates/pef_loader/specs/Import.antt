@@ -12,14 +12,14 @@ use Rattle.pef_loader.specs.declared.fault.LoaderFault.TheVariants.{BadTableOffs
 use Rattle.pef_loader.specs.Header.{import_place}
 use Rattle.pef_loader.specs.Library.{owns}
 
--- import j: a class byte, whose high bit says that the symbol may be missing, and a name offset of 24
--- bits; none where it passes the end
+-- import j: a class byte, whose high bit says that the symbol may be missing, and a name offset of 24 bits. None if
+-- it passes the end
 unfoldable pub import_at : List ℕ → LoaderHeader → ℕ → Option ImportEntry
 import_at bytes h j = do
   word ← number_at 4 bytes (import_place h j)
   Some (record { class = word / 2 ^ 24 % 16; weak = word / 2 ^ 31 == 1; name_offset = word % 2 ^ 24 })
 
--- i, where library i has import j
+-- i, if library i has import j
 abbrev pub owner_at : List ℕ → ℕ → ℕ → Option ℕ
 owner_at bytes j i = if owns bytes j i then Some i else None
 

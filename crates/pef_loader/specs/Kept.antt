@@ -1,4 +1,4 @@
--- What only proofs and private contracts speak of.
+-- Definitions for proofs and private contracts.
 pub mod Accepted
 pub mod Blocks
 pub mod Cursors

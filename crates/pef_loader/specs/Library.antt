@@ -10,7 +10,7 @@ use Rattle.pef_loader.specs.declared.fault.LoaderFault.{LoaderFault}
 use Rattle.pef_loader.specs.declared.fault.LoaderFault.TheVariants.{BadTableOffset, BadName, BadLibraryRange}
 use Rattle.pef_loader.specs.Header.{library_place}
 
--- library i; none where it passes the end
+-- library i, or none if it passes the end
 unfoldable pub library_at : List ℕ → ℕ → Option LibraryEntry
 library_at bytes i = do
   name ← number_at 4 bytes (library_place i)

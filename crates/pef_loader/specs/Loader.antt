@@ -1,4 +1,4 @@
--- Which bytes are a loader section and what it consists of, or the first refusal (Mac OS Runtime
+-- Which bytes are a loader section and what it consists of, or the first rule that they break (Mac OS Runtime
 -- Architectures, "PEF Structure", "Loader Section").
 use Rattle.std.specs.Prelude.{◌≡◌, ℕ, Bool, not, List, length, Option, None, Some, Result, Ok, Err, nat_lt, ◌&&◌, if◌then◌else◌}
 use Rattle.std.specs.Option.{option_map_or}
@@ -15,22 +15,22 @@ use Rattle.pef_loader.specs.Reloc.{reloc_in, reloc_refusal}
 use Rattle.pef_format.specs.Exports.{Export}
 use Rattle.pef_loader.specs.Export.{export_in, export_refusal, export_table, has_exports}
 
--- a loader section of a container with so many instantiated sections: its bytes and its header
+-- a loader section of a container with this number of instantiated sections: its bytes and its header
 pub record Loaded : Type 0 where
   pub sections : ℕ
   pub bytes : List ℕ
   pub header : LoaderHeader
 
--- a fault, where a test is met
+-- a fault, if a test is met
 abbrev pub fault_if : Bool → LoaderFault → Option LoaderFault
 fault_if test fault = if test then Some fault else None
 
--- each entry is there in an instantiated section, or isn't there
+-- each entry point is missing, or is in an instantiated section
 abbrev pub has_entries : ℕ → LoaderHeader → Bool
 has_entries sections h = is_entry sections h.main_section && is_entry sections h.init_section && is_entry sections h.term_section
 
--- with a header: the first refusal, of the tables' length, libraries, imports, entries, relocation headers
--- and exports in turn
+-- with a header: the first rule that is broken, by the length of the tables, the libraries, the imports, the entry
+-- points, the relocation headers and the exports in turn
 abbrev pub judged : ℕ → List ℕ → LoaderHeader → Result Loaded LoaderFault
 judged sections bytes h =
     unless (fault_if (nat_lt (length bytes) (tables_end h)) BadTableOffset)
@@ -42,15 +42,15 @@ judged sections bytes h =
     (unless (first_among (export_refusal bytes h sections) 0 h.export_count)
     (Ok (record { sections = sections; bytes = bytes; header = h }))))))))
 
--- the first refusal, or what the loader section consists of
+-- the first rule that the bytes break, or what the loader section consists of
 unfoldable pub loaded_of : ℕ → List ℕ → Result Loaded LoaderFault
 loaded_of sections bytes = option_map_or (judged sections bytes) (header_of bytes) (Err LoaderShort)
 
--- what its own bytes are read as
+-- the loader section is what its bytes are read as
 abbrev pub IsLoader : Loaded → Type 0
 IsLoader l = loaded_of l.sections l.bytes ≡ Ok l
 
--- the parts of a loader section, none past the last one of each kind
+-- the parts of a loader section, or none past the last one of each kind
 unfoldable pub library_of : Loaded → ℕ → Option Library
 library_of l i = library_in l.bytes l.header i
 
@@ -63,7 +63,7 @@ reloc_of l k = reloc_in l.bytes l.header k
 unfoldable pub export_of : Loaded → ℕ → Option Export
 export_of l i = export_in l.bytes l.header i
 
--- the main entry, the initialization routine and the termination routine: section and offset
+-- the section and offset of the main entry point, the initialization routine and the termination routine
 abbrev pub main_of : Loaded → Option (ℕ × ℕ)
 main_of l = entry_of l.header.main_section l.header.main_offset
 
@@ -73,6 +73,6 @@ init_of l = entry_of l.header.init_section l.header.init_offset
 abbrev pub term_of : Loaded → Option (ℕ × ℕ)
 term_of l = entry_of l.header.term_section l.header.term_offset
 
--- the first export of a name
+-- the first export with a name
 unfoldable pub named_of : Loaded → List ℕ → Option ℕ
 named_of l name = export_named (export_table l.bytes l.header) name

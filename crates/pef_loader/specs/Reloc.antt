@@ -10,7 +10,7 @@ use Rattle.pef_loader.specs.declared.fault.LoaderFault.{LoaderFault}
 use Rattle.pef_loader.specs.declared.fault.LoaderFault.TheVariants.{BadTableOffset, BadRelocSection, RelocOutside}
 use Rattle.pef_loader.specs.Header.{reloc_place}
 
--- relocation header k; none where it passes the end
+-- relocation header k, or none if it passes the end
 unfoldable pub reloc_at : List ℕ → LoaderHeader → ℕ → Option RelocEntry
 reloc_at bytes h k = do
   section ← number_at 2 bytes (reloc_place h k)
@@ -28,7 +28,7 @@ reloc_tests bytes h sections e = (nat_le sections e.section, BadRelocSection)
 abbrev pub reloc_refusal : List ℕ → LoaderHeader → ℕ → ℕ → Option LoaderFault
 reloc_refusal bytes h sections k = option_map_or (λ e. first_met (reloc_tests bytes h sections e)) (reloc_at bytes h k) (Some BadTableOffset)
 
--- the instructions of a relocation header: its halfwords, counted from the first of all instructions
+-- the instructions of a relocation header: its halfwords, at an offset from the first of all instructions
 unfoldable pub instructions_of : List ℕ → LoaderHeader → RelocEntry → Option (List ℕ)
 instructions_of bytes h e = part_of bytes (h.reloc_instr_offset + e.first) (2 * e.count)
 

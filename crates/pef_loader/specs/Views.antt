@@ -1,4 +1,4 @@
--- What the views show of a loader section, without places in memory.
+-- What the views show of a loader section, without addresses in memory.
 use Rattle.std.specs.Prelude.{ℕ, List}
 use Rattle.std.specs.Borrow.{Bor}
 use Rattle.pef_loader.specs.declared.tables.Loader.{Loader}

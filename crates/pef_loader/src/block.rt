@@ -6,12 +6,12 @@ use crate::header::LoaderHeader;
 use crate::painting::{NO_LIBRARY, library_in, paint_owners};
 use pef_words::Cut;
 
-/// How many imports a block has. It stands on the stack, where a function pays at entry for its locals, so
-/// it is only made where libraries aren't in order.
+/// How many imports a block has. It is on the stack, and a function pays at entry for its locals. So a block is
+/// made only if the libraries aren't in order.
 const BLOCK: usize = 16_384;
 
-/// The first libraries of the imports from one on, in a cell for each import. One walk over the libraries
-/// finds them all.
+/// The first libraries of the imports from number `from` on, in a cell for each import. One walk over the
+/// libraries finds them all.
 #[derive(Drop)]
 pub(crate) struct OwnerBlock {
     from: usize,
@@ -19,7 +19,7 @@ pub(crate) struct OwnerBlock {
 }
 
 impl OwnerBlock {
-    /// The block of the imports from `from` on.
+    /// Returns the block of the imports from number `from` on.
     pub(crate) fn paint(cut: Cut<'_>, header: LoaderHeader, from: usize) -> OwnerBlock
         ensures from { result.from ≡ from }
         ensures owners { AreOwners cut.entry.bytes.now header result.from result.cells }
@@ -30,8 +30,8 @@ impl OwnerBlock {
         OwnerBlock { from, cells }
     }
 
-    /// The first library that has import `j`. Where `j` isn't of this block, the block from `j` on takes
-    /// its place.
+    /// Returns the first library that has import `j`. If `j` isn't in this block, the block from `j` on replaces
+    /// it.
     pub(crate) fn owner(&mut self, cut: Cut<'_>, header: LoaderHeader, j: usize) -> Option<usize>
         requires owners { AreOwners cut.bytes.now header self.old.from self.old.cells }
         ensures owners { AreOwners cut.entry.bytes.now header self.new.from self.new.cells }
@@ -43,8 +43,8 @@ impl OwnerBlock {
         library_in(self.cells[j - self.from])
     }
 
-    /// Makes it the block of the imports from `from` on. Inside of `owner` each import would pay for the
-    /// locals of a new block.
+    /// Replaces the block by that of the imports from number `from` on. Inside `owner`, each call would pay for
+    /// the locals of a new block.
     #[inline(never)]
     fn repaint(&mut self, cut: Cut<'_>, header: LoaderHeader, from: usize)
         ensures from { self.new.from ≡ from }

@@ -9,7 +9,7 @@ use pef_format::{ExportValue, is_export_section};
 use pef_hash::Exports;
 use pef_words::Cut;
 
-/// The bytes from an offset on, none where it passes the end.
+/// Returns the bytes from an offset on, none if it passes the end.
 pub(crate) fn bytes_from<'a>(cut: Cut<'a>, offset: u32) -> &'a [u8]
     ensures { result.now ≡ drop offset cut.entry.bytes.now }
 {
@@ -18,7 +18,7 @@ pub(crate) fn bytes_from<'a>(cut: Cut<'a>, offset: u32) -> &'a [u8]
     rest
 }
 
-/// Whether there are no exports or their whole table is there.
+/// Returns whether there are no exports, or the section has their whole table.
 pub(crate) fn has_exports(cut: Cut<'_>, header: LoaderHeader) -> bool
     ensures { result ≡ has_exports cut.entry.bytes.now header }
 {
@@ -26,7 +26,7 @@ pub(crate) fn has_exports(cut: Cut<'_>, header: LoaderHeader) -> bool
     Exports::has_table(header.export_power, header.export_count, table)
 }
 
-/// The view of the exports.
+/// Returns the view of the exports.
 pub(crate) fn exports<'a>(cut: Cut<'a>, header: LoaderHeader) -> Exports<'a>
     requires { IsTrue (has_exports cut.bytes.now header) }
     ensures { table_of result ≡ export_table cut.entry.bytes.now header }
@@ -36,7 +36,7 @@ pub(crate) fn exports<'a>(cut: Cut<'a>, header: LoaderHeader) -> Exports<'a>
     Exports::new(header.export_power, header.export_count, table, strings)
 }
 
-/// The first rule that export `i` breaks.
+/// Reports the first rule that export `i` breaks.
 #[tactic(auto, unfolding(crate::specs::Export::export_tests))]
 pub(crate) fn test_export(
     exports: Exports<'_>,
@@ -58,8 +58,8 @@ pub(crate) fn test_export(
     Ok(())
 }
 
-/// Whether what an export stands for is there: an instantiated section, or an absolute value, or one of the
-/// imports.
+/// Returns whether an export's value exists: it is in an instantiated section, it is absolute, or it is that of one
+/// of the imports.
 fn has_section(section: i32, value: u32, header: LoaderHeader, sections: u16) -> bool
     ensures { result ≡ has_section header sections value section }
 {

@@ -4,7 +4,7 @@ ghost use Rattle.pef_loader.specs.Faults.{fault_name, fault_number};
 use std::fmt;
 use thiserror::Error;
 
-/// The first rule of the format that a loader section breaks. Its text is its name.
+/// The first rule of the format that a loader section breaks. Its text is its name. `docs/ERRORS.md` describes each.
 #[derive(Clone, Copy, Debug, PartialEq, Eq, Error)]
 pub enum LoaderFault {
     /// The header passes the end.
@@ -13,16 +13,16 @@ pub enum LoaderFault {
     /// The libraries, imports and relocation headers pass the end.
     BadTableOffset,
 
-    /// A library or an import has no zero-ended name, or the name of an export passes the end.
+    /// The name of a library or an import has no zero byte at its end, or the name of an export passes the end.
     BadName,
 
-    /// A library's imports pass the total of imports.
+    /// A library's range of imports passes the number of imports.
     BadLibraryRange,
 
     /// An import belongs to no library.
     OrphanImport,
 
-    /// The main, initialization or termination entry is in no instantiated section.
+    /// The main, initialization or termination entry point is in no instantiated section.
     BadEntry,
 
     /// A relocation header names no instantiated section.
@@ -31,7 +31,7 @@ pub enum LoaderFault {
     /// Relocation instructions pass the end.
     RelocOutside,
 
-    /// There are exports, and their table passes the end or has more than 2^30 slots.
+    /// There are exports, and their hash table passes the end or has more than 2^30 slots.
     BadExportTable,
 
     /// An export is in no instantiated section, isn't absolute, and isn't one of the imports.
@@ -39,7 +39,7 @@ pub enum LoaderFault {
 }
 
 impl LoaderFault {
-    /// The refusal's number, from 11 to 20, which no refusal of another crate has.
+    /// Returns the number of the error, from 11 to 20. No error of another crate has it.
     pub fn number(&self) -> u32
         ensures { result ≡ fault_number self.now }
     {
@@ -57,7 +57,7 @@ impl LoaderFault {
         }
     }
 
-    /// The refusal's name, which is its text.
+    /// Returns the name of the error, which is its text.
     pub fn name(&self) -> &'static str
         ensures { result.now ≡ fault_name self.now }
     {

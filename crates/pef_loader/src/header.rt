@@ -12,11 +12,11 @@ use pef_format::layout::LOADER_HEADER_SIZE;
 use pef_format::{EntryPoint, is_entry_section};
 use pef_words::Cut;
 
-/// The loader header, field by field (PEFLoaderInfoHeader). Offsets count from the first byte of the
-/// loader section.
+/// The loader header, field by field (PEFLoaderInfoHeader). Offsets are relative to the first byte of the loader
+/// section.
 #[derive(Clone, Copy, Debug)]
 pub struct LoaderHeader {
-    /// The section of the main entry, or -1 for none.
+    /// The section of the main entry point, or -1 for none.
     pub main_section: i32,
     pub main_offset: u32,
     /// The section of the initialization routine, or -1 for none.
@@ -28,19 +28,19 @@ pub struct LoaderHeader {
     pub library_count: u32,
     pub import_count: u32,
     pub reloc_count: u32,
-    /// Where the relocation instructions begin.
+    /// The offset of the relocation instructions.
     pub reloc_instr_offset: u32,
-    /// Where the names begin.
+    /// The offset of the names.
     pub strings_offset: u32,
-    /// Where the export hash table begins.
+    /// The offset of the export hash table.
     pub export_hash_offset: u32,
-    /// The export hash table has two to this power of slots.
+    /// The export hash table has 2 to this power slots.
     pub export_power: u32,
     pub export_count: u32,
 }
 
 impl LoaderHeader {
-    /// Where the imported symbols begin: behind the libraries.
+    /// Returns where the imported symbols begin: after the libraries.
     pub(crate) fn imports(&self) -> usize
         ensures value { result ≡ imports_from self.now }
         ensures small { result < 2 ^ 37 }
@@ -48,7 +48,7 @@ impl LoaderHeader {
         LOADER_HEADER_SIZE + LIBRARY_SIZE * self.library_count as usize
     }
 
-    /// Where the relocation headers begin: behind the imported symbols.
+    /// Returns where the relocation headers begin: after the imported symbols.
     pub(crate) fn relocs(&self) -> usize
         ensures value { result ≡ relocs_from self.now }
         ensures small { result < 2 ^ 38 }
@@ -56,14 +56,14 @@ impl LoaderHeader {
         self.imports() + IMPORT_SIZE * self.import_count as usize
     }
 
-    /// Where the relocation headers end.
+    /// Returns where the relocation headers end.
     pub(crate) fn end(&self) -> usize
         ensures { result ≡ tables_end self.now }
     {
         self.relocs() + RELOCATION_HEADER_SIZE * self.reloc_count as usize
     }
 
-    /// Where the name with this offset begins.
+    /// Returns where the name with this offset begins.
     pub(crate) fn name(&self, offset: u32) -> usize
         ensures { result ≡ self.now.strings_offset + offset }
     {
@@ -71,7 +71,7 @@ impl LoaderHeader {
     }
 }
 
-/// The header of a loader section, or `None` where it passes the end.
+/// Reads the header of a loader section, or returns `None` if it passes the end.
 #[tactic(auto, unfolding(crate::specs::Header::header_of))]
 pub(crate) fn read_header(cut: Cut<'_>) -> Option<LoaderHeader>
     ensures { result ≡ header_of cut.entry.bytes.now }
@@ -94,7 +94,7 @@ pub(crate) fn read_header(cut: Cut<'_>) -> Option<LoaderHeader>
     })
 }
 
-/// Whether an entry point isn't there or is in one of the instantiated sections.
+/// Returns whether an entry point is missing or is in one of the instantiated sections.
 pub(crate) fn is_entry(section: i32, sections: u16) -> bool
     ensures { result ≡ is_entry sections section }
 {

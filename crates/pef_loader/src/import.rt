@@ -17,7 +17,7 @@ pub(crate) struct ImportEntry {
     pub name_offset: u32,
 }
 
-/// Import `j`, or `None` where it passes the end.
+/// Reads import `j`, or returns `None` if it passes the end.
 #[tactic(auto, unfolding(crate::specs::Import::import_at))]
 pub(crate) fn read_import(cut: Cut<'_>, header: LoaderHeader, j: usize) -> Option<ImportEntry>
     requires { j < 2 ^ 32 }
@@ -32,7 +32,7 @@ pub(crate) fn read_import(cut: Cut<'_>, header: LoaderHeader, j: usize) -> Optio
     })
 }
 
-/// The first rule that import `j` breaks.
+/// Reports the first rule that import `j` breaks.
 #[tactic(auto, unfolding(crate::specs::Import::import_tests))]
 pub(crate) fn test_import(
     cut: Cut<'_>,

@@ -31,13 +31,13 @@ pub struct LibraryView<'a> {
     pub name: &'a [u8],
     /// The version of the library's definition that the fragment was linked with.
     pub current: u32,
-    /// The oldest version of an implementation that the fragment takes.
+    /// The oldest version of an implementation that the fragment accepts.
     pub old_imp: u32,
-    /// How many of the imports are the library's.
+    /// How many imports the library has.
     pub count: u32,
     /// The first of them.
     pub first: u32,
-    /// The byte of the library's [`options`](Self::options).
+    /// The options byte, which [`options`](Self::options) decodes.
     pub options: u8,
 }
 
@@ -50,7 +50,7 @@ impl<'a> LibraryView<'a> {
     }
 }
 
-/// Library `i`, or `None` where it passes the end.
+/// Reads library `i`, or returns `None` if it passes the end.
 #[tactic(auto, unfolding(crate::specs::Library::library_at))]
 pub(crate) fn read_library(cut: Cut<'_>, i: usize) -> Option<LibraryEntry>
     requires { i < 2 ^ 32 }
@@ -67,7 +67,7 @@ pub(crate) fn read_library(cut: Cut<'_>, i: usize) -> Option<LibraryEntry>
     })
 }
 
-/// The first rule that library `i` breaks.
+/// Reports the first rule that library `i` breaks.
 #[tactic(auto, unfolding(crate::specs::Library::library_tests))]
 pub(crate) fn test_library(
     cut: Cut<'_>,

@@ -6,10 +6,10 @@ use crate::ranges::imports_of;
 use pef_words::Cut;
 use std::ops::Range;
 
-/// The cell of an import that no library has: no library has this number.
+/// The cell of an import without a library. No library has this number.
 pub(crate) const NO_LIBRARY: u32 = u32::MAX;
 
-/// The library that a cell says.
+/// Returns the number of the library that a cell holds.
 pub(crate) fn library_in(cell: u32) -> Option<usize>
     ensures { result ≡ cell_library cell }
 {
@@ -19,10 +19,10 @@ pub(crate) fn library_in(cell: u32) -> Option<usize>
     Some(cell as usize)
 }
 
-/// Paints the cells of the imports from `from` on, each cell by the first library that has its import.
+/// Paints the cells of the imports from number `from` on, each with the first library that has its import.
 ///
-/// At first each cell is empty. A step says how far a cell is from a later one, where all cells between
-/// the two are painted: at first that is 1.
+/// At first each cell is empty. The step of a cell leads to a later cell, and all cells between the two are
+/// painted. At first each step is 1.
 pub(crate) fn paint_owners(
     cut: Cut<'_>,
     header: LoaderHeader,
@@ -44,7 +44,7 @@ pub(crate) fn paint_owners(
     }
 }
 
-/// Writes a library into those cells of its imports that no library before it has painted.
+/// Writes a library into the cells of its imports that are still empty.
 fn paint(cells: &mut [u32], steps: &mut [u32], imports: Range<usize>, library: u32)
     requires few { length cells.old < 2 ^ 32 }
     requires order { imports.start ≤ imports.end }
@@ -59,7 +59,7 @@ fn paint(cells: &mut [u32], steps: &mut [u32], imports: Range<usize>, library: u
     }
 }
 
-/// Writes a library into a cell that is empty, and tells the next cell to look at.
+/// Writes a library into a cell if the cell is empty, and returns the next cell to look at.
 fn paint_cell(cells: &mut [u32], steps: &mut [u32], k: usize, library: u32) -> usize
     requires few { length cells.old < 2 ^ 32 }
     requires within { k < length cells.old }
@@ -76,8 +76,8 @@ fn paint_cell(cells: &mut [u32], steps: &mut [u32], k: usize, library: u32) -> u
     k + steps[k] as usize
 }
 
-/// Where the step from a cell leads to a painted cell, it goes on by that cell's own step. Each walk
-/// over painted cells halves the next one, so libraries with the same imports don't walk them anew.
+/// Adds to the step of a cell that of the cell it leads to, if that one is painted. Each walk over painted cells
+/// halves the number of steps of the next one, so libraries that share imports don't walk over them in full.
 fn lengthen(cells: &[u32], steps: &mut [u32], k: usize)
     requires few { length cells.now < 2 ^ 32 }
     requires within { k < length cells.now }

@@ -15,13 +15,13 @@ use pef_words::Cut;
 #[derive(Clone, Copy)]
 pub(crate) struct RelocEntry {
     pub section: u16,
-    /// How many halfwords of instructions there are.
+    /// The number of halfwords of instructions.
     pub count: u32,
-    /// Where they begin, counted in bytes from the first of all instructions.
+    /// Where they begin, in bytes from the first of all instructions.
     pub first: u32,
 }
 
-/// Relocation header `k`, or `None` where it passes the end.
+/// Reads relocation header `k`, or returns `None` if it passes the end.
 #[tactic(auto, unfolding(crate::specs::Reloc::reloc_at))]
 pub(crate) fn read_reloc(cut: Cut<'_>, header: LoaderHeader, k: usize) -> Option<RelocEntry>
     requires { k < 2 ^ 32 }
@@ -35,7 +35,7 @@ pub(crate) fn read_reloc(cut: Cut<'_>, header: LoaderHeader, k: usize) -> Option
     })
 }
 
-/// The first rule that relocation header `k` breaks.
+/// Reports the first rule that relocation header `k` breaks.
 #[tactic(auto, unfolding(crate::specs::Reloc::reloc_tests, crate::specs::Reloc::instructions_of, pef_words::specs::Bytes::part_of))]
 pub(crate) fn test_reloc(
     cut: Cut<'_>,
@@ -56,7 +56,7 @@ pub(crate) fn test_reloc(
     Ok(())
 }
 
-/// The instructions of a relocation header, or `None` where they pass the end.
+/// Returns the instructions of a relocation header, or `None` if they pass the end.
 #[tactic(auto, unfolding(crate::specs::Reloc::instructions_of))]
 pub(crate) fn instructions<'a>(
     cut: Cut<'a>,

@@ -27,10 +27,10 @@ use pef_hash::Exports;
 use pef_views::Container;
 use pef_words::Cut;
 
-/// A loader section, seen in place.
+/// A loader section, read in place.
 ///
-/// A value of this type is the proof that its bytes broke no rule. What it gives are slices of the
-/// bytes that it was read from, which live as long as those.
+/// The bytes of such a value break no rule of the format. The slices that it returns are slices of the bytes that it
+/// was read from, and live as long as those.
 #[derive(Clone, Copy, Debug)]
 pub struct Loader<'a> {
     pub(crate) cut: Cut<'a>,
@@ -53,13 +53,13 @@ impl<'a> Loader<'a> {
     ghost use Rattle.pef_format.specs.Symbols.{import_seen};
     ghost use Rattle.pef_loader.specs.Views.{library_seen, loaded, reloc_seen};
 
-    /// The loader section of a container.
+    /// Reads the loader section of a container.
     ///
     /// # Errors
     ///
-    /// The first rule that it breaks: those of the header, of the length of the tables, of each
-    /// library, of each import, of the entries, of each relocation header, of the export table's
-    /// length and of each export.
+    /// Returns the first rule that it breaks. The rules are checked in this order: the header, the length of the
+    /// tables, each library, each import, the entry points, each relocation header, the length of the export table,
+    /// each export.
     pub fn read(container: &Container<'a>) -> Result<Loader<'a>, LoaderFault>
         ensures { result_map loaded result
             ≡ loaded_of (contained container.now).header.instantiated_section_count (contained container.now).loader }
@@ -68,7 +68,7 @@ impl<'a> Loader<'a> {
         Loader::read_cut(Cut::new(container.loader()), sections)
     }
 
-    /// The loader section of a container with so many instantiated sections.
+    /// Reads the loader section of a container with this number of instantiated sections.
     #[tactic(auto, unfolding(crate::specs::Loader::loaded_of))]
     fn read_cut(cut: Cut<'a>, sections: u16) -> Result<Loader<'a>, LoaderFault>
         ensures value { result_map loaded result ≡ loaded_of sections cut.entry.bytes.now }
@@ -100,14 +100,14 @@ impl<'a> Loader<'a> {
         })
     }
 
-    /// The loader header.
+    /// Returns the loader header.
     pub fn header(&self) -> LoaderHeader
         ensures { result ≡ (loaded self.now).header }
     {
         self.header
     }
 
-    /// The number of libraries.
+    /// Returns the number of libraries.
     pub fn libraries(&self) -> usize
         ensures count { result ≡ (loaded self.now).header.library_count }
         ensures small { result < 2 ^ 32 }
@@ -115,7 +115,7 @@ impl<'a> Loader<'a> {
         self.header.library_count as usize
     }
 
-    /// The number of imports.
+    /// Returns the number of imports.
     pub fn imports(&self) -> usize
         ensures count { result ≡ (loaded self.now).header.import_count }
         ensures small { result < 2 ^ 32 }
@@ -123,7 +123,7 @@ impl<'a> Loader<'a> {
         self.header.import_count as usize
     }
 
-    /// The number of relocation headers.
+    /// Returns the number of relocation headers.
     pub fn relocs(&self) -> usize
         ensures count { result ≡ (loaded self.now).header.reloc_count }
         ensures small { result < 2 ^ 32 }
@@ -131,7 +131,7 @@ impl<'a> Loader<'a> {
         self.header.reloc_count as usize
     }
 
-    /// The number of exports.
+    /// Returns the number of exports.
     pub fn exports(&self) -> usize
         ensures count { result ≡ (loaded self.now).header.export_count }
         ensures small { result < 2 ^ 32 }
@@ -139,7 +139,7 @@ impl<'a> Loader<'a> {
         self.header.export_count as usize
     }
 
-    /// Library `i`, or `None` past the last one.
+    /// Returns library `i`, or `None` past the last one.
     #[tactic(auto, unfolding(crate::specs::Loader::library_of, crate::specs::Library::library_in))]
     pub fn library(&self, i: usize) -> Option<LibraryView<'a>>
         ensures value { option_map library_seen result ≡ library_of (loaded self.now) i }
@@ -160,8 +160,10 @@ impl<'a> Loader<'a> {
         })
     }
 
-    /// Returns import `j`, or `None` past the last one. Each call walks over the libraries, from the first one on:
-    /// an [`ImportReader`](crate::ImportReader) reads many imports faster.
+    /// Returns import `j`, or `None` past the last one.
+    ///
+    /// Each call searches the libraries from the first one on. An [`ImportReader`](crate::ImportReader) is faster
+    /// for many imports.
     #[tactic(auto, unfolding(crate::specs::Loader::import_of, crate::specs::Import::import_in))]
     pub fn import(&self, j: usize) -> Option<ImportView<'a>>
         ensures value { option_map import_seen result ≡ import_of (loaded self.now) j }
@@ -175,7 +177,7 @@ impl<'a> Loader<'a> {
         self.import_of(library, j)
     }
 
-    /// Import `j`, of which this is the first library.
+    /// Returns import `j`, whose first library is known.
     #[tactic(auto, unfolding(crate::specs::Loader::import_of, crate::specs::Import::import_in))]
     pub(crate) fn import_of(&self, library: usize, j: usize) -> Option<ImportView<'a>>
         requires small { j < 2 ^ 32 }
@@ -194,8 +196,7 @@ impl<'a> Loader<'a> {
         })
     }
 
-    /// The section of relocation header `k` and the bytes of its instructions, or `None` past the
-    /// last one.
+    /// Returns the section of relocation header `k` and the bytes of its instructions, or `None` past the last one.
     #[tactic(auto, unfolding(crate::specs::Loader::reloc_of, crate::specs::Reloc::reloc_in))]
     pub fn reloc(&self, k: usize) -> Option<(u32, &'a [u8])>
         ensures value { option_map reloc_seen result ≡ reloc_of (loaded self.now) k }
@@ -210,7 +211,7 @@ impl<'a> Loader<'a> {
         Some((u32::from(reloc.section), instructions))
     }
 
-    /// Export `i`, or `None` past the last one.
+    /// Returns export `i`, or `None` past the last one.
     #[tactic(auto, unfolding(crate::specs::Loader::export_of, crate::specs::Export::export_in))]
     pub fn export(&self, i: usize) -> Option<ExportView<'a>>
         ensures value { option_map export_seen result ≡ export_of (loaded self.now) i }
@@ -230,7 +231,7 @@ impl<'a> Loader<'a> {
         })
     }
 
-    /// The first export with this name. Hash words and slots have no say.
+    /// Returns the first export with this name. Hash words and slots are ignored.
     #[tactic(auto, unfolding(crate::specs::Loader::named_of))]
     pub fn export_named(&self, name: &[u8]) -> Option<usize>
         ensures value { result ≡ named_of (loaded self.now) name.now }
@@ -239,7 +240,7 @@ impl<'a> Loader<'a> {
         self.exports.find(name)
     }
 
-    /// The section and offset of the main entry, where there is one.
+    /// Returns the section and offset of the main entry point, if there is one.
     pub fn main(&self) -> Option<(u32, u32)>
         ensures value { result ≡ main_of (loaded self.now) }
         ensures section { IfSome result (λ e. e.0 < (loaded self.now).sections) }
@@ -247,7 +248,7 @@ impl<'a> Loader<'a> {
         self.entry(self.header.main_section, self.header.main_offset)
     }
 
-    /// The section and offset of the initialization routine, where there is one.
+    /// Returns the section and offset of the initialization routine, if there is one.
     pub fn init(&self) -> Option<(u32, u32)>
         ensures value { result ≡ init_of (loaded self.now) }
         ensures section { IfSome result (λ e. e.0 < (loaded self.now).sections) }
@@ -255,7 +256,7 @@ impl<'a> Loader<'a> {
         self.entry(self.header.init_section, self.header.init_offset)
     }
 
-    /// The section and offset of the termination routine, where there is one.
+    /// Returns the section and offset of the termination routine, if there is one.
     pub fn term(&self) -> Option<(u32, u32)>
         ensures value { result ≡ term_of (loaded self.now) }
         ensures section { IfSome result (λ e. e.0 < (loaded self.now).sections) }
@@ -263,7 +264,7 @@ impl<'a> Loader<'a> {
         self.entry(self.header.term_section, self.header.term_offset)
     }
 
-    /// An entry, or `None` where it isn't there.
+    /// Returns the section and offset of an entry point, or `None` if it is missing.
     fn entry(&self, section: i32, offset: u32) -> Option<(u32, u32)>
         requires { IsTrue (is_entry (loaded self.now).sections section) }
         ensures value { result ≡ entry_of section offset }
@@ -274,7 +275,7 @@ impl<'a> Loader<'a> {
     }
 }
 
-/// The first refusal of a library, library by library.
+/// Reports the first rule that a library breaks, library by library.
 fn test_libraries(cut: Cut<'_>, header: LoaderHeader, names_end: usize) -> Result<(), LoaderFault>
     requires { NamesEndAt cut.bytes.now names_end }
     ensures { result_err result
@@ -286,7 +287,7 @@ fn test_libraries(cut: Cut<'_>, header: LoaderHeader, names_end: usize) -> Resul
     )
 }
 
-/// The first refusal of an import, import by import.
+/// Reports the first rule that an import breaks, import by import.
 fn test_imports(
     cut: Cut<'_>,
     header: LoaderHeader,
@@ -305,7 +306,7 @@ fn test_imports(
     }
 }
 
-/// The same, where the libraries come in the order of their imports.
+/// Does the same if the libraries are in the order of their imports.
 fn test_imports_in_order(
     cut: Cut<'_>,
     header: LoaderHeader,
@@ -324,7 +325,7 @@ fn test_imports_in_order(
     Ok(())
 }
 
-/// The same in any order. Each call of `test_imports` would pay for the locals, if it stood there.
+/// Does the same for libraries in any order. Inside `test_imports`, each call would pay for the locals.
 #[inline(never)]
 fn test_imports_by_blocks(
     cut: Cut<'_>,
@@ -343,7 +344,7 @@ fn test_imports_by_blocks(
     Ok(())
 }
 
-/// Whether each entry isn't there or is in an instantiated section.
+/// Returns whether each entry point is missing or is in an instantiated section.
 fn has_entries(header: LoaderHeader, sections: u16) -> bool
     ensures { result ≡ has_entries sections header }
 {
@@ -352,7 +353,7 @@ fn has_entries(header: LoaderHeader, sections: u16) -> bool
         && is_entry(header.term_section, sections)
 }
 
-/// The first refusal of a relocation header, header by header.
+/// Reports the first rule that a relocation header breaks, header by header.
 fn test_relocs(cut: Cut<'_>, header: LoaderHeader, sections: u16) -> Result<(), LoaderFault>
     ensures { result_err result
         ≡ first_among (reloc_refusal cut.entry.bytes.now header sections) 0 header.reloc_count }
@@ -360,7 +361,7 @@ fn test_relocs(cut: Cut<'_>, header: LoaderHeader, sections: u16) -> Result<(), 
     test_each(header.reloc_count, |k| test_reloc(cut, header, sections, k))
 }
 
-/// The first refusal of an export, export by export.
+/// Reports the first rule that an export breaks, export by export.
 fn test_exports(
     exports: Exports<'_>,
     cut: Cut<'_>,
@@ -377,7 +378,7 @@ fn test_exports(
     )
 }
 
-/// The first refusal of the rows of a table, row by row.
+/// Reports the first rule that a row of a table breaks, row by row.
 fn test_each<F: Fn(usize) -> Result<(), LoaderFault>>(
     count: u32,
     test: F,

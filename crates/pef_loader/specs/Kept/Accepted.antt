@@ -9,7 +9,7 @@ use Rattle.pef_loader.specs.Reloc.{reloc_refusal}
 use Rattle.pef_loader.specs.Export.{export_refusal, has_exports}
 use Rattle.pef_loader.specs.Loader.{Loaded, fault_if, has_entries}
 
--- `IsLoader` in other words: the header is there and no test is met
+-- `IsLoader` part by part: there is a header, and no test fails
 pub record IsAccepted (l : Loaded) : Type 0 where
   pub header : header_of l.bytes ≡ Some l.header
   pub tables : fault_if (nat_lt (length l.bytes) (tables_end l.header)) BadTableOffset ≡ None

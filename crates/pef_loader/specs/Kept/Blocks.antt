@@ -1,10 +1,10 @@
--- Cells of owners: a cell for each import of a run, which says the first library that has it.
+-- Cells of owners: a cell for each import of a run, which holds the first library that has it.
 use Rattle.std.specs.Prelude.{◌≡◌, ℕ, ◌+◌, ◌-◌, ◌^◌, ◌<◌, ◌≤◌, ◌==◌, ◌&&◌, false, List, Option, Some, None, length, nat_le, nat_lt, slice_index, if◌then◌else◌}
 use Rattle.pef_words.specs.Refusals.{first_among}
 use Rattle.pef_loader.specs.declared.header.LoaderHeader.{LoaderHeader}
 use Rattle.pef_loader.specs.Import.{owner_at}
 
--- what a cell says: the library of this number, or none
+-- what a cell means: the library with this number, or none
 abbrev pub cell_library : ℕ → Option ℕ
 cell_library cell = if cell == 2 ^ 32 - 1 then None else Some cell
 
@@ -16,7 +16,7 @@ AreEmpty cells = (k : ℕ) → k < length cells → slice_index cells k ≡ 2 ^ 
 abbrev pub ArePainted : List ℕ → ℕ → ℕ → Type 0
 ArePainted cells low high = (k : ℕ) → low ≤ k → k < high → (slice_index cells k == 2 ^ 32 - 1) ≡ false
 
--- from a cell on to the next one to look at, not past the end, and over painted cells alone
+-- a step from a cell to a later one, not past the end, and over painted cells alone
 pub record IsStep (cells : List ℕ) (k next : ℕ) : Type 0 where
   pub ahead : k < next
   pub within : next ≤ length cells
@@ -32,11 +32,11 @@ pub record IsPainted (old new : List ℕ) (start end cell : ℕ) : Type 0 where
   pub as_many : length new ≡ length old
   pub each : (k : ℕ) → k < length old → slice_index new k ≡ (if (nat_le start k && nat_lt k end) && (slice_index old k == 2 ^ 32 - 1) then cell else slice_index old k)
 
--- each cell says the owner of its import among the libraries before library l; the first cell is that of
--- import `from`
+-- each cell holds the owner of its import among the libraries before library l. The first cell is that of import
+-- `from`
 abbrev pub AreOwnersBefore : List ℕ → ℕ → ℕ → List ℕ → Type 0
 AreOwnersBefore bytes l from cells = (k : ℕ) → k < length cells → cell_library (slice_index cells k) ≡ first_among (owner_at bytes (from + k)) 0 l
 
--- each cell says the owner of its import
+-- each cell holds the owner of its import
 abbrev pub AreOwners : List ℕ → LoaderHeader → ℕ → List ℕ → Type 0
 AreOwners bytes h from cells = AreOwnersBefore bytes h.library_count from cells

@@ -1,4 +1,4 @@
--- The search from behind finds the last zero byte, or none.
+-- The backward search finds the last zero byte, or none.
 use Rattle.std.proofs.Common.{eq-eqb, arith}
 use Rattle.std.proofs.lemmas.Bool.{eqb-true}
 use Rattle.pef_loader.proofs.NameEnds.{names_to_last, no_names}

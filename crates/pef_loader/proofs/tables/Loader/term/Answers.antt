@@ -1,4 +1,4 @@
--- The section is the same number behind the cast as before it.
+-- The cast keeps the number of the section.
 use Rattle.std.proofs.Common.{◌≡◌, ◌∙◌, ap, arith}
 use Rattle.std.specs.Int.{w32, cast_signed, cast_unsigned}
 use Rattle.std.proofs.lemmas.Int.{to_z-of_z}
