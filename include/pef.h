@@ -4,7 +4,7 @@
  * Build it by tools/build-library, and link with out/libpef.a or out/libpef.so. It needs nothing but the C library.
  *
  * Every call returns a number: PEF_OK; or that of a refusal, below 200; or one of the library's own, from 200 on.
- * docs/REFUSALS.md explains the refusals; pef_name() gives their names, and pef_help() a sentence or two on each. Only the
+ * docs/ERRORS.md explains the refusals; pef_name() gives their names, and pef_help() a sentence or two on each. Only the
  * first refusal is reported.
  *
  * What the caller owes, in every call:

@@ -19,7 +19,7 @@ PEF_LIBRARY names, then for out/libpef.so beside this folder, then for an instal
 Names of fragments, libraries and symbols are `str`. In a container they are bytes, and here each byte is the character that it
 is in Mac Roman, so nothing is lost. Where a name is asked for, `bytes` are taken too.
 
-A refusal is a PefError, with the number and the name of docs/REFUSALS.md.
+A refusal is a PefError, with the number and the name of docs/ERRORS.md.
 """
 from __future__ import annotations
 
@@ -67,7 +67,7 @@ Text = Union[str, bytes]
 class PefError(Exception):
     """A refusal, or another answer of the library that isn't success.
 
-    `number` and `name` are those of docs/REFUSALS.md. `names` has what the library says beside them, by the words
+    `number` and `name` are those of docs/ERRORS.md. `names` has what the library says beside them, by the words
     "line", "fragment", "library" and "symbol": only those that there are.
     """
 
