@@ -6,6 +6,7 @@ mod FragmentLemmas
 mod FrameLemmas
 mod HopFacts
 mod HopLemmas
+mod ImportLemmas
 mod InitLemmas
 mod KnownLemmas
 pub mod Laws

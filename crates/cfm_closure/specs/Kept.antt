@@ -2,6 +2,7 @@
 pub mod Bindings
 pub mod Found
 pub mod Hops
+pub mod Imports
 pub mod Lending
 pub mod Numbers
 pub mod Paths

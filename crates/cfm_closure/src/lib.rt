@@ -14,6 +14,7 @@ mod closing;
 mod fault;
 mod fragment;
 mod hops;
+mod import_table;
 mod init_order;
 mod libraries;
 mod place_table;

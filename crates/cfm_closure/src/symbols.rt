@@ -4,9 +4,9 @@ ghost use Rattle.cfm_closure.specs.Fragments.{import_at, library_count};
 ghost use Rattle.cfm_closure.specs.Kept.Symbols.{AreSymbolsOf, table_at};
 
 use crate::bindings::Bindings;
+use crate::import_table::ImportTable;
 use crate::place_table::PlaceTable;
 use pef_format::ImportView;
-use pef_loader::ImportTable;
 use std::alloc::{AllocError, Global};
 
 /// The imports of the fragments of a closure. The imports of a fragment are read once, all together, when

@@ -10,8 +10,7 @@ use crate::cursor::OwnerCursor;
 use crate::tables::Loader;
 use pef_format::ImportView;
 
-/// Reads the imports of a loader section, for callers that want many of them and have no memory for an
-/// [`ImportTable`](crate::ImportTable).
+/// Reads many imports of a loader section, each with its library, and allocates nothing.
 ///
 /// For imports in rising order, one walk over the libraries finds the libraries of all imports if the libraries
 /// are in the order of their imports, and those of 16,384 imports if not. In any other order the answers are the
@@ -31,6 +30,7 @@ impl<'a> ImportReader<'a> {
     ghost use Rattle.pef_format.specs.Symbols.{import_seen};
     ghost use Rattle.pef_loader.specs.Views.{loaded};
 
+    /// Returns a reader of the imports of a loader section.
     pub fn new(loader: Loader<'a>) -> ImportReader<'a>
         ensures { result.loader ≡ loader.entry }
     {

@@ -1,6 +1,6 @@
 use crate::fixture::refused_loader;
 use pef_format::{ExportValue, ImportView, LibraryOptions, SymbolClass};
-use pef_loader::{ImportReader, ImportTable, Loader, LoaderHeader};
+use pef_loader::{ImportReader, Loader, LoaderHeader};
 use pef_views::Container;
 use std::alloc::Global;
 use std::process::Abort;
@@ -286,15 +286,15 @@ fn test_import(rt: &impl Abort, j: usize, import: Option<ImportView<'_>>) {
     assert!(rt; imported(import) == IMPORTED.get(j).copied(), "import {j}");
 }
 
-/// Tests that imports are read one by one, by a reader, and from a table. The last one that is tried doesn't exist.
-fn test_imports(rt: &impl Abort, alloc: Global, loader: &Loader<'_>) {
+/// Tests that imports are read one by one, and by a reader. There is no import 3. Then the reader goes back to the
+/// first library.
+fn test_imports(rt: &impl Abort, loader: &Loader<'_>) {
     let mut reader = ImportReader::new(*loader);
-    let table = ImportTable::read(alloc, *loader).expect(rt, "memory");
     for j in 0..=3 {
         test_import(rt, j, loader.import(j));
         test_import(rt, j, reader.import(j));
-        test_import(rt, j, table.get(j));
     }
+    test_import(rt, 0, reader.import(0));
 }
 
 /// Tests that there are no entries, and no export of a name.
@@ -311,7 +311,7 @@ fn libraries_and_imports(rt: HostRuntime) {
     let loader = Loader::read(&container).expect(&rt, "a loader section");
     test_libraries(&rt, &loader);
     test_nothing_else(&rt, &loader);
-    test_imports(&rt, rt.alloc(), &loader);
+    test_imports(&rt, &loader);
 }
 
 /// In order, library `M` has import 2 alone.
@@ -323,7 +323,7 @@ fn imports_in_order(rt: HostRuntime) {
     );
     let container = Container::read(&bytes).expect(&rt, "a container");
     let loader = Loader::read(&container).expect(&rt, "a loader section");
-    test_imports(&rt, rt.alloc(), &loader);
+    test_imports(&rt, &loader);
 }
 
 /// A loader section alone, with 16,386 imports and two libraries out of order: library 0 has the last two
@@ -369,26 +369,19 @@ fn library_of(import: Option<ImportView<'_>>) -> Option<usize> {
     Some(import?.library)
 }
 
-/// Tests that imports are read by a reader, and from a table.
-fn test_owned(rt: &impl Abort, alloc: Global, loader: Loader<'_>) {
-    let mut reader = ImportReader::new(loader);
-    let table = ImportTable::read(alloc, loader).expect(rt, "memory");
-    for (j, library) in OWNED {
-        assert!(rt; library_of(reader.import(*j)) == *library, "import {j}");
-        assert!(rt; library_of(table.get(*j)) == *library, "import {j}");
-    }
-}
-
 /// Tests the imports of a loader section of two blocks.
-fn test_two_blocks(rt: &impl Abort, alloc: Global, bytes: &[u8]) {
+fn test_two_blocks(rt: &impl Abort, bytes: &[u8]) {
     let container = Container::read(bytes).expect(rt, "a container");
     let loader = Loader::read(&container).expect(rt, "a loader section");
-    test_owned(rt, alloc, loader);
+    let mut reader = ImportReader::new(loader);
+    for (j, library) in OWNED {
+        assert!(rt; library_of(reader.import(*j)) == *library, "import {j}");
+    }
 }
 
 #[test]
 fn imports_of_two_blocks(rt: HostRuntime) {
     let mut bytes = vec![in rt.alloc(); 0; 65_720].expect(&rt, "memory");
     change_words(&mut bytes, TWO_BLOCKS).expect(&rt, "places in the container");
-    test_two_blocks(&rt, rt.alloc(), &bytes);
+    test_two_blocks(&rt, &bytes);
 }
