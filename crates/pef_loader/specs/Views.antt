@@ -8,7 +8,7 @@ use Rattle.pef_loader.specs.Loader.{Loaded}
 
 -- the loader section that a view shows
 abbrev pub loaded : Loader → Loaded
-loaded l = record { sections = l.sections; bytes = l.cut.bytes.now; header = l.header }
+loaded l = record { sections = l.sections; bytes = l.tables.cut.bytes.now; header = l.tables.header }
 
 abbrev pub library_seen : LibraryView → Library
 library_seen v = record { name = v.name.now; current = v.current; old_imp = v.old_imp; count = v.count; first = v.first; options = v.options }

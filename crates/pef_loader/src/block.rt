@@ -2,7 +2,7 @@ ghost use Rattle.std.specs.Prelude.{◌≡◌};
 ghost use Rattle.pef_loader.specs.Import.{owner_of};
 ghost use Rattle.pef_loader.specs.Kept.Blocks.{AreOwners};
 
-use crate::header::LoaderHeader;
+use crate::header::LoaderTables;
 use crate::painting::{NO_LIBRARY, library_in, paint_owners};
 use pef_words::Cut;
 
@@ -20,25 +20,25 @@ pub(crate) struct OwnerBlock {
 
 impl OwnerBlock {
     /// Returns the block of the imports from number `from` on.
-    pub(crate) fn paint(cut: Cut<'_>, header: LoaderHeader, from: usize) -> OwnerBlock
+    pub(crate) fn paint(tables: LoaderTables<'_>, from: usize) -> OwnerBlock
         ensures from { result.from ≡ from }
-        ensures owners { AreOwners cut.entry.bytes.now header result.from result.cells }
+        ensures owners { AreOwners tables.entry.cut.bytes.now tables.entry.header result.from result.cells }
     {
         let mut cells = [NO_LIBRARY; BLOCK];
         let mut steps = [1; BLOCK];
-        paint_owners(cut, header, from, &mut cells, &mut steps);
+        paint_owners(tables, from, &mut cells, &mut steps);
         OwnerBlock { from, cells }
     }
 
     /// Returns the first library that has import `j`. If `j` isn't in this block, the block from `j` on replaces
     /// it.
-    pub(crate) fn owner(&mut self, cut: Cut<'_>, header: LoaderHeader, j: usize) -> Option<usize>
-        requires owners { AreOwners cut.bytes.now header self.old.from self.old.cells }
-        ensures owners { AreOwners cut.entry.bytes.now header self.new.from self.new.cells }
-        ensures value { result ≡ owner_of cut.entry.bytes.now header j }
+    pub(crate) fn owner(&mut self, tables: LoaderTables<'_>, j: usize) -> Option<usize>
+        requires owners { AreOwners tables.cut.bytes.now tables.header self.old.from self.old.cells }
+        ensures owners { AreOwners tables.entry.cut.bytes.now tables.entry.header self.new.from self.new.cells }
+        ensures value { result ≡ owner_of tables.entry.cut.bytes.now tables.entry.header j }
     {
         if j < self.from || j - self.from >= BLOCK {
-            self.repaint(cut, header, j);
+            self.repaint(tables, j);
         }
         library_in(self.cells[j - self.from])
     }
@@ -46,10 +46,10 @@ impl OwnerBlock {
     /// Replaces the block by that of the imports from number `from` on. Inside `owner`, each call would pay for
     /// the locals of a new block.
     #[inline(never)]
-    fn repaint(&mut self, cut: Cut<'_>, header: LoaderHeader, from: usize)
+    fn repaint(&mut self, tables: LoaderTables<'_>, from: usize)
         ensures from { self.new.from ≡ from }
-        ensures owners { AreOwners cut.entry.bytes.now header self.new.from self.new.cells }
+        ensures owners { AreOwners tables.entry.cut.bytes.now tables.entry.header self.new.from self.new.cells }
     {
-        *self = OwnerBlock::paint(cut, header, from);
+        *self = OwnerBlock::paint(tables, from);
     }
 }

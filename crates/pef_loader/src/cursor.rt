@@ -3,7 +3,7 @@ ghost use Rattle.pef_loader.specs.Import.{owner_of};
 ghost use Rattle.pef_loader.specs.Kept.Cursors.{AreWithout, HasRange};
 ghost use Rattle.pef_loader.specs.Kept.Ranges.{AreInOrder};
 
-use crate::header::LoaderHeader;
+use crate::header::LoaderTables;
 use crate::ranges::imports_of;
 use pef_words::Cut;
 use std::ops::Range;
@@ -32,32 +32,32 @@ impl OwnerCursor {
     }
 
     /// Returns the first library that has import `j`.
-    pub(crate) fn owner(&mut self, cut: Cut<'_>, header: LoaderHeader, j: usize) -> Option<usize>
-        requires range { HasRange cut.bytes.now self.old }
-        requires order { 0 < self.old.library → AreInOrder cut.bytes.now header.library_count }
-        ensures range { HasRange cut.entry.bytes.now self.new }
-        ensures value { result ≡ owner_of cut.entry.bytes.now header j }
+    pub(crate) fn owner(&mut self, tables: LoaderTables<'_>, j: usize) -> Option<usize>
+        requires range { HasRange tables.cut.bytes.now self.old }
+        requires order { 0 < self.old.library → AreInOrder tables.cut.bytes.now tables.header.library_count }
+        ensures range { HasRange tables.entry.cut.bytes.now self.new }
+        ensures value { result ≡ owner_of tables.entry.cut.bytes.now tables.entry.header j }
     {
-        if self.library >= header.library_count as usize || j < self.imports.start {
-            *self = OwnerCursor::new(cut);
+        if self.library >= tables.header.library_count as usize || j < self.imports.start {
+            *self = OwnerCursor::new(tables.cut);
         }
-        self.advance(cut, header, j)
+        self.advance(tables, j)
     }
 
     /// Moves on to the first library that has import `j`. No library before this one has it.
-    fn advance(&mut self, cut: Cut<'_>, header: LoaderHeader, j: usize) -> Option<usize>
-        requires range { HasRange cut.bytes.now self.old }
-        requires passed { AreWithout cut.bytes.now self.old.library j }
-        ensures range { HasRange cut.entry.bytes.now self.new }
-        ensures value { result ≡ owner_of cut.entry.bytes.now header j }
+    fn advance(&mut self, tables: LoaderTables<'_>, j: usize) -> Option<usize>
+        requires range { HasRange tables.cut.bytes.now self.old }
+        requires passed { AreWithout tables.cut.bytes.now self.old.library j }
+        ensures range { HasRange tables.entry.cut.bytes.now self.new }
+        ensures value { result ≡ owner_of tables.entry.cut.bytes.now tables.entry.header j }
     {
-        let count = header.library_count as usize;
+        let count = tables.header.library_count as usize;
         while self.library < count {
             if self.imports.contains(&j) {
                 return Some(self.library);
             }
             self.library += 1;
-            self.imports = imports_of(cut, self.library);
+            self.imports = imports_of(tables.cut, self.library);
         }
         None
     }

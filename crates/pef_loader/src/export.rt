@@ -4,7 +4,7 @@ ghost use Rattle.pef_hash.specs.Views.{table_of};
 ghost use Rattle.pef_loader.specs.Export.{export_refusal, export_table, export_tests, has_exports, has_section};
 
 use crate::fault::LoaderFault;
-use crate::header::LoaderHeader;
+use crate::header::{LoaderHeader, LoaderTables};
 use pef_format::{ExportValue, is_export_section};
 use pef_hash::Exports;
 use pef_words::Cut;
@@ -19,20 +19,22 @@ pub(crate) fn bytes_from<'a>(cut: Cut<'a>, offset: u32) -> &'a [u8]
 }
 
 /// Returns whether there are no exports, or the section has their whole table.
-pub(crate) fn has_exports(cut: Cut<'_>, header: LoaderHeader) -> bool
-    ensures { result ≡ has_exports cut.entry.bytes.now header }
+pub(crate) fn has_exports(tables: LoaderTables<'_>) -> bool
+    ensures { result ≡ has_exports tables.entry.cut.bytes.now tables.entry.header }
 {
-    let table = bytes_from(cut, header.export_hash_offset);
+    let header = tables.header;
+    let table = bytes_from(tables.cut, header.export_hash_offset);
     Exports::has_table(header.export_power, header.export_count, table)
 }
 
 /// Returns the view of the exports.
-pub(crate) fn exports<'a>(cut: Cut<'a>, header: LoaderHeader) -> Exports<'a>
-    requires { IsTrue (has_exports cut.bytes.now header) }
-    ensures { table_of result ≡ export_table cut.entry.bytes.now header }
+pub(crate) fn exports<'a>(tables: LoaderTables<'a>) -> Exports<'a>
+    requires { IsTrue (has_exports tables.cut.bytes.now tables.header) }
+    ensures { table_of result ≡ export_table tables.entry.cut.bytes.now tables.entry.header }
 {
-    let table = bytes_from(cut, header.export_hash_offset);
-    let strings = bytes_from(cut, header.strings_offset);
+    let header = tables.header;
+    let table = bytes_from(tables.cut, header.export_hash_offset);
+    let strings = bytes_from(tables.cut, header.strings_offset);
     Exports::new(header.export_power, header.export_count, table, strings)
 }
 
@@ -40,19 +42,18 @@ pub(crate) fn exports<'a>(cut: Cut<'a>, header: LoaderHeader) -> Exports<'a>
 #[tactic(auto, unfolding(crate::specs::Export::export_tests))]
 pub(crate) fn test_export(
     exports: Exports<'_>,
-    cut: Cut<'_>,
-    header: LoaderHeader,
+    tables: LoaderTables<'_>,
     sections: u16,
     i: usize,
 ) -> Result<(), LoaderFault>
-    requires { table_of exports ≡ export_table cut.bytes.now header }
-    ensures { result_err result ≡ export_refusal cut.entry.bytes.now header sections i }
+    requires { table_of exports ≡ export_table tables.cut.bytes.now tables.header }
+    ensures { result_err result ≡ export_refusal tables.entry.cut.bytes.now tables.entry.header sections i }
 {
     let export = exports.entry(i).ok_or(LoaderFault::BadExportTable)?;
-    if header.strings_offset as usize > cut.len() || exports.name(i).is_none() {
+    if tables.header.strings_offset as usize > tables.cut.len() || exports.name(i).is_none() {
         return Err(LoaderFault::BadName);
     }
-    if !has_section(export.section, export.value, header, sections) {
+    if !has_section(export.section, export.value, tables.header, sections) {
         return Err(LoaderFault::BadExportSection);
     }
     Ok(())

@@ -71,6 +71,13 @@ impl LoaderHeader {
     }
 }
 
+/// The tables of a loader section: its bytes, and the header that says where each table is.
+#[derive(Clone, Copy, Debug)]
+pub(crate) struct LoaderTables<'a> {
+    pub cut: Cut<'a>,
+    pub header: LoaderHeader,
+}
+
 /// Reads the header of a loader section, or returns `None` if it passes the end.
 #[tactic(auto, unfolding(crate::specs::Header::header_of))]
 pub(crate) fn read_header(cut: Cut<'_>) -> Option<LoaderHeader>

@@ -4,7 +4,7 @@ ghost use Rattle.pef_loader.specs.Kept.Names.{NamesEndAt};
 ghost use Rattle.pef_loader.specs.Import.{import_at, import_refusal, import_tests, owner_of};
 
 use crate::fault::LoaderFault;
-use crate::header::LoaderHeader;
+use crate::header::LoaderTables;
 use crate::layout::IMPORT_SIZE;
 use pef_format::layout::{CLASS_COUNT, CLASS_SHIFT, WEAK_IMPORT};
 use pef_words::Cut;
@@ -19,11 +19,12 @@ pub(crate) struct ImportEntry {
 
 /// Reads import `j`, or returns `None` if it passes the end.
 #[tactic(auto, unfolding(crate::specs::Import::import_at))]
-pub(crate) fn read_import(cut: Cut<'_>, header: LoaderHeader, j: usize) -> Option<ImportEntry>
+pub(crate) fn read_import(tables: LoaderTables<'_>, j: usize) -> Option<ImportEntry>
     requires { j < 2 ^ 32 }
-    ensures { result ≡ import_at cut.entry.bytes.now header j }
+    ensures { result ≡ import_at tables.entry.cut.bytes.now tables.entry.header j }
 {
-    let word = cut.u32_at(header.imports() + IMPORT_SIZE * j)?;
+    let at = tables.header.imports() + IMPORT_SIZE * j;
+    let word = tables.cut.u32_at(at)?;
     let class_byte = (word >> CLASS_SHIFT) as u8;
     Some(ImportEntry {
         class: class_byte % CLASS_COUNT,
@@ -35,19 +36,18 @@ pub(crate) fn read_import(cut: Cut<'_>, header: LoaderHeader, j: usize) -> Optio
 /// Reports the first rule that import `j` breaks.
 #[tactic(auto, unfolding(crate::specs::Import::import_tests))]
 pub(crate) fn test_import(
-    cut: Cut<'_>,
-    header: LoaderHeader,
+    tables: LoaderTables<'_>,
     names_end: usize,
     owner: Option<usize>,
     j: usize,
 ) -> Result<(), LoaderFault>
-    requires names { NamesEndAt cut.bytes.now names_end }
-    requires owner { owner ≡ owner_of cut.bytes.now header j }
+    requires names { NamesEndAt tables.cut.bytes.now names_end }
+    requires owner { owner ≡ owner_of tables.cut.bytes.now tables.header j }
     requires place { j < 2 ^ 32 }
-    ensures { result_err result ≡ import_refusal cut.entry.bytes.now header j }
+    ensures { result_err result ≡ import_refusal tables.entry.cut.bytes.now tables.entry.header j }
 {
-    let import = read_import(cut, header, j).ok_or(LoaderFault::BadTableOffset)?;
-    if header.name(import.name_offset) >= names_end {
+    let import = read_import(tables, j).ok_or(LoaderFault::BadTableOffset)?;
+    if tables.header.name(import.name_offset) >= names_end {
         return Err(LoaderFault::BadName);
     }
     if owner.is_none() {

@@ -22,8 +22,8 @@ pub struct ImportReader<'a> {
     cursor: OwnerCursor,
     /// The last block that was painted. Libraries in order need none.
     block: Option<OwnerBlock>,
-    ghost range: { HasRange loader.cut.bytes.now cursor },
-    ghost painted: { ForSome block (λ b. AreOwners loader.cut.bytes.now loader.header b.from b.cells) },
+    ghost range: { HasRange loader.tables.cut.bytes.now cursor },
+    ghost painted: { ForSome block (λ b. AreOwners loader.tables.cut.bytes.now loader.tables.header b.from b.cells) },
 }
 
 impl<'a> ImportReader<'a> {
@@ -36,7 +36,7 @@ impl<'a> ImportReader<'a> {
     {
         ImportReader {
             loader,
-            cursor: OwnerCursor::new(loader.cut),
+            cursor: OwnerCursor::new(loader.tables.cut),
             block: None,
         }
     }
@@ -59,15 +59,15 @@ impl<'a> ImportReader<'a> {
 
     /// Returns the first library that has import `j`.
     fn owner(&mut self, j: usize) -> Option<usize>
-        ensures value { result ≡ owner_of self.old.loader.cut.bytes.now self.old.loader.header j }
+        ensures value { result ≡ owner_of self.old.loader.tables.cut.bytes.now self.old.loader.tables.header j }
         ensures same { self.new.loader ≡ self.old.loader }
     {
         let loader = self.loader;
         if loader.in_order {
-            return self.cursor.owner(loader.cut, loader.header, j);
+            return self.cursor.owner(loader.tables, j);
         }
         match &mut self.block {
-            Some(block) => block.owner(loader.cut, loader.header, j),
+            Some(block) => block.owner(loader.tables, j),
             None => self.first_owner(j),
         }
     }
@@ -75,12 +75,12 @@ impl<'a> ImportReader<'a> {
     /// Does the same if no block was painted yet. Inside `owner`, each call would pay for the locals of a block.
     #[inline(never)]
     fn first_owner(&mut self, j: usize) -> Option<usize>
-        ensures value { result ≡ owner_of self.old.loader.cut.bytes.now self.old.loader.header j }
+        ensures value { result ≡ owner_of self.old.loader.tables.cut.bytes.now self.old.loader.tables.header j }
         ensures same { self.new.loader ≡ self.old.loader }
     {
         let loader = self.loader;
-        let mut block = OwnerBlock::paint(loader.cut, loader.header, j);
-        let owner = block.owner(loader.cut, loader.header, j);
+        let mut block = OwnerBlock::paint(loader.tables, j);
+        let owner = block.owner(loader.tables, j);
         self.block = Some(block);
         owner
     }

@@ -5,7 +5,7 @@ ghost use Rattle.pef_loader.specs.Kept.Names.{NamesEndAt};
 ghost use Rattle.pef_loader.specs.Library.{library_at, library_refusal, library_tests};
 
 use crate::fault::LoaderFault;
-use crate::header::LoaderHeader;
+use crate::header::LoaderTables;
 use crate::layout::{
     CURRENT_VERSION_AT, FIRST_IMPORTED_SYMBOL_AT, IMPORTED_SYMBOL_COUNT_AT, LIBRARY_NAME_OFFSET_AT,
     LIBRARY_OPTIONS_AT, LIBRARY_SIZE, OLD_IMP_VERSION_AT,
@@ -70,20 +70,19 @@ pub(crate) fn read_library(cut: Cut<'_>, i: usize) -> Option<LibraryEntry>
 /// Reports the first rule that library `i` breaks.
 #[tactic(auto, unfolding(crate::specs::Library::library_tests))]
 pub(crate) fn test_library(
-    cut: Cut<'_>,
-    header: LoaderHeader,
+    tables: LoaderTables<'_>,
     names_end: usize,
     i: usize,
 ) -> Result<(), LoaderFault>
-    requires names { NamesEndAt cut.bytes.now names_end }
+    requires names { NamesEndAt tables.cut.bytes.now names_end }
     requires place { i < 2 ^ 32 }
-    ensures { result_err result ≡ library_refusal cut.entry.bytes.now header i }
+    ensures { result_err result ≡ library_refusal tables.entry.cut.bytes.now tables.entry.header i }
 {
-    let library = read_library(cut, i).ok_or(LoaderFault::BadTableOffset)?;
-    if header.name(library.name_offset) >= names_end {
+    let library = read_library(tables.cut, i).ok_or(LoaderFault::BadTableOffset)?;
+    if tables.header.name(library.name_offset) >= names_end {
         return Err(LoaderFault::BadName);
     }
-    if u64::from(library.first) + u64::from(library.count) > u64::from(header.import_count) {
+    if u64::from(library.first) + u64::from(library.count) > u64::from(tables.header.import_count) {
         return Err(LoaderFault::BadLibraryRange);
     }
     Ok(())

@@ -1,7 +1,7 @@
 ghost use Rattle.std.specs.Prelude.{◌≡◌, ◌+◌, ◌<◌, ◌≤◌, ◌^◌, length};
 ghost use Rattle.pef_loader.specs.Kept.Blocks.{AreEmpty, AreOwners, AreSteps, IsPainted, IsStep, cell_library};
 
-use crate::header::LoaderHeader;
+use crate::header::LoaderTables;
 use crate::ranges::imports_of;
 use pef_words::Cut;
 use std::ops::Range;
@@ -24,8 +24,7 @@ pub(crate) fn library_in(cell: u32) -> Option<usize>
 /// At first each cell is empty. The step of a cell leads to a later cell, and all cells between the two are
 /// painted. At first each step is 1.
 pub(crate) fn paint_owners(
-    cut: Cut<'_>,
-    header: LoaderHeader,
+    tables: LoaderTables<'_>,
     from: usize,
     cells: &mut [u32],
     steps: &mut [u32],
@@ -33,11 +32,11 @@ pub(crate) fn paint_owners(
     requires few { length cells.old < 2 ^ 32 }
     requires empty { AreEmpty cells.old }
     requires steps { AreSteps cells.old steps.old }
-    ensures owners { AreOwners cut.entry.bytes.now header from cells.new }
+    ensures owners { AreOwners tables.entry.cut.bytes.now tables.entry.header from cells.new }
     ensures len { length cells.new ≡ length cells.old }
 {
-    for i in 0..header.library_count as usize {
-        let imports = imports_of(cut, i);
+    for i in 0..tables.header.library_count as usize {
+        let imports = imports_of(tables.cut, i);
         let start = imports.start.saturating_sub(from).min(cells.len());
         let end = imports.end.saturating_sub(from).min(cells.len());
         paint(cells, steps, start..end, i as u32);

@@ -2,7 +2,7 @@ ghost use Rattle.std.specs.Prelude.{◌≡◌, ◌<◌, ◌≤◌, ◌^◌, ◌�
 ghost use Rattle.pef_loader.specs.Library.{library_at};
 ghost use Rattle.pef_loader.specs.Kept.Ranges.{AreInOrder, end_of, first_of};
 
-use crate::header::LoaderHeader;
+use crate::header::LoaderTables;
 use crate::layout::{
     FIRST_IMPORTED_SYMBOL_AT, IMPORTED_SYMBOL_COUNT_AT, LIBRARY_OPTIONS_AT, LIBRARY_SIZE,
 };
@@ -42,12 +42,12 @@ fn read_range(cut: Cut<'_>, i: usize) -> Option<(u32, u32)>
 }
 
 /// Returns whether the imports of each library follow those of the one before it.
-pub(crate) fn are_in_order(cut: Cut<'_>, header: LoaderHeader) -> bool
-    ensures { IsTrue result ↔ AreInOrder cut.entry.bytes.now header.library_count }
+pub(crate) fn are_in_order(tables: LoaderTables<'_>) -> bool
+    ensures { IsTrue result ↔ AreInOrder tables.entry.cut.bytes.now tables.entry.header.library_count }
 {
     let mut end = 0;
-    for i in 0..header.library_count as usize {
-        let imports = imports_of(cut, i);
+    for i in 0..tables.header.library_count as usize {
+        let imports = imports_of(tables.cut, i);
         if imports.start < end {
             return false;
         }

@@ -4,7 +4,7 @@ ghost use Rattle.std.specs.Option.{option_copied};
 ghost use Rattle.pef_loader.specs.Reloc.{instructions_of, reloc_at, reloc_refusal, reloc_tests};
 
 use crate::fault::LoaderFault;
-use crate::header::LoaderHeader;
+use crate::header::LoaderTables;
 use crate::layout::{
     FIRST_RELOC_OFFSET_AT, RELOC_COUNT_AT, RELOCATION_HEADER_SIZE, SECTION_INDEX_AT,
 };
@@ -23,34 +23,33 @@ pub(crate) struct RelocEntry {
 
 /// Reads relocation header `k`, or returns `None` if it passes the end.
 #[tactic(auto, unfolding(crate::specs::Reloc::reloc_at))]
-pub(crate) fn read_reloc(cut: Cut<'_>, header: LoaderHeader, k: usize) -> Option<RelocEntry>
+pub(crate) fn read_reloc(tables: LoaderTables<'_>, k: usize) -> Option<RelocEntry>
     requires { k < 2 ^ 32 }
-    ensures { result ≡ reloc_at cut.entry.bytes.now header k }
+    ensures { result ≡ reloc_at tables.entry.cut.bytes.now tables.entry.header k }
 {
-    let at = header.relocs() + RELOCATION_HEADER_SIZE * k;
+    let at = tables.header.relocs() + RELOCATION_HEADER_SIZE * k;
     Some(RelocEntry {
-        section: cut.u16_at(at + SECTION_INDEX_AT)?,
-        count: cut.u32_at(at + RELOC_COUNT_AT)?,
-        first: cut.u32_at(at + FIRST_RELOC_OFFSET_AT)?,
+        section: tables.cut.u16_at(at + SECTION_INDEX_AT)?,
+        count: tables.cut.u32_at(at + RELOC_COUNT_AT)?,
+        first: tables.cut.u32_at(at + FIRST_RELOC_OFFSET_AT)?,
     })
 }
 
 /// Reports the first rule that relocation header `k` breaks.
 #[tactic(auto, unfolding(crate::specs::Reloc::reloc_tests, crate::specs::Reloc::instructions_of, pef_words::specs::Bytes::part_of))]
 pub(crate) fn test_reloc(
-    cut: Cut<'_>,
-    header: LoaderHeader,
+    tables: LoaderTables<'_>,
     sections: u16,
     k: usize,
 ) -> Result<(), LoaderFault>
     requires { k < 2 ^ 32 }
-    ensures { result_err result ≡ reloc_refusal cut.entry.bytes.now header sections k }
+    ensures { result_err result ≡ reloc_refusal tables.entry.cut.bytes.now tables.entry.header sections k }
 {
-    let reloc = read_reloc(cut, header, k).ok_or(LoaderFault::BadTableOffset)?;
+    let reloc = read_reloc(tables, k).ok_or(LoaderFault::BadTableOffset)?;
     if reloc.section >= sections {
         return Err(LoaderFault::BadRelocSection);
     }
-    if instructions(cut, header, reloc).is_none() {
+    if instructions(tables, reloc).is_none() {
         return Err(LoaderFault::RelocOutside);
     }
     Ok(())
@@ -58,14 +57,10 @@ pub(crate) fn test_reloc(
 
 /// Returns the instructions of a relocation header, or `None` if they pass the end.
 #[tactic(auto, unfolding(crate::specs::Reloc::instructions_of))]
-pub(crate) fn instructions<'a>(
-    cut: Cut<'a>,
-    header: LoaderHeader,
-    reloc: RelocEntry,
-) -> Option<&'a [u8]>
-    ensures { option_copied result ≡ instructions_of cut.entry.bytes.now header reloc }
+pub(crate) fn instructions<'a>(tables: LoaderTables<'a>, reloc: RelocEntry) -> Option<&'a [u8]>
+    ensures { option_copied result ≡ instructions_of tables.entry.cut.bytes.now tables.entry.header reloc }
 {
-    let from = header.reloc_instr_offset as usize + reloc.first as usize;
-    let instructions = cut.part(from, HALFWORD_SIZE * reloc.count as usize)?;
+    let from = tables.header.reloc_instr_offset as usize + reloc.first as usize;
+    let instructions = tables.cut.part(from, HALFWORD_SIZE * reloc.count as usize)?;
     Some(instructions.bytes())
 }

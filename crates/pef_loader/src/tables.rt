@@ -16,7 +16,7 @@ use crate::block::OwnerBlock;
 use crate::cursor::OwnerCursor;
 use crate::export::{exports, has_exports, test_export};
 use crate::fault::LoaderFault;
-use crate::header::{LoaderHeader, is_entry, read_header};
+use crate::header::{LoaderHeader, LoaderTables, is_entry, read_header};
 use crate::import::{read_import, test_import};
 use crate::library::{LibraryView, read_library, test_library};
 use crate::names::names_end;
@@ -33,17 +33,16 @@ use pef_words::Cut;
 /// was read from, and live as long as those.
 #[derive(Clone, Copy, Debug)]
 pub struct Loader<'a> {
-    pub(crate) cut: Cut<'a>,
-    pub(crate) header: LoaderHeader,
+    pub(crate) tables: LoaderTables<'a>,
     sections: u16,
     pub(crate) in_order: bool,
     exports: Exports<'a>,
-    ghost ordered: { IsTrue in_order → AreInOrder cut.bytes.now header.library_count },
-    ghost tabled: { table_of exports ≡ export_table cut.bytes.now header },
-    pub ghost accepted: { loaded_of sections cut.bytes.now ≡ Ok (record {
+    ghost ordered: { IsTrue in_order → AreInOrder tables.cut.bytes.now tables.header.library_count },
+    ghost tabled: { table_of exports ≡ export_table tables.cut.bytes.now tables.header },
+    pub ghost accepted: { loaded_of sections tables.cut.bytes.now ≡ Ok (record {
       sections = sections;
-      bytes = cut.bytes.now;
-      header = header;
+      bytes = tables.cut.bytes.now;
+      header = tables.header;
     }) },
 }
 
@@ -72,28 +71,28 @@ impl<'a> Loader<'a> {
     #[tactic(auto, unfolding(crate::specs::Loader::loaded_of))]
     fn read_cut(cut: Cut<'a>, sections: u16) -> Result<Loader<'a>, LoaderFault>
         ensures value { result_map loaded result ≡ loaded_of sections cut.entry.bytes.now }
-        ensures order { IfOk result (λ l. AreInOrder cut.entry.bytes.now l.header.library_count → IsTrue l.in_order) }
+        ensures order { IfOk result (λ l. AreInOrder cut.entry.bytes.now l.tables.header.library_count → IsTrue l.in_order) }
     {
         let header = read_header(cut).ok_or(LoaderFault::LoaderShort)?;
         if cut.len() < header.end() {
             return Err(LoaderFault::BadTableOffset);
         }
+        let tables = LoaderTables { cut, header };
         let names_end = names_end(cut);
-        test_libraries(cut, header, names_end)?;
-        let in_order = are_in_order(cut, header);
-        test_imports(cut, header, names_end, in_order)?;
+        test_libraries(tables, names_end)?;
+        let in_order = are_in_order(tables);
+        test_imports(tables, names_end, in_order)?;
         if !has_entries(header, sections) {
             return Err(LoaderFault::BadEntry);
         }
-        test_relocs(cut, header, sections)?;
-        if !has_exports(cut, header) {
+        test_relocs(tables, sections)?;
+        if !has_exports(tables) {
             return Err(LoaderFault::BadExportTable);
         }
-        let exports = exports(cut, header);
-        test_exports(exports, cut, header, sections)?;
+        let exports = exports(tables);
+        test_exports(exports, tables, sections)?;
         Ok(Loader {
-            cut,
-            header,
+            tables,
             sections,
             in_order,
             exports,
@@ -104,7 +103,7 @@ impl<'a> Loader<'a> {
     pub fn header(&self) -> LoaderHeader
         ensures { result ≡ (loaded self.now).header }
     {
-        self.header
+        self.tables.header
     }
 
     /// Returns the number of libraries.
@@ -112,7 +111,7 @@ impl<'a> Loader<'a> {
         ensures count { result ≡ (loaded self.now).header.library_count }
         ensures small { result < 2 ^ 32 }
     {
-        self.header.library_count as usize
+        self.tables.header.library_count as usize
     }
 
     /// Returns the number of imports.
@@ -120,7 +119,7 @@ impl<'a> Loader<'a> {
         ensures count { result ≡ (loaded self.now).header.import_count }
         ensures small { result < 2 ^ 32 }
     {
-        self.header.import_count as usize
+        self.tables.header.import_count as usize
     }
 
     /// Returns the number of relocation headers.
@@ -128,7 +127,7 @@ impl<'a> Loader<'a> {
         ensures count { result ≡ (loaded self.now).header.reloc_count }
         ensures small { result < 2 ^ 32 }
     {
-        self.header.reloc_count as usize
+        self.tables.header.reloc_count as usize
     }
 
     /// Returns the number of exports.
@@ -136,7 +135,7 @@ impl<'a> Loader<'a> {
         ensures count { result ≡ (loaded self.now).header.export_count }
         ensures small { result < 2 ^ 32 }
     {
-        self.header.export_count as usize
+        self.tables.header.export_count as usize
     }
 
     /// Returns library `i`, or `None` past the last one.
@@ -146,12 +145,15 @@ impl<'a> Loader<'a> {
         ensures there { IsSome result ↔ (i < (loaded self.now).header.library_count) }
         ensures range { IfSome result (λ v. v.first + v.count ≤ (loaded self.now).header.import_count) }
     {
-        if i >= self.header.library_count as usize {
+        if i >= self.tables.header.library_count as usize {
             return None;
         }
-        let library = read_library(self.cut, i)?;
+        let library = read_library(self.tables.cut, i)?;
         Some(LibraryView {
-            name: self.cut.name_at(self.header.name(library.name_offset))?,
+            name: self
+                .tables
+                .cut
+                .name_at(self.tables.header.name(library.name_offset))?,
             current: library.current,
             old_imp: library.old_imp,
             count: library.count,
@@ -170,10 +172,10 @@ impl<'a> Loader<'a> {
         ensures there { IsSome result ↔ (j < (loaded self.now).header.import_count) }
         ensures library { IfSome result (λ v. v.library < (loaded self.now).header.library_count) }
     {
-        if j >= self.header.import_count as usize {
+        if j >= self.tables.header.import_count as usize {
             return None;
         }
-        let library = OwnerCursor::new(self.cut).owner(self.cut, self.header, j)?;
+        let library = OwnerCursor::new(self.tables.cut).owner(self.tables, j)?;
         self.import_of(library, j)
     }
 
@@ -187,9 +189,12 @@ impl<'a> Loader<'a> {
         ensures there { IsSome result }
         ensures library { IfSome result (λ v. v.library < (loaded self.now).header.library_count) }
     {
-        let import = read_import(self.cut, self.header, j)?;
+        let import = read_import(self.tables, j)?;
         Some(ImportView {
-            name: self.cut.name_at(self.header.name(import.name_offset))?,
+            name: self
+                .tables
+                .cut
+                .name_at(self.tables.header.name(import.name_offset))?,
             class: import.class,
             weak: import.weak,
             library,
@@ -203,11 +208,11 @@ impl<'a> Loader<'a> {
         ensures there { IsSome result ↔ (k < (loaded self.now).header.reloc_count) }
         ensures section { IfSome result (λ r. r.0 < (loaded self.now).sections) }
     {
-        if k >= self.header.reloc_count as usize {
+        if k >= self.tables.header.reloc_count as usize {
             return None;
         }
-        let reloc = read_reloc(self.cut, self.header, k)?;
-        let instructions = instructions(self.cut, self.header, reloc)?;
+        let reloc = read_reloc(self.tables, k)?;
+        let instructions = instructions(self.tables, reloc)?;
         Some((u32::from(reloc.section), instructions))
     }
 
@@ -218,7 +223,7 @@ impl<'a> Loader<'a> {
         ensures there { IsSome result ↔ (i < (loaded self.now).header.export_count) }
         ensures section { IfSome result (λ v. IsTrue (has_section (loaded self.now).header (loaded self.now).sections v.value v.section)) }
     {
-        if i >= self.header.export_count as usize {
+        if i >= self.tables.header.export_count as usize {
             return None;
         }
         let export = self.exports.entry(i)?;
@@ -245,7 +250,8 @@ impl<'a> Loader<'a> {
         ensures value { result ≡ main_of (loaded self.now) }
         ensures section { IfSome result (λ e. e.0 < (loaded self.now).sections) }
     {
-        self.entry(self.header.main_section, self.header.main_offset)
+        let header = self.tables.header;
+        self.entry(header.main_section, header.main_offset)
     }
 
     /// Returns the section and offset of the initialization routine, if there is one.
@@ -253,7 +259,8 @@ impl<'a> Loader<'a> {
         ensures value { result ≡ init_of (loaded self.now) }
         ensures section { IfSome result (λ e. e.0 < (loaded self.now).sections) }
     {
-        self.entry(self.header.init_section, self.header.init_offset)
+        let header = self.tables.header;
+        self.entry(header.init_section, header.init_offset)
     }
 
     /// Returns the section and offset of the termination routine, if there is one.
@@ -261,7 +268,8 @@ impl<'a> Loader<'a> {
         ensures value { result ≡ term_of (loaded self.now) }
         ensures section { IfSome result (λ e. e.0 < (loaded self.now).sections) }
     {
-        self.entry(self.header.term_section, self.header.term_offset)
+        let header = self.tables.header;
+        self.entry(header.term_section, header.term_offset)
     }
 
     /// Returns the section and offset of an entry point, or `None` if it is missing.
@@ -276,70 +284,61 @@ impl<'a> Loader<'a> {
 }
 
 /// Reports the first rule that a library breaks, library by library.
-fn test_libraries(cut: Cut<'_>, header: LoaderHeader, names_end: usize) -> Result<(), LoaderFault>
-    requires { NamesEndAt cut.bytes.now names_end }
+fn test_libraries(tables: LoaderTables<'_>, names_end: usize) -> Result<(), LoaderFault>
+    requires { NamesEndAt tables.cut.bytes.now names_end }
     ensures { result_err result
-        ≡ first_among (library_refusal cut.entry.bytes.now header) 0 header.library_count }
+        ≡ first_among (library_refusal tables.entry.cut.bytes.now tables.entry.header) 0 tables.entry.header.library_count }
 {
     test_each(
-        header.library_count,
-        |i| test_library(cut, header, names_end, i),
+        tables.header.library_count,
+        |i| test_library(tables, names_end, i),
     )
 }
 
 /// Reports the first rule that an import breaks, import by import.
 fn test_imports(
-    cut: Cut<'_>,
-    header: LoaderHeader,
+    tables: LoaderTables<'_>,
     names_end: usize,
     in_order: bool,
 ) -> Result<(), LoaderFault>
-    requires names { NamesEndAt cut.bytes.now names_end }
-    requires order { IsTrue in_order → AreInOrder cut.bytes.now header.library_count }
+    requires names { NamesEndAt tables.cut.bytes.now names_end }
+    requires order { IsTrue in_order → AreInOrder tables.cut.bytes.now tables.header.library_count }
     ensures { result_err result
-        ≡ first_among (import_refusal cut.entry.bytes.now header) 0 header.import_count }
+        ≡ first_among (import_refusal tables.entry.cut.bytes.now tables.entry.header) 0 tables.entry.header.import_count }
 {
     if in_order {
-        test_imports_in_order(cut, header, names_end)
+        test_imports_in_order(tables, names_end)
     } else {
-        test_imports_by_blocks(cut, header, names_end)
+        test_imports_by_blocks(tables, names_end)
     }
 }
 
 /// Does the same if the libraries are in the order of their imports.
-fn test_imports_in_order(
-    cut: Cut<'_>,
-    header: LoaderHeader,
-    names_end: usize,
-) -> Result<(), LoaderFault>
-    requires names { NamesEndAt cut.bytes.now names_end }
-    requires order { AreInOrder cut.bytes.now header.library_count }
+fn test_imports_in_order(tables: LoaderTables<'_>, names_end: usize) -> Result<(), LoaderFault>
+    requires names { NamesEndAt tables.cut.bytes.now names_end }
+    requires order { AreInOrder tables.cut.bytes.now tables.header.library_count }
     ensures { result_err result
-        ≡ first_among (import_refusal cut.entry.bytes.now header) 0 header.import_count }
+        ≡ first_among (import_refusal tables.entry.cut.bytes.now tables.entry.header) 0 tables.entry.header.import_count }
 {
-    let mut owners = OwnerCursor::new(cut);
-    for j in 0..header.import_count as usize {
-        let owner = owners.owner(cut, header, j);
-        test_import(cut, header, names_end, owner, j)?;
+    let mut owners = OwnerCursor::new(tables.cut);
+    for j in 0..tables.header.import_count as usize {
+        let owner = owners.owner(tables, j);
+        test_import(tables, names_end, owner, j)?;
     }
     Ok(())
 }
 
 /// Does the same for libraries in any order. Inside `test_imports`, each call would pay for the locals.
 #[inline(never)]
-fn test_imports_by_blocks(
-    cut: Cut<'_>,
-    header: LoaderHeader,
-    names_end: usize,
-) -> Result<(), LoaderFault>
-    requires { NamesEndAt cut.bytes.now names_end }
+fn test_imports_by_blocks(tables: LoaderTables<'_>, names_end: usize) -> Result<(), LoaderFault>
+    requires { NamesEndAt tables.cut.bytes.now names_end }
     ensures { result_err result
-        ≡ first_among (import_refusal cut.entry.bytes.now header) 0 header.import_count }
+        ≡ first_among (import_refusal tables.entry.cut.bytes.now tables.entry.header) 0 tables.entry.header.import_count }
 {
-    let mut owners = OwnerBlock::paint(cut, header, 0);
-    for j in 0..header.import_count as usize {
-        let owner = owners.owner(cut, header, j);
-        test_import(cut, header, names_end, owner, j)?;
+    let mut owners = OwnerBlock::paint(tables, 0);
+    for j in 0..tables.header.import_count as usize {
+        let owner = owners.owner(tables, j);
+        test_import(tables, names_end, owner, j)?;
     }
     Ok(())
 }
@@ -354,27 +353,29 @@ fn has_entries(header: LoaderHeader, sections: u16) -> bool
 }
 
 /// Reports the first rule that a relocation header breaks, header by header.
-fn test_relocs(cut: Cut<'_>, header: LoaderHeader, sections: u16) -> Result<(), LoaderFault>
+fn test_relocs(tables: LoaderTables<'_>, sections: u16) -> Result<(), LoaderFault>
     ensures { result_err result
-        ≡ first_among (reloc_refusal cut.entry.bytes.now header sections) 0 header.reloc_count }
+        ≡ first_among (reloc_refusal tables.entry.cut.bytes.now tables.entry.header sections) 0 tables.entry.header.reloc_count }
 {
-    test_each(header.reloc_count, |k| test_reloc(cut, header, sections, k))
+    test_each(
+        tables.header.reloc_count,
+        |k| test_reloc(tables, sections, k),
+    )
 }
 
 /// Reports the first rule that an export breaks, export by export.
 fn test_exports(
     exports: Exports<'_>,
-    cut: Cut<'_>,
-    header: LoaderHeader,
+    tables: LoaderTables<'_>,
     sections: u16,
 ) -> Result<(), LoaderFault>
-    requires { table_of exports ≡ export_table cut.bytes.now header }
+    requires { table_of exports ≡ export_table tables.cut.bytes.now tables.header }
     ensures { result_err result
-        ≡ first_among (export_refusal cut.entry.bytes.now header sections) 0 header.export_count }
+        ≡ first_among (export_refusal tables.entry.cut.bytes.now tables.entry.header sections) 0 tables.entry.header.export_count }
 {
     test_each(
-        header.export_count,
-        |i| test_export(exports, cut, header, sections, i),
+        tables.header.export_count,
+        |i| test_export(exports, tables, sections, i),
     )
 }
 

@@ -9,7 +9,7 @@ loop-i-preserved c =
     let size = length c.loop-i.cells in
     let from = c.args.from in
     record {
-      owners = more c.args.cut.bytes.now c.loop-i.i from c.min-start.result c.min-end.result _ c.loop-i.cells c.paint.new.cells (omega arith) c.loop-i.invariant.owners
+      owners = more c.args.tables.cut.bytes.now c.loop-i.i from c.min-start.result c.min-end.result _ c.loop-i.cells c.paint.new.cells (omega arith) c.loop-i.invariant.owners
           (c.min-start.ensures ∙ ap (λ x. min x size) (c.saturating_sub.ensures ∙ ap (λ x. x - from) c.imports_of-imports.ensures.start))
           (c.min-end.ensures ∙ ap (λ x. min x size) (c.saturating_sub-in-loop-i.ensures ∙ ap (λ x. x - from) c.imports_of-imports.ensures.end))
           (omega arith) c.paint.ensures.painted;

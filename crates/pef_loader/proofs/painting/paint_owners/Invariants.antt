@@ -5,7 +5,7 @@ use Rattle.pef_loader.proofs.painting.paint_owners.Given as goal
 
 abbrev pub invariant-loop-i : goal.invariant-loop-i
 invariant-loop-i l = record {
-  owners : AreOwnersBefore l.cut.bytes.now l.i l.from l.cells;
+  owners : AreOwnersBefore l.tables.cut.bytes.now l.i l.from l.cells;
   steps : AreSteps l.cells l.steps;
   len : length l.cells ≡ length l.fn.cells;
 }

@@ -7,7 +7,7 @@ use Rattle.pef_loader.proofs.tables.test_imports_by_blocks.Given as goal
 
 abbrev pub invariant-loop-j : goal.invariant-loop-j
 invariant-loop-j l = record {
-  left : first_among (import_refusal l.cut.bytes.now l.header) l.j (l.header.import_count - l.j)
-      ≡ first_among (import_refusal l.cut.bytes.now l.header) 0 l.header.import_count;
-  owners : AreOwners l.cut.bytes.now l.header l.owners.from l.owners.cells;
+  left : first_among (import_refusal l.tables.cut.bytes.now l.tables.header) l.j (l.tables.header.import_count - l.j)
+      ≡ first_among (import_refusal l.tables.cut.bytes.now l.tables.header) 0 l.tables.header.import_count;
+  owners : AreOwners l.tables.cut.bytes.now l.tables.header l.owners.from l.owners.cells;
 }

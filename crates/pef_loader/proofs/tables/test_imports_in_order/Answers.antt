@@ -7,19 +7,19 @@ use Rattle.pef_loader.proofs.tables.test_imports_in_order.Goals as goal
 
 pub loop-j-init : goal.loop-j-init
 loop-j-init c =
-    let all : c.args.header.import_count - 0 ≡ c.args.header.import_count = omega arith in
+    let all : c.args.tables.header.import_count - 0 ≡ c.args.tables.header.import_count = omega arith in
     record { left = rw all refl; range = c.new-owners.ensures.range }
 
 pub loop-j-preserved : goal.loop-j-preserved
 loop-j-preserved c =
-    let under : c.loop-j.j < c.args.header.import_count = omega arith in
+    let under : c.loop-j.j < c.args.tables.header.import_count = omega arith in
     record {
-      left = sym (first_among-next (import_refusal c.args.cut.bytes.now c.args.header) _ _ under (sym c.in_ok-test_import.ensures)) ∙ c.loop-j.invariant.left;
+      left = sym (first_among-next (import_refusal c.args.tables.cut.bytes.now c.args.tables.header) _ _ under (sym c.in_ok-test_import.ensures)) ∙ c.loop-j.invariant.left;
       range = c.owner-owner.ensures.range;
     }
 
 pub returns-in_err-test_import : goal.returns-in_err-test_import
 returns-in_err-test_import c =
-    let under : c.loop-j.j < c.args.header.import_count = omega arith in
+    let under : c.loop-j.j < c.args.tables.header.import_count = omega arith in
     let p = err_from_is_err_and c.from_residual.result c.from_residual.ensures.1 in
-    rw (p.1, p.2) (sym (first_among-here (import_refusal c.args.cut.bytes.now c.args.header) _ _ _ under (sym c.in_err-test_import.ensures)) ∙ c.loop-j.invariant.left)
+    rw (p.1, p.2) (sym (first_among-here (import_refusal c.args.tables.cut.bytes.now c.args.tables.header) _ _ _ under (sym c.in_err-test_import.ensures)) ∙ c.loop-j.invariant.left)

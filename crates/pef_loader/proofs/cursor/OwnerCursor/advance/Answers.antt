@@ -6,8 +6,8 @@ use Rattle.pef_loader.proofs.cursor.OwnerCursor.advance.Goals as goal
 
 pub returns-then-contains-clause-value : goal.returns-then-contains-clause-value
 returns-then-contains-clause-value c =
-    let has : owns c.args.cut.bytes.now c.args.j c.loop-self.self.library ≡ true = search rules in
-    sym (owner_first c.args.cut.bytes.now c.args.header c.args.j c.loop-self.self.library c.loop-self.invariant.passed c.loop-self-test.true has)
+    let has : owns c.args.tables.cut.bytes.now c.args.j c.loop-self.self.library ≡ true = search rules in
+    sym (owner_first c.args.tables.cut.bytes.now c.args.tables.header c.args.j c.loop-self.self.library c.loop-self.invariant.passed c.loop-self-test.true has)
 
 pub returns-clause-value : goal.returns-clause-value
-returns-clause-value c = sym (owner_none c.args.cut.bytes.now c.args.header c.args.j c.loop-self.self.library c.loop-self.invariant.passed (omega arith))
+returns-clause-value c = sym (owner_none c.args.tables.cut.bytes.now c.args.tables.header c.args.j c.loop-self.self.library c.loop-self.invariant.passed (omega arith))

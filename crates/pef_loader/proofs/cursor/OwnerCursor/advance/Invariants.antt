@@ -5,8 +5,8 @@ use Rattle.pef_loader.proofs.cursor.OwnerCursor.advance.Given as goal
 
 abbrev pub invariant-loop-self : goal.invariant-loop-self
 invariant-loop-self l = record {
-  range : HasRange l.cut.bytes.now l.self;
-  passed : AreWithout l.cut.bytes.now l.self.library l.j;
+  range : HasRange l.tables.cut.bytes.now l.self;
+  passed : AreWithout l.tables.cut.bytes.now l.self.library l.j;
 }
 
 abbrev pub decreases-loop-self : goal.decreases-loop-self

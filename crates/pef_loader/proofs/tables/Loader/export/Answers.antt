@@ -12,7 +12,7 @@ use Rattle.pef_loader.proofs.tables.Loader.export.Goals as goal
 
 pub returns-then-i-self-clause-value : goal.returns-then-i-self-clause-value
 unfolding export_of export_in entry_of
-returns-then-i-self-clause-value c = rw (le-ltb c.args.i c.args.self.now.header.export_count (omega arith)) refl
+returns-then-i-self-clause-value c = rw (le-ltb c.args.i c.args.self.now.tables.header.export_count (omega arith)) refl
 
 pub returns-in_err-export-clause-there : goal.returns-in_err-export-clause-there
 returns-in_err-export-clause-there c =

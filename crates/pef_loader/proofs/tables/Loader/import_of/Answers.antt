@@ -14,8 +14,8 @@ returns-in_err-import-clause-there c =
 pub returns-in_err-name_at-clause-there : goal.returns-in_err-name_at-clause-there
 returns-in_err-name_at-clause-there c =
     let is = import_with (loaded c.args.self.now) c.args.j c.in_ok-import.import c.args.self.now.accepted c.requires.place (sym c.in_ok-import.ensures) in
-    let nowhere = c.in_err-name_at.ensures ∙ ap (name_at c.args.self.now.cut.bytes.now) c.name.ensures ∙ is.named in
+    let nowhere = c.in_err-name_at.ensures ∙ ap (name_at c.args.self.now.tables.cut.bytes.now) c.name.ensures ∙ is.named in
     absurd (cc)
 
 pub returns-clause-library : goal.returns-clause-library
-returns-clause-library c = owner-below c.args.self.now.cut.bytes.now c.args.self.now.header c.args.j _ c.requires.library
+returns-clause-library c = owner-below c.args.self.now.tables.cut.bytes.now c.args.self.now.tables.header c.args.j _ c.requires.library

@@ -9,12 +9,12 @@ use Rattle.pef_loader.proofs.tables.Loader.init.Goals as goal
 
 pub entry-requires : goal.entry-requires
 entry-requires c =
-    let section = c.args.self.now.header.init_section in
+    let section = c.args.self.now.tables.header.init_section in
     let same : cast_signed w32 (cast_unsigned w32 section) ≡ section = search (arith, to_z-of_z) in
     rw same (entries_are (loaded c.args.self.now) c.args.self.now.accepted).init
 
 pub returns-clause-value : goal.returns-clause-value
 returns-clause-value c =
-    let header = c.args.self.now.header in
+    let header = c.args.self.now.tables.header in
     let same : cast_signed w32 (cast_unsigned w32 header.init_section) ≡ header.init_section = search (arith, to_z-of_z) in
     c.entry.ensures.value ∙ ap (λ section. entry_of section header.init_offset) same

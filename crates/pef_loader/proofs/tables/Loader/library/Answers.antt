@@ -17,7 +17,7 @@ returns-in_err-library-clause-there c =
 pub returns-in_err-name_at-clause-there : goal.returns-in_err-name_at-clause-there
 returns-in_err-name_at-clause-there c =
     let is = library_with (loaded c.args.self.now) c.args.i c.in_ok-library.library c.args.self.now.accepted (omega arith) (sym c.in_ok-library.ensures) in
-    let nowhere = c.in_err-name_at.ensures ∙ ap (name_at c.args.self.now.cut.bytes.now) c.name.ensures ∙ is.named in
+    let nowhere = c.in_err-name_at.ensures ∙ ap (name_at c.args.self.now.tables.cut.bytes.now) c.name.ensures ∙ is.named in
     absurd (cc)
 
 pub returns-clause-range : goal.returns-clause-range

@@ -9,12 +9,12 @@ use Rattle.pef_loader.proofs.tables.Loader.main.Goals as goal
 
 pub entry-requires : goal.entry-requires
 entry-requires c =
-    let section = c.args.self.now.header.main_section in
+    let section = c.args.self.now.tables.header.main_section in
     let same : cast_signed w32 (cast_unsigned w32 section) ≡ section = search (arith, to_z-of_z) in
     rw same (entries_are (loaded c.args.self.now) c.args.self.now.accepted).main
 
 pub returns-clause-value : goal.returns-clause-value
 returns-clause-value c =
-    let header = c.args.self.now.header in
+    let header = c.args.self.now.tables.header in
     let same : cast_signed w32 (cast_unsigned w32 header.main_section) ≡ header.main_section = search (arith, to_z-of_z) in
     c.entry.ensures.value ∙ ap (λ section. entry_of section header.main_offset) same
