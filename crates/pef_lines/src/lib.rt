@@ -10,4 +10,4 @@ mod words;
 
 pub use numbers::{decimal_number, hex_number};
 pub use pairs::Pairs;
-pub use words::{LINE_FEED, cut_at, last_word, next_word};
+pub use words::{LINE_FEED, cut_at, cut_near, last_word, next_word};

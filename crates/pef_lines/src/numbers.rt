@@ -5,6 +5,7 @@ ghost use Rattle.pef_lines.specs.Numbers.{below, decimal_number, digits_number, 
 const MAX_HEX_DIGITS: usize = 8;
 
 /// Returns the value of a hex digit, of either case.
+#[inline(always)]
 pub fn hex_digit(digit: u8) -> Option<u8>
     ensures { result ≡ hex_value digit }
 {
@@ -17,6 +18,7 @@ pub fn hex_digit(digit: u8) -> Option<u8>
 }
 
 /// Returns the value of a digit to a base.
+#[inline(always)]
 fn digit_to(base: u8, digit: u8) -> Option<u8>
     ensures { result ≡ below base (hex_value digit) }
 {
@@ -27,6 +29,9 @@ fn digit_to(base: u8, digit: u8) -> Option<u8>
 }
 
 /// Returns the number that digits to a base from 1 to 16 spell, if it has 32 bits.
+///
+/// Inlined where the base is known, so that only the tests of its digits are left.
+#[inline(always)]
 fn digits_number(base: u8, digits: &[u8]) -> Option<u32>
     requires least { 1 ≤ base }
     requires most { base ≤ 16 }

@@ -1,4 +1,4 @@
-ghost use Rattle.std.specs.Prelude.{◌≡◌, ◌≤◌, length, option_map};
+ghost use Rattle.std.specs.Prelude.{◌≡◌, ◌<◌, ◌≤◌, IfSome, drop, length, option_map, take};
 ghost use Rattle.std.specs.List.{list_all};
 ghost use Rattle.std.specs.Option.{option_copied};
 ghost use Rattle.pef_lines.specs.Kept.Words.{printing_len, word_parted};
@@ -18,6 +18,29 @@ pub fn cut_at(byte: u8, bytes: &[u8]) -> Option<(&[u8], &[u8])>
     let (before, rest) = bytes.split_at(at);
     let (_, behind) = rest.split_at(1);
     Some((before, behind))
+}
+
+/// Returns the same as [`cut_at`]. It takes fewer steps if the byte is near, and more if it is far.
+pub fn cut_near(byte: u8, bytes: &[u8]) -> Option<(&[u8], &[u8])>
+    ensures { option_map (λ p. (p.0.now, p.1.now)) result ≡ cut_at byte bytes.now }
+{
+    let at = place_near(byte, bytes)?;
+    let (front, rest) = bytes.split_at(at);
+    let (_, back) = rest.split_at(1);
+    Some((front, back))
+}
+
+/// Returns the index of the first such byte.
+fn place_near(byte: u8, bytes: &[u8]) -> Option<usize>
+    ensures cut { option_map (λ k. (take k bytes.now, drop 1 (drop k bytes.now))) result ≡ cut_at byte bytes.now }
+    ensures inside { IfSome result (λ k. k < length bytes.now) }
+{
+    for (at, other) in bytes.iter().enumerate() {
+        if *other == byte {
+            return Some(at);
+        }
+    }
+    None
 }
 
 /// Returns whether these are one or more printing bytes, none of them a space.
