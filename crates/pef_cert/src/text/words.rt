@@ -2,7 +2,7 @@ ghost use Rattle.std.specs.Prelude.{◌≡◌, option_map};
 ghost use Rattle.pef_cert.specs.Text.Kept.Reading.{words_left};
 ghost use Rattle.pef_cert.specs.Text.Words.{behind, first_number, first_of, none_left, words_of};
 
-use pef_lines::{cut_at, decimal_number};
+use pef_lines::{cut_near, decimal_number};
 
 /// The words that are left of a line.
 #[derive(Clone, Copy)]
@@ -33,7 +33,7 @@ impl<'a> Words<'a> {
         let Some(rest) = self.rest else {
             return None;
         };
-        match cut_at(b' ', rest) {
+        match cut_near(b' ', rest) {
             Some((word, behind)) => {
                 self.rest = Some(behind);
                 Some(word)
