@@ -1,14 +1,15 @@
 -- What C sees of the rows of a loader section's tables, and what a call writes into the caller's array of them.
-use Rattle.std.specs.Prelude.{◌≡◌, ℕ, zero, suc, ◌+◌, ◌-◌, ◌==◌, List, [], ◌∷◌, Option, MatchBool, length, map, min}
+use Rattle.std.specs.Prelude.{◌≡◌, ◌⊎◌, ℕ, zero, suc, ◌+◌, ◌-◌, ◌==◌, List, [], ◌∷◌, Option, None, Some, MatchBool, length, map, min}
 use Rattle.std.specs.Option.{option_map_or}
 use Rattle.pef_format.specs.Exports.{Export}
 use Rattle.pef_format.specs.Symbols.{Import}
 use Rattle.pef_loader.specs.Library.{Library}
-use Rattle.pef_loader.specs.Loader.{Loaded, export_of, import_of, library_of}
+use Rattle.pef_loader.specs.Loader.{Loaded, export_of, import_of, library_of, named_of, reloc_of}
 use Rattle.pef_c.specs.Loaders.{HasTables, IsTablesRefusal}
 use Rattle.pef_c.specs.declared.structs.PefExport.{PefExport}
 use Rattle.pef_c.specs.declared.structs.PefImport.{PefImport}
 use Rattle.pef_c.specs.declared.structs.PefLibrary.{PefLibrary}
+use Rattle.pef_c.specs.declared.structs.PefRelocation.{PefRelocation}
 
 -- the rows that C's structs show
 
@@ -20,6 +21,10 @@ import_shown v = record { name = v.name.now; class = v.class; weak = v.weak; lib
 
 abbrev pub export_shown : PefExport → Export
 export_shown v = record { name = v.name.now; class = v.class; section = v.section; value = v.value }
+
+-- the section of a relocation header, and its instructions
+abbrev pub relocation_shown : PefRelocation → ℕ × List ℕ
+relocation_shown v = (v.section, v.instructions.now)
 
 -- the first n places have the rows from a number on, and the others stay
 abbrev pub filled : {A : Type 0} → (ℕ → Option A) → ℕ → ℕ → List A → List A
@@ -38,7 +43,7 @@ RowsAnswer bytes row many from old new before after answer =
     ((l : Loaded) × HasTables bytes l × (after ≡ fitting (many l) from (length old)) × (new ≡ filled (row l) from after old))
     ((new ≡ old) × (after ≡ before) × IsTablesRefusal bytes answer)
 
--- what `pef_libraries`, `pef_imports` and `pef_exports` answer
+-- what `pef_libraries`, `pef_imports`, `pef_relocations` and `pef_exports` answer
 
 abbrev pub LibrariesAnswer : List ℕ → ℕ → List PefLibrary → List PefLibrary → ℕ → ℕ → ℕ → Type 0
 LibrariesAnswer bytes from old new before after answer =
@@ -48,6 +53,19 @@ abbrev pub ImportsAnswer : List ℕ → ℕ → List PefImport → List PefImpor
 ImportsAnswer bytes from old new before after answer =
     RowsAnswer bytes import_of (λ l. l.header.import_count) from (map import_shown old) (map import_shown new) before after answer
 
+abbrev pub RelocationsAnswer : List ℕ → ℕ → List PefRelocation → List PefRelocation → ℕ → ℕ → ℕ → Type 0
+RelocationsAnswer bytes from old new before after answer =
+    RowsAnswer bytes reloc_of (λ l. l.header.reloc_count) from (map relocation_shown old) (map relocation_shown new) before after answer
+
 abbrev pub ExportsAnswer : List ℕ → ℕ → List PefExport → List PefExport → ℕ → ℕ → ℕ → Type 0
 ExportsAnswer bytes from old new before after answer =
     RowsAnswer bytes export_of (λ l. l.header.export_count) from (map export_shown old) (map export_shown new) before after answer
+
+-- what `pef_export_named` answers: 0, and the first export of the name is written with its number; or 201, if no export has the
+-- name; or a refusal; and then both places stay
+abbrev pub NamedAnswer : List ℕ → List ℕ → ℕ → ℕ → Export → Export → ℕ → Type 0
+NamedAnswer bytes name before after old new answer =
+    MatchBool (answer == 0)
+    ((l : Loaded) × HasTables bytes l × (named_of l name ≡ Some after) × (export_of l after ≡ Some new))
+    ((after ≡ before) × (new ≡ old)
+    × (((answer ≡ 201) × ((l : Loaded) × HasTables bytes l × (named_of l name ≡ None))) ⊎ IsTablesRefusal bytes answer))

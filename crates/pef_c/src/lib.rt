@@ -37,9 +37,9 @@ pub use link::pef_link;
 pub use list::pef_list;
 pub use loader::pef_loader;
 pub use names::{pef_help, pef_name};
-pub use rows::{pef_exports, pef_imports, pef_libraries};
+pub use rows::{pef_export_named, pef_exports, pef_imports, pef_libraries, pef_relocations};
 pub use structs::{
     PefEntries, PefExport, PefFragmentSection, PefHeader, PefImport, PefLibrary, PefLoader,
-    PefNames, PefSection,
+    PefNames, PefRelocation, PefSection,
 };
 pub use theorems::{container_names, listing_names, loader_names, packed_names, script_names};

@@ -1,14 +1,15 @@
 //! The rows of a loader section's tables, as many at once as the caller has places for: a walk over n rows in
-//! one call costs n.
+//! one call costs n. An export is also found by its name.
 ghost use Rattle.std.specs.Prelude.{◌≡◌, length, map};
-ghost use Rattle.pef_loader.specs.Loader.{export_of, import_of, library_of};
+ghost use Rattle.pef_loader.specs.Loader.{export_of, import_of, library_of, reloc_of};
 ghost use Rattle.pef_format.specs.Exports.{export_seen};
 ghost use Rattle.pef_format.specs.Symbols.{import_seen};
-ghost use Rattle.pef_loader.specs.Views.{library_seen, loaded};
-ghost use Rattle.pef_c.specs.Rows.{ExportsAnswer, ImportsAnswer, LibrariesAnswer, export_shown, filled, fitting, import_shown, library_shown};
+ghost use Rattle.pef_loader.specs.Views.{library_seen, loaded, reloc_seen};
+ghost use Rattle.pef_c.specs.Rows.{ExportsAnswer, ImportsAnswer, LibrariesAnswer, NamedAnswer, RelocationsAnswer, export_shown, filled, fitting, import_shown, library_shown, relocation_shown};
 
+use crate::answers::NOT_THERE;
 use crate::loader::read_tables;
-use crate::structs::{PefExport, PefImport, PefLibrary};
+use crate::structs::{PefExport, PefImport, PefLibrary, PefRelocation};
 use pef_format::{ExportView, ImportView};
 use pef_loader::{ImportReader, LibraryView, Loader};
 
@@ -52,6 +53,26 @@ pub extern "C" fn pef_imports<'a>(
     0
 }
 
+/// Reads the relocation headers from number `from` on into the first places, and counts them.
+///
+/// The answer is 0, or the number of the first refusal.
+#[unsafe(no_mangle)]
+pub extern "C" fn pef_relocations<'a>(
+    container: &'a [u8],
+    from: usize,
+    places: &mut [PefRelocation<'a>],
+    count: &mut usize,
+) -> u32
+    ensures { RelocationsAnswer container.entry.now from places.old places.new count.old count.new result }
+{
+    let loader = match read_tables(container) {
+        Ok(loader) => loader,
+        Err(number) => return number,
+    };
+    *count = fill_relocations(loader, from, places);
+    0
+}
+
 /// Reads the exported symbols from number `from` on into the first places, and counts them.
 ///
 /// The answer is 0, or the number of the first refusal.
@@ -69,6 +90,33 @@ pub extern "C" fn pef_exports<'a>(
         Err(number) => return number,
     };
     *count = fill_exports(loader, from, places);
+    0
+}
+
+/// Finds the first export of a name, and reads it with its number.
+///
+/// The answer is 0; or the number of the first refusal; or 201 if no export has the name.
+#[unsafe(no_mangle)]
+pub extern "C" fn pef_export_named<'a>(
+    container: &'a [u8],
+    name: &[u8],
+    number: &mut usize,
+    export: &mut PefExport<'a>,
+) -> u32
+    ensures { NamedAnswer container.entry.now name.now number.old number.new (export_shown export.old) (export_shown export.new) result }
+{
+    let loader = match read_tables(container) {
+        Ok(loader) => loader,
+        Err(number) => return number,
+    };
+    let Some(place) = loader.export_named(name) else {
+        return NOT_THERE;
+    };
+    let Some(found) = loader.export(place) else {
+        unreachable!()
+    };
+    *number = place;
+    *export = export_given(found);
     0
 }
 
@@ -99,6 +147,21 @@ fn fill_imports<'a>(loader: Loader<'a>, from: usize, places: &mut [PefImport<'a>
             unreachable!()
         };
         places[k] = import_given(import);
+    }
+    count
+}
+
+/// Fills the first places with the relocation headers from number `from` on, and says how many they are.
+fn fill_relocations<'a>(loader: Loader<'a>, from: usize, places: &mut [PefRelocation<'a>]) -> usize
+    ensures count { result ≡ fitting (loaded loader.entry).header.reloc_count from (length places.old) }
+    ensures rows { map relocation_shown places.new ≡ filled (reloc_of (loaded loader.entry)) from result (map relocation_shown places.old) }
+{
+    let count = places.len().min(loader.relocs().saturating_sub(from));
+    for k in 0..count {
+        let Some(relocation) = loader.reloc(from + k) else {
+            unreachable!()
+        };
+        places[k] = relocation_given(relocation);
     }
     count
 }
@@ -141,6 +204,17 @@ fn import_given<'a>(import: ImportView<'a>) -> PefImport<'a>
         library: import.library,
         class: import.class,
         weak: import.weak,
+    }
+}
+
+/// A relocation header as C sees it.
+fn relocation_given<'a>(relocation: (u32, &'a [u8])) -> PefRelocation<'a>
+    ensures { relocation_shown result ≡ reloc_seen relocation.entry }
+{
+    let (section, instructions) = relocation;
+    PefRelocation {
+        instructions,
+        section,
     }
 }
 

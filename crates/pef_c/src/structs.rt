@@ -64,6 +64,14 @@ pub struct PefImport<'a> {
     pub weak: bool,
 }
 
+/// A relocation header: a section, and the bytes of the instructions for it.
+#[repr(C)]
+#[derive(Clone, Copy, Debug)]
+pub struct PefRelocation<'a> {
+    pub instructions: &'a [u8],
+    pub section: u32,
+}
+
 /// An exported symbol.
 #[repr(C)]
 #[derive(Clone, Copy, Debug)]

@@ -1,8 +1,11 @@
 //! Each call once, on a container and a listing that docs/FORMATS.md has.
 use crate::{
-    PefExport, PefHeader, PefSection, pef_expand, pef_exports, pef_header, pef_help, pef_imports,
-    pef_libraries, pef_link, pef_list, pef_name, pef_section, pef_section_name,
+    PefExport, PefHeader, PefRelocation, PefSection, pef_expand, pef_export_named, pef_exports,
+    pef_header, pef_help, pef_imports, pef_libraries, pef_link, pef_list, pef_name,
+    pef_relocations, pef_section, pef_section_name,
 };
+use std::alloc::Global;
+use std::process::Abort;
 
 /// Two transition vectors, of which the first is exported.
 const SCRIPT: &[u8] = b"versions 1 0 0
@@ -26,6 +29,23 @@ reloc section 1 halfwords 1
 export go class 2 section 1 value 00000000
 ";
 
+const NO_EXPORT: PefExport<'static> = PefExport {
+    name: b"",
+    section: 7,
+    value: 7,
+    class: 7,
+};
+
+/// The container of the script.
+fn container(rt: &impl Abort, alloc: Global) -> [u8; 250] {
+    let mut room = [0; 250];
+    let mut written = 0;
+    let mut line = 0;
+    let linked = pef_link(alloc, SCRIPT, &mut room, &mut written, &mut line);
+    assert!(rt; linked == 0 && written == 250);
+    room
+}
+
 /// A script is linked, and its container is listed.
 #[test]
 fn linked_and_listed(rt: HostRuntime) {
@@ -45,12 +65,7 @@ fn linked_and_listed(rt: HostRuntime) {
 /// A container is read part by part.
 #[test]
 fn parts(rt: HostRuntime) {
-    let mut room = [0; 250];
-    let mut written = 0;
-    let mut line = 0;
-    let linked = pef_link(rt.alloc(), SCRIPT, &mut room, &mut written, &mut line);
-    assert!(rt; linked == 0);
-
+    let room = container(&rt, rt.alloc());
     let mut header = PefHeader {
         date_time_stamp: 7,
         old_def_version: 7,
@@ -84,24 +99,45 @@ fn parts(rt: HostRuntime) {
 /// The tables of a loader section are read.
 #[test]
 fn tables(rt: HostRuntime) {
-    let mut room = [0; 250];
-    let mut written = 0;
-    let mut line = 0;
-    let linked = pef_link(rt.alloc(), SCRIPT, &mut room, &mut written, &mut line);
-    assert!(rt; linked == 0);
-
-    let none = PefExport {
-        name: b"",
-        section: 7,
-        value: 7,
-        class: 7,
-    };
-    let mut exports = [none; 3];
+    let room = container(&rt, rt.alloc());
+    let mut written = 7;
+    let mut exports = [NO_EXPORT; 3];
     assert!(rt; pef_exports(&room, 0, &mut exports, &mut written) == 0);
     assert!(rt; written == 1 && exports[0].name == b"go".as_slice());
     assert!(rt; exports[0].section == 1 && exports[0].class == 2 && exports[1].class == 7);
     assert!(rt; pef_imports(&room, 0, &mut [], &mut written) == 0 && written == 0);
     assert!(rt; pef_libraries(&room, 5, &mut [], &mut written) == 0 && written == 0);
+}
+
+/// A relocation header has the bytes of its instructions (FORMATS.md, section 7).
+#[test]
+fn relocations(rt: HostRuntime) {
+    let room = container(&rt, rt.alloc());
+    let none = PefRelocation {
+        instructions: b"",
+        section: 7,
+    };
+    let mut places = [none; 2];
+    let mut count = 7;
+    assert!(rt; pef_relocations(&room, 0, &mut places, &mut count) == 0 && count == 1);
+    assert!(rt; places[0].section == 1 && places[0].instructions == b"\x46\x01".as_slice());
+    assert!(rt; places[1].section == 7);
+    assert!(rt; pef_relocations(&room, 1, &mut places, &mut count) == 0 && count == 0);
+    assert!(rt; pef_relocations(b"", 0, &mut places, &mut count) == 1 && count == 0);
+}
+
+/// An export is found by its name (FORMATS.md, section 7).
+#[test]
+fn named_exports(rt: HostRuntime) {
+    let room = container(&rt, rt.alloc());
+    let mut export = NO_EXPORT;
+    let mut number = 7;
+    assert!(rt; pef_export_named(&room, b"g", &mut number, &mut export) == 201);
+    assert!(rt; pef_export_named(b"", b"go", &mut number, &mut export) == 1);
+    assert!(rt; number == 7 && export.section == 7);
+    assert!(rt; pef_export_named(&room, b"go", &mut number, &mut export) == 0);
+    assert!(rt; number == 0 && export.name == b"go".as_slice());
+    assert!(rt; export.section == 1 && export.value == 0 && export.class == 2);
 }
 
 /// If a room is too small, the length that is needed is reported.
