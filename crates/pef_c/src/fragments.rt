@@ -1,7 +1,7 @@
-//! What is read of a context: which fragments a connection has, and what these have in memory. No call changes
-//! anything but the caller's places.
+//! Readers of a context: which fragments a connection has, and what these have in memory. They write only into
+//! the caller's memory.
 ghost use Rattle.std.specs.Prelude.{◌≡◌, Some, length, option_map, slice_get};
-ghost use Rattle.std.specs.Option.{option_and_then};
+ghost use Rattle.std.specs.Option.{option_and_then, option_copied};
 ghost use Rattle.cfm_prepare.specs.Contexts.{open_of};
 ghost use Rattle.cfm_prepare.specs.Fragments.{places_of};
 ghost use Rattle.cfm_prepare.specs.Readers.{entries_of, symbol_of};
@@ -17,8 +17,7 @@ use std::alloc::Global;
 
 /// Copies the fragments of a connection's closure to the front of `room`, in closure order.
 ///
-/// The answer is 0; or 200 if the room is too small; or 201 if the connection isn't open, or 202 if the context
-/// isn't.
+/// Returns 0, or 200 if the room is too small, or 201 if the connection isn't open, or 202 if the context isn't.
 #[unsafe(no_mangle)]
 pub extern "C" fn pef_fragments(
     alloc: Global,
@@ -33,17 +32,14 @@ pub extern "C" fn pef_fragments(
     let Some(boxed) = take(alloc, context) else {
         return NOT_OPEN;
     };
-    let answer = match boxed.fragments(Connection(connection)) {
-        Some(fragments) => copy_answer(fragments, room, count),
-        None => NOT_THERE,
-    };
+    let answer = copy_answer(boxed.fragments(Connection(connection)), room, count);
     put(context, boxed);
     answer
 }
 
 /// Copies the fragments of a connection's closure to the front of `room`, in the order of their initialization.
 ///
-/// The answer is that of `pef_fragments`.
+/// Returns the same numbers as `pef_fragments`.
 #[unsafe(no_mangle)]
 pub extern "C" fn pef_init_order(
     alloc: Global,
@@ -58,17 +54,14 @@ pub extern "C" fn pef_init_order(
     let Some(boxed) = take(alloc, context) else {
         return NOT_OPEN;
     };
-    let answer = match boxed.init_order(Connection(connection)) {
-        Some(fragments) => copy_answer(fragments, room, count),
-        None => NOT_THERE,
-    };
+    let answer = copy_answer(boxed.init_order(Connection(connection)), room, count);
     put(context, boxed);
     answer
 }
 
-/// Gives the name of a fragment.
+/// Reads the name of a fragment.
 ///
-/// The answer is 0; or 201 past the last fragment, or 202 if the context isn't open.
+/// Returns 0, or 201 past the last fragment, or 202 if the context isn't open.
 #[unsafe(no_mangle)]
 pub extern "C" fn pef_fragment_name(
     alloc: Global,
@@ -95,7 +88,7 @@ pub extern "C" fn pef_fragment_name(
 
 /// Counts the sections that a fragment has in memory: none if it isn't present.
 ///
-/// The answer is 0, or 202 if the context isn't open.
+/// Returns 0, or 202 if the context isn't open.
 #[unsafe(no_mangle)]
 pub extern "C" fn pef_fragment_sections(
     alloc: Global,
@@ -114,9 +107,9 @@ pub extern "C" fn pef_fragment_sections(
     0
 }
 
-/// Reads where section `index` of a fragment of a connection's closure lies, its kind and its share.
+/// Reads the address, size, kind and share of section `index` of a fragment of a connection's closure.
 ///
-/// The answer is 0; or 201 if there is no such section, or 202 if the context isn't open.
+/// Returns 0, or 201 if there is no such section, or 202 if the context isn't open.
 #[unsafe(no_mangle)]
 pub extern "C" fn pef_fragment_section(
     alloc: Global,
@@ -143,7 +136,7 @@ pub extern "C" fn pef_fragment_section(
     answer
 }
 
-/// The same of a context that is open.
+/// Does the same for a context that is open.
 fn section_in(
     context: &Context<'_>,
     connection: Connection,
@@ -164,8 +157,8 @@ fn section_in(
 
 /// Copies the bytes of section `index` of a fragment that is present to the front of `room`.
 ///
-/// The answer is 0; or 200 if the room is too small; or 201 if there is no such section, or 202 if the context
-/// isn't open.
+/// Returns 0, or 200 if the room is too small, or 201 if there is no such section, or 202 if the context isn't
+/// open.
 #[unsafe(no_mangle)]
 pub extern "C" fn pef_fragment_bytes(
     alloc: Global,
@@ -181,17 +174,22 @@ pub extern "C" fn pef_fragment_bytes(
     let Some(boxed) = take(alloc, context) else {
         return NOT_OPEN;
     };
-    let answer = match boxed.fragment_section(fragment, index) {
-        Some((_, bytes)) => copy_answer(bytes, room, written),
-        None => NOT_THERE,
-    };
+    let answer = copy_answer(bytes_in(&boxed, fragment, index), room, written);
     put(context, boxed);
     answer
 }
 
-/// Reads the addresses at which a fragment of a connection's closure is entered.
+/// Returns the bytes of section `index` of a fragment that is present.
+fn bytes_in<'a>(context: &'a Context<'_>, fragment: usize, index: usize) -> Option<&'a [u8]>
+    ensures { option_copied result ≡ option_map (λ m. m.1) (section_present context.now.memory context.now.present fragment index) }
+{
+    let (_, bytes) = context.fragment_section(fragment, index)?;
+    Some(bytes)
+}
+
+/// Reads the addresses of the entry points of a fragment of a connection's closure.
 ///
-/// The answer is 0; or 201 if the closure lacks the fragment, or 202 if the context isn't open.
+/// Returns 0, or 201 if the closure lacks the fragment, or 202 if the context isn't open.
 #[unsafe(no_mangle)]
 pub extern "C" fn pef_fragment_entries(
     alloc: Global,
@@ -217,7 +215,7 @@ pub extern "C" fn pef_fragment_entries(
     answer
 }
 
-/// Entries as C sees them.
+/// Returns the entry points as C sees them.
 fn entries_given(entries: Entries) -> PefEntries
     ensures { result ≡ entries_given entries }
 {
@@ -231,9 +229,9 @@ fn entries_given(entries: Entries) -> PefEntries
     }
 }
 
-/// Gives the address of the first export of a name, of a fragment of a connection's closure.
+/// Reads the address of the first export with this name of a fragment of a connection's closure.
 ///
-/// The answer is 0; or 201 if there is none, or 202 if the context isn't open.
+/// Returns 0, or 201 if there is none, or 202 if the context isn't open.
 #[unsafe(no_mangle)]
 pub extern "C" fn pef_fragment_symbol(
     alloc: Global,
@@ -260,10 +258,15 @@ pub extern "C" fn pef_fragment_symbol(
     answer
 }
 
-/// Copies items that are there to the front of the caller's room, and answers 0, or 200 if they are too many.
-fn copy_answer<T: Copy>(items: &[T], room: &mut [T], count: &mut usize) -> u32
-    ensures { CopiesOut (Some items.now) room.old room.new count.old count.new result }
+/// Copies items to the front of the caller's room.
+///
+/// Returns 0, or 200 if the room is too small, or 201 if there are no items to copy.
+fn copy_answer<T: Copy>(items: Option<&[T]>, room: &mut [T], count: &mut usize) -> u32
+    ensures { CopiesOut (option_copied items.entry) room.old room.new count.old count.new result }
 {
+    let Some(items) = items else {
+        return NOT_THERE;
+    };
     match copy_out(items, room, count) {
         Some(()) => 0,
         None => ROOM_TOO_SMALL,
