@@ -1,9 +1,9 @@
--- Places that are filled one by one.
+-- Places are filled one by one.
 use Rattle.std.proofs.Common.{◌≡◌, ℕ, zero, suc, ◌+◌, ◌<◌, List, [], ◌∷◌, length, slice_set, arith}
 use Rattle.std.specs.Prelude.{Option, Some, map}
 use Rattle.pef_c.specs.Rows.{filled}
 
--- one place more is filled, where the row is there
+-- one more place is filled with its row
 pub filled_more : {A B : Type 0} (shown : B → A) (row : ℕ → Option A) (from n : ℕ) (places : List B) (old : List A) (place : B)
     → n < length places → row (from + n) ≡ Some (shown place) → map shown places ≡ filled row from n old
     → map shown (slice_set places n place) ≡ filled row from (n + 1) old

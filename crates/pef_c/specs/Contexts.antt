@@ -1,4 +1,4 @@
--- What the calls answer that change a context. 202 means that it isn't open.
+-- What the calls return and write that change a context. 202 means that it isn't open.
 use Rattle.std.specs.Prelude.{◌≡◌, ◌==◌, ℕ, List, [], Option, None, Some, MatchBool}
 use Rattle.cfm_closure.specs.declared.fault.BindFault.{BindFault}
 use Rattle.cfm_closure.specs.declared.fault.BindFault.TheVariants as bind
@@ -13,21 +13,21 @@ use Rattle.cfm_prepare.specs.declared.fragment_fault.FragmentFault.TheVariants a
 use Rattle.pef_c.specs.declared.handle.PefContext.{PefContext}
 use Rattle.pef_c.specs.declared.structs.PefNames.{PefNames}
 
--- the context that C holds, if one is open
+-- the context that C holds, if it is open
 abbrev pub held : PefContext → Option ContextState
 held c = c.handle.value
 
--- a call changes a context that is open, in this way; one that isn't open stays so, and this holds
+-- if the context is open, the call changes it in this way; otherwise it isn't open afterwards either, and this holds
 abbrev pub Changes : Type 0 → (ContextState → ContextState → Type 0) → Option ContextState → Option ContextState → Type 0
 Changes otherwise change None now = (now ≡ None) × otherwise
 Changes otherwise change (Some s) None = ⊥
 Changes otherwise change (Some s) (Some t) = change s t
 
--- what `pef_open` answers
+-- what `pef_open` returns and changes
 abbrev pub OpenAnswers : ℕ → Option ContextState → ℕ → Type 0
 OpenAnswers limit new answer = MatchBool (answer == 0) (new ≡ Some (fresh_state [] limit)) ((answer ≡ 99) × (new ≡ None))
 
--- why a fragment isn't added, by number
+-- the number says why the fragment isn't added
 abbrev pub IsNotAdded : ContextState → ℕ → Type 0
 IsNotAdded s answer = (fault : AddFault) × MayNotAdd s fault × (answer ≡ add_fault_number fault)
 
@@ -35,7 +35,7 @@ IsNotAdded s answer = (fault : AddFault) × MayNotAdd s fault × (answer ≡ add
 abbrev pub AddsIn : List ℕ → List ℕ → ContextState → ContextState → ℕ → Type 0
 AddsIn name bytes s t answer = MatchBool (answer == 0) ((s.given ≡ 0) × (t ≡ added s name bytes)) ((t ≡ s) × IsNotAdded s answer)
 
--- what `pef_add` answers
+-- what `pef_add` returns and changes
 abbrev pub AddAnswers : List ℕ → List ℕ → Option ContextState → Option ContextState → ℕ → Type 0
 AddAnswers name bytes old new answer = Changes (answer ≡ 202) (λ s t. AddsIn name bytes s t answer) old new
 
@@ -60,14 +60,14 @@ bind_names (bind.ReexportLoop f s) = record { fragment = f.now; library = []; sy
 bind_names (bind.InitLoop f) = record { fragment = f.now; library = []; symbol = [] }
 bind_names bind.OutOfMemory = record { fragment = []; library = []; symbol = [] }
 
--- of the new fragments of a closure
+-- the names of a refusal of a closure's new fragments
 abbrev pub fragment_names : FragmentFault → Names
 fragment_names (fragment.NoRoom f) = record { fragment = f.now; library = []; symbol = [] }
 fragment_names (fragment.Pack f k) = record { fragment = f.now; library = []; symbol = [] }
 fragment_names (fragment.Reloc f k) = record { fragment = f.now; library = []; symbol = [] }
 fragment_names fragment.OutOfMemory = record { fragment = []; library = []; symbol = [] }
 
--- of any preparation
+-- the names of a refusal of a preparation
 abbrev pub fault_names : PrepareFault → Names
 fault_names prepare.TooManyConnections = record { fragment = []; library = []; symbol = [] }
 fault_names prepare.RootMissing = record { fragment = []; library = []; symbol = [] }
@@ -75,16 +75,16 @@ fault_names (prepare.Bind f) = bind_names f
 fault_names (prepare.Fragment f) = fragment_names f
 fault_names prepare.OutOfMemory = record { fragment = []; library = []; symbol = [] }
 
--- why a fragment isn't prepared, by number and names
+-- the number and the names say why the fragment isn't prepared
 abbrev pub IsNotPrepared : ContextState → List ℕ → Names → ℕ → Type 0
 IsNotPrepared s name names answer = (fault : PrepareFault) × MayNotPrepare s name fault × (answer ≡ fault_number fault) × (names ≡ fault_names fault)
 
--- the fragment of a name is prepared, and the connection's number is written; or it is refused, and the names are
+-- the fragment with this name is prepared, and the connection's number is written; or it is refused, and the names are written
 abbrev pub PreparesIn : List ℕ → ContextState → ContextState → ℕ → ℕ → Names → Names → ℕ → Type 0
 PreparesIn name s t before after old new answer =
     MatchBool (answer == 0) (Prepares s name after t × (new ≡ old)) ((t ≡ s) × (after ≡ before) × IsNotPrepared s name new answer)
 
--- what `pef_prepare` answers
+-- what `pef_prepare` returns, changes and writes
 abbrev pub PrepareAnswers : List ℕ → Option ContextState → Option ContextState → ℕ → ℕ → Names → Names → ℕ → Type 0
 PrepareAnswers name s t before after old new answer =
     Changes ((answer ≡ 202) × (after ≡ before) × (new ≡ old)) (λ s t. PreparesIn name s t before after old new answer) s t
@@ -93,6 +93,6 @@ PrepareAnswers name s t before after old new answer =
 abbrev pub ClosesIn : ℕ → ContextState → ContextState → ℕ → Type 0
 ClosesIn number s t answer = MatchBool (answer == 0) (Closes s number t) ((answer ≡ 68) × (open_of s.connections number ≡ None) × (t ≡ s))
 
--- what `pef_close` answers
+-- what `pef_close` returns and changes
 abbrev pub CloseAnswers : ℕ → Option ContextState → Option ContextState → ℕ → Type 0
 CloseAnswers number old new answer = Changes (answer ≡ 202) (λ s t. ClosesIn number s t answer) old new

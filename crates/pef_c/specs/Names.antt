@@ -1,9 +1,9 @@
--- What refusals and the answers that only this library gives are called and mean, by their numbers (docs/REFUSALS.md).
+-- The names and the help of refusals, and of the numbers that only this library returns (docs/ERRORS.md).
 use Rattle.std.specs.Prelude.{◌≡◌, ◌==◌, ℕ, List, Option, None, Some, MatchBool, codes, if◌then◌else◌, nat_le}
 use Rattle.pef_refusals.specs.Help.{help_of as refusal_help}
 use Rattle.pef_refusals.specs.Names.{name_of as refusal_name}
 
--- the names of this library's own answers
+-- the names of this library's own numbers
 unfoldable pub library_name : ℕ → Option (List ℕ)
 library_name number =
     if number == 200 then Some (codes "RoomTooSmall")
@@ -23,7 +23,7 @@ library_help number =
     else if number == 204 then Some (codes "The context has 256 fragments, and takes no more.")
     else None
 
--- all names: refusals have the numbers up to 99
+-- all names; refusals have numbers up to 99
 abbrev pub name_of : ℕ → Option (List ℕ)
 name_of number = if nat_le number 99 then refusal_name number else library_name number
 
@@ -31,6 +31,6 @@ name_of number = if nat_le number 99 then refusal_name number else library_name 
 abbrev pub help_of : ℕ → Option (List ℕ)
 help_of number = if nat_le number 99 then refusal_help number else library_help number
 
--- what a call answers that gives the text of a number: 0 and the text, or 201, where the number has none
+-- what a call returns and writes that reads the text of a number: 0 and the text, or 201 if the number has none
 abbrev pub TextAnswers : Option (List ℕ) → List ℕ → List ℕ → ℕ → Type 0
 TextAnswers text old new answer = MatchBool (answer == 0) (text ≡ Some new) ((answer ≡ 201) × (text ≡ None) × (new ≡ old))

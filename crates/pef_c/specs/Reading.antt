@@ -1,4 +1,4 @@
--- What the calls answer that read a context. 201 means that nothing is there, and 202 that no context is open.
+-- What the calls return and write that read a context. 201 means that there is no such thing, and 202 that the context isn't open.
 use Rattle.std.specs.Prelude.{◌≡◌, ◌==◌, ℕ, List, Option, None, Some, MatchBool, length, option_map}
 use Rattle.std.specs.Option.{is_some, option_and_then, unwrap_or}
 use Rattle.cfm_prepare.specs.Contexts.{ContextState, open_of}
@@ -10,17 +10,17 @@ use Rattle.pef_c.specs.Rooms.{Fills, IsTooLong}
 use Rattle.pef_c.specs.declared.structs.PefEntries.{PefEntries}
 use Rattle.pef_c.specs.declared.structs.PefFragmentSection.{PefFragmentSection}
 
--- 0, and the value is written; or 201, where it isn't there, or 202, at which the place stays
+-- 0, and the value is written; or 201, if there is none, or 202, and nothing is written
 abbrev pub ReadAnswers : {A : Type 0} → (ContextState → Option A) → Option ContextState → A → A → ℕ → Type 0
 ReadAnswers value None old new answer = (answer ≡ 202) × (new ≡ old)
 ReadAnswers value (Some s) old new answer = MatchBool (answer == 0) (value s ≡ Some new) ((answer ≡ 201) × (value s ≡ None) × (new ≡ old))
 
--- 0, and the items are in the room; or 200, where they are too many; or 201, where they aren't there
+-- 0, and the items are in the room; or 200, if they are too many; or 201, if there are none to copy
 abbrev pub CopiesOut : {A : Type 0} → Option (List A) → List A → List A → ℕ → ℕ → ℕ → Type 0
 CopiesOut None old new before after answer = (answer ≡ 201) × (new ≡ old) × (after ≡ before)
 CopiesOut (Some items) old new before after answer = MatchBool (answer == 0) (Fills items old new after) ((answer ≡ 200) × IsTooLong items old new after)
 
--- the same of a context that is open, or 202
+-- the same for a context that is open, or 202
 abbrev pub CopyAnswers : {A : Type 0} → (ContextState → Option (List A)) → Option ContextState → List A → List A → ℕ → ℕ → ℕ → Type 0
 CopyAnswers items None old new before after answer = (answer ≡ 202) × (new ≡ old) × (after ≡ before)
 CopyAnswers items (Some s) old new before after answer = CopiesOut (items s) old new before after answer
@@ -35,7 +35,7 @@ fragment_section_of s number p i =
     option_and_then (λ m. option_map (section_given m) (option_and_then (λ o. section_header_of o p i) (open_of s.connections number)))
     (section_present s.memory s.present p i)
 
--- entries as C sees them
+-- entry points as C sees them
 abbrev pub entries_given : Entries → PefEntries
 entries_given e = record {
   init = unwrap_or e.init 0;

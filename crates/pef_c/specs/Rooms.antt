@@ -1,15 +1,15 @@
--- What a call writes into the caller's room: bytes or numbers.
+-- What a call copies into the caller's room: bytes or numbers.
 use Rattle.std.specs.Prelude.{◌≡◌, ℕ, ◌<◌, List, ◌++◌, Option, None, Some, drop, length}
 
--- the items are at the front of the room, the rest of which stays, and their number is written
+-- the items are at the front of the room, the rest of the room is unchanged, and the count of the items is written
 abbrev pub Fills : {A : Type 0} → List A → List A → List A → ℕ → Type 0
 Fills items old new written = (new ≡ items ++ drop (length items) old) × (written ≡ length items)
 
--- the items are more than the room has places, all of which stay, and their number is written
+-- the items are more than the room has places, the room is unchanged, and the count of the items is written
 abbrev pub IsTooLong : {A : Type 0} → List A → List A → List A → ℕ → Type 0
 IsTooLong items old new written = (length old < length items) × (new ≡ old) × (written ≡ length items)
 
--- the one or the other
+-- the items are copied, or they are too many
 abbrev pub IsCopied : {A B : Type 0} → List A → List A → List A → ℕ → Option B → Type 0
 IsCopied items old new written (Some done) = Fills items old new written
 IsCopied items old new written None = IsTooLong items old new written

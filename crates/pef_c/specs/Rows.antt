@@ -1,4 +1,4 @@
--- What C sees of the rows of a loader section's tables, and what a call writes into the caller's array of them.
+-- The rows of a loader section's tables as C sees them, and what a call writes into the caller's array of them.
 use Rattle.std.specs.Prelude.{◌≡◌, ◌⊎◌, ℕ, zero, suc, ◌+◌, ◌-◌, ◌==◌, List, [], ◌∷◌, Option, None, Some, MatchBool, length, map, min}
 use Rattle.std.specs.Option.{option_map_or}
 use Rattle.pef_format.specs.Exports.{Export}
@@ -11,7 +11,7 @@ use Rattle.pef_c.specs.declared.structs.PefImport.{PefImport}
 use Rattle.pef_c.specs.declared.structs.PefLibrary.{PefLibrary}
 use Rattle.pef_c.specs.declared.structs.PefRelocation.{PefRelocation}
 
--- the rows that C's structs show
+-- the rows that the structs hold
 
 abbrev pub library_shown : PefLibrary → Library
 library_shown v = record { name = v.name.now; current = v.current_version; old_imp = v.old_imp_version; count = v.import_count; first = v.first_import; options = v.options }
@@ -26,24 +26,24 @@ export_shown v = record { name = v.name.now; class = v.class; section = v.sectio
 abbrev pub relocation_shown : PefRelocation → ℕ × List ℕ
 relocation_shown v = (v.section, v.instructions.now)
 
--- the first n places have the rows from a number on, and the others stay
+-- the first n places have the rows from a number on, and the others are unchanged
 abbrev pub filled : {A : Type 0} → (ℕ → Option A) → ℕ → ℕ → List A → List A
 filled row from zero places = places
 filled row from (suc n) [] = []
 filled row from (suc n) (place ∷ places) = option_map_or (λ r. r) (row from) place ∷ filled row (from + 1) n places
 
--- how many of so many rows, from a number on, have a place
+-- how many of the rows from a number on have a place
 abbrev pub fitting : ℕ → ℕ → ℕ → ℕ
 fitting many from places = min places (many - from)
 
--- 0, and the rows from a number on are in the first places, and counted; or a refusal, at which all stays
+-- 0, and the rows from a number on are in the first places, and counted; or a refusal, and nothing is written
 abbrev pub RowsAnswer : {A : Type 0} → List ℕ → (Loaded → ℕ → Option A) → (Loaded → ℕ) → ℕ → List A → List A → ℕ → ℕ → ℕ → Type 0
 RowsAnswer bytes row many from old new before after answer =
     MatchBool (answer == 0)
     ((l : Loaded) × HasTables bytes l × (after ≡ fitting (many l) from (length old)) × (new ≡ filled (row l) from after old))
     ((new ≡ old) × (after ≡ before) × IsTablesRefusal bytes answer)
 
--- what `pef_libraries`, `pef_imports`, `pef_relocations` and `pef_exports` answer
+-- what `pef_libraries`, `pef_imports`, `pef_relocations` and `pef_exports` return and write
 
 abbrev pub LibrariesAnswer : List ℕ → ℕ → List PefLibrary → List PefLibrary → ℕ → ℕ → ℕ → Type 0
 LibrariesAnswer bytes from old new before after answer =
@@ -61,8 +61,8 @@ abbrev pub ExportsAnswer : List ℕ → ℕ → List PefExport → List PefExpor
 ExportsAnswer bytes from old new before after answer =
     RowsAnswer bytes export_of (λ l. l.header.export_count) from (map export_shown old) (map export_shown new) before after answer
 
--- what `pef_export_named` answers: 0, and the first export of the name is written with its number; or 201, if no export has the
--- name; or a refusal; and then both places stay
+-- what `pef_export_named` returns and writes: 0, and the first export with the name is written, and its number; or 201, if no
+-- export has the name, or a refusal, and nothing is written
 abbrev pub NamedAnswer : List ℕ → List ℕ → ℕ → ℕ → Export → Export → ℕ → Type 0
 NamedAnswer bytes name before after old new answer =
     MatchBool (answer == 0)

@@ -1,4 +1,4 @@
-//! What the calls answer, and how bytes and numbers get into the caller's room.
+//! The numbers that calls return, and copying into the caller's room.
 ghost use Rattle.std.specs.Prelude.{◌≡◌, ◌==◌, false};
 ghost use Rattle.pef_c.specs.Rooms.{IsCopied};
 ghost use Rattle.pef_listing.specs.Faults as listing;
@@ -13,19 +13,19 @@ use pef_pidata::PackFault;
 use pef_script::LineFault;
 use pef_views::ViewFault;
 
-/// A growth of memory was refused.
+/// An allocation failed.
 pub(crate) const OUT_OF_MEMORY: u32 = 99;
 
 /// The caller's room is too small.
 pub(crate) const ROOM_TOO_SMALL: u32 = 200;
 
-/// Nothing has this number.
+/// There is nothing under this number.
 pub(crate) const NOT_THERE: u32 = 201;
 
 /// A context isn't open: it never was, or it was freed.
 pub(crate) const NOT_OPEN: u32 = 202;
 
-/// Copies items to the front of the caller's room, if they fit. Their number is written in both cases.
+/// Copies items to the front of the caller's room, if they fit. Writes how many they are, also if they don't fit.
 pub(crate) fn copy_out<T: Copy>(items: &[T], room: &mut [T], written: &mut usize) -> Option<()>
     ensures { IsCopied items.now room.old room.new written.new result }
 {
@@ -35,7 +35,7 @@ pub(crate) fn copy_out<T: Copy>(items: &[T], room: &mut [T], written: &mut usize
     Some(())
 }
 
-/// The number of a line's refusal, which is no answer of this crate's own.
+/// Returns the number of a line's refusal. It is none of this crate's own.
 pub(crate) fn line_number(fault: LineFault) -> u32
     ensures number { result ≡ script.fault_number fault }
     ensures refused { (result == 0) ≡ false }
@@ -44,7 +44,7 @@ pub(crate) fn line_number(fault: LineFault) -> u32
     fault.number()
 }
 
-/// The number of a listing's refusal, which is no answer of this crate's own.
+/// Returns the number of a listing's refusal. It is none of this crate's own.
 pub(crate) fn list_number(fault: ListFault) -> u32
     ensures number { result ≡ listing.fault_number fault }
     ensures refused { (result == 0) ≡ false }
@@ -53,7 +53,7 @@ pub(crate) fn list_number(fault: ListFault) -> u32
     fault.number()
 }
 
-/// The number of a container's refusal, which isn't 0.
+/// Returns the number of a container's refusal, which isn't 0.
 pub(crate) fn view_number(fault: ViewFault) -> u32
     ensures number { result ≡ views.fault_number fault }
     ensures refused { (result == 0) ≡ false }
@@ -61,7 +61,7 @@ pub(crate) fn view_number(fault: ViewFault) -> u32
     fault.number()
 }
 
-/// The number of the refusal of packed bytes, which isn't 0.
+/// Returns the number of the refusal of packed bytes, which isn't 0.
 pub(crate) fn pack_number(fault: PackFault) -> u32
     ensures number { result ≡ pidata.fault_number fault }
     ensures refused { (result == 0) ≡ false }
@@ -69,7 +69,7 @@ pub(crate) fn pack_number(fault: PackFault) -> u32
     fault.number()
 }
 
-/// The number of a loader section's refusal, which isn't 0.
+/// Returns the number of a loader section's refusal, which isn't 0.
 pub(crate) fn loader_number(fault: LoaderFault) -> u32
     ensures number { result ≡ loader.fault_number fault }
     ensures refused { (result == 0) ≡ false }

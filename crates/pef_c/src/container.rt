@@ -1,4 +1,4 @@
-//! Containers, read anew from their bytes by each call. None takes memory.
+//! Containers. Each call reads them anew from their bytes, and allocates nothing.
 ghost use Rattle.pef_c.specs.Containers.{HeaderAnswers, SectionAnswers, SectionNameAnswers};
 
 use crate::answers::{NOT_THERE, view_number};
@@ -7,7 +7,7 @@ use pef_views::Container;
 
 /// Reads a container's header.
 ///
-/// The answer is 0, or the number of the first refusal.
+/// Returns 0, or the number of the first refusal.
 #[unsafe(no_mangle)]
 pub extern "C" fn pef_header(container: &[u8], header: &mut PefHeader) -> u32
     ensures { HeaderAnswers container.now header.old header.new result }
@@ -29,7 +29,7 @@ pub extern "C" fn pef_header(container: &[u8], header: &mut PefHeader) -> u32
 
 /// Reads a section, with its raw bytes: a part of the container.
 ///
-/// The answer is 0; or the number of the container's first refusal; or 201 past the last section.
+/// Returns 0, or the number of the container's first refusal, or 201 past the last section.
 #[unsafe(no_mangle)]
 pub extern "C" fn pef_section<'a>(
     container: &'a [u8],
@@ -63,7 +63,7 @@ pub extern "C" fn pef_section<'a>(
 
 /// Gives a section's name: a part of the container.
 ///
-/// The answer is 0; or the number of the container's first refusal; or 201 where there is no name.
+/// Returns 0, or the number of the container's first refusal, or 201 if there is no name.
 #[unsafe(no_mangle)]
 pub extern "C" fn pef_section_name<'a>(
     container: &'a [u8],

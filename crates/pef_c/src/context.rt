@@ -1,5 +1,5 @@
-//! Contexts: fragments that are prepared in one memory. C holds a context by a handle, which is taken at each call
-//! and put back.
+//! Contexts: fragments that are prepared in one memory. C holds a context by a handle. Each call takes the context
+//! out of the handle and puts it back.
 ghost use Rattle.std.specs.Prelude.{◌≡◌, ◌==◌, None, false};
 ghost use Rattle.cfm_prepare.specs.Faults.{add_fault_number, close_fault_number, fault_number};
 ghost use Rattle.pef_c.specs.Contexts.{AddAnswers, AddsIn, CloseAnswers, ClosesIn, OpenAnswers, PrepareAnswers, PreparesIn, fault_names, held, names_shown};
@@ -12,9 +12,9 @@ use cfm_closure::Store;
 use cfm_prepare::{AddFault, CloseFault, Connection, Context, PrepareFault};
 use std::alloc::Global;
 
-/// Opens a context without fragments. No section may pass the address `limit`. One that was open is freed.
+/// Opens a context without fragments. No section may pass the address `limit`. A context that was open is freed.
 ///
-/// The answer is 0; or 99, and then the context isn't open.
+/// Returns 0; or 99, and then the context isn't open.
 #[unsafe(no_mangle)]
 pub extern "C" fn pef_open(alloc: Global, context: &mut PefContext, limit: u32) -> u32
     ensures { OpenAnswers limit (held context.new) result }
@@ -29,7 +29,7 @@ pub extern "C" fn pef_open(alloc: Global, context: &mut PefContext, limit: u32) 
     }
 }
 
-/// Frees a context, with all that it took. One that isn't open stays so.
+/// Frees a context and all its memory. Does nothing if it isn't open.
 #[unsafe(no_mangle)]
 pub extern "C" fn pef_free(alloc: Global, context: &mut PefContext)
     ensures { held context.new ≡ None }
@@ -37,9 +37,10 @@ pub extern "C" fn pef_free(alloc: Global, context: &mut PefContext)
     let _closed = take(alloc, context);
 }
 
-/// Adds a fragment, while no connection was ever given.
+/// Adds a fragment, unless the context has ever given a connection.
 ///
-/// The answer is 0; or 202 if the context isn't open; or 203, 204 or 99, and then the context is as it was.
+/// Returns 0, or 202 if the context isn't open, or 203, 204 or 99. The context is changed only if
+/// it returns 0.
 #[unsafe(no_mangle)]
 pub extern "C" fn pef_add(
     alloc: Global,
@@ -57,7 +58,7 @@ pub extern "C" fn pef_add(
     answer
 }
 
-/// The same in a context that is open.
+/// Does the same in a context that is open.
 fn add_in(context: &mut Context<'static>, name: &'static [u8], bytes: &'static [u8]) -> u32
     ensures { AddsIn name.entry.now bytes.entry.now context.old context.new result }
 {
@@ -67,10 +68,10 @@ fn add_in(context: &mut Context<'static>, name: &'static [u8], bytes: &'static [
     }
 }
 
-/// Opens a connection to the fragment of a name.
+/// Opens a connection to the fragment with this name.
 ///
-/// The answer is 0; or 202 if the context isn't open; or that of the refusal, with its names, and then the
-/// context is as it was.
+/// Returns 0, or 202 if the context isn't open, or the number of the refusal, whose names are written. The
+/// context is changed only if it returns 0.
 #[unsafe(no_mangle)]
 pub extern "C" fn pef_prepare(
     alloc: Global,
@@ -89,7 +90,7 @@ pub extern "C" fn pef_prepare(
     answer
 }
 
-/// The same in a context that is open.
+/// Does the same in a context that is open.
 fn prepare_in(
     context: &mut Context<'static>,
     name: &[u8],
@@ -110,9 +111,10 @@ fn prepare_in(
     }
 }
 
-/// Closes a connection: the fragments that no other open connection needs are given back.
+/// Closes a connection. Fragments that no other open connection needs are removed from memory.
 ///
-/// The answer is 0; or 202 if the context isn't open; or 68, and then the context is as it was.
+/// Returns 0, or 202 if the context isn't open, or 68. The context is changed only if it returns
+/// 0.
 #[unsafe(no_mangle)]
 pub extern "C" fn pef_close(alloc: Global, context: &mut PefContext, connection: u32) -> u32
     ensures { CloseAnswers connection (held context.old) (held context.new) result }
@@ -125,7 +127,7 @@ pub extern "C" fn pef_close(alloc: Global, context: &mut PefContext, connection:
     answer
 }
 
-/// The same in a context that is open.
+/// Does the same in a context that is open.
 fn close_in(context: &mut Context<'static>, connection: u32) -> u32
     ensures { ClosesIn connection context.old context.new result }
 {
@@ -135,7 +137,7 @@ fn close_in(context: &mut Context<'static>, connection: u32) -> u32
     }
 }
 
-/// The number of the refusal of a fragment that isn't added, which isn't 0.
+/// Returns the number of the refusal of a fragment that isn't added, which isn't 0.
 fn add_number(fault: AddFault) -> u32
     ensures number { result ≡ add_fault_number fault }
     ensures refused { (result == 0) ≡ false }
@@ -143,7 +145,7 @@ fn add_number(fault: AddFault) -> u32
     fault.number()
 }
 
-/// The number of the refusal of a fragment that isn't prepared, which isn't 0.
+/// Returns the number of the refusal of a fragment that isn't prepared, which isn't 0.
 #[tactic(auto, using(crate::proofs::NumberLemmas::prepare_refused))]
 fn prepare_number(fault: PrepareFault<'static>) -> u32
     ensures number { result ≡ fault_number fault.entry }
@@ -152,7 +154,7 @@ fn prepare_number(fault: PrepareFault<'static>) -> u32
     fault.number()
 }
 
-/// The number of the refusal of a connection that isn't closed, which isn't 0.
+/// Returns the number of the refusal of a connection that isn't closed, which isn't 0.
 fn close_number(fault: CloseFault) -> u32
     ensures number { result ≡ close_fault_number fault }
     ensures refused { (result == 0) ≡ false }

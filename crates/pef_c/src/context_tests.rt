@@ -1,4 +1,4 @@
-//! Contexts: a fragment with its library is loaded, read and closed, and each refusal of the library's own comes once.
+//! Contexts: a fragment with its library is loaded, read and closed, and refusals are reported.
 use crate::handle::{PefContext, none};
 use crate::{
     PefEntries, PefFragmentSection, PefNames, pef_add, pef_close, pef_fragment_bytes,
@@ -23,7 +23,7 @@ const NO_NAMES: PefNames = PefNames {
     symbol: b"",
 };
 
-/// The container of a script, which stays until the program ends.
+/// Returns the container of a script. It stays until the program ends.
 fn linked(rt: &impl Abort, alloc: Global, script: &[u8]) -> &'static [u8] {
     let mut room = [0; 512];
     let mut written = 0;
@@ -50,7 +50,7 @@ fn opened(rt: &impl Abort, alloc: Global, with_library: bool) -> PefContext {
     context
 }
 
-/// Which fragments the connection has, and how they are called.
+/// Tests the fragments of the connection, and their names.
 fn test_fragments(rt: &impl Abort, alloc: Global, context: &mut PefContext) {
     let mut places = [7; 3];
     let mut count = 7;
@@ -67,7 +67,7 @@ fn test_fragments(rt: &impl Abort, alloc: Global, context: &mut PefContext) {
     assert!(rt; pef_fragment_name(alloc, context, 2, &mut name) == 201);
 }
 
-/// What the fragment has in memory: its word is the library's address.
+/// Tests what the fragment has in memory: its word is the library's address.
 fn test_memory(rt: &impl Abort, alloc: Global, context: &mut PefContext) {
     let mut count = 7;
     assert!(rt; pef_fragment_sections(alloc, context, 0, &mut count) == 0 && count == 1);
@@ -86,7 +86,7 @@ fn test_memory(rt: &impl Abort, alloc: Global, context: &mut PefContext) {
     assert!(rt; room == [0, 1, 0, 0, 0, 0, 0, 0, 7] && count == 8);
 }
 
-/// Where the fragment is entered, and what is exported.
+/// Tests the fragment's entry points and the exports.
 fn test_addresses(rt: &impl Abort, alloc: Global, context: &mut PefContext) {
     let mut entries = PefEntries {
         init: 7,
@@ -125,7 +125,7 @@ fn loaded(rt: HostRuntime) {
     pef_free(rt.alloc(), &mut context);
 }
 
-/// A refusal has the names that it tells. A context that isn't open says so, also if it is freed twice.
+/// A refusal is reported with its names. A context that isn't open is reported, also after it was freed twice.
 #[test]
 fn refused(rt: HostRuntime) {
     let mut context = opened(&rt, rt.alloc(), false);

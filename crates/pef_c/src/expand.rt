@@ -5,7 +5,7 @@ use pef_pidata::expand;
 
 /// Expands packed bytes until `out` is full.
 ///
-/// The answer is 0, or the number of the first refusal; `out` has any bytes then.
+/// Returns 0, or the number of the first refusal. After a refusal `out` may have any bytes.
 #[unsafe(no_mangle)]
 pub extern "C" fn pef_expand(packed: &[u8], out: &mut [u8]) -> u32
     ensures { ExpandAnswers packed.now out.old out.new result }

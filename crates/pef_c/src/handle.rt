@@ -1,4 +1,4 @@
-//! What C holds of a context: a pointer that owns it, or nothing.
+//! The handle by which C holds a context: a pointer that owns it, or nothing.
 ghost use Rattle.std.specs.Prelude.{◌≡◌, None, Some, Option, option_map, true};
 ghost use Rattle.std.specs.Option.{is_some};
 ghost use Rattle.cfm_prepare.specs.Contexts.{ContextState};
@@ -10,7 +10,8 @@ use std::alloc::Global;
 use std::marker::Model;
 use std::mem::replace;
 
-/// A pointer to a context on the heap, which it owns. It is a byte's pointer, since C can't hold a context's.
+/// A pointer to a context on the heap, which it owns. It is typed as a pointer to a byte, since C doesn't know the
+/// type of a context.
 #[repr(C)]
 #[derive(Drop)]
 pub struct Handle {
@@ -22,7 +23,7 @@ impl Model for Handle {
     ghost also_owns = { λ h. handle_owns h.at h.value };
 }
 
-/// A handle to the context of a box.
+/// Turns a box into a handle to its context.
 fn seal(loose: Loose<Context<'static>, Global>) -> Handle
     ensures { result.value ≡ Some loose.entry.value }
 {
@@ -30,7 +31,7 @@ fn seal(loose: Loose<Context<'static>, Global>) -> Handle
     Handle { at: at as *mut u8 }
 }
 
-/// The box of a handle's context.
+/// Turns a handle back into the box of its context.
 fn unseal(alloc: Global, handle: Handle) -> Loose<Context<'static>, Global>
     requires { is_some handle.value ≡ true }
     ensures { Some result.value ≡ handle.value }
@@ -42,7 +43,7 @@ fn unseal(alloc: Global, handle: Handle) -> Loose<Context<'static>, Global>
     }
 }
 
-/// A handle to nothing.
+/// Returns a handle to nothing.
 fn closed() -> Handle
     ensures { result.value ≡ None }
 {
@@ -51,7 +52,7 @@ fn closed() -> Handle
     }
 }
 
-/// What C holds of a context. Zero bytes are one that isn't open.
+/// A context as C holds it. Zero bytes are a context that isn't open.
 #[repr(C)]
 #[derive(Drop)]
 pub struct PefContext {
@@ -60,7 +61,7 @@ pub struct PefContext {
     ghost agrees: { is_open ≡ is_some handle.value },
 }
 
-/// One that isn't open.
+/// Returns a context that isn't open.
 pub(crate) fn none() -> PefContext
     ensures { result.handle.value ≡ None }
 {
@@ -70,7 +71,7 @@ pub(crate) fn none() -> PefContext
     }
 }
 
-/// Takes the context out of what C holds, which isn't open then.
+/// Takes the context out of what C holds, which is then not open.
 pub(crate) fn take(alloc: Global, context: &mut PefContext) -> Option<Box<Context<'static>, Global>>
     ensures taken { option_map (λ b. b.value) result ≡ context.old.handle.value }
     ensures left { context.new.handle.value ≡ None }
@@ -82,7 +83,7 @@ pub(crate) fn take(alloc: Global, context: &mut PefContext) -> Option<Box<Contex
     Some(unseal(alloc, handle).into_box())
 }
 
-/// Puts a context into what C holds, which owned none.
+/// Puts a context into what C holds.
 pub(crate) fn put(context: &mut PefContext, boxed: Box<Context<'static>, Global>)
     ensures { context.new.handle.value ≡ Some boxed.entry.value }
 {

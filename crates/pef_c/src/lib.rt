@@ -1,7 +1,7 @@
-//! The library for C: `include/pef.h` says what each call takes, gives and asks of its caller.
+//! The library for C. `include/pef.h` says what each call takes and gives, and what its caller must keep.
 //!
-//! Every call answers a number: 0, or that of a refusal, or one of this crate's own from 200 on. What is
-//! written goes into places that the caller owns.
+//! Every call returns a number: 0, or the number of a refusal, or from 200 on one of this crate's own. Calls write
+//! only into memory that the caller owns.
 #![tactic(auto)]
 
 mod answers;

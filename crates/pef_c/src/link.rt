@@ -7,8 +7,8 @@ use std::alloc::Global;
 
 /// Links the script of a text, and copies its container to the front of `room`.
 ///
-/// The answer is 0; or 200 where the room is too small, with the container's length in `written`; or the
-/// number of the script's first refusal, with its line in `line`, which is 0 in all other cases; or 99.
+/// Returns 0; or 200 if the room is too small, and writes the container's length to `written`; or the number of the
+/// script's first refusal, and writes its line to `line`; or 99. In all other cases `line` becomes 0.
 #[unsafe(no_mangle)]
 pub extern "C" fn pef_link(
     alloc: Global,

@@ -7,8 +7,8 @@ use std::alloc::Global;
 
 /// Lists a container, and copies the lines to the front of `room`.
 ///
-/// The answer is 0; or 200 where the room is too small, with the length of the lines in `written`; or the
-/// number of the first refusal; or 99.
+/// Returns 0; or 200 if the room is too small, and writes the length of the lines to `written`; or the number of
+/// the first refusal; or 99.
 #[unsafe(no_mangle)]
 pub extern "C" fn pef_list(
     alloc: Global,

@@ -1,4 +1,4 @@
-//! Loader sections, read anew from the container's bytes by each call. None takes memory.
+//! Loader sections. Each call reads them anew from the container's bytes, and allocates nothing.
 ghost use Rattle.std.specs.Prelude.{◌≡◌, ◌==◌, false, IfErr};
 ghost use Rattle.pef_loader.specs.Views.{loaded};
 ghost use Rattle.pef_words.specs.Refusals.{result_map};
@@ -9,7 +9,7 @@ use crate::structs::PefLoader;
 use pef_loader::{Loader, LoaderHeader};
 use pef_views::Container;
 
-/// Reads the loader section of a container, or gives the number of the first refusal.
+/// Reads the loader section of a container, or returns the number of the first refusal.
 pub(crate) fn read_tables<'a>(container: &'a [u8]) -> Result<Loader<'a>, u32>
     ensures reads { ReadsTables container.entry.now (result_map loaded result) }
     ensures refused { IfErr result (λ number. (number == 0) ≡ false) }
@@ -24,9 +24,9 @@ pub(crate) fn read_tables<'a>(container: &'a [u8]) -> Result<Loader<'a>, u32>
     }
 }
 
-/// Reads how many things of each kind the loader section of a container has, and its entries.
+/// Reads how many rows the tables of a container's loader section have, and its entry points.
 ///
-/// The answer is 0, or the number of the first refusal.
+/// Returns 0, or the number of the first refusal.
 #[unsafe(no_mangle)]
 pub extern "C" fn pef_loader(container: &[u8], loader: &mut PefLoader) -> u32
     ensures { LoaderAnswers container.now loader.old loader.new result }
@@ -39,7 +39,7 @@ pub extern "C" fn pef_loader(container: &[u8], loader: &mut PefLoader) -> u32
     0
 }
 
-/// A loader header as C sees it.
+/// Returns a loader header as C sees it.
 fn loader_given(header: LoaderHeader) -> PefLoader
     ensures { result ≡ loader_given header }
 {

@@ -1,4 +1,4 @@
-// A box as its pointer: `Loose` of the crate once_cell as the toolchain has it, renamed (Apache License 2.0 or MIT).
+// A box as its pointer. This is `Loose` of the toolchain's crate once_cell, renamed (Apache License 2.0 or MIT).
 ghost use Rattle.std.specs.Prelude.{◌≡◌};
 ghost use Rattle.std.specs.Box.Ownership.{box_owns};
 

@@ -1,16 +1,16 @@
-//! What refusals and this library's own answers are called, and what they mean.
+//! The names of refusals and of this library's own answers, and a sentence or two of help on each.
 ghost use Rattle.std.specs.Prelude.{◌≡◌, option_map};
 ghost use Rattle.pef_c.specs.Names.{TextAnswers, help_of, library_help, library_name, name_of};
 
 use crate::answers::NOT_THERE;
 use pef_refusals::{help, name};
 
-/// The greatest number of a refusal. Those above are this library's own.
+/// The greatest number of a refusal. Numbers above it are this library's own.
 const LAST_REFUSAL: u32 = 99;
 
 /// Gives the name of a refusal, or of an answer of this library, by its number.
 ///
-/// The answer is 0; or 201 where nothing has the number, and `name` stays.
+/// Returns 0; or 201 if nothing has the number, and leaves `name` unchanged.
 #[unsafe(no_mangle)]
 pub extern "C" fn pef_name(number: u32, name: &mut &'static [u8]) -> u32
     ensures { TextAnswers (name_of number) name.old.now name.new.now result }
@@ -20,7 +20,7 @@ pub extern "C" fn pef_name(number: u32, name: &mut &'static [u8]) -> u32
 
 /// Gives one or two sentences on a refusal, or on an answer of this library, by its number: what it means, and what to do.
 ///
-/// The answer is 0; or 201 where nothing has the number, and `help` stays.
+/// Returns 0; or 201 if nothing has the number, and leaves `help` unchanged.
 #[unsafe(no_mangle)]
 pub extern "C" fn pef_help(number: u32, help: &mut &'static [u8]) -> u32
     ensures { TextAnswers (help_of number) help.old.now help.new.now result }
@@ -28,7 +28,7 @@ pub extern "C" fn pef_help(number: u32, help: &mut &'static [u8]) -> u32
     give(help_of(number), help)
 }
 
-/// Writes a text, if there is one.
+/// Writes a text and returns 0, or returns 201 if there is none.
 fn give(text: Option<&'static str>, place: &mut &'static [u8]) -> u32
     ensures { TextAnswers (option_map (λ text. text.now) text.entry) place.old.now place.new.now result }
 {
@@ -41,7 +41,7 @@ fn give(text: Option<&'static str>, place: &mut &'static [u8]) -> u32
     }
 }
 
-/// The name of what has a number.
+/// Returns the name of a number.
 fn name_of(number: u32) -> Option<&'static str>
     ensures { option_map (λ text. text.now) result ≡ name_of number }
 {
@@ -52,7 +52,7 @@ fn name_of(number: u32) -> Option<&'static str>
     }
 }
 
-/// The help for what has a number.
+/// Returns the help on a number.
 fn help_of(number: u32) -> Option<&'static str>
     ensures { option_map (λ text. text.now) result ≡ help_of number }
 {
@@ -63,7 +63,7 @@ fn help_of(number: u32) -> Option<&'static str>
     }
 }
 
-/// The names of the answers that only this library gives.
+/// Returns the name of a number that only this library returns.
 #[tactic(auto, unfolding(crate::specs::Names::library_name))]
 fn library_name(number: u32) -> Option<&'static str>
     ensures { option_map (λ text. text.now) result ≡ library_name number }
@@ -78,7 +78,7 @@ fn library_name(number: u32) -> Option<&'static str>
     }
 }
 
-/// The help for the answers that only this library gives.
+/// Returns the help on a number that only this library returns.
 #[tactic(auto, unfolding(crate::specs::Names::library_help))]
 fn library_help(number: u32) -> Option<&'static str>
     ensures { option_map (λ text. text.now) result ≡ library_help number }

@@ -1,4 +1,4 @@
-//! Which names a refusal tells.
+//! The names that are reported with a refusal.
 ghost use Rattle.std.specs.Prelude.{◌≡◌};
 ghost use Rattle.pef_c.specs.Contexts.{bind_names, fault_names, fragment_names, names_shown};
 
@@ -6,7 +6,7 @@ use crate::structs::PefNames;
 use cfm_closure::BindFault;
 use cfm_prepare::{FragmentFault, PrepareFault};
 
-/// The names of a refusal of a fragment that isn't prepared.
+/// Returns the names of a fragment's refusal.
 pub(crate) fn names_of(fault: PrepareFault<'static>) -> PefNames
     ensures { names_shown result ≡ fault_names fault.entry }
 {
@@ -18,7 +18,7 @@ pub(crate) fn names_of(fault: PrepareFault<'static>) -> PefNames
     }
 }
 
-/// The names of a refusal of a closure.
+/// Returns the names of a refusal of a closure.
 fn bind_names(fault: BindFault<'static>) -> PefNames
     ensures { names_shown result ≡ bind_names fault.entry }
 {
@@ -39,7 +39,7 @@ fn bind_names(fault: BindFault<'static>) -> PefNames
     }
 }
 
-/// The names of a refusal of the new fragments of a closure.
+/// Returns the names of a refusal of a closure's new fragments.
 fn fragment_names(fault: FragmentFault<'static>) -> PefNames
     ensures { names_shown result ≡ fragment_names fault.entry }
 {

@@ -1,5 +1,5 @@
-//! The rows of a loader section's tables, as many at once as the caller has places for: a walk over n rows in
-//! one call costs n. An export is also found by its name.
+//! The rows of a loader section's tables. Each call reads the whole section, and then as many rows as the caller has
+//! places for, so reading n rows in one call takes time linear in n. An export is also found by its name.
 ghost use Rattle.std.specs.Prelude.{◌≡◌, length, map};
 ghost use Rattle.pef_loader.specs.Loader.{export_of, import_of, library_of, reloc_of};
 ghost use Rattle.pef_format.specs.Exports.{export_seen};
@@ -15,7 +15,7 @@ use pef_loader::{ImportReader, LibraryView, Loader};
 
 /// Reads the imported libraries from number `from` on into the first places, and counts them.
 ///
-/// The answer is 0, or the number of the first refusal.
+/// Returns 0, or the number of the first refusal.
 #[unsafe(no_mangle)]
 pub extern "C" fn pef_libraries<'a>(
     container: &'a [u8],
@@ -35,7 +35,7 @@ pub extern "C" fn pef_libraries<'a>(
 
 /// Reads the imported symbols from number `from` on into the first places, and counts them.
 ///
-/// The answer is 0, or the number of the first refusal.
+/// Returns 0, or the number of the first refusal.
 #[unsafe(no_mangle)]
 pub extern "C" fn pef_imports<'a>(
     container: &'a [u8],
@@ -55,7 +55,7 @@ pub extern "C" fn pef_imports<'a>(
 
 /// Reads the relocation headers from number `from` on into the first places, and counts them.
 ///
-/// The answer is 0, or the number of the first refusal.
+/// Returns 0, or the number of the first refusal.
 #[unsafe(no_mangle)]
 pub extern "C" fn pef_relocations<'a>(
     container: &'a [u8],
@@ -75,7 +75,7 @@ pub extern "C" fn pef_relocations<'a>(
 
 /// Reads the exported symbols from number `from` on into the first places, and counts them.
 ///
-/// The answer is 0, or the number of the first refusal.
+/// Returns 0, or the number of the first refusal.
 #[unsafe(no_mangle)]
 pub extern "C" fn pef_exports<'a>(
     container: &'a [u8],
@@ -93,9 +93,9 @@ pub extern "C" fn pef_exports<'a>(
     0
 }
 
-/// Finds the first export of a name, and reads it with its number.
+/// Reads the first export with this name, and its number.
 ///
-/// The answer is 0; or the number of the first refusal; or 201 if no export has the name.
+/// Returns 0, or the number of the first refusal, or 201 if no export has the name.
 #[unsafe(no_mangle)]
 pub extern "C" fn pef_export_named<'a>(
     container: &'a [u8],
@@ -120,7 +120,7 @@ pub extern "C" fn pef_export_named<'a>(
     0
 }
 
-/// Fills the first places with the libraries from number `from` on, and says how many they are.
+/// Fills the first places with the libraries from number `from` on, and returns how many they are.
 fn fill_libraries<'a>(loader: Loader<'a>, from: usize, places: &mut [PefLibrary<'a>]) -> usize
     ensures count { result ≡ fitting (loaded loader.entry).header.library_count from (length places.old) }
     ensures rows { map library_shown places.new ≡ filled (library_of (loaded loader.entry)) from result (map library_shown places.old) }
@@ -135,7 +135,7 @@ fn fill_libraries<'a>(loader: Loader<'a>, from: usize, places: &mut [PefLibrary<
     count
 }
 
-/// Fills the first places with the imports from number `from` on, and says how many they are.
+/// Fills the first places with the imports from number `from` on, and returns how many they are.
 fn fill_imports<'a>(loader: Loader<'a>, from: usize, places: &mut [PefImport<'a>]) -> usize
     ensures count { result ≡ fitting (loaded loader.entry).header.import_count from (length places.old) }
     ensures rows { map import_shown places.new ≡ filled (import_of (loaded loader.entry)) from result (map import_shown places.old) }
@@ -151,7 +151,7 @@ fn fill_imports<'a>(loader: Loader<'a>, from: usize, places: &mut [PefImport<'a>
     count
 }
 
-/// Fills the first places with the relocation headers from number `from` on, and says how many they are.
+/// Fills the first places with the relocation headers from number `from` on, and returns how many they are.
 fn fill_relocations<'a>(loader: Loader<'a>, from: usize, places: &mut [PefRelocation<'a>]) -> usize
     ensures count { result ≡ fitting (loaded loader.entry).header.reloc_count from (length places.old) }
     ensures rows { map relocation_shown places.new ≡ filled (reloc_of (loaded loader.entry)) from result (map relocation_shown places.old) }
@@ -166,7 +166,7 @@ fn fill_relocations<'a>(loader: Loader<'a>, from: usize, places: &mut [PefReloca
     count
 }
 
-/// Fills the first places with the exports from number `from` on, and says how many they are.
+/// Fills the first places with the exports from number `from` on, and returns how many they are.
 fn fill_exports<'a>(loader: Loader<'a>, from: usize, places: &mut [PefExport<'a>]) -> usize
     ensures count { result ≡ fitting (loaded loader.entry).header.export_count from (length places.old) }
     ensures rows { map export_shown places.new ≡ filled (export_of (loaded loader.entry)) from result (map export_shown places.old) }
@@ -181,7 +181,7 @@ fn fill_exports<'a>(loader: Loader<'a>, from: usize, places: &mut [PefExport<'a>
     count
 }
 
-/// A library as C sees it.
+/// Returns a library as C sees it.
 fn library_given<'a>(library: LibraryView<'a>) -> PefLibrary<'a>
     ensures { library_shown result ≡ library_seen library.entry }
 {
@@ -195,7 +195,7 @@ fn library_given<'a>(library: LibraryView<'a>) -> PefLibrary<'a>
     }
 }
 
-/// An import as C sees it.
+/// Returns an import as C sees it.
 fn import_given<'a>(import: ImportView<'a>) -> PefImport<'a>
     ensures { import_shown result ≡ import_seen import.entry }
 {
@@ -207,7 +207,7 @@ fn import_given<'a>(import: ImportView<'a>) -> PefImport<'a>
     }
 }
 
-/// A relocation header as C sees it.
+/// Returns a relocation header as C sees it.
 fn relocation_given<'a>(relocation: (u32, &'a [u8])) -> PefRelocation<'a>
     ensures { relocation_shown result ≡ reloc_seen relocation.entry }
 {
@@ -218,7 +218,7 @@ fn relocation_given<'a>(relocation: (u32, &'a [u8])) -> PefRelocation<'a>
     }
 }
 
-/// An export as C sees it.
+/// Returns an export as C sees it.
 fn export_given<'a>(export: ExportView<'a>) -> PefExport<'a>
     ensures { export_shown result ≡ export_seen export.entry }
 {

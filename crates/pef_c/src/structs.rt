@@ -1,4 +1,4 @@
-//! What C sees of containers and contexts, field by field.
+//! The structs of `include/pef.h`, field by field.
 
 /// A container's header.
 #[repr(C)]
@@ -26,7 +26,7 @@ pub struct PefSection {
     pub alignment: u8,
 }
 
-/// How many things of each kind a loader section has, and its entries. A section of -1 means no entry.
+/// How many rows the tables of a loader section have, and its entry points. A section of -1 means that there is none.
 #[repr(C)]
 #[derive(Clone, Copy, Debug, PartialEq, Eq)]
 pub struct PefLoader {
@@ -64,7 +64,7 @@ pub struct PefImport<'a> {
     pub weak: bool,
 }
 
-/// A relocation header: a section, and the bytes of the instructions for it.
+/// A relocation header: the bytes of its instructions, and the section that they relocate.
 #[repr(C)]
 #[derive(Clone, Copy, Debug)]
 pub struct PefRelocation<'a> {
@@ -82,7 +82,7 @@ pub struct PefExport<'a> {
     pub class: u8,
 }
 
-/// The names that a refusal tells. One that it doesn't tell is empty.
+/// The names that are reported with a refusal. A name that isn't reported is empty.
 #[repr(C)]
 #[derive(Clone, Copy, Debug)]
 pub struct PefNames {
@@ -101,7 +101,7 @@ pub struct PefFragmentSection {
     pub share: u8,
 }
 
-/// The addresses at which a fragment is entered. An entry that isn't there has the address 0.
+/// The addresses of a fragment's entry points. One that isn't there has the address 0.
 #[repr(C)]
 #[derive(Clone, Copy, Debug, PartialEq, Eq)]
 pub struct PefEntries {

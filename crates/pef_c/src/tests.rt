@@ -1,4 +1,4 @@
-//! Each call once, on a container and a listing that docs/FORMATS.md has.
+//! Each call once, on a container and a listing that docs/FORMATS.md shows.
 use crate::{
     PefExport, PefHeader, PefRelocation, PefSection, pef_expand, pef_export_named, pef_exports,
     pef_header, pef_help, pef_imports, pef_libraries, pef_link, pef_list, pef_name,
@@ -7,7 +7,7 @@ use crate::{
 use std::alloc::Global;
 use std::process::Abort;
 
-/// Two transition vectors, of which the first is exported.
+/// Two transition vectors. The first is exported.
 const SCRIPT: &[u8] = b"versions 1 0 0
 section code code global 4 8
 section data data process 4 16
@@ -36,7 +36,7 @@ const NO_EXPORT: PefExport<'static> = PefExport {
     class: 7,
 };
 
-/// The container of the script.
+/// Returns the container of the script.
 fn container(rt: &impl Abort, alloc: Global) -> [u8; 250] {
     let mut room = [0; 250];
     let mut written = 0;

@@ -7,7 +7,7 @@ use pef_listing::Listing;
 use pef_ports::{Page, Sink, StreamFault, flush};
 use std::alloc::Global;
 
-/// An output that keeps its bytes. It fails only if memory is refused.
+/// An output that keeps its bytes. It fails only if an allocation fails.
 #[derive(Drop)]
 struct Text {
     bytes: Vec<u8>,
@@ -31,7 +31,7 @@ impl Sink for Text {
     }
 }
 
-/// The lines of a listing, or a failure if memory is refused.
+/// Returns the lines of a listing, or a failure if an allocation fails.
 pub(crate) fn listing_text(alloc: Global, listing: &Listing<'_>) -> Result<Vec<u8>, StreamFault>
     ensures { IfOk result (λ text. text.items ≡ listing_text (parts listing.now).container (parts listing.now).loader) }
 {

@@ -1,4 +1,4 @@
-//! Laws of the names, for their readers. The functions do nothing.
+//! Laws: the number of each refusal has its name. The functions do nothing.
 ghost use Rattle.std.specs.Prelude.{◌≡◌, Some};
 ghost use Rattle.pef_listing.specs.Faults as listing;
 ghost use Rattle.pef_loader.specs.Faults as loader;
