@@ -87,21 +87,40 @@ static void read_section(const uint8_t *bytes, size_t length, size_t number)
         is_ok("pef_expand", pef_expand(raw.at, raw.length, take(&outputs, it.unpacked_size), it.unpacked_size));
 }
 
-/* Reads a table of names, in parts. */
-#define READ_TABLE(call, row)                                                                                                  \
+/* Reads a table of rows that have a name or another slice, in parts. */
+#define READ_TABLE(call, row, slice)                                                                                           \
     do {                                                                                                                       \
         struct row places[PLACES];                                                                                             \
         size_t from = 0, count = 0;                                                                                            \
         do {                                                                                                                   \
             for (size_t i = 0; i < PLACES; i++)                                                                                \
-                places[i] = (struct row){.name = PEF_NO_BYTES};                                                                \
+                places[i] = (struct row){.slice = PEF_NO_BYTES};                                                               \
             if (!is_ok(#call, call(bytes, length, from, places, PLACES, &count)))                                              \
                 break;                                                                                                         \
             for (size_t i = 0; i < count; i++)                                                                                 \
-                check_part(places[i].name, bytes, length);                                                                     \
+                check_part(places[i].slice, bytes, length);                                                                    \
             from += count;                                                                                                     \
         } while (count == PLACES && from < 1024);                                                                              \
     } while (0)
+
+/* Finds each of the first exports by its name: it, or one before it, has the name. */
+static void find_exports(const uint8_t *bytes, size_t length)
+{
+    struct pef_export places[PLACES], found = {.name = PEF_NO_BYTES};
+    size_t count = 0, number = 0;
+    for (size_t i = 0; i < PLACES; i++)
+        places[i] = (struct pef_export){.name = PEF_NO_BYTES};
+    if (!is_ok("pef_exports", pef_exports(bytes, length, 0, places, PLACES, &count)))
+        return;
+    for (size_t i = 0; i < count; i++) {
+        struct pef_bytes name = places[i].name;
+        if (pef_export_named(bytes, length, name.at, name.length, &number, &found) != PEF_OK || number > i)
+            fails("pef_export_named", (uint32_t)i);
+        check_part(found.name, bytes, length);
+        if (found.name.length != name.length || (name.length != 0 && memcmp(found.name.at, name.at, name.length) != 0))
+            fails("pef_export_named, the name", (uint32_t)i);
+    }
+}
 
 /* Lists into a room that is too small by one byte, and into one that isn't. The first stays as it is. */
 static void list(const uint8_t *bytes, size_t length)
@@ -128,9 +147,11 @@ static bool read_container(const uint8_t *bytes, size_t length)
     for (size_t number = 0; number <= header.section_count && number < 32; number++)
         read_section(bytes, length, number);
     bool is_loaded = is_ok("pef_loader", pef_loader(bytes, length, &loader));
-    READ_TABLE(pef_libraries, pef_library);
-    READ_TABLE(pef_imports, pef_import);
-    READ_TABLE(pef_exports, pef_export);
+    READ_TABLE(pef_libraries, pef_library, name);
+    READ_TABLE(pef_imports, pef_import, name);
+    READ_TABLE(pef_relocations, pef_relocation, instructions);
+    READ_TABLE(pef_exports, pef_export, name);
+    find_exports(bytes, length);
     list(bytes, length);
     return is_loaded;
 }

@@ -284,6 +284,13 @@ struct pef_import {
     bool weak;
 };
 
+/* A relocation header: the section that is relocated, and the bytes of its instructions, two for each halfword, the high one
+ * first. docs/FORMATS.md has the instructions. */
+struct pef_relocation {
+    struct pef_bytes instructions;
+    uint32_t section;
+};
+
 /* An exported symbol: its value is an offset in a section, a number if the section is PEF_ABSOLUTE, or the number of an
  * import if it is PEF_REEXPORT. */
 struct pef_export {
@@ -294,16 +301,26 @@ struct pef_export {
 };
 
 /*
- * Read the libraries, imports and exports from number `from` on into the first of `places`, and store how many they were
- * in `*count`: as many as there are from there on, or as there are places. The other places are left unchanged. Names are
- * parts of the container.
+ * Read the libraries, imports, relocation headers and exports from number `from` on into the first of `places`, and store how
+ * many they were in `*count`: as many as there are from there on, or as there are places. The other places are left unchanged.
+ * Names and instructions are parts of the container.
  *
- * All names of `places` start as PEF_NO_BYTES, or as any slices that aren't null; zero bytes are not enough. Each call
- * reads the whole loader section, so read many at once.
+ * All names and instructions of `places` start as PEF_NO_BYTES, or as any slices that aren't null; zero bytes are not enough.
+ * Each call reads the whole loader section, so read many at once: then n rows cost no more than n of these.
  */
 uint32_t pef_libraries(const uint8_t *container, size_t container_length, size_t from, struct pef_library *places, size_t place_count, size_t *count);
 uint32_t pef_imports(const uint8_t *container, size_t container_length, size_t from, struct pef_import *places, size_t place_count, size_t *count);
+uint32_t pef_relocations(const uint8_t *container, size_t container_length, size_t from, struct pef_relocation *places, size_t place_count, size_t *count);
 uint32_t pef_exports(const uint8_t *container, size_t container_length, size_t from, struct pef_export *places, size_t place_count, size_t *count);
+
+/*
+ * Reads the first export with this name into `*found`, and stores its number, which is that of pef_exports(), in `*number`.
+ * Names are compared byte by byte.
+ *
+ * Returns PEF_NOT_THERE, if no export has the name. Each call reads the whole loader section, so to look up many names, read
+ * all exports once. `found->name` starts as PEF_NO_BYTES, or as any slice that isn't null.
+ */
+uint32_t pef_export_named(const uint8_t *container, size_t container_length, const uint8_t *name, size_t name_length, size_t *number, struct pef_export *found);
 
 /*
  * A context: fragments by name, and the memory in which they are prepared. Start it as zero bytes:

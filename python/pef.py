@@ -43,6 +43,7 @@ __all__ = [
     "Library",
     "PefError",
     "PlacedSection",
+    "Relocation",
     "Section",
     "help_of",
     "library",
@@ -127,6 +128,10 @@ class _Import(ctypes.Structure):
     _fields_ = [("name", _Bytes), *_fields(size_t="library", uint8="symbol_class", bool="weak")]
 
 
+class _Relocation(ctypes.Structure):
+    _fields_ = [("instructions", _Bytes), *_fields(uint32="section")]
+
+
 class _Export(ctypes.Structure):
     _fields_ = [("name", _Bytes), *_fields(int32="section", uint32="value", uint8="symbol_class")]
 
@@ -181,7 +186,9 @@ _CALLS = {
     "pef_loader": _IN + [ctypes.POINTER(_Loader)],
     "pef_libraries": _IN + [ctypes.c_size_t, ctypes.POINTER(_Library), ctypes.c_size_t] + _SIZE,
     "pef_imports": _IN + [ctypes.c_size_t, ctypes.POINTER(_Import), ctypes.c_size_t] + _SIZE,
+    "pef_relocations": _IN + [ctypes.c_size_t, ctypes.POINTER(_Relocation), ctypes.c_size_t] + _SIZE,
     "pef_exports": _IN + [ctypes.c_size_t, ctypes.POINTER(_Export), ctypes.c_size_t] + _SIZE,
+    "pef_export_named": _IN * 2 + _SIZE + [ctypes.POINTER(_Export)],
     "pef_open": _IN_CONTEXT + [ctypes.c_uint32],
     "pef_free": _IN_CONTEXT,
     "pef_add": _IN_CONTEXT + _IN * 2,
@@ -307,6 +314,14 @@ class Import:
 
 
 @dataclasses.dataclass(frozen=True)
+class Relocation:
+    """A relocation header: the section that is relocated, and the bytes of its instructions, two for each halfword."""
+
+    section: int
+    instructions: bytes
+
+
+@dataclasses.dataclass(frozen=True)
 class Export:
     """An exported symbol.
 
@@ -325,6 +340,10 @@ class Entry:
 
     section: int
     offset: int
+
+
+def _export(row: _Export) -> Export:
+    return Export(row.name.text(), row.section, row.value, row.symbol_class)
 
 
 class Container:
@@ -383,10 +402,10 @@ class Container:
         _check(library().pef_expand(section.raw, len(section.raw), room, section.unpacked_size))
         return ctypes.string_at(room, section.unpacked_size)
 
-    def _rows(self, call: str, row, count: int) -> list:
+    def _rows(self, call: str, row, count: int, slice_name: str = "name") -> list:
         rows, found = (row * max(1, count))(), ctypes.c_size_t()
         for it in rows:
-            it.name = _no_bytes()
+            setattr(it, slice_name, _no_bytes())
         _check(getattr(library(), call)(*self._bytes, 0, rows, count, ctypes.byref(found)))
         return list(rows[: found.value])
 
@@ -403,10 +422,28 @@ class Container:
         return [Import(it.name.text(), self.libraries[it.library].name, it.symbol_class, it.weak) for it in rows]
 
     @functools.cached_property
+    def relocations(self) -> List[Relocation]:
+        """The relocation headers, with their instructions (docs/FORMATS.md)."""
+        rows = self._rows("pef_relocations", _Relocation, self._loader.relocation_count, "instructions")
+        return [Relocation(it.section, it.instructions.value()) for it in rows]
+
+    @functools.cached_property
     def exports(self) -> List[Export]:
         """The exported symbols, in the order of the container's keys."""
         rows = self._rows("pef_exports", _Export, self._loader.export_count)
-        return [Export(it.name.text(), it.section, it.value, it.symbol_class) for it in rows]
+        return [_export(it) for it in rows]
+
+    def find_export(self, name: Text) -> Optional[Tuple[int, Export]]:
+        """The place in `exports` of the first symbol with this name, and that symbol; None if there is none.
+
+        Each call reads the loader section anew. To look up many names, make a dictionary of `exports`.
+        """
+        raw, number, row = _raw(name), ctypes.c_size_t(), _Export(_no_bytes())
+        answer = library().pef_export_named(*self._bytes, raw, len(raw), ctypes.byref(number), ctypes.byref(row))
+        if answer == NOT_THERE:
+            return None
+        _check(answer)
+        return number.value, _export(row)
 
     @functools.cached_property
     def entries(self) -> Dict[str, Entry]:

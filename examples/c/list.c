@@ -7,12 +7,14 @@ int main(int count, char **words)
         fputs("usage: list FILE\n", stderr);
         return 2;
     }
-    size_t length, room = 65536, written = 0;
+    size_t length, written = 0;
     uint8_t *container = read_file(words[1], &length);
     if (container == NULL) {
         perror(words[1]);
         return 1;
     }
+    /* Mostly enough, so that the lines are made only once. */
+    size_t room = 65536 + 16 * length;
     uint8_t *lines = malloc(room);
     uint32_t answer = lines == NULL ? PEF_OUT_OF_MEMORY : pef_list(container, length, lines, room, &written);
     if (answer == PEF_ROOM_TOO_SMALL) {

@@ -1,7 +1,7 @@
 /*
- * Walks over a container: walk FILE prints what `pef list` prints, but for its relocation programs, and takes each line
- * from the calls that read a container part by part. Packed sections are expanded, to see that they can be. Each table is
- * read by one call, since each call reads the loader section anew.
+ * Walks over a container: walk FILE prints what `pef list` prints, but relocation instructions as halfwords alone. Each line
+ * comes from the calls that read a container part by part. Packed sections are expanded, to see that they can be. Each table
+ * is read by one call, since each call reads the loader section anew.
  */
 #include "file.h"
 
@@ -9,11 +9,20 @@
 
 static struct pef_bytes container;
 
+static bool is_plain(uint8_t byte)
+{
+    return byte > 0x20 && byte < 0x7f && byte != '%';
+}
+
 /* Prints a name, with each byte that isn't printable and each % as % and two digits. */
 static void print_name(struct pef_bytes name)
 {
-    for (size_t i = 0; i < name.length; i++)
-        printf(name.at[i] > 0x20 && name.at[i] < 0x7f && name.at[i] != '%' ? "%c" : "%%%02X", name.at[i]);
+    size_t plain = 0;
+    while (plain < name.length && is_plain(name.at[plain]))
+        plain++;
+    fwrite(name.at, 1, plain, stdout);
+    for (size_t i = plain; i < name.length; i++)
+        printf(is_plain(name.at[i]) ? "%c" : "%%%02X", name.at[i]);
 }
 
 static uint32_t expand(struct pef_bytes packed, size_t length)
@@ -81,6 +90,30 @@ static uint32_t print_imports(struct pef_import *imports, size_t room, const str
     return answer;
 }
 
+/* Prints the halfwords of each instruction. Those that begin with A or B have two. */
+static void print_instructions(struct pef_bytes it)
+{
+    for (size_t i = 0; i + 1 < it.length; i += 2) {
+        printf("%02X%02X", it.at[i], it.at[i + 1]);
+        if ((it.at[i] >> 4 == 0xA || it.at[i] >> 4 == 0xB) && i + 3 < it.length) {
+            i += 2;
+            printf(" %02X%02X", it.at[i], it.at[i + 1]);
+        }
+        putchar('\n');
+    }
+}
+
+static uint32_t print_relocations(struct pef_relocation *relocations, size_t room)
+{
+    size_t count = 0;
+    uint32_t answer = pef_relocations(container.at, container.length, 0, relocations, room, &count);
+    for (size_t i = 0; answer == PEF_OK && i < count; i++) {
+        printf("reloc section %u halfwords %zu\n", relocations[i].section, relocations[i].instructions.length / 2);
+        print_instructions(relocations[i].instructions);
+    }
+    return answer;
+}
+
 static uint32_t print_exports(struct pef_export *exports, size_t room)
 {
     size_t count = 0;
@@ -99,18 +132,27 @@ static void print_entry(const char *label, int32_t section, uint32_t offset)
         printf("%s %d %08X\n", label, section, offset);
 }
 
-static uint32_t print_rows(const struct pef_loader *loader, struct pef_library *libraries, struct pef_import *imports,
-                           struct pef_export *exports)
+/* The rows of all tables. */
+struct rows {
+    struct pef_library *libraries;
+    struct pef_import *imports;
+    struct pef_relocation *relocations;
+    struct pef_export *exports;
+};
+
+static uint32_t print_rows(const struct pef_loader *loader, const struct rows *rows)
 {
-    if (libraries == NULL || imports == NULL || exports == NULL)
+    if (rows->libraries == NULL || rows->imports == NULL || rows->relocations == NULL || rows->exports == NULL)
         return PEF_OUT_OF_MEMORY;
-    uint32_t answer = print_libraries(libraries, loader->library_count);
+    uint32_t answer = print_libraries(rows->libraries, loader->library_count);
     if (answer == PEF_OK)
-        answer = print_imports(imports, loader->import_count, libraries);
+        answer = print_imports(rows->imports, loader->import_count, rows->libraries);
     print_entry("main", loader->main_section, loader->main_offset);
     print_entry("init", loader->init_section, loader->init_offset);
     print_entry("term", loader->term_section, loader->term_offset);
-    return answer == PEF_OK ? print_exports(exports, loader->export_count) : answer;
+    if (answer == PEF_OK)
+        answer = print_relocations(rows->relocations, loader->relocation_count);
+    return answer == PEF_OK ? print_exports(rows->exports, loader->export_count) : answer;
 }
 
 /* Prints all lines of the loader section. */
@@ -123,14 +165,19 @@ static uint32_t print_loader(void)
         return answer;
     const struct pef_library library = {.name = PEF_NO_BYTES};
     const struct pef_import import = {.name = PEF_NO_BYTES};
+    const struct pef_relocation relocation = {.instructions = PEF_NO_BYTES};
     const struct pef_export export = {.name = PEF_NO_BYTES};
-    struct pef_library *libraries = make_rows(loader.library_count, &library, sizeof library);
-    struct pef_import *imports = make_rows(loader.import_count, &import, sizeof import);
-    struct pef_export *exports = make_rows(loader.export_count, &export, sizeof export);
-    answer = print_rows(&loader, libraries, imports, exports);
-    free(libraries);
-    free(imports);
-    free(exports);
+    struct rows rows = {
+        make_rows(loader.library_count, &library, sizeof library),
+        make_rows(loader.import_count, &import, sizeof import),
+        make_rows(loader.relocation_count, &relocation, sizeof relocation),
+        make_rows(loader.export_count, &export, sizeof export),
+    };
+    answer = print_rows(&loader, &rows);
+    free(rows.libraries);
+    free(rows.imports);
+    free(rows.relocations);
+    free(rows.exports);
     return answer;
 }
 
