@@ -12,8 +12,11 @@
  * - No pointer is null, not even one to no bytes. PEF_NO_BYTES is an empty slice that is fit to be handed in.
  * - A pointer with a length points to at least that many bytes, which nobody else changes during the call.
  * - What a call writes overlaps nothing else that it takes.
- * - Calls are made one at a time, and none from a signal handler. The library keeps no state outside of contexts, but
- *   several threads at once were not tried.
+ * - A context is used by one thread at a time. Apart from that, several threads may make calls at once: the library has no
+ *   state outside of contexts.
+ * - A thread that makes calls has a megabyte of stack. Reading a container whose libraries are out of order takes about half of
+ *   it.
+ * - No call is made from a signal handler.
  * - malloc, realloc and free are the C library's, or as good: blocks are aligned to 16 bytes.
  *
  * What is borrowed is read during the call only, unless a call says that a result points into it. Then the bytes have to
@@ -125,8 +128,9 @@ struct pef_bytes {
 #define PEF_ADDED_TOO_LATE 203
 #define PEF_STORE_FULL 204
 
-/* How many fragments a context has at most. */
+/* How many fragments a context has at most, and how many connections it gives at most, closed ones included. */
 #define PEF_MAX_FRAGMENTS 256
+#define PEF_MAX_CONNECTIONS 65536
 
 /* Section kinds. PEF_KIND_PACKED is pattern-initialized data, which pef_expand() expands. */
 #define PEF_KIND_CODE 0
@@ -328,8 +332,8 @@ uint32_t pef_export_named(const uint8_t *container, size_t container_length, con
  *     struct pef_context context = {0};
  *
  * Only the calls below change it, and it isn't copied. Each of these calls returns PEF_NOT_OPEN, and changes nothing, if
- * the context isn't open: pef_open() wasn't called, failed, or was followed by pef_free(). A context is used by one
- * thread, the one that opened it. Several contexts may be open at once.
+ * the context isn't open: pef_open() wasn't called, failed, or was followed by pef_free(). Several contexts may be open at
+ * once, also in different threads.
  *
  * A fragment is named by its number, counted from 0 in the order in which fragments were added. It is present while the
  * closure of an open connection has it: the fragment that was prepared, with all fragments that it needs. A present
@@ -384,7 +388,8 @@ struct pef_names {
 uint32_t pef_prepare(struct pef_context *context, const uint8_t *name, size_t name_length, uint32_t *connection, struct pef_names *names);
 
 /*
- * Closes a connection. Fragments that no other open connection needs are no longer present.
+ * Closes a connection. Fragments that no other open connection needs are no longer present. The number of the connection isn't
+ * given again.
  *
  * Returns PEF_OK; or PEF_BAD_CONNECTION, if no open connection has this number, and changes nothing.
  */

@@ -581,7 +581,7 @@ class Connection:
 class Context:
     """Fragments by name, and the memory in which they are prepared (docs/EMBEDDING.md).
 
-    No section passes `limit`. The context is freed at the end of a `with`, or by free(). It is used by one thread.
+    No section passes `limit`. The context is freed at the end of a `with`, or by free(). It is used by one thread at a time.
     """
 
     def __init__(self, limit: int = 0x10000000):
