@@ -7,9 +7,9 @@
  * docs/ERRORS.md explains the refusals; pef_name() gives their names, and pef_help() a sentence or two on each. Only the
  * first refusal is reported.
  *
- * What the caller owes, in every call:
+ * What every call asks of its caller:
  *
- * - No pointer is null, not even one to no bytes. PEF_NO_BYTES is an empty slice that is fit to be handed in.
+ * - No pointer is null, not even one to no bytes. PEF_NO_BYTES is an empty slice whose pointer isn't null.
  * - A pointer with a length points to at least that many bytes, which nobody else changes during the call.
  * - What a call writes overlaps nothing else that it takes.
  * - A context is used by one thread at a time. Apart from that, several threads may make calls at once: the library has no
@@ -17,7 +17,7 @@
  * - A thread that makes calls has a megabyte of stack. Reading a container whose libraries are out of order takes about half of
  *   it.
  * - No call is made from a signal handler.
- * - malloc, realloc and free are the C library's, or as good: blocks are aligned to 16 bytes.
+ * - malloc, realloc and free are those of the C library, or others whose blocks are aligned to 16 bytes.
  *
  * What is borrowed is read during the call only, unless a call says that a result points into it. Then the bytes have to
  * stay, unchanged, while the result is used. What pef_add() takes has to stay until the program ends. Nothing that the
@@ -204,7 +204,7 @@ uint32_t pef_name(uint32_t number, struct pef_bytes *name);
 uint32_t pef_help(uint32_t number, struct pef_bytes *help);
 
 /*
- * The calls below read a container anew from its bytes each time, and take no memory. They return PEF_OK; or the first
+ * The calls below read a container anew from its bytes each time, and allocate nothing. They return PEF_OK; or the first
  * refusal of what they read, and then they leave all that they would write unchanged.
  */
 
@@ -367,7 +367,7 @@ void pef_free(struct pef_context *context);
  */
 uint32_t pef_add(struct pef_context *context, const uint8_t *name, size_t name_length, const uint8_t *bytes, size_t bytes_length);
 
-/* The names that a refusal tells. A name that it doesn't tell is empty. Start all three as PEF_NO_BYTES. */
+/* The names that are reported with a refusal. A name that isn't reported is empty. Start all three as PEF_NO_BYTES. */
 struct pef_names {
     struct pef_bytes fragment;
     struct pef_bytes library;
