@@ -47,6 +47,32 @@ fn digits_number(base: u8, digits: &[u8]) -> Option<u32>
     Some(value as u32)
 }
 
+/// Returns the value of a decimal digit.
+#[inline(always)]
+fn decimal_digit(digit: u8) -> Option<u8>
+    ensures { result ≡ below 10 (hex_value digit) }
+{
+    match digit {
+        b'0'..=b'9' => Some(digit - b'0'),
+        _ => None,
+    }
+}
+
+/// Returns the number that decimal digits spell, if it has 32 bits. This takes fewer tests than any base does.
+#[inline(always)]
+fn decimal_digits(digits: &[u8]) -> Option<u32>
+    ensures { result ≡ digits_number 10 digits.now }
+{
+    let mut value: u64 = 0;
+    for digit in digits {
+        value = value * 10 + u64::from(decimal_digit(*digit)?);
+        if value > u64::from(u32::MAX) {
+            return None;
+        }
+    }
+    Some(value as u32)
+}
+
 /// Returns the number that one to eight hex digits spell, of either case.
 pub fn hex_number(digits: &[u8]) -> Option<u32>
     ensures { result ≡ hex_number digits.now }
@@ -65,6 +91,6 @@ pub fn decimal_number(digits: &[u8]) -> Option<u32>
         [] => None,
         [b'0'] => Some(0),
         [b'0', ..] => None,
-        _ => digits_number(10, digits),
+        _ => decimal_digits(digits),
     }
 }
