@@ -1,5 +1,6 @@
 ghost use Rattle.std.specs.Prelude.{◌≡◌, ◌+◌, ◌*◌, ◌^◌, ◌<◌, ◌≤◌, [], false, length, map, IfOk, IfSome, OnOk};
 ghost use Rattle.std.specs.List.{fold};
+ghost use Rattle.std.specs.Str.{bytes_eq};
 ghost use Rattle.pef_script.specs.Views.{header_in};
 ghost use Rattle.pef_script.specs.Text.Contents.{overlaps, placed, with_fixups, with_image};
 ghost use Rattle.pef_script.specs.Text.Kept.Sections.{AreApart, fixups_in};
@@ -244,9 +245,22 @@ pub fn section_number(sections: &[SectionSoFar], name: &[u8]) -> Option<usize>
     ensures below { IfSome result (λ k. k < length sections.now) }
 {
     for (k, section) in sections.iter().enumerate() {
-        if name == section.header.name {
+        if are_same(name, section.header.name) {
             return Some(k);
         }
     }
     None
+}
+
+/// Returns whether two names are equal. Those of sections often differ in the last byte alone.
+fn are_same(one: &[u8], other: &[u8]) -> bool
+    ensures { result ≡ bytes_eq one.now other.now }
+{
+    if one.len() != other.len() {
+        return false;
+    }
+    if !one.is_empty() && one[one.len() - 1] != other[one.len() - 1] {
+        return false;
+    }
+    one == other
 }
