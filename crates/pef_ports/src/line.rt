@@ -46,8 +46,7 @@ pub fn push_hex(line: &mut Line, bytes: &[u8])
     ensures len { array_vec_len line.new ≡ array_vec_len line.old + 2 * length bytes.now }
 {
     for b in bytes {
-        line.push(digit(*b / 16));
-        line.push(digit(*b % 16));
+        push_text(line, &[digit(*b / 16), digit(*b % 16)]);
     }
 }
 
