@@ -32,7 +32,12 @@ pub mod theorems;
 mod users;
 
 pub use add_fault::AddFault;
+pub use cfm_closure::{BindFault, Store, StoreFault};
 pub use context::{Connection, Context};
 pub use entries::Entries;
 pub use fault::{CloseFault, PrepareFault};
 pub use fragment_fault::FragmentFault;
+pub use pef_loader::LoaderFault;
+pub use pef_pidata::PackFault;
+pub use pef_reloc::RelocFault;
+pub use pef_views::{SectionHeader, ViewFault};

@@ -1,6 +1,6 @@
 use cfm_closure::{BindFault, StoreFault};
 use cfm_memory::MemoryFault;
-use cfm_prepare::{CloseFault, FragmentFault, PrepareFault};
+use cfm_prepare::{AddFault, CloseFault, FragmentFault, PrepareFault};
 use pef_cert::CertFault;
 use pef_hash::HashFault;
 use pef_listing::ListFault;
@@ -205,6 +205,13 @@ const FRAGMENTS: &[(FragmentFault<'static>, &str)] = &[
     (FragmentFault::OutOfMemory, "OutOfMemory"),
 ];
 
+/// Refusals of additions.
+const ADDITIONS: &[(AddFault, &str)] = &[
+    (AddFault::AddedTooLate, "AddedTooLate"),
+    (AddFault::StoreFull, "StoreFull"),
+    (AddFault::OutOfMemory, "OutOfMemory"),
+];
+
 /// Refusals of preparations.
 const PREPARATIONS: &[(PrepareFault<'static>, &str)] = &[
     (PrepareFault::TooManyConnections, "TooManyConnections"),
@@ -265,5 +272,6 @@ fn names_of_fragments(rt: HostRuntime) {
     test_texts(&rt, alloc, FRAGMENTS);
     test_texts(&rt, alloc, PREPARATIONS);
     test_texts(&rt, alloc, &[(StoreFault::OutOfMemory, "OutOfMemory")]);
+    test_texts(&rt, alloc, ADDITIONS);
     test_texts(&rt, alloc, &[(CloseFault::BadConnection, "BadConnection")]);
 }
