@@ -1,7 +1,6 @@
 //! The examples of `docs/EMBEDDING.md`: `store_of`, `load` and `prepare_app` have its lines word for word.
 
-use cfm_closure::Store;
-use cfm_prepare::Context;
+use cfm_prepare::{Context, Store};
 use std::alloc::Global;
 use std::process::Abort;
 use std::test::Fail;
