@@ -160,8 +160,36 @@ impl<'a> SolvedSuffix<'a> {
         let position = u64::from(at.first.offset) + 2 * WORD;
         let row = self.row(at.others.len());
         let class = class_of(self.registers, section);
-        'classes: for c in 0..far.len() {
-            far[c] = self.value_in(row, at.others, position, c, class) as u32;
+        if begin_at(at.others, position) {
+            self.looks.add(far.len() as u64);
+            self.copy_column(row, class, far);
+        } else {
+            self.fill_column(row, at.others, position, class, far);
+        }
+    }
+
+    /// Fills in the extension at a position where none of these fixups is, with register D in a class, by the
+    /// class of C.
+    fn fill_column(
+        self,
+        row: &'a [u32],
+        rest: &[Fixup],
+        position: u64,
+        class: usize,
+        values: &mut [u32],
+    )
+        requires row { IsRow self (length rest.now) row.now }
+        requires shaped { Shaped self (length rest.now) }
+        requires away { begin_at position rest.now ≡ false }
+        requires class { class < length self.registers.now + 1 }
+        requires len { length values.old ≡ length self.registers.now + 1 }
+        ensures len { length values.new ≡ length values.old }
+        ensures are { (c : ℕ) → c < length self.entry.registers.now + 1 → (l : Labels) → Agrees l self.entry rest.now → slice_index values.new c ≡ extension l rest.now position c class }
+    {
+        self.looks.add(values.len() as u64);
+        match self.ahead(row, rest, position) {
+            Some(ahead) => fill_column_ahead(ahead, class, values),
+            None => values.fill(0),
         }
     }
 
@@ -199,6 +227,21 @@ fn fill_ahead(ahead: NextFixup<'_>, classes: usize, values: &mut [u32])
         if d == classes {
             (c, d) = (c + 1, 0);
         }
+    }
+}
+
+/// Fills in the extension with register D in a class, by the class of C.
+fn fill_column_ahead(ahead: NextFixup<'_>, class: usize, values: &mut [u32])
+    requires few { length values.old ≤ most_sections + 1 }
+    requires class { class < length values.old }
+    requires row { length ahead.row.now ≡ length values.old * length values.old }
+    requires skips { length ahead.skips.now ≡ length values.old }
+    requires small { (c d : ℕ) → c < length values.old → d < length values.old → number_in (length values.old) ahead.row.now c d + 2 < 2 ^ 32 }
+    ensures len { length values.new ≡ length values.old }
+    ensures are { (c : ℕ) → c < length values.old → slice_index values.new c ≡ value_ahead (length values.old) ahead.entry c class }
+{
+    'classes: for c in 0..values.len() {
+        values[c] = ahead.value(c * values.len() + class, c, class) as u32;
     }
 }
 
