@@ -1,72 +1,26 @@
 ghost use Rattle.std.specs.Prelude.{◌≡◌, ◌+◌, ◌*◌, ◌==◌, ◌<◌, ◌≤◌, ◌∷◌, ℕ, length, true};
 ghost use Rattle.pef_cert.specs.Labels.{Labels, class_of};
-ghost use Rattle.pef_cert.specs.Extension.{extension};
-ghost use Rattle.pef_cert.specs.LabelTests.{base_test, import_cost, second_test};
+ghost use Rattle.pef_cert.specs.LabelTests.{second_test};
 ghost use Rattle.pef_plan.specs.Runs.Ends.{EndsAt};
 ghost use Rattle.pef_plan.specs.Runs.Runs.{Holds, NextBase};
 ghost use Rattle.pef_plan.specs.Runs.Places.{HereOf, Led};
-ghost use Rattle.pef_plan.specs.Kept.Met.{ClassOf, MetInC, MetInD, PairsMet};
+ghost use Rattle.pef_plan.specs.Kept.Met.{MetInC, MetInD, PairsMet};
 ghost use Rattle.pef_plan.specs.Runs.Tables.{Agrees};
-ghost use Rattle.pef_reloc.specs.declared.fixup.Base.TheVariants.{Import, Section};
+ghost use Rattle.pef_reloc.specs.declared.fixup.Base.TheVariants.{Section};
 
-use crate::direct::SMALL_IMPORTS;
 use crate::runs::{OpenState, Run, RunEnds, SolvedSuffix};
 use pef_cert::class_of;
 use pef_reloc::Base;
 
 /// A section and its class.
 #[derive(Clone, Copy)]
-struct Classed {
-    section: u32,
-    class: usize,
-}
-
-/// What the best instruction leads to that begins by adding at a fixup, whose section, if it has one, is of
-/// this class.
-pub(crate) fn low(known: SolvedSuffix<'_>, here: OpenState<'_>, ends: &RunEnds, class: usize) -> u64
-    requires here { HereOf known here }
-    requires at { here.place.position ≡ here.first.offset }
-    requires class { ClassOf known.registers.now here.first.base class }
-    requires ends { EndsAt known here.others.now (here.first ∷ here.others.now) ends.now }
-    ensures led { Led known.entry here.entry result }
-    ensures least { (l : Labels) (value : ℕ) → Agrees l known.entry here.entry.others.now → value ≤ result → base_test l value here.entry.place.import_index here.entry.first here.entry.others.now here.entry.place.c here.entry.place.d here.entry.first.base ≡ true }
-    ensures small { result ≤ 4 * length here.entry.others.now + 4 }
-{
-    match here.first.base {
-        Base::Section(section) => low_section(known, here, ends, Classed { section, class }),
-        Base::Import(import) => low_import(known, here, ends, import),
-    }
-}
-
-fn low_section(known: SolvedSuffix<'_>, here: OpenState<'_>, ends: &RunEnds, of: Classed) -> u64
-    requires here { HereOf known here }
-    requires at { here.place.position ≡ here.first.offset }
-    requires base { here.first.base ≡ Section of.section }
-    requires class { class_of known.registers.now of.section ≡ of.class }
-    requires ends { EndsAt known here.others.now (here.first ∷ here.others.now) ends.now }
-    ensures led { Led known.entry here.entry result }
-    ensures least { (l : Labels) (value : ℕ) → Agrees l known.entry here.entry.others.now → value ≤ result → base_test l value here.entry.place.import_index here.entry.first here.entry.others.now here.entry.place.c here.entry.place.d (Section of.section) ≡ true }
-    ensures small { result ≤ 4 * length here.entry.others.now + 4 }
-{
-    let one = section_alone(known, here, ends);
-    let best = low_in_c(known, here, ends, of, one);
-    low_in_d(known, here, ends, of, best)
-}
-
-/// What the addition of a section alone leads to.
-fn section_alone(known: SolvedSuffix<'_>, here: OpenState<'_>, ends: &RunEnds) -> u64
-    requires here { HereOf known here }
-    requires at { here.place.position ≡ here.first.offset }
-    requires ends { EndsAt known here.others.now (here.first ∷ here.others.now) ends.now }
-    ensures led { (section : ℕ) → here.entry.first.base ≡ Section section → Led known.entry here.entry result }
-    ensures value { (l : Labels) → Agrees l known.entry here.entry.others.now → result ≡ 1 + extension l here.entry.others.now (here.entry.first.offset + 4) here.entry.place.c here.entry.place.d }
-    ensures small { result ≤ 4 * length here.entry.others.now + 4 }
-{
-    1 + ends.behind(known, here)
+pub(crate) struct Classed {
+    pub(crate) section: u32,
+    pub(crate) class: usize,
 }
 
 /// The lesser of a value and of what runs of a section lead to, where register C holds it.
-fn low_in_c(
+pub(crate) fn low_in_c(
     known: SolvedSuffix<'_>,
     here: OpenState<'_>,
     ends: &RunEnds,
@@ -92,7 +46,7 @@ fn low_in_c(
 }
 
 /// The same, where register D holds it.
-fn low_in_d(
+pub(crate) fn low_in_d(
     known: SolvedSuffix<'_>,
     here: OpenState<'_>,
     ends: &RunEnds,
@@ -177,38 +131,4 @@ fn low_of_two(
     };
     let near = ends.low_of_run(known, here, pairs, first);
     ends.low_of_run(known, here, spaced, near)
-}
-
-fn low_import(known: SolvedSuffix<'_>, here: OpenState<'_>, ends: &RunEnds, import: u32) -> u64
-    requires here { HereOf known here }
-    requires at { here.place.position ≡ here.first.offset }
-    requires base { here.first.base ≡ Import import }
-    requires ends { EndsAt known here.others.now (here.first ∷ here.others.now) ends.now }
-    ensures led { Led known.entry here.entry result }
-    ensures least { (l : Labels) (value : ℕ) → Agrees l known.entry here.entry.others.now → value ≤ result → base_test l value here.entry.place.import_index here.entry.first here.entry.others.now here.entry.place.c here.entry.place.d (Import import) ≡ true }
-    ensures small { result ≤ 4 * length here.entry.others.now + 4 }
-{
-    let one = import_alone(known, here, ends, import);
-    if u64::from(import) != here.place.import_index {
-        return one;
-    }
-    ends.low_of_run(known, here, Run::Imports, one)
-}
-
-/// What the addition of an import alone leads to.
-fn import_alone(known: SolvedSuffix<'_>, here: OpenState<'_>, ends: &RunEnds, import: u32) -> u64
-    requires here { HereOf known here }
-    requires at { here.place.position ≡ here.first.offset }
-    requires base { here.first.base ≡ Import import }
-    requires ends { EndsAt known here.others.now (here.first ∷ here.others.now) ends.now }
-    ensures led { Led known.entry here.entry result }
-    ensures value { (l : Labels) → Agrees l known.entry here.entry.others.now → result ≡ import_cost import + extension l here.entry.others.now (here.entry.first.offset + 4) here.entry.place.c here.entry.place.d }
-    ensures small { result ≤ 4 * length here.entry.others.now + 4 }
-{
-    let behind = ends.behind(known, here);
-    if import < SMALL_IMPORTS {
-        1 + behind
-    } else {
-        2 + behind
-    }
 }

@@ -1,13 +1,16 @@
 ghost use Rattle.std.specs.Prelude.{◌≡◌, ◌+◌, ◌*◌, ◌<◌, ◌≤◌, ◌⊎◌, ◌∷◌, ℕ, length, slice_index};
+ghost use Rattle.pef_cert.specs.Labels.{class_of};
+ghost use Rattle.pef_cert.specs.LabelTests.{import_cost};
+ghost use Rattle.pef_reloc.specs.declared.fixup.Base.TheVariants.{Import, Section};
 ghost use Rattle.pef_plan.specs.Runs.Ends.{EndsAt};
 ghost use Rattle.pef_plan.specs.Runs.Places.{AtOf};
 ghost use Rattle.pef_plan.specs.Runs.Tables.{number_in, place_of};
-ghost use Rattle.pef_plan.specs.Kept.Met.{ClassOf};
-ghost use Rattle.pef_plan.specs.Kept.Rows.{ClosedOf, DirectRow, LeastOf, LineOf, LinesOf, RowOf, SmallLine};
+ghost use Rattle.pef_plan.specs.Kept.Rows.{Adds, AddsInBoth, AddsInC, ClosedOf, DirectRow, EachState, LeastOf, LineOf, LinesOf, RowOf, SmallLine, state_of};
 ghost use Rattle.pef_reloc.specs.Limits.{most_sections};
 
-use crate::lows::low;
-use crate::runs::{FixupState, OpenState, PlanState, RunEnds, SolvedSuffix};
+use crate::direct::SMALL_IMPORTS;
+use crate::lows::{Classed, low_in_c, low_in_d};
+use crate::runs::{FixupState, OpenState, PlanState, Run, RunEnds, SolvedSuffix};
 use pef_cert::class_of;
 use pef_reloc::Base;
 
@@ -41,11 +44,136 @@ fn fill_direct(known: SolvedSuffix<'_>, at: FixupState<'_>, ends: &RunEnds, row:
     ensures direct { DirectRow known.entry at.entry row.new }
     ensures small { SmallLine (length row.old) row.new }
 {
-    let class = class_at(known, at.first.base);
+    match at.first.base {
+        Base::Section(section) => {
+            let class = class_of(known.registers, section);
+            fill_section(known, at, ends, Classed { section, class }, row);
+        }
+        Base::Import(import) => fill_import(known, at, ends, import, row),
+    }
+}
+
+/// The same where the fixup has a section. Runs begin only where a register holds it, which is one line and one
+/// column of the row.
+fn fill_section(
+    known: SolvedSuffix<'_>,
+    at: FixupState<'_>,
+    ends: &RunEnds,
+    of: Classed,
+    row: &mut [u32],
+)
+    requires at { AtOf known at }
+    requires base { at.first.base ≡ Section of.section }
+    requires class { class_of known.registers.now of.section ≡ of.class }
+    requires ends { EndsAt known at.others.now (at.first ∷ at.others.now) ends.now }
+    requires row { length row.old ≡ (length known.registers.now + 1) * (length known.registers.now + 1) }
+    ensures len { length row.new ≡ length row.old }
+    ensures direct { DirectRow known.entry at.entry row.new }
+{
+    ends.fill_alone(1, row);
+    lower_in_c(known, at, ends, of, row);
+    lower_in_d(known, at, ends, of, row);
+}
+
+/// Lowers the numbers where register C holds the section to what runs lead to.
+fn lower_in_c(
+    known: SolvedSuffix<'_>,
+    at: FixupState<'_>,
+    ends: &RunEnds,
+    of: Classed,
+    row: &mut [u32],
+)
+    requires at { AtOf known at }
+    requires base { at.first.base ≡ Section of.section }
+    requires class { class_of known.registers.now of.section ≡ of.class }
+    requires ends { EndsAt known at.others.now (at.first ∷ at.others.now) ends.now }
+    requires row { length row.old ≡ (length known.registers.now + 1) * (length known.registers.now + 1) }
+    requires each { EachState known at (λ h value. Adds known h 1 value) row.old }
+    ensures len { length row.new ≡ length row.old }
+    ensures each { EachState known.entry at.entry (λ h value. AddsInC known.entry h of.section value) row.new }
+{
+    'classes: for d in 0..known.classes() {
+        let place = known.place(of.class, d);
+        let here = at_classes(at, of.class, d);
+        row[place] = low_in_c(known, here, ends, of, u64::from(row[place])) as u32;
+    }
+}
+
+/// The same where register D holds it.
+fn lower_in_d(
+    known: SolvedSuffix<'_>,
+    at: FixupState<'_>,
+    ends: &RunEnds,
+    of: Classed,
+    row: &mut [u32],
+)
+    requires at { AtOf known at }
+    requires base { at.first.base ≡ Section of.section }
+    requires class { class_of known.registers.now of.section ≡ of.class }
+    requires ends { EndsAt known at.others.now (at.first ∷ at.others.now) ends.now }
+    requires row { length row.old ≡ (length known.registers.now + 1) * (length known.registers.now + 1) }
+    requires each { EachState known at (λ h value. AddsInC known h of.section value) row.old }
+    ensures len { length row.new ≡ length row.old }
+    ensures each { EachState known.entry at.entry (λ h value. AddsInBoth known.entry h of.section value) row.new }
+{
+    'classes: for c in 0..known.classes() {
+        let place = known.place(c, of.class);
+        let here = at_classes(at, c, of.class);
+        row[place] = low_in_d(known, here, ends, of, u64::from(row[place])) as u32;
+    }
+}
+
+/// Fills in what the best instructions lead to, where the fixup has an import.
+fn fill_import(
+    known: SolvedSuffix<'_>,
+    at: FixupState<'_>,
+    ends: &RunEnds,
+    import: u32,
+    row: &mut [u32],
+)
+    requires at { AtOf known at }
+    requires base { at.first.base ≡ Import import }
+    requires ends { EndsAt known at.others.now (at.first ∷ at.others.now) ends.now }
+    requires row { length row.old ≡ (length known.registers.now + 1) * (length known.registers.now + 1) }
+    ensures len { length row.new ≡ length row.old }
+    ensures direct { DirectRow known.entry at.entry row.new }
+{
+    ends.fill_alone(import_cost(import), row);
+    if u64::from(import) == at.import_index {
+        lower_by_imports(known, at, ends, import, row);
+    }
+}
+
+/// How many halfwords the addition of an import alone has.
+fn import_cost(import: u32) -> u32
+    ensures is { result ≡ import_cost import }
+    ensures small { result ≤ 2 }
+{
+    if import < SMALL_IMPORTS { 1 } else { 2 }
+}
+
+/// Lowers the numbers to what runs of imports lead to, which begin at the fixup.
+fn lower_by_imports(
+    known: SolvedSuffix<'_>,
+    at: FixupState<'_>,
+    ends: &RunEnds,
+    import: u32,
+    row: &mut [u32],
+)
+    requires at { AtOf known at }
+    requires base { at.first.base ≡ Import import }
+    requires next { at.import_index ≡ import }
+    requires ends { EndsAt known at.others.now (at.first ∷ at.others.now) ends.now }
+    requires row { length row.old ≡ (length known.registers.now + 1) * (length known.registers.now + 1) }
+    requires each { EachState known at (λ h value. Adds known h (import_cost import) value) row.old }
+    ensures len { length row.new ≡ length row.old }
+    ensures direct { DirectRow known.entry at.entry row.new }
+{
     let classes = known.classes();
     let (mut c, mut d) = (0, 0);
     'places: for place in 0..row.len() {
-        row[place] = low(known, at_classes(at, c, d), ends, class) as u32;
+        let here = at_classes(at, c, d);
+        row[place] = ends.low_of_run(known, here, Run::Imports, u64::from(row[place])) as u32;
         d += 1;
         if d == classes {
             (c, d) = (c + 1, 0);
@@ -53,18 +181,9 @@ fn fill_direct(known: SolvedSuffix<'_>, at: FixupState<'_>, ends: &RunEnds, row:
     }
 }
 
-/// The class of a base's section. An import has none.
-fn class_at(known: SolvedSuffix<'_>, base: Base) -> usize
-    ensures { ClassOf known.entry.registers.now base result }
-{
-    match base {
-        Base::Section(section) => class_of(known.registers, section),
-        Base::Import(_) => 0,
-    }
-}
-
 /// The state with the registers in these classes.
 pub(crate) fn at_classes<'a>(at: FixupState<'a>, c: usize, d: usize) -> OpenState<'a>
+    ensures is { result ≡ state_of at.entry c d }
     ensures first { result.first ≡ at.entry.first }
     ensures others { result.others.now ≡ at.entry.others.now }
     ensures left { result.place.left.now ≡ at.entry.left.now }

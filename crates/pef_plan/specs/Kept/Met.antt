@@ -1,8 +1,7 @@
 -- What labels have to meet at a fixup, by the register that holds its section.
 use Rattle.std.specs.Prelude.{◌≡◌, ℕ, List, true, ◌∷◌}
-use Rattle.pef_reloc.specs.declared.fixup.Base.{Base}
 use Rattle.pef_reloc.specs.declared.fixup.Base.TheVariants.{Section}
-use Rattle.pef_cert.specs.Labels.{Labels, class_of}
+use Rattle.pef_cert.specs.Labels.{Labels}
 use Rattle.pef_cert.specs.LabelTests.{pair_test, row_test, second_test}
 use Rattle.pef_plan.specs.declared.runs.state.OpenState.{OpenState}
 
@@ -18,7 +17,3 @@ pub record MetInD (l : Labels) (h : OpenState) (k value : ℕ) : Type 0 where
 -- and the pairs of a section in register C and a second one
 abbrev pub PairsMet : Labels → OpenState → ℕ → ℕ → ℕ → Type 0
 PairsMet l h j k value = pair_test l value j h.place.c h.place.d h.first.offset (h.first ∷ h.others.now) (Section k) ≡ true
-
--- the class of a base's section; of an import, any number
-abbrev pub ClassOf : List ℕ → Base → ℕ → Type 0
-ClassOf registers base class = (section : ℕ) → base ≡ Section section → class_of registers section ≡ class

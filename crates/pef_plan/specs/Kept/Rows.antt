@@ -1,13 +1,16 @@
 -- A row of labels, from what the instructions lead to that add at a fixup.
-use Rattle.std.specs.Prelude.{◌≡◌, ◌≤◌, ◌<◌, ◌⊎◌, ℕ, ◌+◌, ◌*◌, true, List, ◌∷◌, length, slice_index, Some}
+use Rattle.std.specs.Prelude.{◌≡◌, ◌≤◌, ◌<◌, ◌⊎◌, ◌==◌, ℕ, ◌+◌, ◌*◌, true, List, ◌∷◌, length, slice_index, Some}
 use Rattle.pef_reloc.specs.Steps.{State}
 use Rattle.pef_cert.specs.Labels.{Labels, class_of}
-use Rattle.pef_cert.specs.Extension.{skips_at}
+use Rattle.pef_cert.specs.Extension.{extension, skips_at}
 use Rattle.pef_cert.specs.Feasible.{AtFixup}
 use Rattle.pef_reloc.specs.declared.fixup.Base.TheVariants.{Section}
 use Rattle.pef_cert.specs.LabelTests.{base_test}
 use Rattle.pef_plan.specs.declared.runs.suffix.SolvedSuffix.{SolvedSuffix}
 use Rattle.pef_plan.specs.declared.runs.state.FixupState.{FixupState}
+use Rattle.pef_plan.specs.declared.runs.state.OpenState.{OpenState}
+use Rattle.pef_plan.specs.Kept.Met.{MetInC, MetInD}
+use Rattle.pef_plan.specs.Runs.Places.{Led}
 use Rattle.pef_plan.specs.Runs.Tables.{Agrees, number_in}
 use Rattle.pef_plan.specs.Runs.Leads.{LeadsWithin}
 
@@ -19,6 +22,34 @@ pub record DirectIs (k : SolvedSuffix) (a : FixupState) (c d value : ℕ) : Type
 
 abbrev pub DirectRow : SolvedSuffix → FixupState → List ℕ → Type 0
 DirectRow k a row = (c d : ℕ) → c < length k.registers.now + 1 → d < length k.registers.now + 1 → DirectIs k a c d (number_in (length k.registers.now + 1) row c d)
+
+-- the state at a fixup, with the registers in these classes
+abbrev pub state_of : FixupState → ℕ → ℕ → OpenState
+state_of a c d = record {
+  place = record { left = a.left; position = a.first.offset; import_index = a.import_index; c = c; d = d };
+  first = a.first;
+  others = a.others;
+}
+
+-- something holds of each number of a row, and of the state with the registers in its classes
+abbrev pub EachState : SolvedSuffix → FixupState → (OpenState → ℕ → Type 0) → List ℕ → Type 0
+EachState k a P row = (c d : ℕ) → c < length k.registers.now + 1 → d < length k.registers.now + 1 → P (state_of a c d) (number_in (length k.registers.now + 1) row c d)
+
+-- an instruction that adds at a fixup leads to a value, which is at most that of the addition alone, for its cost
+pub record Adds (k : SolvedSuffix) (h : OpenState) (cost value : ℕ) : Type 0 where
+  pub led : Led k h value
+  pub low : (l : Labels) → Agrees l k h.others.now → value ≤ cost + extension l h.others.now (h.first.offset + 4) h.place.c h.place.d
+  pub small : value ≤ 4 * length h.others.now + 4
+
+-- the value is also at most that of runs of a section, if register C holds it
+pub record AddsInC (k : SolvedSuffix) (h : OpenState) (section value : ℕ) : Type 0 where
+  pub adds : Adds k h 1 value
+  pub in_c : (l : Labels) (n : ℕ) → Agrees l k h.others.now → n ≤ value → (class_of l.registers section == h.place.c) ≡ true → MetInC l h section n
+
+-- and if register D does
+pub record AddsInBoth (k : SolvedSuffix) (h : OpenState) (section value : ℕ) : Type 0 where
+  pub first : AddsInC k h section value
+  pub in_d : (l : Labels) (n : ℕ) → Agrees l k h.others.now → n ≤ value → (class_of l.registers section == h.place.d) ≡ true → MetInD l h section n
 
 -- a number is the least of so many
 pub record LeastOf (count : ℕ) (f : ℕ → ℕ) (value : ℕ) : Type 0 where

@@ -1,4 +1,4 @@
-ghost use Rattle.std.specs.Prelude.{◌≡◌, ◌+◌, ◌*◌, ◌^◌, ◌<◌, ◌≤◌, ◌∷◌, ◌⊎◌, [], ℕ, IfOk, List, OnOk, length};
+ghost use Rattle.std.specs.Prelude.{◌≡◌, ◌+◌, ◌*◌, ◌^◌, ◌<◌, ◌≤◌, ◌∷◌, ◌⊎◌, [], ℕ, IfOk, List, OnOk, length, slice_index};
 ghost use Rattle.pef_cert.specs.Extension.{extension};
 ghost use Rattle.pef_cert.specs.Labels.{Labels};
 ghost use Rattle.pef_plan.specs.Runs.Places.{AtOf, HereOf, Led};
@@ -81,6 +81,18 @@ impl RunEnds {
         ensures small { result ≤ 4 * length here.entry.others.now + 2 }
     {
         u64::from(self.near[known.place(here.place.c, here.place.d)])
+    }
+
+    /// Fills in what lies right behind the fixup and a cost, for each pair of classes.
+    pub fn fill_alone(&self, cost: u32, row: &mut [u32])
+        requires row { length row.old ≡ length self.now.near.items }
+        requires small { (i : ℕ) → i < length row.old → cost + slice_index self.now.near.items i < 2 ^ 32 }
+        ensures len { length row.new ≡ length row.old }
+        ensures are { (i : ℕ) → i < length row.old → slice_index row.new i ≡ cost + slice_index self.now.near.items i }
+    {
+        'places: for place in 0..row.len() {
+            row[place] = cost + self.near[place];
+        }
     }
 
     /// Goes on to the fixup before, whose tables are not filled yet.

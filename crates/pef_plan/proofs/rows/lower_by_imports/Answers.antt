@@ -1,0 +1,75 @@
+use Rattle.std.proofs.Common.{◌≡◌, ◌≢◌, ◌+◌, ◌<◌, ◌≤◌, ◌∙◌, ◌∷◌, ◌==◌, ℕ, true, inl, inr, ap, arith, length, refl, slice_index, subst, sym}
+use Rattle.std.proofs.lemmas.List.{length-set}
+use Rattle.pef_cert.specs.Labels.{Labels}
+use Rattle.pef_cert.specs.LabelTests.{import_cost, numbered_test}
+use Rattle.pef_plan.specs.declared.runs.run.Run.TheVariants.{Imports}
+use Rattle.pef_plan.specs.declared.runs.state.OpenState.{OpenState}
+use Rattle.pef_plan.specs.Kept.Rows.{Adds, DirectIs, state_of}
+use Rattle.pef_plan.specs.Runs.Places.{Led}
+use Rattle.pef_plan.specs.Runs.Runs.{Ends}
+use Rattle.pef_plan.specs.Runs.Tables.{Agrees, number_in, place_of}
+use Rattle.pef_plan.proofs.DirectLemmas.{adds-lower, direct-import, here-of, lowered-set}
+use Rattle.pef_plan.proofs.RunTests.{ends_here, imports_met}
+use Rattle.pef_plan.proofs.RunsProofs.PlaceLemmas.{class_under, next_along, next_line, place_under, same_place}
+use Rattle.pef_plan.proofs.rows.lower_by_imports.Goals.{then-d-classes, else-d-classes}
+use Rattle.pef_plan.proofs.rows.lower_by_imports.Goals as goal
+
+pub places-preserved : goal.places-preserved
+places-preserved c =
+    let a = c.args in
+    let i = c.places.invariant in
+    let r : ℕ = length a.known.registers.now + 1 in
+    let row = c.places.row in
+    let x = c.places.c in
+    let y = c.places.d in
+    let h : OpenState = state_of a.at x y in
+    let len = i.len in
+    let wide = c.requires.row in
+    let place = i.place in
+    let under_d = i.d in
+    let test = c.places-test.true in
+    let under_c : x < r = class_under r x y (omega (arith, place, test, len, wide)) in
+    let count = c.classes-classes.ensures in
+    let next : (c.places.place + 1 ≡ place_of r c.if-d-classes.c c.if-d-classes.d) × (c.if-d-classes.d < r) = elim c.if-d-classes.branch [
+      | then-d-classes w ↦ next_line r c.places.place x y c.if-d-classes.c c.if-d-classes.d place under_d (w.if-d-classes.true ∙ count) w.c-is w.d-is
+      | else-d-classes w ↦ next_along r c.places.place x y c.if-d-classes.c c.if-d-classes.d place under_d (λ end. w.if-d-classes.false (end ∙ sym count)) w.c-is w.d-is
+    ] in
+    let value : c.from.result ≡ number_in r row x y = c.from.ensures ∙ ap (slice_index row) place in
+    let old : Adds a.known h (import_cost a.import) (number_in r row x y) = elim (i.lowered x y under_c under_d) [
+      | inl done ↦ (let low = done.0 in absurd (omega (arith, low, place)))
+      | inr left ↦ left.1
+    ] in
+    let e = c.low_of_run.ensures in
+    let better = e.better in
+    let is = c.at_classes-here.ensures.is in
+    let led : Led a.known h c.low_of_run.result = subst (λ (s : OpenState). Led a.known s c.low_of_run.result) is (e.led (subst (λ (s : OpenState). Led a.known s c.from.result) (sym is) (subst (λ (n : ℕ). Led a.known h n) (sym value) old.led))) in
+    let ends = subst (λ (s : OpenState). (l : Labels) (n : ℕ) → Agrees l a.known s.others.now → n ≤ c.low_of_run.result → Ends l Imports s s.place.position n) is e.ends in
+    let new : DirectIs a.known a.at x y c.low_of_run.result = direct-import a.known a.at a.import x y c.low_of_run.result c.requires.at c.requires.base
+    (adds-lower a.known h (import_cost a.import) (number_in r row x y) c.low_of_run.result old led (omega (arith, better, value)))
+    (λ l n agrees low same.
+    subst (λ (m : ℕ). numbered_test l n x y 512 a.at.first.offset m (a.at.first ∷ a.at.others.now) ≡ true) c.requires.next
+    (imports_met l n a.at.first.offset a.at.import_index x y (a.at.first ∷ a.at.others.now)
+    (ends_here l a.known h Imports n (here-of a.known a.at x y c.requires.at under_c under_d) refl (ends l n agrees low)))) in
+    record {
+      len = length-set row c.places.place c.low_of_run.result ∙ len;
+      place = next.0;
+      d = next.1;
+      lowered = lowered-set r (λ p q v. Adds a.known (state_of a.at p q) (import_cost a.import) v) (λ p q v. DirectIs a.known a.at p q v)
+          (λ p q. place_of r p q < c.places.place) (λ p q. place_of r p q < c.places.place + 1)
+          row c.places.place x y c.low_of_run.result place (omega (arith, test, len)) under_d
+          (λ p q done. omega (arith, done))
+          (λ p q inside done apart. let other : place_of r p q ≢ c.places.place = λ same. apart (same_place r p q x y inside under_d (same ∙ place)) in omega (arith, done, other))
+          (omega (arith, place)) new i.lowered;
+    }
+
+pub returns-clause-direct : goal.returns-clause-direct
+returns-clause-direct c = λ x y under_x under_y.
+    let i = c.places.invariant in
+    let past = c.places-test.false in
+    let len = i.len in
+    let wide = c.requires.row in
+    let low = place_under (length c.args.known.registers.now + 1) x y under_x under_y in
+    elim (i.lowered x y under_x under_y) [
+      | inl done ↦ done.1
+      | inr left ↦ absurd (left.0 (omega (arith, low, past, len, wide)))
+    ]
