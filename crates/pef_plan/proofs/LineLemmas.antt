@@ -6,6 +6,15 @@ use Rattle.pef_plan.specs.Kept.Rows.{ClosedOf, LeastOf, LineOf, LinesOf, SmallLi
 use Rattle.pef_plan.proofs.RunsProofs.PlaceLemmas.{place_under}
 use Rattle.pef_plan.specs.Runs.Tables.{number_in, place_of}
 
+-- the least of one
+pub least-one : (f : ℕ → ℕ) (value : ℕ) → f 0 ≡ value → LeastOf 1 f value
+least-one f value is = record {
+  low = λ x under. (let first : x ≡ 0 = omega (arith, under) in let same : f x ≡ value = ap f first ∙ is in omega (arith, same));
+  at = 0;
+  under = omega arith;
+  is = is;
+}
+
 -- the least of one more number
 pub least-more : (i : ℕ) (f : ℕ → ℕ) (low next : ℕ) → LeastOf i f low → f i ≡ next → LeastOf (i + 1) f (min low next)
 least-more i f low next l is =

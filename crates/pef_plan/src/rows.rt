@@ -1,4 +1,4 @@
-ghost use Rattle.std.specs.Prelude.{◌≡◌, ◌+◌, ◌*◌, ◌<◌, ◌≤◌, ◌⊎◌, ◌∷◌, ℕ, length, slice_index};
+ghost use Rattle.std.specs.Prelude.{◌≡◌, ◌+◌, ◌*◌, ◌<◌, ◌≤◌, ◌⊎◌, ◌∷◌, ℕ, length, min, slice_index};
 ghost use Rattle.pef_cert.specs.Labels.{class_of};
 ghost use Rattle.pef_cert.specs.LabelTests.{import_cost};
 ghost use Rattle.pef_reloc.specs.declared.fixup.Base.TheVariants.{Import, Section};
@@ -213,24 +213,23 @@ fn fill_lows(row: &[u32], lows: &mut [u32])
     ensures len { length lows.new ≡ length lows.old }
     ensures least { (d : ℕ) → d < length lows.old → LeastOf (length lows.old) (λ c. number_in (length lows.old) row.now c d) (slice_index lows.new d) }
 {
-    'columns: for d in 0..lows.len() {
-        lows[d] = least_in_column(row, d, lows.len());
+    let classes = lows.len();
+    let (first, _) = row.split_at(classes);
+    lows.copy_from_slice(first);
+    'lines: for c in 1..classes {
+        lower_to_line(lows, row, c * classes);
     }
 }
 
-/// The least of one column.
-fn least_in_column(row: &[u32], d: usize, classes: usize) -> u32
-    requires some { 0 < classes }
-    requires few { classes ≤ most_sections + 1 }
-    requires d { d < classes }
-    requires row { length row.now ≡ classes * classes }
-    ensures { LeastOf classes (λ c. number_in classes row.now c d) result }
+/// Lowers each number to that of a line of a row, which begins at a place, if it is less.
+fn lower_to_line(lows: &mut [u32], row: &[u32], start: usize)
+    requires inside { start + length lows.old ≤ length row.now }
+    ensures len { length lows.new ≡ length lows.old }
+    ensures lower { (d : ℕ) → d < length lows.old → slice_index lows.new d ≡ min (slice_index lows.old d) (slice_index row.now (start + d)) }
 {
-    let mut low = row[d];
-    'lines: for c in 1..classes {
-        low = low.min(row[c * classes + d]);
+    'numbers: for d in 0..lows.len() {
+        lows[d] = lows[d].min(row[start + d]);
     }
-    low
 }
 
 /// Makes of what is led to directly the least over all classes, with 1 for each register that changes. The
