@@ -19,6 +19,7 @@ pub(crate) struct NextFixup<'a> {
 
 impl NextFixup<'_> {
     /// The extension in these classes of the registers, whose place in the row is this.
+    #[inline(always)]
     pub(crate) fn value(self, place: usize, c: usize, d: usize) -> u64
         requires place { place < length self.row.now }
         requires c { c < length self.skips.now }

@@ -40,6 +40,7 @@ impl<'a> SolvedSuffix<'a> {
     }
 
     /// The place of a class of C and a class of D in a row.
+    #[inline(always)]
     pub fn place(self, c: usize, d: usize) -> usize
         requires few { length self.registers.now ≤ most_sections }
         requires c { c < length self.registers.now + 1 }
@@ -51,6 +52,7 @@ impl<'a> SolvedSuffix<'a> {
     }
 
     /// The labels where so many fixups are left.
+    #[inline(always)]
     pub fn row(self, left: usize) -> &'a [u32]
         requires { Shaped self left }
         ensures { IsRow self.entry left result.now }
@@ -60,6 +62,7 @@ impl<'a> SolvedSuffix<'a> {
 
     /// The extension in halfwords where these fixups are left, at a position in bytes and in classes of the
     /// registers. Each reading is a look.
+    #[inline(always)]
     pub fn value(self, rest: &[Fixup], position: u64, c: usize, d: usize) -> u64
         requires shaped { Shaped self (length rest.now) }
         requires c { c < length self.registers.now + 1 }
@@ -71,6 +74,7 @@ impl<'a> SolvedSuffix<'a> {
     }
 
     /// The same from the labels where these are left.
+    #[inline(always)]
     pub fn value_in(self, row: &'a [u32], rest: &[Fixup], position: u64, c: usize, d: usize) -> u64
         requires row { IsRow self (length rest.now) row.now }
         requires shaped { Shaped self (length rest.now) }
@@ -91,6 +95,7 @@ impl<'a> SolvedSuffix<'a> {
     }
 
     /// The first of these fixups, from a position.
+    #[inline(always)]
     fn ahead(self, row: &'a [u32], rest: &[Fixup], position: u64) -> Option<NextFixup<'a>>
         requires row { IsRow self (length rest.now) row.now }
         requires shaped { Shaped self (length rest.now) }
@@ -106,6 +111,7 @@ impl<'a> SolvedSuffix<'a> {
     }
 
     /// The class of a base's section. An import has none.
+    #[inline(always)]
     fn class_ahead(self, base: Base) -> Option<usize>
         ensures { result ≡ class_ahead self.entry.registers.now base }
     {
@@ -246,6 +252,7 @@ fn fill_column_ahead(ahead: NextFixup<'_>, class: usize, values: &mut [u32])
 }
 
 /// Whether the first of some fixups is at a position.
+#[inline(always)]
 fn begin_at(fixups: &[Fixup], position: u64) -> bool
     ensures { result ≡ begin_at position fixups.now }
 {

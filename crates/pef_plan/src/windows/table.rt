@@ -36,6 +36,7 @@ impl Table {
     }
 
     /// How many rows there are.
+    #[inline(always)]
     pub fn rows(&self) -> usize
         ensures { result ≡ length self.now.rows }
     {
@@ -47,6 +48,7 @@ impl Table {
     /// # Errors
     ///
     /// If there is no memory for the row, the rows stay as they were.
+    #[inline(always)]
     pub fn push(&mut self, row: &[u32]) -> Result<(), AllocError>
         requires wide { length row.now ≡ self.old.width }
         requires room { length self.old.rows + 1 < 2 ^ 64 }
@@ -59,6 +61,7 @@ impl Table {
     }
 
     /// The row at an index.
+    #[inline(always)]
     pub fn row(&self, index: usize) -> &[u32]
         requires { index < length self.now.rows }
         ensures is { result.now ≡ slice_index_or self.now.rows index [] }
@@ -70,6 +73,7 @@ impl Table {
     }
 
     /// The last row.
+    #[inline(always)]
     pub fn last(&self) -> Option<&[u32]>
         ensures is { MatchOption result (self.now.rows ≡ []) (λ row. slice_get self.now.rows (length self.now.rows - 1) ≡ Some row.now) }
         ensures wide { MatchOption result (self.now.rows ≡ []) (λ row. length row.now ≡ self.now.width) }
@@ -81,6 +85,7 @@ impl Table {
     }
 
     /// Takes the last row away.
+    #[inline(always)]
     pub fn pop(&mut self)
         ensures { self.new ≡ record { width = self.old.width; rows = take (length self.old.rows - 1) self.old.rows } }
     {
@@ -91,6 +96,7 @@ impl Table {
     }
 
     /// Takes all rows away.
+    #[inline(always)]
     pub fn clear(&mut self)
         ensures { self.new ≡ record { width = self.old.width; rows = [] } }
     {

@@ -50,6 +50,7 @@ impl Window {
     }
 
     /// Lets all rows go.
+    #[inline(always)]
     pub fn clear(&mut self)
         ensures width { self.new.width ≡ self.old.width }
         ensures gone { (width limit : ℕ) (rows : List (List ℕ)) → WindowOf width limit rows self.old → WindowOf width limit [] self.new }
@@ -64,6 +65,7 @@ impl Window {
     /// # Errors
     ///
     /// There is no memory for the row. Nothing is known of the window then.
+    #[inline(always)]
     pub fn add(&mut self, row: &[u32], looks: Looks<'_>) -> Result<(), AllocError>
         requires { length row.now ≡ self.old.width }
         ensures { OnOk result ((width limit : ℕ) (rows : List (List ℕ)) → WindowOf width limit rows self.old → WindowOf width limit (row.now ∷ take (limit - 1) rows) self.new) }
@@ -76,6 +78,7 @@ impl Window {
     }
 
     /// Lowers the least of the newer rows to that of one more.
+    #[inline(always)]
     fn lower_to(&mut self, row: &[u32]) -> Result<(), AllocError>
         requires { length row.now ≡ self.old.width }
         ensures width { self.new.width ≡ self.old.width }
@@ -96,6 +99,7 @@ impl Window {
     }
 
     /// Lets the oldest row go if there are as many as there can be.
+    #[inline(always)]
     fn make_room(&mut self, looks: Looks<'_>) -> Result<(), AllocError>
         ensures width { self.new.width ≡ self.old.width }
         ensures free { OnOk result (length self.new.older + length self.new.newer < self.new.limit) }
