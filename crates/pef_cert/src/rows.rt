@@ -82,6 +82,7 @@ impl LabelRows {
     }
 
     /// Returns how many rows there are.
+    #[inline(always)]
     pub fn rows(&self) -> usize
         ensures { result ≡ length self.now.rows }
     {
@@ -96,6 +97,7 @@ impl LabelRows {
     /// # Errors
     ///
     /// If an allocation fails, the rows are unchanged.
+    #[inline(always)]
     pub fn push(&mut self, row: &[u32]) -> Result<(), AllocError>
         requires wide { length row.now ≡ self.old.width }
         requires room { length self.old.rows + 1 < 2 ^ 64 }
@@ -111,6 +113,7 @@ impl LabelRows {
     /// # Errors
     ///
     /// If an allocation fails, the rows are unchanged.
+    #[inline(always)]
     pub fn push_many(&mut self, row: &[u32], count: usize) -> Result<(), AllocError>
         requires wide { length row.now ≡ self.old.width }
         requires room { length self.old.rows + count < 2 ^ 64 }
@@ -146,6 +149,7 @@ impl LabelRows {
 
     /// Returns the row at an index. For the last row this takes constant time; for another, steps by the
     /// logarithm of the number of kept rows.
+    #[inline(always)]
     pub fn row(&self, index: usize) -> &[u32]
         requires { index < length self.now.rows }
         ensures is { result.now ≡ slice_index_or self.now.rows index [] }
@@ -183,6 +187,7 @@ impl LabelRows {
     }
 
     /// Returns the rows in their kept form, in which no two neighbours are equal.
+    #[inline(always)]
     pub fn kept(&self) -> KeptRows<'_>
         ensures width { result.width ≡ self.now.width }
         ensures rows { self.now.rows ≡ rows_from result.width 0 result.ends.now result.values.now }
@@ -198,6 +203,7 @@ impl LabelRows {
 
 impl<'a> KeptRows<'a> {
     /// Returns the place of the kept row that the row at an index equals.
+    #[inline(always)]
     fn place_of(self, index: usize) -> usize
         requires full { RowsFull self.width self.ends.now self.values.now }
         requires inside { index < length (rows_from self.width 0 self.ends.now self.values.now) }
@@ -219,6 +225,7 @@ impl<'a> KeptRows<'a> {
     }
 
     /// Returns a kept row.
+    #[inline(always)]
     fn row(self, place: usize) -> &'a [u32]
         requires full { RowsFull self.width self.ends.now self.values.now }
         requires inside { place < length self.ends.now }
@@ -232,6 +239,7 @@ impl<'a> KeptRows<'a> {
 }
 
 /// Returns whether there are kept rows, and their values end with those of a row.
+#[inline(always)]
 fn end_with(ends: &[usize], values: &[u32], row: &[u32]) -> bool
     ensures yes { result ≡ true → EndsWith ends.now values.now row.now }
     ensures no { result ≡ false → 0 < length ends.now → (front : List ℕ) → values.now ≢ front ++ row.now }
