@@ -6,16 +6,15 @@ use Rattle.std.proofs.lemmas.Bool.Decides.{eqb_tells}
 use Rattle.std.proofs.lemmas.List.{get_or-set_other, get_or-set_same}
 use Rattle.pef_reloc.specs.declared.fixup.Base.{Base}
 use Rattle.pef_reloc.specs.declared.fixup.Base.TheVariants.{Import, Section}
-use Rattle.pef_cert.specs.Labels.{Labels, class_of, classes}
+use Rattle.pef_cert.specs.Labels.{Labels, class_of}
 use Rattle.pef_cert.specs.LabelTests.{base_test, import_cost, numbered_test}
 use Rattle.pef_cert.specs.Extension.{extension}
 use Rattle.pef_plan.specs.declared.runs.suffix.SolvedSuffix.{SolvedSuffix}
 use Rattle.pef_plan.specs.declared.runs.state.FixupState.{FixupState}
 use Rattle.pef_plan.specs.declared.runs.state.OpenState.{OpenState}
 use Rattle.pef_plan.specs.declared.runs.ends.RunEnds.{RunEnds}
-use Rattle.pef_plan.specs.Kept.Met.{MetInC, MetInD}
-use Rattle.pef_plan.specs.Kept.Rows.{Adds, AddsInBoth, AddsInC, DirectIs, DirectRow, EachState, SmallLine, state_of}
-use Rattle.pef_plan.specs.Runs.Ends.{EndsAt, NearSmall}
+use Rattle.pef_plan.specs.Kept.Rows.{Adds, AddsInBoth, AddsInC, DirectIs, EachState, state_of}
+use Rattle.pef_plan.specs.Runs.Ends.{EndsAt}
 use Rattle.pef_plan.specs.Runs.Places.{AtOf, HereOf, Led}
 use Rattle.pef_plan.specs.Runs.Tables.{Agrees, number_in, place_of}
 use Rattle.pef_plan.proofs.LowFacts.{import_by, low-is, section_led}

@@ -1,5 +1,5 @@
 -- What labels have to meet at a fixup, by the register that holds its section.
-use Rattle.std.specs.Prelude.{◌≡◌, ℕ, List, true, ◌∷◌}
+use Rattle.std.specs.Prelude.{◌≡◌, ℕ, true, ◌∷◌}
 use Rattle.pef_reloc.specs.declared.fixup.Base.TheVariants.{Section}
 use Rattle.pef_cert.specs.Labels.{Labels}
 use Rattle.pef_cert.specs.LabelTests.{pair_test, row_test, second_test}

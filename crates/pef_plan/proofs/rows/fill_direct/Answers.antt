@@ -1,4 +1,4 @@
-use Rattle.std.proofs.Common.{◌+◌, ◌≤◌, ℕ, arith, length}
+use Rattle.std.proofs.Common.{◌+◌, ◌≤◌, arith, length}
 use Rattle.pef_plan.proofs.DirectLemmas.{each_place}
 use Rattle.pef_plan.proofs.rows.fill_direct.Goals as goal
 

@@ -1,4 +1,4 @@
-use Rattle.std.proofs.Common.{◌+◌, ◌<◌, ◌∙◌, ℕ, arith, length}
+use Rattle.std.proofs.Common.{◌+◌, ◌<◌, ◌∙◌, arith, length}
 use Rattle.std.proofs.lemmas.Bool.{eqb-true}
 use Rattle.pef_plan.specs.Runs.Tables.{number_in}
 use Rattle.pef_plan.proofs.DirectLemmas.{direct-import, each-import, each_place}

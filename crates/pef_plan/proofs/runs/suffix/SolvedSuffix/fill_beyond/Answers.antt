@@ -1,5 +1,4 @@
 use Rattle.std.proofs.Common.{◌≡◌, ◌+◌, ◌<◌, ◌∙◌, ap, arith, length, slice_index, subst, sym, true}
-use Rattle.pef_cert.specs.Extension.{extension}
 use Rattle.pef_cert.specs.Labels.{class_of, classes}
 use Rattle.pef_plan.specs.Runs.Places.{Counts}
 use Rattle.pef_plan.specs.Runs.Tables.{begin_at, place_of}

@@ -1,4 +1,4 @@
-use Rattle.std.proofs.Common.{◌≡◌, ◌<◌, ◌∙◌, ap, arith, length, slice_index, subst}
+use Rattle.std.proofs.Common.{◌≡◌, ◌<◌, ◌∙◌, ap, length, slice_index, subst}
 use Rattle.pef_plan.specs.Runs.Kept.Ahead.{value_ahead}
 use Rattle.pef_plan.proofs.RunsProofs.KnownLemmas.{value-ahead, value-end}
 use Rattle.pef_plan.proofs.RunsProofs.PlaceLemmas.{zeros_at}
