@@ -5,6 +5,8 @@
 #![tactic(auto)]
 
 #[cfg(test)]
+mod details;
+#[cfg(test)]
 mod explained;
 #[cfg(test)]
 mod failures;

@@ -1,24 +1,26 @@
 -- How the outcome of a run is explained, on an output of its own (docs/USAGE.md, "Output and status").
-use Rattle.std.specs.Prelude.{◌≡◌, ℕ, List, [], ◌∷◌, ◌++◌, Option, None, Some, codes}
+use Rattle.std.specs.Prelude.{◌≡◌, ℕ, List, ◌++◌, Option, None, Some, codes}
 use Rattle.pef_ports.specs.Ports.{Stream}
 use Rattle.pef_refusals.specs.Help.{help_of}
 use Rattle.pef_tool.specs.Answers.Answers.{IsDelivered, answer_done}
+use Rattle.pef_tool.specs.Details.{end_text}
 use Rattle.pef_tool.specs.declared.answers.outcome.Outcome.{Outcome}
 use Rattle.pef_tool.specs.declared.answers.outcome.Outcome.TheVariants.{Done, SaidNo, Refused, Usage, OutputFailed}
+use Rattle.pef_tool.specs.declared.details.detail.Detail.{Detail}
 
 -- a text is written whole; or a prefix of it, and then the output fails
 abbrev pub IsNoted : Stream → Stream → List ℕ → Type 0
 IsNoted before after text = (status : ℕ) × IsDelivered before after (answer_done text) status
 
--- help is written as a line, if there is some
-abbrev pub NotesHelp : Option (List ℕ) → Stream → Stream → Type 0
-NotesHelp None before after = after ≡ before
-NotesHelp (Some text) before after = IsNoted before after (text ++ 10 ∷ [])
+-- the help for a refusal is written as a line, if there is some, and then what more is known
+abbrev pub NotesHelp : Option (List ℕ) → Option Detail → Stream → Stream → Type 0
+NotesHelp None detail before after = after ≡ before
+NotesHelp (Some text) detail before after = IsNoted before after (text ++ end_text detail)
 
 -- what is written for an outcome; after `usage` some text, of which no more is said: it is `clap`'s
 abbrev pub Explains : Outcome → Stream → Stream → Type 0
 Explains Done before after = after ≡ before
 Explains SaidNo before after = after ≡ before
-Explains (Refused number) before after = NotesHelp (help_of number) before after
+Explains (Refused number detail) before after = NotesHelp (help_of number) detail before after
 Explains Usage before after = (text : List ℕ) × IsNoted before after text
-Explains OutputFailed before after = NotesHelp (Some (codes "The standard output failed, so a part of the answer may be missing.")) before after
+Explains OutputFailed before after = IsNoted before after (codes "The standard output failed, so a part of the answer may be missing.\n")

@@ -14,4 +14,4 @@ pub use outcome::Outcome;
 pub use refusal::{
     FileRefusal, Refusal, certificate_refusal, input_refusal, print_name_end, script_refusal,
 };
-pub use reply::{Reply, Usage, deliver};
+pub use reply::{Reply, Usage, deliver, deliver_detailed};

@@ -7,8 +7,10 @@ ghost use Rattle.pef_tool.specs.Kept.Judged.{JudgesRead, JudgesScript};
 ghost use Rattle.pef_words.specs.Refusals.{result_map};
 
 use crate::answers::{
-    FileRefusal, Outcome, Refusal, Reply, certificate_refusal, deliver, script_refusal,
+    FileRefusal, Outcome, Refusal, Reply, certificate_refusal, deliver, deliver_detailed,
+    script_refusal,
 };
+use crate::details::script_detail;
 use pef_cert::{Certificate, check};
 use pef_ports::{FileFault, Files, Line, Page, Sink, StreamFault, push_number, push_text, send};
 use pef_reloc::Fixup;
@@ -56,7 +58,10 @@ pub fn check_files<F: Files, W: Sink>(
     };
     match check_texts(alloc, text.as_slice(), certificates.as_slice()) {
         Ok(verdicts) => deliver(out, &verdicts),
-        Err(refusal) => deliver(out, &refusal),
+        Err(refusal) => {
+            let detail = script_detail(text.as_slice(), refusal);
+            deliver_detailed(out, &refusal, detail)
+        }
     }
 }
 

@@ -1,7 +1,8 @@
 ghost use Rattle.pef_tool.specs.Answers.Answers.{Answer, IsDelivered, answer_done, status_of};
 ghost use Rattle.pef_tool.specs.Distances.{DistancesAnswers};
 
-use crate::answers::{FileRefusal, Outcome, Refusal, Reply, deliver};
+use crate::answers::{FileRefusal, Outcome, Refusal, Reply, deliver, deliver_detailed};
+use crate::details::script_detail;
 use crate::linking::link_text;
 use pef_cert::Certificate;
 use pef_ports::{FileFault, Files, Page, Sink, StreamFault, send};
@@ -28,7 +29,10 @@ pub fn print_distances<F: Files, W: Sink>(
     };
     let linked = match link_text(alloc, text.as_slice()) {
         Ok(linked) => linked,
-        Err(refusal) => return deliver(out, &refusal),
+        Err(refusal) => {
+            let detail = script_detail(text.as_slice(), refusal);
+            return deliver_detailed(out, &refusal, detail);
+        }
     };
     match Certificate::print(alloc, linked.certificates()) {
         Ok(text) => deliver(out, &Distances { text }),

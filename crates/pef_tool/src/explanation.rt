@@ -4,13 +4,14 @@ ghost use Rattle.pef_tool.specs.Answers.Answers.{answer_done};
 ghost use Rattle.pef_tool.specs.Explain.{Explains, IsNoted, NotesHelp};
 
 use crate::answers::{Outcome, Reply, deliver};
+use crate::details::{Detail, line_end};
 use crate::request::words_help;
 use pef_ports::{Page, Sink, StreamFault, send};
 use pef_refusals::help;
 use std::alloc::Global;
 
 /// What is said if the output failed.
-const OUTPUT_FAILED: &str = "The standard output failed, so a part of the answer may be missing.";
+const OUTPUT_FAILED: &str = "The standard output failed, so a part of the answer may be missing.\n";
 
 /// What is said if there is no memory for the help.
 const NO_HELP: &str = "An allocation failed, so there is no help.\n";
@@ -24,18 +25,18 @@ pub fn explain<W: Sink>(alloc: Global, words: &[String], outcome: Outcome, notes
 {
     match outcome {
         Outcome::Done | Outcome::SaidNo => {}
-        Outcome::Refused(number) => note_help(notes, help(number)),
+        Outcome::Refused { number, detail } => note_help(notes, help(number), detail),
         Outcome::Usage => note_usage(alloc, words, notes),
-        Outcome::OutputFailed => note_help(notes, Some(OUTPUT_FAILED)),
+        Outcome::OutputFailed => write_note(notes, OUTPUT_FAILED.as_bytes(), b""),
     }
 }
 
-/// Writes a line of help, if there is some.
-fn note_help<W: Sink>(notes: &mut W, text: Option<&'static str>)
-    ensures { NotesHelp (option_map (λ text. text.now) text.entry) (W.stream notes.old) (W.stream notes.new) }
+/// Writes the help for a refusal, if there is some, and what more is known.
+fn note_help<W: Sink>(notes: &mut W, text: Option<&'static str>, detail: Option<Detail>)
+    ensures { NotesHelp (option_map (λ text. text.now) text.entry) detail (W.stream notes.old) (W.stream notes.new) }
 {
     match text {
-        Some(text) => write_note(notes, text.as_bytes(), b"\n"),
+        Some(text) => write_note(notes, text.as_bytes(), line_end(detail).as_slice()),
         None => {}
     }
 }

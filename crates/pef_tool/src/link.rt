@@ -3,7 +3,8 @@ ghost use Rattle.pef_ports.specs.Sent.{Sends};
 ghost use Rattle.pef_tool.specs.Answers.Answers.{Answer, IsDelivered, answer_done, status_of};
 ghost use Rattle.pef_tool.specs.Link.{LinkAnswers, length_text, lengths_text, linked_text, size_text};
 
-use crate::answers::{FileRefusal, Outcome, Refusal, Reply, deliver};
+use crate::answers::{FileRefusal, Outcome, Refusal, Reply, deliver, deliver_detailed};
+use crate::details::script_detail;
 use crate::linking::link_text;
 use pef_ports::{FileFault, Files, Line, Page, Sink, StreamFault, push_number, push_text, send};
 use pef_write::Linked;
@@ -30,7 +31,10 @@ pub fn link_files<F: Files, W: Sink>(
     };
     let linked = match link_text(alloc, text.as_slice()) {
         Ok(linked) => linked,
-        Err(refusal) => return deliver(out, &refusal),
+        Err(refusal) => {
+            let detail = script_detail(text.as_slice(), refusal);
+            return deliver_detailed(out, &refusal, detail);
+        }
     };
     match files.write(target, linked.bytes()) {
         Ok(()) => deliver(out, &LinkedReply { linked: &linked }),

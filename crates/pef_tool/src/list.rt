@@ -3,7 +3,8 @@ ghost use Rattle.pef_listing.specs.Views.{parts};
 ghost use Rattle.pef_tool.specs.Answers.Answers.{Answer, IsDelivered, answer_done, status_of};
 ghost use Rattle.pef_tool.specs.List.{ListAnswers};
 
-use crate::answers::{FileRefusal, Outcome, Refusal, Reply, deliver};
+use crate::answers::{FileRefusal, Outcome, Refusal, Reply, deliver, deliver_detailed};
+use crate::details::container_detail;
 use pef_listing::Listing;
 use pef_ports::{FileFault, Files, Page, Sink, StreamFault};
 use std::alloc::Global;
@@ -28,7 +29,10 @@ pub fn list_file<F: Files, W: Sink>(
     };
     match Listing::read(bytes.as_slice()) {
         Ok(listing) => deliver(out, &ListedReply { listing }),
-        Err(fault) => deliver(out, &Refusal::Listing(fault)),
+        Err(fault) => {
+            let detail = container_detail(alloc, bytes.as_slice(), fault.number());
+            deliver_detailed(out, &Refusal::Listing(fault), detail)
+        }
     }
 }
 

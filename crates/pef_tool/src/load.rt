@@ -7,6 +7,7 @@ ghost use Rattle.pef_tool.specs.Limits.{most_files};
 ghost use Rattle.pef_tool.specs.Load.{LoadAnswers, WereRead, paired};
 
 use crate::answers::{FileRefusal, Outcome, Refusal, Usage, deliver};
+use crate::details::Shelf;
 use crate::loaded::deliver_root;
 use crate::request::NamedFile;
 use cfm_closure::{MAX_PAIRS, Store, StoreFault};
@@ -38,17 +39,19 @@ pub fn load_files<F: Files, W: Sink>(
     if named.is_empty() || named.len() > MAX_PAIRS {
         return deliver(out, &Usage);
     }
-    let contents = match read_files(alloc, files, named) {
+    let read = match read_files(alloc, files, named) {
         Ok(contents) => contents,
         Err(ReadingFault::Unreadable(path)) => {
             return deliver(out, &FileRefusal::Unreadable(path));
         }
         Err(ReadingFault::OutOfMemory) => return deliver(out, &Refusal::OutOfMemory),
     };
-    let Ok(store) = store_of(alloc, named, contents.as_slice()) else {
+    let contents = read.as_slice();
+    let Ok(store) = store_of(alloc, named, contents) else {
         return deliver(out, &Refusal::OutOfMemory);
     };
-    deliver_root(alloc, store, named[0].name.as_bytes(), out)
+    let shelf = Shelf::Files { named, contents };
+    deliver_root(alloc, store, named[0].name.as_bytes(), shelf, out)
 }
 
 /// The bytes of some files, read in order.

@@ -5,7 +5,8 @@ ghost use Rattle.pef_write.specs.Linked.{IsLinked};
 ghost use Rattle.pef_tool.specs.Kept.Showing.{ScriptEnds};
 ghost use Rattle.pef_tool.specs.Show.{ShowAnswers, ShowOutcome, it_alone, show_answer};
 
-use crate::answers::{Outcome, Refusal, deliver, input_refusal, script_refusal};
+use crate::answers::{Outcome, Refusal, deliver, deliver_detailed, input_refusal, script_refusal};
+use crate::details::{Shelf, script_detail};
 use crate::loaded::deliver_root;
 use cfm_closure::{Store, StoreFault};
 use pef_ports::{Sink, Source, read_input};
@@ -28,7 +29,11 @@ pub fn show_input<R: Source, W: Sink>(alloc: Global, input: &mut R, out: &mut W)
     };
     match Script::read(alloc, text.as_slice()) {
         Ok(script) => show_script(alloc, &script, out),
-        Err(fault) => deliver(out, &script_refusal(fault)),
+        Err(fault) => {
+            let refusal = script_refusal(fault);
+            let detail = script_detail(text.as_slice(), refusal);
+            deliver_detailed(out, &refusal, detail)
+        }
     }
 }
 
@@ -55,7 +60,7 @@ fn show_linked<W: Sink>(alloc: Global, linked: &Linked, out: &mut W) -> Outcome
     let Ok(store) = it_alone(alloc, linked.bytes()) else {
         return deliver(out, &Refusal::OutOfMemory);
     };
-    deliver_root(alloc, store, b"it", out)
+    deliver_root(alloc, store, b"it", Shelf::Alone(linked.bytes()), out)
 }
 
 /// The store of the fragment `it` and no other.

@@ -1,8 +1,9 @@
 -- What a command answers, and how its answer goes out (README, "Output and status").
-use Rattle.std.specs.Prelude.{◌≡◌, ◌⊎◌, ℕ, List, codes, take}
+use Rattle.std.specs.Prelude.{◌≡◌, ◌⊎◌, ℕ, List, Option, None, codes, take}
 use Rattle.pef_ports.specs.Ports.{Stream, Grows, LastFailed, NoneFailed}
 use Rattle.pef_tool.specs.declared.answers.outcome.Outcome.{Outcome}
 use Rattle.pef_tool.specs.declared.answers.outcome.Outcome.TheVariants.{Done, SaidNo, Refused, Usage, OutputFailed}
+use Rattle.pef_tool.specs.declared.details.detail.Detail.{Detail}
 
 -- an answer: what is printed, and the status that the run ends with
 pub record Answer : Type 0 where
@@ -25,9 +26,21 @@ answer_usage = record { text = codes "usage\n"; status = 2 }
 abbrev pub status_of : Outcome → ℕ
 status_of Done = 0
 status_of SaidNo = 1
-status_of (Refused number) = 1
+status_of (Refused number detail) = 1
 status_of Usage = 2
 status_of OutputFailed = 1
+
+-- refused with a number, of which no more is known
+abbrev pub refused_as : ℕ → Outcome
+refused_as number = Refused number None
+
+-- an outcome with what more is known, if it is a refusal
+abbrev pub detailed : Option Detail → Outcome → Outcome
+detailed detail Done = Done
+detailed detail SaidNo = SaidNo
+detailed detail (Refused number _) = Refused number detail
+detailed detail Usage = Usage
+detailed detail OutputFailed = OutputFailed
 
 -- the answer goes out whole; or a front of it, then the output fails at its last call, and the status is 1
 abbrev pub IsDelivered : Stream → Stream → Answer → ℕ → Type 0

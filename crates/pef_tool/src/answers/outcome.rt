@@ -1,5 +1,7 @@
 ghost use Rattle.std.specs.Prelude.{◌≡◌};
-ghost use Rattle.pef_tool.specs.Answers.Answers.{status_of};
+ghost use Rattle.pef_tool.specs.Answers.Answers.{detailed, refused_as, status_of};
+
+use crate::details::Detail;
 
 /// How a run ended.
 #[derive(Clone, Copy, Debug, PartialEq, Eq)]
@@ -8,8 +10,8 @@ pub enum Outcome {
     Done,
     /// The command is done, and `check` said no of a section.
     SaidNo,
-    /// The run was refused: the refusal's number.
-    Refused(u32),
+    /// The run was refused: the refusal's number, and what more is known of it than its line says.
+    Refused { number: u32, detail: Option<Detail> },
     /// The words are no line of this program.
     Usage,
     /// The output failed.
@@ -23,8 +25,32 @@ impl Outcome {
     {
         match self {
             Outcome::Done => 0,
-            Outcome::SaidNo | Outcome::Refused(_) | Outcome::OutputFailed => 1,
+            Outcome::SaidNo | Outcome::Refused { .. } | Outcome::OutputFailed => 1,
             Outcome::Usage => 2,
+        }
+    }
+
+    /// How a run ends that is refused with a number.
+    pub fn refused(number: u32) -> Outcome
+        ensures { result ≡ refused_as number }
+    {
+        Outcome::Refused {
+            number,
+            detail: None,
+        }
+    }
+
+    /// The same, with what more is known if it is a refusal.
+    pub fn detailed(self, detail: Option<Detail>) -> Outcome
+        ensures outcome { result ≡ detailed detail self }
+        ensures status { status_of result ≡ status_of self }
+    {
+        match self {
+            Outcome::Refused { number, .. } => Outcome::Refused { number, detail },
+            Outcome::Done => Outcome::Done,
+            Outcome::SaidNo => Outcome::SaidNo,
+            Outcome::Usage => Outcome::Usage,
+            Outcome::OutputFailed => Outcome::OutputFailed,
         }
     }
 }

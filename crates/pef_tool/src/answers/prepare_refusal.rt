@@ -15,7 +15,7 @@ impl<'a> Reply for PrepareFault<'a> {
     ghost answer = { λ fault. answer_refused (prepare_refusal_text fault) };
 
     fn outcome(&self) -> Outcome {
-        Outcome::Refused(self.number())
+        Outcome::refused(self.number())
     }
 
     fn print<W: Sink>(&self, out: &mut W, page: &mut Page) -> Result<(), StreamFault> {

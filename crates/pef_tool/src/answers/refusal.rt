@@ -114,7 +114,7 @@ impl Reply for Refusal {
     ghost answer = { λ refusal. answer_refused (refusal_text refusal) };
 
     fn outcome(&self) -> Outcome {
-        Outcome::Refused(self.number())
+        Outcome::refused(self.number())
     }
 
     fn print<W: Sink>(&self, out: &mut W, page: &mut Page) -> Result<(), StreamFault> {
@@ -207,7 +207,7 @@ impl<'a> Reply for FileRefusal<'a> {
     ghost answer = { λ refusal. answer_refused (file_refusal_text refusal) };
 
     fn outcome(&self) -> Outcome {
-        Outcome::Refused(self.number())
+        Outcome::refused(self.number())
     }
 
     fn print<W: Sink>(&self, out: &mut W, page: &mut Page) -> Result<(), StreamFault> {

@@ -3,6 +3,7 @@ ghost use Rattle.pef_ports.specs.Sent.{Sends};
 ghost use Rattle.pef_tool.specs.Answers.Answers.{Answer, IsDelivered, answer_usage, status_of};
 
 use crate::answers::outcome::Outcome;
+use crate::details::Detail;
 use pef_ports::{Page, Sink, StreamFault, flush, send};
 
 /// What a command can answer: a text that ends the run, and how it ended.
@@ -27,6 +28,17 @@ pub fn deliver<A: Reply, W: Sink>(out: &mut W, reply: &A) -> Outcome
         Ok(()) => reply.outcome(),
         Err(StreamFault) => Outcome::OutputFailed,
     }
+}
+
+/// Sends a reply whole, and says how the run ended, with what more is known if it is a refusal.
+pub fn deliver_detailed<A: Reply, W: Sink>(
+    out: &mut W,
+    reply: &A,
+    detail: Option<Detail>,
+) -> Outcome
+    ensures { IsDelivered (W.stream out.old) (W.stream out.new) (A.answer reply.now) (status_of result) }
+{
+    deliver(out, reply).detailed(detail)
 }
 
 /// Prints a reply, and leaves nothing in a page.

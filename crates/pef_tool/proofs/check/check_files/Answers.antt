@@ -36,4 +36,4 @@ pub returns : goal.returns
 returns g c =
     let ends = files_judged c.as_slice.result.now c.as_slice-2.result.now (record { call = c.in-Ok.ensures.call; told = c.in-Ok.ensures.told }) (record { call = c.in-Ok-read.ensures.call; told = c.in-Ok-read.ensures.told })
     c.as_slice.ensures.value c.as_slice-2.ensures.value c.in-Err.ensures in
-    (answer_refused (refusal_text c.in-Err.refusal), (judges (Err c.in-Err.refusal), ends, refl), c.deliver-in-Err.ensures)
+    (answer_refused (refusal_text c.in-Err.refusal), (judges (Err c.in-Err.refusal), ends, refl), c.deliver_detailed.ensures)

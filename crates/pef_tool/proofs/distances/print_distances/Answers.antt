@@ -19,7 +19,7 @@ pub returns-in-Err : goal.returns-in-Err
 returns-in-Err g c =
     let why = c.in-Err.refusal in
     let ends = uncertified _ c.args.files.now c.read.new.self c.args.script.now c.in-Ok.text.items c.as_slice.result.now why (record { call = c.in-Ok.ensures.call; told = c.in-Ok.ensures.told }) c.as_slice.ensures.value c.in-Err.ensures in
-    (answer_refused (refusal_text why), (refuses why, ends, refl), c.deliver-in-Err.ensures)
+    (answer_refused (refusal_text why), (refuses why, ends, refl), c.deliver_detailed.ensures)
 
 pub returns-in-Ok-print : goal.returns-in-Ok-print
 returns-in-Ok-print g c =

@@ -35,5 +35,5 @@ returns g c =
     let are = ap listed_of (sym c.as_slice.ensures.value) ∙ sym c.in-Err.ensures in (
       answer_refused (refusal_text (Listing c.in-Err.fault)),
       (unlisted c.in-Err.fault, record { bytes = c.in-Ok.bytes.items; read = record { call = c.in-Ok.ensures.call; told = c.in-Ok.ensures.told }; are = are }, refl),
-      c.deliver-in-Err.ensures,
+      c.deliver_detailed.ensures,
     )

@@ -29,7 +29,7 @@ store_of-requires-clause-each g c =
     let named = c.args.named.now in
     let contents = c.in-Ok.contents.items in
     let same = were-length port c.args.files.now c.read_files.new.files (map named_path named) (map items contents) c.in-Ok.ensures.read in
-    ap length c.as_slice.ensures.value ∙ sym (length-map contents items) ∙ same ∙ length-map named named_path
+    ap length c.as_slice-contents.ensures.value ∙ sym (length-map contents items) ∙ same ∙ length-map named named_path
 
 pub returns-in_default : goal.returns-in_default
 returns-in_default g c =
@@ -45,7 +45,7 @@ returns g c =
     let stream = g.W.Sink.stream in
     let named = c.args.named.now in
     let contents = map items c.in-Ok.contents.items in
-    let store : c.in-Ok-store_of.store ≡ paired (map named_path named) contents = c.in-Ok-store_of.ensures ∙ ap (λ (vs : List (Vec ℕ Global)). paired (map named_path named) (map items vs)) c.as_slice.ensures.value in
+    let store : c.in-Ok-store_of.store ≡ paired (map named_path named) contents = c.in-Ok-store_of.ensures ∙ ap (λ (vs : List (Vec ℕ Global)). paired (map named_path named) (map items vs)) c.as_slice-contents.ensures.value in
     let some : 0 < length named = some-files named c.is_empty.result c.is_empty.ensures c.if-is_empty.false in
     let name : c.as_bytes.result.now ≡ first_name (map named_path named) = c.as_bytes.ensures.value ∙ sym (first-is named _ some) in
     let ends = root-loads port c.args.files.now c.read_files.new.files (map named_path named) contents c.deliver_root.ensures.0 c.in-Ok.ensures.read (rw (← store, ← name) c.deliver_root.ensures.1) in

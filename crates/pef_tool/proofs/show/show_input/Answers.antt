@@ -28,7 +28,7 @@ pub returns : goal.returns
 returns g c =
     let before = g.R.Source.stream c.args.input.now in
     let after = g.R.Source.stream c.read_input.new.input in
-    let why = c.script_refusal.result in
+    let why = c.script_refusal-refusal.result in
     let P : Refusal → Type 0 = λ r. ShowEnds before after (refuses r) in
-    let ends = subst P (sym c.script_refusal.ensures) (no_script_shown before after c.in-Ok.text c.as_slice.result.now c.in-Err-read.fault c.in-Ok.ensures c.as_slice.ensures.value c.in-Err-read.ensures) in
-    (answer_refused (refusal_text why), (refuses why, ends, refl), c.deliver-in-Err-read.ensures)
+    let ends = subst P (sym c.script_refusal-refusal.ensures) (no_script_shown before after c.in-Ok.text c.as_slice.result.now c.in-Err-read.fault c.in-Ok.ensures c.as_slice.ensures.value c.in-Err-read.ensures) in
+    (answer_refused (refusal_text why), (refuses why, ends, refl), c.deliver_detailed.ensures)

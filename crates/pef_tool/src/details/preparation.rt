@@ -1,0 +1,116 @@
+//! Why a fragment isn't prepared: what is refused in its container, or which versions don't fit.
+use crate::details::{Detail, container_detail};
+use crate::request::NamedFile;
+use cfm_closure::{BindFault, Definition, Fit, Implementation, versions_fit};
+use cfm_prepare::{FragmentFault, PrepareFault};
+use pef_loader::Loader;
+use pef_views::Container;
+use std::alloc::Global;
+
+/// The fragments of a store, in which a refused one is looked up again by its name.
+#[derive(Clone, Copy)]
+pub enum Shelf<'a> {
+    /// The container of `it`, and no other.
+    Alone(&'a [u8]),
+    /// Files with their contents.
+    Files {
+        named: &'a [NamedFile<'a>],
+        contents: &'a [Vec<u8>],
+    },
+}
+
+impl<'a> Shelf<'a> {
+    /// The container of the first fragment with a name.
+    fn container(self, name: &[u8]) -> Option<&'a [u8]> {
+        match self {
+            Shelf::Alone(bytes) => {
+                if name == b"it".as_slice() {
+                    Some(bytes)
+                } else {
+                    None
+                }
+            }
+            Shelf::Files { named, contents } => file_named(named, contents, name),
+        }
+    }
+}
+
+/// The contents of the first file with a name.
+fn file_named<'a>(
+    named: &[NamedFile<'_>],
+    contents: &'a [Vec<u8>],
+    name: &[u8],
+) -> Option<&'a [u8]> {
+    for (i, file) in named.iter().enumerate() {
+        if file.name.as_bytes() == name {
+            return Some(contents.get(i)?.as_slice());
+        }
+    }
+    None
+}
+
+/// What more is known of a fragment that isn't prepared.
+pub fn prepare_detail(alloc: Global, shelf: Shelf<'_>, fault: &PrepareFault<'_>) -> Option<Detail> {
+    match fault {
+        PrepareFault::Bind(fault) => bind_detail(alloc, shelf, fault),
+        PrepareFault::Fragment(fault) => fragment_detail(alloc, shelf, fault),
+        PrepareFault::TooManyConnections | PrepareFault::RootMissing | PrepareFault::OutOfMemory =>
+            None,
+    }
+}
+
+/// What more is known of a fragment without a closure.
+fn bind_detail(alloc: Global, shelf: Shelf<'_>, fault: &BindFault<'_>) -> Option<Detail> {
+    match fault {
+        BindFault::Container { fragment, .. } | BindFault::Loader { fragment, .. } => {
+            container_detail(alloc, shelf.container(fragment)?, fault.number())
+        }
+        BindFault::ImplementationTooOld { fragment, library }
+        | BindFault::ImplementationTooNew { fragment, library } => {
+            versions_detail(shelf, fragment, library)
+        }
+        BindFault::LibraryMissing { .. }
+        | BindFault::SymbolMissing { .. }
+        | BindFault::ReexportLoop { .. }
+        | BindFault::InitLoop { .. }
+        | BindFault::OutOfMemory => None,
+    }
+}
+
+/// What more is known of a fragment that has a closure.
+fn fragment_detail(alloc: Global, shelf: Shelf<'_>, fault: &FragmentFault<'_>) -> Option<Detail> {
+    match fault {
+        FragmentFault::Pack { fragment, .. } | FragmentFault::Reloc { fragment, .. } => {
+            container_detail(alloc, shelf.container(fragment)?, fault.number())
+        }
+        FragmentFault::NoRoom { .. } | FragmentFault::OutOfMemory => None,
+    }
+}
+
+/// The versions that a fragment needs of a library, where they don't fit.
+fn versions_detail(shelf: Shelf<'_>, fragment: &[u8], library: &[u8]) -> Option<Detail> {
+    let found = implementation_of(shelf.container(library)?)?;
+    let container = Container::read(shelf.container(fragment)?).ok()?;
+    let loader = Loader::read(&container).ok()?;
+    for l in 0..loader.libraries() {
+        let entry = loader.library(l)?;
+        let needed = Definition {
+            current: entry.current,
+            old_imp: entry.old_imp,
+        };
+        let fits = matches!(versions_fit(needed, found), Fit::Fits);
+        if entry.name == library && !fits && !entry.options().weak {
+            return Some(Detail::Versions { needed, found });
+        }
+    }
+    None
+}
+
+/// The versions of a container.
+fn implementation_of(bytes: &[u8]) -> Option<Implementation> {
+    let header = Container::read(bytes).ok()?.header();
+    Some(Implementation {
+        current: header.current_version,
+        old_def: header.old_def_version,
+    })
+}

@@ -1,0 +1,163 @@
+//! Which row of a loader section is refused.
+ghost use Rattle.std.specs.Prelude.{◌<◌, ◌^◌};
+
+use crate::details::layout::{
+    EXPORT_COUNT_AT, EXPORT_HASH_OFFSET_AT, EXPORT_POWER_AT, EXPORT_SECTION_AT, EXPORT_SIZE,
+    EXPORT_VALUE_AT, IMPORT_COUNT_AT, IMPORT_SIZE, KEY_SIZE, LIBRARY_COUNT_AT,
+    LIBRARY_FIRST_IMPORT_AT, LIBRARY_IMPORT_COUNT_AT, LIBRARY_SIZE, MOST_POWER, RELOC_COUNT_AT,
+    RELOC_FIRST_AT, RELOC_HALFWORDS_AT, RELOC_HEADER_SIZE, RELOC_INSTR_OFFSET_AT, RELOC_SECTION_AT,
+    SLOT_SIZE,
+};
+use crate::details::{Detail, Table};
+use pef_format::layout::{HALFWORD_SIZE, LOADER_HEADER_SIZE};
+use pef_format::{ExportValue, is_export_section};
+use pef_views::Container;
+use pef_words::Cut;
+
+/// The counts and places of a loader section's tables.
+#[derive(Clone, Copy)]
+struct Tables<'a> {
+    cut: Cut<'a>,
+    /// How many sections are instantiated.
+    sections: u16,
+    libraries: u32,
+    imports: u32,
+    relocs: u32,
+    instructions: u32,
+    export_table: u32,
+    power: u32,
+    exports: u32,
+}
+
+/// What more is known of the refusal of a container's loader section.
+pub fn table_detail(container: &Container<'_>, number: u32) -> Option<Detail> {
+    let tables = read_tables(container)?;
+    match number {
+        12 => Some(Detail::Space {
+            taken: tables.relocs_from() + RELOC_HEADER_SIZE * tables.relocs as usize,
+            there: tables.cut.len(),
+        }),
+        14 => library_detail(tables),
+        17 => header_detail(tables, false),
+        18 => header_detail(tables, true),
+        19 => Some(Detail::Space {
+            taken: tables
+                .exports_from()?
+                .checked_add(EXPORT_SIZE * tables.exports as usize)?,
+            there: tables.cut.len(),
+        }),
+        20 => export_detail(tables),
+        _ => None,
+    }
+}
+
+/// The counts and places of a container's tables.
+fn read_tables<'a>(container: &Container<'a>) -> Option<Tables<'a>> {
+    let cut = Cut::new(container.loader());
+    Some(Tables {
+        cut,
+        sections: container.header().instantiated_section_count,
+        libraries: cut.u32_at(LIBRARY_COUNT_AT)?,
+        imports: cut.u32_at(IMPORT_COUNT_AT)?,
+        relocs: cut.u32_at(RELOC_COUNT_AT)?,
+        instructions: cut.u32_at(RELOC_INSTR_OFFSET_AT)?,
+        export_table: cut.u32_at(EXPORT_HASH_OFFSET_AT)?,
+        power: cut.u32_at(EXPORT_POWER_AT)?,
+        exports: cut.u32_at(EXPORT_COUNT_AT)?,
+    })
+}
+
+impl<'a> Tables<'a> {
+    /// Where the relocation headers begin: after the libraries and the imports.
+    fn relocs_from(self) -> usize
+        ensures { result < 2 ^ 38 }
+    {
+        LOADER_HEADER_SIZE
+            + LIBRARY_SIZE * self.libraries as usize
+            + IMPORT_SIZE * self.imports as usize
+    }
+
+    /// Where the exports begin: after the slots and the keys.
+    fn exports_from(self) -> Option<usize> {
+        if self.power > MOST_POWER {
+            return None;
+        }
+        let slots = SLOT_SIZE.checked_mul(1 << self.power)?;
+        let keys = KEY_SIZE * self.exports as usize;
+        slots.checked_add(keys + self.export_table as usize)
+    }
+}
+
+/// The first library whose imports pass the total.
+fn library_detail(tables: Tables<'_>) -> Option<Detail> {
+    for index in 0..tables.libraries as usize {
+        let at = LOADER_HEADER_SIZE + LIBRARY_SIZE * index;
+        let count = tables.cut.u32_at(at + LIBRARY_IMPORT_COUNT_AT)?;
+        let first = tables.cut.u32_at(at + LIBRARY_FIRST_IMPORT_AT)?;
+        if u64::from(first) + u64::from(count) > u64::from(tables.imports) {
+            return Some(Detail::Row {
+                table: Table::Libraries,
+                index,
+            });
+        }
+    }
+    None
+}
+
+/// The first relocation header whose section isn't there, or whose program isn't.
+fn header_detail(tables: Tables<'_>, program: bool) -> Option<Detail> {
+    for header in 0..tables.relocs as usize {
+        let at = tables.relocs_from() + RELOC_HEADER_SIZE * header;
+        let section = tables.cut.u16_at(at + RELOC_SECTION_AT)?;
+        let count = tables.cut.u32_at(at + RELOC_HALFWORDS_AT)?;
+        let first = tables.cut.u32_at(at + RELOC_FIRST_AT)?;
+        let refused = if program {
+            lacks_program(tables, first, count)
+        } else {
+            section >= tables.sections
+        };
+        if refused {
+            return Some(Detail::Header {
+                header,
+                section: u32::from(section),
+            });
+        }
+    }
+    None
+}
+
+/// Whether a relocation program passes the end.
+fn lacks_program(tables: Tables<'_>, first: u32, count: u32) -> bool {
+    let from = tables.instructions as usize + first as usize;
+    tables
+        .cut
+        .part(from, HALFWORD_SIZE * count as usize)
+        .is_none()
+}
+
+/// The first export that stands for nothing.
+fn export_detail(tables: Tables<'_>) -> Option<Detail> {
+    let from = tables.exports_from()?;
+    for index in 0..tables.exports as usize {
+        let at = from.checked_add(EXPORT_SIZE * index)?;
+        let value = tables.cut.u32_at(at.checked_add(EXPORT_VALUE_AT)?)?;
+        let section = tables.cut.i16_at(at.checked_add(EXPORT_SECTION_AT)?)?;
+        if !is_there(tables, i32::from(section), value) {
+            return Some(Detail::Row {
+                table: Table::Exports,
+                index,
+            });
+        }
+    }
+    None
+}
+
+/// Whether what an export stands for is there.
+fn is_there(tables: Tables<'_>, section: i32, value: u32) -> bool {
+    is_export_section(section)
+        && match ExportValue::from_fields(section, value) {
+            ExportValue::InSection { section, .. } => section < u32::from(tables.sections),
+            ExportValue::Absolute(_) => true,
+            ExportValue::Reexport { import } => import < tables.imports,
+        }
+}
