@@ -69,7 +69,7 @@ fn usage(rt: HostRuntime) -> Result<(), Fail> {
     Ok(())
 }
 
-/// A refusal of each kind, and the sentence that its explanation begins with (docs/REFUSALS.md).
+/// A refusal of each kind, and the sentence that its explanation begins with (docs/ERRORS.md).
 #[test]
 fn refusals(rt: HostRuntime) -> Result<(), Fail> {
     let input_fails = Handed {

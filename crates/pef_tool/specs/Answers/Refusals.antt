@@ -1,4 +1,4 @@
--- The line that ends a refused run (docs/REFUSALS.md, "How a refusal is printed"). The numbers and names of the libraries'
+-- The line that ends a refused run (docs/ERRORS.md, "How a refusal is printed"). The numbers and names of the libraries'
 -- faults are theirs.
 use Rattle.std.specs.Prelude.{ℕ, List, [], ◌∷◌, ◌++◌, Option, None, Some, codes, decimal}
 use Rattle.cfm_closure.specs.Faults as bind

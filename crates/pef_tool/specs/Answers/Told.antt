@@ -1,4 +1,4 @@
--- What the faults of the readers of inputs, scripts and certificates are told as (docs/REFUSALS.md).
+-- What the faults of the readers of inputs, scripts and certificates are told as (docs/ERRORS.md).
 use Rattle.pef_cert.specs.declared.text.fault.CertFault.{CertFault}
 use Rattle.pef_cert.specs.declared.text.fault.CertFault.TheVariants as cert_fault
 use Rattle.pef_ports.specs.declared.input.InputFault.{InputFault}
