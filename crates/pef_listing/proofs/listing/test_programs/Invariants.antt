@@ -7,4 +7,4 @@ use Rattle.pef_listing.proofs.listing.test_programs.Given as goal
 
 abbrev pub invariant-loop-k : goal.invariant-loop-k
 invariant-loop-k l =
-    first_among (program_refusal (loaded l.loader)) l.k (l.loader.header.reloc_count - l.k) ≡ programs_fault (loaded l.loader)
+    first_among (program_refusal (loaded l.loader)) l.k ((loaded l.loader).header.reloc_count - l.k) ≡ programs_fault (loaded l.loader)
