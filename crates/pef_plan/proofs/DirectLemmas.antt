@@ -1,4 +1,5 @@
--- What is led to at each pair of classes: the addition alone, lowered in a line, in a column or everywhere.
+-- The direct values at each pair of classes: those of one addition, lowered in a line, in a column or
+-- everywhere.
 use Rattle.std.proofs.Common.{◌≡◌, ℕ, zero, suc, ◌+◌, ◌-◌, ◌*◌, ◌<◌, ◌≤◌, ◌⊎◌, inl, inr, Bool, true, false, ◌==◌, cond, nat_lt, List, ◌∷◌, length, slice_index, refl, ap, sym, ◌∙◌, subst, arith}
 use Rattle.std.specs.Prelude.{slice_set}
 use Rattle.std.proofs.lemmas.Bool.{eqb-true}
@@ -51,13 +52,13 @@ pair_at r (suc n) i under = by (eqb_below i (n * r)) (pair_at r n i)
     by (inl low) before = let p = before low in let u = p.2 in (p.0, p.1, omega (arith, u), p.3, p.4)
     by (inr high) before = (n, i - n * r, omega arith, omega (arith, under, high), omega (arith, high))
 
--- what holds of the number of each pair holds of each number
+-- a property of the number of each pair is one of each number
 pub each_place : (P : ℕ → Type 0) (r : ℕ) (row : List ℕ) → ((c d : ℕ) → c < r → d < r → P (number_in r row c d)) → (i : ℕ) → i < r * r → P (slice_index row i)
 each_place P r row each i under =
     let p = pair_at r r i under in
     subst (λ (n : ℕ). P (slice_index row n)) (sym p.4) (each p.0 p.1 p.2 p.3)
 
--- what lies right behind the fixup
+-- the extension right after the fixup
 pub near-is : (k : SolvedSuffix) (a : FixupState) (e : RunEnds) (c d : ℕ) (l : Labels) → EndsAt k a.others.now (a.first ∷ a.others.now) e → c < length k.registers.now + 1 → d < length k.registers.now + 1 → Agrees l k a.others.now → number_in (length k.registers.now + 1) e.near.items c d ≡ extension l a.others.now (a.first.offset + 4) c d
 near-is k a e c d l ends under_c under_d agrees =
     let same = agrees.same.registers_are in
@@ -65,7 +66,7 @@ near-is k a e c d l ends under_c under_d agrees =
     ap (λ rs. number_in (length rs + 1) e.near.items c d) (sym same)
     ∙ ends.near l agrees c d (omega (arith, count, under_c)) (omega (arith, count, under_d))
 
--- the addition alone, of a section and of an import
+-- the value of one addition, of a section and of an import
 pub adds-section : (k : SolvedSuffix) (a : FixupState) (e : RunEnds) (section c d value : ℕ) → AtOf k a → EndsAt k a.others.now (a.first ∷ a.others.now) e → a.first.base ≡ Section section → c < length k.registers.now + 1 → d < length k.registers.now + 1 → value ≡ 1 + number_in (length k.registers.now + 1) e.near.items c d → Adds k (state_of a c d) 1 value
 adds-section k a e section c d value at ends base under_c under_d is =
     let low = ends.near_small c d under_c under_d in
@@ -110,7 +111,7 @@ in_d-away k h section class value is away first = record {
   in_d = λ l n agrees low same. absurd (away (sym (eqb-true (class_of l.registers section) h.place.d same) ∙ (ap (λ rs. class_of rs section) agrees.same.registers_are ∙ is)));
 }
 
--- a value that is lowered stays what it is
+-- a lowered value keeps its properties
 pub adds-lower : (k : SolvedSuffix) (h : OpenState) (cost value lower : ℕ) → Adds k h cost value → Led k h lower → lower ≤ value → Adds k h cost lower
 adds-lower k h cost value lower adds led better = record {
   led = led;
@@ -124,7 +125,7 @@ in_c-lower k h section value lower first led better = record {
   in_c = λ l n agrees low. first.in_c l n agrees (omega (arith, low, better));
 }
 
--- what is led to with the registers in two classes, by runs of both registers
+-- the value with the registers in two classes, by runs of both registers
 pub direct-section : (k : SolvedSuffix) (a : FixupState) (section c d value : ℕ) → AtOf k a → a.first.base ≡ Section section → AddsInBoth k (state_of a c d) section value → DirectIs k a c d value
 direct-section k a section c d value at base both =
     let h : OpenState = state_of a c d in
@@ -135,7 +136,7 @@ direct-section k a section c d value at base both =
     (section_met l h a.import_index section n (omega (arith, low, most)) (both.first.in_c l n agrees low) (both.in_d l n agrees low)))
     both.first.adds.small
 
--- the same of an import that isn't the next one
+-- the same for an import that isn't the next one
 pub direct-import : (k : SolvedSuffix) (a : FixupState) (import c d value : ℕ) → AtOf k a → a.first.base ≡ Import import → Adds k (state_of a c d) (import_cost import) value
     → ((l : Labels) (n : ℕ) → Agrees l k a.others.now → n ≤ value → (import == a.import_index) ≡ true → numbered_test l n c d 512 a.first.offset import (a.first ∷ a.others.now) ≡ true) → DirectIs k a c d value
 direct-import k a import c d value at base adds run =
@@ -147,7 +148,7 @@ direct-import k a import c d value at base adds run =
     (import_met l h import n (omega (arith, low, most)) (run l n agrees low)))
     adds.small
 
--- numbers of a row of which some are lowered
+-- the numbers of a row after some are lowered
 abbrev pub Lowered : ℕ → (ℕ → ℕ → ℕ → Type 0) → (ℕ → ℕ → ℕ → Type 0) → (ℕ → ℕ → Type 0) → List ℕ → Type 0
 Lowered r A B D row = (c d : ℕ) → c < r → d < r → (D c d × B c d (number_in r row c d)) ⊎ ((D c d → ⊥) × A c d (number_in r row c d))
 

@@ -1,4 +1,4 @@
--- One more row in the tables, and what holds of each.
+-- One more row in the tables, and the properties of each row.
 use Rattle.std.proofs.Common.{◌≡◌, ℕ, zero, suc, ◌+◌, ◌*◌, ◌<◌, ◌≤◌, inl, inr, true, List, [], ◌∷◌, ◌++◌, length, take, drop, replicate, slice_index, refl, ap, sym, ◌∙◌, subst, arith, length-append}
 use Rattle.std.specs.Prelude.{slice_index_or}
 use Rattle.std.specs.List.{AllByRecursion}
@@ -50,7 +50,7 @@ pub registered-all : (rs : List ℕ) (fs : List Fixup) → AllByRecursion (λ f.
 registered-all rs [] is = tt
 registered-all rs (f ∷ fs) is = (registered-one rs f.base is.0, registered-all rs fs is.1)
 
--- what holds of all holds of those from an index on
+-- a property of all elements is one of those from an index on
 pub all-drop : (P : Fixup → Type 0) (n : ℕ) (fs : List Fixup) → AllByRecursion P fs → AllByRecursion P (drop n fs)
 all-drop P zero fs all = all
 all-drop P (suc n) [] all = tt
@@ -78,7 +78,7 @@ same_before l rs labels row n count same = record {
       ∙ ap (λ square. number_in (length rs + 1) square c d) (get_or-append labels (row ∷ []) [] left (omega (arith, count, under)));
 }
 
--- and of one more are those of the row
+-- the labels for one more fixup are those of the new row
 pub same_last : (l : Labels) (rs : List ℕ) (labels : List (List ℕ)) (row : List ℕ) (n c d : ℕ) → length labels ≡ n + 1 → SameLabels l rs (labels ++ row ∷ []) (suc n) → c < length rs + 1 → d < length rs + 1 → l.label (suc n) c d ≡ number_in (length rs + 1) row c d
 same_last l rs labels row n c d count same under_c under_d =
     let there : suc n ≡ length labels = omega (arith, count) in
@@ -180,7 +180,7 @@ line_offers l k a line index c d (Section section) world agrees skips counts bas
     (ap (λ rs. skips_at l a.first a.others.now c (class_of rs section)) same ∙ is)
 line_offers l k a line index c d (Import import) world agrees skips counts base under = offer-import l a.first a.others.now c d import base
 
--- tables with a row more
+-- tables with one more row
 pub record RowMore (rs : List ℕ) (k : SolvedSuffix) (a : FixupState) (labels : List (List ℕ)) (skips : List (List ℕ)) (row : List ℕ) (line : List ℕ) : Type 0 where
   pub at : AtOf k a
   pub registers_are : k.registers.now ≡ rs
@@ -285,7 +285,7 @@ tabled-next rs labels skips k a row line index t m here numbers = record {
   );
 }
 
--- the index of the next import behind one more fixup
+-- the index of the next import after one more fixup
 pub index-next : (fixups : List Fixup) (at : ℕ) (f : Fixup) (n index : ℕ) → at < length fixups → index ≡ index_after (take at fixups) 0 → n ≡ index_past (slice_index_or fixups at f).base index → n ≡ index_after (take (at + 1) fixups) 0
 index-next fixups at f n index under is next = next ∙ (ap (λ m. index_past (slice_index_or fixups at f).base m) is ∙ sym (index_behind fixups at f under))
 
@@ -402,7 +402,7 @@ ends-next fixups rs labels skips at n index k a row e step t known state ends =
     subst (λ (fs : List Fixup). EndsOf (λ l. SameLabels l rs (labels ++ row ∷ []) (length fs)) (length rs + 1) fs e) (sym state.parts)
     (ends-map (λ l. Agrees l k a.others.now) (λ l. SameLabels l rs (labels ++ row ∷ []) (suc (length a.others.now))) (length rs + 1) (a.first ∷ a.others.now) e (λ l same. agrees_before l rs labels skips k a.others.now row index t' known same) counted)
 
--- the tables where no fixups are left
+-- the tables for no fixups left
 zeros_line : (n d : ℕ) → slice_index (replicate n 0) d ≡ 0
 zeros_line zero d = refl
 zeros_line (suc n) zero = refl
@@ -427,7 +427,7 @@ pub ends-none : (rest : List Fixup) (rs : List ℕ) (labels : List (List ℕ)) (
 ends-none rest rs labels count e none same ends =
     rw (none, ← same) (ends-map (λ l. Unit {0}) (λ l. SameLabels l rs labels 0) count [] e (λ l s. tt) ends)
 
--- tables as they are kept, with one row more
+-- tables as they are stored, with one more row
 pub tables-next : (fixups : List Fixup) (rs : List ℕ) (labels skips new_labels new_skips : LaidRows) (at n : ℕ) (k : SolvedSuffix) (a : FixupState) (row : List ℕ) (line : List ℕ) → fixups_fit fixups ≡ true → RegistersOf fixups rs → n ≡ at + 1 → n ≤ length fixups → TablesOf rs labels skips (index_after (take n fixups) 0) (drop n fixups) → KnownOf k rs labels.rows skips.rows → StateAt fixups at a → RowOf k a row → SkipsOf k a line → length row ≡ (length rs + 1) * (length rs + 1)
     → new_labels ≡ record { width = labels.width; rows = labels.rows ++ row ∷ [] } → new_skips ≡ record { width = skips.width; rows = skips.rows ++ line ∷ [] } → TablesOf rs new_labels new_skips (index_after (take at fixups) 0) (drop at fixups)
 tables-next fixups rs labels skips new_labels new_skips at n k a row line fit right step inside t known state row_is line_is wide labels_are skips_are =

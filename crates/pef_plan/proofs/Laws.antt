@@ -1,6 +1,6 @@
--- What this crate offers to the proofs of others: facts of least programs.
+-- Facts of least programs, for the proofs of other crates.
 
 -- a least program has at most four halfwords for each fixup
 pub use Rattle.pef_plan.proofs.Reaching.{least-short}
--- and names nothing but what its fixups use
+-- a least program names only what its fixups use
 pub use Rattle.pef_plan.proofs.NameFacts.{least-names}

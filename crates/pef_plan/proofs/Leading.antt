@@ -1,4 +1,4 @@
--- From every state an instruction leads on, where labels are feasible and reached.
+-- From every state an instruction leads on, if labels are feasible and reached.
 use Rattle.std.proofs.Common.{◌≡◌, ◌≢◌, ℕ, suc, ◌+◌, ◌-◌, ◌*◌, ◌/◌, ◌%◌, ◌<◌, ◌≤◌, ◌⊎◌, inl, inr, true, false, ◌==◌, nat_le, List, [], ◌∷◌, ◌++◌, length, Some, refl, ap, sym, ◌∙◌, subst, arith, eq-eqb}
 use Rattle.std.specs.List.{AllByRecursion}
 use Rattle.std.proofs.lemmas.Bool.{and_from, le-leb, lt-ltb}
@@ -35,7 +35,7 @@ planned_left l x s fixups left p delivers =
     subst (λ (index : ℕ). Planned l index left) (sym (index_kept x s))
     (planned-behind l s.import_index (additions x s) left (subst (λ (fs : List Fixup). Planned l s.import_index fs) delivers.is p))
 
--- to the offset, from anywhere
+-- a move to the offset, from anywhere
 led_far : (l : Labels) (s : State) (f : Fixup) (rest : List Fixup) → fixup_fits f ≡ true → extension_at l (f ∷ rest) s ≡ 2 + label_at l (f ∷ rest) s → LeadsOn l s (f ∷ rest)
 led_far l s f rest fits is =
     let inside = (fixup_fits-parts f fits).inside in
@@ -51,7 +51,7 @@ led_far l s f rest fits is =
 increment_fits : (e : ℕ) → 1 ≤ e → e ≤ 4096 → is_flat_instr (IncrPosition e) ≡ true
 increment_fits e some few = and_from (nat_le 1 e) (nat_le e 4096) (le-leb 1 e some) (le-leb e 4096 few)
 
--- and from not far before it
+-- a move to the offset, from shortly before it
 led_near : (l : Labels) (s : State) (f : Fixup) (rest : List Fixup) → 1 ≤ f.offset - s.position → f.offset - s.position ≤ 4096 → 1 + label_at l (f ∷ rest) s ≤ extension_at l (f ∷ rest) s → LeadsOn l s (f ∷ rest)
 led_near l s f rest after before low =
     let end : s.position + (f.offset - s.position) ≡ f.offset = omega (arith, after) in
@@ -72,7 +72,7 @@ offer_set_c l f rest c d x o other =
     let free : (change o.class_c o.class_c + change d o.class_d) + o.skip_value ≤ change d o.class_d + o.skip_value = rw (eq-eqb o.class_c o.class_c refl) (omega arith) in
     (change d o.class_d + o.skip_value, omega (arith, sum), at_most-weaker (offer_at l f rest o.class_c d) _ (change d o.class_d + o.skip_value) most free)
 
--- and with D set
+-- the same with D set
 offer_set_d : (l : Labels) (f : Fixup) (rest : List Fixup) (c d x : ℕ) (o : Offered l f rest c d x) → (d == o.class_d) ≡ false → (y : ℕ) × (x ≡ 1 + y) × AtMost (offer_at l f rest c o.class_d) y
 offer_set_d l f rest c d x o other =
     let sum : x ≡ (change c o.class_c + 1) + o.skip_value = rw other at o.is in
@@ -80,7 +80,7 @@ offer_set_d l f rest c d x o other =
     let free : (change c o.class_c + change o.class_d o.class_d) + o.skip_value ≤ change c o.class_c + o.skip_value = rw (eq-eqb o.class_d o.class_d refl) (omega arith) in
     (change c o.class_c + o.skip_value, omega (arith, sum), at_most-weaker (offer_at l f rest c o.class_d) _ (change c o.class_c + o.skip_value) most free)
 
--- and with both as they are, it is what a skip is worth
+-- with both registers unchanged, the offer is the value of a skip
 offer_unset : (l : Labels) (f : Fixup) (rest : List Fixup) (c d x : ℕ) (o : Offered l f rest c d x) → ((c == o.class_c) ≡ true) × (c ≡ o.class_c) → ((d == o.class_d) ≡ true) × (d ≡ o.class_d) → skips_at l f rest c d ≡ Some x
 offer_unset l f rest c d x o same_c same_d =
     let value : x ≡ (0 + 0) + o.skip_value = rw (same_c.0, same_d.0) at o.is in

@@ -1,4 +1,4 @@
--- What is led to at a fixup, and the least skips there.
+-- The values at a fixup, and the least skips there.
 use Rattle.std.proofs.Common.{◌≡◌, ℕ, ◌+◌, ◌*◌, ◌≤◌, ◌⊎◌, Bool, true, false, cond, nat_lt, List, ◌∷◌, length, Some, refl, ap, ap₂, sym, ◌∙◌, subst, arith}
 use Rattle.std.proofs.lemmas.Bool.{lt-ltb, ltb-true}
 use Rattle.pef_reloc.specs.declared.fixup.Base.{Base}
@@ -34,7 +34,7 @@ skip_is k h section first value l here base holds from is one ends agrees =
     (subst (λ (p : ℕ). (value ≡ first) ⊎ EndOf l (Skip 0 section) h p value) (sym from) (one l agrees))
     (subst (λ (p : ℕ). Ends l (Skip 0 section) h p value) (sym from) (ends l value agrees (omega arith)))
 
--- what lies behind the first fixup, from a state at it
+-- the extension after the first fixup, from a state at it
 behind_first : (l : Labels) (k : SolvedSuffix) (h : OpenState) (s t : State) → Agrees l k h.others.now → h.place.position ≡ h.first.offset → InPlace k.registers.now h.place s → t.position ≡ s.position + 4 → t.c ≡ s.c → t.d ≡ s.d → extension_at l h.others.now t ≡ extension l h.others.now (h.first.offset + 4) h.place.c h.place.d
 behind_first l k h s t agrees at in_place position c d =
     let same = agrees.same.registers_are in
@@ -42,7 +42,7 @@ behind_first l k h s t agrees at in_place position c d =
     ap (λ p. extension l h.others.now p (class_of l.registers t.c) (class_of l.registers t.d)) there
     ∙ ap₂ (λ x y. extension l h.others.now (h.first.offset + 4) x y) (ap (class_of l.registers) c ∙ (ap (λ rs. class_of rs s.c) same ∙ in_place.c)) (ap (class_of l.registers) d ∙ (ap (λ rs. class_of rs s.d) same ∙ in_place.d))
 
--- the addition of a base alone
+-- the instruction that adds a base once
 added_first : (k : SolvedSuffix) (h : OpenState) (b : Base) (p : ℕ) → HereOf k h → h.first.base ≡ b → p ≡ h.first.offset → h.place.left.now ≡ added p b ∷ h.others.now
 added_first k h b p here base at =
     let word : h.first ≡ added h.first.offset b = (λ i. record { offset = h.first.offset; base = base i }) in
@@ -51,7 +51,7 @@ added_first k h b p here base at =
 base_of : (k : SolvedSuffix) (h : OpenState) (b : Base) → HereOf k h → h.first.base ≡ b → base_fits b ≡ true
 base_of k h b here base = subst (λ (x : Base). base_fits x ≡ true) base (fixup_fits-parts h.first here.fit.0).base
 
--- leads within what it takes and what lies behind: a section, and an import
+-- the instruction leads on within its halfwords plus the extension after it: for a section, and for an import
 pub section_led : (k : SolvedSuffix) (h : OpenState) (section value : ℕ) → HereOf k h → h.place.position ≡ h.first.offset → h.first.base ≡ Section section → ((l : Labels) → Agrees l k h.others.now → value ≡ 1 + extension l h.others.now (h.first.offset + 4) h.place.c h.place.d) → Led k h value
 section_led k h section value here at base is l s agrees in_place =
     let low = ltb-true section most_sections (base_of k h (Section section) here base) in
@@ -88,7 +88,7 @@ import_by k h import value false here at base small is l s agrees in_place =
       falls = omega (arith, behind, worth);
     }
 
--- what is led to with the registers in two classes
+-- the value with the registers in two classes
 pub low-is : (k : SolvedSuffix) (a : FixupState) (c d : ℕ) (h : OpenState) (value : ℕ) → AtOf k a → With a c d h → Led k h value → ((l : Labels) (n : ℕ) → Agrees l k h.others.now → n ≤ value → base_test l n h.place.import_index h.first h.others.now h.place.c h.place.d h.first.base ≡ true) → value ≤ 4 * length h.others.now + 4 → DirectIs k a c d value
 low-is k a c d h value at w led least small = record {
   least = λ l n agrees low.

@@ -1,4 +1,4 @@
--- Moves to a fixup: which of them leads on.
+-- Moves to a fixup: one of them leads on.
 use Rattle.std.proofs.Common.{◌≡◌, ◌≢◌, ℕ, ◌+◌, ◌-◌, ◌%◌, ◌<◌, ◌≤◌, List, ◌∷◌, length, Option, None, Some, refl, ap, sym, ◌∙◌, subst, arith, eq-eqb}
 use Rattle.std.specs.List.{AllByRecursion}
 use Rattle.std.proofs.lemmas.Bool.{ne_eqb}
@@ -52,7 +52,7 @@ short_move k h t away beyond other = go _ refl (moved-there k h t away)
         let low = moved-skip (h.first.offset - p) (label_in (length k.registers.now + 1) k.labels.now.rows (length (h.first ∷ h.others.now)) h.place.c h.place.d) (offer_at (labels_tabled k) h.first h.others.now h.place.c h.place.d) w (omega (arith, ahead)) (omega (arith, ahead)) (eq-eqb ((h.first.offset - p) % 4) 0 (omega (arith, ahead))) (record { value = w; is = e; low = omega arith }) in
         (omega (arith, next, low, is, sum), before)
 
--- and otherwise the extension is an offer that a skip takes
+-- otherwise the extension is an offer that a skip takes
 pub skips_to : (k : SolvedSuffix) (h : OpenState) → TrackedHere k h → h.place.position ≢ h.first.offset → h.first.offset - h.place.position ≤ 4096 → extension_in (labels_tabled k) h.place ≢ 2 + here_label k h → (1 ≤ h.first.offset - h.place.position → extension_in (labels_tabled k) h.place ≢ 1 + here_label k h) → SkipsTo k h
 skips_to k h t away within other also = go _ refl (moved-there k h t away)
   where
@@ -103,7 +103,7 @@ skip_set k h section class t at away base of other =
     let next = ap (λ fs. extension l fs h.place.position h.place.c class) t.parts ∙ extension-away l h.first h.others.now h.place.position h.place.c class away in
     omega (arith, worth, one, low, next)
 
--- the skip itself is worth the extension
+-- the value of the skip is the extension
 pub skip_taken : (k : SolvedSuffix) (h : OpenState) (section value : ℕ) → TrackedHere k h → SkipsTo k h → h.first.base ≡ Section section → class_of k.registers.now section ≡ h.place.d → class_of k.registers.now section < length k.registers.now → skips_at (labels_tabled k) h.first h.others.now h.place.c h.place.d ≡ Some value → value ≡ extension_in (labels_tabled k) h.place
 skip_taken k h section value t at base of counts is =
     let l : Labels = labels_tabled k in

@@ -1,4 +1,4 @@
--- A least program names nothing but what its fixups use: what names more could be left out.
+-- A least program names only what its fixups use. An instruction that names anything else could be left out.
 use Rattle.std.proofs.Common.{◌≡◌, ℕ, zero, suc, ◌+◌, ◌*◌, ◌≤◌, Bool, true, false, ◌&&◌, ◌||◌, ◌==◌, nat_le, List, [], ◌∷◌, ◌++◌, refl, ap, sym, ◌∙◌, subst, arith, eq-eqb}
 use Rattle.std.proofs.lemmas.Bool.{and_from, and_parts, leb-true, or_right}
 use Rattle.std.proofs.lemmas.List.{append_assoc}
@@ -46,7 +46,7 @@ unfolding pairs
 pairs_used_d zero p w c d more = absurd (omega (arith, more))
 pairs_used_d (suc n) p w c d more = or_right (c == d) (uses_section (added (p + 4) (Section d) ∷ pairs n (p + w) w (Section c) (Section d)) d) (first_used (p + 4) d (pairs n (p + w) w (Section c) (Section d)))
 
--- what an instruction does with register C: it adds its section, or sets it, or neither
+-- an instruction adds the section of register C, or sets the register, or does neither
 data WithC (x : Instr) (s : State) (k : ℕ) : Type 0 where
   adds_c : uses_section (additions x s) s.c ≡ true → WithC x s k
   sets_c : additions x s ≡ additions x (record s { c = k }) → next_state x s ≡ next_state x (record s { c = k }) → WithC x s k
@@ -73,7 +73,7 @@ with_c (LgBySection j) s k e = keeps_c refl refl refl
 with_c (LgSetSectC j) s k e = sets_c refl refl
 with_c (LgSetSectD j) s k e = keeps_c refl refl refl
 
--- and with register D
+-- the same for register D
 data WithD (x : Instr) (s : State) (k : ℕ) : Type 0 where
   adds_d : uses_section (additions x s) s.d ≡ true → WithD x s k
   sets_d : additions x s ≡ additions x (record s { d = k }) → next_state x s ≡ next_state x (record s { d = k }) → WithD x s k
@@ -105,7 +105,7 @@ with_d (LgSetSectD j) s k e = sets_d refl refl
 unused_behind : (x : Instr) (xs : List Instr) (s : State) (k : ℕ) → uses_section (trace (x ∷ xs) s) k ≡ false → (uses_section (additions x s) k ≡ false) × (uses_section (trace xs (next_state x s)) k ≡ false)
 unused_behind x xs s k e = or_none (uses_section (additions x s) k) (uses_section (trace xs (next_state x s)) k) (sym (uses_section-append (additions x s) (trace xs (next_state x s)) k) ∙ e)
 
--- a list does the same from a state with another section in register C, where its own is never added
+-- a list does the same from a state with another section in register C, if it never adds the register's section
 other_c : (xs : List Instr) (s : State) (k : ℕ) → is_flat xs ≡ true → uses_section (trace xs s) s.c ≡ false → trace xs s ≡ trace xs (record s { c = k })
 other_c [] s k flat unused = refl
 other_c (x ∷ xs) s k flat unused = go (other_c xs (next_state x s) k (flat_parts x xs flat).others) (with_c x s k (flat_parts x xs flat).first) (unused_behind x xs s s.c unused)
@@ -130,7 +130,7 @@ other_d (x ∷ xs) s k flat unused = go (other_d xs (next_state x s) k (flat_par
         ∙ (ap (λ fs. additions x (record s { d = k }) ++ fs) (more (subst (λ (d : ℕ). uses_section (trace xs (next_state x s)) d ≡ false) (sym kept) none.1))
         ∙ ap (λ q. additions x (record s { d = k }) ++ trace xs q) next)
 
--- an instruction of a least list, with those before it and behind it
+-- an instruction of a least list, with those before it and after it
 record Amid (fixups : List Fixup) (done : List Instr) (x : Instr) (rest : List Instr) : Type 0 where
   least : Least fixups (done ++ x ∷ rest)
 

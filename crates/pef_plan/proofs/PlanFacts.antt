@@ -26,7 +26,7 @@ all-reverse P [] all = tt
 all-reverse P (x ∷ xs) all =
     subst (λ ys. AllByRecursion P ys) (sym (reverse-append (x ∷ []) xs)) (all-append P (reverse xs) (x ∷ []) (all-reverse P xs all.1) (all.0, tt))
 
--- what a plan is made of
+-- the parts of a plan
 pub record PlanOf (fixups : List Fixup) (labels skips : LaidRows) (c : Certified) : Type 0 where
   pub fit : fixups_fit fixups ≡ true
   pub registers : RegistersOf fixups c.registers
@@ -80,7 +80,7 @@ plan_exact fixups labels skips c p =
     reached-exact (labels_of c (length fixups)) fixups p.fit p.registers (plan_feasible fixups labels skips c p)
     (p.tables.tabled.reached (labels_of c (length fixups)) (plan_same fixups labels skips c p))
 
--- few sections count
+-- the registers are few
 pub few_classes : (fixups : List Fixup) (registers : List ℕ) → fixups_fit fixups ≡ true → RegistersOf fixups registers → length registers ≤ most_sections
 few_classes fixups registers fit right =
     let low = few_rising most_sections registers right.rising (λ j among. used_section-below fixups j fit (sym (right.used j) ∙ among)) in

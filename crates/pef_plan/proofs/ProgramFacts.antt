@@ -1,4 +1,4 @@
--- A program that is read off tables, instruction by instruction.
+-- A program that is read from tables, instruction by instruction.
 use Rattle.std.proofs.Common.{◌≡◌, ℕ, ◌+◌, ◌*◌, ◌<◌, ◌≤◌, ◌⊎◌, inl, inr, true, nat_le, List, [], ◌∷◌, ◌++◌, length, refl, ap, sym, ◌∙◌, subst, arith, length-append}
 use Rattle.std.specs.List.{AllByRecursion}
 use Rattle.std.proofs.lemmas.Bool.{ltb-true, leb-true, and_parts}
@@ -72,7 +72,7 @@ all-before P (f ∷ made) left all = (all.0, all-before P made left all.1)
 tracked_planned : (k : SolvedSuffix) (p : PlanState) → Tracked k p → Planned (labels_tabled k) p.import_index p.left.now
 tracked_planned k p t = record { world = tracked_world k p t; reached = t.reached; fit = t.fit }
 
--- the place behind a step has tables as well
+-- the place after a step has tables as well
 tracked_next : (k : SolvedSuffix) (p : PlanState) (x : Step) (s : State) → Tracked k p → InPlace k.registers.now p s → Falls k p x s → x.next.position ≤ most_position → Tracked k x.next
 tracked_next k p x s t in_place f low =
     let l : Labels = labels_tabled k in
@@ -142,7 +142,7 @@ read_next k fixups instrs p x r f =
 same_tabled : (k : SolvedSuffix) (n : ℕ) → SameLabels (labels_tabled k) k.registers.now k.labels.now.rows n
 same_tabled k n = record { registers_are = refl; label_is = λ left c d under under_c under_d. refl }
 
--- none yet
+-- the empty program, at the start
 pub read_start : (k : SolvedSuffix) (p : PlanState) → fixups_fit p.left.now ≡ true → RegistersOf p.left.now k.registers.now → TablesOf k.registers.now k.labels.now k.skips.now 0 p.left.now → p.import_index ≡ 0 → InPlace k.registers.now p start → ReadTo k p.left.now [] p
 read_start k p fit right t index in_place =
     let l : Labels = labels_tabled k in
@@ -178,7 +178,7 @@ none_of : (fs : List Fixup) → length fs ≡ 0 → fs ≡ []
 none_of [] e = refl
 none_of (f ∷ fs) e = absurd (omega (arith, e))
 
--- and where none are left
+-- the program, when no fixups are left
 pub read_least : (k : SolvedSuffix) (fixups : List Fixup) (instrs : List Instr) (p : PlanState) → fixups_fit fixups ≡ true → RegistersOf fixups k.registers.now → TablesOf k.registers.now k.labels.now k.skips.now 0 fixups → ReadTo k fixups instrs p → length p.left.now ≡ 0 → Least fixups instrs
 read_least k fixups instrs p fit right t r none =
     let l : Labels = labels_tabled k in

@@ -1,4 +1,4 @@
--- Labels that are feasible and reached are least lengths, and the extension is one everywhere.
+-- Labels that are feasible and reached are least lengths, and so is the extension everywhere.
 use Rattle.std.proofs.Common.{◌≡◌, ℕ, zero, suc, ◌*◌, ◌≤◌, true, List, [], ◌∷◌, ◌++◌, length, refl, sym, subst, arith}
 use Rattle.pef_reloc.specs.declared.fixup.Fixup.{Fixup}
 use Rattle.pef_reloc.specs.declared.instr.Instr.{Instr}
@@ -70,7 +70,7 @@ reached-least l fixups made rest s fit registers feasible reached parts behind =
     least_from l s rest (subst (λ (index : ℕ). Planned l index rest) (sym behind.index)
     (planned-behind l 0 made rest (subst (λ (fs : List Fixup). Planned l 0 fs) parts (whole_planned l fixups fit registers feasible reached))))
 
--- and so is each label
+-- each label is the least length in its state
 pub reached-exact : (l : Labels) (fixups : List Fixup) → fixups_fit fixups ≡ true → RegistersOf fixups l.registers → Feasible l fixups → ReachedFrom l 0 fixups → Exact l fixups
 reached-exact l fixups fit registers feasible reached = record {
   at = λ made rest f s parts here.

@@ -36,11 +36,11 @@ among-append : (rs : List ℕ) (k j : ℕ) → is_among (rs ++ k ∷ []) j ≡ (
 among-append [] k j = or_false (k == j)
 among-append (r ∷ rs) k j = ap (λ b. r == j || b) (among-append rs k j) ∙ or_assoc (r == j) (is_among rs j) (k == j)
 
--- none yet
+-- the empty list, at the start
 pub used_none : (fixups : List Fixup) → UsedBelow fixups 0 []
 used_none fixups = record { rising = refl; below = λ k among. absurd (cc); used = λ k under. absurd (omega (arith, under)) }
 
--- one that isn't used, and one that is
+-- a section that isn't used, and one that is
 pub used_passed : (fixups : List Fixup) (most : ℕ) (rs : List ℕ) → UsedBelow fixups most rs → false ≡ uses_section fixups most → UsedBelow fixups (most + 1) rs
 used_passed fixups most rs u unused = record {
   rising = u.rising;
@@ -70,7 +70,7 @@ used_more fixups most rs u used = record {
       ]);
 }
 
--- all of them
+-- all sections
 pub used_all : (fixups : List Fixup) (most : ℕ) (rs : List ℕ) → fixups_fit fixups ≡ true → most_sections ≤ most → UsedBelow fixups most rs → RegistersOf fixups rs
 used_all fixups most rs fit enough u = record {
   rising = u.rising;

@@ -1,4 +1,4 @@
--- A row of labels: what is chosen at each pair of classes, and what follows for the whole row.
+-- A row of labels: the choice at each pair of classes, and the properties of the whole row.
 use Rattle.std.proofs.Common.{◌≡◌, ℕ, ◌+◌, ◌*◌, ◌<◌, ◌≤◌, List, length, slice_index, Some, ap, sym, subst, arith}
 use Rattle.pef_reloc.specs.declared.fixup.Fixup.{Fixup}
 use Rattle.pef_cert.specs.Labels.{Labels, class_of}

@@ -47,7 +47,7 @@ both_pairs_met l h j k value near far =
     asked-met (class_of l.registers k == h.place.d) _ (λ is.
     and_from _ _ (pairs_met l value j k h.first.offset h.place.import_index h.place.c h.place.d (h.first ∷ h.others.now) near) (far_met l value j k h.first.offset h.place.import_index h.place.c h.place.d (h.first ∷ h.others.now) far))
 
--- all that can begin by adding a section
+-- all runs that can begin by adding a section
 pub section_met : (l : Labels) (h : OpenState) (index k value : ℕ) → value ≤ 1 + extension l h.others.now (h.first.offset + 4) h.place.c h.place.d → ((class_of l.registers k == h.place.c) ≡ true → MetInC l h k value) → ((class_of l.registers k == h.place.d) ≡ true → MetInD l h k value) → base_test l value index h.first h.others.now h.place.c h.place.d (Section k) ≡ true
 section_met l h index k value low in_c in_d =
     section_tests-met l value index k h.first h.others.now h.place.c h.place.d (record {
@@ -57,7 +57,7 @@ section_met l h index k value low in_c in_d =
       second = λ is. (in_c is).second;
     })
 
--- and an import
+-- all runs that can begin by adding an import
 pub import_met : (l : Labels) (h : OpenState) (k value : ℕ) → value ≤ import_cost k + extension l h.others.now (h.first.offset + 4) h.place.c h.place.d → ((k == h.place.import_index) ≡ true → numbered_test l value h.place.c h.place.d 512 h.first.offset k (h.first ∷ h.others.now) ≡ true) → base_test l value h.place.import_index h.first h.others.now h.place.c h.place.d (Import k) ≡ true
 import_met l h k value low run =
     import_tests-met l value h.place.import_index k h.first h.others.now h.place.c h.place.d (record { single = low; imports = run })

@@ -1,4 +1,4 @@
--- Steps from a place: what is known at a fixup, and that one of those that are tried leads on.
+-- Steps from a place: the values at a fixup, and the proof that one of the steps that are tried leads on.
 use Rattle.std.proofs.Common.{◌≡◌, ℕ, ◌+◌, ◌<◌, ◌≤◌, ◌⊎◌, inl, inr, true, List, [], ◌∷◌, ◌++◌, length, slice_index, refl, ap, ap₂, sym, ◌∙◌, subst, arith, length-append}
 use Rattle.pef_reloc.specs.declared.fixup.Fixup.{Fixup}
 use Rattle.pef_reloc.specs.declared.instr.Instr.{Instr}
@@ -90,7 +90,7 @@ kind_of (LgBySection n) s = stays refl refl
 kind_of (LgSetSectC n) s = sets_c n refl
 kind_of (LgSetSectD n) s = sets_d n refl
 
--- where no register set leads on, the best that adds does
+-- if no setting of a register leads on, the best addition does
 none_left : (additions left : List Fixup) (f : Fixup) (rest : List Fixup) → f ∷ rest ≡ additions ++ left → (length left < length (f ∷ rest)) ⊎ (f ∷ rest ≡ left)
 none_left [] left f rest e = inr e
 none_left (a ∷ additions) left f rest e =
@@ -164,7 +164,7 @@ best_falls k h s value label t at in_place met is by_c by_d =
     go l world here x (inl fewer) = adds x here fewer
     go l world here x (inr same) = stuck x world here same (kind_of x.instr s)
 
--- the chosen step falls where its value is at most the label
+-- along the chosen step the extension falls, if its value is at most the label
 pub chosen_falls : (k : SolvedSuffix) (h : OpenState) (x : Choice) → TrackedHere k h → h.place.position ≡ h.first.offset → Chosen k h x → x.value ≤ label_in (length k.registers.now + 1) k.labels.now.rows (length h.place.left.now) h.place.c h.place.d → FallsOn k h.place x.step
 chosen_falls k h x t at chosen low s in_place =
     let worth = chosen.worth (labels_tabled k) (agrees_others k h t) in

@@ -1,5 +1,5 @@
--- A program that moves to the word of each fixup and adds its base: a flat one that makes the fixups,
--- with at most four halfwords for each. No least program is longer.
+-- A program that moves to the word of each fixup and adds its base. It is flat, makes the fixups, and has at
+-- most four halfwords for each. No least program is longer.
 use Rattle.std.proofs.Common.{◌≡◌, ℕ, ◌+◌, ◌*◌, ◌<◌, ◌≤◌, true, List, [], ◌∷◌, length, refl, ap, arith}
 use Rattle.std.specs.List.{AllByRecursion}
 use Rattle.std.proofs.lemmas.Bool.{ltb-true, lt-ltb}
@@ -36,7 +36,7 @@ made_from (f ∷ fixups) s = one_made f.offset f.base (word_by_word fixups) fixu
 pub word_by_word-makes : (fixups : List Fixup) → Makes fixups (word_by_word fixups)
 word_by_word-makes fixups = made_from fixups start
 
--- it is flat, where the fixups fit
+-- it is flat, if the fixups fit
 move_flat : (o : ℕ) → o < 0x4000000 → is_flat_instr (SetPosition o) ≡ true
 move_flat o under = lt-ltb o 0x4000000 under
 
@@ -55,7 +55,7 @@ all_flat (f ∷ fixups) fit =
 pub word_by_word-flat : (fixups : List Fixup) → fixups_fit fixups ≡ true → is_flat (word_by_word fixups) ≡ true
 word_by_word-flat fixups fit = all_flat fixups (each_fits fixups fit)
 
--- and it is short
+-- it is short
 addition_short : (b : Base) (instrs : List Instr) → program_length (addition b ∷ instrs) ≤ 2 + program_length instrs
 addition_short (Section k) instrs = omega arith
 addition_short (Import j) instrs = omega arith

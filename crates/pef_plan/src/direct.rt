@@ -12,10 +12,10 @@ use crate::runs::{Choice, OpenState, PlanState, Run, SolvedSuffix, Step};
 use pef_cert::{WORD, class_of};
 use pef_reloc::{Base, Instr};
 
-/// How many imports can be named in nine bits.
+/// The number of imports that nine bits can name.
 pub(crate) const SMALL_IMPORTS: u32 = 512;
 
-/// The place behind the first fixup.
+/// Returns the place after the first fixup.
 pub(crate) fn place_behind<'a>(here: OpenState<'a>, import_index: u64) -> PlanState<'a>
     ensures left { result.left.now ≡ here.entry.others.now }
     ensures position { result.position ≡ here.entry.first.offset + 4 }
@@ -31,7 +31,7 @@ pub(crate) fn place_behind<'a>(here: OpenState<'a>, import_index: u64) -> PlanSt
     }
 }
 
-/// The best instruction that begins by adding at a fixup.
+/// Returns the best instruction that begins by adding at a fixup.
 pub(crate) fn direct<'a>(known: SolvedSuffix<'a>, here: OpenState<'a>) -> Choice<'a>
     requires here { HereOf known here }
     requires at { here.place.position ≡ here.first.offset }
@@ -58,7 +58,7 @@ fn direct_section<'a>(known: SolvedSuffix<'a>, here: OpenState<'a>, section: u32
     best_in_d(known, here, section, best)
 }
 
-/// The addition of a section alone.
+/// Returns the instruction that adds a section once.
 fn single_section<'a>(known: SolvedSuffix<'a>, here: OpenState<'a>, section: u32) -> Choice<'a>
     requires here { HereOf known here }
     requires at { here.place.position ≡ here.first.offset }
@@ -74,7 +74,7 @@ fn single_section<'a>(known: SolvedSuffix<'a>, here: OpenState<'a>, section: u32
     Choice { step, value }
 }
 
-/// The extension behind the first fixup.
+/// Returns the extension after the first fixup.
 pub(crate) fn value_behind(known: SolvedSuffix<'_>, here: OpenState<'_>) -> u64
     requires here { HereOf known here }
     ensures is { (l : Labels) → Agrees l known.entry here.entry.others.now → result ≡ extension l here.entry.others.now (here.entry.first.offset + 4) here.entry.place.c here.entry.place.d }
@@ -84,7 +84,8 @@ pub(crate) fn value_behind(known: SolvedSuffix<'_>, here: OpenState<'_>) -> u64
     known.value(here.others, position, here.place.c, here.place.d)
 }
 
-/// The better of a choice and of runs of a section, where register C holds it.
+/// Returns the better of a choice and a section's runs. Only runs that need the section in register C are
+/// tried, and only if it holds it.
 fn best_in_c<'a>(
     known: SolvedSuffix<'a>,
     here: OpenState<'a>,
@@ -107,7 +108,8 @@ fn best_in_c<'a>(
     best_of_pairs(known, here, section, words)
 }
 
-/// The same, where register D holds it.
+/// Returns the better of a choice and a section's runs. Only runs that need the section in register D are
+/// tried, and only if it holds it.
 fn best_in_d<'a>(
     known: SolvedSuffix<'a>,
     here: OpenState<'a>,
@@ -130,7 +132,7 @@ fn best_in_d<'a>(
     known.best_of_run(here, Run::Spaced(section), from, words)
 }
 
-/// The better of a choice and of pairs of a section in register C and one in D.
+/// Returns the better of a choice and the runs of pairs of a section in register C and one in D.
 fn best_of_pairs<'a>(
     known: SolvedSuffix<'a>,
     here: OpenState<'a>,
@@ -201,7 +203,7 @@ fn direct_import<'a>(known: SolvedSuffix<'a>, here: OpenState<'a>, import: u32) 
     known.best_of_run(here, Run::Imports, here.place.position, one)
 }
 
-/// The addition of an import alone.
+/// Returns the instruction that adds an import once.
 fn single_import<'a>(known: SolvedSuffix<'a>, here: OpenState<'a>, import: u32) -> Choice<'a>
     requires here { HereOf known here }
     requires at { here.place.position ≡ here.first.offset }

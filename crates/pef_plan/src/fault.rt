@@ -5,15 +5,15 @@ use std::alloc::{AllocError, AllocFailed};
 use std::fmt;
 use thiserror::Error;
 
-/// Why there is no plan.
+/// The reason why planning failed.
 #[derive(Clone, Copy, Debug, PartialEq, Eq, Error)]
 pub enum PlanFault {
-    /// A growth of memory was refused.
+    /// An allocation failed.
     OutOfMemory,
 }
 
 impl PlanFault {
-    /// The number of the refusal.
+    /// Returns the error's number.
     pub fn number(&self) -> u32
         ensures { result ≡ fault_number self.now }
     {
@@ -22,7 +22,7 @@ impl PlanFault {
         }
     }
 
-    /// The refusal's name, which is its text.
+    /// Returns the error's name, which is also its text.
     pub fn name(&self) -> &'static str
         ensures { result.now ≡ fault_name self.now }
     {

@@ -1,4 +1,4 @@
-//! Plans: for fixups, a relocation program of the fewest halfwords, with the certificate that proves it.
+//! Plans: a relocation program of the fewest halfwords for given fixups, with a certificate that proves it.
 #![tactic(auto)]
 
 mod direct;

@@ -19,7 +19,8 @@ pub(crate) struct Classed {
     pub(crate) class: usize,
 }
 
-/// The lesser of a value and of what runs of a section lead to, where register C holds it.
+/// Returns the lesser of a value and the values of a section's runs. Only runs that need the section in
+/// register C are read, and only if it holds it.
 pub(crate) fn low_in_c(
     known: SolvedSuffix<'_>,
     here: OpenState<'_>,
@@ -45,7 +46,8 @@ pub(crate) fn low_in_c(
     low_of_pairs(known, here, ends, section, words)
 }
 
-/// The same, where register D holds it.
+/// Returns the lesser of a value and the values of a section's runs. Only runs that need the section in
+/// register D are read, and only if it holds it.
 pub(crate) fn low_in_d(
     known: SolvedSuffix<'_>,
     here: OpenState<'_>,
@@ -71,7 +73,7 @@ pub(crate) fn low_in_d(
     ends.low_of_run(known, here, Run::Spaced(section), words)
 }
 
-/// The lesser of a value and of what pairs lead to, of a section in register C and one in D.
+/// Returns the lesser of a value and the values of runs of pairs, of a section in register C and one in D.
 fn low_of_pairs(
     known: SolvedSuffix<'_>,
     here: OpenState<'_>,

@@ -9,7 +9,7 @@ ghost use Rattle.pef_reloc.specs.Limits.{most_sections};
 use crate::runs::{OpenState, PlanState, SolvedSuffix, Step};
 use pef_reloc::{Instr, MAX_SECTIONS};
 
-/// The label of a row in classes of the registers.
+/// Returns a row's label for the classes of the two registers.
 pub(crate) fn label_of(known: SolvedSuffix<'_>, row: &[u32], c: usize, d: usize) -> u64
     requires few { length known.registers.now ≤ most_sections }
     requires row { length row.now ≡ (length known.registers.now + 1) * (length known.registers.now + 1) }
@@ -20,7 +20,7 @@ pub(crate) fn label_of(known: SolvedSuffix<'_>, row: &[u32], c: usize, d: usize)
     u64::from(row[known.place(c, d)])
 }
 
-/// A section of a class.
+/// Returns a section of a class.
 #[tactic(auto, using(crate::proofs::StepFacts::section_is, crate::proofs::StepFacts::section_small, crate::proofs::StepFacts::section_last))]
 pub(crate) fn section_of(known: SolvedSuffix<'_>, class: usize) -> u32
     requires sections { Sections known.registers.now }
@@ -35,7 +35,7 @@ pub(crate) fn section_of(known: SolvedSuffix<'_>, class: usize) -> u32
     }
 }
 
-/// The step that sets register C to a section of a class.
+/// Returns the step that sets register C to a section of a class.
 pub(crate) fn set_c<'a>(known: SolvedSuffix<'a>, place: PlanState<'a>, class: usize) -> Step<'a>
     requires tracked { Tracked known place }
     requires class { class < length known.registers.now + 1 }
@@ -47,7 +47,7 @@ pub(crate) fn set_c<'a>(known: SolvedSuffix<'a>, place: PlanState<'a>, class: us
     Step { instr, next }
 }
 
-/// The step that sets register D to a section of a class.
+/// Returns the step that sets register D to a section of a class.
 pub(crate) fn set_d<'a>(known: SolvedSuffix<'a>, place: PlanState<'a>, class: usize) -> Step<'a>
     requires tracked { Tracked known place }
     requires class { class < length known.registers.now + 1 }
@@ -59,7 +59,7 @@ pub(crate) fn set_d<'a>(known: SolvedSuffix<'a>, place: PlanState<'a>, class: us
     Step { instr, next }
 }
 
-/// The step to the offset of the next fixup, from anywhere.
+/// Returns the step to the offset of the next fixup. It works from any position.
 pub(crate) fn set_position<'a>(known: SolvedSuffix<'a>, here: OpenState<'a>) -> Step<'a>
     requires here { TrackedHere known here }
     requires low { 2 + extension (labels_tabled known) here.place.left.now here.first.offset here.place.c here.place.d ≤ extension_in (labels_tabled known) here.place }
@@ -75,7 +75,7 @@ pub(crate) fn set_position<'a>(known: SolvedSuffix<'a>, here: OpenState<'a>) -> 
     Step { instr, next }
 }
 
-/// The step by so many bytes.
+/// Returns the step that moves on by a number of bytes.
 pub(crate) fn increment<'a>(known: SolvedSuffix<'a>, place: PlanState<'a>, bytes: u64) -> Step<'a>
     requires tracked { Tracked known place }
     requires some { 1 ≤ bytes }

@@ -15,12 +15,12 @@ use pef_reloc::Fixup;
 use std::alloc::Global;
 use std::cell::Cell;
 
-/// A program of the fewest halfwords that makes the fixups of a section, with the certificate that proves
-/// it.
+/// Returns a program of the fewest halfwords that makes the fixups of a section, with the certificate that
+/// proves it.
 ///
 /// # Errors
 ///
-/// `OutOfMemory`, where a growth of memory was refused.
+/// `OutOfMemory`, if an allocation failed.
 pub fn plan(alloc: Global, section: u32, fixups: &[Fixup]) -> Result<Certificate, PlanFault>
     requires fit { fixups_fit fixups.now ≡ true }
     ensures section { IfOk result (λ certificate. certificate.section ≡ section) }
@@ -32,11 +32,11 @@ pub fn plan(alloc: Global, section: u32, fixups: &[Fixup]) -> Result<Certificate
     counted_plan(alloc, section, fixups, Looks::new(&count))
 }
 
-/// The same, of which the looks are counted.
+/// Returns what `plan` returns, and counts the looks.
 ///
 /// # Errors
 ///
-/// `OutOfMemory`, where a growth of memory was refused.
+/// `OutOfMemory`, if an allocation failed.
 pub fn counted_plan(
     alloc: Global,
     section: u32,

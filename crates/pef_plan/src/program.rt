@@ -11,7 +11,7 @@ use pef_cert::class_of;
 use pef_reloc::{Fixup, Instr};
 use std::alloc::{AllocError, Global};
 
-/// A program of the fewest halfwords that makes fixups, read off their tables.
+/// Returns a program of the fewest halfwords that makes fixups, read from their tables.
 pub(crate) fn least_program<'a>(
     known: SolvedSuffix<'a>,
     alloc: Global,
@@ -46,7 +46,7 @@ pub(crate) fn least_program<'a>(
     Ok(program)
 }
 
-/// An instruction that leads on.
+/// Returns the next step of a least program.
 fn next_step<'a>(known: SolvedSuffix<'a>, here: OpenState<'a>) -> Step<'a>
     requires { TrackedHere known here }
     ensures { FallsOn known.entry here.entry.place result }

@@ -9,7 +9,7 @@ use crate::skips::best_skip;
 use pef_cert::{REACH, SKIP_REACH, WORD, class_of};
 use pef_reloc::Base;
 
-/// An instruction that leads on from a fixup.
+/// Returns the next step of a least program from a position at the next fixup.
 pub(crate) fn step_at<'a>(known: SolvedSuffix<'a>, here: OpenState<'a>) -> Step<'a>
     requires here { TrackedHere known here }
     requires at { here.place.position ≡ here.first.offset }
@@ -33,7 +33,7 @@ pub(crate) fn step_at<'a>(known: SolvedSuffix<'a>, here: OpenState<'a>) -> Step<
     best.step
 }
 
-/// An instruction that leads on from before or behind a fixup.
+/// Returns the next step of a least program from a position before or after the next fixup.
 pub(crate) fn step_to<'a>(known: SolvedSuffix<'a>, here: OpenState<'a>) -> Step<'a>
     requires here { TrackedHere known here }
     requires away { here.place.position ≢ here.first.offset }
@@ -56,7 +56,7 @@ pub(crate) fn step_to<'a>(known: SolvedSuffix<'a>, here: OpenState<'a>) -> Step<
     skip_to(known, here, ahead)
 }
 
-/// The skip to a fixup so many bytes ahead, or the change of register D before it.
+/// Returns the skip to a fixup that is `ahead` bytes away, or the change of register D that the skip needs.
 fn skip_to<'a>(known: SolvedSuffix<'a>, here: OpenState<'a>, ahead: u64) -> Step<'a>
     requires here { TrackedHere known here }
     requires away { here.place.position ≢ here.first.offset }
@@ -70,7 +70,7 @@ fn skip_to<'a>(known: SolvedSuffix<'a>, here: OpenState<'a>, ahead: u64) -> Step
     }
 }
 
-/// The same where the fixup has a section, so many words ahead.
+/// Returns the same for a fixup that has a section and is `words` words away.
 fn skip_words<'a>(
     known: SolvedSuffix<'a>,
     here: OpenState<'a>,

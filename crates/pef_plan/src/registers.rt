@@ -6,7 +6,7 @@ use pef_cert::uses_section;
 use pef_reloc::{Fixup, MAX_SECTIONS};
 use std::alloc::{AllocError, Global};
 
-/// The sections that fixups use, rising.
+/// Returns the sections that fixups use, in rising order.
 pub(crate) fn registers_of(alloc: Global, fixups: &[Fixup]) -> Result<Vec<u32>, AllocError>
     requires { fixups_fit fixups.now ≡ true }
     ensures { IfOk result (λ registers. RegistersOf fixups.now registers.items) }

@@ -14,7 +14,8 @@ use crate::runs::{FixupState, OpenState, PlanState, Run, RunEnds, SolvedSuffix};
 use pef_cert::class_of;
 use pef_reloc::Base;
 
-/// Fills in the labels at a fixup, from what is known after it. `lows` is room for a number of each class.
+/// Fills in the labels at a fixup from the tables of the fixups after it. `lows` has room for one number for
+/// each class.
 pub(crate) fn fill_labels(
     known: SolvedSuffix<'_>,
     at: FixupState<'_>,
@@ -35,7 +36,7 @@ pub(crate) fn fill_labels(
     close_row(row, lows);
 }
 
-/// Fills in what the best instructions that add at a fixup lead to, without a change of registers.
+/// Fills in the values of the best instructions that add at a fixup. No register changes before them.
 fn fill_direct(known: SolvedSuffix<'_>, at: FixupState<'_>, ends: &RunEnds, row: &mut [u32])
     requires at { AtOf known at }
     requires ends { EndsAt known at.others.now (at.first ∷ at.others.now) ends.now }
@@ -53,8 +54,8 @@ fn fill_direct(known: SolvedSuffix<'_>, at: FixupState<'_>, ends: &RunEnds, row:
     }
 }
 
-/// The same where the fixup has a section. Runs begin only where a register holds it, which is one line and one
-/// column of the row.
+/// Does the same for a fixup that has a section. A run can begin only if a register holds the section: in one
+/// line and one column of the row.
 fn fill_section(
     known: SolvedSuffix<'_>,
     at: FixupState<'_>,
@@ -75,7 +76,7 @@ fn fill_section(
     lower_in_d(known, at, ends, of, row);
 }
 
-/// Lowers the numbers where register C holds the section to what runs lead to.
+/// Lowers the numbers in the line with the section in register C to the values of runs.
 fn lower_in_c(
     known: SolvedSuffix<'_>,
     at: FixupState<'_>,
@@ -99,7 +100,7 @@ fn lower_in_c(
     }
 }
 
-/// The same where register D holds it.
+/// Lowers the numbers in the column with the section in register D to the values of runs.
 fn lower_in_d(
     known: SolvedSuffix<'_>,
     at: FixupState<'_>,
@@ -123,7 +124,7 @@ fn lower_in_d(
     }
 }
 
-/// Fills in what the best instructions lead to, where the fixup has an import.
+/// Fills in the values of the best instructions for a fixup that has an import.
 fn fill_import(
     known: SolvedSuffix<'_>,
     at: FixupState<'_>,
@@ -144,7 +145,7 @@ fn fill_import(
     }
 }
 
-/// How many halfwords the addition of an import alone has.
+/// Returns the number of halfwords of the instruction that adds an import once.
 fn import_cost(import: u32) -> u32
     ensures is { result ≡ import_cost import }
     ensures small { result ≤ 2 }
@@ -152,7 +153,7 @@ fn import_cost(import: u32) -> u32
     if import < SMALL_IMPORTS { 1 } else { 2 }
 }
 
-/// Lowers the numbers to what runs of imports lead to, which begin at the fixup.
+/// Lowers the numbers to the values of the runs of imports that begin at the fixup.
 fn lower_by_imports(
     known: SolvedSuffix<'_>,
     at: FixupState<'_>,
@@ -181,7 +182,7 @@ fn lower_by_imports(
     }
 }
 
-/// The state with the registers in these classes.
+/// Returns the state at a fixup with the registers in these classes.
 pub(crate) fn at_classes<'a>(at: FixupState<'a>, c: usize, d: usize) -> OpenState<'a>
     ensures is { result ≡ state_of at.entry c d }
     ensures first { result.first ≡ at.entry.first }
@@ -221,7 +222,7 @@ fn fill_lows(row: &[u32], lows: &mut [u32])
     }
 }
 
-/// Lowers each number to that of a line of a row, which begins at a place, if it is less.
+/// Lowers each number to the one of a row's line, if that is less. The line begins at `start`.
 fn lower_to_line(lows: &mut [u32], row: &[u32], start: usize)
     requires inside { start + length lows.old ≤ length row.now }
     ensures len { length lows.new ≡ length lows.old }
@@ -232,8 +233,8 @@ fn lower_to_line(lows: &mut [u32], row: &[u32], start: usize)
     }
 }
 
-/// Makes of what is led to directly the least over all classes, with 1 for each register that changes. The
-/// least of each column is in `lows`.
+/// Replaces each direct value by the least over all classes, with 1 added for each register that changes.
+/// `lows` has the least of each column.
 fn close_row(row: &mut [u32], lows: &[u32])
     requires some { 0 < length lows.now }
     requires few { length lows.now ≤ most_sections + 1 }
@@ -249,7 +250,7 @@ fn close_row(row: &mut [u32], lows: &[u32])
     }
 }
 
-/// The same for one class of register C, whose line begins at a place.
+/// Does the same for one class of register C. Its line begins at `start`.
 fn close_line(row: &mut [u32], start: usize, lows: &[u32], low: u32)
     requires some { 0 < length lows.now }
     requires inside { start + length lows.now ≤ length row.old }
@@ -265,7 +266,7 @@ fn close_line(row: &mut [u32], start: usize, lows: &[u32], low: u32)
     }
 }
 
-/// The least of so many numbers from a place on.
+/// Returns the least of `count` numbers, beginning at index `from`.
 fn least(numbers: &[u32], from: usize, count: usize) -> u32
     requires some { 0 < count }
     requires inside { from + count ≤ length numbers.now }

@@ -1,6 +1,7 @@
-//! What an instruction leads to that adds a run of fixups: a halfword, and the extension of labels behind
-//! each place where the run may end. A run is followed from its first unit on, or its ends are kept in
-//! windows, from fixup to fixup back.
+//! The values of instructions that add a run of fixups: one halfword, plus the extension of the labels after
+//! the run's end. A run may end after each of its units. There are two ways to find the best end: a run is
+//! followed from its first unit, or its ends are kept in windows while the tables are filled from the last
+//! fixup to the first.
 
 mod ahead;
 mod ends;

@@ -33,7 +33,7 @@ pub(crate) fn fill_skips(
     }
 }
 
-/// The same where the fixup has a section.
+/// Does the same for a fixup that has a section.
 fn fill_section(
     known: SolvedSuffix<'_>,
     at: FixupState<'_>,
@@ -54,7 +54,7 @@ fn fill_section(
     }
 }
 
-/// The least that a skip leads to which adds at the fixup, where register D holds its section.
+/// Returns the least value of a skip that adds at the fixup. Register D holds the fixup's section.
 fn low_skip(known: SolvedSuffix<'_>, here: OpenState<'_>, ends: &RunEnds, section: u32) -> u64
     requires here { HereOf known here }
     requires base { here.first.base ≡ Section section }
@@ -68,7 +68,7 @@ fn low_skip(known: SolvedSuffix<'_>, here: OpenState<'_>, ends: &RunEnds, sectio
     ends.low_of_run(known, here, Run::Skip { words: 0, section }, one)
 }
 
-/// The best skip that passes so many words and then adds at the fixup, which has a section.
+/// Returns the best skip that passes `words` words and then adds at the fixup. The fixup has a section.
 pub(crate) fn best_skip<'a>(
     known: SolvedSuffix<'a>,
     here: OpenState<'a>,
@@ -89,7 +89,7 @@ pub(crate) fn best_skip<'a>(
     known.best_of_run(here, Run::Skip { words, section }, from, one)
 }
 
-/// The skip that adds at the fixup alone.
+/// Returns the skip that adds only at the fixup.
 fn single_skip<'a>(
     known: SolvedSuffix<'a>,
     here: OpenState<'a>,

@@ -12,16 +12,16 @@ use pef_cert::LabelRows;
 use pef_reloc::{Base, Fixup};
 use std::alloc::{AllocError, Global};
 
-/// Labels and least skips, by how many fixups are left.
+/// Labels and least skips, in one row for each number of fixups left.
 #[derive(Drop)]
 pub(crate) struct Tables {
-    /// Rows by the class of register C, and in it by that of D.
+    /// Rows are ordered by the class of register C, then by that of D.
     pub(crate) labels: LabelRows,
-    /// Rows by the class of register C.
+    /// Rows are ordered by the class of register C.
     pub(crate) skips: Table,
 }
 
-/// Fills the tables from the last fixup to the first.
+/// Returns the tables of all fixups. They are filled from the last fixup to the first.
 pub(crate) fn fill(
     alloc: Global,
     fixups: &[Fixup],
@@ -61,7 +61,7 @@ pub(crate) fn fill(
     Ok(Tables { labels, skips })
 }
 
-/// The state at the fixup of an index, with the index of the next import.
+/// Returns the state at the fixup with index `at`. The next import has the index `import_index`.
 fn state_at(fixups: &[Fixup], at: usize, import_index: u64) -> FixupState<'_>
     requires at { at < length fixups.now }
     requires import_index { import_index ≡ index_after (take at fixups.now) 0 }
@@ -80,7 +80,8 @@ fn state_at(fixups: &[Fixup], at: usize, import_index: u64) -> FixupState<'_>
     }
 }
 
-/// The index of the next import at each fixup: one more than that of the last import before it.
+/// Returns the index of the next import at each fixup. It is one more than the index of the last import before
+/// the fixup.
 fn import_indices(alloc: Global, fixups: &[Fixup]) -> Result<Vec<u64>, AllocError>
     ensures { IfOk result (λ indices. IndicesOf fixups.now indices.items) }
 {
@@ -93,7 +94,7 @@ fn import_indices(alloc: Global, fixups: &[Fixup]) -> Result<Vec<u64>, AllocErro
     Ok(indices)
 }
 
-/// The index of the next import behind a base.
+/// Returns the index of the next import after a base.
 fn index_behind(base: Base, index: u64) -> u64
     ensures { result ≡ index_past base index }
 {

@@ -1,4 +1,4 @@
-//! Laws of the definitions, for the proofs of other crates. The functions do nothing.
+//! Laws of the definitions, for the proofs of other crates. The functions have no effect.
 ghost use Rattle.std.specs.Prelude.{◌≡◌, ◌≤◌, ◌*◌, ◌++◌, List, length, true};
 ghost use Rattle.pef_cert.specs.Extension.{extension_at};
 ghost use Rattle.pef_cert.specs.Feasible.{Feasible};
@@ -13,19 +13,19 @@ ghost use Rattle.pef_reloc.specs.Steps.{Least, State};
 ghost use Rattle.pef_reloc.specs.declared.fixup.Fixup.{Fixup};
 ghost use Rattle.pef_reloc.specs.declared.instr.Instr.{Instr};
 
-/// Where labels are feasible and reached, each is the least length of a flat list that makes the rest
-/// from its state, and so is the extension in every state.
+/// Proves that labels are least lengths if they are feasible and reached. Each label is the least length of a
+/// flat list that makes the remaining fixups from its state. The extension is the least length in every state.
 pub fn reached_labels_are_least()
     ensures labels { (l : Labels) (fixups : List Fixup) → fixups_fit fixups ≡ true → RegistersOf fixups l.registers → Feasible l fixups → ReachedFrom l 0 fixups → Exact l fixups }
     ensures states { (l : Labels) (fixups made rest : List Fixup) (s : State) → fixups_fit fixups ≡ true → RegistersOf fixups l.registers → Feasible l fixups → ReachedFrom l 0 fixups → fixups ≡ made ++ rest → StandsBehind made s → LeastFrom s rest (extension_at l rest s) }
 {}
 
-/// A least program has at most four halfwords for each fixup.
+/// Proves that a least program has at most four halfwords for each fixup.
 pub fn least_programs_are_short()
     ensures { (fixups : List Fixup) (instrs : List Instr) → fixups_fit fixups ≡ true → Least fixups instrs → program_length instrs ≤ 4 * length fixups }
 {}
 
-/// A least program names only sections and imports of its fixups.
+/// Proves that a least program names only sections and imports of its fixups.
 pub fn least_programs_name_what_is_used()
     ensures { (fixups : List Fixup) (instrs : List Instr) → Least fixups instrs → names_used fixups instrs ≡ true }
 {}

@@ -1,4 +1,4 @@
-//! Rows of numbers in tables, and windows of the newest rows with the least number at each place.
+//! Tables of rows of numbers, and windows of the newest rows that keep the least number at each place.
 
 mod looks;
 mod table;

@@ -1,4 +1,4 @@
--- What a window's best says of a run at a fixup.
+-- A window's best value is that of a run at a fixup.
 use Rattle.std.proofs.Common.{◌≡◌, ℕ, ◌+◌, ◌*◌, ◌<◌, ◌≤◌, ◌⊎◌, inl, inr, List, [], ◌∷◌, length, refl, ap, sym, ◌∙◌, subst, arith}
 use Rattle.pef_reloc.specs.declared.fixup.Base.{Base}
 use Rattle.pef_reloc.specs.declared.fixup.Base.TheVariants.{Section, Import}
@@ -18,7 +18,7 @@ use Rattle.pef_plan.proofs.RunsProofs.EndLemmas.{as_c, as_d, as_far, as_pairs, a
 use Rattle.pef_plan.proofs.WindowsProofs.WindowLemmas.{each-lower}
 use Rattle.pef_plan.proofs.RunsProofs.PlaceLemmas.{place_under}
 
--- a value is the better of a first one and of the ends of a run at a fixup
+-- a value is the better of a first one and the ends of a run at a fixup
 pub record RunBest (k : SolvedSuffix) (h : OpenState) (r : Run) (first value : ℕ) : Type 0 where
   pub better : value ≤ first
   pub led : Led k h first → Led k h value
@@ -48,7 +48,7 @@ run_best k h r kept m first value i all here at of same wide rows best = record 
         (end_as l kept r (limit r) (h.first ∷ h.others.now) h.first.offset m h.place.import_index h.place.c h.place.d value same wide
         (best_end l kept value (limit r) (h.first ∷ h.others.now) h.first.offset m h.place.c h.place.d i all (rows l agrees) one)))
 
--- what a window says of the best at a place of its rows
+-- a window's best value at a place of its rows is the best of a run
 abbrev pub Bests : Windowed → ℕ → ℕ → ℕ → Type 0
 Bests w i first value = (width limit : ℕ) (rows : List (List ℕ)) → WindowOf width limit rows w → BestOf first rows i value
 
@@ -136,7 +136,7 @@ by_run k h (SpacedPairs j s) first value e here at of begins ends bests = far_pa
 by_run k h Imports first value e here at of begins ends bests = imports_best k h h.place.import_index first value e.words here at of begins refl ends.words bests
 by_run k h (Skip words section) first value e here at of begins ends bests = skips_best k h words section first value e.skips here at of begins of.0.0 ends.skips bests
 
--- what the window of a run says of it
+-- the same for the window that belongs to a run
 pub run_low : (k : SolvedSuffix) (h : OpenState) (r : Run) (first value i : ℕ) (e : RunEnds) (w : Windowed) → HereOf k h → h.place.position ≡ h.first.offset → RunOf k.registers.now r h.place h.place.position → RunBegins r h.place.import_index h.first.base h.others.now → EndsAt k h.others.now (h.first ∷ h.others.now) e → i ≡ place_in (length k.registers.now + 1) r h.place.c h.place.d → w ≡ window_of e r → Bests w i first value → RunBest k h r first value
 run_low k h r first value i e w here at of begins ends place is bests =
     by_run k h r first value e here at of begins ends

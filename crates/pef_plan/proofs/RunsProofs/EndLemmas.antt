@@ -1,4 +1,4 @@
--- The ends of runs in windows: how they are kept from fixup to fixup, and what follows for a value.
+-- The ends of runs in windows: they are kept from fixup to fixup, and give the best value of a run.
 use Rattle.std.proofs.Common.{◌≡◌, ℕ, zero, suc, ◌+◌, ◌-◌, ◌*◌, ◌<◌, ◌≤◌, inl, inr, List, [], ◌∷◌, ◌++◌, take, slice_index, refl, ap, ap₂, sym, ◌∙◌, subst, arith}
 use Rattle.std.proofs.lemmas.List.{append_assoc, append_cancel_left}
 use Rattle.std.proofs.Math.Nat.{mul-add}
@@ -27,7 +27,7 @@ extension-there l registers q s same at =
     ap (λ p. extension l q.left.now p (class_of l.registers s.c) (class_of l.registers s.d)) at.position
     ∙ ap₂ (λ c d. extension l q.left.now q.position c d) (ap (λ rs. class_of rs s.c) same ∙ at.c) (ap (λ rs. class_of rs s.d) same ∙ at.d)
 
--- fewer of them
+-- the same with fewer ends
 end_rows-take : (l : Labels) (r : Run) (n k : ℕ) (fixups : List Fixup) (p m c d i : ℕ) (rows : List (List ℕ)) → EndRows l r n fixups p m c d i rows → k ≤ n → EndRows l r k fixups p m c d i (take k rows)
 end_rows-take l r n zero fixups p m c d i rows e few = inl refl
 end_rows-take l r n (suc k) fixups p m c d i [] (inl none) few = absurd (omega (arith, none, few))
@@ -71,7 +71,7 @@ best_ends l r value n fixups p m c d i (q ∷ qs) e low =
     (ends-first l r value e.0 fixups e.1 p m c d e.3 (let first = low.0 in let is = e.4 in omega (arith, first, is))
     (best_ends l r value e.0 e.1 (p + stride r) (m + imports r) c d i qs e.5 low.1))
 
--- and one that is 1 more than one of them
+-- a value that is 1 more than one of them
 pub best_end : (l : Labels) (r : Run) (value n : ℕ) (fixups : List Fixup) (p m c d i : ℕ) (rows : List (List ℕ)) → EndRows l r n fixups p m c d i rows → IsOne 1 value rows i → EndAmong l r n fixups p m c d value
 best_end l r value n fixups p m c d i [] e none = absurd none
 best_end l r value n fixups p m c d i (q ∷ qs) e (inl is) =
@@ -155,7 +155,7 @@ end_led k h r value l s of same at e =
       falls = omega (arith, there, one, worth);
     }
 
--- what is chosen leads on
+-- the chosen instruction leads on
 pub chosen-led : (k : SolvedSuffix) (h : OpenState) (x : Choice) → Chosen k h x → Led k h x.value
 chosen-led k h x chosen l s agrees at =
     let goes = chosen.goes s at in
@@ -169,7 +169,7 @@ chosen-led k h x chosen l s agrees at =
       falls = omega (arith, worth, end);
     }
 
--- the better of a value and of the ends of a run
+-- the better of a value and the ends of a run
 pub best-led : (k : SolvedSuffix) (h : OpenState) (r : Run) (first value i : ℕ) (rows : List (List ℕ)) → RunOf k.registers.now r h.place h.place.position → Led k h first → BestOf first rows i value → ((l : Labels) → Agrees l k h.others.now → IsOne 1 value rows i → EndAmong l r (limit r) h.place.left.now h.place.position h.place.import_index h.place.c h.place.d value) → Led k h value
 best-led k h r first value i rows of led best ends l s agrees at =
     elim best.one [
@@ -177,7 +177,7 @@ best-led k h r first value i rows of led best ends l s agrees at =
       | inr one ↦ end_led k h r value l s of agrees.same.registers_are at (ends l agrees one)
     ]
 
--- a window that is brought to a place where no run begins, to a run of one unit, and to a longer one
+-- a window that was moved to a place without a run, to a run of one unit, and to a longer run
 pub brought-none : (r : Run) (count limit : ℕ) (start : PlanState) (rows : List (List ℕ)) (row : List ℕ) (w : Windowed) → WindowOf count limit [] w → ((left : List Fixup) → start.left.now ≡ unit r start.position start.import_index ++ left → ⊥) → Brought r count limit start.left.now start.position start.import_index rows row w
 brought-none r count limit start rows row w is none = record { now = []; is = is; ends = λ l c d i on behind. inr none }
 

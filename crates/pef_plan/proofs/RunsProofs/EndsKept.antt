@@ -1,4 +1,4 @@
--- Windows that are brought to the fixup before: they have the ends of the runs that begin there.
+-- Windows that were moved to the previous fixup have the ends of the runs that begin there.
 use Rattle.std.proofs.Common.{◌≡◌, ℕ, ◌+◌, ◌*◌, ◌<◌, List, [], ◌∷◌, length, Option, None, Some, refl, ap, ap₂, sym, ◌∙◌, subst, arith, slice_index}
 use Rattle.pef_reloc.specs.declared.fixup.Base.{Base}
 use Rattle.pef_reloc.specs.declared.fixup.Base.TheVariants.{Section, Import}
@@ -18,14 +18,14 @@ use Rattle.pef_plan.specs.Runs.Ends.{Brought, BroughtMaybe, EndRows, EndsAt, End
 use Rattle.pef_plan.specs.Runs.Tables.{Agrees, place_of}
 use Rattle.pef_plan.specs.Windows.Windows.{WindowOf, Windowed}
 
--- what a call that brings a window to a place says of it
+-- the contract of the call that moves a window to a place
 abbrev pub Brings : Run → PlanState → List ℕ → Windowed → Windowed → Type 0
 Brings r start row old new = (count limit : ℕ) (rows : List (List ℕ)) → WindowOf count limit rows old → Brought r count limit start.left.now start.position start.import_index rows row new
 
 abbrev pub BringsMaybe : Option Run → PlanState → List ℕ → Windowed → Windowed → Type 0
 BringsMaybe r start row old new = (count limit : ℕ) (rows : List (List ℕ)) → WindowOf count limit rows old → BroughtMaybe r count limit start.left.now start.position start.import_index rows row new
 
--- a place where a run begins at a fixup
+-- a place at which a run begins at a fixup
 pub record StartAt (f : Fixup) (rest : List Fixup) (start : PlanState) : Type 0 where
   pub left : start.left.now ≡ f ∷ rest
   pub position : start.position ≡ f.offset
@@ -61,7 +61,7 @@ words_go l f rest count (Import i) rows row w kept near br = λ c d under_c unde
     (subst (λ (fs : List Fixup). WordsKept l fs rows) there kept c d under_c under_d))
     (λ left parts. near c d under_c under_d ∙ ap (λ fs. extension l fs (f.offset + 4) c d) (tail_same f (added f.offset (Import i)) rest left parts))
 
--- a column has what lies right behind the first fixup, where register D has a section's class
+-- a column has the extension right after the first fixup with register D in a section's class
 abbrev pub ColumnAt : Labels → Fixup → List Fixup → List ℕ → ℕ → Type 0
 ColumnAt l f rest column k = (c d : ℕ) → c < classes l → d ≡ class_of l.registers k → slice_index column c ≡ extension l rest (f.offset + 4) c d
 
@@ -143,7 +143,7 @@ spaced_brought P count k f rest start row old new at base held far brings =
     let b = started_section f rest start (Spaced k) k count 512 held.rows row new at base (brings count 512 held.rows held.is) in
     record { rows = b.now; is = b.is; kept = λ l holds. subst (λ (x : Base). SpacedAt l f.offset (f ∷ rest) b.now x) (sym base) (spaced_go l f rest count k held.rows row new (held.kept l holds) (far l holds) b) }
 
--- where a fixup has an import, these begin no run
+-- if a fixup has an import, no such run begins there
 pub skips_import : (P : Labels → Type 0) (count i : ℕ) (f : Fixup) (rest : List Fixup) (w : Windowed) → f.base ≡ Import i → Holding P count 63 (λ l rows. SkipsKept l rest rows) w → Holding P count 63 (λ l rows. SkipsKept l (f ∷ rest) rows) w
 skips_import P count i f rest w base held = record { rows = held.rows; is = held.is; kept = λ l holds. subst (λ (x : Base). SkipsAt l f.offset (f ∷ rest) held.rows x) (sym base) tt }
 
@@ -156,7 +156,7 @@ far_import l i f rest row base = subst (λ (x : Base). FarAt l f.offset rest row
 pub far_section : (l : Labels) (k : ℕ) (f : Fixup) (rest : List Fixup) (row : List ℕ) → f.base ≡ Section k → FarAt l f.offset rest row (Section k) → FarKept l (f ∷ rest) row
 far_section l k f rest row base is = subst (λ (x : Base). FarAt l f.offset rest row x) (sym base) is
 
--- what lies behind the pair of a fixup and the next
+-- the extension after the pair of a fixup and the next one
 second_is : (j : ℕ) (b : Base) (s : ℕ × ℕ) → second_of j b ≡ Some s → (j ≡ s.0) × (b ≡ Section s.1)
 second_is j (Section k) s e = (cc, cc)
 second_is j (Import i) s e = absurd (cc)
@@ -240,7 +240,7 @@ far_pairs_brought P v f rest start old new at held behind same brings = record {
   next = subst (λ (w : Windowed). Holding P 1 512 (λ l rows. FarPairsKept l rest rows) w) (sym same) held.here;
 }
 
--- the windows that serve any fixup, at one more
+-- the windows that serve any fixup, after one more fixup
 pub record Passed (k : SolvedSuffix) (a : FixupState) (start : PlanState) (old new : RunEnds) (pair far_pair : ℕ) : Type 0 where
   pub at : StartAt a.first a.others.now start
   pub ends : EndsAt k a.others.now a.others.now old
@@ -299,7 +299,7 @@ import_passed k a import start old new near far base p column far_same skips spa
       far = λ l agrees. far_import l import a.first a.others.now new.far.items base;
     }
 
--- for labels of which more is known
+-- the windows, for labels with a stronger property
 holding-map : (P Q : Labels → Type 0) (count n : ℕ) (Kept : Labels → List (List ℕ) → Type 0) (w : Windowed) → ((l : Labels) → Q l → P l) → Holding P count n Kept w → Holding Q count n Kept w
 holding-map P Q count n Kept w to h = record { rows = h.rows; is = h.is; kept = λ l q. h.kept l (to l q) }
 

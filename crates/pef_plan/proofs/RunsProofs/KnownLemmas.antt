@@ -1,4 +1,4 @@
--- What tables tell of the extension.
+-- The extension, computed from tables.
 use Rattle.std.proofs.Common.{◌≡◌, ◌≢◌, ℕ, ◌+◌, ◌-◌, ◌*◌, ◌<◌, ◌≤◌, List, [], ◌∷◌, ◌++◌, length, Option, None, Some, false, true, refl, slice_index, slice_index_or, ap, ap₂, sym, ◌∙◌, subst, arith}
 use Rattle.pef_reloc.specs.declared.fixup.Base.{Base}
 use Rattle.pef_reloc.specs.declared.fixup.Base.TheVariants.{Section, Import}
@@ -23,7 +23,7 @@ value-here l k f rest left p c d x count agrees under_c under_d here is =
     ∙ sym (agrees.same.label_is (length (f ∷ rest)) c d (omega arith) under_c under_d)
     ∙ sym (extension-here l f rest p c d here)
 
--- and away from it
+-- the extension away from a fixup
 pub value-away : (l : Labels) (k : SolvedSuffix) (f : Fixup) (rest : List Fixup) (left p c d x y : ℕ) (o : Option ℕ) → length (f ∷ rest) ≡ left → Agrees l k (f ∷ rest) → c < length k.registers.now + 1 → d < length k.registers.now + 1 → p ≢ f.offset → x ≡ label_in (length k.registers.now + 1) k.labels.now.rows left c d → o ≡ offer_at l f rest c d → y ≡ moved_value (f.offset - p) x o → y ≡ extension l (f ∷ rest) p c d
 value-away l k f rest left p c d x y o count agrees under_c under_d away is offer value =
     let label : x ≡ l.label (length (f ∷ rest)) c d = is ∙ ap (λ n. label_in (length k.registers.now + 1) k.labels.now.rows n c d) (sym count) ∙ sym (agrees.same.label_is (length (f ∷ rest)) c d (omega arith) under_c under_d) in
@@ -44,14 +44,14 @@ offer-import_kept l k f rest left c d import count agrees under_c under_d base =
     offer-kept_import l f rest c d (skip_in k.skips.now.rows (length (f ∷ rest)) c) import base
     (agrees.offers.0 c d (subst (λ rs. c < length rs + 1) (sym regs) under_c) (subst (λ rs. d < length rs + 1) (sym regs) under_d))
 
--- the least offer at the next fixup, from what is known there
+-- the least offer at the next fixup, from its table rows
 offer-ahead : (l : Labels) (k : SolvedSuffix) (f : Fixup) (rest : List Fixup) (c d : ℕ) (b : Base) → Agrees l k (f ∷ rest) → c < length k.registers.now + 1 → d < length k.registers.now + 1 → f.base ≡ b → offer_ahead (class_ahead k.registers.now b) (slice_index_or k.skips.now.rows (length (f ∷ rest)) []) c d ≡ offer_at l f rest c d
 offer-ahead l k f rest c d (Section s) agrees under_c under_d base =
     offer-section_kept l k f rest (length (f ∷ rest)) c d s (change d (class_of k.registers.now s)) (skip_in k.skips.now.rows (length (f ∷ rest)) c) refl agrees under_c under_d base refl refl
 offer-ahead l k f rest c d (Import i) agrees under_c under_d base =
     offer-import_kept l k f rest (length (f ∷ rest)) c d i refl agrees under_c under_d base
 
--- and the extension
+-- the extension, from the next fixup's table rows
 value-before : (l : Labels) (k : SolvedSuffix) (f : Fixup) (rest : List Fixup) (p c d : ℕ) (a : NextFixup) → a.bytes ≡ f.offset - p → a.row.now ≡ slice_index_or k.labels.now.rows (length (f ∷ rest)) [] → a.skips.now ≡ slice_index_or k.skips.now.rows (length (f ∷ rest)) [] → a.class ≡ class_ahead k.registers.now f.base → begin_at p (f ∷ rest) ≡ false → Agrees l k (f ∷ rest) → c < length k.registers.now + 1 → d < length k.registers.now + 1 → value_ahead (length k.registers.now + 1) a c d ≡ extension l (f ∷ rest) p c d
 value-before l k f rest p c d a bytes row skips class away agrees under_c under_d =
     let r : ℕ = length k.registers.now + 1 in
@@ -74,7 +74,7 @@ pub label_under : (k : SolvedSuffix) (left c d : ℕ) (row : List ℕ) → Shape
 label_under k left c d row shaped is under_c under_d =
     subst (λ (r : List ℕ). number_in (length k.registers.now + 1) r c d ≤ 4 * left) (sym is.is) (shaped.label_small left c d (omega arith) under_c under_d)
 
--- where fewer are left
+-- the same with fewer fixups left
 pub same_fewer : (l : Labels) (registers : List ℕ) (labels : List (List ℕ)) (most m : ℕ) → SameLabels l registers labels most → m ≤ most → SameLabels l registers labels m
 same_fewer l registers labels most m same low = record {
   registers_are = same.registers_are;
@@ -89,7 +89,7 @@ agrees-behind l k (f ∷ made) left a =
       offers = a.offers.1;
     })
 
--- behind one or more of a fixup and others
+-- the same after one or more of a fixup and the others
 pub agrees-left : (l : Labels) (k : SolvedSuffix) (f : Fixup) (others made left : List Fixup) → Agrees l k others → f ∷ others ≡ made ++ left → length left < length (f ∷ others) → Agrees l k left
 agrees-left l k f others [] left a parts fewer = let e = ap length parts in absurd (omega (arith, e))
 agrees-left l k f others (g ∷ made) left a parts fewer =
@@ -108,7 +108,7 @@ shaped_fewer k most m s low = record {
   skip_small = λ left c under. s.skip_small left c (omega (arith, under, low));
 }
 
--- a row of labels is the extension right behind a fixup, where the next one is there
+-- a row of labels is the extension right after a fixup, if the next one is there
 pub near_copied : (l : Labels) (k : SolvedSuffix) (others : List Fixup) (p c d : ℕ) (row : List ℕ) → begin_at p others ≡ true → Agrees l k others → IsRow k (length others) row → c < classes l → d < classes l → slice_index row (place_of (classes l) c d) ≡ extension l others p c d
 near_copied l k [] p c d row at agrees is under_c under_d = absurd (cc)
 near_copied l k (g ∷ rest) p c d row at agrees is under_c under_d =

@@ -1,4 +1,4 @@
--- Runs: the instruction of so many units adds just these, and leads behind them.
+-- Runs: the instruction of a number of units adds exactly these, and leads to the place after them.
 use Rattle.std.proofs.Common.{◌≡◌, ℕ, zero, suc, ◌+◌, ◌-◌, ◌*◌, ◌<◌, ◌≤◌, ◌⊎◌, inl, inr, true, nat_le, List, [], ◌∷◌, ◌++◌, length, refl, ap, ap₂, sym, ◌∙◌, subst, arith, length-append}
 use Rattle.std.proofs.lemmas.Bool.{and_from, le-leb}
 use Rattle.std.proofs.lemmas.List.{append-nil, append_assoc, append_cancel_left}
@@ -60,7 +60,7 @@ unfolding numbered units
 units_imports zero p m = refl
 units_imports (suc n) p m = ap (λ fs. added p (Import m) ∷ fs) (units_imports n (p + 4) (m + 1))
 
--- the section in a register that holds one that counts
+-- the section in a register that holds a section of the list
 held : (rs : List ℕ) (k class j : ℕ) → Holds rs k class → class_of rs j ≡ class → j ≡ k
 held rs k class j h is = class_of-same rs j k (is ∙ sym h.0) (let e = h.0 in let u = h.1 in omega (arith, e, u))
 
@@ -84,7 +84,7 @@ run-adds rs Imports p from n s of at = ap₂ (λ q m. numbered n q m) (at.positi
 run-adds rs (Skip w k) p from n s of at =
     ap₂ (λ q j. row n q 4 (Section j)) (ap (λ q. q + 4 * w) at.position ∙ sym of.1) (held rs k p.d s.d of.0.0 at.d) ∙ units_skip n from p.import_index w k
 
--- and leads behind them
+-- the instruction of a run leads to the place after its units
 pub run-next : (rs : List ℕ) (r : Run) (p q : PlanState) (from n : ℕ) (s : State) → RunOf rs r p from → InPlace rs p s → q.position ≡ from + stride r * n → q.import_index ≡ p.import_index + imports r * n → q.c ≡ p.c → q.d ≡ p.d → InPlace rs q (next_state (run_instr r n) s)
 run-next rs (WordsOfC k) p q from n s of at position index c d = record { position = (let a = at.position in let b = of.1 in omega (arith, a, b, position)); import_index = (let a = at.import_index in omega (arith, a, index)); c = at.c ∙ sym c; d = at.d ∙ sym d }
 run-next rs (WordsOfD k) p q from n s of at position index c d = record { position = (let a = at.position in let b = of.1 in omega (arith, a, b, position)); import_index = (let a = at.import_index in omega (arith, a, index)); c = at.c ∙ sym c; d = at.d ∙ sym d }
@@ -136,7 +136,7 @@ some_units r n p m =
     let some = some_unit r p m in
     omega (arith, e, some)
 
--- where units begin with other fixups than these
+-- if the fixups don't begin with the units
 pub no_ends : (l : Labels) (r : Run) (value n p m c d : ℕ) (fixups : List Fixup) → ((left : List Fixup) → fixups ≡ unit r p m ++ left → ⊥) → EndsFrom l r value n fixups p m c d
 no_ends l r value n p m c d fixups other j left under is =
     absurd (other (units r j (p + stride r) (m + imports r) ++ left)
@@ -146,7 +146,7 @@ no_ends l r value n p m c d fixups other j left under is =
 abbrev pub step_of : Run → ℕ → PlanState → Step
 step_of r n q = record { instr = run_instr r n; next = q }
 
--- behind at least one unit
+-- the place after at least one unit
 pub record Behind (k : SolvedSuffix) (h : OpenState) (r : Run) (from n : ℕ) (q : PlanState) : Type 0 where
   pub along : Along r h.place from n q
   pub parts : h.place.left.now ≡ units r n from h.place.import_index ++ q.left.now
@@ -155,7 +155,7 @@ pub record Behind (k : SolvedSuffix) (h : OpenState) (r : Run) (from n : ℕ) (q
 mul_next : (w n x y z : ℕ) → y ≡ x + w * n → z ≡ y + w → z ≡ x + w * (n + 1)
 mul_next w n x y z e f = let one = mul-add w n 1 in omega (arith, e, f, one)
 
--- the place behind one more
+-- the place after one more unit
 pub along-next : (r : Run) (start p q : PlanState) (from n : ℕ) → Along r start from n p → Next r p q → Along r start from (n + 1) q
 along-next r start p q from n a next = record {
   position = mul_next (stride r) n from p.position q.position a.position next.position;
@@ -224,7 +224,7 @@ ends-step l r value m p q next low ends (suc j) left under is =
     let same = ap (λ x. extension l left x q.c q.d) end ∙ ap₂ (λ x y. extension l left (p.position + stride r * suc (suc j)) x y) next.c next.d in
     omega (arith, e, same)
 
--- the value behind a place along a run
+-- the value after a place along a run
 end-of : (l : Labels) (r : Run) (h : OpenState) (from n : ℕ) (q : PlanState) (value : ℕ) → Along r h.place from (n + 1) q → n < limit r → value ≡ 1 + extension_in l q → EndOf l r h from value
 end-of l r h from n q value a under is =
     let count : n + 1 ≡ suc n = omega arith in
@@ -259,7 +259,7 @@ so_far-next k h r from n p q first best better s under next chosen lower low eit
       (ends-step l r value (limit r - (n + 1)) p q next (omega (arith, least, there)) ends));
 }
 
--- where no unit follows, and where there are as many as can be
+-- if no unit follows, and if the run has its maximum length
 pub so_far-stop : (k : SolvedSuffix) (h : OpenState) (r : Run) (from n : ℕ) (p : PlanState) (first best : Choice) → SoFar k h r from n p first best → ((left : List Fixup) → p.left.now ≡ unit r p.position p.import_index ++ left → ⊥) → (l : Labels) (value : ℕ) → Agrees l k h.others.now → value ≤ best.value → Ends l r h from value
 so_far-stop k h r from n p first best s none l value agrees low =
     s.ends l value low agrees (no_ends l r value (limit r - n) p.position p.import_index p.c p.d p.left.now none)

@@ -1,4 +1,4 @@
--- Rows of a table: how many there are, which is at an index, one more and one less.
+-- Rows of a table: their number, the row at an index, one more row and one less.
 use Rattle.std.proofs.Common.{◌≡◌, ℕ, zero, suc, ◌+◌, ◌-◌, ◌*◌, ◌<◌, ◌≤◌, List, [], ◌∷◌, ◌++◌, length, take, drop, Some, refl, ap, sym, ◌∙◌, arith, slice_get}
 use Rattle.std.specs.Prelude.{slice_index_or}
 use Rattle.std.proofs.Math.Path.{ap₂}
@@ -19,7 +19,7 @@ rows-at (suc n) w (suc i) values under =
     rows-at n w i (drop w values) (omega (arith, under))
     ∙ ap (take w) (drop-drop (i * w) w values ∙ ap (λ k. drop k values) start)
 
--- one row more
+-- one more row
 pub rows-push : (n w : ℕ) (values row : List ℕ) → length values ≡ n * w → length row ≡ w → rows_of (n + 1) w (values ++ row) ≡ rows_of n w values ++ row ∷ []
 rows-push zero w values row full wide =
     let none : values ≡ [] = nil_from_length values (omega (arith, full)) in
@@ -42,7 +42,7 @@ rows-take (suc k) (suc n) w values few =
     ap₂ (λ r rs. r ∷ rs) (take-take w (suc k * w) values (omega (arith, size)))
     (ap (rows_of k w) (ap (λ m. drop w (take m values)) size ∙ drop-take w (k * w) values) ∙ rows-take k n w (drop w values) (omega (arith, few)))
 
--- where a row is among the numbers
+-- the position of a row among the numbers
 pub row_inside : (i n w : ℕ) (values : List ℕ) → i < length (rows_of n w values) → length values ≡ n * w → i * w + w ≤ length values
 row_inside i n w values under full =
     let count = rows_count n w values in
@@ -54,13 +54,13 @@ row_inside i n w values under full =
     mul-le (suc a) zero w low = absurd (omega (arith, low))
     mul-le (suc a) (suc b) w low = let less = mul-le a b w (omega (arith, low)) in omega (arith, less)
 
--- the last row, where there is one
+-- the last row, if there is one
 pub last_got : (rows : List (List ℕ)) (row : List ℕ) (n : ℕ) → length rows ≡ n → 0 < n → row ≡ slice_index_or rows (n - 1) [] → slice_get rows (length rows - 1) ≡ Some row
 last_got rows row n count some is =
     let at : length rows - 1 ≡ n - 1 = omega (arith, count) in
     ap (slice_get rows) at ∙ (slice_get-get_or rows (n - 1) [] (omega (arith, count, some)) ∙ ap Some (sym is))
 
--- all of a slice in the place of what was there
+-- a slice that is replaced as a whole
 pub same_slice : (n : ℕ) (new old : List ℕ) → length new ≡ n → length old ≡ n → take n (new ++ drop (length new) old) ≡ new
 same_slice n new old is was =
     let none : drop (length new) old ≡ [] = drop_all (length new) old (omega (arith, is, was)) in

@@ -1,4 +1,4 @@
--- Windows of rows: what is kept for the older ones, and the least of all.
+-- Windows of rows: the minima for the older rows, and the least of all rows.
 use Rattle.std.proofs.Common.{◌≡◌, ℕ, ◌+◌, ◌-◌, ◌<◌, ◌≤◌, ◌⊎◌, inl, inr, min, List, [], ◌∷◌, ◌++◌, length, take, suc, slice_index, Some, refl, ap, sym, ◌∙◌, subst, arith, length-append}
 use Rattle.std.specs.Prelude.{reverse, slice_index_or}
 use Rattle.std.proofs.Math.ListN.{get_or-append}
@@ -74,7 +74,7 @@ older-push width rows lows s low o is = record {
       ];
 }
 
--- some of them
+-- some of the older rows
 older-take : (width n : ℕ) (rows lows : List (List ℕ)) → OlderOf width rows lows → OlderOf width (take n rows) (take n lows)
 older-take width n rows lows o = record {
   count = length-take n lows ∙ (ap (λ m. min n m) o.count ∙ sym (length-take n rows));
@@ -84,14 +84,14 @@ older-take width n rows lows o = record {
       (subst (λ (x : List ℕ). LowRow width (take (i + 1) rows) x) (sym (get_or-take n lows i [] (omega (arith, under, len)))) (o.low i (omega (arith, under, len))));
 }
 
--- what is kept for the oldest is the least of them all
+-- the minimum that is kept for the oldest row is the least of all older rows
 pub older-last : (width : ℕ) (rows lows : List (List ℕ)) → OlderOf width rows lows → 0 < length lows → LowRow width rows (slice_index_or lows (length lows - 1) [])
 older-last width rows lows o some =
     let count = o.count in
     let whole : take (length lows - 1 + 1) rows ≡ rows = take_all (length lows - 1 + 1) rows (omega (arith, count, some)) in
     subst (λ (xs : List (List ℕ)). LowRow width xs (slice_index_or lows (length lows - 1) [])) whole (o.low (length lows - 1) (omega (arith, count, some)))
 
--- rows of which there is a last one
+-- rows that have a last one
 last-split : (rows : List (List ℕ)) (row : List ℕ) → slice_get rows (length rows - 1) ≡ Some row → rows ≡ take (length rows - 1) rows ++ row ∷ []
 last-split [] row e = absurd (cc)
 last-split (x ∷ []) row e = let same : x ≡ row = cc in ap (λ y. y ∷ []) same
@@ -102,7 +102,7 @@ last-split (x ∷ y ∷ rows) row e =
     ap (λ xs. x ∷ xs) (last-split (y ∷ rows) row there ∙ ap (λ n. take n (y ∷ rows) ++ row ∷ []) fewer)
     ∙ sym (ap (λ n. take n (x ∷ y ∷ rows) ++ row ∷ []) more)
 
--- newer rows of which some have been made older ones, and the least of these
+-- newer rows, some of which have become older ones, and the least of these
 pub record Aged (width : ℕ) (all lows newer : List (List ℕ)) (low : List ℕ) : Type 0 where
   pub older : List (List ℕ)
   pub is : OlderOf width older lows
@@ -140,13 +140,13 @@ aged-next width all lows newer low row lower a got is =
       low_is = λ more. inl here;
     }
 
--- what is kept for the oldest, where it is got
+-- the minimum that is kept for the oldest row, as it is read
 pub older-got : (width : ℕ) (rows lows : List (List ℕ)) (low : List ℕ) → OlderOf width rows lows → slice_get lows (length lows - 1) ≡ Some low → LowRow width rows low
 older-got width rows lows low o got =
     let under = slice_get_within lows (length lows - 1) low got in
     subst (λ (x : List ℕ). LowRow width rows x) (get_or_from_slice_get lows (length lows - 1) low [] got) (older-last width rows lows o (omega (arith, under)))
 
--- the better of a number and of the least of some rows
+-- the better of a number and the least of some rows
 pub best-low : (rows : List (List ℕ)) (first i low : ℕ) → LowIn rows i low → BestOf first rows i (min first (1 + low))
 best-low rows first i low l = record {
   first_is = omega arith;
@@ -183,7 +183,7 @@ count_is width limit rows w o =
     let count = o.older_is.count in
     omega (arith, e, sum, back, count)
 
--- the oldest goes
+-- the oldest row is removed
 pub window-pop : (width limit : ℕ) (rows : List (List ℕ)) (w v : Windowed) → WindowOf width limit rows w → 0 < w.limit → length w.older + length w.newer ≡ w.limit → (length w.newer ≡ 0) ⊎ (0 < length w.older) → v.width ≡ w.width → v.limit ≡ w.limit → v.newer ≡ w.newer → v.low ≡ w.low → v.older ≡ take (length w.older - 1) w.older → WindowOf width limit (take (limit - 1) rows) v
 window-pop width limit rows w v o some sum older width_is limit_is newer low items =
     let same = o.limit_is in
@@ -205,7 +205,7 @@ window-pop width limit rows w v o some sum older width_is limit_is newer low ite
           (subst (λ (x : List ℕ). LowRow width (reverse w.newer) x) (sym low) (o.newer_is (let e = ap length newer in omega (arith, e, more))));
     }
 
--- one row more
+-- one more row
 new_low : (width : ℕ) (newer : List (List ℕ)) (low row new : List ℕ) → (0 < length newer → LowRow width (reverse newer) low) → (length newer ≡ 0 → new ≡ row) → (0 < length newer → LesserOf width low row new) → LowRow width (row ∷ reverse newer) new
 new_low width [] low row new before first lesser = subst (λ (l : List ℕ). LowRow width (row ∷ []) l) (sym (first refl)) (row-one width row)
 new_low width (x ∷ newer) low row new before first lesser =
@@ -229,7 +229,7 @@ window-add width limit rows w v row o width_is limit_is older newer first lesser
           (new_low width w.newer w.low row v.low o.newer_is first (λ more. subst (λ (n : ℕ). LesserOf n w.low row v.low) o.width_is (lesser more)));
     }
 
--- all newer rows have been made older ones
+-- all newer rows have become older ones
 nothing : (xs : List (List ℕ)) → length xs ≡ 0 → reverse xs ≡ []
 nothing [] e = refl
 nothing (x ∷ xs) e = absurd (omega (arith, e))
@@ -254,7 +254,7 @@ window-aged width limit rows w v o none width_is limit_is newer older =
     no_rows [] e = refl
     no_rows (x ∷ xs) e = absurd (omega (arith, e))
 
--- the least of a number and of 1 more than each of a window's rows
+-- the least of a number and, for each of a window's rows, 1 plus the row's number
 pub window-best : (width limit : ℕ) (rows : List (List ℕ)) (w : Windowed) (first i best : ℕ) → WindowOf width limit rows w → 0 < length w.newer → i < width → ((count : ℕ) (older : List (List ℕ)) → OlderOf count older w.older → i < count → BestOf first older i best) → BestOf first rows i (min best (1 + slice_index w.low i))
 window-best width limit rows w first i best o some under older =
     subst (λ (xs : List (List ℕ)). BestOf first xs i (min best (1 + slice_index w.low i))) (sym o.parts)

@@ -1,4 +1,4 @@
--- A row of labels, from what the instructions lead to that add at a fixup.
+-- A row of labels, from the values of the instructions that add at a fixup.
 use Rattle.std.specs.Prelude.{◌≡◌, ◌≤◌, ◌<◌, ◌⊎◌, ◌==◌, ℕ, ◌+◌, ◌*◌, true, List, ◌∷◌, length, slice_index, Some}
 use Rattle.pef_reloc.specs.Steps.{State}
 use Rattle.pef_cert.specs.Labels.{Labels, class_of}
@@ -14,7 +14,7 @@ use Rattle.pef_plan.specs.Runs.Places.{Led}
 use Rattle.pef_plan.specs.Runs.Tables.{Agrees, number_in}
 use Rattle.pef_plan.specs.Runs.Leads.{LeadsWithin}
 
--- the least that an instruction leads to which adds at a fixup, with the registers in these classes
+-- the least value of an instruction that adds at a fixup, with the registers in these classes
 pub record DirectIs (k : SolvedSuffix) (a : FixupState) (c d value : ℕ) : Type 0 where
   pub least : (l : Labels) (n : ℕ) → Agrees l k a.others.now → n ≤ value → base_test l n a.import_index a.first a.others.now c d a.first.base ≡ true
   pub led : (l : Labels) (s : State) → Agrees l k a.others.now → AtFixup a.first a.import_index s → class_of l.registers s.c ≡ c → class_of l.registers s.d ≡ d → LeadsWithin l s (a.first ∷ a.others.now) value
@@ -31,34 +31,35 @@ state_of a c d = record {
   others = a.others;
 }
 
--- something holds of each number of a row, and of the state with the registers in its classes
+-- P holds for each number of a row and the state with the registers in the number's classes
 abbrev pub EachState : SolvedSuffix → FixupState → (OpenState → ℕ → Type 0) → List ℕ → Type 0
 EachState k a P row = (c d : ℕ) → c < length k.registers.now + 1 → d < length k.registers.now + 1 → P (state_of a c d) (number_in (length k.registers.now + 1) row c d)
 
--- an instruction that adds at a fixup leads to a value, which is at most that of the addition alone, for its cost
+-- an instruction that adds at a fixup has at most this value, and the value is at most that of one addition
+-- with this cost
 pub record Adds (k : SolvedSuffix) (h : OpenState) (cost value : ℕ) : Type 0 where
   pub led : Led k h value
   pub low : (l : Labels) → Agrees l k h.others.now → value ≤ cost + extension l h.others.now (h.first.offset + 4) h.place.c h.place.d
   pub small : value ≤ 4 * length h.others.now + 4
 
--- the value is also at most that of runs of a section, if register C holds it
+-- the value is also at most that of a section's runs, if register C holds the section
 pub record AddsInC (k : SolvedSuffix) (h : OpenState) (section value : ℕ) : Type 0 where
   pub adds : Adds k h 1 value
   pub in_c : (l : Labels) (n : ℕ) → Agrees l k h.others.now → n ≤ value → (class_of l.registers section == h.place.c) ≡ true → MetInC l h section n
 
--- and if register D does
+-- the value is also at most that of the section's runs in register D, if that register holds the section
 pub record AddsInBoth (k : SolvedSuffix) (h : OpenState) (section value : ℕ) : Type 0 where
   pub first : AddsInC k h section value
   pub in_d : (l : Labels) (n : ℕ) → Agrees l k h.others.now → n ≤ value → (class_of l.registers section == h.place.d) ≡ true → MetInD l h section n
 
--- a number is the least of so many
+-- a value is the least of count numbers
 pub record LeastOf (count : ℕ) (f : ℕ → ℕ) (value : ℕ) : Type 0 where
   pub low : (x : ℕ) → x < count → value ≤ f x
   pub at : ℕ
   pub under : at < count
   pub is : f at ≡ value
 
--- a line of labels from one of what is led to directly, the least of each column, and the least of all
+-- a line of labels, computed from a line of direct values, the least of each column, and the least of all
 pub record LineOf (count : ℕ) (direct lows : ℕ → ℕ) (low : ℕ) (line : ℕ → ℕ) : Type 0 where
   pub here : (d : ℕ) → d < count → line d ≤ direct d
   pub column : (d : ℕ) → d < count → line d ≤ lows d + 1
@@ -69,7 +70,7 @@ pub record LineOf (count : ℕ) (direct lows : ℕ → ℕ) (low : ℕ) (line : 
 abbrev pub LinesOf : ℕ → List ℕ → List ℕ → ℕ → List ℕ → Type 0
 LinesOf count direct lows low row = (c : ℕ) → c < count → LineOf count (λ d. number_in count direct c d) (λ d. slice_index lows d) low (λ d. number_in count row c d)
 
--- a row of labels is the least over all changes of registers
+-- each label of a row is the least over all changes of registers
 pub record ClosedOf (count : ℕ) (direct row : List ℕ) : Type 0 where
   pub below : (c d : ℕ) → c < count → d < count → number_in count row c d ≤ number_in count direct c d
   pub c_line : (c e d : ℕ) → c < count → e < count → d < count → number_in count row c d ≤ 1 + number_in count row e d
@@ -82,7 +83,7 @@ pub record RowOf (k : SolvedSuffix) (a : FixupState) (row : List ℕ) : Type 0 w
   pub direct_is : DirectRow k a direct
   pub closed : ClosedOf (length k.registers.now + 1) direct row
 
--- all of so many numbers are small
+-- all numbers of a line of this length are small
 abbrev pub SmallLine : ℕ → List ℕ → Type 0
 SmallLine count line = (d : ℕ) → d < count → slice_index line d ≤ 1048576
 

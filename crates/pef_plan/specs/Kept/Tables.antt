@@ -1,4 +1,4 @@
--- The tables of a plan, as they are filled from the last fixup back.
+-- The tables of a plan. They are filled from the last fixup to the first.
 use Rattle.std.specs.Prelude.{◌≡◌, ◌≤◌, ◌<◌, ℕ, ◌+◌, ◌*◌, List, length, slice_index, take}
 use Rattle.std.specs.List.{AllByRecursion}
 use Rattle.pef_reloc.specs.declared.fixup.Fixup.{Fixup}
@@ -9,13 +9,13 @@ use Rattle.pef_cert.specs.Feasible.{FeasibleFrom}
 use Rattle.pef_plan.specs.Reached.{ReachedFrom}
 use Rattle.pef_plan.specs.Runs.Tables.{OffersFrom, SameLabels, label_in, skip_in}
 
--- the indices of the next import at fixups
+-- the index of the next import at each fixup
 pub record IndicesOf (fixups : List Fixup) (indices : List ℕ) : Type 0 where
   pub count : length indices ≡ length fixups
   pub at : (i : ℕ) → i < length fixups → slice_index indices i ≡ index_after (take i fixups) 0
 
--- tables that are filled where some fixups are left and less: labels that are those of the tables are
--- feasible there, are reached, and have the table's offers
+-- tables that are filled for rest and its suffixes: labels that equal those of the tables are feasible there,
+-- are reached, and have the table's offers
 pub record Tabled (registers : List ℕ) (labels : List (List ℕ)) (skips : List (List ℕ)) (index : ℕ) (rest : List Fixup) : Type 0 where
   pub labels_count : length labels ≡ length rest + 1
   pub skips_count : length skips ≡ length rest + 1
@@ -26,7 +26,7 @@ pub record Tabled (registers : List ℕ) (labels : List (List ℕ)) (skips : Lis
   pub reached : (l : Labels) → SameLabels l registers labels (length rest) → ReachedFrom l index rest
   pub offers : (l : Labels) → SameLabels l registers labels (length rest) → OffersFrom l skips rest
 
--- tables as they are kept, with a number for each pair of classes, or each class of C
+-- tables as they are stored: labels have a number for each pair of classes, skips one for each class of C
 pub record TablesOf (registers : List ℕ) (labels skips : LaidRows) (index : ℕ) (rest : List Fixup) : Type 0 where
   pub tabled : Tabled registers labels.rows skips.rows index rest
   pub labels_wide : labels.width ≡ (length registers + 1) * (length registers + 1)

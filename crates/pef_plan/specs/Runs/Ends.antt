@@ -1,4 +1,4 @@
--- The ends of runs, as windows keep what lies behind them.
+-- The ends of runs, and the windows that keep the extensions after them.
 use Rattle.std.specs.Prelude.{◌≡◌, ◌≤◌, ◌<◌, ◌⊎◌, ℕ, suc, ◌+◌, ◌-◌, ◌*◌, List, [], ◌∷◌, ◌++◌, length, Option, None, Some, slice_index}
 use Rattle.pef_reloc.specs.declared.fixup.Base.{Base}
 use Rattle.pef_reloc.specs.declared.fixup.Base.TheVariants.{Section, Import}
@@ -14,34 +14,34 @@ use Rattle.pef_plan.specs.Runs.Runs.{imports, stride, unit}
 use Rattle.pef_plan.specs.Runs.Tables.{Agrees, number_in, place_of}
 use Rattle.pef_plan.specs.Windows.Windows.{WindowOf, Windowed}
 
--- rows have at a place the extension behind each end of a run, of up to so many units, the shortest first, at
--- a pair of classes
+-- at one place, rows have the extension after each end of a run with up to so many units, the shortest run
+-- first, at a pair of classes
 abbrev pub EndRows : Labels → Run → ℕ → List Fixup → ℕ → ℕ → ℕ → ℕ → ℕ → List (List ℕ) → Type 0
 EndRows l r n fixups p m c d i [] = (n ≡ 0) ⊎ ((left : List Fixup) → fixups ≡ unit r p m ++ left → ⊥)
 EndRows l r n fixups p m c d i (q ∷ qs) =
     (less : ℕ) × (left : List Fixup) × (n ≡ suc less) × (fixups ≡ unit r p m ++ left) × (slice_index q i ≡ extension l left (p + stride r) c d)
     × EndRows l r less left (p + stride r) (m + imports r) c d i qs
 
--- the rows of a run that goes on behind its first unit, and the row behind that unit
+-- the rows of a run that continues after its first unit, and the row after that unit
 abbrev pub OnWith : Labels → Run → ℕ → List Fixup → ℕ → ℕ → List (List ℕ) → ℕ → ℕ → ℕ → Type 0
 OnWith l r n fixups p m rows c d i = (rest left : List Fixup) → fixups ≡ unit r p m ++ rest → rest ≡ unit r (p + stride r) (m + imports r) ++ left → EndRows l r n rest (p + stride r) (m + imports r) c d i rows
 
 abbrev pub RowIs : Labels → Run → List Fixup → ℕ → ℕ → List ℕ → ℕ → ℕ → ℕ → Type 0
 RowIs l r fixups p m row c d i = (rest : List Fixup) → fixups ≡ unit r p m ++ rest → slice_index row i ≡ extension l rest (p + stride r) c d
 
--- a window has been brought to fixups: where it had the rows of a run that goes on behind its first
--- unit, it has those of the whole run
+-- a window was moved to fixups: if it had the rows of a run that continues after its first unit, it now has
+-- those of the whole run
 pub record Brought (r : Run) (count limit : ℕ) (fixups : List Fixup) (p m : ℕ) (rows : List (List ℕ)) (row : List ℕ) (w : Windowed) : Type 0 where
   pub now : List (List ℕ)
   pub is : WindowOf count limit now w
   pub ends : (l : Labels) (c d i : ℕ) → OnWith l r limit fixups p m rows c d i → RowIs l r fixups p m row c d i → EndRows l r limit fixups p m c d i now
 
--- where there is a run
+-- the same, if there is a run
 abbrev pub BroughtMaybe : Option Run → ℕ → ℕ → List Fixup → ℕ → ℕ → List (List ℕ) → List ℕ → Windowed → Type 0
 BroughtMaybe None count limit fixups p m rows row w = WindowOf count limit rows w
 BroughtMaybe (Some r) count limit fixups p m rows row w = Brought r count limit fixups p m rows row w
 
--- the words that begin at a base, and the sections of two
+-- the run of words that begins at a base, and the sections of two fixups
 abbrev pub words_run : Base → Run
 words_run (Section k) = WordsOfD k
 words_run (Import i) = Imports
@@ -68,8 +68,8 @@ abbrev pub base_import : Base → ℕ
 base_import (Section k) = 0
 base_import (Import i) = i
 
--- the rows of the runs that begin at fixups, by their bases: by both registers' classes, or by that of C
--- where D holds the section, or for the one pair of classes of two sections
+-- the rows of the runs that begin at fixups, by the fixups' bases. Rows have a number for each pair of classes,
+-- or for each class of C if D holds the section, or one number for the classes of two sections
 abbrev pub WordsAt : Labels → ℕ → List Fixup → List (List ℕ) → Base → Type 0
 WordsAt l p fixups rows (Section k) = (c d : ℕ) → c < classes l → d < classes l → EndRows l (WordsOfD k) 512 fixups p 0 c d (place_of (classes l) c d) rows
 WordsAt l p fixups rows (Import i) = (c d : ℕ) → c < classes l → d < classes l → EndRows l Imports 512 fixups p i c d (place_of (classes l) c d) rows
@@ -114,12 +114,13 @@ FarPairsKept l [] rows = Unit {0}
 FarPairsKept l (f ∷ []) rows = Unit {0}
 FarPairsKept l (f ∷ g ∷ rest) rows = FarPairsAt l f.offset (f ∷ g ∷ rest) rows f.base g.base
 
--- the extension behind the first fixup, and that a word further on where register D has its section's class
+-- the extension after the first fixup, and the extension one word further on with register D in the class of
+-- its section
 abbrev pub NearKept : Labels → List Fixup → List ℕ → Type 0
 NearKept l [] row = Unit {0}
 NearKept l (f ∷ rest) row = (c d : ℕ) → c < classes l → d < classes l → slice_index row (place_of (classes l) c d) ≡ extension l rest (f.offset + 4) c d
 
--- its numbers are small, with so many classes
+-- the numbers of such a row are small, for a number of classes
 abbrev pub NearSmall : ℕ → List Fixup → List ℕ → Type 0
 NearSmall count fixups row = (c d : ℕ) → c < count → d < count → number_in count row c d ≤ 4 * (length fixups - 1) + 2
 
@@ -131,13 +132,13 @@ abbrev pub FarKept : Labels → List Fixup → List ℕ → Type 0
 FarKept l [] row = Unit {0}
 FarKept l (f ∷ rest) row = FarAt l f.offset rest row f.base
 
--- what lies so many bytes behind the second of two fixups with sections, in their classes
+-- the extension so many bytes after the second of two fixups with sections, in their classes
 abbrev pub PairBehind : Labels → ℕ → List Fixup → Option (ℕ × ℕ) → ℕ → Type 0
 PairBehind l w [] s v = Unit {0}
 PairBehind l w (g ∷ rest) None v = Unit {0}
 PairBehind l w (g ∷ rest) (Some s) v = v ≡ extension l rest (g.offset + w) (class_of l.registers s.0) (class_of l.registers s.1)
 
--- a window with the rows of some runs, for labels of which something holds
+-- a window with the rows of some runs, for labels with the property P
 pub record Holding (P : Labels → Type 0) (width limit : ℕ) (Kept : Labels → List (List ℕ) → Type 0) (w : Windowed) : Type 0 where
   pub rows : List (List ℕ)
   pub is : WindowOf width limit rows w
@@ -147,13 +148,13 @@ abbrev pub rest_of : List Fixup → List Fixup
 rest_of [] = []
 rest_of (f ∷ rest) = rest
 
--- two windows in turn: the one at some fixups, and the one at those behind the first
+-- two alternating windows: one at some fixups, and one at those after the first
 pub record HoldingTwo (P : Labels → Type 0) (Kept : Labels → List Fixup → List (List ℕ) → Type 0) (fixups : List Fixup) (w : AlternatingWindows) : Type 0 where
   pub here : Holding P 1 512 (λ l rows. Kept l fixups rows) w.here
   pub next : Holding P 1 512 (λ l rows. Kept l (rest_of fixups) rows) w.next
 
--- all windows at some fixups, with so many classes: rows by both registers' classes or by that of C, or of one
--- number
+-- all windows at some fixups, with count classes. Rows have a number for each pair of classes, or for each
+-- class of C, or one number
 pub record EndsOf (P : Labels → Type 0) (count : ℕ) (fixups : List Fixup) (e : RunEnds) : Type 0 where
   pub words : Holding P (count * count) 512 (λ l rows. WordsKept l fixups rows) e.words
   pub skips : Holding P count 63 (λ l rows. SkipsKept l fixups rows) e.skips
@@ -167,7 +168,7 @@ pub record EndsOf (P : Labels → Type 0) (count : ℕ) (fixups : List Fixup) (e
   pub near_small : NearSmall count fixups e.near.items
   pub far : (l : Labels) → P l → FarKept l fixups e.far.items
 
--- what is known of labels where tables agree with them
+-- the windows at some fixups, for labels that the tables agree with
 abbrev pub EndsAt : SolvedSuffix → List Fixup → List Fixup → RunEnds → Type 0
 EndsAt k others fixups e = EndsOf (λ l. Agrees l k others) (length k.registers.now + 1) fixups e
 

@@ -1,4 +1,4 @@
--- What an instruction leads to. This is our own rule.
+-- The value of an instruction that leads on. The rule is this project's own.
 use Rattle.std.specs.Prelude.{◌≡◌, ◌≤◌, ℕ, ◌+◌, true, List}
 use Rattle.pef_reloc.specs.declared.fixup.Fixup.{Fixup}
 use Rattle.pef_reloc.specs.declared.instr.Instr.{Instr}
@@ -8,8 +8,8 @@ use Rattle.pef_reloc.specs.Steps.{State, next_state}
 use Rattle.pef_cert.specs.Labels.{Labels}
 use Rattle.pef_cert.specs.Extension.{extension_at}
 
--- an instruction that leads on from a state: it fits and is no repeat, it adds just the next of the fixups,
--- one or more or none, and these are left; its halfwords and the extension behind it are at most a number
+-- an instruction that leads on from a state: it fits and is no repeat. It adds exactly the next fixups, if any,
+-- and the others are left. The sum of its halfwords and the extension after it is at most n
 pub record LeadsWithin (l : Labels) (s : State) (fixups : List Fixup) (n : ℕ) : Type 0 where
   pub instr : Instr
   pub left : List Fixup

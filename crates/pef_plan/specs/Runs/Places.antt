@@ -1,4 +1,4 @@
--- The places that are looked at, and the steps between them.
+-- The places that the planner visits, and the steps between them.
 use Rattle.std.specs.Prelude.{◌≡◌, ◌≤◌, ◌<◌, ℕ, ◌+◌, true, List, ◌∷◌, length}
 use Rattle.std.specs.List.{AllByRecursion}
 use Rattle.pef_reloc.specs.declared.fixup.Base.{Base}
@@ -26,7 +26,7 @@ pub record InPlace (registers : List ℕ) (p : PlanState) (s : State) : Type 0 w
   pub c : class_of registers s.c ≡ p.c
   pub d : class_of registers s.d ≡ p.d
 
--- a step from a state at a place: its instruction adds just the fixups up to the next place
+-- a step from a state at a place: its instruction adds exactly the fixups up to the next place
 pub record Goes (registers : List ℕ) (p : PlanState) (x : Step) (s : State) : Type 0 where
   pub flat : is_flat_instr x.instr ≡ true
   pub delivers : Delivers x.instr s p.left.now x.next.left.now
@@ -39,16 +39,16 @@ GoesOn registers p x = (s : State) → InPlace registers p s → Goes registers 
 abbrev pub extension_in : Labels → PlanState → ℕ
 extension_in l p = extension l p.left.now p.position p.c p.d
 
--- the value of a choice is what lies behind it and its own halfwords
+-- the value of a choice is the sum of its halfwords and the extension after it
 abbrev pub Worth : Labels → Choice → Type 0
 Worth l x = x.value ≡ instr_length x.step.instr + extension_in l x.step.next
 
--- a base that is an import, or a section that counts
+-- a base that is an import, or a section among the registers
 abbrev pub Counts : List ℕ → Base → Type 0
 Counts registers (Section k) = class_of registers k < length registers
 Counts registers (Import k) = Unit {0}
 
--- a place where fixups are left, with tables of all that lies behind the first of them
+-- a place with fixups left, and tables that cover all fixups after the first
 pub record HereOf (k : SolvedSuffix) (h : OpenState) : Type 0 where
   pub parts : h.place.left.now ≡ h.first ∷ h.others.now
   pub shaped : Shaped k (length h.others.now)
@@ -66,7 +66,7 @@ pub record AtOf (k : SolvedSuffix) (a : FixupState) : Type 0 where
   pub counts : AllByRecursion (λ f. Counts k.registers.now f.base) (a.first ∷ a.others.now)
   pub import_small : a.import_index ≤ most_imports
 
--- a choice there
+-- a choice at such a place
 pub record Chosen (k : SolvedSuffix) (h : OpenState) (x : Choice) : Type 0 where
   pub goes : GoesOn k.registers.now h.place x.step
   pub worth : (l : Labels) → Agrees l k h.others.now → Worth l x

@@ -13,7 +13,7 @@ use Rattle.pef_plan.specs.declared.runs.state.OpenState.{OpenState}
 use Rattle.pef_plan.specs.declared.runs.run.Run.{Run}
 use Rattle.pef_plan.specs.declared.runs.run.Run.TheVariants.{WordsOfC, WordsOfD, Spaced, Pairs, SpacedPairs, Imports, Skip}
 
--- what a run adds once, at a position and with the next import
+-- the fixups that one unit of a run adds, at a position and with the next import
 abbrev pub unit : Run → ℕ → ℕ → List Fixup
 unit (WordsOfC k) p m = added p (Section k) ∷ []
 unit (WordsOfD k) p m = added p (Section k) ∷ []
@@ -23,7 +23,7 @@ unit (SpacedPairs j k) p m = added p (Section j) ∷ added (p + 4) (Section k) �
 unit Imports p m = added p (Import m) ∷ []
 unit (Skip words k) p m = added p (Section k) ∷ []
 
--- how far it moves on each time, in bytes and in imports, and how many times at most
+-- the bytes and the imports that each unit advances, and the maximum number of units
 abbrev pub stride : Run → ℕ
 stride (WordsOfC k) = 4
 stride (WordsOfD k) = 4
@@ -41,7 +41,7 @@ abbrev pub limit : Run → ℕ
 limit (Skip words k) = 63
 limit _ = 512
 
--- the instruction that makes so many
+-- the instruction that adds so many units
 abbrev pub run_instr : Run → ℕ → Instr
 run_instr (WordsOfC k) n = BySectC n
 run_instr (WordsOfD k) n = BySectD n
@@ -51,16 +51,16 @@ run_instr (SpacedPairs j k) n = TVector12 n
 run_instr Imports n = ImportRun n
 run_instr (Skip words k) n = BySectDWithSkip words n
 
--- so many in a row
+-- the fixups of so many consecutive units
 unfoldable pub units : Run → ℕ → ℕ → ℕ → List Fixup
 units r zero p m = []
 units r (suc n) p m = unit r p m ++ units r n (p + stride r) (m + imports r)
 
--- a register holds a section that counts
+-- a register holds a section of the list
 abbrev pub Holds : List ℕ → ℕ → ℕ → Type 0
 Holds registers k class = (class_of registers k ≡ class) × (class < length registers)
 
--- the registers at a place are such that a run can begin at a position
+-- the registers at a place allow a run to begin at a position
 abbrev pub RunOf : List ℕ → Run → PlanState → ℕ → Type 0
 RunOf registers (WordsOfC k) p from = Holds registers k p.c × (from ≡ p.position)
 RunOf registers (WordsOfD k) p from = Holds registers k p.d × (from ≡ p.position)
@@ -70,14 +70,14 @@ RunOf registers (SpacedPairs j k) p from = (Holds registers j p.c × Holds regis
 RunOf registers Imports p from = Unit {0} × (from ≡ p.position)
 RunOf registers (Skip words k) p from = (Holds registers k p.d × (words ≤ 255)) × (from ≡ p.position + 4 * words)
 
--- a value is at most 1 and the extension behind each end of a run, of up to so many units
+-- a value is at most 1 plus the extension after each end of a run with up to so many units
 abbrev pub EndsFrom : Labels → Run → ℕ → ℕ → List Fixup → ℕ → ℕ → ℕ → ℕ → Type 0
 EndsFrom l r value n fixups p m c d = (j : ℕ) (left : List Fixup) → j < n → fixups ≡ units r (suc j) p m ++ left → value ≤ 1 + extension l left (p + stride r * suc j) c d
 
 abbrev pub Ends : Labels → Run → OpenState → ℕ → ℕ → Type 0
 Ends l r h from value = EndsFrom l r value (limit r) h.place.left.now from h.place.import_index h.place.c h.place.d
 
--- a value is 1 and the extension behind one of the ends
+-- a value is 1 plus the extension after one of the ends
 pub record EndAmong (l : Labels) (r : Run) (n : ℕ) (fixups : List Fixup) (p m c d value : ℕ) : Type 0 where
   pub more : ℕ
   pub left : List Fixup
@@ -93,7 +93,7 @@ abbrev pub NextBase : Base → List Fixup → Type 0
 NextBase b [] = ⊥
 NextBase b (f ∷ rest) = f.base ≡ b
 
--- a run can begin at fixups, with this import next: the first has this base, and these are the others
+-- a run can begin at fixups; the arguments are the next import, the base of the first fixup, and the others
 abbrev pub RunBegins : Run → ℕ → Base → List Fixup → Type 0
 RunBegins (WordsOfC k) m b others = b ≡ Section k
 RunBegins (WordsOfD k) m b others = b ≡ Section k

@@ -1,4 +1,4 @@
--- What is true of a window's tables.
+-- The invariants of a window's tables.
 use Rattle.std.specs.Prelude.{◌≡◌, ◌≤◌, ◌<◌, ℕ, ◌+◌, List, length}
 use Rattle.pef_cert.specs.Rows.{LaidRows}
 

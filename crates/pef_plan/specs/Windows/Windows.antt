@@ -1,17 +1,17 @@
 -- Windows of rows of numbers, and the least of the rows at each place.
 use Rattle.std.specs.Prelude.{◌≡◌, ◌≤◌, ◌<◌, ◌⊎◌, ℕ, ◌+◌, min, List, [], ◌∷◌, ◌++◌, length, reverse, slice_index, slice_index_or, take}
 
--- a value is at most each number of some rows at a place, and so much more
+-- a value is at most each number of some rows at a place, plus an addend
 abbrev pub AtMostEach : ℕ → ℕ → List (List ℕ) → ℕ → Type 0
 AtMostEach more value [] i = Unit {0}
 AtMostEach more value (q ∷ qs) i = (value ≤ more + slice_index q i) × AtMostEach more value qs i
 
--- a value is one of them, and so much more
+-- a value is one of these numbers, plus an addend
 abbrev pub IsOne : ℕ → ℕ → List (List ℕ) → ℕ → Type 0
 IsOne more value [] i = ⊥
 IsOne more value (q ∷ qs) i = (value ≡ more + slice_index q i) ⊎ IsOne more value qs i
 
--- a value is the least of them
+-- a value is the least of these numbers
 pub record LowIn (rows : List (List ℕ)) (i value : ℕ) : Type 0 where
   pub each : AtMostEach 0 value rows i
   pub one : IsOne 0 value rows i
@@ -24,12 +24,12 @@ LowRow width rows low = (i : ℕ) → i < width → LowIn rows i (slice_index lo
 abbrev pub LesserOf : ℕ → List ℕ → List ℕ → List ℕ → Type 0
 LesserOf width one other row = (i : ℕ) → i < width → slice_index row i ≡ min (slice_index one i) (slice_index other i)
 
--- what is kept for older rows, of which the newest is the first
+-- the minima that replace the older rows, the newest row first
 pub record OlderOf (width : ℕ) (rows lows : List (List ℕ)) : Type 0 where
   pub count : length lows ≡ length rows
   pub low : (i : ℕ) → i < length rows → LowRow width (take (i + 1) rows) (slice_index_or lows i [])
 
--- what a window keeps
+-- the model of a window
 pub record Windowed : Type 0 where
   pub width : ℕ
   pub limit : ℕ
@@ -47,7 +47,7 @@ pub record WindowOf (width limit : ℕ) (rows : List (List ℕ)) (w : Windowed) 
   pub older_is : OlderOf width older w.older
   pub newer_is : 0 < length w.newer → LowRow width (reverse w.newer) w.low
 
--- a value is the least of a first one and of 1 more than each number of some rows at a place
+-- a value is the least of a first one and, for each of some rows, 1 plus the row's number at a place
 pub record BestOf (first : ℕ) (rows : List (List ℕ)) (i value : ℕ) : Type 0 where
   pub first_is : value ≤ first
   pub each : AtMostEach 1 value rows i

@@ -4,21 +4,21 @@ ghost use Rattle.pef_plan.specs.Runs.Kept.Ahead.{offer_ahead};
 
 use pef_cert::{change, moved_value};
 
-/// The next fixup, from a position that isn't its own.
+/// The next fixup, seen from a position that isn't its own.
 #[derive(Clone, Copy)]
 pub(crate) struct NextFixup<'a> {
     /// How many bytes ahead it is, or 0 if the position is past it.
     pub(crate) bytes: u64,
-    /// The labels there.
+    /// The labels at the next fixup.
     pub(crate) row: &'a [u32],
-    /// The least skips there, by the class of register C.
+    /// The least skips at the next fixup, by the class of register C.
     pub(crate) skips: &'a [u32],
     /// The class of its section. An import has none.
     pub(crate) class: Option<usize>,
 }
 
 impl NextFixup<'_> {
-    /// The extension in these classes of the registers, whose place in the row is this.
+    /// Returns the extension with the registers in the classes `c` and `d`. Their place in the row is `place`.
     #[inline(always)]
     pub(crate) fn value(self, place: usize, c: usize, d: usize) -> u64
         requires place { place < length self.row.now }

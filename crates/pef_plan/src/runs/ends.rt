@@ -18,43 +18,43 @@ use pef_reloc::{Base, Fixup};
 use std::alloc::{AllocError, Global};
 use std::mem;
 
-/// What lies behind the ends of the runs that begin at a fixup: for each kind of run a window, which
-/// follows as the tables are filled from the last fixup back.
+/// The extensions after the ends of the runs that begin at a fixup, in one window for each kind of run. The
+/// windows move along while the tables are filled from the last fixup to the first.
 #[derive(Drop)]
 pub struct RunEnds {
-    /// Words of a section, or imports: for each pair of classes.
+    /// Words of a section, or imports. Rows have a number for each pair of classes.
     words: Window,
-    /// As many words as a skip adds to: by the class of register C, where D holds the section.
+    /// Words that a skip adds to. Register D holds the section, and rows have a number for each class of C.
     skips: Window,
-    /// Words a word apart: likewise.
+    /// Words that are a word apart. Rows are like those of `skips`.
     spaced: Window,
-    /// Pairs of two sections, which the registers hold.
+    /// Pairs of the two sections that the registers hold.
     pairs: AlternatingWindows,
-    /// Such pairs, a word apart.
+    /// Such pairs that are a word apart.
     far_pairs: AlternatingWindows,
-    /// What lies right behind the fixup, for each pair of classes.
+    /// The extension right after the fixup, for each pair of classes.
     near: Vec<u32>,
-    /// The column of it where register D holds the fixup's section.
+    /// The column of `near` in which register D holds the fixup's section.
     column: Vec<u32>,
-    /// What lies a word further on, where register D holds the fixup's section: by the class of C.
+    /// The extension one word further on with the fixup's section in register D, by the class of C.
     far: Vec<u32>,
 }
 
-/// Two windows of runs that go on at each second fixup.
+/// Two windows of runs that continue at every second fixup.
 #[derive(Drop)]
 struct AlternatingWindows {
-    /// The one of the fixup.
+    /// The window of the fixup.
     here: Window,
-    /// The one of the next fixup.
+    /// The window of the next fixup.
     next: Window,
 }
 
 impl RunEnds {
-    /// Behind all fixups, where no run begins, with so many classes.
+    /// Returns the windows after all fixups. No run begins there.
     ///
     /// # Errors
     ///
-    /// `AllocError`, where a growth of memory was refused.
+    /// `AllocError`, if an allocation failed.
     pub fn new(alloc: Global, classes: usize) -> Result<RunEnds, AllocError>
         requires some { 0 < classes }
         requires few { classes ≤ most_sections + 1 }
@@ -73,7 +73,7 @@ impl RunEnds {
         })
     }
 
-    /// The extension right behind the fixup, in halfwords.
+    /// Returns the extension right after the fixup, in halfwords.
     pub fn behind(&self, known: SolvedSuffix<'_>, here: OpenState<'_>) -> u64
         requires here { HereOf known here }
         requires ends { EndsAt known here.others.now (here.first ∷ here.others.now) self.now }
@@ -83,7 +83,7 @@ impl RunEnds {
         u64::from(self.near[known.place(here.place.c, here.place.d)])
     }
 
-    /// Fills in what lies right behind the fixup and a cost, for each pair of classes.
+    /// Fills in a cost plus the extension right after the fixup, for each pair of classes.
     pub fn fill_alone(&self, cost: u32, row: &mut [u32])
         requires row { length row.old ≡ length self.now.near.items }
         requires small { (i : ℕ) → i < length row.old → cost + slice_index self.now.near.items i < 2 ^ 32 }
@@ -95,11 +95,11 @@ impl RunEnds {
         }
     }
 
-    /// Goes on to the fixup before, whose tables are not filled yet.
+    /// Moves the windows to the previous fixup, whose tables are not filled yet.
     ///
     /// # Errors
     ///
-    /// `AllocError`, where a growth of memory was refused. The windows are those of no fixup then.
+    /// `AllocError`, if an allocation failed. The windows then belong to no fixup.
     pub fn pass(&mut self, known: SolvedSuffix<'_>, at: FixupState<'_>) -> Result<(), AllocError>
         requires at { AtOf known at }
         requires ends { EndsAt known at.others.now at.others.now self.old }
@@ -127,7 +127,7 @@ impl RunEnds {
         }
     }
 
-    /// Brings the windows to a fixup that only begin at one with a section.
+    /// Moves the windows of runs that begin only at a fixup with a section.
     fn pass_section(
         &mut self,
         known: SolvedSuffix<'_>,
@@ -177,8 +177,8 @@ impl RunEnds {
         Ok(())
     }
 
-    /// What lies right behind the pair of a fixup and the next, and a word further on, where the registers hold
-    /// their sections.
+    /// Returns the extensions right after the pair of a fixup and the next one, and one word further on. The
+    /// registers hold the two sections.
     fn behind_pair(&self, known: SolvedSuffix<'_>, at: FixupState<'_>) -> (u32, u32)
         requires at { AtOf known at }
         requires ends { EndsAt known at.others.now at.others.now self.now }
@@ -195,7 +195,7 @@ impl RunEnds {
         }
     }
 
-    /// The lesser of a value and of what a run leads to that begins at the fixup, in halfwords.
+    /// Returns the lesser of a value and the least value of a run that begins at the fixup, in halfwords.
     pub fn low_of_run(
         &self,
         known: SolvedSuffix<'_>,
@@ -217,7 +217,7 @@ impl RunEnds {
         self.window(run).best(first, place)
     }
 
-    /// The window of a run.
+    /// Returns the window of a run.
     fn window(&self, run: Run) -> &Window
         ensures { result.now ≡ window_of self.now run }
     {
@@ -231,7 +231,7 @@ impl RunEnds {
     }
 }
 
-/// The place of a pair of classes in the rows of a run's window.
+/// Returns the place of a pair of classes in the rows of a run's window.
 fn place_in(run: Run, known: SolvedSuffix<'_>, c: usize, d: usize) -> usize
     requires few { length known.registers.now ≤ most_sections }
     requires c { c < length known.registers.now + 1 }
@@ -256,7 +256,7 @@ impl AlternatingWindows {
         }
     }
 
-    /// Goes on to the fixup before, where a run may begin.
+    /// Moves the windows to the previous fixup, at which a run may begin.
     #[inline(always)]
     fn pass(
         &mut self,
@@ -280,7 +280,7 @@ impl AlternatingWindows {
     }
 }
 
-/// Brings a window to a place where a run may begin, with what lies behind its first unit.
+/// Moves a window to a place at which a run may begin. `row` has the extensions after the run's first unit.
 #[inline(always)]
 fn bring(
     window: &mut Window,
@@ -311,7 +311,8 @@ fn bring(
 }
 
 impl<'a> FixupState<'a> {
-    /// Where a run begins at the fixup. Only imports are counted.
+    /// Returns the place at which a run begins at the fixup. The register classes are 0, and the import index
+    /// is that of the fixup's import.
     fn start(self) -> PlanState<'a>
         ensures left { result.left.now ≡ self.entry.left.now }
         ensures position { result.position ≡ self.entry.first.offset }
@@ -327,7 +328,7 @@ impl<'a> FixupState<'a> {
     }
 }
 
-/// The number of an import. A section has none.
+/// Returns the number of an import, or 0 for a section.
 fn import_number(base: Base) -> u64
     ensures { result ≡ base_import base }
 {
@@ -337,7 +338,7 @@ fn import_number(base: Base) -> u64
     }
 }
 
-/// The run of words or imports that begins at a base.
+/// Returns the run of words or imports that begins at a base.
 fn words_at(base: Base) -> Run
     ensures { result ≡ words_run base }
 {
@@ -347,7 +348,7 @@ fn words_at(base: Base) -> Run
     }
 }
 
-/// The run of pairs that may begin at a fixup.
+/// Returns the run of pairs that may begin at a fixup.
 fn pairs_at(at: FixupState<'_>) -> Option<Run>
     ensures { result ≡ pairs_run (sections_of at.entry.first.base at.entry.others.now) }
 {
@@ -355,7 +356,7 @@ fn pairs_at(at: FixupState<'_>) -> Option<Run>
     Some(Run::Pairs { first, second })
 }
 
-/// The run of pairs a word apart that may begin at a fixup.
+/// Returns the run of pairs a word apart that may begin at a fixup.
 fn far_pairs_at(at: FixupState<'_>) -> Option<Run>
     ensures { result ≡ far_pairs_run (sections_of at.entry.first.base at.entry.others.now) }
 {
@@ -363,7 +364,7 @@ fn far_pairs_at(at: FixupState<'_>) -> Option<Run>
     Some(Run::SpacedPairs { first, second })
 }
 
-/// The sections of a fixup and of the next.
+/// Returns the sections of a fixup and the next one, if both have one.
 fn sections_at(at: FixupState<'_>) -> Option<(u32, u32)>
     ensures { result ≡ sections_of at.entry.first.base at.entry.others.now }
 {

@@ -15,10 +15,10 @@ use crate::runs::suffix::SolvedSuffix;
 use pef_cert::{WORD, behind_first, behind_import};
 use pef_reloc::{Base, Fixup, Instr};
 
-/// The most words, pairs or imports of a run.
+/// The maximum number of words, pairs or imports in a run.
 pub(crate) const MAX_RUN: u32 = 512;
 
-/// The most words that a skip adds to.
+/// The maximum number of words that a skip adds to.
 pub(crate) const MAX_SKIP_RUN: u32 = 63;
 
 /// A run of additions that one instruction makes.
@@ -28,20 +28,20 @@ pub enum Run {
     WordsOfC(u32),
     /// Words of a section that register D holds.
     WordsOfD(u32),
-    /// Words of a section that register D holds, a word apart.
+    /// Words of a section that register D holds. They are a word apart.
     Spaced(u32),
     /// Pairs of two sections that the registers hold.
     Pairs { first: u32, second: u32 },
-    /// Such pairs, a word apart.
+    /// Such pairs that are a word apart.
     SpacedPairs { first: u32, second: u32 },
-    /// Imports from the next one on.
+    /// Consecutive imports, beginning with the next one.
     Imports,
-    /// Words of a section that register D holds, behind so many that are passed.
+    /// Words of a section that register D holds, after a number of words that are skipped.
     Skip { words: u32, section: u32 },
 }
 
 impl Run {
-    /// How many bytes it moves on for each unit.
+    /// Returns the number of bytes that each unit advances.
     fn stride(self) -> u64
         ensures { result ≡ stride self }
     {
@@ -52,7 +52,7 @@ impl Run {
         }
     }
 
-    /// How many imports it moves on for each unit.
+    /// Returns the number of imports that each unit advances.
     fn imports(self) -> u64
         ensures { result ≡ imports self }
     {
@@ -62,7 +62,7 @@ impl Run {
         }
     }
 
-    /// How many units it can have.
+    /// Returns the maximum number of units.
     fn limit(self) -> u32
         ensures { result ≡ limit self }
     {
@@ -72,7 +72,7 @@ impl Run {
         }
     }
 
-    /// The instruction of so many units.
+    /// Returns the instruction that adds `count` units.
     fn instr(self, count: u32) -> Instr
         ensures { result ≡ run_instr self count }
     {
@@ -87,9 +87,9 @@ impl Run {
         }
     }
 
-    /// The place behind one unit.
+    /// Returns the place after one unit, if the fixups begin with it.
     ///
-    /// Inlined where the kind of run is known, so that only its own test is left.
+    /// If the kind of run is known, inlining leaves only the test of that kind.
     #[inline(always)]
     pub(crate) fn next<'a>(self, place: PlanState<'a>) -> Option<PlanState<'a>>
         requires position { place.position < 2 ^ 60 }
@@ -107,7 +107,8 @@ impl Run {
         })
     }
 
-    /// What is left of fixups behind one unit at a position, with the next import.
+    /// Returns the fixups after one unit, if they begin with it. The unit is at a position, and `import` is the
+    /// next import.
     #[inline(always)]
     fn behind<'a>(self, fixups: &'a [Fixup], position: u64, import: u64) -> Option<&'a [Fixup]>
         requires position { position < 2 ^ 60 }
@@ -130,8 +131,8 @@ impl Run {
 }
 
 impl<'a> SolvedSuffix<'a> {
-    /// The better of a choice and of the best end of a run that begins at a position, in bytes. It follows the
-    /// run unit by unit.
+    /// Returns the better of a choice and the best end of a run. The run begins at the position `from`, in
+    /// bytes, and is followed unit by unit.
     pub fn best_of_run(
         self,
         here: OpenState<'a>,
@@ -166,7 +167,7 @@ impl<'a> SolvedSuffix<'a> {
         best
     }
 
-    /// The better of a choice and of a step of one halfword.
+    /// Returns the better of a choice and a step of one halfword.
     fn better(self, here: OpenState<'a>, best: Choice<'a>, step: Step<'a>) -> Choice<'a>
         requires here { HereOf self here }
         requires best { Chosen self here best }

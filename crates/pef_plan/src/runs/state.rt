@@ -4,7 +4,7 @@ use pef_reloc::{Fixup, Instr};
 #[derive(Clone, Copy)]
 pub struct PlanState<'a> {
     pub left: &'a [Fixup],
-    /// In bytes.
+    /// The position in bytes.
     pub position: u64,
     /// The number of the next import.
     pub import_index: u64,
@@ -14,7 +14,7 @@ pub struct PlanState<'a> {
     pub d: usize,
 }
 
-/// A state where fixups are left: the first of them, and those behind it.
+/// A state with at least one fixup left: the first one, and the others after it.
 #[derive(Clone, Copy)]
 pub struct OpenState<'a> {
     pub place: PlanState<'a>,
@@ -22,24 +22,24 @@ pub struct OpenState<'a> {
     pub others: &'a [Fixup],
 }
 
-/// A state at a fixup, but for the registers.
+/// A state at a fixup without the registers.
 #[derive(Clone, Copy)]
 pub struct FixupState<'a> {
     pub left: &'a [Fixup],
     pub first: Fixup,
-    /// The fixups behind it.
+    /// The fixups after the first.
     pub others: &'a [Fixup],
     pub import_index: u64,
 }
 
-/// An instruction, and where it leads to.
+/// An instruction, and the place after it.
 #[derive(Clone, Copy)]
 pub struct Step<'a> {
     pub instr: Instr,
     pub next: PlanState<'a>,
 }
 
-/// A step, and how many halfwords there are from before it to the end.
+/// A step, and the number of halfwords from its start to the end of the program.
 #[derive(Clone, Copy)]
 pub struct Choice<'a> {
     pub step: Step<'a>,

@@ -14,24 +14,25 @@ use crate::windows::{Looks, Table};
 use pef_cert::{LabelRows, WORD, class_of};
 use pef_reloc::{Base, Fixup};
 
-/// What is known of the states at some fixups: tables that are filled from the last fixup back. Numbers
-/// of a table are in halfwords.
+/// Tables of the values at the fixups that are solved so far. They are filled from the last fixup to the first.
+/// Their numbers are in halfwords.
 #[derive(Clone, Copy)]
 pub struct SolvedSuffix<'a> {
-    /// The sections that the fixups use, rising. A section's class is its place among them; all others are
-    /// of the class behind.
+    /// The sections that the fixups use, in rising order. A section's class is its index in this list. All
+    /// other sections have the class after the last index.
     pub registers: &'a [u32],
-    /// The labels, by how many fixups are left: rows by the class of register C, and in it by that of D.
+    /// The labels, in one row for each number of fixups left. A row is ordered by the class of register C, then
+    /// by that of D.
     pub labels: &'a LabelRows,
-    /// The least that a skip at the next fixup leads to, by how many fixups are left and by the class of
-    /// register C.
+    /// The least value of a skip to the next fixup, by the number of fixups left and by the class of register
+    /// C.
     pub skips: &'a Table,
-    /// Counts how often a value is read.
+    /// The counter of value reads.
     pub looks: Looks<'a>,
 }
 
 impl<'a> SolvedSuffix<'a> {
-    /// How many classes of sections there are: one more than the registers.
+    /// Returns the number of classes of sections, one more than the number of `registers`.
     pub fn classes(self) -> usize
         requires { length self.registers.now ≤ most_sections }
         ensures { result ≡ length self.entry.registers.now + 1 }
@@ -39,7 +40,7 @@ impl<'a> SolvedSuffix<'a> {
         self.registers.len() + 1
     }
 
-    /// The place of a class of C and a class of D in a row.
+    /// Returns the place of a class of C and a class of D in a row.
     #[inline(always)]
     pub fn place(self, c: usize, d: usize) -> usize
         requires few { length self.registers.now ≤ most_sections }
@@ -51,7 +52,7 @@ impl<'a> SolvedSuffix<'a> {
         c * self.classes() + d
     }
 
-    /// The labels where so many fixups are left.
+    /// Returns the labels for a number of fixups left.
     #[inline(always)]
     pub fn row(self, left: usize) -> &'a [u32]
         requires { Shaped self left }
@@ -60,8 +61,8 @@ impl<'a> SolvedSuffix<'a> {
         self.labels.row(left)
     }
 
-    /// The extension in halfwords where these fixups are left, at a position in bytes and in classes of the
-    /// registers. Each reading is a look.
+    /// Returns the extension, in halfwords, for the fixups that are left, a position in bytes and the
+    /// registers' classes. Each call counts as one look.
     #[inline(always)]
     pub fn value(self, rest: &[Fixup], position: u64, c: usize, d: usize) -> u64
         requires shaped { Shaped self (length rest.now) }
@@ -73,7 +74,7 @@ impl<'a> SolvedSuffix<'a> {
         self.value_in(self.row(rest.len()), rest, position, c, d)
     }
 
-    /// The same from the labels where these are left.
+    /// Returns the same from the labels for these fixups.
     #[inline(always)]
     pub fn value_in(self, row: &'a [u32], rest: &[Fixup], position: u64, c: usize, d: usize) -> u64
         requires row { IsRow self (length rest.now) row.now }
@@ -94,7 +95,7 @@ impl<'a> SolvedSuffix<'a> {
         }
     }
 
-    /// The first of these fixups, from a position.
+    /// Returns the first of these fixups, seen from a position.
     #[inline(always)]
     fn ahead(self, row: &'a [u32], rest: &[Fixup], position: u64) -> Option<NextFixup<'a>>
         requires row { IsRow self (length rest.now) row.now }
@@ -110,7 +111,7 @@ impl<'a> SolvedSuffix<'a> {
         })
     }
 
-    /// The class of a base's section. An import has none.
+    /// Returns the class of a base's section. An import has none.
     #[inline(always)]
     fn class_ahead(self, base: Base) -> Option<usize>
         ensures { result ≡ class_ahead self.entry.registers.now base }
@@ -121,7 +122,7 @@ impl<'a> SolvedSuffix<'a> {
         }
     }
 
-    /// Fills in the extension right behind a fixup, for each pair of classes.
+    /// Fills in the extension right after a fixup, for each pair of classes.
     pub fn fill_behind(self, at: FixupState<'_>, near: &mut [u32])
         requires at { AtOf self at }
         requires len { length near.old ≡ (length self.registers.now + 1) * (length self.registers.now + 1) }
@@ -139,7 +140,7 @@ impl<'a> SolvedSuffix<'a> {
         }
     }
 
-    /// Fills in the extension at a position where none of these fixups is, for each pair of classes.
+    /// Fills in the extension at a position that has none of these fixups, for each pair of classes.
     fn fill_values(self, row: &'a [u32], rest: &[Fixup], position: u64, values: &mut [u32])
         requires row { IsRow self (length rest.now) row.now }
         requires shaped { Shaped self (length rest.now) }
@@ -155,7 +156,7 @@ impl<'a> SolvedSuffix<'a> {
         }
     }
 
-    /// Fills in the extension a word further on where register D holds the fixup's section, by the class of C.
+    /// Fills in the extension one word further on with the fixup's section in register D, by the class of C.
     pub fn fill_beyond(self, at: FixupState<'_>, section: u32, far: &mut [u32])
         requires at { AtOf self at }
         requires base { at.first.base ≡ Section section }
@@ -174,8 +175,8 @@ impl<'a> SolvedSuffix<'a> {
         }
     }
 
-    /// Fills in the extension at a position where none of these fixups is, with register D in a class, by the
-    /// class of C.
+    /// Fills in the extension at a position that has none of these fixups. Register D is in a class, and the
+    /// numbers are by the class of C.
     fn fill_column(
         self,
         row: &'a [u32],
@@ -214,7 +215,7 @@ impl<'a> SolvedSuffix<'a> {
     }
 }
 
-/// Fills in the extension for each pair of so many classes.
+/// Fills in the extension for each pair of `classes` classes.
 fn fill_ahead(ahead: NextFixup<'_>, classes: usize, values: &mut [u32])
     requires some { 0 < classes }
     requires few { classes ≤ most_sections + 1 }
@@ -251,7 +252,7 @@ fn fill_column_ahead(ahead: NextFixup<'_>, class: usize, values: &mut [u32])
     }
 }
 
-/// Whether the first of some fixups is at a position.
+/// Returns whether the first of some fixups is at a position.
 #[inline(always)]
 fn begin_at(fixups: &[Fixup], position: u64) -> bool
     ensures { result ≡ begin_at position fixups.now }

@@ -3,7 +3,7 @@ ghost use Rattle.std.specs.Prelude.{◌≡◌, ◌+◌, ◌-◌, ◌^◌, ◌<�
 use std::alloc::{AllocError, Global};
 use std::marker::Model;
 
-/// Rows of numbers, all of one width, kept one after the other.
+/// Rows of numbers of the same width, one after the other.
 #[derive(Debug, Drop)]
 pub struct Table {
     width: usize,
@@ -24,7 +24,7 @@ impl Model for Table {
 }
 
 impl Table {
-    /// No rows, of a width.
+    /// Returns a table without rows, for rows of a width.
     pub fn new(alloc: Global, width: usize) -> Table
         ensures { result ≡ record { width = width; rows = [] } }
     {
@@ -35,7 +35,7 @@ impl Table {
         }
     }
 
-    /// How many rows there are.
+    /// Returns the number of rows.
     #[inline(always)]
     pub fn rows(&self) -> usize
         ensures { result ≡ length self.now.rows }
@@ -43,11 +43,11 @@ impl Table {
         self.rows
     }
 
-    /// Adds a row after the others.
+    /// Adds a row after the last one.
     ///
     /// # Errors
     ///
-    /// If there is no memory for the row, the rows stay as they were.
+    /// `AllocError`, if the allocation failed. The rows are unchanged then.
     #[inline(always)]
     pub fn push(&mut self, row: &[u32]) -> Result<(), AllocError>
         requires wide { length row.now ≡ self.old.width }
@@ -60,7 +60,7 @@ impl Table {
         Ok(())
     }
 
-    /// The row at an index.
+    /// Returns the row at an index.
     #[inline(always)]
     pub fn row(&self, index: usize) -> &[u32]
         requires { index < length self.now.rows }
@@ -72,7 +72,7 @@ impl Table {
         row
     }
 
-    /// The last row.
+    /// Returns the last row, if there is one.
     #[inline(always)]
     pub fn last(&self) -> Option<&[u32]>
         ensures is { MatchOption result (self.now.rows ≡ []) (λ row. slice_get self.now.rows (length self.now.rows - 1) ≡ Some row.now) }
@@ -84,7 +84,7 @@ impl Table {
         Some(self.row(self.rows - 1))
     }
 
-    /// Takes the last row away.
+    /// Removes the last row.
     #[inline(always)]
     pub fn pop(&mut self)
         ensures { self.new ≡ record { width = self.old.width; rows = take (length self.old.rows - 1) self.old.rows } }
@@ -95,7 +95,7 @@ impl Table {
         }
     }
 
-    /// Takes all rows away.
+    /// Removes all rows.
     #[inline(always)]
     pub fn clear(&mut self)
         ensures { self.new ≡ record { width = self.old.width; rows = [] } }
@@ -105,11 +105,11 @@ impl Table {
     }
 }
 
-/// So many zeros.
+/// Returns `count` zeros.
 ///
 /// # Errors
 ///
-/// There is no memory for them.
+/// `AllocError`, if the allocation failed.
 pub fn zeros(alloc: Global, count: usize) -> Result<Vec<u32>, AllocError>
     ensures are { IfOk result (λ numbers. numbers.items ≡ replicate count 0) }
     ensures len { IfOk result (λ numbers. length numbers.items ≡ count) }

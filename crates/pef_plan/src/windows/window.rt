@@ -6,20 +6,19 @@ use crate::windows::table::Table;
 use std::alloc::{AllocError, Global};
 use std::marker::Model;
 
-/// The newest rows of numbers, up to so many, of which the least is at hand at each place.
+/// The newest rows of numbers, up to a maximum count, with the least number at each place.
 ///
-/// They are kept in two parts. The newer rows are kept as they came. In place of each older row is the least
-/// of it and of those between it and the newer ones: so the oldest can go, and what is kept for the others
-/// stays right.
+/// The rows are kept in two parts. The newer rows are kept unchanged. In place of each older row, the minimum
+/// of it and all later older rows is kept. So the oldest row can be removed, and the other minima stay correct.
 #[derive(Debug, Drop)]
 pub struct Window {
     width: usize,
     limit: usize,
-    /// What is kept for the older rows, the oldest last.
+    /// The minima in place of the older rows, the oldest last.
     older: Table,
     /// The newer rows, the newest last.
     newer: Table,
-    /// The least of the newer rows.
+    /// The least number of the newer rows at each place.
     low: Vec<u32>,
 }
 
@@ -35,7 +34,7 @@ impl Model for Window {
 }
 
 impl Window {
-    /// A window of no rows of a width, which can have up to so many.
+    /// Returns a window without rows, for up to `limit` rows of a width.
     pub fn new(alloc: Global, width: usize, limit: usize) -> Window
         requires { 0 < limit }
         ensures { WindowOf width limit [] result }
@@ -49,7 +48,7 @@ impl Window {
         }
     }
 
-    /// Lets all rows go.
+    /// Removes all rows.
     #[inline(always)]
     pub fn clear(&mut self)
         ensures width { self.new.width ≡ self.old.width }
@@ -59,12 +58,12 @@ impl Window {
         self.newer.clear();
     }
 
-    /// Takes one more row in, and lets the oldest go if there are too many. Its numbers are looked at as it
-    /// comes, and once more as it grows old; the least that is kept is no look.
+    /// Adds a row, and removes the oldest one if there are too many. Each number of a row is looked at when the
+    /// row is added, and once more when it becomes an older row. Reading a kept minimum is no look.
     ///
     /// # Errors
     ///
-    /// There is no memory for the row. Nothing is known of the window then.
+    /// `AllocError`, if an allocation failed. The window's rows are unspecified then.
     #[inline(always)]
     pub fn add(&mut self, row: &[u32], looks: Looks<'_>) -> Result<(), AllocError>
         requires { length row.now ≡ self.old.width }
@@ -77,7 +76,7 @@ impl Window {
         Ok(())
     }
 
-    /// Lowers the least of the newer rows to that of one more.
+    /// Lowers the minimum of the newer rows to include one more row.
     #[inline(always)]
     fn lower_to(&mut self, row: &[u32]) -> Result<(), AllocError>
         requires { length row.now ≡ self.old.width }
@@ -98,7 +97,7 @@ impl Window {
         Ok(())
     }
 
-    /// Lets the oldest row go if there are as many as there can be.
+    /// Removes the oldest row if the window is full.
     #[inline(always)]
     fn make_room(&mut self, looks: Looks<'_>) -> Result<(), AllocError>
         ensures width { self.new.width ≡ self.old.width }
@@ -113,7 +112,7 @@ impl Window {
         Ok(())
     }
 
-    /// Sees to it that there are older rows, if there are rows.
+    /// Ensures that there are older rows, if there are any rows.
     fn age(&mut self, looks: Looks<'_>) -> Result<(), AllocError>
         ensures width { self.new.width ≡ self.old.width }
         ensures limit { self.new.limit ≡ self.old.limit }
@@ -127,7 +126,7 @@ impl Window {
         age_all(&mut self.older, &mut self.newer, &mut self.low, looks)
     }
 
-    /// The least of a number and of 1 more than each of the rows at a place.
+    /// Returns the least of a number and, for each row, 1 plus its number at a place.
     pub fn best(&self, first: u64, place: usize) -> u64
         requires { place < self.now.width }
         ensures { (width limit : ℕ) (rows : List (List ℕ)) → WindowOf width limit rows self.now → BestOf first rows place result }
@@ -140,7 +139,7 @@ impl Window {
         }
     }
 
-    /// The least of a number and of 1 more than each of the older rows at a place.
+    /// Returns the least of a number and, for each older row, 1 plus its number at a place.
     fn older_best(&self, first: u64, place: usize) -> u64
         requires { place < self.now.width }
         ensures { (width : ℕ) (rows : List (List ℕ)) → OlderOf width rows self.now.older → place < width → BestOf first rows place result }
@@ -152,7 +151,7 @@ impl Window {
     }
 }
 
-/// Makes newer rows older ones, the newest first. Their least so far is in `low`.
+/// Turns the newer rows into older ones, the newest first. `low` has their minimum so far.
 fn age_all(
     older: &mut Table,
     newer: &mut Table,
@@ -181,7 +180,7 @@ fn age_all(
     Ok(())
 }
 
-/// Lowers each number to that of a row, if it is less.
+/// Lowers each number to the one of a row, if that is less.
 fn lower(low: &mut [u32], row: &[u32])
     requires { length row.now ≡ length low.old }
     ensures len { length low.new ≡ length low.old }

@@ -1,4 +1,4 @@
--- The next fixup from a position that isn't its own: how far ahead it is, and what is known there.
+-- The next fixup, seen from a position that isn't its own: its distance and its table rows.
 use Rattle.std.specs.Prelude.{◌≡◌, ℕ, ◌+◌, ◌-◌, List, [], ◌∷◌, Option, None, Some, length, slice_index, slice_index_or}
 use Rattle.pef_reloc.specs.declared.fixup.Base.{Base}
 use Rattle.pef_reloc.specs.declared.fixup.Base.TheVariants.{Import, Section}
@@ -19,11 +19,11 @@ abbrev pub offer_ahead : Option ℕ → List ℕ → ℕ → ℕ → Option ℕ
 offer_ahead None skips c d = None
 offer_ahead (Some class) skips c d = Some (change d class + slice_index skips c)
 
--- the extension in two classes of so many
+-- the extension in two of so many classes
 abbrev pub value_ahead : ℕ → NextFixup → ℕ → ℕ → ℕ
 value_ahead classes a c d = moved_value a.bytes (number_in classes a.row.now c d) (offer_ahead a.class a.skips.now c d)
 
--- what is ahead of a position where fixups are left
+-- the next fixup, seen from a position with fixups left
 pub record IsAhead (k : SolvedSuffix) (fixups : List Fixup) (p : ℕ) (a : NextFixup) : Type 0 where
   pub first : Fixup
   pub others : List Fixup

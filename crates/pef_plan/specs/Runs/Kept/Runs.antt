@@ -1,4 +1,4 @@
--- How a run is followed, unit by unit.
+-- Runs, followed unit by unit.
 use Rattle.std.specs.Prelude.{◌≡◌, ◌≤◌, ◌⊎◌, ℕ, ◌+◌, ◌-◌, ◌*◌, List, ◌++◌}
 use Rattle.pef_reloc.specs.declared.fixup.Fixup.{Fixup}
 use Rattle.pef_cert.specs.Labels.{Labels}
@@ -11,7 +11,7 @@ use Rattle.pef_plan.specs.Runs.Places.{Chosen}
 use Rattle.pef_plan.specs.Runs.Tables.{Agrees}
 use Rattle.pef_plan.specs.Runs.Runs.{EndOf, Ends, EndsFrom, imports, limit, stride, unit, units}
 
--- a place is the one behind one unit
+-- q is the place after one unit from p
 pub record Next (r : Run) (p q : PlanState) : Type 0 where
   pub left : p.left.now ≡ unit r p.position p.import_index ++ q.left.now
   pub position : q.position ≡ p.position + stride r
@@ -19,7 +19,7 @@ pub record Next (r : Run) (p q : PlanState) : Type 0 where
   pub c : q.c ≡ p.c
   pub d : q.d ≡ p.d
 
--- a place behind so many units
+-- the place after n units
 pub record Along (r : Run) (start : PlanState) (from n : ℕ) (p : PlanState) : Type 0 where
   pub position : p.position ≡ from + stride r * n
   pub import_index : p.import_index ≡ start.import_index + imports r * n
@@ -27,7 +27,7 @@ pub record Along (r : Run) (start : PlanState) (from n : ℕ) (p : PlanState) : 
   pub d : p.d ≡ start.d
   pub behind : (j : ℕ) (left : List Fixup) → p.left.now ≡ units r j p.position p.import_index ++ left → start.left.now ≡ units r (n + j) from start.import_index ++ left
 
--- the best of a first choice and of the ends of up to so many units
+-- the best of a first choice and the ends of up to n units
 pub record SoFar (k : SolvedSuffix) (h : OpenState) (r : Run) (from n : ℕ) (p : PlanState) (first best : Choice) : Type 0 where
   pub along : Along r h.place from n p
   pub within : n ≤ limit r
