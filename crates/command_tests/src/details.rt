@@ -1,11 +1,12 @@
-//! What the explanation of a refusal says beyond its help: what more is known than the printed line says.
+//! Tests the details that the explanation of a refusal gives beyond its help and beyond the printed line.
 use std::alloc::Global;
 use std::test::Fail;
 use test_bench::changes::{At, changed};
 use test_bench::containers::{RICH, SPELLED, VECTORS_LEAST};
 use test_bench::runs::{Handed, run_explained, run_tool};
 
-/// Runs the tool, which must print this. Its explanation must be one line of help, and then this line, if it isn't empty.
+/// Runs the tool, which must print this. Its explanation must be one line of help, and then this line, if it isn't
+/// empty.
 fn assert_detail(
     alloc: Global,
     handed: Handed<'_>,
@@ -24,7 +25,7 @@ fn assert_detail(
     Ok(())
 }
 
-/// How many lines a text has.
+/// Returns the number of lines of a text.
 fn count_lines(text: &[u8]) -> usize {
     let mut count: usize = 0;
     for byte in text {
@@ -129,7 +130,7 @@ fn script_details(rt: HostRuntime) -> Result<(), Fail> {
     Ok(())
 }
 
-/// Each command that reads a script from a file knows as much.
+/// Each command that reads a script from a file gives the same detail.
 #[test]
 fn script_files(rt: HostRuntime) -> Result<(), Fail> {
     let printed = b"refused 41 BadLine line 1\n";
@@ -145,7 +146,7 @@ fn script_files(rt: HostRuntime) -> Result<(), Fail> {
     Ok(())
 }
 
-/// Damaged copies: from which place which bytes are others, what `list` prints then, and the detail.
+/// Damaged copies: the offset and the changed bytes, the text that `list` prints, and the detail.
 const LISTED: &[(&[u8], usize, &[u8], &[u8], &str)] = &[
     (VECTORS_LEAST, 0, b"j", b"refused 2 BadTag\n", ""),
     (
@@ -205,7 +206,7 @@ const LISTED: &[(&[u8], usize, &[u8], &[u8], &str)] = &[
         b"refused 18 RelocOutside\n",
         "It is at relocation header 0, counted from 0, which is for section 1.\n",
     ),
-    // a slot, two keys and two exports from 72 on
+    // a slot, two keys and two exports from offset 72 on
     (
         VECTORS_LEAST,
         215,
@@ -254,7 +255,7 @@ fn list_details(rt: HostRuntime) -> Result<(), Fail> {
     Ok(())
 }
 
-/// The same of `load`.
+/// Damaged copies: the offset and the changed bytes, the text that `load` prints, and the detail.
 const LOADED: &[(&[u8], usize, &[u8], &[u8], &str)] = &[
     (
         VECTORS_LEAST,
@@ -313,7 +314,7 @@ fn load_details(rt: HostRuntime) -> Result<(), Fail> {
     Ok(())
 }
 
-/// A library that is older than its user takes. The user's other libraries fit.
+/// A library that is older than its user accepts. The user's other libraries fit.
 #[test]
 fn load_versions(rt: HostRuntime) -> Result<(), Fail> {
     let user = b"library A 0 0 -\nlibrary L 0 0 weak\nlibrary B 5 3 -\n";

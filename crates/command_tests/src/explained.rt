@@ -1,10 +1,10 @@
-//! What explains how a run ended, on an output of its own.
+//! Tests the explanation of an outcome, on an output of its own.
 use pef_tool::FileFault;
 use std::test::Fail;
 use test_bench::runs::{Handed, assert_explains, run_explained};
 use test_bench::scripts::{EXAMPLE, EXAMPLE_SHOWN, USER, VECTORS, VECTORS_CERTIFIED};
 
-/// Words that are no line of the program, and what their explanation begins with and has.
+/// Invalid command lines, and the start and a part of their explanation.
 const USAGE: &[(&[&str], &[u8], &str)] = &[
     (&[], b"error: 'pef' requires a subcommand", "\n  link "),
     (
@@ -144,7 +144,7 @@ fn refusals(rt: HostRuntime) -> Result<(), Fail> {
     Ok(())
 }
 
-/// Runs that are done, and a `check` that says no, aren't explained. An output that failed is.
+/// Runs that are done, and a `check` that answers no, aren't explained. An output that failed is explained.
 #[test]
 fn done(rt: HostRuntime) -> Result<(), Fail> {
     let show = Handed::input(&["show"], EXAMPLE);

@@ -20,7 +20,8 @@ fn show_output_fails(rt: HostRuntime) -> Result<(), Fail> {
     assert_cut_output(rt.alloc(), show, EXAMPLE_SHOWN)
 }
 
-/// An output that takes a byte a call, and fails at call k: k - 1 bytes go out, and the container is whole.
+/// An output that takes one byte a call and fails at call k: k - 1 bytes are written, and the whole container was
+/// written before.
 #[test]
 fn link_output_fails(rt: HostRuntime) -> Result<(), Fail> {
     for k in 1..=VECTORS_LINKED.len() {
@@ -41,7 +42,7 @@ fn load_output_fails(rt: HostRuntime) -> Result<(), Fail> {
     assert_cut_output(rt.alloc(), handed, VECTORS_LOADED)
 }
 
-/// Short answers go out by one write, and where it fails there is nothing.
+/// Short answers are written by one call. If it fails, nothing is written.
 #[test]
 fn only_write_fails(rt: HostRuntime) -> Result<(), Fail> {
     let checked = b"section 0 yes 0\nsection 1 yes 1\n".as_slice();
@@ -68,7 +69,7 @@ fn only_write_fails(rt: HostRuntime) -> Result<(), Fail> {
     Ok(())
 }
 
-/// The container is whole before the only write fails.
+/// The whole container is written before the only write fails.
 #[test]
 fn link_writes_first(rt: HostRuntime) -> Result<(), Fail> {
     let handed = Handed {
@@ -81,7 +82,7 @@ fn link_writes_first(rt: HostRuntime) -> Result<(), Fail> {
     Ok(())
 }
 
-/// What `show` prints of a section of 20,000 zero bytes.
+/// Returns the text that `show` prints of a section of 20,000 zero bytes.
 fn shown_zeros(alloc: Global) -> Result<String, Fail> {
     let mut text = String::from_str(alloc, "fragment it\nsection 0 at 00010000 size 20000\n")?;
     for row in 0..1250u32 {
@@ -91,7 +92,7 @@ fn shown_zeros(alloc: Global) -> Result<String, Fail> {
     Ok(text)
 }
 
-/// A long answer goes out by several writes.
+/// A long answer is written by several calls.
 #[test]
 fn each_write_fails(rt: HostRuntime) -> Result<(), Fail> {
     let shown = shown_zeros(rt.alloc())?;
@@ -100,7 +101,7 @@ fn each_write_fails(rt: HostRuntime) -> Result<(), Fail> {
     Ok(())
 }
 
-/// An input that gives seven bytes a call, and fails at call k: it isn't read on, though it would go on.
+/// An input that gives seven bytes a call and fails at call k. It isn't read after that, though it would continue.
 #[test]
 fn input_fails(rt: HostRuntime) -> Result<(), Fail> {
     for k in 1..=EXAMPLE.len() / 7 + 1 {
@@ -116,7 +117,7 @@ fn input_fails(rt: HostRuntime) -> Result<(), Fail> {
     Ok(())
 }
 
-/// Inputs that are read with a limit, and what is answered.
+/// Inputs that are read with a limit, and the answer to each.
 #[test]
 fn input_with_limit(rt: HostRuntime) {
     let rows: [(&[u8], u32, usize, Result<usize, InputFault>); 6] = [
@@ -134,7 +135,7 @@ fn input_with_limit(rt: HostRuntime) {
     }
 }
 
-/// Files that fail at a call, or have no memory for it: what `link` prints, and which calls it made.
+/// Files that fail at a call, or whose allocation fails at it: the text that `link` prints, and the calls that it made.
 const FAILING: &[(u32, FileFault, &[u8], (u64, u64))] = &[
     (
         1,

@@ -1,5 +1,5 @@
-//! Tests of the commands through `run`, and of what explains how a run ended, over files, an input and an output in memory. Those of `distances` and `check`
-//! stand in a crate of their own, but for the memory that is refused to them.
+//! Tests of the commands through `run`, and of the explanations of outcomes, over files, an input and an output in
+//! memory. The tests of `distances` and `check` are in a crate of their own, except those of failed allocations.
 //!
 //! Expected values come from the documents and from worked examples, never from the program.
 #![tactic(auto)]

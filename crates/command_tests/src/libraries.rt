@@ -1,7 +1,7 @@
 use std::test::Fail;
 use test_bench::runs::{Handed, assert_cut_output, assert_prints, assert_shows};
 
-/// Scripts with libraries, of which `it` is the script itself: what `show` prints of them, and its status.
+/// Scripts with libraries, of which `it` is the script itself: the text that `show` prints of them, and its status.
 const LIBRARIES: &[(&[u8], &[u8], u8)] = &[
     (
         b"versions 1 0 0\nlibrary it 1 0 -\nimport u data strong\nsection m data process 4 4\nbytes m 00000001\nfix m 0 import u\nexport u data m 0\n",
@@ -13,13 +13,13 @@ const LIBRARIES: &[(&[u8], &[u8], u8)] = &[
         b"refused 66 InitLoop in it\n",
         1,
     ),
-    // an export in the first section, and one at the end of the second; the first word wraps
+    // an export in the first section, and one at the end of the second, and a first word that wraps
     (
         b"library it 0 0 weak\nimport a data strong\nimport b code weak\nsection c code process 4 20\nsection d data process 4 8\nbytes d FFFFFFFF00000002\nfix d 0 import b\nfix d 4 import a\nexport a data d 8\nexport b code c 4\nmain d 0\n",
         b"fragment it\nsection 0 at 00010000 size 20\n00010000 00000000 00000000 00000000 00000000\n00010010 00000000\nsection 1 at 00010020 size 8\n00010020 00010003 0001002A\nmain 00010020\n",
         0,
     ),
-    // a library without imports, and one that is absent and to be initialized before
+    // a library without imports, and one that is absent, weak and initialized first
     (
         b"library it 0 0 -\nlibrary L 1 0 weak,before\nsection d data process 4 4\nbytes d 00000007\n",
         b"fragment it\nsection 0 at 00010000 size 4\n00010000 00000007\n",
@@ -48,7 +48,7 @@ const LIBRARIES: &[(&[u8], &[u8], u8)] = &[
         b"refused 61 LibraryMissing in it library L\n",
         1,
     ),
-    // names are escaped, and those of a fragment compare byte by byte
+    // names are escaped, and those of a fragment are compared byte by byte
     (
         b"library a%b 0 0 -\nlibrary c 0 0 before\n",
         b"refused 61 LibraryMissing in it library a%25b\n",
@@ -97,7 +97,7 @@ fn show_libraries(rt: HostRuntime) -> Result<(), Fail> {
     Ok(())
 }
 
-/// The line of a refusal with names goes out byte by byte, or a front of it up to the call that fails.
+/// The line of a refusal with names is written byte by byte, or a prefix of it up to the call that fails.
 #[test]
 fn refusal_fails(rt: HostRuntime) -> Result<(), Fail> {
     let script = b"library it 0 0 -\nimport a%b data strong\n";

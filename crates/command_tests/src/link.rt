@@ -10,10 +10,10 @@ use test_bench::scripts::{
     VECTORS, VECTORS_LINKED,
 };
 
-/// Scripts, where their container goes, what `link` prints of them, and the container.
+/// Scripts, the paths of their containers, the text that `link` prints of them, and the container.
 const LINKS: &[(&[u8], &str, &[u8], Option<&[u8]>)] = &[
     (VECTORS, "out", VECTORS_LINKED, Some(VECTORS_LEAST)),
-    // over the script itself
+    // the container replaces the script itself
     (VECTORS, "a", VECTORS_LINKED, Some(VECTORS_LEAST)),
     (b"", "out", b"linked 140 bytes\n", Some(EMPTY_CONTAINER)),
     (
@@ -36,7 +36,7 @@ fn link(rt: HostRuntime) -> Result<(), Fail> {
     Ok(())
 }
 
-/// Nothing is taken from the input.
+/// Nothing is read from the input.
 #[test]
 fn link_leaves_the_input(rt: HostRuntime) -> Result<(), Fail> {
     let words = ["link", "a", "out"];
@@ -49,7 +49,7 @@ fn link_leaves_the_input(rt: HostRuntime) -> Result<(), Fail> {
     Ok(())
 }
 
-/// Tests a container but for its program, which is one of several of the same length.
+/// Tests a container except for its program, which is one of several of the same length.
 fn test_example(rt: &impl Abort, alloc: Global, papers: &Papers) -> Result<(), Fail> {
     let written = papers.bytes(b"out").ok_or("no container")?;
     let same = changed(alloc, written, At::Front(180), EXAMPLE_PROGRAM).ok_or("no such place")?;
@@ -57,7 +57,7 @@ fn test_example(rt: &impl Abort, alloc: Global, papers: &Papers) -> Result<(), F
     Ok(())
 }
 
-/// A container, and what `load` prints of it.
+/// A container, and the text that `load` prints of it.
 #[test]
 fn link_example(rt: HostRuntime) -> Result<(), Fail> {
     let words = ["link", "a", "out"];
@@ -89,7 +89,7 @@ const REFUSED: &[(&str, &[u8], &[u8])] = &[
     ),
 ];
 
-/// Where `link` refuses, nothing is written.
+/// If `link` is refused, nothing is written.
 #[test]
 fn link_refused(rt: HostRuntime) -> Result<(), Fail> {
     for row in REFUSED {

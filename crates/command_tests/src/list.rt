@@ -5,7 +5,7 @@ use test_bench::containers::{RICH, VECTORS_LEAST};
 use test_bench::runs::{Handed, assert_cut_output, assert_prints, assert_unreadable, run_tool};
 use test_bench::scripts::EMPTY_CONTAINER;
 
-/// Containers, and what `list` prints of them.
+/// Containers, and the text that `list` prints of them.
 #[test]
 fn list(rt: HostRuntime) -> Result<(), Fail> {
     let rows: [(&[u8], &[u8]); 3] = [
@@ -25,7 +25,7 @@ fn list(rt: HostRuntime) -> Result<(), Fail> {
     Ok(())
 }
 
-/// A container that was linked, with its export made a re-export of its import.
+/// Returns a linked container whose export is changed to a re-export of its import.
 #[test]
 fn list_reexport(rt: HostRuntime) -> Result<(), Fail> {
     let script =
@@ -46,7 +46,7 @@ fn list_reexport(rt: HostRuntime) -> Result<(), Fail> {
     Ok(())
 }
 
-/// Damaged copies: from which place which bytes are others, and the only line that is printed then.
+/// Damaged copies: the offset and the changed bytes, and the only line that is printed then.
 const DAMAGED: &[(&[u8], usize, &[u8], &[u8])] = &[
     (VECTORS_LEAST, 32, b"\xFF", b"refused 1 TooShort\n"),
     (VECTORS_LEAST, 0, b"j", b"refused 2 BadTag\n"),

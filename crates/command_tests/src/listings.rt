@@ -1,4 +1,4 @@
-//! What is listed of containers that are spelled by hand.
+//! The listings of containers that are written by hand.
 
 /// The listing of the container of the script with two transition vectors.
 pub const VECTORS_LISTED: &[u8] = b"\
@@ -12,7 +12,7 @@ reloc section 1 halfwords 1
 export go class 2 section 1 value 00000000
 ";
 
-/// The listing of the container that has what `link` doesn't write.
+/// The listing of the container with parts that `link` doesn't write.
 pub const RICH_LISTED: &[u8] = b"\
 container current 7 olddef 5 oldimp 6 date 2592832621
 section 0 kind 0 share 4 align 4 total 16 unpacked 16 packed 16 default 00000000 name %2D

@@ -7,7 +7,7 @@ use test_bench::ports::Papers;
 use test_bench::runs::{assert_prints_over, put_file, put_linked, run_over};
 use test_bench::scripts::{LIBRARY, USER};
 
-/// Scripts, and the paths at which their containers lie.
+/// Scripts, and the paths of their containers.
 const SCRIPTS: &[(&str, &str)] = &[
     ("user", USER),
     ("library", LIBRARY),
@@ -46,7 +46,7 @@ const SCRIPTS: &[(&str, &str)] = &[
     ("new", "library L 0 0 -\n"),
     ("grown", "versions 5 3 0\n"),
     ("odd-name", "library a%b 0 0 -\n"),
-    // the library is placed first, and initialized behind the fragment that needs it
+    // the library is placed first, and initialized after the fragment that needs it
     (
         "first",
         "library L 0 0 -\nsection a data process 4 16\nmain a 4\ninit a 0\nterm a 8\n",
@@ -57,14 +57,14 @@ const SCRIPTS: &[(&str, &str)] = &[
     ),
 ];
 
-/// What `load x=` prints of the container of the script with two transition vectors.
+/// The text that `load x=` prints of the container of the script with two transition vectors.
 pub(crate) const VECTORS_LOADED: &[u8] =
     b"fragment x\nsection 0 at 00010000 size 8\n00010000 00112233 44556677\nsection 1 at 00010010 size 16\n00010010 00010000 00010010 00010004 00010010\nmain 00010010\n";
 
-/// Containers of libraries and of fragments that need them: what `load` prints of them, and its status.
+/// Containers of libraries and of fragments that need them: the text that `load` prints of them, and its status.
 const LOADS: &[(&[&str], &[u8], u8)] = &[
     (&["load", "x=vectors"], VECTORS_LOADED, 0),
-    // a fragment that none needs isn't prepared; a file that is no container may be one
+    // a fragment that no other needs isn't prepared, so a file that isn't a container may be given for one
     (
         &["load", "A=user", "B=user", "C=text", "L=library"],
         b"fragment L\nsection 0 at 00010000 size 4\n00010000 0000002A\nfragment A\nsection 0 at 00010010 size 4\n00010010 00010000\n",
@@ -80,13 +80,13 @@ const LOADS: &[(&[&str], &[u8], u8)] = &[
         b"fragment L\nsection 0 at 00010000 size 4\n00010000 0001002A\n",
         0,
     ),
-    // a library that passes on what another one has, beside what it has itself
+    // a library that re-exports the exports of another, beside its own
     (
         &["load", "A=layered", "P=layer", "L=library"],
         b"fragment L\nsection 0 at 00010000 size 4\n00010000 0000002A\nfragment P\nsection 0 at 00010010 size 4\n00010010 00000000\nfragment A\nsection 0 at 00010020 size 8\n00010020 00010014 00010000\n",
         0,
     ),
-    // a stub of absolute values, also where it is passed on
+    // a stub of absolute values, also if it is re-exported
     (
         &["load", "A=user", "L=stub"],
         b"fragment L\nfragment A\nsection 0 at 00010000 size 4\n00010000 000040B0\n",
@@ -142,13 +142,13 @@ const LOADS: &[(&[&str], &[u8], u8)] = &[
         b"fragment L\nsection 0 at 00010000 size 16\n00010000 00000000 00000000 00000000 00000000\nfragment A\nsection 0 at 00010010 size 16\n00010010 00000000 00000000 00000000 00000000\ninit A 00010010\ninit L 00010004\nmain 00010014\nterm L 0001000C\nterm A 00010018\n",
         0,
     ),
-    // the same fragments, of which the other is the root
+    // the same fragments, with the other as the root
     (
         &["load", "L=second", "A=first"],
         b"fragment A\nsection 0 at 00010000 size 16\n00010000 00000000 00000000 00000000 00000000\nfragment L\nsection 0 at 00010010 size 16\n00010010 00000000 00000000 00000000 00000000\ninit A 00010000\ninit L 00010014\nmain 00010010\nterm L 0001001C\nterm A 00010008\n",
         0,
     ),
-    // names are escaped; a path may have a `=`
+    // names are escaped, and a path may contain a `=`
     (
         &["load", "a b=odd-name", "a%b=x=y"],
         b"fragment a%25b\nfragment a%20b\n",
@@ -159,7 +159,7 @@ const LOADS: &[(&[&str], &[u8], u8)] = &[
         b"refused 61 LibraryMissing in a%20b library a%25b\n",
         1,
     ),
-    // of pairs with one name the first counts, and all files are read
+    // if two pairs have the same name, the first is used, and all files are read
     (
         &["load", "A=user", "L=library", "L=fixed", "A=old"],
         b"fragment L\nsection 0 at 00010000 size 4\n00010000 0000002A\nfragment A\nsection 0 at 00010010 size 4\n00010010 00010000\n",
@@ -178,13 +178,13 @@ const LOADS: &[(&[&str], &[u8], u8)] = &[
     (&["load", "x="], b"refused 71 FileUnreadable \n", 1),
     (&["load", "x=a b"], b"refused 71 FileUnreadable a%20b\n", 1),
     (&["load", "x=text"], b"refused 1 TooShort in x\n", 1),
-    // also a weak library that can't be read is refused
+    // a weak library that can't be read is refused too
     (
         &["load", "A=weak-library", "L=text"],
         b"refused 1 TooShort in L\n",
         1,
     ),
-    // a relocation header of more halfwords than the program has: the second names section 367
+    // a relocation header with more halfwords than the program has: the second names section 367
     (
         &["load", "x=longer"],
         b"refused 39 SectionOutside in x\n",
@@ -193,7 +193,7 @@ const LOADS: &[(&[&str], &[u8], u8)] = &[
     (&["load", "x=vectors", "y"], b"usage\n", 2),
 ];
 
-/// Puts the containers of the scripts, and other files.
+/// Puts the containers of the scripts, and other files, at their paths.
 fn put_files(alloc: Global, papers: &mut Papers) -> Result<(), Fail> {
     for (path, script) in SCRIPTS {
         put_linked(alloc, papers, path, script.as_bytes())?;
@@ -220,7 +220,7 @@ fn load(rt: HostRuntime) -> Result<(), Fail> {
     test_loads(rt.alloc(), &mut papers)
 }
 
-/// A call that reads a file fails, or memory is refused to it: what is printed, and how many reads there were.
+/// A call that reads a file fails, or its allocation fails: the text that is printed, and the number of reads.
 const FAILING: &[(u32, FileFault, &[u8], u64)] = &[
     (1, FileFault::Failed, b"refused 71 FileUnreadable a\n", 1),
     (2, FileFault::Failed, b"refused 71 FileUnreadable b\n", 2),
@@ -230,7 +230,7 @@ const FAILING: &[(u32, FileFault, &[u8], u64)] = &[
     (3, FileFault::OutOfMemory, b"refused 99 OutOfMemory\n", 3),
 ];
 
-/// Loads three files of which one isn't read, and tells the calls of reads and of writes.
+/// Loads three files, of which one isn't read, and returns the numbers of read and write calls.
 fn calls_of(alloc: Global, papers: &mut Papers, printed: &[u8]) -> Result<(u64, u64), Fail> {
     for path in ["a", "b", "c"] {
         put_file(papers, path, VECTORS_LEAST)?;
@@ -239,7 +239,7 @@ fn calls_of(alloc: Global, papers: &mut Papers, printed: &[u8]) -> Result<(u64, 
     Ok(papers.calls())
 }
 
-/// No file behind one that isn't read is read.
+/// No file after one that isn't read is read.
 #[test]
 fn load_files_fail(rt: HostRuntime) -> Result<(), Fail> {
     for row in FAILING {
@@ -251,7 +251,7 @@ fn load_files_fail(rt: HostRuntime) -> Result<(), Fail> {
     Ok(())
 }
 
-/// The words that load a file so many times.
+/// Returns the words that load a file this many times.
 fn words_of(alloc: Global, count: usize) -> Result<Vec<&'static str>, AllocError> {
     let mut words = Vec::new(alloc);
     words.push("load")?;
@@ -261,7 +261,7 @@ fn words_of(alloc: Global, count: usize) -> Result<Vec<&'static str>, AllocError
     Ok(words)
 }
 
-/// As many files as there may be.
+/// Loads the maximum number of files.
 #[test]
 fn load_many(rt: HostRuntime) -> Result<(), Fail> {
     let mut papers = Papers::new(rt.alloc(), 0, FileFault::Failed);
@@ -273,7 +273,7 @@ fn load_many(rt: HostRuntime) -> Result<(), Fail> {
     Ok(())
 }
 
-/// With one more the words are no command.
+/// With one file more, the command line is invalid.
 #[test]
 fn load_too_many(rt: HostRuntime) -> Result<(), Fail> {
     let mut papers = Papers::new(rt.alloc(), 0, FileFault::Failed);

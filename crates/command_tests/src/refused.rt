@@ -1,5 +1,5 @@
-//! Each command where memory is refused to it. That shows where these tests are run with one growth refused after
-//! another, as by `tools/refuse-memory`.
+//! Runs each command with failing allocations. These tests show this if they are run with one allocation after another
+//! refused, as by `tools/refuse-memory`.
 
 use crate::listings::VECTORS_LISTED;
 use pef_tool::FileFault;
@@ -12,7 +12,7 @@ use test_bench::scripts::{
     EXAMPLE, EXAMPLE_SHOWN, LIBRARY, USER, VECTORS, VECTORS_CERTIFIED, VECTORS_LINKED,
 };
 
-/// A file `a`, and nothing else.
+/// Returns a file `a`, and nothing else.
 fn papers(alloc: Global, file: &[u8]) -> Result<Papers, Fail> {
     let mut papers = Papers::new(alloc, 0, FileFault::Failed);
     put_file(&mut papers, "a", file)?;
@@ -32,7 +32,7 @@ fn show(rt: HostRuntime) -> Result<(), Fail> {
     )
 }
 
-/// The container is whole, or there is none.
+/// The whole container is written, or none.
 #[test]
 fn link(rt: HostRuntime) -> Result<(), Fail> {
     let mut papers = papers(rt.alloc(), VECTORS)?;

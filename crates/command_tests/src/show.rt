@@ -2,7 +2,7 @@ use std::test::Fail;
 use test_bench::runs::assert_shows;
 use test_bench::scripts::{EXAMPLE, EXAMPLE_SHOWN, VECTORS};
 
-/// Scripts on the input, what `show` prints of them, and its status.
+/// Scripts on the input, the text that `show` prints of them, and its status.
 const SHOWN: &[(&[u8], &[u8], u8)] = &[
     (EXAMPLE, EXAMPLE_SHOWN, 0),
     (b"", b"fragment it\n", 0),
@@ -26,7 +26,7 @@ const SHOWN: &[(&[u8], &[u8], u8)] = &[
         b"fragment it\nsection 0 at 00010000 size 8\n00010000 0000FFFF 00010011\nsection 1 at 00010010 size 4\n00010010 00010002\n",
         0,
     ),
-    // the image is packed where it is linked, and is the same in memory
+    // the image is packed by the linker, and is the same in memory
     (
         b"section d pattern process 4 16\nbytes d 11223344000000080102\nfix d 4 section d\nfix d 12 section d\n",
         b"fragment it\nsection 0 at 00010000 size 16\n00010000 11223344 00010008 01020000 00010000\n",

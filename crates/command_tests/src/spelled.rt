@@ -8,8 +8,8 @@ use test_bench::containers::{SPELLED, TWICE};
 use test_bench::ports::Papers;
 use test_bench::runs::{assert_prints_over, put_file, put_linked};
 
-/// A library that is spelled by hand: with a plain section, with three bytes of pattern-initialized data (byte
-/// 7F ten times), and with two relocation headers.
+/// A library that is written by hand, with a plain section, three bytes of pattern-initialized data (byte 7F ten
+/// times), and two relocation headers.
 #[derive(Clone, Copy)]
 enum Library {
     Plain,
@@ -17,7 +17,8 @@ enum Library {
     Twice,
 }
 
-/// Such libraries, each with other bytes from a place on, and what `load` prints of a fragment that needs it.
+/// Such libraries, each with changed bytes from an offset on, and the text that `load` prints of a fragment that needs
+/// it.
 const SPELLED_ROWS: &[(Library, usize, &[u8], &[u8])] = &[
     (
         Library::Plain,
@@ -108,14 +109,14 @@ const SPELLED_ROWS: &[(Library, usize, &[u8], &[u8])] = &[
         b"\x0F\xFF\x00\x01",
         b"refused 67 NoRoom in P\n",
     ),
-    // a repeat that runs one addition three further times
+    // a repeat that runs one addition three more times
     (
         Library::Plain,
         180,
         b"\x40\x00\x90\x02\x80\x00\x80\x00\x80\x00\x80\x00",
         b"fragment P\nsection 0 at 00010000 size 16\n00010000 2100FFFF FF800102 03050000 00010000\nfragment A\n",
     ),
-    // raw data that is longer than the image: what is behind the image isn't read
+    // raw data that is longer than the image: the bytes after the image aren't read
     (
         Library::Plain,
         55,
@@ -152,7 +153,7 @@ fn packed(alloc: Global) -> Result<Vec<u8>, Fail> {
     Ok(bytes)
 }
 
-/// Tests what `load` prints where the library is this container with other bytes from a place on.
+/// Tests the text that `load` prints if the library is this container with changed bytes from an offset on.
 fn test_spelled(
     alloc: Global,
     papers: &mut Papers,
@@ -198,7 +199,7 @@ fn load_spelled(rt: HostRuntime) -> Result<(), Fail> {
     test_all_spelled(rt.alloc(), &mut papers, &packed)
 }
 
-/// Scripts whose export is made to pass on their import, and the paths at which their containers lie.
+/// Scripts whose export is changed to re-export their import, and the paths of their containers.
 const CIRCLES: &[(&str, &[u8])] = &[
     (
         "own",
@@ -218,17 +219,17 @@ const CIRCLES: &[(&str, &[u8])] = &[
     ),
 ];
 
-/// Puts the container of a script at a path, with its only export made to pass on an import.
+/// Puts the container of a script at a path, with its only export changed to re-export an import.
 fn put_circle(alloc: Global, papers: &mut Papers, path: &str, script: &[u8]) -> Result<(), Fail> {
     put_linked(alloc, papers, "linked", script)?;
     let linked = papers.bytes(b"linked").ok_or("nothing was linked")?;
-    // the section of the only export stands at the end
+    // the section of the only export is at the end
     let circle = changed(alloc, linked, At::End(2), b"\xFF\xFD").ok_or("no such place")?;
     put_file(papers, path, &circle)
 }
 
-/// Exports that pass on an import around a circle, and what `load` prints: the import is named that led into it, with
-/// its fragment.
+/// Exports that re-export an import in a circle, and the text that `load` prints: it names the import that led into the
+/// circle, with its fragment.
 const CIRCLES_LOADED: &[(&[&str], &[u8])] = &[
     (
         &["load", "A=user", "P=own"],

@@ -2,7 +2,7 @@ use std::test::Fail;
 use test_bench::runs::{Handed, assert_prints};
 use test_bench::scripts::EXAMPLE;
 
-/// Words that are no command, a request for help among them: the usage, and nothing is read or written.
+/// Invalid command lines, a request for help among them: the usage is the answer, and nothing is read or written.
 const NO_COMMANDS: &[&[&str]] = &[
     &[],
     &["load"],

@@ -1,4 +1,4 @@
--- A store of one fragment: its closure has that fragment and no other, and so has a context in which it is prepared.
+-- A store of one fragment: its closure has only that fragment, and so does a context in which it is prepared.
 use Rattle.std.proofs.Common.{◌≡◌, ℕ, ◌≤◌, Bool, true, false, cond, List, [], ◌∷◌, ◌++◌, Option, None, Some, Result, Ok, Err, codes, length, refl, sym, ap, ap₂, subst, ◌∙◌, arith}
 use Rattle.std.proofs.lemmas.List.{length-append}
 use Rattle.cfm_closure.specs.Stores.{Pair, place_of}
@@ -62,7 +62,7 @@ module _ (it : Pair) where
       let two : init ≡ 0 ∷ [] = init-alone init (subst (λ (o : List ℕ). init_order_of alone o ≡ Ok init) one taken) in
       sym e ∙ ap₂ (λ (o i : List ℕ). record { pairs = alone; order = o; init_order = i }) one two
 
-  -- no other closure is had
+  -- there is no other closure
   pub closed-is : (c : Closed) → closed_of alone 0 ≡ Ok c → c ≡ closed-alone
   unfolding closed_of
   closed-is c is = walked (order_of alone 0) is

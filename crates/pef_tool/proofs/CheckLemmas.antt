@@ -1,4 +1,4 @@
--- Verdicts that are said one after the other.
+-- Verdicts that are printed one after the other.
 use Rattle.std.proofs.Common.{◌≡◌, ◌<◌, ◌≤◌, ℕ, ◌+◌, List, [], ◌∷◌, ◌++◌, Option, None, Some, option_map, slice_get, refl, Result, Ok, drop, get_or, length, sym, ap, subst, ◌∙◌, append_assoc, arith}
 use Rattle.std.proofs.lemmas.List.{append-nil, at_drop_more, drop_all}
 use Rattle.pef_cert.specs.Certified.{Certified}

@@ -1,4 +1,4 @@
--- The certificates of what was linked can be printed, and `check` says yes to each.
+-- The certificates of a linked container can be printed, and `check` answers yes for each.
 use Rattle.std.proofs.Common.{◌≡◌, ℕ, ◌+◌, ◌^◌, ◌≤◌, ◌==◌, suc, true, false, List, [], ◌∷◌, Result, Ok, Err, length, map, refl, sym, ap, ap₂, subst, ◌∙◌, eq-eqb, arith}
 use Rattle.std.specs.List.{AllByRecursion}
 use Rattle.pef_cert.specs.Certified.{Certified}
@@ -74,14 +74,14 @@ all_yes k (s ∷ sections) (c ∷ certificates) [] are said = absurd said
 all_yes k (s ∷ sections) (c ∷ certificates) (Yes halfwords ∷ verdicts) are said = ap₂ (λ (v : Verdict) vs. v ∷ vs) (ap Yes said.0.1) (all_yes (k + 1) sections certificates verdicts are.1 said.1)
 all_yes k (s ∷ sections) (c ∷ certificates) (No ∷ verdicts) are said = absurd (said.0 are.0.valid)
 
--- one result can be only one script, and only one list of certificates
+-- a result can be of only one script, and of only one list of certificates
 same_script : (r : Result DescribedScript grammar.LineRefusal) (s t : DescribedScript) → r ≡ Ok s → r ≡ Ok t → s ≡ t
 same_script r s t one two = let both = sym one ∙ two in cc
 
 same_certificates : (r : Result (List Certified) ℕ) (cs ds : List Certified) → r ≡ Ok cs → r ≡ Ok ds → cs ≡ ds
 same_certificates r cs ds one two = let both = sym one ∙ two in cc
 
--- what two texts come to, of which the first is a script, and the second what is printed of its certificates
+-- the result for two texts: the first is a script, and the second is the text of its certificates
 pub accepted : (texts : Texts) (script : DescribedScript) (l : LinkedContainer) (judged : Result (List Verdict) Refusal)
     → script_of texts.script ≡ Ok script → IsLinked script l → texts.certificates ≡ certificates_text l.certificates → Judges texts judged → IsYesToAll l.certificates judged
 accepted texts script l judged is linked printed judges = by judged judges

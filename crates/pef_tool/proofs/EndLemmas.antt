@@ -1,4 +1,4 @@
--- How `show` ends, from what it did before.
+-- How `show` ends, by its steps before.
 use Rattle.std.proofs.Common.{◌≡◌, List, ℕ, Ok, Err, sym, ap, ◌∙◌}
 use Rattle.std.specs.declared.alloc.Global.{Global}
 use Rattle.std.specs.declared.vec.Vec.{Vec}

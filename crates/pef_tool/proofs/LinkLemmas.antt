@@ -1,4 +1,4 @@
--- A container that was linked of what was read, and written.
+-- A container that was linked from a file and written.
 use Rattle.std.proofs.Common.{◌≡◌, List, ℕ, Result, Ok, sym, ap, subst, ◌∙◌}
 use Rattle.pef_ports.specs.Ports.{FilesPort, Reads, Writes}
 use Rattle.pef_ports.specs.declared.ports.FileFault.{FileFault}

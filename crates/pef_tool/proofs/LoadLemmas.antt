@@ -1,4 +1,4 @@
--- Files that are read one after the other, and what is prepared of them.
+-- Files that are read one after the other, and the fragment that is prepared from them.
 use Rattle.std.proofs.Common.{◌≡◌, ℕ, zero, suc, ◌+◌, ◌<◌, ◌≤◌, ◌==◌, ◌^◌, Bool, false, List, [], ◌∷◌, ◌++◌, Ok, inl, inr, length, get_or, map, take, drop, refl, sym, ap, subst, ◌∙◌, arith}
 use Rattle.std.proofs.lemmas.List.{map_more, take-map, take_all}
 use Rattle.cfm_closure.specs.Stores.{Pair}
@@ -31,7 +31,7 @@ module _ {F : Type 0} (port : FilesPort F) where
   read-more before between after (f ∷ named) [] file bytes read next = absurd read
   read-more before between after (f ∷ named) (c ∷ contents) file bytes read next = (read.0, read.1, read-more read.0 between after named contents file bytes read.2 next)
 
-  -- the same of the files that stand before the next one
+  -- the same for the files before the next one
   pub read-next : (before between after : F) (xs : List NamedFile) (i : ℕ) (d : NamedFile) (contents : List (List ℕ)) (bytes : List ℕ)
       → i < length xs → WereRead port before between (map named_path (take i xs)) contents → Reads port between after (get_or xs i d).path.now (Ok bytes)
       → WereRead port before after (map named_path (take (i + 1) xs)) (contents ++ bytes ∷ [])
@@ -52,7 +52,7 @@ module _ {F : Type 0} (port : FilesPort F) where
       let P : List NamedFile → Type 0 = λ ys. WereRead port before after (map named_path ys) contents in
       subst P (take_all i xs past) read
 
-  -- the files that stand before one, that one, and those behind it
+  -- the files before one file, that file, and the files after it
   apart : (xs : List NamedFile) (i : ℕ) (d : NamedFile) → i < length xs → map named_path xs ≡ map named_path (take i xs) ++ named_path (get_or xs i d) ∷ map named_path (drop (i + 1) xs)
   apart [] i d under = absurd (omega (arith, under))
   apart (x ∷ xs) zero d under = refl
@@ -93,20 +93,20 @@ module _ {F : Type 0} (port : FilesPort F) where
         },
       )
 
-  -- memory was refused behind the first files
+  -- an allocation failed after the first files
   pub lacks-behind : (before after : F) (xs : List NamedFile) (i : ℕ) (contents : List (List ℕ)) → WereRead port before after (map named_path (take i xs)) contents → StopsReading port before after (map named_path xs) OutOfMemory
   lacks-behind before after xs i contents read =
       let P : List (List ℕ × List ℕ) → Type 0 = λ named. WereRead port before after named contents in
       inl (i, contents, subst P (sym (take-map named_path i xs)) read)
 
-  -- or behind all of them
+  -- or after all of them
   pub lacks-all : (before after : F) (named : List (List ℕ × List ℕ)) (contents : List (List ℕ)) → WereRead port before after named contents → WereRead port before after (take (length named) named) contents
   lacks-all before after named contents read =
       let same : length named ≤ length named = omega arith in
       let P : List (List ℕ × List ℕ) → Type 0 = λ files. WereRead port before after files contents in
       subst P (sym (take_all (length named) named same)) read
 
-  -- where they were read, `load` ends as the preparation of the first one does
+  -- if they were read, `load` ends as the preparation of the first one does
   pub root-loads : (before after : F) (named : List (List ℕ × List ℕ)) (contents : List (List ℕ)) (root : RootOutcome) → WereRead port before after named contents → RootEnds (paired named contents) (first_name named) root
       → (outcome : LoadOutcome) × LoadEnds port before after named outcome × (root_answer root ≡ load_answer outcome)
   root-loads before after named contents (rooted.prepares s number) read ends = (loads s number, record { contents = contents; read = read; prepared = ends }, refl)
@@ -122,7 +122,7 @@ pub first-is : (xs : List NamedFile) (d : NamedFile) → 0 < length xs → first
 first-is [] d some = absurd (omega (arith, some))
 first-is (x ∷ xs) d some = refl
 
--- what is given back leaves the limit
+-- giving memory back keeps the limit
 given-limit : (m : Layout) (places : List Place) → (given_back m places).limit ≡ m.limit
 given-limit m [] = refl
 given-limit m (p ∷ places) = given-limit (with_instances m (without m.instances p.address)) places

@@ -1,4 +1,4 @@
--- What is printed of a connection, piece by piece.
+-- The text that is printed of a connection, piece by piece.
 use Rattle.std.proofs.Common.{◌≡◌, ℕ, zero, suc, ◌+◌, ◌-◌, ◌<◌, ◌≤◌, List, [], ◌∷◌, ◌++◌, Option, None, Some, codes, drop, get_or, length, option_map, slice_get, take, unwrap_or, refl, sym, ap, ap₂, ◌∙◌, append_assoc, arith}
 use Rattle.std.specs.Option.{option_and_then}
 use Rattle.std.proofs.lemmas.List.{append-nil, at_drop_more, drop_all, take_all, take_more}
@@ -16,7 +16,7 @@ use Rattle.pef_tool.specs.declared.loaded.Routine.TheVariants.{Init, Term}
 abbrev placed : ℕ → List ℕ → PlacedSection
 placed address bytes = record { address = address; bytes = bytes }
 
--- what a section has that was found, or nothing
+-- the contents of a section that is found, or nothing
 abbrev known : Option (ℕ × List ℕ) → ℕ × List ℕ
 known o = unwrap_or o (0, [])
 
@@ -27,7 +27,7 @@ held-one p (Some b) address bytes same =
     let held : bytes ≡ b = ap (λ (x : Option (ℕ × List ℕ)). (known x).1) same in
     ap₂ placed (sym at) (sym held)
 
--- a section that is found is the one at its place
+-- a section that is found is the one at its index
 pub held-section : (m : Layout) (places : List Place) (i : ℕ) (d : Place) (address : ℕ) (bytes : List ℕ) → i < length places → ◌≡◌ {A = Option (ℕ × List ℕ)} (Some (address, bytes)) (option_and_then (held_at m) (slice_get places i))
     → placed_section m (get_or places i d) ≡ record { address = address; bytes = bytes }
 held-section m [] i d address bytes under found = absurd (omega (arith, under))
@@ -42,8 +42,8 @@ terms-more s number (q ∷ ps) p = ap (λ t. t ++ term_text s number q) (terms-m
 terms-next : (s : ContextState) (number : ℕ) (order : List ℕ) (i d : ℕ) → i < length order → terms_text s number (take (i + 1) order) ≡ term_text s number (get_or order i d) ++ terms_text s number (take i order)
 terms-next s number order i d under = ap (terms_text s number) (take_more order i d under) ∙ terms-more s number (take i order) (get_or order i d)
 
--- the lines of routines that are left behind the first i: of the fragments behind them, or, where the last one comes
--- first, of those before them
+-- the lines of routines after the first i: those of the fragments after these, or of the fragments before them if the
+-- last one comes first
 abbrev pub routines-left : Routine → ContextState → ℕ → List ℕ → ℕ → List ℕ
 routines-left Init s number order i = inits_text s number (drop i order)
 routines-left Term s number order i = terms_text s number (take (length order - i) order)
@@ -70,7 +70,7 @@ routines-end Term s number order i past =
     let none : length order - i ≡ 0 = omega arith in
     ap (λ n. terms_text s number (take n order)) none
 
--- a front, and then the end of an entry's line
+-- a prefix, and then the end of an entry's line
 pub entry-joined : (front : List ℕ) (address : ℕ) → front ++ entry_text (codes " ") (Some address) ≡ entry_text (front ++ codes " ") (Some address)
 entry-joined front address =
     let word = word_text address in

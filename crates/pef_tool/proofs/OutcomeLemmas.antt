@@ -1,4 +1,4 @@
--- How a command ends, from what it did before.
+-- How a command ends, by its steps before.
 use Rattle.std.proofs.Common.{◌≡◌, List, [], ℕ, Option, None, Some, Ok, Err, refl, sym, ap, ◌∙◌, inl, inr, arith}
 use Rattle.pef_ports.specs.Ports.{Begins, FilesPort, Reads, Stream}
 use Rattle.pef_tool.specs.Request.Requests.{Asked, check, distances, link, list, load, show}
@@ -43,7 +43,7 @@ nothing_read : (told : Option (List ℕ)) → Begins told told []
 nothing_read None = tt
 nothing_read (Some bytes) = (bytes, refl, refl)
 
--- memory may be refused before a command does anything
+-- an allocation may fail before a command does anything
 pub lacks_memory : {F R : Type 0} (port : FilesPort F) (stream : R → Stream) (asked : Option Asked) (files : F) (input : R)
     → RunAnswers port stream asked files files input input (answer_refused (refusal_text refusal.OutOfMemory))
 lacks_memory port stream None files input = (inr refl, refl, refl)

@@ -16,12 +16,12 @@ small_step alignment small =
     let two : 0 < 2 = omega arith in
     max-le (omega arith) (pow-le-pow_right two small)
 
--- the sections of a script take little
+-- the sections of a script take little room
 most_small : (n m : ℕ) (sections : List DescribedSection) → AllByRecursion (SectionHolds n m) sections → most_taken (map described_extent sections) ≤ length sections * (2 ^ 24 + 2 ^ 13)
 most_small n m [] each = omega arith
 most_small n m (s ∷ sections) each = omega (arith, each.0.total, small_step s.header.align each.0.align, most_small n m sections each.1)
 
--- fifteen find room
+-- there is room for fifteen
 pub few_find_room : (script : DescribedScript) → ScriptHolds script → length script.sections ≤ 15 → LackRoom (no_instances memory_limit) (described_extents script) → ⊥
 few_find_room script holds few lacks =
     let enough = most_small (length script.sections) (length script.imports) script.sections holds.sections.each in

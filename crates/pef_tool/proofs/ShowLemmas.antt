@@ -1,5 +1,5 @@
--- What is linked of a script and prepared alone is shown as the script describes; only its closure, room and memory can
--- be wanting, and none of its bytes is the reason.
+-- A script that is linked and prepared alone is shown as the script describes. Only its closure, room or memory can be
+-- missing, and its bytes are never the reason.
 use Rattle.std.proofs.Common.{◌≡◌, ℕ, zero, suc, List, [], ◌∷◌, Some, Ok, Err, Contains, codes, inl, inr, slice_get, refl, sym, ap, subst, ◌∙◌, arith}
 use Rattle.std.specs.Option.{option_and_then, option_map_or}
 use Rattle.cfm_closure.specs.Stores.{Pair, pair_of}
@@ -35,7 +35,7 @@ use Rattle.pef_tool.specs.Show.{FailsToBind, IsShown, ShowOutcome, it_alone, ref
 use Rattle.pef_tool.proofs.AloneLemmas.{is-found, new-is, open-is, prepared-alone, root-is}
 use Rattle.pef_headline.proofs.Laws.{described-from, extents-in, extents_are, linked-read, loader-is, own, refused-image, refused-program, whole}
 
--- where all fragments are read, the refusal of a closure isn't of their bytes
+-- if all fragments are read, the refusal of a closure isn't because of their bytes
 fails_to_bind : (bytes : List ℕ) (fault : BindFault) → ((r : BindRefusal) → closed_of (it_alone bytes) 0 ≡ Err r → IsOfBinding r) → FailsAs fault (closed_of (it_alone bytes) 0) → FailsToBind bytes fault
 fails_to_bind bytes (bind_fault.Container f v) of fails = of _ fails
 fails_to_bind bytes (bind_fault.Loader f v) of fails = of _ fails
@@ -47,12 +47,12 @@ fails_to_bind bytes (bind_fault.ReexportLoop f s) of fails = fails
 fails_to_bind bytes (bind_fault.InitLoop f) of fails = fails
 fails_to_bind bytes bind_fault.OutOfMemory of fails = fails
 
--- what is in a list of the first position alone
+-- the elements of a list with the first position alone
 only-first : (p : ℕ) → Contains (0 ∷ []) p → p ≡ 0
 only-first p (zero, low, is) = sym is
 only-first p (suc k, low, is) = absurd (omega (arith, low))
 
--- how `show` ends with a script whose preparation ends so, in the same words
+-- how `show` ends with a script whose preparation ends in this way, in the same words
 pub record EndsRooted (script : DescribedScript) (root : RootOutcome) : Type 0 where
   pub outcome : ShowOutcome
   pub ends : ScriptEnds script outcome
@@ -65,7 +65,7 @@ module _ (script : DescribedScript) (k : LinkedContainer) (linked : IsLinked scr
   abbrev start : ContextState
   start = fresh_state alone memory_limit
 
-  -- what was prepared is what the script describes
+  -- the prepared fragment is what the script describes
   shown_of : (s : ContextState) (number : ℕ) → Prepares start (codes "it") number s → IsShown script s number
   shown_of s number done =
       let stands = prepared-alone k.bytes memory_limit s number done in
@@ -92,7 +92,7 @@ module _ (script : DescribedScript) (k : LinkedContainer) (linked : IsLinked scr
         others = stands.others;
       }
 
-  -- if it is refused for want of room, its sections find none, and the refusal names it
+  -- if it is refused for lack of room, its sections find none, and the refusal names it
   no_room : (new : List ℕ) (name : List ℕ) → new ≡ 0 ∷ [] → LacksRoom alone (no_instances memory_limit) new name → LackRoom (no_instances memory_limit) (described_extents script) × (name ≡ codes "it")
   no_room new name is lacks =
       let fragment = whole script k linked alone 0 refl in
@@ -104,7 +104,7 @@ module _ (script : DescribedScript) (k : LinkedContainer) (linked : IsLinked scr
       go extents (inl here) = (subst (λ es. LackRoom (no_instances memory_limit) es) extents here.0, here.1)
       go extents (inr later) = absurd (later.3)
 
-  -- its closure is that of the first place
+  -- its closure is that of the first position
   closure_there : (root : ℕ) (closed : Closed) → root ≡ 0 → closed_of alone root ≡ Ok closed → closed_of alone 0 ≡ Ok closed
   closure_there root closed is has = subst (λ (p : ℕ). closed_of alone p ≡ Ok closed) is has
 
@@ -123,7 +123,7 @@ module _ (script : DescribedScript) (k : LinkedContainer) (linked : IsLinked scr
       let P : ℕ → Type 0 = λ p. FailsAs fault (closed_of alone p) in
       fails_to_bind k.bytes fault (λ r refused. closed-refused alone all_read 0 r (omega arith) refused) (subst P is fails)
 
-  -- so it isn't prepared for want of a closure, of room or of memory alone
+  -- so the only reasons why it isn't prepared are a missing closure, missing room or a failed allocation
   unprepared : (fault : PrepareFault) → MayNotPrepare start (codes "it") fault → EndsRooted script (rooted.refuses fault)
   unprepared prepare_fault.TooManyConnections why = absurd (omega (arith, why))
   unprepared prepare_fault.RootMissing why = absurd (is-found k.bytes why.1)

@@ -1,5 +1,5 @@
--- What `check SCRIPT CERT` answers (README): it reads SCRIPT and then CERT, before it looks at the text of either, and
--- says of the certificate of each section whether it is valid for the section's fixups. No other call is made on files.
+-- The answer of `check SCRIPT CERT` (README). It reads SCRIPT and then CERT, before it parses either, and reports for
+-- each section whether its certificate is valid for the section's fixups. It makes no other call on files.
 use Rattle.std.specs.Prelude.{◌≡◌, ◌⊎◌, ℕ, ◌+◌, ◌==◌, ⊤, Bool, true, false, ◌&&◌, List, [], ◌∷◌, ◌++◌, Result, Ok, Err, codes, decimal, length}
 use Rattle.pef_cert.specs.Certified.{Certified}
 use Rattle.pef_cert.specs.Valid.{Valid}
@@ -18,7 +18,7 @@ use Rattle.pef_tool.specs.declared.check.Verdict.TheVariants.{Yes, No}
 use Rattle.pef_tool.specs.declared.answers.refusal.Refusal.{Refusal}
 use Rattle.pef_tool.specs.declared.answers.refusal.Refusal.TheVariants.{BadCertificate, OutOfMemory, Script, SectionsDiffer}
 
--- the verdict on a certificate for some fixups: a yes with its program's length in halfwords just where it is valid
+-- the verdict on a certificate for some fixups: yes, with its program's length in halfwords, exactly if it is valid
 abbrev pub IsVerdict : List Fixup → Certified → Verdict → Type 0
 IsVerdict fixups c (Yes halfwords) = Valid fixups c × (halfwords ≡ program_length c.program)
 IsVerdict fixups c No = Valid fixups c → ⊥
@@ -29,12 +29,12 @@ AreVerdicts [] [] [] = ⊤
 AreVerdicts (s ∷ sections) (c ∷ certificates) (v ∷ verdicts) = IsVerdict s.fixups c v × AreVerdicts sections certificates verdicts
 AreVerdicts _ _ _ = ⊥
 
--- certificates are for the sections that are numbered from a number on, in order
+-- certificates are for the sections numbered consecutively from a number on, in order
 abbrev pub are_numbered : ℕ → List Certified → Bool
 are_numbered k [] = true
 are_numbered k (c ∷ certificates) = c.section == k && are_numbered (k + 1) certificates
 
--- there is a certificate for each section of a script, in order, and no other
+-- there is exactly one certificate for each section of a script, in order
 abbrev pub match_sections : DescribedScript → List Certified → Bool
 match_sections script certificates = length certificates == length script.sections && are_numbered 0 certificates
 
@@ -43,7 +43,7 @@ pub record Texts : Type 0 where
   pub script : List ℕ
   pub certificates : List ℕ
 
--- the script and the certificates that two texts have
+-- the script and the certificates that two texts contain
 pub record Checked : Type 0 where
   pub script : DescribedScript
   pub certificates : List Certified
@@ -65,14 +65,14 @@ pub record RefusesCertificates (texts : Texts) (line : ℕ) : Type 0 where
   pub is_script : script_of texts.script ≡ Ok script
   pub refused : certificates_of texts.certificates ≡ Err line
 
--- both texts are good, and the certificates are for other sections than the script's
+-- both texts are valid, and the certificates are for other sections than the script's
 pub record DiffersInSections (texts : Texts) : Type 0 where
   pub checked : Checked
   pub has : HasChecked texts checked
   pub differ : match_sections checked.script checked.certificates ≡ false
 
--- what two texts come to: verdicts, or the first refusal of SCRIPT's text, else of CERT's, else that sections differ;
--- or memory was refused
+-- the result for two texts: verdicts, or the first refusal of SCRIPT's text, else of CERT's, else that sections differ.
+-- Or an allocation failed.
 abbrev pub Judges : Texts → Result (List Verdict) Refusal → Type 0
 Judges texts (Ok verdicts) = HasVerdicts texts verdicts
 Judges texts (Err (Script fault line)) = script_of texts.script ≡ Err (record { fault = fault; line = line })
@@ -81,33 +81,33 @@ Judges texts (Err SectionsDiffer) = DiffersInSections texts
 Judges texts (Err OutOfMemory) = ⊤
 Judges texts (Err _) = ⊥
 
--- SCRIPT was read, and then CERT was answered this
+-- SCRIPT was read, and then reading CERT returned this result
 pub record ReadsSecond {F : Type 0} (port : FilesPort F) (before after : F) (script cert text : List ℕ) (answer : Result (List ℕ) FileFault) : Type 0 where
   pub between : F
   pub first : Reads port before between script (Ok text)
   pub second : Reads port between after cert answer
 
--- both files were read, and this is what their texts come to
+-- both files were read, and this is the result for their texts
 pub record JudgesFiles {F : Type 0} (port : FilesPort F) (before after : F) (script cert : List ℕ) (judged : Result (List Verdict) Refusal) : Type 0 where
   pub texts : Texts
   pub read : ReadsSecond port before after script cert texts.script (Ok texts.certificates)
   pub are : Judges texts judged
 
--- memory was refused: before SCRIPT was read, or by reading it, or by reading CERT
+-- an allocation failed: before or while SCRIPT was read, or while CERT was read
 abbrev pub ReadingLacksMemory : {F : Type 0} → FilesPort F → F → F → List ℕ → List ℕ → Type 0
 ReadingLacksMemory port before after script cert =
     (after ≡ before)
     ⊎ Reads port before after script (Err file_fault.OutOfMemory)
     ⊎ ((text : List ℕ) × ReadsSecond port before after script cert text (Err file_fault.OutOfMemory))
 
--- how `check` ends: SCRIPT or CERT can't be read, or memory was refused for that, or their texts are judged
+-- how `check` ends: SCRIPT or CERT can't be read, an allocation for reading failed, or their texts are judged
 pub data CheckOutcome : Type 0 where
   no_script : CheckOutcome
   no_certificates : CheckOutcome
   lacks_memory : CheckOutcome
   judges : Result (List Verdict) Refusal → CheckOutcome
 
--- when it ends so, by how the files stood and stand
+-- when it ends in this way, by the states of the files before and after
 abbrev pub CheckEnds : {F : Type 0} → FilesPort F → F → F → List ℕ → List ℕ → CheckOutcome → Type 0
 CheckEnds port before after script cert no_script = Reads port before after script (Err file_fault.Failed)
 CheckEnds port before after script cert no_certificates = (text : List ℕ) × ReadsSecond port before after script cert text (Err file_fault.Failed)
@@ -124,24 +124,24 @@ abbrev pub verdicts_text : ℕ → List Verdict → List ℕ
 verdicts_text k [] = []
 verdicts_text k (v ∷ verdicts) = verdict_text k v ++ verdicts_text (k + 1) verdicts
 
--- the status of verdicts: 1 where there is a no, else 0
+-- the status of verdicts: 1 if one is a no, else 0
 abbrev pub verdicts_status : List Verdict → ℕ
 verdicts_status [] = 0
 verdicts_status (Yes halfwords ∷ verdicts) = verdicts_status verdicts
 verdicts_status (No ∷ verdicts) = 1
 
--- what is said of two texts
+-- the answer for two texts
 abbrev pub judged_answer : Result (List Verdict) Refusal → Answer
 judged_answer (Ok verdicts) = record { text = verdicts_text 0 verdicts; status = verdicts_status verdicts }
 judged_answer (Err refusal) = answer_refused (refusal_text refusal)
 
--- what it says then
+-- the answer for each end
 abbrev pub check_answer : List ℕ → List ℕ → CheckOutcome → Answer
 check_answer script cert no_script = answer_refused (unreadable_text script)
 check_answer script cert no_certificates = answer_refused (unreadable_text cert)
 check_answer script cert lacks_memory = answer_refused (refusal_text OutOfMemory)
 check_answer script cert (judges judged) = judged_answer judged
 
--- what `check SCRIPT CERT` answers
+-- the answer of `check SCRIPT CERT`
 abbrev pub CheckAnswers : {F : Type 0} → FilesPort F → F → F → List ℕ → List ℕ → Answer → Type 0
 CheckAnswers port before after script cert answer = (outcome : CheckOutcome) × CheckEnds port before after script cert outcome × (answer ≡ check_answer script cert outcome)

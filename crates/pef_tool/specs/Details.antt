@@ -1,5 +1,5 @@
--- What more is printed of a refusal: the end of the line of its help, and a line with a sentence on the detail that is
--- known.
+-- The text that is printed of a refusal after its help: the end of the help's line, and a line with a sentence on the
+-- known detail.
 use Rattle.std.specs.Prelude.{ℕ, List, [], ◌∷◌, ◌++◌, Option, None, Some, codes, decimal}
 use Rattle.cfm_closure.specs.declared.versions.Definition.{Definition}
 use Rattle.cfm_closure.specs.declared.versions.Implementation.{Implementation}
@@ -12,11 +12,11 @@ use Rattle.pef_tool.specs.declared.details.detail.Oddity.TheVariants as oddity
 use Rattle.pef_tool.specs.declared.details.detail.Table.{Table}
 use Rattle.pef_tool.specs.declared.details.detail.Table.TheVariants as table
 
--- how many words a line has, and how many lines with its first word have
+-- the number of words in a line, and the number that lines with its first word have
 unfoldable pub words_text : ℕ → ℕ → List ℕ
 words_text has wants = codes "\nA line with this first word has " ++ decimal wants ++ codes " words. This one has " ++ decimal has ++ codes ".\n"
 
--- what is odd about a line
+-- the fault in a line
 abbrev pub oddity_text : Oddity → List ℕ
 oddity_text oddity.CarriageReturn = codes "\nThe line has a carriage return. Save the script with line feeds alone.\n"
 oddity_text oddity.Tab = codes "\nThe line has a tab. Write one space in its place.\n"
@@ -28,7 +28,7 @@ oddity_text oddity.FirstWord = codes "\nNo line of a script begins with its firs
 oddity_text (oddity.Words has wants) = words_text has wants
 oddity_text oddity.Spelling = codes "\nA name has more than 255 bytes, or the hex digits aren't pairs.\n"
 
--- which rule of order a line breaks
+-- the rule of order that a line breaks
 unfoldable pub disorder_text : Disorder → List ℕ
 disorder_text (disorder.Later line) = codes "\nIt has to come before line " ++ decimal line ++ codes ", which is of a later group.\n"
 disorder_text (disorder.Again line) = codes "\nLine " ++ decimal line ++ codes " is of the same kind, and a script has one such line.\n"
@@ -40,11 +40,11 @@ versions_text needed found =
     codes "\nThe fragment was linked with version " ++ decimal needed.current ++ codes " of the library, and takes version " ++ decimal needed.old_imp
     ++ codes " or newer. The library has version " ++ decimal found.current ++ codes ", and serves fragments that were linked with version " ++ decimal found.old_def ++ codes " or newer.\n"
 
--- how many bytes tables take, and how many there are
+-- the number of bytes that tables take, and the number available
 unfoldable pub space_text : ℕ → ℕ → List ℕ
 space_text taken there = codes "\nBy its header the loader section has at least " ++ decimal taken ++ codes " bytes. It has " ++ decimal there ++ codes ".\n"
 
--- which row of a table is refused
+-- the refused row of a table
 abbrev pub table_text : Table → List ℕ
 table_text table.Sections = codes "\nIt is section "
 table_text table.Libraries = codes "\nIt is library "
@@ -53,16 +53,16 @@ table_text table.Exports = codes "\nIt is export "
 unfoldable pub row_text : Table → ℕ → List ℕ
 row_text table index = table_text table ++ decimal index ++ codes ", counted from 0.\n"
 
--- which relocation header is refused, and its section
+-- the refused relocation header, and its section
 unfoldable pub header_text : ℕ → ℕ → List ℕ
 header_text header section = codes "\nIt is at relocation header " ++ decimal header ++ codes ", counted from 0, which is for section " ++ decimal section ++ codes ".\n"
 
--- at which halfword of which program an instruction is refused
+-- the halfword of a program at which an instruction is refused
 unfoldable pub instruction_text : ℕ → ℕ → ℕ → List ℕ
 instruction_text header section halfword =
     codes "\nIt is at halfword " ++ decimal halfword ++ codes " of the program of relocation header " ++ decimal header ++ codes ", both counted from 0, which is for section " ++ decimal section ++ codes ".\n"
 
--- what follows the help: the end of its line, and what more is known
+-- the text after the help: the end of its line, and the known detail
 abbrev pub end_text : Option Detail → List ℕ
 end_text None = 10 ∷ []
 end_text (Some (detail.Line odd)) = oddity_text odd

@@ -1,5 +1,5 @@
--- What `distances SCRIPT` answers (README): it reads SCRIPT, links it, and prints the certificates of its sections. No
--- other call is made on files: the container isn't written.
+-- The answer of `distances SCRIPT` (README). It reads SCRIPT, links it, and prints the certificates of its sections. It
+-- makes no other call on files: the container isn't written.
 use Rattle.std.specs.Prelude.{◌≡◌, ◌⊎◌, ℕ, List, Result, Ok, Err, map}
 use Rattle.pef_cert.specs.Certified.{Certified}
 use Rattle.pef_cert.specs.Text.Printed.{certificates_text}
@@ -17,7 +17,7 @@ use Rattle.pef_tool.specs.declared.answers.refusal.Refusal.{Refusal}
 use Rattle.pef_tool.specs.declared.answers.refusal.Refusal.TheVariants.{Script, OutOfMemory}
 use Rattle.pef_write.specs.Linked.{IsLinked, LinkedContainer}
 
--- SCRIPT was read, and its script linked
+-- SCRIPT was read, and its script was linked
 pub record LinksFile {F : Type 0} (port : FilesPort F) (before after : F) (path : List ℕ) (l : LinkedContainer) : Type 0 where
   pub text : List ℕ
   pub read : Reads port before after path (Ok text)
@@ -25,7 +25,7 @@ pub record LinksFile {F : Type 0} (port : FilesPort F) (before after : F) (path 
   pub is_script : script_of text ≡ Ok script
   pub linked : IsLinked script l
 
--- memory was refused: before SCRIPT was read, or by reading it, or behind that
+-- an allocation failed before, during or after reading SCRIPT
 abbrev pub DistancesLackMemory : {F : Type 0} → FilesPort F → F → F → List ℕ → Type 0
 DistancesLackMemory port before after script =
     (after ≡ before)
@@ -38,29 +38,29 @@ DistancesRefuse port before after script (Script fault line) = RefusesFile port 
 DistancesRefuse port before after script OutOfMemory = DistancesLackMemory port before after script
 DistancesRefuse port before after script _ = ⊥
 
--- how `distances` ends: it prints the certificates of what was linked, or can't read SCRIPT, or is refused
+-- how `distances` ends: it prints the certificates of the linked container, it can't read SCRIPT, or it is refused
 pub data DistancesOutcome : Type 0 where
   certifies : LinkedContainer → DistancesOutcome
   unreadable : DistancesOutcome
   refuses : Refusal → DistancesOutcome
 
--- when it ends so, by how the files stood and stand
+-- when it ends in this way, by the states of the files before and after
 abbrev pub DistancesEnd : {F : Type 0} → FilesPort F → F → F → List ℕ → DistancesOutcome → Type 0
 DistancesEnd port before after script (certifies l) = LinksFile port before after script l
 DistancesEnd port before after script unreadable = Reads port before after script (Err file_fault.Failed)
 DistancesEnd port before after script (refuses refusal) = DistancesRefuse port before after script refusal
 
--- what it says then
+-- the answer for each end
 abbrev pub distances_answer : List ℕ → DistancesOutcome → Answer
 distances_answer script (certifies l) = answer_done (certificates_text l.certificates)
 distances_answer script unreadable = answer_refused (unreadable_text script)
 distances_answer script (refuses refusal) = answer_refused (refusal_text refusal)
 
--- what `distances SCRIPT` answers
+-- the answer of `distances SCRIPT`
 abbrev pub DistancesAnswers : {F : Type 0} → FilesPort F → F → F → List ℕ → Answer → Type 0
 DistancesAnswers port before after script answer = (outcome : DistancesOutcome) × DistancesEnd port before after script outcome × (answer ≡ distances_answer script outcome)
 
--- what `check` comes to where it says yes to certificates: to each, with its program's length; or memory was refused
+-- the result of `check` if it answers yes for each certificate, with its program's length, or an allocation failed
 abbrev pub IsYesToAll : List Certified → Result (List Verdict) Refusal → Type 0
 IsYesToAll certificates (Ok verdicts) = verdicts ≡ map (λ c. Yes (program_length c.program)) certificates
 IsYesToAll certificates (Err why) = why ≡ OutOfMemory

@@ -8,16 +8,16 @@ use Rattle.pef_tool.specs.declared.answers.outcome.Outcome.{Outcome}
 use Rattle.pef_tool.specs.declared.answers.outcome.Outcome.TheVariants.{Done, SaidNo, Refused, Usage, OutputFailed}
 use Rattle.pef_tool.specs.declared.details.detail.Detail.{Detail}
 
--- a text is written whole; or a prefix of it, and then the output fails
+-- a text is written whole, or a prefix of it is written and then the output fails
 abbrev pub IsNoted : Stream → Stream → List ℕ → Type 0
 IsNoted before after text = (status : ℕ) × IsDelivered before after (answer_done text) status
 
--- the help for a refusal is written as a line, if there is some, and then what more is known
+-- the help for a refusal, if there is some, is written as a line, and then the detail that is known
 abbrev pub NotesHelp : Option (List ℕ) → Option Detail → Stream → Stream → Type 0
 NotesHelp None detail before after = after ≡ before
 NotesHelp (Some text) detail before after = IsNoted before after (text ++ end_text detail)
 
--- what is written for an outcome; after `usage` some text, of which no more is said: it is `clap`'s
+-- the text that is written for an outcome. After `usage` it is some text by `clap`, and no more is specified.
 abbrev pub Explains : Outcome → Stream → Stream → Type 0
 Explains Done before after = after ≡ before
 Explains SaidNo before after = after ≡ before

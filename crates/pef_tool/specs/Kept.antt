@@ -1,4 +1,4 @@
--- What the code keeps. Private contracts and proofs speak of it, public ones don't.
+-- Definitions for private contracts and proofs. Public contracts don't use them.
 pub mod Linking
 pub mod Judged
 pub mod Loading

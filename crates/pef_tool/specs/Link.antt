@@ -1,5 +1,5 @@
--- What `link SCRIPT OUT` answers (README): it reads SCRIPT, links it, and writes its whole container to OUT. No other
--- call is made on files.
+-- The answer of `link SCRIPT OUT` (README). It reads SCRIPT, links it, and writes the whole container to OUT. It makes
+-- no other call on files.
 use Rattle.std.specs.Prelude.{◌≡◌, ◌⊎◌, ℕ, ◌+◌, List, [], ◌∷◌, ◌++◌, Result, Ok, Err, codes, decimal, length}
 use Rattle.pef_ports.specs.Ports.{FilesPort, Reads, Writes}
 use Rattle.pef_ports.specs.declared.ports.FileFault.{FileFault}
@@ -13,13 +13,13 @@ use Rattle.pef_tool.specs.Answers.Answers.{Answer, answer_done, answer_refused}
 use Rattle.pef_tool.specs.Answers.Refusals.{refusal_text, unreadable_text, unwritable_text}
 use Rattle.pef_write.specs.Linked.{IsLinked, LinkedContainer}
 
--- SCRIPT was read; it is no script, by its first refusal
+-- SCRIPT was read and isn't a script, by its first refusal
 pub record RefusesFile {F : Type 0} (port : FilesPort F) (before after : F) (path : List ℕ) (fault : LineFault) (line : ℕ) : Type 0 where
   pub text : List ℕ
   pub read : Reads port before after path (Ok text)
   pub refused : script_of text ≡ Err (record { fault = fault; line = line })
 
--- SCRIPT was read, its script linked, and the whole container written to OUT, with this answer
+-- SCRIPT was read, its script was linked, and the write of the whole container to OUT returned this result
 pub record WritesLinked {F : Type 0} (port : FilesPort F) (before after : F) (path out : List ℕ) (l : LinkedContainer) (answer : Result (Unit {0}) FileFault) : Type 0 where
   pub text : List ℕ
   pub between : F
@@ -29,7 +29,7 @@ pub record WritesLinked {F : Type 0} (port : FilesPort F) (before after : F) (pa
   pub linked : IsLinked script l
   pub written : Writes port between after out l.bytes answer
 
--- memory was refused: before SCRIPT was read, or by reading it, or behind that, or by writing the whole container
+-- an allocation failed: before, during or after reading SCRIPT, or during the write of the whole container
 abbrev pub LinkLacksMemory : {F : Type 0} → FilesPort F → F → F → List ℕ → List ℕ → Type 0
 LinkLacksMemory port before after script out =
     (after ≡ before)
@@ -43,14 +43,14 @@ LinkRefuses port before after script out (Script fault line) = RefusesFile port 
 LinkRefuses port before after script out OutOfMemory = LinkLacksMemory port before after script out
 LinkRefuses port before after script out _ = ⊥
 
--- how `link` ends: it links a container, or can't read SCRIPT, or can't write OUT, or is refused
+-- how `link` ends: it links a container, it can't read SCRIPT, it can't write OUT, or it is refused
 pub data LinkOutcome : Type 0 where
   links : LinkedContainer → LinkOutcome
   unreadable : LinkOutcome
   unwritable : LinkOutcome
   refuses : Refusal → LinkOutcome
 
--- when it ends so, by how the files stood and stand
+-- when it ends in this way, by the states of the files before and after
 abbrev pub LinkEnds : {F : Type 0} → FilesPort F → F → F → List ℕ → List ℕ → LinkOutcome → Type 0
 LinkEnds port before after script out (links l) = WritesLinked port before after script out l (Ok tt)
 LinkEnds port before after script out unreadable = Reads port before after script (Err file_fault.Failed)
@@ -70,17 +70,17 @@ abbrev pub lengths_text : ℕ → List ℕ → List ℕ
 lengths_text k [] = []
 lengths_text k (len ∷ lengths) = length_text k len ++ lengths_text (k + 1) lengths
 
--- what is printed of what was linked: the container's size, then the length of each section's program
+-- the text that is printed after linking: the container's size, then the length of each section's program
 abbrev pub linked_text : LinkedContainer → List ℕ
 linked_text l = size_text (length l.bytes) ++ lengths_text 0 l.lengths
 
--- what it says then
+-- the answer for each end
 abbrev pub link_answer : List ℕ → List ℕ → LinkOutcome → Answer
 link_answer script out (links l) = answer_done (linked_text l)
 link_answer script out unreadable = answer_refused (unreadable_text script)
 link_answer script out unwritable = answer_refused (unwritable_text out)
 link_answer script out (refuses refusal) = answer_refused (refusal_text refusal)
 
--- what `link SCRIPT OUT` answers
+-- the answer of `link SCRIPT OUT`
 abbrev pub LinkAnswers : {F : Type 0} → FilesPort F → F → F → List ℕ → List ℕ → Answer → Type 0
 LinkAnswers port before after script out answer = (outcome : LinkOutcome) × LinkEnds port before after script out outcome × (answer ≡ link_answer script out outcome)

@@ -1,5 +1,5 @@
--- What `list FILE` answers (README): it reads FILE, and prints the listing of the container that it is. No other call
--- is made on files, and nothing is printed of a container of which a part is refused.
+-- The answer of `list FILE` (README). It reads FILE and prints the listing of the container in it. It makes no other
+-- call on files. If any part of the container is refused, nothing of it is printed.
 use Rattle.std.specs.Prelude.{◌≡◌, ◌⊎◌, ℕ, List, Result, Ok, Err}
 use Rattle.pef_listing.specs.Listed.{Parts, listed_of}
 use Rattle.pef_listing.specs.Listing.{listing_text}
@@ -10,33 +10,34 @@ use Rattle.pef_tool.specs.Answers.Answers.{Answer, answer_done, answer_refused}
 use Rattle.pef_tool.specs.Answers.Refusals.{refusal_text, unreadable_text}
 use Rattle.pef_tool.specs.declared.answers.refusal.Refusal.TheVariants.{Listing, OutOfMemory}
 
--- FILE was read; this is what it can be listed as, or the first refusal of its readers
+-- FILE was read, and this is its listing, or the first refusal by its readers
 pub record ReadsParts {F : Type 0} (port : FilesPort F) (before after : F) (path : List ℕ) (listed : Result Parts ListFault) : Type 0 where
   pub bytes : List ℕ
   pub read : Reads port before after path (Ok bytes)
   pub are : listed_of bytes ≡ listed
 
--- how `list` ends: it lists a container, or FILE can't be listed or can't be read, or memory was refused
+-- how `list` ends: it lists a container, FILE can't be listed or read, or an allocation failed
 pub data ListOutcome : Type 0 where
   lists : Parts → ListOutcome
   unlisted : ListFault → ListOutcome
   unreadable : ListOutcome
   lacks_memory : ListOutcome
 
--- when it ends so, by how the files stood and stand; memory may be refused before FILE is read, or by reading it
+-- when it ends in this way, by the states of the files before and after. An allocation may fail before or while FILE is
+-- read.
 abbrev pub ListEnds : {F : Type 0} → FilesPort F → F → F → List ℕ → ListOutcome → Type 0
 ListEnds port before after path (lists parts) = ReadsParts port before after path (Ok parts)
 ListEnds port before after path (unlisted fault) = ReadsParts port before after path (Err fault)
 ListEnds port before after path unreadable = Reads port before after path (Err file_fault.Failed)
 ListEnds port before after path lacks_memory = (after ≡ before) ⊎ Reads port before after path (Err file_fault.OutOfMemory)
 
--- what it says then
+-- the answer for each end
 abbrev pub list_answer : List ℕ → ListOutcome → Answer
 list_answer path (lists parts) = answer_done (listing_text parts.container parts.loader)
 list_answer path (unlisted fault) = answer_refused (refusal_text (Listing fault))
 list_answer path unreadable = answer_refused (unreadable_text path)
 list_answer path lacks_memory = answer_refused (refusal_text OutOfMemory)
 
--- what `list FILE` answers
+-- the answer of `list FILE`
 abbrev pub ListAnswers : {F : Type 0} → FilesPort F → F → F → List ℕ → Answer → Type 0
 ListAnswers port before after path answer = (outcome : ListOutcome) × ListEnds port before after path outcome × (answer ≡ list_answer path outcome)

@@ -1,6 +1,6 @@
--- What `load NAME=FILE ..` answers (README): it reads the files, in the order of the words, before it looks at any;
--- then it prepares the fragment of the first name in a store of all, and prints the memory of its closure. No other
--- call is made on files.
+-- The answer of `load NAME=FILE ..` (README). It reads the files, in the order of the words, before it parses any of
+-- them. Then it prepares the fragment of the first name in a store of all files, and prints the memory of its closure.
+-- It makes no other call on files.
 use Rattle.std.specs.Prelude.{◌≡◌, ◌⊎◌, ℕ, ◌<◌, List, [], ◌∷◌, ◌++◌, Ok, Err, length, take}
 use Rattle.cfm_closure.specs.Stores.{Pair}
 use Rattle.cfm_prepare.specs.Contexts.{ContextState, fresh_state}
@@ -22,7 +22,7 @@ WereRead {F} port before after [] (bytes ∷ contents) = ⊥
 WereRead {F} port before after (file ∷ named) [] = ⊥
 WereRead {F} port before after (file ∷ named) (bytes ∷ contents) = (between : F) × Reads port before between file.1 (Ok bytes) × WereRead port between after named contents
 
--- the first files were read, and then the next one, at this path, answered a fault
+-- the first files were read, and then reading the next one, at this path, returned a fault
 pub record StopsAt {F : Type 0} (port : FilesPort F) (before after : F) (named : List (List ℕ × List ℕ)) (path : List ℕ) (fault : FileFault) : Type 0 where
   pub done : List (List ℕ × List ℕ)
   pub name : List ℕ
@@ -33,7 +33,7 @@ pub record StopsAt {F : Type 0} (port : FilesPort F) (before after : F) (named :
   pub read : WereRead port before between done contents
   pub stops : Reads port between after path (Err fault)
 
--- the pairs of a store: the files' names, each with the bytes
+-- the pairs of a store: the files' names, each with its bytes
 abbrev pub paired : List (List ℕ × List ℕ) → List (List ℕ) → List Pair
 paired [] contents = []
 paired (file ∷ named) [] = []
@@ -48,7 +48,7 @@ first_name (file ∷ named) = file.0
 abbrev pub context_of : List (List ℕ × List ℕ) → List (List ℕ) → ContextState
 context_of named contents = fresh_state (paired named contents) memory_limit
 
--- all files were read, and the first fragment was prepared: a connection with this number, in a context that is so now
+-- all files were read and the first fragment was prepared: a connection with this number, in a context with this state
 pub record PreparesFirst {F : Type 0} (port : FilesPort F) (before after : F) (named : List (List ℕ × List ℕ)) (s : ContextState) (number : ℕ) : Type 0 where
   pub contents : List (List ℕ)
   pub read : WereRead port before after named contents
@@ -60,14 +60,14 @@ pub record RefusesFirst {F : Type 0} (port : FilesPort F) (before after : F) (na
   pub read : WereRead port before after named contents
   pub refused : MayNotPrepare (context_of named contents) (first_name named) fault
 
--- memory was refused: behind the first files, none or all of them, or by reading one
+-- an allocation failed: after none, some or all of the files were read, or while one was read
 abbrev pub LoadLacksMemory : {F : Type 0} → FilesPort F → F → F → List (List ℕ × List ℕ) → Type 0
 LoadLacksMemory port before after named =
     ((n : ℕ) × (contents : List (List ℕ)) × WereRead port before after (take n named) contents)
     ⊎ ((path : List ℕ) × StopsAt port before after named path file_fault.OutOfMemory)
 
--- how `load` ends: a fragment is prepared or isn't, or a file can't be read, or memory was refused for that; or there
--- are no files, or too many
+-- how `load` ends: a fragment is prepared or isn't, a file can't be read, an allocation for reading failed, there are
+-- no files, or there are too many
 pub data LoadOutcome : Type 0 where
   loads : ContextState → ℕ → LoadOutcome
   refuses : PrepareFault → LoadOutcome
@@ -75,7 +75,7 @@ pub data LoadOutcome : Type 0 where
   lacks_memory : LoadOutcome
   usage : LoadOutcome
 
--- when it ends so, by how the files stood and stand
+-- when it ends in this way, by the states of the files before and after
 abbrev pub LoadEnds : {F : Type 0} → FilesPort F → F → F → List (List ℕ × List ℕ) → LoadOutcome → Type 0
 LoadEnds port before after named (loads s number) = PreparesFirst port before after named s number
 LoadEnds port before after named (refuses fault) = RefusesFirst port before after named fault
@@ -83,7 +83,7 @@ LoadEnds port before after named (unreadable path) = StopsAt port before after n
 LoadEnds port before after named lacks_memory = LoadLacksMemory port before after named
 LoadEnds port before after named usage = ((named ≡ []) ⊎ (most_files < length named)) × (after ≡ before)
 
--- what it says then
+-- the answer for each end
 abbrev pub load_answer : LoadOutcome → Answer
 load_answer (loads s number) = answer_done (loaded_text s number)
 load_answer (refuses fault) = answer_refused (prepare_refusal_text fault)
@@ -91,6 +91,6 @@ load_answer (unreadable path) = answer_refused (unreadable_text path)
 load_answer lacks_memory = answer_refused (refusal_text OutOfMemory)
 load_answer usage = answer_usage
 
--- what `load NAME=FILE ..` answers
+-- the answer of `load NAME=FILE ..`
 abbrev pub LoadAnswers : {F : Type 0} → FilesPort F → F → F → List (List ℕ × List ℕ) → Answer → Type 0
 LoadAnswers port before after named answer = (outcome : LoadOutcome) × LoadEnds port before after named outcome × (answer ≡ load_answer outcome)

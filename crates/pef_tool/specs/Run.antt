@@ -1,4 +1,4 @@
--- What a run answers: a command has a line here, and its answers in a file of their own.
+-- The answer of a run. Each command has a line here, and its answers in a file of their own.
 use Rattle.std.specs.Prelude.{◌≡◌, ◌⊎◌, Option, None, Some}
 use Rattle.pef_ports.specs.Ports.{FilesPort, Stream}
 use Rattle.pef_tool.specs.Request.Requests.{Asked, check, distances, link, list, load, show}
@@ -12,12 +12,12 @@ use Rattle.pef_tool.specs.List.{ListAnswers}
 use Rattle.pef_tool.specs.Answers.Refusals.{refusal_text}
 use Rattle.pef_tool.specs.declared.answers.refusal.Refusal.TheVariants.{OutOfMemory}
 
--- what words that ask for no command are answered; memory may be refused before that is seen
+-- the answer to words that are no command. Before that is known, an allocation may fail.
 abbrev pub UsageAnswers : Answer → Type 0
 UsageAnswers answer = (answer ≡ answer_usage) ⊎ (answer ≡ answer_refused (refusal_text OutOfMemory))
 
--- what a run answers, by what its words ask for, and by how the files and the input stood and stand; those that a
--- command has no use for are as they were
+-- the answer of a run, by its command line, and by the states of the files and the input before and after. Those that a
+-- command doesn't use are unchanged.
 abbrev pub RunAnswers : {F R : Type 0} → FilesPort F → (R → Stream) → Option Asked → F → F → R → R → Answer → Type 0
 RunAnswers port stream None files files' input input' answer = UsageAnswers answer × (files' ≡ files) × (input' ≡ input)
 RunAnswers port stream (Some show) files files' input input' answer = ShowAnswers (stream input) (stream input') answer × (files' ≡ files)

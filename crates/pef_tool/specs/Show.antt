@@ -1,4 +1,4 @@
--- What `show` answers (README; docs/RULES.md, "A fragment alone"): it reads the whole input, and shows the memory that
+-- The answer of `show` (README; docs/RULES.md, "A fragment alone"). It reads the whole input, and shows the memory that
 -- its script describes.
 use Rattle.std.specs.Prelude.{◌≡◌, ℕ, ◌≤◌, List, [], ◌∷◌, ◌++◌, Some, Ok, Err, codes, length}
 use Rattle.cfm_closure.specs.Stores.{Pair}
@@ -29,7 +29,7 @@ use Rattle.pef_tool.specs.Loaded.{entries_in, fragment_name, init_order_in, load
 use Rattle.pef_headline.specs.Now.{IsDescribedNow, described_extents}
 use Rattle.pef_write.specs.Linked.{IsLinked, LinkedContainer}
 
--- the input was read whole, and is this text
+-- the whole input was read, and this is its text
 pub record WasRead (before after : Stream) (text : List ℕ) : Type 0 where
   pub whole : IsWhole before.bytes text
   pub short : length text ≤ input_limit
@@ -39,7 +39,7 @@ pub record WasRead (before after : Stream) (text : List ℕ) : Type 0 where
 abbrev pub it_alone : List ℕ → List Pair
 it_alone bytes = record { name = codes "it"; bytes = bytes } ∷ []
 
--- the addresses at which a script's fragment is entered, by where its sections lie
+-- the addresses of the entry points of a script's fragment, by the addresses of its sections
 abbrev pub described_entries : DescribedScript → List Place → Entries
 described_entries script places = record {
   init = entry_address places script.init;
@@ -47,7 +47,7 @@ described_entries script places = record {
   term = entry_address places script.term;
 }
 
--- a connection is of one fragment, which has the name `it` and is entered where a script says
+-- a connection is to one fragment, which has the name `it` and the entry points that a script gives
 pub record IsAlone (script : DescribedScript) (s : ContextState) (number : ℕ) : Type 0 where
   pub name : fragment_name s 0 ≡ codes "it"
   pub order : order_in s number ≡ 0 ∷ []
@@ -55,9 +55,9 @@ pub record IsAlone (script : DescribedScript) (s : ContextState) (number : ℕ) 
   pub entries : entries_in s number 0 ≡ Some (described_entries script (places_of s.present 0))
   pub main : main_in s number ≡ entry_address (places_of s.present 0) script.main
 
--- what is shown of a script: its container is linked, and prepared alone, under the name `it`; each section has its
--- place in memory without instances, in turn the lowest address with room, with the memory that the script
--- describes under the addresses of its sections and of its imports' targets; and nothing else is in memory
+-- the text that is shown of a script. Its container is linked, and prepared alone under the name `it`. In memory
+-- without instances, each section in turn gets the lowest address with room. Its memory is what the script describes
+-- under the addresses of its sections and of its imports' targets. Nothing else is in memory.
 pub record IsShown (script : DescribedScript) (s : ContextState) (number : ℕ) : Type 0 where
   pub container : LinkedContainer
   pub linked : IsLinked script container
@@ -67,21 +67,21 @@ pub record IsShown (script : DescribedScript) (s : ContextState) (number : ℕ) 
   pub first : described.before ≡ no_instances memory_limit
   pub others : given_back s.memory (places_of s.present 0) ≡ no_instances memory_limit
 
--- why a fragment that was linked has no closure alone: it is the refusal of its closure, and none of its bytes, which
--- are always read
+-- why a linked fragment has no closure alone: its closure is refused. The reason is never its bytes, which can always
+-- be read.
 abbrev pub FailsToBind : List ℕ → BindFault → Type 0
 FailsToBind bytes (bind_fault.Container f v) = ⊥
 FailsToBind bytes (bind_fault.Loader f v) = ⊥
 FailsToBind bytes fault = FailsAs fault (closed_of (it_alone bytes) 0)
 
--- the container that is linked of a script has no closure alone, or memory was refused for it
+-- the container that is linked of a script has no closure alone, or an allocation for it failed
 pub record LacksClosure (script : DescribedScript) (fault : BindFault) : Type 0 where
   pub container : LinkedContainer
   pub linked : IsLinked script container
   pub fails : FailsToBind container.bytes fault
 
--- the container that is linked of a script has a closure alone, but one of the script's sections finds no room behind
--- those before it, in memory without instances
+-- the container that is linked of a script has a closure alone, but there is no room for one of the script's sections
+-- after those before it, in memory without instances
 pub record LacksPlaces (script : DescribedScript) : Type 0 where
   pub container : LinkedContainer
   pub linked : IsLinked script container
@@ -89,7 +89,7 @@ pub record LacksPlaces (script : DescribedScript) : Type 0 where
   pub closure : closed_of (it_alone container.bytes) 0 ≡ Ok closed
   pub lacks : LackRoom (no_instances memory_limit) (described_extents script)
 
--- the input is a script, of which this is shown
+-- the input is a script, and this is shown of it
 pub record ShowsInput (before after : Stream) (s : ContextState) (number : ℕ) : Type 0 where
   pub text : List ℕ
   pub input : WasRead before after text
@@ -97,7 +97,7 @@ pub record ShowsInput (before after : Stream) (s : ContextState) (number : ℕ) 
   pub is_script : script_of text ≡ Ok script
   pub shown : IsShown script s number
 
--- the input is a script, which has no closure
+-- the input is a script without a closure
 pub record IsUnbound (before after : Stream) (fault : BindFault) : Type 0 where
   pub text : List ℕ
   pub input : WasRead before after text
@@ -105,7 +105,7 @@ pub record IsUnbound (before after : Stream) (fault : BindFault) : Type 0 where
   pub is_script : script_of text ≡ Ok script
   pub lacks : LacksClosure script fault
 
--- the input is a script, whose sections find no room
+-- the input is a script, and there is no room for its sections
 pub record IsUnplaced (before after : Stream) : Type 0 where
   pub text : List ℕ
   pub input : WasRead before after text
@@ -113,14 +113,14 @@ pub record IsUnplaced (before after : Stream) : Type 0 where
   pub is_script : script_of text ≡ Ok script
   pub lacks : LacksPlaces script
 
--- the input is no script, by its first refusal
+-- the input isn't a script, by its first refusal
 pub record RefusesInput (before after : Stream) (fault : LineFault) (line : ℕ) : Type 0 where
   pub text : List ℕ
   pub input : WasRead before after text
   pub refused : script_of text ≡ Err (record { fault = fault; line = line })
 
--- why `show` is refused: the first refused line of the input; the input failed at its last call; it is too long; or
--- memory was refused, before more than the limit was read
+-- why `show` is refused: the first refused line of the input; the input failed at its last call; it is too long; or an
+-- allocation failed before more than the limit was read
 abbrev pub ShowRefuses : Stream → Stream → Refusal → Type 0
 ShowRefuses before after (Script fault line) = RefusesInput before after fault line
 ShowRefuses before after InputUnreadable = LastFailed before after
@@ -128,32 +128,32 @@ ShowRefuses before after InputTooLong = IsLonger before.bytes input_limit × Non
 ShowRefuses before after OutOfMemory = WasReadWithin before after input_limit × NoneFailed before after
 ShowRefuses before after _ = ⊥
 
--- how `show` ends: it shows a fragment's memory, or the fragment has no closure, or its sections find no room, or `show`
--- is refused before
+-- how `show` ends: it shows a fragment's memory, the fragment has no closure, there is no room for its sections, or
+-- `show` is refused before
 pub data ShowOutcome : Type 0 where
   shows : ContextState → ℕ → ShowOutcome
   unbound : BindFault → ShowOutcome
   unplaced : ShowOutcome
   refuses : Refusal → ShowOutcome
 
--- when it ends so, by how the input stood and stands
+-- when it ends in this way, by the states of the input before and after
 abbrev pub ShowEnds : Stream → Stream → ShowOutcome → Type 0
 ShowEnds before after (shows s number) = ShowsInput before after s number
 ShowEnds before after (unbound fault) = IsUnbound before after fault
 ShowEnds before after unplaced = IsUnplaced before after
 ShowEnds before after (refuses refusal) = ShowRefuses before after refusal
 
--- the line of a fragment whose sections find no room: 67, and its name
+-- the line of a fragment without room for its sections: 67, and its name
 abbrev pub unplaced_text : List ℕ → List ℕ
 unplaced_text name = refused_text (memory.fault_number NoRoom) (memory.fault_name NoRoom) ++ told_text (codes " in ") (Some name) ++ 10 ∷ []
 
--- what it says then
+-- the answer for each end
 abbrev pub show_answer : ShowOutcome → Answer
 show_answer (shows s number) = answer_done (loaded_text s number)
 show_answer (unbound fault) = answer_refused (bind_refusal_text fault)
 show_answer unplaced = answer_refused (unplaced_text (codes "it"))
 show_answer (refuses refusal) = answer_refused (refusal_text refusal)
 
--- what `show` answers
+-- the answer of `show`
 abbrev pub ShowAnswers : Stream → Stream → Answer → Type 0
 ShowAnswers before after answer = (outcome : ShowOutcome) × ShowEnds before after outcome × (answer ≡ show_answer outcome)

@@ -1,7 +1,7 @@
-//! What the commands of `pef` answer, and how an answer goes out: the refusals, each with the line that ends
-//! the run, and the status.
+//! The answers of the commands of `pef`, and how an answer is written: the refusals, each with the line that ends the
+//! run, and the status.
 //!
-//! A refusal is put in words here and nowhere else. Numbers and names are those of the crates that find it.
+//! Only this module puts a refusal in words. The numbers and names are those of the crates that find it.
 
 mod bind_refusal;
 mod outcome;

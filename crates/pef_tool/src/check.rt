@@ -17,24 +17,24 @@ use pef_reloc::Fixup;
 use pef_script::Script;
 use std::alloc::{AllocFailed, Global};
 
-/// What is said of a section's certificate.
+/// The verdict on a section's certificate.
 #[derive(Clone, Copy, Debug, PartialEq, Eq)]
 pub enum Verdict {
-    /// It is valid for the section's fixups; its program has so many halfwords.
+    /// It is valid for the section's fixups. Its program has this many halfwords.
     Yes { halfwords: u64 },
     /// It isn't valid for them.
     No,
 }
 
-/// What is said of the certificate of each section, in order.
+/// The verdicts on the certificates of the sections, in order.
 #[derive(Drop)]
 struct Verdicts {
     verdicts: Vec<Verdict>,
 }
 
-/// Checks the certificates at the path `cert` for the sections of the script at another.
+/// Checks the certificates at the path `cert` for the sections of the script at the path `script`.
 ///
-/// Both files are read before the text of either is looked at.
+/// Both files are read before either is parsed.
 pub fn check_files<F: Files, W: Sink>(
     alloc: Global,
     files: &mut F,
@@ -106,14 +106,14 @@ fn judge(
     }
 }
 
-/// Whether there is a certificate for each section of the script, in order, and no other.
+/// Returns whether there is exactly one certificate for each section of the script, in order.
 fn match_sections(script: &Script<'_>, certificates: &[Certificate]) -> bool
     ensures { result ≡ match_sections script.now certificates.now }
 {
     certificates.len() == script.sections() && are_numbered(certificates)
 }
 
-/// Whether certificates are for sections numbered from 0.
+/// Returns whether certificates are for sections numbered from 0.
 fn are_numbered(certificates: &[Certificate]) -> bool
     ensures { result ≡ are_numbered 0 certificates.now }
 {
@@ -125,7 +125,7 @@ fn are_numbered(certificates: &[Certificate]) -> bool
     true
 }
 
-/// Checks the certificates of the sections, one for each.
+/// Checks the certificates of the sections, one for each section.
 fn check_sections(
     alloc: Global,
     script: &Script<'_>,
@@ -144,7 +144,7 @@ fn check_sections(
     Ok(verdicts)
 }
 
-/// What is said of a certificate for some fixups.
+/// Returns the verdict on a certificate for some fixups.
 fn verdict_on(fixups: &[Fixup], certificate: &Certificate) -> Verdict
     requires { fixups_fit fixups.now ≡ true }
     ensures { IsVerdict fixups.now certificate.now result }
@@ -172,7 +172,7 @@ impl Reply for Verdicts {
     }
 }
 
-/// How a run ends with some verdicts.
+/// Returns the outcome of a run with some verdicts.
 fn verdicts_outcome(verdicts: &[Verdict]) -> Outcome
     ensures { status_of result ≡ verdicts_status verdicts.now }
 {
@@ -199,7 +199,7 @@ fn print_verdicts<W: Sink>(
     Ok(())
 }
 
-/// The line of the verdict on section k's certificate.
+/// Returns the line of the verdict on section k's certificate.
 #[tactic(auto, unfolding(crate::specs::Check::verdict_text))]
 fn verdict_line(k: usize, verdict: Verdict) -> Line
     ensures { result.items ≡ verdict_text k verdict }

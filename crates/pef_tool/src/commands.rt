@@ -17,10 +17,10 @@ use crate::show::show_input;
 use pef_ports::{Files, Sink, Source};
 use std::alloc::Global;
 
-/// Runs the command that the words ask for, of which the first is the program's name, and returns the status.
+/// Runs the command that the words ask for, and returns the status. The first word is the program's name.
 ///
-/// The status is 0 if the command is done, 1 if it is refused, `check` says no or the output fails, and 2 if the
-/// words ask for no command of this program.
+/// The status is 0 if the command is done. It is 1 if the command is refused, `check` answers no or the output fails.
+/// It is 2 if the command line is invalid.
 pub fn run<F: Files, R: Source, W: Sink>(
     alloc: Global,
     words: &[String],
@@ -35,7 +35,7 @@ pub fn run<F: Files, R: Source, W: Sink>(
     perform(alloc, words, files, input, out).status()
 }
 
-/// Does what [`run`] does, and returns how it ended, which [`explain`](crate::explain) takes.
+/// Does the same as [`run`] and returns the outcome, which [`explain`](crate::explain) takes.
 pub fn perform<F: Files, R: Source, W: Sink>(
     alloc: Global,
     words: &[String],
@@ -54,7 +54,7 @@ pub fn perform<F: Files, R: Source, W: Sink>(
     }
 }
 
-/// Prints that memory was refused before there were words.
+/// Prints that an allocation failed before the words were parsed.
 pub fn out_of_memory<W: Sink>(out: &mut W) -> Outcome
     ensures { IsDelivered (W.stream out.old) (W.stream out.new) (answer_refused (refusal_text OutOfMemory)) (status_of result) }
 {

@@ -1,9 +1,9 @@
-//! What more is known of a refusal than its line says: what is odd about a line of a script, which row of a container
-//! is refused, which versions don't fit.
+//! Finds details of a refusal that its printed line doesn't give: the fault in a script's line, the refused row of a
+//! container, the versions that don't fit.
 //!
-//! A detail is worked out after a refusal, from what the command read. It changes neither the output nor the status:
-//! only [`explain`](crate::explain) prints it. So nothing is promised of which detail is found, but of how it is
-//! printed.
+//! A detail is worked out after a refusal, from the data that the command read. It changes neither the output nor the
+//! status: only [`explain`](crate::explain) prints it. The contracts therefore don't state which detail is found. They
+//! state how it is printed.
 
 mod containers;
 mod detail;

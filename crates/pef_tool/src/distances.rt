@@ -8,8 +8,8 @@ use pef_cert::Certificate;
 use pef_ports::{FileFault, Files, Page, Sink, StreamFault, send};
 use std::alloc::Global;
 
-/// Prints the certificates of the script at a path: for each section that no program is shorter than the
-/// one that `link` writes.
+/// Prints the certificates of the script at a path. The certificate of a section states that no program is shorter than
+/// the one that `link` writes.
 ///
 /// The whole text is made before the first line is printed.
 pub fn print_distances<F: Files, W: Sink>(

@@ -10,14 +10,14 @@ use pef_ports::{Page, Sink, StreamFault, send};
 use pef_refusals::help;
 use std::alloc::Global;
 
-/// What is said if the output failed.
+/// The text that is printed if the output failed.
 const OUTPUT_FAILED: &str = "The standard output failed, so a part of the answer may be missing.\n";
 
-/// What is said if there is no memory for the help.
+/// The text that is printed if allocating the help fails.
 const NO_HELP: &str = "An allocation failed, so there is no help.\n";
 
-/// Explains how a run of these words ended, on an output of its own: what a refusal means and what to do, or what is
-/// wrong with the words.
+/// Explains the outcome of a run with these words, on an output of its own: the meaning of a refusal and its remedy, or
+/// the error in the command line.
 ///
 /// A run that is done isn't explained. If this output fails, nothing else changes.
 pub fn explain<W: Sink>(alloc: Global, words: &[String], outcome: Outcome, notes: &mut W)
@@ -31,7 +31,7 @@ pub fn explain<W: Sink>(alloc: Global, words: &[String], outcome: Outcome, notes
     }
 }
 
-/// Writes the help for a refusal, if there is some, and what more is known.
+/// Writes the help for a refusal, if there is some, and the detail that is known.
 fn note_help<W: Sink>(notes: &mut W, text: Option<&'static str>, detail: Option<Detail>)
     ensures { NotesHelp (option_map (λ text. text.now) text.entry) detail (W.stream notes.old) (W.stream notes.new) }
 {
@@ -41,7 +41,7 @@ fn note_help<W: Sink>(notes: &mut W, text: Option<&'static str>, detail: Option<
     }
 }
 
-/// Writes what is wrong with the words, or the help that they ask for.
+/// Writes the error in the command line, or the help that it asks for.
 fn note_usage<W: Sink>(alloc: Global, words: &[String], notes: &mut W)
     ensures { (text : List ℕ) × IsNoted (W.stream notes.old) (W.stream notes.new) text }
 {
@@ -51,7 +51,7 @@ fn note_usage<W: Sink>(alloc: Global, words: &[String], notes: &mut W)
     }
 }
 
-/// Writes a text and its end.
+/// Writes a text and then its end.
 fn write_note<W: Sink>(notes: &mut W, text: &[u8], end: &[u8])
     ensures { IsNoted (W.stream notes.old) (W.stream notes.new) (text.now ++ end.now) }
 {

@@ -6,7 +6,7 @@ use pef_ports::{
     Line, Page, Sink, StreamFault, print_memory, push_number, push_text, push_word, send,
 };
 
-/// Prints a section with its number: where it begins, and its bytes.
+/// Prints a section with its number: its address and its bytes.
 pub fn print_bytes<W: Sink>(
     out: &mut W,
     page: &mut Page,
@@ -21,7 +21,7 @@ pub fn print_bytes<W: Sink>(
     print_memory(out, page, address, bytes)
 }
 
-/// The line above a section's memory.
+/// Returns the line above a section's memory.
 #[tactic(auto, unfolding(crate::specs::Fragment::heading_text))]
 fn heading(i: usize, address: u32, size: usize) -> Line
     ensures { result.items ≡ heading_text i address size }
@@ -37,7 +37,7 @@ fn heading(i: usize, address: u32, size: usize) -> Line
     line
 }
 
-/// The line of an entry, where the entry is there.
+/// Returns the line of an entry point, if there is one.
 pub fn entry_line(label: &[u8], address: Option<u32>) -> Line
     requires { length label.now ≤ 80 }
     ensures { result.items ≡ entry_text label.now address }

@@ -1,8 +1,8 @@
 //! The commands of `pef`, over any files, input and output.
 //!
-//! A command is one file: a function that reads what it is handed, delivers one `Reply` while all that it
-//! borrows is there, and says how the run ended. Its clause says what it answers. [`run`] chooses the command by the
-//! words, and [`explain`] explains how it ended.
+//! Each command has one file. Its function reads its files or input, delivers one `Reply` while all borrowed data is
+//! alive, and returns the outcome. The function's contract states the answer. [`run`] chooses the command by the words,
+//! and [`explain`] explains the outcome.
 #![tactic(auto)]
 
 mod answers;

@@ -10,7 +10,7 @@ use pef_ports::{FileFault, Files, Line, Page, Sink, StreamFault, push_number, pu
 use pef_write::Linked;
 use std::alloc::Global;
 
-/// Links the script at a path, and writes the container to the path `target`.
+/// Links the script at a path and writes the container to the path `target`.
 ///
 /// The script is read and linked before anything is written, so both may be the same path.
 pub fn link_files<F: Files, W: Sink>(
@@ -43,7 +43,7 @@ pub fn link_files<F: Files, W: Sink>(
     }
 }
 
-/// What `link` says of a container that it wrote.
+/// Returns the answer of `link` for a container that it wrote.
 #[derive(Clone, Copy)]
 struct LinkedReply<'a> {
     linked: &'a Linked,
@@ -61,7 +61,7 @@ impl<'a> Reply for LinkedReply<'a> {
     }
 }
 
-/// Prints how many bytes were linked, and how many halfwords the program of each section has.
+/// Prints the number of bytes that were linked, and the number of halfwords of each section's program.
 fn print_linked<W: Sink>(out: &mut W, page: &mut Page, linked: &Linked) -> Result<(), StreamFault>
     ensures { Sends result (W.stream out.old) (W.stream out.new) page.old.items page.new.items (linked_text linked.now) }
 {
@@ -84,7 +84,7 @@ fn print_lengths<W: Sink>(out: &mut W, page: &mut Page, linked: &Linked) -> Resu
     Ok(())
 }
 
-/// The line of a container's size.
+/// Returns the line of a container's size.
 #[tactic(auto, unfolding(crate::specs::Link::size_text))]
 fn size_line(size: usize) -> Line
     ensures { result.items ≡ size_text size }
@@ -96,7 +96,7 @@ fn size_line(size: usize) -> Line
     line
 }
 
-/// The line of the length of section k's program.
+/// Returns the line of the length of section k's program.
 #[tactic(auto, unfolding(crate::specs::Link::length_text))]
 fn length_line(k: usize, length: u32) -> Line
     ensures { result.items ≡ length_text k length }

@@ -5,7 +5,7 @@ use pef_script::Script;
 use pef_write::{Linked, link};
 use std::alloc::Global;
 
-/// Links the script of a text, or says why not.
+/// Links the script in a text, or returns the refusal.
 pub(crate) fn link_text(alloc: Global, text: &[u8]) -> Result<Linked, Refusal>
     ensures { LinksText text.now result }
 {

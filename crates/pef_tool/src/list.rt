@@ -36,7 +36,7 @@ pub fn list_file<F: Files, W: Sink>(
     }
 }
 
-/// What `list` says of a container that it read.
+/// Returns the answer of `list` for a container that it read.
 #[derive(Clone, Copy)]
 struct ListedReply<'a> {
     listing: Listing<'a>,

@@ -14,18 +14,18 @@ use cfm_closure::{MAX_PAIRS, Store, StoreFault};
 use pef_ports::{FileFault, Files, Sink};
 use std::alloc::Global;
 
-/// Why not all files were read.
+/// The reason why not all files were read.
 enum ReadingFault<'a> {
     /// The file at this path can't be read.
     Unreadable(&'a [u8]),
-    /// A growth of memory was refused.
+    /// An allocation failed.
     OutOfMemory,
 }
 
-/// Prepares the first of some files, whose libraries are those of them that have the names, and prints the
-/// memory of its closure.
+/// Prepares the first of some files and prints the memory of its closure. Libraries are found among the files by their
+/// names.
 ///
-/// All files are read, in order, before any of them is looked at.
+/// All files are read, in order, before any of them is parsed.
 pub fn load_files<F: Files, W: Sink>(
     alloc: Global,
     files: &mut F,
@@ -54,7 +54,7 @@ pub fn load_files<F: Files, W: Sink>(
     deliver_root(alloc, store, named[0].name.as_bytes(), shelf, out)
 }
 
-/// The bytes of some files, read in order.
+/// Returns the bytes of some files, read in order.
 fn read_files<'a, F: Files>(
     alloc: Global,
     files: &mut F,
@@ -76,7 +76,7 @@ fn read_files<'a, F: Files>(
     Ok(contents)
 }
 
-/// The bytes of the file at a path.
+/// Returns the bytes of the file at a path.
 fn read_file<'a, F: Files>(
     alloc: Global,
     files: &mut F,
@@ -92,7 +92,7 @@ fn read_file<'a, F: Files>(
     }
 }
 
-/// The store of files that were read.
+/// Returns the store of files that were read.
 fn store_of<'a>(
     alloc: Global,
     named: &'a [NamedFile<'_>],

@@ -17,10 +17,10 @@ use cfm_prepare::{Connection, Context, Entries, PrepareFault};
 use pef_ports::{Page, Sink, StreamFault, send};
 use std::alloc::Global;
 
-/// Addresses of a fragment's memory end below this one.
+/// The exclusive upper limit of the addresses of a fragment's memory.
 const MEMORY_LIMIT: u32 = 0x1000_0000;
 
-/// A connection to the fragment that was asked for, in a context of its own.
+/// A connection to the requested fragment, in a context of its own.
 #[derive(Drop)]
 pub struct Loaded<'a> {
     pub context: Context<'a>,
@@ -28,7 +28,7 @@ pub struct Loaded<'a> {
     ghost low: { context.memory.limit ≤ 2 ^ 32 },
 }
 
-/// Prepares the fragment of a name, in a context of its own.
+/// Prepares the fragment with a name, in a context of its own.
 fn prepare_root<'a>(
     alloc: Global,
     store: Store<'a>,
@@ -47,8 +47,8 @@ fn prepare_root<'a>(
     }
 }
 
-/// Prepares the fragment of a name, and prints the memory of its closure, or why it isn't prepared. The shelf has the
-/// fragments of the store.
+/// Prepares the fragment with a name, and prints the memory of its closure or the reason why it isn't prepared. The
+/// shelf has the fragments of the store.
 pub fn deliver_root<W: Sink>(
     alloc: Global,
     store: Store<'_>,
@@ -89,7 +89,7 @@ enum Routine {
 }
 
 impl Routine {
-    /// What the line of the routine begins with.
+    /// Returns the start of the routine's line.
     fn word(self) -> &'static [u8]
         ensures { result.now ≡ word_of self }
     {
@@ -99,7 +99,7 @@ impl Routine {
         }
     }
 
-    /// Where a fragment has the routine.
+    /// Returns the address of a fragment's routine, if it has one.
     fn address(self, entries: Entries) -> Option<u32>
         ensures { result ≡ address_in self entries }
     {
@@ -109,7 +109,8 @@ impl Routine {
         }
     }
 
-    /// Where the fragment whose routine runs behind those of `i` others stands in the order of initialization.
+    /// Returns the position, in initialization order, of the fragment whose routine runs after the routines of `i`
+    /// others.
     fn place(self, i: usize, count: usize) -> usize
         requires { i < count }
         ensures place { result ≡ place_of self count i }
@@ -122,7 +123,7 @@ impl Routine {
     }
 }
 
-/// Prints the fragments of a connection's closure with their sections, and then where they are entered.
+/// Prints the fragments of a connection's closure with their sections, and then their entry points.
 fn print_loaded<W: Sink>(
     out: &mut W,
     page: &mut Page,
@@ -143,7 +144,7 @@ fn print_loaded<W: Sink>(
     print_routines(out, page, context, connection, Routine::Term, init_order)
 }
 
-/// The fragments of a connection in closure order.
+/// Returns the fragments of a connection in closure order.
 fn order_of<'r>(context: &'r Context<'_>, connection: Connection) -> &'r [usize]
     ensures { result.now ≡ order_in context.now connection.0 }
 {
@@ -153,7 +154,7 @@ fn order_of<'r>(context: &'r Context<'_>, connection: Connection) -> &'r [usize]
     }
 }
 
-/// The fragments of a connection in the order of their initialization.
+/// Returns the fragments of a connection in the order of their initialization.
 fn init_order_of<'r>(context: &'r Context<'_>, connection: Connection) -> &'r [usize]
     ensures { result.now ≡ init_order_in context.now connection.0 }
 {
@@ -163,7 +164,7 @@ fn init_order_of<'r>(context: &'r Context<'_>, connection: Connection) -> &'r [u
     }
 }
 
-/// The name of the fragment in a place of the store.
+/// Returns the name of the fragment at a position in the store.
 fn name_of<'a>(context: &Context<'a>, position: usize) -> &'a [u8]
     ensures { result.now ≡ fragment_name context.now position }
 {
@@ -224,7 +225,7 @@ fn print_sections<W: Sink>(
     Ok(())
 }
 
-/// Prints where a routine of some fragments is entered, in the order in which they run; `order` is that of
+/// Prints the addresses of a routine of some fragments, in the order in which they run. `order` is the order of
 /// initialization.
 fn print_routines<W: Sink>(
     out: &mut W,
@@ -243,7 +244,7 @@ fn print_routines<W: Sink>(
     Ok(())
 }
 
-/// Prints the address of a fragment's routine, where it has one.
+/// Prints the address of a fragment's routine, if it has one.
 fn print_routine<W: Sink>(
     out: &mut W,
     page: &mut Page,
@@ -266,7 +267,7 @@ fn print_routine<W: Sink>(
     }
 }
 
-/// Prints the line of an entry, where the entry is there.
+/// Prints the line of an entry point, if there is one.
 fn print_entry<W: Sink>(
     out: &mut W,
     page: &mut Page,
@@ -282,7 +283,7 @@ fn print_entry<W: Sink>(
     }
 }
 
-/// Prints the line of an entry that is there: a word, the fragment's name and the address.
+/// Prints the line of an entry point that is there: a word, the fragment's name and the address.
 fn print_address<W: Sink>(
     out: &mut W,
     page: &mut Page,

@@ -1,4 +1,4 @@
-//! Which command the words of a command line ask for.
+//! Parses a command line into the command that it asks for.
 
 mod command_line;
 mod files;

@@ -14,7 +14,7 @@ use pef_script::Script;
 use pef_write::{Linked, link};
 use std::alloc::Global;
 
-/// How many bytes of an input are read.
+/// The most bytes of an input that are read.
 const INPUT_LIMIT: usize = 536_870_912;
 
 /// Links the script on the input, prepares it alone, and shows its memory.
@@ -37,7 +37,7 @@ pub fn show_input<R: Source, W: Sink>(alloc: Global, input: &mut R, out: &mut W)
     }
 }
 
-/// Links a script, and shows its container.
+/// Links a script and shows its container.
 fn show_script<W: Sink>(alloc: Global, script: &Script<'_>, out: &mut W) -> Outcome
     ensures { (outcome : ShowOutcome)
         × ScriptEnds script.now outcome
@@ -49,9 +49,9 @@ fn show_script<W: Sink>(alloc: Global, script: &Script<'_>, out: &mut W) -> Outc
     }
 }
 
-/// Prepares a linked container alone under the name `it`, and shows it. It may have no closure, and its sections may
-/// find no room. Of the other faults of preparation only want of memory can come: packed images expand, and the
-/// relocation programs are sound.
+/// Prepares a linked container alone under the name `it`, and shows it. The fragment may have no closure, and there may
+/// be no room for its sections. The only other fault of preparation is a failed allocation, since packed images expand
+/// and the relocation programs are sound.
 fn show_linked<W: Sink>(alloc: Global, linked: &Linked, out: &mut W) -> Outcome
     ensures { (script : DescribedScript) → IsLinked script linked.now → (outcome : ShowOutcome)
         × ScriptEnds script outcome
@@ -63,7 +63,7 @@ fn show_linked<W: Sink>(alloc: Global, linked: &Linked, out: &mut W) -> Outcome
     deliver_root(alloc, store, b"it", Shelf::Alone(linked.bytes()), out)
 }
 
-/// The store of the fragment `it` and no other.
+/// Returns the store that has the fragment `it` and no other.
 fn it_alone<'a>(alloc: Global, bytes: &'a [u8]) -> Result<Store<'a>, StoreFault>
     ensures { IfOk result (λ store. store ≡ it_alone bytes.now) }
 {

@@ -1,8 +1,8 @@
-//! What tests of the commands stand on: files, an input and an output in memory, and runs of the tool over
-//! them, beside what `test_data` has.
+//! The base of the tests of the commands, beside `test_data`: files, an input and an output in memory, and runs of the
+//! tool over them.
 //!
-//! The ports tell their bytes, so what `run` promises of bytes is promised over them; and they give and
-//! take bytes in parts, and fail at one call, behind which they would go on.
+//! The ports expose their bytes, so the contracts of `run` on bytes apply to them. They give and take bytes in parts,
+//! and fail at one call, after which they would continue.
 #![tactic(auto)]
 
 pub mod ports;

@@ -1,4 +1,4 @@
-//! An input, an output and files in memory, which tell their bytes.
+//! An input, an output and files in memory, which expose their bytes.
 
 ghost use Rattle.std.specs.Prelude.{◌<◌};
 
@@ -6,8 +6,7 @@ use arrayvec::ArrayVec;
 use pef_ports::{FileFault, Files, Sink, Source, StreamFault};
 use std::alloc::{AllocError, Global};
 
-/// An input that gives so many bytes a call, and fails at one call: the first where `fails_at` is 1, and
-/// none where it is 0.
+/// An input that gives this many bytes a call, and fails at one call: the first if `fails_at` is 1, none if it is 0.
 #[derive(Drop)]
 pub struct Text<'a> {
     rest: &'a [u8],
@@ -31,7 +30,7 @@ impl<'a> Text<'a> {
         }
     }
 
-    /// What is still to come.
+    /// Returns the bytes that weren't read yet.
     pub fn rest(&self) -> &'a [u8] {
         self.rest
     }
@@ -59,10 +58,10 @@ impl<'a> Source for Text<'a> {
     }
 }
 
-/// How many bytes an output has room for from the start.
+/// The initial capacity of an output in bytes.
 const ROOM: usize = 4096;
 
-/// An output that takes so many bytes a call, and fails at one call.
+/// An output that takes this many bytes a call, and fails at one call.
 #[derive(Drop)]
 pub struct Sheet {
     bytes: Vec<u8>,
@@ -86,7 +85,7 @@ impl Sheet {
         })
     }
 
-    /// What went out.
+    /// Returns the bytes that were written.
     pub fn into_bytes(self) -> Vec<u8> {
         let Sheet { bytes, .. } = self;
         bytes
@@ -113,7 +112,7 @@ impl Sink for Sheet {
     }
 }
 
-/// An output that is an array, so it takes no memory. It fails where it has no room.
+/// An output in an array, so it allocates nothing. It fails if there is no room.
 #[derive(Drop)]
 pub struct Slip {
     bytes: ArrayVec<u8, ROOM>,
@@ -130,7 +129,7 @@ impl Slip {
         }
     }
 
-    /// What went out.
+    /// Returns the bytes that were written.
     pub fn bytes(&self) -> &[u8] {
         self.bytes.as_slice()
     }
@@ -159,8 +158,8 @@ struct Paper {
     bytes: Vec<u8>,
 }
 
-/// Files in memory, of which the newest at a path counts. They count their calls, and fail at one call in
-/// the way that is given.
+/// Files in memory. If several have the same path, the newest is used. They count their calls, and fail at one call in
+/// the given way.
 #[derive(Drop)]
 pub struct Papers {
     papers: Vec<Paper>,
@@ -188,7 +187,7 @@ impl Papers {
         }
     }
 
-    /// The bytes of the newest file at a path.
+    /// Returns the bytes of the newest file at a path.
     pub fn bytes(&self, path: &[u8]) -> Option<&[u8]>
         ensures { option_map (λ b. b.now) result ≡ found_at (seen self.now.papers.items) path.now }
     {
@@ -200,17 +199,17 @@ impl Papers {
         None
     }
 
-    /// How many calls of `read` and of `write` were made.
+    /// Returns the numbers of `read` and `write` calls.
     pub fn calls(&self) -> (u64, u64) {
         (self.reads, self.writes)
     }
 
-    /// How many calls failed.
+    /// Returns the number of calls that failed.
     pub fn failures(&self) -> u64 {
         self.failures
     }
 
-    /// Whether this call is the one that fails, and how.
+    /// Returns the fault of this call, if it is the one that fails.
     fn trouble(&mut self) -> Option<FileFault>
         ensures { self.new ≡ record self.old { fails_at = self.new.fails_at } }
     {
@@ -222,7 +221,7 @@ impl Papers {
         None
     }
 
-    /// A fault, counted where it is a failure.
+    /// Returns a fault, and counts it if it is `Failed`.
     fn failed(&mut self, fault: FileFault) -> FileFault
         ensures same { result ≡ fault }
         ensures count { self.new ≡ record self.old { failures = counted fault self.old.failures } }

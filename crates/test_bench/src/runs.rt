@@ -8,26 +8,26 @@ use std::alloc::{AllocError, Global};
 use std::test::Fail;
 use test_data::refusals::{say_answered, say_begins};
 
-/// More writes than an answer has that is cut at each.
+/// More writes than any answer has that is cut at each of them.
 const MOST_WRITES: usize = 100;
 
-/// What a run is handed. Where a call is numbered 0, none fails.
+/// The arguments of a run. If the number of a call is 0, no call fails.
 #[derive(Clone, Copy)]
 pub struct Handed<'a> {
-    /// The words behind the program's name.
+    /// The words after the program's name.
     pub words: &'a [&'a str],
-    /// What the file `a` has.
+    /// The contents of the file `a`.
     pub file: &'a [u8],
-    /// What the file `b` has, where it is there; there is no other.
+    /// The contents of the file `b`, if it is there. There are no other files.
     pub second: Option<&'a [u8]>,
     pub input: &'a [u8],
-    /// How many bytes the input gives and the output takes a call.
+    /// The number of bytes that the input gives and the output takes a call.
     pub step: usize,
     /// The call of the input that fails.
     pub input_fails_at: u32,
     /// The call of the output that fails.
     pub out_fails_at: usize,
-    /// The call of the files that fails, and how.
+    /// The call of the files that fails, and its fault.
     pub files_fail_at: u32,
     pub fault: FileFault,
 }
@@ -35,7 +35,7 @@ pub struct Handed<'a> {
 impl<'a> Handed<'a> {
     ghost use Rattle.std.specs.Prelude.{◌≡◌};
 
-    /// Words and an input, where nothing fails.
+    /// Returns words and an input. No call fails.
     pub fn input(words: &'a [&'a str], input: &'a [u8]) -> Handed<'a>
         ensures { result.step ≡ 1000 }
     {
@@ -52,7 +52,7 @@ impl<'a> Handed<'a> {
         }
     }
 
-    /// Words and the files `a` and `b`, where nothing fails.
+    /// Returns words and the files `a` and `b`. No call fails.
     pub fn files(words: &'a [&'a str], file: &'a [u8], second: &'a [u8]) -> Handed<'a>
         ensures { result.step ≡ 1000 }
     {
@@ -62,7 +62,7 @@ impl<'a> Handed<'a> {
         }
     }
 
-    /// Words and the file `a`, where nothing fails.
+    /// Returns words and the file `a`. No call fails.
     pub fn file(words: &'a [&'a str], file: &'a [u8]) -> Handed<'a>
         ensures { result.step ≡ 1000 }
     {
@@ -73,18 +73,18 @@ impl<'a> Handed<'a> {
     }
 }
 
-/// What a run leaves.
+/// The state after a run.
 #[derive(Drop)]
 pub struct Outcome {
     pub printed: Vec<u8>,
     pub status: u8,
     pub papers: Papers,
-    /// How many bytes of the input are still to come.
+    /// Returns the number of bytes of the input that weren't read yet.
     pub left: usize,
 }
 
 impl Outcome {
-    /// Tests how many calls of `read` and of `write` the files had.
+    /// Tests the numbers of `read` and `write` calls of the files.
     pub fn assert_calls(&self, calls: (u64, u64)) -> Result<(), Fail> {
         let (reads, writes) = self.papers.calls();
         if (reads, writes) != calls {
@@ -104,13 +104,13 @@ impl Outcome {
         Ok(())
     }
 
-    /// Whether a file has just these bytes.
+    /// Returns whether a file has exactly these bytes.
     pub fn has(&self, path: &[u8], bytes: &[u8]) -> bool {
         self.papers.bytes(path) == Some(bytes)
     }
 }
 
-/// The words of a line, behind the program's name.
+/// Returns the words of a command line, after the program's name.
 fn line_of(alloc: Global, words: &[&str]) -> Result<Vec<String>, AllocError> {
     let mut line = Vec::new(alloc);
     line.push(String::from_str(alloc, "pef")?)?;
@@ -120,7 +120,7 @@ fn line_of(alloc: Global, words: &[&str]) -> Result<Vec<String>, AllocError> {
     Ok(line)
 }
 
-/// Runs the tool on words over files: its status.
+/// Runs the tool on words over files, and returns its status.
 fn run_words(
     alloc: Global,
     words: &[&str],
@@ -140,7 +140,7 @@ pub fn put_file(papers: &mut Papers, path: &str, bytes: &[u8]) -> Result<(), Fai
     }
 }
 
-/// Runs the tool.
+/// Runs the tool, and returns the state after the run.
 pub fn run_tool(alloc: Global, handed: Handed<'_>) -> Result<Outcome, Fail>
     requires { 0 < handed.step }
 {
@@ -160,8 +160,8 @@ pub fn run_tool(alloc: Global, handed: Handed<'_>) -> Result<Outcome, Fail>
     })
 }
 
-/// Runs the tool, and explains how the run ended on an output that fails at a call. Both outputs take a byte a call.
-/// Returns what the run leaves, and what the explanation's output has.
+/// Runs the tool, and explains the outcome on an output that fails at a call. Both outputs take one byte a call.
+/// Returns the state after the run, and the bytes that the explanation's output has.
 pub fn run_explained(
     alloc: Global,
     handed: Handed<'_>,
@@ -187,8 +187,8 @@ pub fn run_explained(
     Ok((outcome, notes.into_bytes()))
 }
 
-/// Runs the tool, which must print this and end with this status. Its explanation begins like this, or there is none where
-/// this is empty.
+/// Runs the tool, which must print this and end with this status. Its explanation must begin with this text. If the
+/// text is empty, there must be no explanation.
 pub fn assert_explains(
     alloc: Global,
     handed: Handed<'_>,
@@ -223,7 +223,7 @@ pub fn assert_prints(
     Ok(outcome)
 }
 
-/// Runs `show`, which must take the whole input, and leave files alone.
+/// Runs `show`, which must read the whole input and may not access files.
 pub fn assert_shows(alloc: Global, script: &[u8], printed: &[u8], status: u8) -> Result<(), Fail> {
     let outcome = assert_prints(alloc, Handed::input(&["show"], script), printed, status)?;
     if outcome.left != 0 {
@@ -232,8 +232,8 @@ pub fn assert_shows(alloc: Global, script: &[u8], printed: &[u8], status: u8) ->
     outcome.assert_calls((0, 0))
 }
 
-/// Files that aren't there or can't be read, or for which there is no memory: the path, the call of the
-/// files that fails and how, and what is printed.
+/// Files that aren't there or can't be read, or whose allocation fails: the path, the call of the files that fails and
+/// its fault, and the text that is printed.
 const UNREADABLE: &[(&str, u32, FileFault, &[u8])] = &[
     (
         "a b",
@@ -245,7 +245,7 @@ const UNREADABLE: &[(&str, u32, FileFault, &[u8])] = &[
     ("a", 1, FileFault::OutOfMemory, b"refused 99 OutOfMemory\n"),
 ];
 
-/// Runs a command of one file where that can't be read. It must say so, and make no other call.
+/// Runs a command on one file that can't be read. It must report that, and make no other call.
 pub fn assert_unreadable(alloc: Global, command: &str, file: &[u8]) -> Result<(), Fail> {
     for row in UNREADABLE {
         let (path, files_fail_at, fault, printed) = *row;
@@ -260,8 +260,8 @@ pub fn assert_unreadable(alloc: Global, command: &str, file: &[u8]) -> Result<()
     Ok(())
 }
 
-/// Runs a command with an output that takes a byte a call, and fails at call k: k - 1 bytes go out, though it
-/// would go on.
+/// Runs a command with an output that takes one byte a call and fails at call k: k - 1 bytes are written, though the
+/// output would continue.
 pub fn assert_cut_output(alloc: Global, handed: Handed<'_>, printed: &[u8]) -> Result<(), Fail> {
     for k in 0..printed.len() {
         let handed = Handed {
@@ -274,8 +274,9 @@ pub fn assert_cut_output(alloc: Global, handed: Handed<'_>, printed: &[u8]) -> R
     Ok(())
 }
 
-/// Runs a command with an output that takes all of a write, and fails at the first, at the second, and so on: a prefix of
-/// the answer is written, though the output would go on. Returns how many writes there are when it ends with 0.
+/// Runs a command with an output that takes all bytes of a write, and fails at the first write, at the second, and so
+/// on. A prefix of the answer is written, though the output would continue. Returns the number of writes when the
+/// status is 0.
 pub fn assert_cut_writes(alloc: Global, handed: Handed<'_>, printed: &[u8]) -> Result<usize, Fail> {
     for k in 1..=MOST_WRITES {
         let handed = Handed {
@@ -310,7 +311,7 @@ pub fn assert_prints_over(
     Ok(())
 }
 
-/// Runs the tool over files, with an empty input: what it prints, and its status.
+/// Runs the tool over files, with an empty input. Returns the text that it prints, and its status.
 pub fn run_over(
     alloc: Global,
     papers: &mut Papers,
@@ -322,8 +323,8 @@ pub fn run_over(
     Ok((out.into_bytes(), status))
 }
 
-/// Runs the tool over files and an input where one growth may be refused to it, as by `tools/refuse-memory`. It must
-/// print this and end with 0; or say that memory is refused, print nothing else and end with 1.
+/// Runs the tool over files and an input. One allocation may be refused to it, as by `tools/refuse-memory`. It must
+/// print this and end with 0, or report that an allocation failed, print nothing else and end with 1.
 pub fn assert_prints_or_lacks_memory(
     rt: &impl Print,
     alloc: Global,
@@ -361,7 +362,7 @@ pub fn put_linked(
     Ok(())
 }
 
-/// A failure that tells what a run printed, and its status.
+/// Returns a failure with the text that a run printed, and its status.
 fn unlike(words: &[&str], printed: &[u8], status: u8) -> Fail {
     let printed = str::from_utf8(printed).unwrap_or("no text");
     Fail::new(format_args!("{words:?} ends with {status} and prints {printed}"))

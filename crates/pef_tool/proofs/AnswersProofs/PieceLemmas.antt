@@ -1,4 +1,4 @@
--- Pieces of an answer, by another name of their text.
+-- Pieces of an answer, if their texts are equal.
 use Rattle.std.proofs.Common.{◌≡◌, List, ℕ, subst}
 use Rattle.pef_ports.specs.Ports.{Stream}
 use Rattle.pef_ports.specs.Sent.{Prints, StopsShort}

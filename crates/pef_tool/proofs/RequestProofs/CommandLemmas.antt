@@ -1,4 +1,4 @@
--- What a command becomes by one more.
+-- A command after one more subcommand is added.
 use Rattle.std.proofs.Common.{◌≡◌, ap, ap₂, ◌∙◌, false, IfOk, Result, Ok, Err}
 use Rattle.clap.specs.Words.{App, app_of}
 use Rattle.clap.specs.Simple.{with_subcommand}
@@ -6,7 +6,7 @@ use Rattle.clap.specs.declared.builder.command.Command.{Command}
 use Rattle.clap.specs.declared.builder.command.Command.TheViews.{out-Command}
 use Rattle.pef_tool.specs.Request.Kept.Commands.{HasOneMore}
 
--- where it's known what both are
+-- if both commands are known
 pub one_more : {E : Type 0} {before known : App} (more : Result Command E) (added : App) (after : Command)
     → before ≡ known → IfOk more (λ m. app_of m ≡ added) → IfOk more (λ m. (out-Command m).has_globals ≡ false)
     → HasOneMore before more after → app_of after ≡ with_subcommand known added.top

@@ -1,4 +1,4 @@
--- How a word `NAME=FILE` is cut, and which files several words name.
+-- How a word `NAME=FILE` is split, and which files several words name.
 use Rattle.std.proofs.Common.{◌≡◌, ◌≢◌, ◌<◌, ◌==◌, ◌++◌, ℕ, suc, false, List, [], ◌∷◌, length, get_or, Option, None, Some, option_map, refl, sym, ap, ◌∙◌, arith, Bor}
 use Rattle.std.proofs.lemmas.Bool.{ne_eqb}
 use Rattle.std.proofs.lemmas.Str.Pattern.{IsSplitOnceResult, split_parts}

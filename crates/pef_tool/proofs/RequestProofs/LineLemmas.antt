@@ -1,4 +1,4 @@
--- What a parse of this program's line says of what it asks for.
+-- How the parse of a command line determines its request.
 use Rattle.std.proofs.Common.{◌≡◌, ◌⊎◌, true, List, [], ◌∷◌, Option, None, Some, Err, refl, sym, ap₂, subst, inl, inr, option_map, option_and_then}
 use Rattle.std.specs.Box.{box_value}
 use Rattle.std.specs.declared.boxed.Box.{Box}
@@ -17,7 +17,7 @@ use Rattle.pef_tool.specs.Request.CommandLine.{asked_at, asked_by, command_asked
 use Rattle.pef_tool.specs.Request.Kept.Kinds.{fault_of_kind}
 use Rattle.pef_tool.specs.Request.Requests.{AnswersWords}
 
--- the program's commands are of the kind whose parse `clap` states whole
+-- the program's commands are of the kind whose parse `clap` specifies completely
 pub pef_simple : is_simple_and_free pef ≡ true
 unfolding pef clap_on_literals
 pef_simple = refl
@@ -32,7 +32,7 @@ pub asked_by-good : (words : List Text) (found : Option (Text × List Row)) → 
 unfolding asked_by
 asked_by-good words found none is = ap₂ asked_at none is
 
--- every kind of error is out of memory or no good line
+-- every kind of error means a failed allocation or an invalid command line
 pub fault_of_kind-none : (k : ErrorKind) → AnswersWords (Err (fault_of_kind k)) None
 fault_of_kind-none kind.OutOfMemory = tt
 fault_of_kind-none _ = refl

@@ -1,4 +1,4 @@
--- What `load` makes of words that don't begin with `-`: each is one more of its files, and 1 to 256 are taken.
+-- How `load` parses words that don't begin with `-`: each adds one file, and 1 to 256 are accepted.
 use Rattle.std.proofs.Common.{◌≡◌, ◌<◌, ◌≤◌, ℕ, true, false, List, [], ◌∷◌, ◌++◌, Option, None, Some, codes, length, nat_le, option_map, arith, refl, sym, ap, ap₂, ◌∙◌, inl, inr, append_assoc}
 use Rattle.std.specs.Prelude.{fold}
 use Rattle.std.proofs.lemmas.Bool.{le-ltb, leb-false, leb-true, lt-ltb, ne_eqb}
@@ -69,7 +69,7 @@ all_sound before [] plain = refl
 all_sound before (word ∷ words) plain =
     ap₂ or_else (next_sound before word plain.0) (ap (λ (w : Walk). walk_fault load_shape [] w words) (next_taken before word plain.0) ∙ all_sound (before ++ word ∷ []) words plain.1)
 
--- what `load` asks for where the walk over its words ends, with its faults
+-- the request of `load` at the end of the walk over its words, with the faults of the walk
 load_end : Walk → Kinds → Option Asked
 load_end w faults =
     let s = load_shape in
@@ -81,7 +81,7 @@ load_ends : (words : List Text) → at_end (named (codes "load") words) [] ≡ l
 unfolding pef clap_on_literals named at_end load_end load_shape files_rule
 load_ends words = refl
 
--- what `load` asks for, by the faults of the number of its words and of the words
+-- the request of `load`, by the faults of the number of its words and of the words
 load_at : Kinds → Kinds → List Text → Option Asked
 load_at range values words = asked_at (or_else (or_else (or_else range values) []) []) (Some (codes "load", finished load_shape.rules (taken words).held))
 

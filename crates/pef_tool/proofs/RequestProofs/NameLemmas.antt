@@ -43,11 +43,11 @@ pub is_or_not : (b : Bool) → (b ≡ true) ⊎ (b ≡ false)
 is_or_not true = inl refl
 is_or_not false = inr refl
 
--- where a command was named
+-- if a command was named
 unfoldable pub named : Text → List Text → Walk
 named name words = record (walk_from nothing_held) { stopped = Some (name, words) }
 
--- what is asked where the walk over the words ends, with its faults
+-- the request at the end of the walk over the words, with the faults of the walk
 unfoldable pub at_end : Walk → Kinds → Option Asked
 unfolding pef
 at_end w faults =

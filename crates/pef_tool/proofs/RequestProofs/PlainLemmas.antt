@@ -1,4 +1,4 @@
--- Words that don't begin with `-` are read as one expects.
+-- Words that don't begin with `-` are parsed as expected.
 use Rattle.std.proofs.Common.{◌≡◌, false, List, [], ◌∷◌, None, codes, drop, refl, ◌∙◌, inl, inr}
 use Rattle.std.specs.Str.{bytes_eq}
 use Rattle.clap.proofs.OnLiterals.{clap_on_literals}
@@ -86,7 +86,7 @@ unknown_asked : (program name : Text) (words : List Text) → bytes_eq (codes "s
 unfolding asked_by pef clap_on_literals
 unknown_asked program name words a b c d e f free = rw (a, b, c, d, e, f, free.dashes, free.long, free.short) refl
 
--- words that don't begin with `-` ask for what they plainly say
+-- words that don't begin with `-` make the request that they spell
 pub asked_plain : (words : List Text) → ArePlain (drop 1 words) → asked_by words ≡ plain_words words
 unfolding pef
 asked_plain [] plain = none_asked

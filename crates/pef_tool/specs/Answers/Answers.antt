@@ -1,11 +1,11 @@
--- What a command answers, and how its answer goes out (README, "Output and status").
+-- The answers of commands, and how an answer is written (README, "Output and status").
 use Rattle.std.specs.Prelude.{◌≡◌, ◌⊎◌, ℕ, List, Option, None, codes, take}
 use Rattle.pef_ports.specs.Ports.{Stream, Grows, LastFailed, NoneFailed}
 use Rattle.pef_tool.specs.declared.answers.outcome.Outcome.{Outcome}
 use Rattle.pef_tool.specs.declared.answers.outcome.Outcome.TheVariants.{Done, SaidNo, Refused, Usage, OutputFailed}
 use Rattle.pef_tool.specs.declared.details.detail.Detail.{Detail}
 
--- an answer: what is printed, and the status that the run ends with
+-- an answer: the text that is printed, and the exit status of the run
 pub record Answer : Type 0 where
   pub text : List ℕ
   pub status : ℕ
@@ -18,7 +18,7 @@ answer_done text = record { text = text; status = 0 }
 abbrev pub answer_refused : List ℕ → Answer
 answer_refused text = record { text = text; status = 1 }
 
--- the answer to words that are no line of this program
+-- the answer to an invalid command line
 abbrev pub answer_usage : Answer
 answer_usage = record { text = codes "usage\n"; status = 2 }
 
@@ -30,11 +30,11 @@ status_of (Refused number detail) = 1
 status_of Usage = 2
 status_of OutputFailed = 1
 
--- refused with a number, of which no more is known
+-- refused with a number, with no detail
 abbrev pub refused_as : ℕ → Outcome
 refused_as number = Refused number None
 
--- an outcome with what more is known, if it is a refusal
+-- an outcome with a detail, if it is a refusal
 abbrev pub detailed : Option Detail → Outcome → Outcome
 detailed detail Done = Done
 detailed detail SaidNo = SaidNo
@@ -42,7 +42,7 @@ detailed detail (Refused number _) = Refused number detail
 detailed detail Usage = Usage
 detailed detail OutputFailed = OutputFailed
 
--- the answer goes out whole; or a front of it, then the output fails at its last call, and the status is 1
+-- the whole answer is written; or a prefix of it, then the output fails at its last call, and the status is 1
 abbrev pub IsDelivered : Stream → Stream → Answer → ℕ → Type 0
 IsDelivered before after answer status =
     (Grows before.bytes after.bytes answer.text × NoneFailed before after × (status ≡ answer.status))

@@ -1,5 +1,5 @@
--- The line that ends a refused run (docs/ERRORS.md, "How a refusal is printed"). The numbers and names of the libraries'
--- faults are theirs.
+-- The line that ends a refused run (docs/ERRORS.md, "How a refusal is printed"). The numbers and names of the
+-- libraries' faults are defined there.
 use Rattle.std.specs.Prelude.{ℕ, List, [], ◌∷◌, ◌++◌, Option, None, Some, codes, decimal}
 use Rattle.cfm_closure.specs.Faults as bind
 use Rattle.cfm_closure.specs.declared.fault.BindFault.{BindFault}
@@ -40,7 +40,7 @@ name_of InputUnreadable = input.fault_name input_fault.Unreadable
 name_of InputTooLong = input.fault_name input_fault.TooLong
 name_of OutOfMemory = codes "OutOfMemory"
 
--- what else the line says
+-- the rest of the line
 abbrev pub place_of : Refusal → List ℕ
 place_of (Script fault line) = codes " line " ++ decimal line
 place_of (Listing fault) = []
@@ -50,14 +50,14 @@ place_of InputUnreadable = []
 place_of InputTooLong = []
 place_of OutOfMemory = []
 
--- what each line begins with: a number and a name
+-- the start of each line: a number and a name
 abbrev pub refused_text : ℕ → List ℕ → List ℕ
 refused_text number name = codes "refused " ++ decimal number ++ codes " " ++ name
 
 abbrev pub refusal_text : Refusal → List ℕ
 refusal_text refusal = refused_text (number_of refusal) (name_of refusal) ++ place_of refusal ++ 10 ∷ []
 
--- the names that the refusal of a closure tells: of a fragment, of a library, of a symbol
+-- the names that the refusal of a closure gives: of a fragment, of a library, of a symbol
 
 abbrev pub told_fragment : BindFault → Option (List ℕ)
 told_fragment (bind_fault.Container f v) = Some f.now
@@ -82,7 +82,7 @@ told_symbol (bind_fault.SymbolMissing f l s) = Some s.now
 told_symbol (bind_fault.ReexportLoop f s) = Some s.now
 told_symbol _ = None
 
--- a name behind a word, where it is told
+-- a word and then a name, if there is a name
 abbrev pub told_text : List ℕ → Option (List ℕ) → List ℕ
 told_text word None = []
 told_text word (Some name) = word ++ name_text name
@@ -96,14 +96,14 @@ bind_refusal_text fault =
     ++ told_text (codes " symbol ") (told_symbol fault)
     ++ 10 ∷ []
 
--- the name of the fragment that isn't prepared, where its closure isn't the reason
+-- the name of the fragment that isn't prepared, if its closure isn't the reason
 abbrev pub told_unprepared : PrepareFault → Option (List ℕ)
 told_unprepared (prepare_fault.Fragment (fragment_fault.NoRoom f)) = Some f.now
 told_unprepared (prepare_fault.Fragment (fragment_fault.Pack f k)) = Some f.now
 told_unprepared (prepare_fault.Fragment (fragment_fault.Reloc f k)) = Some f.now
 told_unprepared _ = None
 
--- the line of a fragment that isn't prepared, where its closure isn't the reason
+-- the line of a fragment that isn't prepared, if its closure isn't the reason
 abbrev pub unprepared_text : PrepareFault → List ℕ
 unprepared_text fault = refused_text (prepare.fault_number fault) (prepare.fault_name fault) ++ told_text (codes " in ") (told_unprepared fault) ++ 10 ∷ []
 
@@ -112,11 +112,11 @@ abbrev pub prepare_refusal_text : PrepareFault → List ℕ
 prepare_refusal_text (prepare_fault.Bind f) = bind_refusal_text f
 prepare_refusal_text fault = unprepared_text fault
 
--- a name as it ends a line
+-- a name at the end of a line
 abbrev pub name_end : List ℕ → List ℕ
 name_end name = name_text name ++ 10 ∷ []
 
--- a file that couldn't be read, and one that couldn't be written: numbers and names
+-- the numbers and names for a file that couldn't be read and a file that couldn't be written
 
 abbrev pub unreadable_number : ℕ
 unreadable_number = 71
@@ -130,7 +130,7 @@ unwritable_number = 72
 abbrev pub unwritable_name : List ℕ
 unwritable_name = codes "FileUnwritable"
 
--- the number and the name of a refusal over a file, and the file's path
+-- the number and the name of a refusal because of a file, and the file's path
 
 abbrev pub file_number_of : FileRefusal → ℕ
 file_number_of (Unreadable path) = unreadable_number
@@ -144,11 +144,11 @@ abbrev pub path_of : FileRefusal → List ℕ
 path_of (Unreadable path) = path.now
 path_of (Unwritable path) = path.now
 
--- what the line of such a refusal begins with: what each begins with, and a space
+-- the start of such a refusal's line: the start of each line, and a space
 abbrev pub file_refusal_start : ℕ → List ℕ → List ℕ
 file_refusal_start number name = refused_text number name ++ codes " "
 
--- the line of a refusal over a file
+-- the line of a refusal because of a file
 abbrev pub file_refusal_text : FileRefusal → List ℕ
 file_refusal_text refusal = file_refusal_start (file_number_of refusal) (file_name_of refusal) ++ name_end (path_of refusal)
 

@@ -1,4 +1,4 @@
--- What the faults of the readers of inputs, scripts and certificates are told as (docs/ERRORS.md).
+-- The refusals that faults of reading inputs, scripts and certificates are reported as (docs/ERRORS.md).
 use Rattle.pef_cert.specs.declared.text.fault.CertFault.{CertFault}
 use Rattle.pef_cert.specs.declared.text.fault.CertFault.TheVariants as cert_fault
 use Rattle.pef_ports.specs.declared.input.InputFault.{InputFault}
@@ -8,18 +8,18 @@ use Rattle.pef_script.specs.declared.text.fault.ScriptFault.TheVariants as scrip
 use Rattle.pef_tool.specs.declared.answers.refusal.Refusal.{Refusal}
 use Rattle.pef_tool.specs.declared.answers.refusal.Refusal.TheVariants as refusal
 
--- what a fault of reading the input is told as
+-- the refusal that a fault of reading the input is reported as
 abbrev pub input_refusal : InputFault → Refusal
 input_refusal input_fault.Unreadable = refusal.InputUnreadable
 input_refusal input_fault.TooLong = refusal.InputTooLong
 input_refusal input_fault.OutOfMemory = refusal.OutOfMemory
 
--- what a fault of reading a script is told as
+-- the refusal that a fault of reading a script is reported as
 abbrev pub script_refusal : ScriptFault → Refusal
 script_refusal (script_fault.Refused fault line) = refusal.Script fault line
 script_refusal script_fault.OutOfMemory = refusal.OutOfMemory
 
--- what a fault of reading certificates is told as
+-- the refusal that a fault of reading certificates is reported as
 abbrev pub certificate_refusal : CertFault → Refusal
 certificate_refusal (cert_fault.BadCertificate line) = refusal.BadCertificate line
 certificate_refusal cert_fault.OutOfMemory = refusal.OutOfMemory

@@ -6,7 +6,7 @@ use Rattle.pef_tool.specs.declared.answers.refusal.Refusal.{Refusal}
 use Rattle.pef_tool.specs.declared.answers.refusal.Refusal.TheVariants.{Script, OutOfMemory}
 use Rattle.pef_write.specs.Linked.{IsLinked, LinkedContainer}
 
--- what a text is linked to: the container of its script; or the script's first refusal, or that memory was refused
+-- the result of linking a text: the container of its script, the script's first refusal, or a failed allocation
 abbrev pub LinksText : List ℕ → Result LinkedContainer Refusal → Type 0
 LinksText text (Ok l) = (script : DescribedScript) × (script_of text ≡ Ok script) × IsLinked script l
 LinksText text (Err (Script fault line)) = script_of text ≡ Err (record { fault = fault; line = line })

@@ -1,4 +1,4 @@
--- How the preparation of one fragment, in a context of its own, ends, and what is said then.
+-- How the preparation of one fragment, in a context of its own, ends, and the answer for each end.
 use Rattle.std.specs.Prelude.{ℕ, List}
 use Rattle.cfm_closure.specs.Stores.{Pair}
 use Rattle.cfm_prepare.specs.Contexts.{ContextState, fresh_state}
@@ -9,17 +9,17 @@ use Rattle.pef_tool.specs.Answers.Refusals.{prepare_refusal_text}
 use Rattle.pef_tool.specs.Limits.{memory_limit}
 use Rattle.pef_tool.specs.Loaded.{loaded_text}
 
--- it is prepared: a connection with this number, in a context that is so now; or it isn't, for this reason
+-- it is prepared: a connection with this number, in a context with this state. Or it isn't, for this reason.
 pub data RootOutcome : Type 0 where
   prepares : ContextState → ℕ → RootOutcome
   refuses : PrepareFault → RootOutcome
 
--- when it ends so, by the store and the name
+-- when it ends in this way, by the store and the name
 abbrev pub RootEnds : List Pair → List ℕ → RootOutcome → Type 0
 RootEnds pairs name (prepares s number) = Prepares (fresh_state pairs memory_limit) name number s
 RootEnds pairs name (refuses fault) = MayNotPrepare (fresh_state pairs memory_limit) name fault
 
--- what is said then
+-- the answer for each end
 abbrev pub root_answer : RootOutcome → Answer
 root_answer (prepares s number) = answer_done (loaded_text s number)
 root_answer (refuses fault) = answer_refused (prepare_refusal_text fault)

@@ -4,7 +4,7 @@ use Rattle.pef_tool.specs.declared.answers.refusal.Refusal.TheVariants as refusa
 use Rattle.pef_script.specs.Script.{DescribedScript}
 use Rattle.pef_tool.specs.Show.{IsShown, LacksClosure, LacksPlaces, ShowOutcome, refuses, shows, unbound, unplaced}
 
--- how `show` ends with a script: it is shown, or has no closure, or finds no room, or memory was refused
+-- how `show` ends with a script: it is shown, it has no closure, there is no room for it, or an allocation failed
 abbrev pub ScriptEnds : DescribedScript → ShowOutcome → Type 0
 ScriptEnds script (shows s number) = IsShown script s number
 ScriptEnds script (unbound fault) = LacksClosure script fault

@@ -1,5 +1,4 @@
--- What the words of a command line ask for, by `clap`'s own function of the words at this program's
--- commands.
+-- What the words of a command line ask for: `clap`'s own function of the words, with this program's commands.
 use Rattle.std.specs.Prelude.{ℕ, true, List, [], ◌∷◌, Option, None, Some, codes, if◌then◌else◌, option_and_then, option_map}
 use Rattle.std.specs.Str.{bytes_eq}
 use Rattle.clap.specs.Walk.{Row, Rule, Text, all_of, first_of}
@@ -7,7 +6,7 @@ use Rattle.clap.specs.Words.{App, Kinds, new_app, new_rule, with_rule, with_subc
 use Rattle.pef_tool.specs.Request.Files.{named_files}
 use Rattle.pef_tool.specs.Request.Requests.{Asked, check, distances, link, list, load, show}
 
--- an operand that has to be there
+-- a required operand
 abbrev pub operand : Text → Rule
 operand name = record (new_rule name) { required = true }
 
@@ -27,11 +26,11 @@ list_command = with_rule (new_app (codes "list")) (operand (codes "FILE"))
 abbrev pub check_command : App
 check_command = with_rule (with_rule (new_app (codes "check")) (operand (codes "SCRIPT"))) (operand (codes "CERT"))
 
--- the most files of `load`
+-- the maximum number of files of `load`
 abbrev pub most_files : ℕ
 most_files = 256
 
--- the operand of `load`, which is one word or more
+-- the operand of `load`, which takes one word or more
 abbrev pub files_operand : Rule
 files_operand = record (operand (codes "NAME=FILE")) { range = Some (record { start_inclusive = 1; end_inclusive = most_files }) }
 
@@ -43,7 +42,7 @@ load_command = with_rule (new_app (codes "load")) files_operand
 abbrev pub distances_command : App
 distances_command = with_rule (new_app (codes "distances")) (operand (codes "SCRIPT"))
 
--- the program, which wants a command and has no help
+-- the program, which requires a command and has no help
 abbrev pub top_command : App
 top_command =
     let plain = new_app (codes "pef") in
@@ -53,27 +52,27 @@ top_command =
 unfoldable pub pef : App
 pef = with_subcommand (with_subcommand (with_subcommand (with_subcommand (with_subcommand (with_subcommand top_command show_command.top) link_command.top) list_command.top) check_command.top) load_command.top) distances_command.top
 
--- what the operands of `link` ask for
+-- the request that the operands of `link` make
 abbrev pub link_asked : List Row → Option Asked
 link_asked rows = option_and_then (λ script. option_map (link script) (first_of (codes "OUT") rows)) (first_of (codes "SCRIPT") rows)
 
--- what the operand of `list` asks for
+-- the request that the operand of `list` makes
 abbrev pub list_asked : List Row → Option Asked
 list_asked rows = option_map list (first_of (codes "FILE") rows)
 
--- what the operands of `check` ask for
+-- the request that the operands of `check` make
 abbrev pub check_asked : List Row → Option Asked
 check_asked rows = option_and_then (λ script. option_map (check script) (first_of (codes "CERT") rows)) (first_of (codes "SCRIPT") rows)
 
--- what the operands of `load` ask for
+-- the request that the operands of `load` make
 abbrev pub load_asked : List Row → Option Asked
 load_asked rows = option_and_then (λ words. option_map load (named_files words)) (all_of (codes "NAME=FILE") rows)
 
--- what the operand of `distances` asks for
+-- the request that the operand of `distances` makes
 abbrev pub distances_asked : List Row → Option Asked
 distances_asked rows = option_map distances (first_of (codes "SCRIPT") rows)
 
--- what a command's name and operands ask for
+-- the request that a command's name and operands make
 abbrev pub command_asked : Text → List Row → Option Asked
 command_asked name rows =
     if bytes_eq name (codes "show") then Some show
@@ -83,11 +82,11 @@ command_asked name rows =
     else if bytes_eq name (codes "load") then load_asked rows
     else if bytes_eq name (codes "distances") then distances_asked rows else None
 
--- a line without a fault asks for what its command asks for
+-- the request of a line without a fault is the request of its command
 abbrev pub asked_at : Kinds → Option (Text × List Row) → Option Asked
 asked_at [] found = option_and_then (λ f. command_asked f.0 f.1) found
 asked_at (k ∷ ks) found = None
 
--- what the words ask for, where they are a good line
+-- the request that the words make, if they are a valid line
 unfoldable pub asked_by : List Text → Option Asked
 asked_by words = asked_at (fault_of pef words) (subcommand_of pef words)

@@ -1,17 +1,17 @@
--- Which files the words `NAME=FILE` of a line name. A rule of this program's own.
+-- Which files the words `NAME=FILE` of a line name. This rule is the program's own.
 use Rattle.std.specs.Prelude.{ℕ, List, [], ◌∷◌, Option, None, Some, option_and_then, option_map}
 use Rattle.pef_lines.specs.Lines.{cut_at}
 
--- a name, which isn't empty, with a path, which may be
+-- a name, which isn't empty, with a path, which may be empty
 abbrev pub file_at : List ℕ → List ℕ → Option (List ℕ × List ℕ)
 file_at [] path = None
 file_at (b ∷ name) path = Some (b ∷ name, path)
 
--- the file that a word names: its name stands before the first `=` (3D in hex), its path behind it
+-- the file that a word names: the name is before the first `=` (3D in hex), the path after it
 abbrev pub named_file : List ℕ → Option (List ℕ × List ℕ)
 named_file word = option_and_then (λ p. file_at p.0 p.1) (cut_at 0x3D word)
 
--- the files that the words name, in order, where each names one; a name may come twice
+-- the files that the words name, in order, if each names one. A name may be used twice.
 abbrev pub named_files : List (List ℕ) → Option (List (List ℕ × List ℕ))
 named_files [] = Some []
 named_files (word ∷ words) = option_and_then (λ file. option_map (λ files. file ∷ files) (named_files words)) (named_file word)

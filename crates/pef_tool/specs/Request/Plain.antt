@@ -1,4 +1,4 @@
--- Which words are which command, where none begins with `-` (README, "The commands").
+-- Which words are which command, if none begins with `-` (README, "The commands").
 use Rattle.std.specs.Prelude.{◌≢◌, ℕ, ⊤, List, [], ◌∷◌, length, nat_le, Option, None, Some, codes, if◌then◌else◌, option_map}
 use Rattle.std.specs.Str.{bytes_eq}
 use Rattle.pef_tool.specs.Request.Files.{named_files}
@@ -13,25 +13,25 @@ abbrev pub ArePlain : List (List ℕ) → Type 0
 ArePlain [] = ⊤
 ArePlain (word ∷ words) = IsPlain word × ArePlain words
 
--- `show`, and no more
+-- `show` alone
 abbrev pub plain_show : List (List ℕ) → Option Asked
 plain_show [] = Some show
 plain_show (word ∷ words) = None
 
--- `link SCRIPT OUT`, and no more
+-- `link SCRIPT OUT` alone
 abbrev pub plain_link : List (List ℕ) → Option Asked
 plain_link [] = None
 plain_link (script ∷ []) = None
 plain_link (script ∷ out ∷ []) = Some (link script out)
 plain_link (script ∷ out ∷ word ∷ words) = None
 
--- `list FILE`, and no more
+-- `list FILE` alone
 abbrev pub plain_list : List (List ℕ) → Option Asked
 plain_list [] = None
 plain_list (file ∷ []) = Some (list file)
 plain_list (file ∷ word ∷ words) = None
 
--- `check SCRIPT CERT`, and no more
+-- `check SCRIPT CERT` alone
 abbrev pub plain_check : List (List ℕ) → Option Asked
 plain_check [] = None
 plain_check (script ∷ []) = None
@@ -43,7 +43,7 @@ abbrev pub plain_load : List (List ℕ) → Option Asked
 plain_load [] = None
 plain_load (word ∷ words) = if nat_le (length (word ∷ words)) 256 then option_map load (named_files (word ∷ words)) else None
 
--- `distances SCRIPT`, and no more
+-- `distances SCRIPT` alone
 abbrev pub plain_distances : List (List ℕ) → Option Asked
 plain_distances [] = None
 plain_distances (script ∷ []) = Some (distances script)
@@ -60,7 +60,7 @@ plain_command name operands =
     else if bytes_eq (codes "distances") name then plain_distances operands
     else None
 
--- what words ask for, of which the first is the program's name
+-- the request that words make, whose first one is the program's name
 abbrev pub plain_words : List (List ℕ) → Option Asked
 plain_words [] = None
 plain_words (program ∷ []) = None

@@ -1,4 +1,4 @@
--- What a command line can ask for (README, "The commands").
+-- The requests that a command line can make (README, "The commands").
 use Rattle.std.specs.Prelude.{◌≡◌, ℕ, ⊤, List, map, Option, None, Some, Result, Ok, Err}
 use Rattle.pef_tool.specs.declared.request.files.NamedFile.{NamedFile}
 use Rattle.pef_tool.specs.declared.request.command_line.Request.{Request}
@@ -6,7 +6,7 @@ use Rattle.pef_tool.specs.declared.request.command_line.Request.TheVariants as r
 use Rattle.pef_tool.specs.declared.request.command_line.WordsFault.{WordsFault}
 use Rattle.pef_tool.specs.declared.request.command_line.WordsFault.TheVariants.{Usage, OutOfMemory}
 
--- a command and its operands; the files of `load` are names, each with its path
+-- a command and its operands. The files of `load` are names, each with its path.
 pub data Asked : Type 0 where
   show : Asked
   link : List ℕ → List ℕ → Asked
@@ -28,7 +28,7 @@ asked_of (request.List file) = list file.now
 asked_of (request.Distances script) = distances script.now
 asked_of (request.Check script cert) = check script.now cert.now
 
--- the answer to a command line: what it asks for, or that it is none of this program
+-- the answer to a command line: its request, or that it is invalid
 abbrev pub AnswersWords : Result Request WordsFault → Option Asked → Type 0
 AnswersWords (Ok request) asked = asked ≡ Some (asked_of request)
 AnswersWords (Err Usage) asked = asked ≡ None

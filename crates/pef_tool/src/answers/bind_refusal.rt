@@ -27,7 +27,7 @@ impl<'a> Reply for BindFault<'a> {
     }
 }
 
-/// What the line of the refusal begins with: its number and its name.
+/// Returns the start of the refusal's line: its number and its name.
 #[tactic(auto, using(crate::proofs::AnswersProofs::RefusalLemmas::short_bind_name))]
 fn start(fault: &BindFault<'_>) -> Line
     ensures { result.items ≡ refused_text (fault_number fault.now) (fault_name fault.now) }
@@ -35,7 +35,7 @@ fn start(fault: &BindFault<'_>) -> Line
     refused_line(fault.number(), fault.name())
 }
 
-/// The fragment that the line tells.
+/// Returns the fragment that the line names.
 fn told_fragment<'a>(fault: &BindFault<'a>) -> Option<&'a [u8]>
     ensures { option_map (λ name. name.now) result ≡ told_fragment fault.now }
 {
@@ -52,7 +52,7 @@ fn told_fragment<'a>(fault: &BindFault<'a>) -> Option<&'a [u8]>
     }
 }
 
-/// The library of that fragment that the line tells.
+/// Returns the library of that fragment that the line names.
 fn told_library<'a>(fault: &BindFault<'a>) -> Option<&'a [u8]>
     ensures { option_map (λ name. name.now) result ≡ told_library fault.now }
 {
@@ -69,7 +69,7 @@ fn told_library<'a>(fault: &BindFault<'a>) -> Option<&'a [u8]>
     }
 }
 
-/// The symbol that the line tells.
+/// Returns the symbol that the line names.
 fn told_symbol<'a>(fault: &BindFault<'a>) -> Option<&'a [u8]>
     ensures { option_map (λ name. name.now) result ≡ told_symbol fault.now }
 {
@@ -87,7 +87,7 @@ fn told_symbol<'a>(fault: &BindFault<'a>) -> Option<&'a [u8]>
     }
 }
 
-/// Prints a name behind a word, where it is told.
+/// Prints a word and then a name, if there is a name.
 pub fn print_told<W: Sink>(
     out: &mut W,
     page: &mut Page,
@@ -102,7 +102,7 @@ pub fn print_told<W: Sink>(
     }
 }
 
-/// Prints a name behind a word.
+/// Prints a word and then a name.
 pub fn print_behind<W: Sink>(
     out: &mut W,
     page: &mut Page,

@@ -3,23 +3,23 @@ ghost use Rattle.pef_tool.specs.Answers.Answers.{detailed, refused_as, status_of
 
 use crate::details::Detail;
 
-/// How a run ended.
+/// The outcome of a run.
 #[derive(Clone, Copy, Debug, PartialEq, Eq)]
 pub enum Outcome {
     /// The command is done.
     Done,
-    /// The command is done, and `check` said no of a section.
+    /// The command is done, and `check` answered no for a section.
     SaidNo,
-    /// The run was refused: the refusal's number, and what more is known of it than its line says.
+    /// The run was refused: the refusal's number, and a detail that its line doesn't give, if one is known.
     Refused { number: u32, detail: Option<Detail> },
-    /// The words are no line of this program.
+    /// The command line is invalid.
     Usage,
     /// The output failed.
     OutputFailed,
 }
 
 impl Outcome {
-    /// The status that the run ends with.
+    /// Returns the exit status of the run.
     pub fn status(&self) -> u8
         ensures { result ≡ status_of self.now }
     {
@@ -30,7 +30,7 @@ impl Outcome {
         }
     }
 
-    /// How a run ends that is refused with a number.
+    /// Returns the outcome of a run that is refused with a number.
     pub fn refused(number: u32) -> Outcome
         ensures { result ≡ refused_as number }
     {
@@ -40,7 +40,7 @@ impl Outcome {
         }
     }
 
-    /// The same, with what more is known if it is a refusal.
+    /// Returns the same outcome, with a detail if it is a refusal.
     pub fn detailed(self, detail: Option<Detail>) -> Outcome
         ensures outcome { result ≡ detailed detail self }
         ensures status { status_of result ≡ status_of self }

@@ -29,7 +29,7 @@ impl<'a> Reply for PrepareFault<'a> {
     }
 }
 
-/// Prints the line of a fragment that isn't prepared, where its closure isn't the reason.
+/// Prints the line of a fragment that isn't prepared, if its closure isn't the reason.
 fn print_unprepared<W: Sink>(
     out: &mut W,
     page: &mut Page,
@@ -42,7 +42,7 @@ fn print_unprepared<W: Sink>(
     send(out, page, b"\n")
 }
 
-/// What the line of the refusal begins with: its number and its name.
+/// Returns the start of the refusal's line: its number and its name.
 #[tactic(auto, using(crate::proofs::AnswersProofs::RefusalLemmas::short_prepare_name))]
 fn start(fault: &PrepareFault<'_>) -> Line
     ensures { result.items ≡ refused_text (fault_number fault.now) (fault_name fault.now) }
@@ -50,7 +50,7 @@ fn start(fault: &PrepareFault<'_>) -> Line
     refused_line(fault.number(), fault.name())
 }
 
-/// The name of the fragment that isn't prepared, where its closure isn't the reason.
+/// Returns the name of the fragment that isn't prepared, if its closure isn't the reason.
 fn told_unprepared<'a>(fault: &PrepareFault<'a>) -> Option<&'a [u8]>
     ensures { option_map (λ name. name.now) result ≡ told_unprepared fault.now }
 {

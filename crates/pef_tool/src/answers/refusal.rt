@@ -14,12 +14,12 @@ use pef_ports::{
 };
 use pef_script::{LineFault, ScriptFault};
 
-/// Why a run is refused.
+/// The reason why a run is refused.
 #[derive(Clone, Copy, Debug, PartialEq, Eq)]
 pub enum Refusal {
     /// A line of the script is refused; lines count from 1.
     Script { fault: LineFault, line: usize },
-    /// A container, its loader section or one of its relocation programs is refused where it is listed.
+    /// A container, its loader section or one of its relocation programs is refused when it is listed.
     Listing(ListFault),
     /// A line of the certificates is refused; lines count from 1.
     BadCertificate { line: usize },
@@ -27,14 +27,14 @@ pub enum Refusal {
     SectionsDiffer,
     /// The input failed.
     InputUnreadable,
-    /// The input has more bytes than are read.
+    /// The input has more bytes than the limit.
     InputTooLong,
-    /// A growth of memory was refused.
+    /// An allocation failed.
     OutOfMemory,
 }
 
 impl Refusal {
-    /// The number of the refusal.
+    /// Returns the number of the refusal.
     pub fn number(&self) -> u32
         ensures { result ≡ number_of self.now }
     {
@@ -49,7 +49,7 @@ impl Refusal {
         }
     }
 
-    /// The name of the refusal.
+    /// Returns the name of the refusal.
     #[tactic(auto, using(crate::proofs::AnswersProofs::RefusalLemmas::short_name))]
     fn name(&self) -> &'static str
         ensures name { result.now ≡ name_of self.now }
@@ -66,7 +66,7 @@ impl Refusal {
         }
     }
 
-    /// Appends what the line says behind the name.
+    /// Appends the rest of the line, after the name.
     fn push_place(&self, line: &mut Line)
         requires { array_vec_len line.old ≤ 60 }
         ensures text { line.new.items ≡ line.old.items ++ place_of self.now }
@@ -85,7 +85,7 @@ impl Refusal {
         }
     }
 
-    /// The line that ends the run.
+    /// Returns the line that ends the run.
     fn line(&self) -> Line
         ensures { result.items ≡ refusal_text self.now }
     {
@@ -96,7 +96,7 @@ impl Refusal {
     }
 }
 
-/// What the line of a refusal begins with.
+/// Returns the start of a refusal's line.
 pub fn refused_line(number: u32, name: &str) -> Line
     requires { length name.now ≤ 20 }
     ensures text { result.items ≡ refused_text number name.now }
@@ -122,7 +122,7 @@ impl Reply for Refusal {
     }
 }
 
-/// What a fault of reading the input is told as.
+/// Returns the refusal that a fault of reading the input is reported as.
 pub fn input_refusal(fault: InputFault) -> Refusal
     ensures { result ≡ input_refusal fault }
 {
@@ -133,7 +133,7 @@ pub fn input_refusal(fault: InputFault) -> Refusal
     }
 }
 
-/// What a fault of reading a script is told as.
+/// Returns the refusal that a fault of reading a script is reported as.
 pub fn script_refusal(fault: ScriptFault) -> Refusal
     ensures { result ≡ script_refusal fault }
 {
@@ -143,7 +143,7 @@ pub fn script_refusal(fault: ScriptFault) -> Refusal
     }
 }
 
-/// What a fault of reading certificates is told as.
+/// Returns the refusal that a fault of reading certificates is reported as.
 pub fn certificate_refusal(fault: CertFault) -> Refusal
     ensures { result ≡ certificate_refusal fault }
 {
@@ -153,7 +153,7 @@ pub fn certificate_refusal(fault: CertFault) -> Refusal
     }
 }
 
-/// Why a run is refused over a file, whose path ends the line and may be long.
+/// The reason why a run is refused because of a file. The file's path ends the line and may be long.
 #[derive(Clone, Copy, Debug, PartialEq, Eq)]
 pub enum FileRefusal<'a> {
     /// The file at the path could not be read.
@@ -163,7 +163,7 @@ pub enum FileRefusal<'a> {
 }
 
 impl<'a> FileRefusal<'a> {
-    /// The number of the refusal.
+    /// Returns the number of the refusal.
     pub fn number(&self) -> u32
         ensures { result ≡ file_number_of self.now }
     {
@@ -173,7 +173,7 @@ impl<'a> FileRefusal<'a> {
         }
     }
 
-    /// The name of the refusal.
+    /// Returns the name of the refusal.
     fn name(&self) -> &'static str
         ensures name { result.now ≡ file_name_of self.now }
         ensures short { length result.now ≤ 16 }
@@ -184,7 +184,7 @@ impl<'a> FileRefusal<'a> {
         }
     }
 
-    /// The path of the file.
+    /// Returns the path of the file.
     fn path(&self) -> &'a [u8]
         ensures { result.now ≡ path_of self.now }
     {
@@ -193,7 +193,7 @@ impl<'a> FileRefusal<'a> {
         }
     }
 
-    /// What the line of the refusal begins with.
+    /// Returns the start of the refusal's line.
     fn start(&self) -> Line
         ensures { result.items ≡ file_refusal_start (file_number_of self.now) (file_name_of self.now) }
     {
@@ -216,7 +216,7 @@ impl<'a> Reply for FileRefusal<'a> {
     }
 }
 
-/// Prints a name, and ends its line.
+/// Prints a name and ends its line.
 pub fn print_name_end<W: Sink>(out: &mut W, page: &mut Page, name: &[u8]) -> Result<(), StreamFault>
     ensures { Sends result (W.stream out.old) (W.stream out.new) page.old.items page.new.items (name_end name.now) }
 {

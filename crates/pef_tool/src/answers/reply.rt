@@ -6,12 +6,12 @@ use crate::answers::outcome::Outcome;
 use crate::details::Detail;
 use pef_ports::{Page, Sink, StreamFault, flush, send};
 
-/// What a command can answer: a text that ends the run, and how it ended.
+/// An answer of a command: a text that ends the run, and the outcome.
 pub trait Reply {
     /// The text and the status.
     ghost answer: { Self → Answer };
 
-    /// How the run ended, once the text went out.
+    /// Returns the outcome after the text was written.
     fn outcome(&self) -> Outcome
         ensures { status_of result ≡ (answer self.now).status };
 
@@ -20,7 +20,7 @@ pub trait Reply {
         ensures { Sends result (W.stream out.old) (W.stream out.new) page.old.items page.new.items (answer self.now).text };
 }
 
-/// Sends a reply whole, and says how the run ended.
+/// Sends a whole reply and returns the outcome.
 pub fn deliver<A: Reply, W: Sink>(out: &mut W, reply: &A) -> Outcome
     ensures { IsDelivered (W.stream out.old) (W.stream out.new) (A.answer reply.now) (status_of result) }
 {
@@ -30,7 +30,7 @@ pub fn deliver<A: Reply, W: Sink>(out: &mut W, reply: &A) -> Outcome
     }
 }
 
-/// Sends a reply whole, and says how the run ended, with what more is known if it is a refusal.
+/// Sends a whole reply and returns the outcome, with a detail if the outcome is a refusal.
 pub fn deliver_detailed<A: Reply, W: Sink>(
     out: &mut W,
     reply: &A,
@@ -41,7 +41,7 @@ pub fn deliver_detailed<A: Reply, W: Sink>(
     deliver(out, reply).detailed(detail)
 }
 
-/// Prints a reply, and leaves nothing in a page.
+/// Prints a reply and empties the page.
 fn print_whole<A: Reply, W: Sink>(out: &mut W, reply: &A) -> Result<(), StreamFault>
     ensures { Sends result (W.stream out.old) (W.stream out.new) [] [] (A.answer reply.now).text }
 {
@@ -50,7 +50,7 @@ fn print_whole<A: Reply, W: Sink>(out: &mut W, reply: &A) -> Result<(), StreamFa
     flush(out, &mut page)
 }
 
-/// The words are no line of this program.
+/// The command line is invalid.
 #[derive(Clone, Copy, Debug)]
 pub struct Usage;
 

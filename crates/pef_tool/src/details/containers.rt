@@ -1,4 +1,4 @@
-//! Which part of a container is refused.
+//! Finds the part of a container that is refused.
 ghost use Rattle.std.specs.Prelude.{◌<◌, ◌^◌};
 
 use crate::details::layout::{
@@ -14,7 +14,7 @@ use pef_views::Container;
 use pef_words::Cut;
 use std::alloc::Global;
 
-/// What more is known of a container's refusal with this number.
+/// Returns the detail of the container's refusal with this number.
 pub fn container_detail(alloc: Global, bytes: &[u8], number: u32) -> Option<Detail> {
     match number {
         6..=9 => section_detail(bytes, number),
@@ -26,7 +26,7 @@ pub fn container_detail(alloc: Global, bytes: &[u8], number: u32) -> Option<Deta
     }
 }
 
-/// The fields of a section header that its tests read.
+/// The fields of a section header that the tests below read.
 #[derive(Clone, Copy)]
 struct Section {
     instantiated: bool,
@@ -38,7 +38,7 @@ struct Section {
     alignment: u8,
 }
 
-/// The first section that breaks the rule with a number, from 6 to 9.
+/// Returns the first section that breaks the rule with a number from 6 to 9.
 fn section_detail(bytes: &[u8], number: u32) -> Option<Detail> {
     let cut = Cut::new(bytes);
     let count = cut.u16_at(SECTION_COUNT_AT)?;
@@ -53,7 +53,7 @@ fn section_detail(bytes: &[u8], number: u32) -> Option<Detail> {
     None
 }
 
-/// The fields of a section's header.
+/// Returns the fields of a section's header.
 fn read_section(cut: Cut<'_>, index: usize) -> Option<Section>
     requires { index < 2 ^ 16 }
 {
@@ -70,7 +70,7 @@ fn read_section(cut: Cut<'_>, index: usize) -> Option<Section>
     })
 }
 
-/// Whether a section of a container of `len` bytes breaks the rule with a number.
+/// Returns whether a section of a container of `len` bytes breaks the rule with a number.
 fn breaks(number: u32, section: Section, len: usize) -> bool {
     match number {
         6 => section.packed != 0 && section.offset as usize + section.packed as usize > len,
@@ -80,7 +80,7 @@ fn breaks(number: u32, section: Section, len: usize) -> bool {
     }
 }
 
-/// Whether a section's image fits its memory and its raw data.
+/// Returns whether a section's image fits its memory and its raw data.
 fn has_fitting_sizes(section: Section) -> bool {
     section.unpacked <= section.total
         && (section.kind.is_packed() || section.unpacked <= section.packed)

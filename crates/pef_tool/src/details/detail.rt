@@ -1,33 +1,33 @@
 use cfm_closure::{Definition, Implementation};
 
-/// What more is known of a refusal than its line says. Rows count from 0, lines of scripts from 1.
+/// A detail of a refusal that its line doesn't give. Rows count from 0, lines of scripts from 1.
 #[derive(Clone, Copy, Debug, PartialEq, Eq)]
 pub enum Detail {
-    /// What is odd about the line of a script.
+    /// The fault in the line of a script.
     Line(Oddity),
-    /// Which rule of order the line of a script breaks.
+    /// The rule of order that the line of a script breaks.
     Order(Disorder),
     /// The versions that a fragment needs of a library, and those of the library that was found.
     Versions {
         needed: Definition,
         found: Implementation,
     },
-    /// How many bytes the tables take, and how many there are.
+    /// The number of bytes that the tables take, and the number available.
     Space {
         taken: usize,
         there: usize,
     },
-    /// Which row of a table is refused.
+    /// The refused row of a table.
     Row {
         table: Table,
         index: usize,
     },
-    /// Which relocation header is refused, and its section.
+    /// The refused relocation header, and its section.
     Header {
         header: usize,
         section: u32,
     },
-    /// At which halfword of which relocation header's program an instruction is refused, and the header's section.
+    /// The refused instruction: its relocation header, the header's section and the halfword in the header's program.
     Instruction {
         header: usize,
         section: u32,
@@ -35,7 +35,7 @@ pub enum Detail {
     },
 }
 
-/// What is odd about the line of a script.
+/// The fault in the line of a script.
 #[derive(Clone, Copy, Debug, PartialEq, Eq)]
 pub enum Oddity {
     /// It has a carriage return.
@@ -52,18 +52,18 @@ pub enum Oddity {
     TwoSpaces,
     /// Its first word begins no line of a script.
     FirstWord,
-    /// It has so many words, and its first word wants so many.
+    /// It has this many words, and a line with its first word should have that many.
     Words { has: usize, wants: usize },
-    /// Its words are as many as they have to be, but a name is too long or hex digits aren't pairs.
+    /// It has the right number of words, but a name is too long or hex digits aren't pairs.
     Spelling,
 }
 
-/// Which rule of order the line of a script breaks.
+/// The rule of order that the line of a script breaks.
 #[derive(Clone, Copy, Debug, PartialEq, Eq)]
 pub enum Disorder {
     /// This line, of a later group, comes before it.
     Later { line: usize },
-    /// This line, of the same kind, comes before it, and one is all that there may be.
+    /// This line, of the same kind, comes before it, and only one is allowed.
     Again { line: usize },
     /// No library comes before an import.
     NoLibrary,

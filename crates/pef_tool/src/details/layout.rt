@@ -1,5 +1,5 @@
-//! Where the fields are that tell which row of a container is refused (`PEFBinaryFormat.h`). The readers of containers
-//! have them too; these are read after a refusal, when there is no view to ask.
+//! The offsets of the fields by which the refused row of a container is found (`PEFBinaryFormat.h`). The readers of
+//! containers have these offsets too. These ones are used after a refusal, when there is no view to ask.
 
 // Offsets in the container header (PEFContainerHeader).
 pub const SECTION_COUNT_AT: usize = 32;
@@ -64,5 +64,5 @@ pub const EXPORT_VALUE_AT: usize = 4;
 
 pub const EXPORT_SECTION_AT: usize = 8;
 
-/// The export hash table has at most two to this power of slots.
+/// The base-2 logarithm of the maximum number of slots of the export hash table.
 pub const MOST_POWER: u32 = 30;

@@ -1,4 +1,4 @@
-//! Why a fragment isn't prepared: what is refused in its container, or which versions don't fit.
+//! Finds why a fragment isn't prepared: the refused part of its container, or the versions that don't fit.
 use crate::details::{Detail, container_detail};
 use crate::request::NamedFile;
 use cfm_closure::{BindFault, Definition, Fit, Implementation, versions_fit};
@@ -20,7 +20,7 @@ pub enum Shelf<'a> {
 }
 
 impl<'a> Shelf<'a> {
-    /// The container of the first fragment with a name.
+    /// Returns the container of the first fragment with a name.
     fn container(self, name: &[u8]) -> Option<&'a [u8]> {
         match self {
             Shelf::Alone(bytes) => {
@@ -35,7 +35,7 @@ impl<'a> Shelf<'a> {
     }
 }
 
-/// The contents of the first file with a name.
+/// Returns the contents of the first file with a name.
 fn file_named<'a>(
     named: &[NamedFile<'_>],
     contents: &'a [Vec<u8>],
@@ -49,7 +49,7 @@ fn file_named<'a>(
     None
 }
 
-/// What more is known of a fragment that isn't prepared.
+/// Returns the detail of a fragment that isn't prepared.
 pub fn prepare_detail(alloc: Global, shelf: Shelf<'_>, fault: &PrepareFault<'_>) -> Option<Detail> {
     match fault {
         PrepareFault::Bind(fault) => bind_detail(alloc, shelf, fault),
@@ -59,7 +59,7 @@ pub fn prepare_detail(alloc: Global, shelf: Shelf<'_>, fault: &PrepareFault<'_>)
     }
 }
 
-/// What more is known of a fragment without a closure.
+/// Returns the detail of a fragment without a closure.
 fn bind_detail(alloc: Global, shelf: Shelf<'_>, fault: &BindFault<'_>) -> Option<Detail> {
     match fault {
         BindFault::Container { fragment, .. } | BindFault::Loader { fragment, .. } => {
@@ -77,7 +77,7 @@ fn bind_detail(alloc: Global, shelf: Shelf<'_>, fault: &BindFault<'_>) -> Option
     }
 }
 
-/// What more is known of a fragment that has a closure.
+/// Returns the detail of a fragment that has a closure.
 fn fragment_detail(alloc: Global, shelf: Shelf<'_>, fault: &FragmentFault<'_>) -> Option<Detail> {
     match fault {
         FragmentFault::Pack { fragment, .. } | FragmentFault::Reloc { fragment, .. } => {
@@ -87,7 +87,7 @@ fn fragment_detail(alloc: Global, shelf: Shelf<'_>, fault: &FragmentFault<'_>) -
     }
 }
 
-/// The versions that a fragment needs of a library, where they don't fit.
+/// Returns the versions that a fragment needs of a library, if they don't fit.
 fn versions_detail(shelf: Shelf<'_>, fragment: &[u8], library: &[u8]) -> Option<Detail> {
     let found = implementation_of(shelf.container(library)?)?;
     let container = Container::read(shelf.container(fragment)?).ok()?;
@@ -106,7 +106,7 @@ fn versions_detail(shelf: Shelf<'_>, fragment: &[u8], library: &[u8]) -> Option<
     None
 }
 
-/// The versions of a container.
+/// Returns the versions of a container.
 fn implementation_of(bytes: &[u8]) -> Option<Implementation> {
     let header = Container::read(bytes).ok()?.header();
     Some(Implementation {

@@ -1,4 +1,4 @@
-//! Which image can't be expanded, and which relocation program can't be read or applied.
+//! Finds the image that can't be expanded, and the relocation program that can't be read or applied.
 use crate::details::{Detail, Table};
 use pef_format::layout::HALFWORD_SIZE;
 use pef_loader::Loader;
@@ -8,10 +8,10 @@ use pef_views::Container;
 use pef_words::Cut;
 use std::alloc::Global;
 
-/// In a longer program the halfword isn't looked for: that reads the program some forty times.
+/// In a longer program the halfword isn't searched for, since the search reads the program about forty times.
 const MOST_HALFWORDS: usize = 1_048_576;
 
-/// The first section whose packed data doesn't expand to its image.
+/// Returns the first section whose packed data doesn't expand to its image.
 pub(crate) fn image_detail(alloc: Global, container: &Container<'_>) -> Option<Detail> {
     let count = container.header().instantiated_section_count;
     for index in 0..usize::from(count) {
@@ -29,7 +29,7 @@ pub(crate) fn image_detail(alloc: Global, container: &Container<'_>) -> Option<D
     None
 }
 
-/// The first relocation program that can't be read.
+/// Returns the first relocation program that can't be read.
 pub(crate) fn program_detail(container: &Container<'_>) -> Option<Detail> {
     let loader = Loader::read(container).ok()?;
     for header in 0..loader.relocs() {
@@ -41,7 +41,7 @@ pub(crate) fn program_detail(container: &Container<'_>) -> Option<Detail> {
     None
 }
 
-/// Where the program of a relocation header can't be read.
+/// Returns where the program of a relocation header can't be read.
 fn instruction_detail(header: usize, section: u32, program: &[u8]) -> Detail {
     if program.len() / HALFWORD_SIZE > MOST_HALFWORDS {
         return Detail::Header { header, section };
@@ -53,9 +53,9 @@ fn instruction_detail(header: usize, section: u32, program: &[u8]) -> Detail {
     }
 }
 
-/// At which halfword the first instruction is that can't be read: one less than the greatest count for which
-/// [`reads_to`] holds. It holds for each count up to that place, since instructions have one or two halfwords, and for
-/// one more.
+/// Returns the halfword of the first instruction that can't be read. It is one less than the greatest count for which
+/// [`reads_to`] holds. [`reads_to`] holds for each count up to that halfword, since instructions have one or two
+/// halfwords, and for one more.
 fn refused_halfword(program: &[u8]) -> usize {
     let mut low: usize = 0;
     let mut high = program.len();
@@ -70,12 +70,12 @@ fn refused_halfword(program: &[u8]) -> usize {
     low.saturating_sub(1)
 }
 
-/// Whether so many halfwords of a program are one, or one halfword less is.
+/// Returns whether this many halfwords of a program can be read, or one halfword less.
 fn reads_to(program: &[u8], halfwords: usize) -> bool {
     reads(program, halfwords) || reads(program, halfwords.saturating_sub(1))
 }
 
-/// Whether so many halfwords of a program are one.
+/// Returns whether this many halfwords of a program can be read.
 fn reads(program: &[u8], halfwords: usize) -> bool {
     match Cut::new(program).part(0, HALFWORD_SIZE.saturating_mul(halfwords)) {
         Some(front) => Program::read(front.bytes()).is_ok(),
@@ -83,7 +83,7 @@ fn reads(program: &[u8], halfwords: usize) -> bool {
     }
 }
 
-/// The first relocation program that can't be applied, wherever its fragment lies and whatever its memory has.
+/// Returns the first relocation program that can't be applied, for any addresses and memory of its fragment.
 pub(crate) fn applied_detail(alloc: Global, container: &Container<'_>) -> Option<Detail> {
     let loader = Loader::read(container).ok()?;
     let count = usize::from(container.header().instantiated_section_count);
@@ -104,7 +104,7 @@ pub(crate) fn applied_detail(alloc: Global, container: &Container<'_>) -> Option
     None
 }
 
-/// How large the largest of a container's first sections is.
+/// Returns the size of the largest of a container's first sections.
 fn largest_section(container: &Container<'_>, count: usize) -> Option<u32> {
     let mut largest = 0;
     for index in 0..count {
@@ -116,14 +116,14 @@ fn largest_section(container: &Container<'_>, count: usize) -> Option<u32> {
     Some(largest)
 }
 
-/// So many zero bytes.
+/// Returns this many zero bytes.
 fn zeros(alloc: Global, size: u32) -> Option<Vec<u8>> {
     let mut bytes = Vec::new(alloc);
     bytes.resize(size as usize, 0).ok()?;
     Some(bytes)
 }
 
-/// So many addresses, all 0.
+/// Returns this many addresses, all 0.
 fn addresses(alloc: Global, count: usize) -> Option<Vec<u32>> {
     let mut words = Vec::new(alloc);
     words.resize(count, 0).ok()?;

@@ -1,10 +1,10 @@
-//! What is wrong with a line of a script (docs/SCRIPTS.md).
+//! Finds the fault in a line of a script (docs/SCRIPTS.md).
 use crate::answers::Refusal;
 use crate::details::{Detail, Disorder, Oddity};
 use pef_lines::{LINE_FEED, cut_at};
 use pef_script::LineFault;
 
-/// The lines of scripts: the first word, the group, and how many words there are.
+/// The kinds of lines in scripts: the first word, the group, and the number of words.
 const LINES: &[(&str, u8, usize)] = &[
     ("versions", 1, 4),
     ("library", 2, 5),
@@ -21,10 +21,10 @@ const LINES: &[(&str, u8, usize)] = &[
     ("term", 8, 3),
 ];
 
-/// The group of a line that says nothing.
+/// The group of a line without content.
 const NO_GROUP: u8 = 0;
 
-/// What more is known of a script's refusal.
+/// Returns the detail of a script's refusal.
 pub fn script_detail(text: &[u8], refusal: Refusal) -> Option<Detail> {
     match refusal {
         Refusal::Script { fault, line } => line_detail(text, fault, line),
@@ -37,7 +37,7 @@ pub fn script_detail(text: &[u8], refusal: Refusal) -> Option<Detail> {
     }
 }
 
-/// What more is known of the fault of the line with a number.
+/// Returns the detail of the fault in the line with a number.
 fn line_detail(text: &[u8], fault: LineFault, number: usize) -> Option<Detail> {
     match fault {
         LineFault::BadLine => Some(Detail::Line(oddity_of(line_at(text, number)?))),
@@ -52,7 +52,7 @@ fn line_detail(text: &[u8], fault: LineFault, number: usize) -> Option<Detail> {
     }
 }
 
-/// The line with a number, from 1.
+/// Returns the line with a number, counted from 1.
 fn line_at(text: &[u8], number: usize) -> Option<&[u8]> {
     let mut rest = text;
     for _ in 1..number {
@@ -62,7 +62,7 @@ fn line_at(text: &[u8], number: usize) -> Option<&[u8]> {
     Some(before(LINE_FEED, rest))
 }
 
-/// What comes before the first such byte: all, if there is none.
+/// Returns the bytes before the first such byte, or all bytes if there is none.
 fn before(byte: u8, bytes: &[u8]) -> &[u8] {
     match cut_at(byte, bytes) {
         Some((front, _)) => front,
@@ -70,7 +70,7 @@ fn before(byte: u8, bytes: &[u8]) -> &[u8] {
     }
 }
 
-/// What is odd about a line: its bytes, then its spaces, then its words.
+/// Returns the fault in a line. Its bytes are checked first, then its spaces, then its words.
 fn oddity_of(line: &[u8]) -> Oddity {
     if let Some(oddity) = odd_byte(line) {
         return oddity;
@@ -84,7 +84,7 @@ fn oddity_of(line: &[u8]) -> Oddity {
     }
 }
 
-/// The first byte that a line can't have.
+/// Returns the fault of the first byte that isn't allowed in a line.
 fn odd_byte(line: &[u8]) -> Option<Oddity> {
     for byte in line {
         match *byte {
@@ -97,7 +97,7 @@ fn odd_byte(line: &[u8]) -> Option<Oddity> {
     None
 }
 
-/// A space where none can be.
+/// Returns the fault of a space that isn't allowed.
 fn odd_space(line: &[u8]) -> Option<Oddity> {
     match line {
         [b' ', ..] => return Some(Oddity::SpaceAtStart),
@@ -114,7 +114,7 @@ fn odd_space(line: &[u8]) -> Option<Oddity> {
     None
 }
 
-/// What is odd about a line with so many words.
+/// Returns the fault in a line with this many words.
 fn odd_words(has: usize, wants: usize) -> Oddity {
     if has == wants {
         Oddity::Spelling
@@ -123,7 +123,7 @@ fn odd_words(has: usize, wants: usize) -> Oddity {
     }
 }
 
-/// How many words a line has, with one space between two of them.
+/// Returns the number of words in a line, with one space between two words.
 fn count_words(line: &[u8]) -> usize {
     let mut count: usize = 1;
     for byte in line {
@@ -134,7 +134,7 @@ fn count_words(line: &[u8]) -> usize {
     count
 }
 
-/// The group of a line and how many words it wants, by its first word.
+/// Returns the group of a line and the number of words that it should have, by its first word.
 fn row_of(line: &[u8]) -> Option<(u8, usize)> {
     let first = before(b' ', line);
     for (word, group, wants) in LINES {
@@ -145,7 +145,7 @@ fn row_of(line: &[u8]) -> Option<(u8, usize)> {
     None
 }
 
-/// The group of a line.
+/// Returns the group of a line.
 fn group_of(line: &[u8]) -> u8 {
     match row_of(line) {
         Some((group, _)) => group,
@@ -153,7 +153,7 @@ fn group_of(line: &[u8]) -> u8 {
     }
 }
 
-/// Which rule of order the line with a number breaks.
+/// Returns the rule of order that the line with a number breaks.
 fn disorder_of(text: &[u8], number: usize) -> Option<Disorder> {
     let group = group_of(line_at(text, number)?);
     let mut rest = text;
@@ -171,7 +171,7 @@ fn disorder_of(text: &[u8], number: usize) -> Option<Disorder> {
     Some(Disorder::NoLibrary)
 }
 
-/// Whether a script has at most one line of a group.
+/// Returns whether a script has at most one line of a group.
 fn is_single(group: u8) -> bool {
     matches!(group, 1 | 6 | 7 | 8)
 }

@@ -8,13 +8,13 @@ use arrayvec::ArrayVec;
 use cfm_closure::{Definition, Implementation};
 use itoa::Buffer;
 
-/// The most bytes of a sentence.
+/// The maximum number of bytes of a sentence.
 const SENTENCE: usize = 320;
 
 /// A sentence that is put together before it is sent.
 pub type Sentence = ArrayVec<u8, SENTENCE>;
 
-/// The end of a line, and the sentence of a detail as a line of its own.
+/// Returns the end of a line, and the sentence of a detail as a line of its own.
 pub fn line_end(detail: Option<Detail>) -> Sentence
     ensures { result.items ≡ end_text detail }
 {
@@ -36,7 +36,7 @@ pub fn line_end(detail: Option<Detail>) -> Sentence
     }
 }
 
-/// A sentence that begins with some text.
+/// Returns a sentence that begins with some text.
 fn begin(text: &[u8]) -> Sentence
     requires { length text.now ≤ 120 }
     ensures text { result.items ≡ text.now }
@@ -75,7 +75,7 @@ fn push_word(sentence: &mut Sentence, n: u32)
     push_count(sentence, u64::from(n));
 }
 
-/// What is odd about a line.
+/// Returns the sentence on the fault in a line.
 fn oddity_line(oddity: Oddity) -> Sentence
     ensures { result.items ≡ oddity_text oddity }
 {
@@ -96,7 +96,7 @@ fn oddity_line(oddity: Oddity) -> Sentence
     }
 }
 
-/// How many words a line has, and how many it wants.
+/// Returns the sentence on the number of words in a line and the number that the line should have.
 #[tactic(auto, unfolding(crate::specs::Details::words_text))]
 fn words_line(has: usize, wants: usize) -> Sentence
     ensures { result.items ≡ words_text has wants }
@@ -109,7 +109,7 @@ fn words_line(has: usize, wants: usize) -> Sentence
     sentence
 }
 
-/// Which rule of order a line breaks.
+/// Returns the sentence on the rule of order that a line breaks.
 #[tactic(auto, unfolding(crate::specs::Details::disorder_text))]
 fn disorder_line(disorder: Disorder) -> Sentence
     ensures { result.items ≡ disorder_text disorder }
@@ -134,7 +134,7 @@ fn disorder_line(disorder: Disorder) -> Sentence
     }
 }
 
-/// The versions that don't fit.
+/// Returns the sentence on the versions that don't fit.
 #[tactic(auto, unfolding(crate::specs::Details::versions_text))]
 fn versions_line(needed: Definition, found: Implementation) -> Sentence
     ensures { result.items ≡ versions_text needed found }
@@ -154,7 +154,7 @@ fn versions_line(needed: Definition, found: Implementation) -> Sentence
     sentence
 }
 
-/// How many bytes tables take, and how many there are.
+/// Returns the sentence on the number of bytes that tables take, and the number available.
 #[tactic(auto, unfolding(crate::specs::Details::space_text))]
 fn space_line(taken: usize, there: usize) -> Sentence
     ensures { result.items ≡ space_text taken there }
@@ -167,7 +167,7 @@ fn space_line(taken: usize, there: usize) -> Sentence
     sentence
 }
 
-/// Which row of a table is refused.
+/// Returns the sentence on the refused row of a table.
 #[tactic(auto, unfolding(crate::specs::Details::row_text))]
 fn row_line(table: Table, index: usize) -> Sentence
     ensures { result.items ≡ row_text table index }
@@ -178,7 +178,7 @@ fn row_line(table: Table, index: usize) -> Sentence
     sentence
 }
 
-/// What the sentence of a row begins with.
+/// Returns the start of a row's sentence.
 fn table_name(table: Table) -> &'static [u8]
     ensures text { result.now ≡ table_text table }
     ensures short { length result.now ≤ 30 }
@@ -190,7 +190,7 @@ fn table_name(table: Table) -> &'static [u8]
     }
 }
 
-/// Which relocation header is refused.
+/// Returns the sentence on the refused relocation header.
 #[tactic(auto, unfolding(crate::specs::Details::header_text))]
 fn header_line(header: usize, section: u32) -> Sentence
     ensures { result.items ≡ header_text header section }
@@ -203,7 +203,7 @@ fn header_line(header: usize, section: u32) -> Sentence
     sentence
 }
 
-/// At which instruction a program is refused.
+/// Returns the sentence on the refused instruction of a program.
 #[tactic(auto, unfolding(crate::specs::Details::instruction_text))]
 fn instruction_line(header: usize, section: u32, halfword: usize) -> Sentence
     ensures { result.items ≡ instruction_text header section halfword }

@@ -1,4 +1,4 @@
-//! Which row of a loader section is refused.
+//! Finds the refused row of a loader section.
 ghost use Rattle.std.specs.Prelude.{◌<◌, ◌^◌};
 
 use crate::details::layout::{
@@ -14,11 +14,11 @@ use pef_format::{ExportValue, is_export_section};
 use pef_views::Container;
 use pef_words::Cut;
 
-/// The counts and places of a loader section's tables.
+/// The counts and offsets of a loader section's tables.
 #[derive(Clone, Copy)]
 struct Tables<'a> {
     cut: Cut<'a>,
-    /// How many sections are instantiated.
+    /// The number of sections that are instantiated.
     sections: u16,
     libraries: u32,
     imports: u32,
@@ -29,7 +29,7 @@ struct Tables<'a> {
     exports: u32,
 }
 
-/// What more is known of the refusal of a container's loader section.
+/// Returns the detail of the refusal of a container's loader section.
 pub fn table_detail(container: &Container<'_>, number: u32) -> Option<Detail> {
     let tables = read_tables(container)?;
     match number {
@@ -51,7 +51,7 @@ pub fn table_detail(container: &Container<'_>, number: u32) -> Option<Detail> {
     }
 }
 
-/// The counts and places of a container's tables.
+/// Returns the counts and offsets of a container's tables.
 fn read_tables<'a>(container: &Container<'a>) -> Option<Tables<'a>> {
     let cut = Cut::new(container.loader());
     Some(Tables {
@@ -68,7 +68,7 @@ fn read_tables<'a>(container: &Container<'a>) -> Option<Tables<'a>> {
 }
 
 impl<'a> Tables<'a> {
-    /// Where the relocation headers begin: after the libraries and the imports.
+    /// Returns the offset of the relocation headers, which follow the libraries and the imports.
     fn relocs_from(self) -> usize
         ensures { result < 2 ^ 38 }
     {
@@ -77,7 +77,7 @@ impl<'a> Tables<'a> {
             + IMPORT_SIZE * self.imports as usize
     }
 
-    /// Where the exports begin: after the slots and the keys.
+    /// Returns the offset of the exports, which follow the slots and the keys.
     fn exports_from(self) -> Option<usize> {
         if self.power > MOST_POWER {
             return None;
@@ -88,7 +88,7 @@ impl<'a> Tables<'a> {
     }
 }
 
-/// The first library whose imports pass the total.
+/// Returns the first library whose imports exceed the total.
 fn library_detail(tables: Tables<'_>) -> Option<Detail> {
     for index in 0..tables.libraries as usize {
         let at = LOADER_HEADER_SIZE + LIBRARY_SIZE * index;
@@ -104,7 +104,7 @@ fn library_detail(tables: Tables<'_>) -> Option<Detail> {
     None
 }
 
-/// The first relocation header whose section isn't there, or whose program isn't.
+/// Returns the first relocation header whose section or program isn't there.
 fn header_detail(tables: Tables<'_>, program: bool) -> Option<Detail> {
     for header in 0..tables.relocs as usize {
         let at = tables.relocs_from() + RELOC_HEADER_SIZE * header;
@@ -126,7 +126,7 @@ fn header_detail(tables: Tables<'_>, program: bool) -> Option<Detail> {
     None
 }
 
-/// Whether a relocation program passes the end.
+/// Returns whether a relocation program extends past the end.
 fn lacks_program(tables: Tables<'_>, first: u32, count: u32) -> bool {
     let from = tables.instructions as usize + first as usize;
     tables
@@ -135,7 +135,7 @@ fn lacks_program(tables: Tables<'_>, first: u32, count: u32) -> bool {
         .is_none()
 }
 
-/// The first export that stands for nothing.
+/// Returns the first export whose target isn't there.
 fn export_detail(tables: Tables<'_>) -> Option<Detail> {
     let from = tables.exports_from()?;
     for index in 0..tables.exports as usize {
@@ -152,7 +152,7 @@ fn export_detail(tables: Tables<'_>) -> Option<Detail> {
     None
 }
 
-/// Whether what an export stands for is there.
+/// Returns whether the target of an export is there.
 fn is_there(tables: Tables<'_>, section: i32, value: u32) -> bool {
     is_export_section(section)
         && match ExportValue::from_fields(section, value) {

@@ -12,21 +12,21 @@ use clap::error::ErrorKind;
 use clap::{Arg, ArgMatches, Command};
 use std::alloc::{AllocError, AllocFailed, Global};
 
-/// What a SCRIPT is.
+/// The help for SCRIPT.
 const SCRIPT_HELP: &str = "A script (docs/SCRIPTS.md)";
 
-/// The most files of `load`.
+/// The maximum number of files of `load`.
 const MOST_FILES: usize = 256;
 
-/// What a command line asks for.
+/// The request of a command line.
 #[derive(Debug, Drop, PartialEq, Eq)]
 pub enum Request<'a> {
     /// Link the script on the input, prepare it, and print its memory.
     Show,
     /// Link the script at a path, and write the container to another.
     Link { script: &'a str, out: &'a str },
-    /// Prepare the first of these 1 to 256 containers, whose libraries are those of them that have the names,
-    /// and print the memory.
+    /// Prepare the first of these 1 to 256 containers and print the memory. A library is found among the containers by
+    /// its name.
     Load { files: Vec<NamedFile<'a>> },
     /// List the container at a path.
     List { file: &'a str },
@@ -36,12 +36,12 @@ pub enum Request<'a> {
     Check { script: &'a str, cert: &'a str },
 }
 
-/// Why a command line asks for nothing.
+/// The reason why a command line has no request.
 #[derive(Clone, Copy, Debug, PartialEq, Eq)]
 pub enum WordsFault {
-    /// The words are no line of this program.
+    /// The command line is invalid.
     Usage,
-    /// A growth of memory was refused.
+    /// An allocation failed.
     OutOfMemory,
 }
 
@@ -67,7 +67,7 @@ impl<T: Drop> From<AllocFailed<T>> for WordsFault {
     }
 }
 
-/// Reads the words of a command line, of which the first is the program's name.
+/// Parses a command line, whose first word is the program's name.
 pub fn read_words<'a>(alloc: Global, words: &'a [String]) -> Result<Request<'a>, WordsFault>
     ensures { AnswersWords result (asked_by (map string_bytes words.entry.now)) }
 {
@@ -82,7 +82,7 @@ pub fn read_words<'a>(alloc: Global, words: &'a [String]) -> Result<Request<'a>,
     }
 }
 
-/// The program's commands.
+/// Returns the program's commands.
 pub(crate) fn command<'a>(alloc: Global) -> Result<Command<'a>, AllocError>
     ensures app { IfOk result (λ c. app_of c ≡ pef) }
 {
@@ -102,7 +102,7 @@ pub(crate) fn command<'a>(alloc: Global) -> Result<Command<'a>, AllocError>
     with_command(with_load, distances_command(alloc))
 }
 
-/// A command with one more below it, where memory was found for that one.
+/// Returns a command with one more subcommand, if allocating that one succeeded.
 fn with_command<'a>(
     top: Command<'a>,
     more: Result<Command<'a>, AllocError>,
@@ -112,7 +112,7 @@ fn with_command<'a>(
     top.subcommand(more?)
 }
 
-/// A command without operands, and what it does.
+/// Returns a command without operands, with its help.
 fn described<'a>(alloc: Global, name: &'a str, about: &'a str) -> Command<'a>
     ensures app { app_of result ≡ new_app name.entry.now }
     ensures local { (out-Command result).has_globals ≡ false }
@@ -120,7 +120,7 @@ fn described<'a>(alloc: Global, name: &'a str, about: &'a str) -> Command<'a>
     Command::new(alloc, name).about(about)
 }
 
-/// An operand that has to be there, and what it is.
+/// Returns a required operand, with its help.
 fn operand<'a>(alloc: Global, name: &'a str, help: &'a str) -> Arg<'a>
     ensures rule { rule_of result ≡ operand name.entry.now }
     ensures local { result.global ≡ false }
@@ -128,7 +128,7 @@ fn operand<'a>(alloc: Global, name: &'a str, help: &'a str) -> Arg<'a>
     Arg::new(alloc, name).required(true).help(help)
 }
 
-/// The command `link SCRIPT OUT`.
+/// Returns the command `link SCRIPT OUT`.
 fn link_command<'a>(alloc: Global) -> Result<Command<'a>, AllocError>
     ensures app { IfOk result (λ c. app_of c ≡ link_command) }
     ensures local { IfOk result (λ c. (out-Command c).has_globals ≡ false) }
@@ -140,7 +140,7 @@ fn link_command<'a>(alloc: Global) -> Result<Command<'a>, AllocError>
         .arg(out)
 }
 
-/// The command `list FILE`.
+/// Returns the command `list FILE`.
 fn list_command<'a>(alloc: Global) -> Result<Command<'a>, AllocError>
     ensures app { IfOk result (λ c. app_of c ≡ list_command) }
     ensures local { IfOk result (λ c. (out-Command c).has_globals ≡ false) }
@@ -149,7 +149,7 @@ fn list_command<'a>(alloc: Global) -> Result<Command<'a>, AllocError>
     described(alloc, "list", "Lists what a container declares").arg(file)
 }
 
-/// The command `check SCRIPT CERT`.
+/// Returns the command `check SCRIPT CERT`.
 fn check_command<'a>(alloc: Global) -> Result<Command<'a>, AllocError>
     ensures app { IfOk result (λ c. app_of c ≡ check_command) }
     ensures local { IfOk result (λ c. (out-Command c).has_globals ≡ false) }
@@ -169,7 +169,7 @@ fn check_command<'a>(alloc: Global) -> Result<Command<'a>, AllocError>
     .arg(cert)
 }
 
-/// The command `load NAME=FILE ..`.
+/// Returns the command `load NAME=FILE ..`.
 pub(crate) fn load_command<'a>(alloc: Global) -> Result<Command<'a>, AllocError>
     ensures app { IfOk result (λ c. app_of c ≡ load_command) }
     ensures local { IfOk result (λ c. (out-Command c).has_globals ≡ false) }
@@ -183,7 +183,7 @@ pub(crate) fn load_command<'a>(alloc: Global) -> Result<Command<'a>, AllocError>
     described(alloc, "load", "Prints the memory that containers become").arg(files)
 }
 
-/// The command `distances SCRIPT`.
+/// Returns the command `distances SCRIPT`.
 fn distances_command<'a>(alloc: Global) -> Result<Command<'a>, AllocError>
     ensures app { IfOk result (λ c. app_of c ≡ distances_command) }
     ensures local { IfOk result (λ c. (out-Command c).has_globals ≡ false) }
@@ -197,7 +197,7 @@ fn distances_command<'a>(alloc: Global) -> Result<Command<'a>, AllocError>
     .arg(script)
 }
 
-/// The request of a command's name and operands.
+/// Returns the request that a command's name and operands make.
 fn command_request<'a>(
     alloc: Global,
     name: &str,
@@ -216,7 +216,7 @@ fn command_request<'a>(
     }
 }
 
-/// The request of the operands of `link`.
+/// Returns the request that the operands of `link` make.
 #[tactic(auto, using(crate::proofs::RequestProofs::LineLemmas::first_in_rows))]
 fn link_request<'a>(operands: &ArgMatches<'a>) -> Result<Request<'a>, WordsFault>
     ensures { AnswersWords result (link_asked (rows_of (found_of operands.now))) }
@@ -230,7 +230,7 @@ fn link_request<'a>(operands: &ArgMatches<'a>) -> Result<Request<'a>, WordsFault
     Ok(Request::Link { script, out })
 }
 
-/// The request of the operands of `list`.
+/// Returns the request that the operands of `list` make.
 #[tactic(auto, using(crate::proofs::RequestProofs::LineLemmas::first_in_rows))]
 fn list_request<'a>(operands: &ArgMatches<'a>) -> Result<Request<'a>, WordsFault>
     ensures { AnswersWords result (list_asked (rows_of (found_of operands.now))) }
@@ -241,7 +241,7 @@ fn list_request<'a>(operands: &ArgMatches<'a>) -> Result<Request<'a>, WordsFault
     Ok(Request::List { file })
 }
 
-/// The request of the operands of `check`.
+/// Returns the request that the operands of `check` make.
 #[tactic(auto, using(crate::proofs::RequestProofs::LineLemmas::first_in_rows))]
 fn check_request<'a>(operands: &ArgMatches<'a>) -> Result<Request<'a>, WordsFault>
     ensures { AnswersWords result (check_asked (rows_of (found_of operands.now))) }
@@ -255,7 +255,7 @@ fn check_request<'a>(operands: &ArgMatches<'a>) -> Result<Request<'a>, WordsFaul
     Ok(Request::Check { script, cert })
 }
 
-/// The request of the operands of `load`.
+/// Returns the request that the operands of `load` make.
 #[tactic(auto, using(crate::proofs::RequestProofs::LineLemmas::all_in_rows))]
 fn load_request<'a>(alloc: Global, operands: &ArgMatches<'a>) -> Result<Request<'a>, WordsFault>
     ensures { AnswersWords result (load_asked (rows_of (found_of operands.now))) }
@@ -267,7 +267,7 @@ fn load_request<'a>(alloc: Global, operands: &ArgMatches<'a>) -> Result<Request<
     Ok(Request::Load { files })
 }
 
-/// The request of the operands of `distances`.
+/// Returns the request that the operands of `distances` make.
 #[tactic(auto, using(crate::proofs::RequestProofs::LineLemmas::first_in_rows))]
 fn distances_request<'a>(operands: &ArgMatches<'a>) -> Result<Request<'a>, WordsFault>
     ensures { AnswersWords result (distances_asked (rows_of (found_of operands.now))) }
@@ -278,7 +278,7 @@ fn distances_request<'a>(operands: &ArgMatches<'a>) -> Result<Request<'a>, Words
     Ok(Request::Distances { script })
 }
 
-/// Why `clap` refused a line.
+/// Returns the reason why `clap` refused a command line.
 fn words_fault(kind: ErrorKind) -> WordsFault
     ensures { result ≡ fault_of_kind kind }
 {

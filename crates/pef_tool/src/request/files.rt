@@ -7,16 +7,16 @@ ghost use Rattle.pef_tool.specs.Request.Requests.{named_path};
 use crate::request::command_line::WordsFault;
 use std::alloc::Global;
 
-/// A file, and the name by which a command speaks of it.
+/// A file, with the name that a command uses for it.
 #[derive(Clone, Copy, Debug, PartialEq, Eq)]
 pub struct NamedFile<'a> {
-    /// The name, which isn't empty.
+    /// The name. It isn't empty.
     pub name: &'a str,
-    /// Where the file lies.
+    /// The path of the file.
     pub path: &'a str,
 }
 
-/// The files that words `NAME=FILE` name, in order.
+/// Returns the files that words `NAME=FILE` name, in order.
 pub(crate) fn named_files<'a>(
     alloc: Global,
     words: &[&'a str],
@@ -33,7 +33,7 @@ pub(crate) fn named_files<'a>(
     Ok(files)
 }
 
-/// The file that a word `NAME=FILE` names: its name ends before the first `=`, and isn't empty.
+/// Returns the file that a word `NAME=FILE` names. The name ends before the first `=` and isn't empty.
 fn named_file<'a>(word: &'a str) -> Option<NamedFile<'a>>
     ensures { option_map named_path result ≡ file_of_word word.now }
 {

@@ -1,13 +1,12 @@
-//! Which words are which command. The function does nothing.
+//! Theorems on which words are which command. The function does nothing.
 ghost use Rattle.std.specs.Prelude.{◌≡◌, ℕ, List, drop};
 ghost use Rattle.pef_tool.specs.Request.CommandLine.{asked_by};
 ghost use Rattle.pef_tool.specs.Request.Plain.{ArePlain, plain_words as asked_plainly};
 
-/// Where no word behind the program's name begins with `-`, just `show` asks for `show`, just
-/// `link SCRIPT OUT` asks for `link`, just `list FILE` asks for `list`, just `check SCRIPT CERT` asks for
-/// `check`, just `load` and 1 to 256 words `NAME=FILE` ask for `load` of these files, each word split at its
-/// first `=` and no name empty, just `distances SCRIPT` asks for `distances`, and all other words ask for
-/// nothing.
+/// Assume that no word after the program's name begins with `-`. Then only `show` alone is parsed as `show`, only `link
+/// SCRIPT OUT` as `link`, only `list FILE` as `list`, only `check SCRIPT CERT` as `check`, and only `distances SCRIPT`
+/// as `distances`. Only `load` with 1 to 256 words `NAME=FILE` is parsed as `load` of these files. Each of these words
+/// is split at its first `=`, and no name is empty. Any other words are no command.
 #[tactic(auto, using(crate::proofs::RequestProofs::PlainLemmas::asked_plain))]
 pub fn plain_words()
     ensures { (words : List (List ℕ)) → ArePlain (drop 1 words) → asked_by words ≡ asked_plainly words }

@@ -3,15 +3,15 @@ use clap::error::ErrorKind;
 use clap::{Command, Error};
 use std::alloc::{AllocError, Global};
 
-/// What is said if the system has no words to hand over.
+/// The text that is printed if the system provides no command line.
 const NOT_UTF_8: &str = "error: an argument isn't UTF-8
 
 Give the file or folder another name, for example by a symbolic link.
 ";
 
-/// Returns what is wrong with the words of a command line, or the help that they ask for, as `clap` says it.
+/// Returns the error in a command line, or the help that it asks for, as `clap` words it.
 ///
-/// The words are those of a command line that asks for no command. If the system's aren't UTF-8, there are none.
+/// The words are those of a command line that has no command. If the system's words aren't UTF-8, the list is empty.
 pub fn words_help(alloc: Global, words: &[String]) -> Result<String, AllocError> {
     if words.is_empty() {
         return String::from_str(alloc, NOT_UTF_8);
@@ -22,7 +22,7 @@ pub fn words_help(alloc: Global, words: &[String]) -> Result<String, AllocError>
     }
 }
 
-/// The program's commands, with help for each.
+/// Returns the program's commands, with help for each.
 fn helpful_command<'a>(alloc: Global) -> Result<Command<'a>, AllocError> {
     let command = command(alloc)?
         .about("Links, lists and loads PEF containers")
@@ -31,7 +31,7 @@ fn helpful_command<'a>(alloc: Global) -> Result<Command<'a>, AllocError> {
     Ok(command)
 }
 
-/// The text of an error. If the command is missing or unknown, all commands follow.
+/// Returns the text of an error. If the command is missing or unknown, the list of all commands follows.
 fn error_text(alloc: Global, error: &Error) -> Result<String, AllocError> {
     let mut text = error.to_string(alloc)?;
     if matches!(
@@ -44,7 +44,7 @@ fn error_text(alloc: Global, error: &Error) -> Result<String, AllocError> {
     Ok(text)
 }
 
-/// The error of a `load` whose words `clap` takes, since it doesn't know what NAME=FILE means.
+/// Returns the error of a `load` whose words `clap` accepts, since `clap` doesn't check the form NAME=FILE.
 fn files_error(alloc: Global) -> Result<Error, AllocError> {
     let mut command = load_command(alloc)?.bin_name("pef load")?;
     command.error(

@@ -1,4 +1,4 @@
--- Each certificate has a section, and each turn says one verdict more.
+-- Each certificate has a section, and each turn adds one verdict.
 use Rattle.std.proofs.Common.{◌≡◌, ◌+◌, List, get_or, sym, subst}
 use Rattle.std.proofs.lemmas.Option.{get_or_from_slice_get}
 use Rattle.pef_reloc.specs.declared.fixup.Fixup.{Fixup}

@@ -1,4 +1,4 @@
--- Memory was refused before the words were read.
+-- An allocation failed before the words were read.
 use Rattle.pef_tool.specs.Answers.Answers.{answer_refused}
 use Rattle.pef_tool.specs.Answers.Refusals.{refusal_text}
 use Rattle.pef_tool.specs.declared.answers.refusal.Refusal.TheVariants.{OutOfMemory}

@@ -1,4 +1,4 @@
--- SCRIPT is read, and the whole container is written, whatever that write is answered.
+-- SCRIPT is read, and the whole container is written, whatever that write returns.
 use Rattle.std.proofs.Common.{inl, inr, refl}
 use Rattle.pef_tool.specs.Answers.Answers.{answer_done, answer_refused}
 use Rattle.pef_tool.specs.Link.{links, unwritable, refuses, linked_text}

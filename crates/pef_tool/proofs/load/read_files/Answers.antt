@@ -1,4 +1,4 @@
--- Each file is read behind the others.
+-- Each file is read after the others.
 use Rattle.std.proofs.Common.{◌+◌, ◌++◌, ◌∷◌, [], List, ℕ, Ok, map, sym, subst, take, ap, ◌∙◌}
 use Rattle.std.proofs.lemmas.List.{map_push}
 use Rattle.std.specs.declared.alloc.Global.{Global}

@@ -1,4 +1,4 @@
--- Both ends are told.
+-- Both ends are reported.
 use Rattle.pef_tool.specs.Kept.Rooted.{prepares, refuses}
 use Rattle.pef_tool.proofs.loaded.deliver_root.Goals as goal
 

@@ -1,4 +1,4 @@
--- What was prepared is shown, else why not.
+-- The prepared fragment is shown, or the reason why it isn't prepared.
 use Rattle.std.proofs.Common.{◌≡◌, refl, sym, subst, ap, ◌∙◌}
 use Rattle.pef_tool.specs.Answers.Answers.{Answer, IsDelivered, status_of}
 use Rattle.pef_tool.specs.declared.answers.refusal.Refusal.TheVariants.{OutOfMemory}

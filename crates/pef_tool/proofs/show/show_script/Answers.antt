@@ -1,4 +1,4 @@
--- What was linked is shown, else memory was refused.
+-- The linked container is shown, or an allocation failed.
 use Rattle.std.proofs.Common.{refl}
 use Rattle.pef_tool.specs.declared.answers.refusal.Refusal.TheVariants.{OutOfMemory}
 use Rattle.pef_tool.specs.Show.{refuses}

@@ -1,4 +1,4 @@
--- What a kind of error of `clap` says of a line.
+-- The meaning of a kind of error of `clap`.
 use Rattle.clap.specs.declared.error.kind.ErrorKind.{ErrorKind}
 use Rattle.clap.specs.declared.error.kind.ErrorKind.TheVariants as kind
 use Rattle.pef_tool.specs.declared.request.command_line.WordsFault.{WordsFault}

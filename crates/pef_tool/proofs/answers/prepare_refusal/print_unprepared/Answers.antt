@@ -1,4 +1,4 @@
--- The number and the name, then the fragment's name where it is told, and the end of the line.
+-- The number and the name, then the fragment's name if there is one, and the end of the line.
 use Rattle.std.proofs.Common.{◌∷◌, [], codes, ap, ◌∙◌}
 use Rattle.pef_ports.proofs.Laws.Sending.{Prints-then, Sends-short, Sends-then, StopsShort-longer, StopsShort-then}
 use Rattle.pef_tool.specs.Answers.Refusals.{told_text, told_unprepared}

@@ -1,4 +1,4 @@
--- Where the output fails, a front of the answer went out.
+-- If the output fails, a prefix of the answer was written.
 use Rattle.std.proofs.Common.{inr, refl}
 use Rattle.pef_ports.proofs.Laws.Sending.{StopsShort-front}
 use Rattle.pef_tool.proofs.answers.reply.deliver.Goals as goal

@@ -1,4 +1,4 @@
--- What waits in the page goes out last.
+-- The rest of the page is written last.
 use Rattle.std.proofs.Common.{[], List, ℕ, subst, append-nil}
 use Rattle.pef_ports.specs.Sent.{Prints, Sends}
 use Rattle.pef_ports.proofs.Laws.Sending.{Sends-empty, Sends-then}

@@ -1,4 +1,4 @@
--- A refused line has one of clap's kinds, and a good one names its command.
+-- A refused line has one of clap's kinds, and a valid one names its command.
 use Rattle.std.proofs.Common.{◌≡◌, true, [], Option, sym, subst, ◌∙◌, map, string_bytes}
 use Rattle.clap.specs.Faults.{is_simple_and_free, fault_of}
 use Rattle.clap.specs.Kinds.{HasKind}

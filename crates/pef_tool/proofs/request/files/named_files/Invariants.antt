@@ -1,4 +1,4 @@
--- The files so far, and those that the words left name, are all that the words name.
+-- The files so far, and those that the remaining words name, are all files that the words name.
 use Rattle.std.proofs.Common.{◌≡◌, ◌++◌, map, drop, option_map}
 use Rattle.pef_tool.specs.Request.Files.{named_files}
 use Rattle.pef_tool.specs.Request.Requests.{named_path}

@@ -1,4 +1,4 @@
--- The number and the name, then the names that are told, and the end of the line.
+-- The number and the name, then the names that the refusal gives, and the end of the line.
 use Rattle.std.proofs.Common.{◌∷◌, [], codes, ap, ◌∙◌}
 use Rattle.pef_ports.proofs.Laws.Sending.{Prints-then, Sends-short, Sends-then, StopsShort-longer, StopsShort-then}
 use Rattle.pef_tool.specs.Answers.Refusals.{told_fragment, told_library, told_symbol, told_text}
