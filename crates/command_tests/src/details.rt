@@ -36,7 +36,7 @@ fn count_lines(text: &[u8]) -> usize {
     count
 }
 
-/// Scripts, what `show` prints of them, and the detail.
+/// Scripts, the text that `show` prints of them, and the detail.
 const SCRIPTS: &[(&[u8], &[u8], &str)] = &[
     (
         b"versions 1 2 3\r\n",

@@ -119,8 +119,8 @@ pub record RefusesInput (before after : Stream) (fault : LineFault) (line : ℕ)
   pub input : WasRead before after text
   pub refused : script_of text ≡ Err (record { fault = fault; line = line })
 
--- why `show` is refused: the first refused line of the input; the input failed at its last call; it is too long; or an
--- allocation failed before more than the limit was read
+-- why `show` is refused: a line of the input is refused, and the first such line is reported. Or the input failed at
+-- its last call, the input is too long, or an allocation failed before more than the limit was read.
 abbrev pub ShowRefuses : Stream → Stream → Refusal → Type 0
 ShowRefuses before after (Script fault line) = RefusesInput before after fault line
 ShowRefuses before after InputUnreadable = LastFailed before after

@@ -42,7 +42,7 @@ detailed detail (Refused number _) = Refused number detail
 detailed detail Usage = Usage
 detailed detail OutputFailed = OutputFailed
 
--- the whole answer is written; or a prefix of it, then the output fails at its last call, and the status is 1
+-- the whole answer is written. Or a prefix of it is written, the output fails at its last call, and the status is 1.
 abbrev pub IsDelivered : Stream → Stream → Answer → ℕ → Type 0
 IsDelivered before after answer status =
     (Grows before.bytes after.bytes answer.text × NoneFailed before after × (status ≡ answer.status))

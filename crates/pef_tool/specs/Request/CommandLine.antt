@@ -1,4 +1,4 @@
--- What the words of a command line ask for: `clap`'s own function of the words, with this program's commands.
+-- The request that a command line makes, by `clap`'s own function of the words, with this program's commands.
 use Rattle.std.specs.Prelude.{ℕ, true, List, [], ◌∷◌, Option, None, Some, codes, if◌then◌else◌, option_and_then, option_map}
 use Rattle.std.specs.Str.{bytes_eq}
 use Rattle.clap.specs.Walk.{Row, Rule, Text, all_of, first_of}

@@ -19,7 +19,7 @@ pub data Asked : Type 0 where
 abbrev pub named_path : NamedFile → List ℕ × List ℕ
 named_path file = (file.name.now, file.path.now)
 
--- what a request asks for
+-- the specification's value of a request
 abbrev pub asked_of : Request → Asked
 asked_of request.Show = show
 asked_of (request.Link script out) = link script.now out.now

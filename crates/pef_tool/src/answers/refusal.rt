@@ -17,11 +17,11 @@ use pef_script::{LineFault, ScriptFault};
 /// The reason why a run is refused.
 #[derive(Clone, Copy, Debug, PartialEq, Eq)]
 pub enum Refusal {
-    /// A line of the script is refused; lines count from 1.
+    /// A line of the script is refused. Lines count from 1.
     Script { fault: LineFault, line: usize },
     /// A container, its loader section or one of its relocation programs is refused when it is listed.
     Listing(ListFault),
-    /// A line of the certificates is refused; lines count from 1.
+    /// A line of the certificates is refused. Lines count from 1.
     BadCertificate { line: usize },
     /// The certificates are for other sections than the script's.
     SectionsDiffer,

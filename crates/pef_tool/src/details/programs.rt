@@ -83,7 +83,8 @@ fn reads(program: &[u8], halfwords: usize) -> bool {
     }
 }
 
-/// Returns the first relocation program that can't be applied, for any addresses and memory of its fragment.
+/// Returns the first relocation program that can't be applied, at any addresses and with any memory of its
+/// fragment.
 pub(crate) fn applied_detail(alloc: Global, container: &Container<'_>) -> Option<Detail> {
     let loader = Loader::read(container).ok()?;
     let count = usize::from(container.header().instantiated_section_count);

@@ -21,7 +21,7 @@ const LINES: &[(&str, u8, usize)] = &[
     ("term", 8, 3),
 ];
 
-/// The group of a line without content.
+/// The group of a line whose first word isn't in `LINES`.
 const NO_GROUP: u8 = 0;
 
 /// Returns the detail of a script's refusal.
